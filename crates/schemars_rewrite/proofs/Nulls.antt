@@ -1,0 +1,328 @@
+-- What a schema says of null and of other values once null is allowed.
+use Rattle.std.proofs.Common.{◌≡◌, ◌⊎◌, inl, inr, List, [], ◌∷◌, ◌++◌, Option, Some, None, Bool, true, false, refl, sym, ap, ◌∙◌, true≢false}
+use Rattle.std.specs.Prelude.{codes, bytes_eq, ◌||◌, ◌&&◌, if◌then◌else◌, is_some, option_and_then, option_map}
+use Rattle.serde_json.specs.Data.{Data, null, boolean, number, string, array, object, Items, no_items, item, Members, no_members, member, put}
+use Rattle.serde_json.specs.Find.{get_member, as_str}
+use Rattle.serde_json.specs.View.{view, items_view, members_view}
+use Rattle.serde_json.specs.declared.value.Value.{Value}
+use Rattle.std.specs.Prelude.{IsTrue, length}
+use Rattle.std.proofs.Common.{arith}
+use Rattle.serde_json.specs.Find.{as_object, as_bool}
+use Rattle.schemars_schema.specs.SchemaData.{members_in}
+use Rattle.schemars_rewrite.specs.AllowNull.{accepts_everything}
+use Rattle.serde_json.proofs.Views.{Entry, get_member-put, get_member-put_other}
+use Rattle.std.proofs.lemmas.Slice.Eq.{bytes_eq-Decides}
+use Rattle.schemars_schema.specs.Verdict.{Verdict, Yes, both, verdict, opposite}
+use Rattle.schemars_schema.specs.Json.{Text, json_eq}
+use Rattle.schemars_schema.specs.SchemaData.{IsSchema, object_of}
+use Rattle.schemars_schema.specs.OrderedText.{is_listed}
+use Rattle.schemars_schema.specs.Acceptance.{Patterns, Judge, Context, Reading, Raw, judge, read_data, all_keywords, where_some, type_says, texts_in, types_in, type_names, are_type_names, is_of_type, is_of_some_type, is_null, items_say, when}
+use Rattle.schemars_schema.specs.Annotations.{keyword_names}
+use Rattle.schemars_schema.proofs.Verdicts.{both-yes, either-verdict}
+use Rattle.schemars_schema.proofs.Objects.{schema-judge, judge-object, says, says-agree, IsKeyword}
+use Rattle.schemars_rewrite.specs.AllowNull.{null_schema, is_combined, holds_text, with_item, type_with_null, null_in_type, or_null, allow_null}
+use Rattle.schemars_rewrite.specs.NullLaw.{text_items, HasTypeForm, zero_schema, RefusesByType, IsNullable, context2020_12, AcceptsNullToo}
+
+-- ---- truth values
+
+pub or-false : (a : Bool) → a || false ≡ a
+or-false true = refl
+or-false false = refl
+
+pub or-true : (a : Bool) → a || true ≡ true
+or-true true = refl
+or-true false = refl
+
+or-parts : (a b : Bool) → a || b ≡ false → (a ≡ false) × (b ≡ false)
+or-parts true b h = absurd (true≢false h)
+or-parts false b h = (refl, h)
+
+and-true : (a : Bool) → a && true ≡ a
+and-true true = refl
+and-true false = refl
+
+-- ---- the type with null
+
+no_null_type : (v : Data) → is_null v ≡ false → is_of_type (codes "null") v ≡ false
+no_null_type null h = absurd (true≢false h)
+no_null_type (boolean b) h = refl
+no_null_type (number n) h = refl
+no_null_type (string s) h = refl
+no_null_type (array vs) h = refl
+no_null_type (object ms) h = refl
+
+types_append : (ts : List Text) (v : Data) → is_null v ≡ false → is_of_some_type (ts ++ codes "null" ∷ []) v ≡ is_of_some_type ts v
+types_append [] v h = rw (no_null_type v h)
+types_append (t ∷ ts) v h = ap (λ b. is_of_type t v || b) (types_append ts v h)
+
+types_null : (ts : List Text) → is_of_some_type (ts ++ codes "null" ∷ []) null ≡ true
+types_null [] = refl
+types_null (t ∷ ts) = rw (types_null ts) (or-true (bytes_eq t (codes "null")))
+
+are_names_append : (ts : List Text) → are_type_names ts ≡ true → are_type_names (ts ++ codes "null" ∷ []) ≡ true
+are_names_append [] h = refl
+are_names_append (t ∷ ts) h = go (is_listed t type_names) (are_names_append ts) h
+  where
+    go : (b : Bool) → (are_type_names ts ≡ true → are_type_names (ts ++ codes "null" ∷ []) ≡ true) → b && are_type_names ts ≡ true → b && are_type_names (ts ++ codes "null" ∷ []) ≡ true
+    go true later h = later h
+    go false later h = h
+
+texts_in-text_items : (ts : List Text) → texts_in (text_items ts) ≡ Some ts
+texts_in-text_items [] = refl
+texts_in-text_items (t ∷ ts) = rw (texts_in-text_items ts)
+
+with_item-text_items : (t : Text) (ts : List Text) → with_item (text_items ts) (string t) ≡ text_items (ts ++ t ∷ [])
+with_item-text_items t [] = refl
+with_item-text_items t (s ∷ ts) = ap (item (string s)) (with_item-text_items t ts)
+
+holds_text-text_items : (ts : List Text) → holds_text (codes "null") (text_items ts) ≡ is_of_some_type ts null
+holds_text-text_items [] = refl
+holds_text-text_items (t ∷ ts) = ap (λ b. bytes_eq t (codes "null") || b) (holds_text-text_items ts)
+
+type_plus : Option Data → Option Data
+type_plus None = None
+type_plus (Some d) = Some (type_with_null d)
+
+abbrev Says : Option Data → Data → Verdict
+Says type v = type_says false type None v
+
+names_say : (ts : List Text) → are_type_names ts ≡ true → (v : Data) → Says (Some (array (text_items ts))) v ≡ verdict (is_of_some_type ts v)
+names_say ts h v = rw (texts_in-text_items ts, h)
+
+name_says : (t : Text) → is_listed t type_names ≡ true → (v : Data) → Says (Some (string t)) v ≡ verdict (is_of_type t v)
+name_says t h v = rw h (ap verdict (or-false (is_of_type t v)))
+
+type_other : (d : Option Data) → HasTypeForm d → (v : Data) → is_null v ≡ false → Says (type_plus d) v ≡ Says d v
+unfolding type_plus
+type_other None h v other = refl
+type_other (Some (string t)) h v other = go (bytes_eq t (codes "null"))
+  where
+    go : (b : Bool) → Says (Some (if b then string t else array (item (string t) (item (string (codes "null")) no_items)))) v ≡ Says (Some (string t)) v
+    go true = refl
+    go false = rw (h, no_null_type v other)
+type_other (Some (array ds)) h v other = rw h.1 (go (holds_text (codes "null") (text_items h.0)))
+  where
+    go : (b : Bool) → Says (Some (if b then array (text_items h.0) else array (with_item (text_items h.0) (string (codes "null"))))) v ≡ Says (Some (array (text_items h.0))) v
+    go true = refl
+    go false = rw with_item-text_items (names_say (h.0 ++ codes "null" ∷ []) (are_names_append h.0 h.2) v ∙ (ap verdict (types_append h.0 v other) ∙ sym (names_say h.0 h.2 v)))
+type_other (Some null) h v other = absurd h
+type_other (Some (boolean b)) h v other = absurd h
+type_other (Some (number n)) h v other = absurd h
+type_other (Some (object ms)) h v other = absurd h
+
+type_null : (d : Option Data) → HasTypeForm d → Says (type_plus d) null ≡ Yes
+unfolding type_plus
+type_null None h = refl
+type_null (Some (string t)) h = go (bytes_eq t (codes "null")) refl
+  where
+    go : (b : Bool) → bytes_eq t (codes "null") ≡ b → Says (Some (if b then string t else array (item (string t) (item (string (codes "null")) no_items)))) null ≡ Yes
+    go true e = name_says t h null ∙ ap verdict e
+    go false e = rw (h, e)
+type_null (Some (array ds)) h = rw h.1 (go (holds_text (codes "null") (text_items h.0)) refl)
+  where
+    go : (b : Bool) → holds_text (codes "null") (text_items h.0) ≡ b
+        → Says (Some (if b then array (text_items h.0) else array (with_item (text_items h.0) (string (codes "null"))))) null ≡ Yes
+    go true e = names_say h.0 h.2 null ∙ ap verdict (sym (holds_text-text_items h.0) ∙ e)
+    go false e = rw with_item-text_items (names_say (h.0 ++ codes "null" ∷ []) (are_names_append h.0 h.2) null ∙ ap verdict (types_null h.0))
+type_null (Some null) h = absurd h
+type_null (Some (boolean b)) h = absurd h
+type_null (Some (number n)) h = absurd h
+type_null (Some (object ms)) h = absurd h
+
+-- ---- an object that is not combined
+
+abbrev with_null : Members → Members
+with_null ms = null_in_type (get_member (codes "type") ms) ms
+
+null_in_type-other : (k : Text) (d : Option Data) (ms : Members) → bytes_eq k (codes "type") ≡ false → get_member k (null_in_type d ms) ≡ get_member k ms
+null_in_type-other k None ms e = refl
+null_in_type-other k (Some d) ms e = get_member-put_other k (codes "type") _ ms (λ same. true≢false (sym ((bytes_eq-Decides k (codes "type")).1 same) ∙ e))
+
+null_in_type-type : (d : Option Data) (ms : Members) → get_member (codes "type") ms ≡ d → get_member (codes "type") (null_in_type d ms) ≡ type_plus d
+unfolding type_plus
+null_in_type-type None ms e = e
+null_in_type-type (Some d) ms e = get_member-put (codes "type") _ ms
+
+-- the look-ups with another type
+abbrev with_type : Option Data → Raw → Raw
+with_type d g k = if bytes_eq k (codes "type") then d else g k
+
+with_null-agree : (ms : Members) (k : Text) → get_member k (with_null ms) ≡ with_type (type_plus (get_member (codes "type") ms)) (λ l. get_member l ms) k
+with_null-agree ms k = go (bytes_eq k (codes "type")) refl
+  where
+    go : (b : Bool) → bytes_eq k (codes "type") ≡ b → get_member k (with_null ms) ≡ (if b then type_plus (get_member (codes "type") ms) else get_member k ms)
+    go true e = rw ((bytes_eq-Decides k (codes "type")).0 e) (null_in_type-type (get_member (codes "type") ms) ms refl)
+    go false e = null_in_type-other k (get_member (codes "type") ms) ms e
+
+silent : {A : Type 0} (o : Option A) → where_some o (λ x. Yes) ≡ Yes
+silent None = refl
+silent (Some x) = refl
+
+none_of_some : {A : Type 0} (o : Option A) → is_some o ≡ false → o ≡ None
+none_of_some None h = refl
+none_of_some (Some x) h = absurd (true≢false h)
+
+or-swap : (a b : Bool) → a || b ≡ b || a
+or-swap true b = sym (or-true b)
+or-swap false b = sym (or-false b)
+
+is_null_value : (v : Data) → is_null v ≡ true → v ≡ null
+is_null_value null h = refl
+is_null_value (boolean b) h = absurd (true≢false (sym h))
+is_null_value (number n) h = absurd (true≢false (sym h))
+is_null_value (string s) h = absurd (true≢false (sym h))
+is_null_value (array vs) h = absurd (true≢false (sym h))
+is_null_value (object ms) h = absurd (true≢false (sym h))
+
+-- no keyword that combines schemas stands there
+alone_parts : (ms : Members) → is_combined (object ms) ≡ false
+    → (get_member (codes "allOf") ms ≡ None) × (get_member (codes "anyOf") ms ≡ None) × (get_member (codes "oneOf") ms ≡ None) × (get_member (codes "$ref") ms ≡ None)
+alone_parts ms h =
+    let a = or-parts _ _ h in
+    let b = or-parts _ _ a.1 in
+    let d = or-parts _ _ b.1 in
+    let e = or-parts _ _ d.1 in
+    let g = or-parts _ _ e.1 in
+    (none_of_some _ b.0, none_of_some _ d.0, none_of_some _ e.0, none_of_some _ g.0)
+
+module _ (patterns : Patterns) (f : Text → Judge) where
+  abbrev c : Context
+  c = context2020_12 patterns f
+
+  other_says : (g : Raw) → HasTypeForm (g (codes "type")) → (v : Data) → is_null v ≡ false → (says c (with_type (type_plus (g (codes "type"))) g)).fits v ≡ (says c g).fits v
+  unfolding says all_keywords
+  other_says g h v other = rw (type_other (g (codes "type")) h v other)
+
+  null_says : (g : Raw) → HasTypeForm (g (codes "type")) → (g (codes "const") ≡ None) → (g (codes "enum") ≡ None) → ((g (codes "not") ≡ None) ⊎ (g (codes "not") ≡ Some zero_schema))
+      → (g (codes "allOf") ≡ None) → (g (codes "anyOf") ≡ None) → (g (codes "oneOf") ≡ None) → (g (codes "$ref") ≡ None) → (says c (with_type (type_plus (g (codes "type"))) g)).fits null ≡ Yes
+  unfolding says all_keywords read_data json_eq
+  null_says g h no_const no_enum (inl no_not) no_all no_any no_one no_ref =
+      rw (type_null (g (codes "type")) h, no_const, no_enum, no_not, no_all, no_any, no_one, no_ref) (simp silent)
+  null_says g h no_const no_enum (inr not_zero) no_all no_any no_one no_ref =
+      rw (type_null (g (codes "type")) h, no_const, no_enum, not_zero, no_all, no_any, no_one, no_ref) (simp silent)
+
+  of_null : (v : Data) → (judge c null_schema).fits v ≡ verdict (is_null v)
+  unfolding read_data all_keywords
+  of_null null = refl
+  of_null (boolean b) = refl
+  of_null (number n) = refl
+  of_null (string s) = refl
+  of_null (array vs) = refl
+  of_null (object ms) = refl
+
+  or_null-says : (t : Data) → IsSchema t → (v : Data) (b : Bool) → (judge c t).fits v ≡ verdict b → (judge c (or_null t)).fits v ≡ verdict (is_null v || b)
+  unfolding read_data all_keywords
+  or_null-says t is v b e = rw (schema-judge c t is, both-yes, e, of_null v) (either-verdict b (is_null v) ∙ ap verdict (or-swap b (is_null v)))
+
+  plain_says : (ms : Members) → is_combined (object ms) ≡ false → RefusesByType ms → (v : Data) (n b : Bool) → is_null v ≡ n → (judge c (object ms)).fits v ≡ verdict b
+      → (judge c (object (with_null ms))).fits v ≡ verdict (n || b)
+  plain_says ms alone p v true b is e =
+      let g : Raw = λ k. get_member k ms in
+      let parts = alone_parts ms alone in
+      rw (is_null_value v is) (ap (λ j. j.fits null) (judge-object c (with_null ms) ∙ says-agree c _ _ (λ k key. with_null-agree ms k))
+      ∙ null_says g p.type_form p.no_const p.no_enum p.not_form parts.0 parts.1 parts.2 parts.3)
+  plain_says ms alone p v false b is e =
+      let g : Raw = λ k. get_member k ms in
+      ap (λ j. j.fits v) (judge-object c (with_null ms) ∙ says-agree c _ _ (λ k key. with_null-agree ms k))
+      ∙ (other_says g p.type_form v is ∙ (sym (ap (λ j. j.fits v) (judge-object c ms)) ∙ e))
+
+  pub allow_null-says : (t : Data) → IsNullable t → (v : Data) (b : Bool) → (judge c t).fits v ≡ verdict b → (judge c (allow_null t)).fits v ≡ verdict (is_null v || b)
+  unfolding read_data
+  allow_null-says (boolean true) r v true e = ap verdict (sym (or-true (is_null v)))
+  allow_null-says (boolean true) r v false e = cc
+  allow_null-says (boolean false) r v true e = cc
+  allow_null-says (boolean false) r v false e = of_null v ∙ ap verdict (sym (or-false (is_null v)))
+  allow_null-says (object ms) r v b e = go (is_combined (object ms)) refl r
+    where
+      go : (o : Bool) → is_combined (object ms) ≡ o → (o ≡ true) ⊎ RefusesByType ms
+          → (judge c (if o then or_null (object ms) else object (with_null ms))).fits v ≡ verdict (is_null v || b)
+      go true is h = or_null-says (object ms) tt v b e
+      go false is (inl h) = absurd (true≢false (sym h))
+      go false is (inr p) = plain_says ms is p v (is_null v) b refl e
+  allow_null-says null r v b e = absurd r
+  allow_null-says (number n) r v b e = absurd r
+  allow_null-says (string s) r v b e = absurd r
+  allow_null-says (array ds) r v b e = absurd r
+
+-- ---- null can be allowed again
+
+type_plus-form : (d : Option Data) → HasTypeForm d → HasTypeForm (type_plus d)
+unfolding type_plus
+type_plus-form None h = tt
+type_plus-form (Some (string t)) h = go (bytes_eq t (codes "null"))
+  where
+    go : (b : Bool) → HasTypeForm (Some (if b then string t else array (item (string t) (item (string (codes "null")) no_items))))
+    go true = h
+    go false = (t ∷ codes "null" ∷ [], refl, rw h refl)
+type_plus-form (Some (array ds)) h = go (holds_text (codes "null") ds)
+  where
+    go : (b : Bool) → HasTypeForm (Some (if b then array ds else array (with_item ds (string (codes "null")))))
+    go true = h
+    go false = (h.0 ++ codes "null" ∷ [], ap (λ x. with_item x (string (codes "null"))) h.1 ∙ with_item-text_items (codes "null") h.0, are_names_append h.0 h.2)
+type_plus-form (Some null) h = absurd h
+type_plus-form (Some (boolean b)) h = absurd h
+type_plus-form (Some (number n)) h = absurd h
+type_plus-form (Some (object ms)) h = absurd h
+
+at_other : (ms : Members) (k : Text) → bytes_eq k (codes "type") ≡ false → get_member k (with_null ms) ≡ get_member k ms
+at_other ms k e = null_in_type-other k (get_member (codes "type") ms) ms e
+
+refuses_by_type-with_null : (ms : Members) → RefusesByType ms → RefusesByType (with_null ms)
+refuses_by_type-with_null ms p = record {
+  type_form = rw (null_in_type-type (get_member (codes "type") ms) ms refl) (type_plus-form _ p.type_form);
+  no_const = at_other ms (codes "const") refl ∙ p.no_const;
+  no_enum = at_other ms (codes "enum") refl ∙ p.no_enum;
+  not_form = rw (at_other ms (codes "not") refl) p.not_form;
+}
+
+pub nullable-allow_null : (t : Data) → IsNullable t → IsNullable (allow_null t)
+nullable-allow_null (boolean true) r = tt
+nullable-allow_null (boolean false) r = inr (record { type_form = refl; no_const = refl; no_enum = refl; not_form = inl refl })
+nullable-allow_null (object ms) r = go (is_combined (object ms)) r
+  where
+    go : (o : Bool) → (o ≡ true) ⊎ RefusesByType ms → IsNullable (if o then or_null (object ms) else object (with_null ms))
+    go true h = inl refl
+    go false (inl h) = absurd (true≢false (sym h))
+    go false (inr p) = inr (refuses_by_type-with_null ms p)
+nullable-allow_null null r = absurd r
+nullable-allow_null (number n) r = absurd r
+nullable-allow_null (string s) r = absurd r
+nullable-allow_null (array ds) r = absurd r
+
+pub nullable-schema : (t : Data) → IsNullable t → IsSchema t
+nullable-schema (boolean b) h = tt
+nullable-schema (object ms) h = tt
+nullable-schema null h = absurd h
+nullable-schema (number n) h = absurd h
+nullable-schema (string s) h = absurd h
+nullable-schema (array ds) h = absurd h
+
+-- ---- for the code
+
+pub allow_null-law : (old new : Data) → new ≡ allow_null old → IsNullable old → AcceptsNullToo old new
+allow_null-law old new e r patterns follow v b h = rw e (allow_null-says patterns follow old r v b h)
+
+pub empty_accepts : (b : Bool) (es : List Entry) → (IsTrue b → length es ≡ 0) → (length es ≡ 0 → IsTrue b) → b ≡ accepts_everything (Some (object (members_view es)))
+empty_accepts b [] none all = all refl
+empty_accepts true (e ∷ es) none all = absurd (omega (arith, none refl))
+empty_accepts false (e ∷ es) none all = refl
+
+pub items_view-push : (xs : List Value) (x : Value) → items_view (xs ++ x ∷ []) ≡ with_item (items_view xs) (view x)
+items_view-push [] x = refl
+items_view-push (y ∷ ys) x = ap (item (view y)) (items_view-push ys x)
+
+pub object-members_in : (d : Data) → is_some (as_object d) ≡ true → d ≡ object (members_in d)
+object-members_in (object ms) h = refl
+object-members_in null h = absurd (true≢false (sym h))
+object-members_in (boolean b) h = absurd (true≢false (sym h))
+object-members_in (number n) h = absurd (true≢false (sym h))
+object-members_in (string s) h = absurd (true≢false (sym h))
+object-members_in (array ds) h = absurd (true≢false (sym h))
+
+pub allow_null-plain : (d : Data) → is_some (as_object d) ≡ false → as_bool d ≡ None → d ≡ allow_null d
+allow_null-plain (object ms) h none = absurd (true≢false h)
+allow_null-plain null h none = refl
+allow_null-plain (boolean b) h none = cc
+allow_null-plain (number n) h none = refl
+allow_null-plain (string s) h none = refl
+allow_null-plain (array ds) h none = refl

@@ -1,0 +1,66 @@
+-- A schema that accepts null too.
+use Rattle.std.specs.Prelude.{◌||◌, List, [], ◌∷◌, Bool, true, false, Option, Some, None, is_some, if◌then◌else◌, codes, bytes_eq}
+use Rattle.serde_json.specs.Data.{Data, null, boolean, number, string, array, object, Items, no_items, item, Members, no_members, member, put}
+use Rattle.serde_json.specs.Find.{get, get_member, as_str}
+use Rattle.schemars_schema.specs.Json.{Text}
+use Rattle.schemars_schema.specs.SchemaData.{object_of}
+
+-- the schema of null alone
+abbrev pub null_schema : Data
+null_schema = object_of ((codes "type", string (codes "null")) ∷ [])
+
+-- `{}` and `true` accept everything, so they refuse everything under `not`
+abbrev pub accepts_everything : Option Data → Bool
+accepts_everything None = false
+accepts_everything (Some null) = false
+accepts_everything (Some (boolean b)) = b
+accepts_everything (Some (number n)) = false
+accepts_everything (Some (string s)) = false
+accepts_everything (Some (array ds)) = false
+accepts_everything (Some (object no_members)) = true
+accepts_everything (Some (object (member k d ms))) = false
+
+-- such a schema may refuse null by more than its own type
+abbrev pub is_combined : Data → Bool
+is_combined s =
+    is_some (get (codes "if") s)
+    || (is_some (get (codes "allOf") s)
+    || (is_some (get (codes "anyOf") s) || (is_some (get (codes "oneOf") s) || (is_some (get (codes "$ref") s) || accepts_everything (get (codes "not") s)))))
+
+abbrev pub is_text : Text → Option Text → Bool
+is_text t None = false
+is_text t (Some s) = bytes_eq s t
+
+abbrev pub holds_text : Text → Items → Bool
+holds_text t no_items = false
+holds_text t (item d ds) = is_text t (as_str d) || holds_text t ds
+
+abbrev pub with_item : Items → Data → Items
+with_item no_items e = item e no_items
+with_item (item d ds) e = item d (with_item ds e)
+
+-- a type with null at its end, unless it has null
+abbrev pub type_with_null : Data → Data
+type_with_null null = null
+type_with_null (boolean b) = boolean b
+type_with_null (number n) = number n
+type_with_null (string t) = if bytes_eq t (codes "null") then string t else array (item (string t) (item (string (codes "null")) no_items))
+type_with_null (array ds) = if holds_text (codes "null") ds then array ds else array (with_item ds (string (codes "null")))
+type_with_null (object ms) = object ms
+
+abbrev pub null_in_type : Option Data → Members → Members
+null_in_type None ms = ms
+null_in_type (Some type) ms = put (codes "type") (type_with_null type) ms
+
+-- this schema or null
+abbrev pub or_null : Data → Data
+or_null schema = object_of ((codes "anyOf", array (item schema (item null_schema no_items))) ∷ [])
+
+abbrev pub allow_null : Data → Data
+allow_null null = null
+allow_null (boolean true) = boolean true
+allow_null (boolean false) = null_schema
+allow_null (number n) = number n
+allow_null (string s) = string s
+allow_null (array ds) = array ds
+allow_null (object ms) = if is_combined (object ms) then or_null (object ms) else object (null_in_type (get_member (codes "type") ms) ms)

@@ -1,0 +1,2 @@
+pub mod AllowNull
+pub mod NullLaw

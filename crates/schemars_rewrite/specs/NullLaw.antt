@@ -1,0 +1,53 @@
+-- The law of `allow_null`: what was accepted before, and null.
+use Rattle.std.specs.Prelude.{◌≡◌, ◌⊎◌, ◌||◌, List, [], ◌∷◌, Bool, true, false, Option, Some, None, codes}
+use Rattle.serde_json.specs.Data.{Data, null, boolean, number, unsigned, string, array, object, Items, no_items, item, Members}
+use Rattle.serde_json.specs.Find.{get_member}
+use Rattle.schemars_schema.specs.Verdict.{verdict}
+use Rattle.schemars_schema.specs.Json.{Text}
+use Rattle.schemars_schema.specs.SchemaData.{object_of}
+use Rattle.schemars_schema.specs.OrderedText.{is_listed}
+use Rattle.schemars_schema.specs.Acceptance.{Patterns, Judge, Context, draft2020_12, judge, type_names, are_type_names, is_null}
+use Rattle.schemars_rewrite.specs.AllowNull.{is_combined, allow_null}
+
+abbrev pub text_items : List Text → Items
+text_items [] = no_items
+text_items (t ∷ ts) = item (string t) (text_items ts)
+
+-- a type of the right form, where there is one
+abbrev pub HasTypeForm : Option Data → Type 0
+HasTypeForm None = Unit {0}
+HasTypeForm (Some null) = ⊥
+HasTypeForm (Some (boolean b)) = ⊥
+HasTypeForm (Some (number n)) = ⊥
+HasTypeForm (Some (string t)) = is_listed t type_names ≡ true
+HasTypeForm (Some (array ds)) = (ts : List Text) × (ds ≡ text_items ts) × (are_type_names ts ≡ true)
+HasTypeForm (Some (object ms)) = ⊥
+
+-- the schema of 0 alone
+abbrev pub zero_schema : Data
+zero_schema = object_of ((codes "const", number (unsigned 0)) ∷ [])
+
+-- such an object refuses null by its type alone
+pub record RefusesByType (ms : Members) : Type 0 where
+  pub type_form : HasTypeForm (get_member (codes "type") ms)
+  pub no_const : get_member (codes "const") ms ≡ None
+  pub no_enum : get_member (codes "enum") ms ≡ None
+  pub not_form : (get_member (codes "not") ms ≡ None) ⊎ (get_member (codes "not") ms ≡ Some zero_schema)
+
+-- the schemas of the shapes so far
+abbrev pub IsNullable : Data → Type 0
+IsNullable null = ⊥
+IsNullable (boolean b) = Unit {0}
+IsNullable (number n) = ⊥
+IsNullable (string s) = ⊥
+IsNullable (array ds) = ⊥
+IsNullable (object ms) = (is_combined (object ms) ≡ true) ⊎ RefusesByType ms
+
+abbrev pub context2020_12 : Patterns → (Text → Judge) → Context
+context2020_12 patterns follow = record { dialect = draft2020_12; patterns = patterns; follow = follow }
+
+-- under 2020-12, wherever references lead and whatever patterns match, the new schema accepts what the old one does, and null
+abbrev pub AcceptsNullToo : Data → Data → Type 0
+AcceptsNullToo old new =
+    (patterns : Patterns) (follow : Text → Judge) (v : Data) (b : Bool) → (judge (context2020_12 patterns follow) old).fits v ≡ verdict b
+    → (judge (context2020_12 patterns follow) new).fits v ≡ verdict (is_null v || b)

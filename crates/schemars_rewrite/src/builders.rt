@@ -1,0 +1,163 @@
+ghost use Rattle.std.specs.Prelude.{◌≡◌, ◌∷◌, [], IfOk, OnOk, Some, codes, option_map, string_bytes};
+ghost use Rattle.serde_json.specs.Data.{string, array, object, no_items, item, put};
+ghost use Rattle.serde_json.specs.Find.{get, get_member, as_object, as_str};
+ghost use Rattle.serde_json.specs.View.{view, items_view};
+ghost use Rattle.schemars_schema.specs.SchemaData.{members_in};
+ghost use Rattle.schemars_rewrite.specs.AllowNull.{allow_null, null_schema, is_combined, accepts_everything, is_text, holds_text, with_item, type_with_null, null_in_type, or_null};
+ghost use Rattle.schemars_rewrite.specs.NullLaw.{IsNullable, AcceptsNullToo};
+ghost use Rattle.std.specs.Prelude.{None};
+ghost use Rattle.serde_json.specs.Find.{as_bool};
+
+use schemars_schema::Schema;
+use serde_json::{Map, Value};
+use std::alloc::{AllocError, Global};
+use std::mem;
+
+/// Lets a schema accept null too.
+///
+/// `true` stays, and `false` becomes the schema of null. An object that combines schemas, refers to
+/// one, or has a `not` that refuses everything becomes `anyOf` of itself and the schema of null. Any
+/// other object gets `null` at the end of its `type`.
+pub fn allow_null(alloc: Global, schema: &mut Schema) -> Result<(), AllocError>
+    ensures becomes { OnOk result (schema.new ≡ allow_null schema.old) }
+    ensures law { OnOk result (IsNullable schema.old → AcceptsNullToo schema.old schema.new) }
+{
+    make_nullable(alloc, schema)?;
+    Ok(())
+}
+
+fn make_nullable(alloc: Global, schema: &mut Schema) -> Result<(), AllocError>
+    ensures { OnOk result (schema.new ≡ allow_null schema.old) }
+{
+    match schema.as_bool() {
+        Some(true) => {}
+        Some(false) => *schema = null_schema(alloc)?,
+        None => allow_null_in_object(alloc, schema)?,
+    }
+    Ok(())
+}
+
+fn allow_null_in_object(alloc: Global, schema: &mut Schema) -> Result<(), AllocError>
+    requires { as_bool schema.old ≡ None }
+    ensures { OnOk result (schema.new ≡ allow_null schema.old) }
+{
+    if schema.as_object().is_none() {
+        return Ok(());
+    }
+    if is_combined(schema) {
+        let combined = mem::replace(schema, Schema::from(true));
+        *schema = or_null(alloc, combined)?;
+        return Ok(());
+    }
+    null_in_type(alloc, schema)
+}
+
+// The schema of null alone.
+fn null_schema(alloc: Global) -> Result<Schema, AllocError>
+    ensures { IfOk result (λ s. s ≡ null_schema) }
+{
+    let mut members = Map::new(alloc);
+    serde_json::put(&mut members, alloc, "type", Value::try_from_str(alloc, "null")?)?;
+    Ok(Schema::from(members))
+}
+
+// Whether a schema may refuse null by more than its own type.
+fn is_combined(schema: &Schema) -> bool
+    ensures { result ≡ is_combined schema.now }
+{
+    schema.get("if").is_some()
+        || schema.get("allOf").is_some()
+        || schema.get("anyOf").is_some()
+        || schema.get("oneOf").is_some()
+        || schema.get("$ref").is_some()
+        || schema.get("not").is_some_and(accepts_everything)
+}
+
+fn accepts_everything(schema: &Value) -> bool
+    ensures { result ≡ accepts_everything (Some (view schema.now)) }
+{
+    match schema {
+        Value::Bool(accepts) => *accepts,
+        Value::Object(members) => members.is_empty(),
+        _ => false,
+    }
+}
+
+// This schema or null.
+fn or_null(alloc: Global, schema: Schema) -> Result<Schema, AllocError>
+    ensures { IfOk result (λ s. s ≡ or_null schema) }
+{
+    let null = null_schema(alloc)?;
+    let either = vec![in alloc; schema.to_value(), null.to_value()]?;
+    let mut members = Map::new(alloc);
+    serde_json::put(&mut members, alloc, "anyOf", Value::Array(either))?;
+    Ok(Schema::from(members))
+}
+
+fn null_in_type(alloc: Global, schema: &mut Schema) -> Result<(), AllocError>
+    requires { schema.old ≡ object (members_in schema.old) }
+    ensures { OnOk result (schema.new ≡ object (null_in_type
+        (get (codes "type") schema.old) (members_in schema.old))) }
+{
+    let Some(type_names) = schema.get("type") else {
+        return Ok(());
+    };
+    let with_null = type_with_null(alloc, type_names.clone()?)?;
+    let key = String::from_str(alloc, "type")?;
+    let _ = schema.insert(alloc, key, with_null)?;
+    Ok(())
+}
+
+// A type with null at its end, unless it has null.
+fn type_with_null(alloc: Global, type_names: Value) -> Result<Value, AllocError>
+    ensures { IfOk result (λ v. view v ≡ type_with_null (view type_names)) }
+{
+    match type_names {
+        Value::String(name) => name_with_null(alloc, name),
+        Value::Array(names) => names_with_null(alloc, names),
+        unchanged => Ok(unchanged),
+    }
+}
+
+fn name_with_null(alloc: Global, name: String) -> Result<Value, AllocError>
+    ensures { IfOk result (λ v. view v ≡ type_with_null (string (string_bytes name))) }
+{
+    if name.as_str() == "null" {
+        return Ok(Value::String(name));
+    }
+    let null = Value::try_from_str(alloc, "null")?;
+    let names = vec![in alloc; Value::String(name), null]?;
+    Ok(Value::Array(names))
+}
+
+fn names_with_null(alloc: Global, names: Vec<Value>) -> Result<Value, AllocError>
+    ensures { IfOk result (λ v. view v ≡ type_with_null (array (items_view names.items))) }
+{
+    if holds_text(&names, "null") {
+        return Ok(Value::Array(names));
+    }
+    let null = Value::try_from_str(alloc, "null")?;
+    let mut names = names;
+    serde_json::push(&mut names, null)?;
+    Ok(Value::Array(names))
+}
+
+fn holds_text(items: &[Value], text: &str) -> bool
+    ensures { result ≡ holds_text text.now (items_view items.now) }
+{
+    for item in items {
+        if is_text(item, text) {
+            return true;
+        }
+    }
+    false
+}
+
+fn is_text(value: &Value, text: &str) -> bool
+    ensures { result ≡ is_text text.now (as_str (view value.now)) }
+{
+    match value.as_str() {
+        Some(found) => found == text,
+        None => false,
+    }
+}

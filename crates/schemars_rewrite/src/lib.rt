@@ -1,0 +1,4 @@
+//! Rewrites of schemas: builders over finished documents.
+#![tactic(auto)]
+
+pub mod builders;

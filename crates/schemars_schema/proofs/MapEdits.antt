@@ -1,0 +1,39 @@
+-- What a map's `remove` and `get_mut` do to the members that it stands for.
+use Rattle.std.proofs.Common.{◌≡◌, ℕ, List, [], ◌∷◌, Bool, true, false, cond, nat_cmp, string_bytes, refl, ◌∙◌}
+use Rattle.std.proofs.lemmas.Map.Text.{is_eq-slice_cmp}
+use Rattle.std.specs.Prelude.{bytes_eq, if◌then◌else◌, Option, Some, None, OnSome}
+use Rattle.std.specs.Cmp.Lexicographic.{slice_cmp}
+use Rattle.std.specs.Map.{remove_entry, set_value}
+use Rattle.std.specs.BTreeMap.{is_at}
+use Rattle.serde_json.specs.Data.{Data, null, boolean, number, string, array, object, Members}
+use Rattle.serde_json.specs.Find.{as_object}
+use Rattle.serde_json.specs.View.{view, members_view}
+use Rattle.serde_json.specs.declared.value.Value.{Value}
+use Rattle.serde_json.proofs.Views.{Entry}
+use Rattle.schemars_schema.specs.Edits.{without, replaced}
+
+either_members : (b c : Bool) (xs ys : List Entry) → b ≡ c → members_view (cond b xs ys) ≡ (if c then members_view xs else members_view ys)
+either_members true c xs ys same = rw (← same) refl
+either_members false c xs ys same = rw (← same) refl
+
+pub members_view-remove_entry : (k : List ℕ) (es : List Entry) → members_view (remove_entry (is_at (λ l. slice_cmp nat_cmp k (string_bytes l))) es) ≡ without k (members_view es)
+members_view-remove_entry k [] = refl
+members_view-remove_entry k (e ∷ es) =
+    either_members _ (bytes_eq k (string_bytes e.0)) es _ (is_eq-slice_cmp k (string_bytes e.0)) ∙ rw (members_view-remove_entry k es) refl
+
+pub members_view-set_value : (k : List ℕ) (es : List Entry) (v : Value) → members_view (set_value (is_at (λ l. slice_cmp nat_cmp k (string_bytes l))) es v) ≡ replaced k (view v) (members_view es)
+members_view-set_value k [] v = refl
+members_view-set_value k (e ∷ es) v =
+    either_members _ (bytes_eq k (string_bytes e.0)) ((e.0, v) ∷ es) _ (is_eq-slice_cmp k (string_bytes e.0)) ∙ rw (members_view-set_value k es v) refl
+
+pub object-as_object : (d : Data) (ms : Members) → Some ms ≡ as_object d → d ≡ object ms
+object-as_object (object ns) ms e = cc
+object-as_object null ms e = cc
+object-as_object (boolean b) ms e = cc
+object-as_object (number n) ms e = cc
+object-as_object (string s) ms e = cc
+object-as_object (array ds) ms e = cc
+
+pub when_some : {T P : Type 0} (r : Option T) → P → OnSome r P
+when_some None p = tt
+when_some (Some x) p = p

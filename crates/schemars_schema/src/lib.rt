@@ -1,0 +1,15 @@
+//! Schemas as JSON values, and the definitions on which every other crate rests.
+#![tactic(auto)]
+
+pub mod consts;
+mod equality;
+mod error;
+mod ordered;
+mod output;
+mod schema;
+#[cfg(test)]
+mod tests;
+
+pub use equality::{json_eq, json_eq_members};
+pub use error::NotASchema;
+pub use schema::Schema;
