@@ -1,0 +1,15 @@
+use Rattle.std.proofs.Common.{◌≡◌, Some, map, slice_get, ap, ◌∙◌, rules}
+use Rattle.std.specs.Map.{values_of}
+use Rattle.indexmap.specs.IndexMap.{set_value_at}
+use Rattle.schemars_types.specs.Shape.{entry_of}
+use Rattle.schemars_types.specs.Rows.{defined}
+use Rattle.schemars_types.specs.Slots.{row_of}
+use Rattle.schemars_types.proofs.TableLemmas.{map-set_value_at}
+use Rattle.schemars_types.proofs.table.Types.set_entry.Goals as goal
+
+pub returns : goal.returns
+returns c =
+    let there : slice_get (values_of c.self.inside.slots.entries) c.args.n ≡ Some c.index_mut.result.now = search rules in
+    ap (λ slot. map row_of (set_value_at c.self.inside.slots.entries c.args.n slot)) c.define.ensures
+    ∙ map-set_value_at c.self.inside.slots.entries c.args.n c.index_mut.result.now c.args.entry there
+    ∙ ap (defined c.args.n (entry_of c.args.entry)) c.self.view_is

@@ -1,0 +1,9 @@
+pub mod IntKind
+pub mod Shape
+pub mod Rows
+pub mod RowCode
+pub mod Slots
+pub mod Refusals
+pub mod Names
+pub mod InOrder
+pub mod Meaning

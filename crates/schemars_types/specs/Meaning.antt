@@ -1,0 +1,91 @@
+-- Which JSON values belong to a type of a table.
+use Rattle.std.specs.Prelude.{ℕ, zero, suc, ◌+◌, ◌*◌, ◌&&◌, ◌||◌, ◌==◌, ℤ, pos, negsuc, List, length, Bool, true, false, not, int_le, Option, Some, None, is_some}
+use Rattle.serde_json.specs.Data.{Data, Items, no_items, item, depth}
+use Rattle.serde_json.specs.Find.{as_bool, as_number, as_str, as_array}
+use Rattle.schemars_schema.specs.Acceptance.{Patterns, is_null, whole_number, code_points}
+use Rattle.schemars_types.specs.Shape.{Shape, null, bool, int, non_zero, number, text, char, formatted, any, option, seq}
+use Rattle.schemars_types.specs.Rows.{Row, entry_at}
+use Rattle.schemars_types.specs.declared.shape.IntKind.{IntKind}
+use Rattle.schemars_types.specs.declared.shape.IntKind.TheVariants.{I8, I16, I32, I64, I128, Isize, U8, U16, U32, U64, U128, Usize}
+
+-- whether the values are those that are read or those that are written
+pub data Contract : Type 0 where
+  Deserialize : Contract
+  Serialize : Contract
+
+-- kinds of 32 bits and more have no bounds but 0
+abbrev pub least_of : IntKind → Option ℤ
+least_of I8 = Some (negsuc 127)
+least_of I16 = Some (negsuc 32767)
+least_of I32 = None
+least_of I64 = None
+least_of I128 = None
+least_of Isize = None
+least_of U8 = Some (pos 0)
+least_of U16 = Some (pos 0)
+least_of U32 = Some (pos 0)
+least_of U64 = Some (pos 0)
+least_of U128 = Some (pos 0)
+least_of Usize = Some (pos 0)
+
+abbrev pub greatest_of : IntKind → Option ℤ
+greatest_of I8 = Some (pos 127)
+greatest_of I16 = Some (pos 32767)
+greatest_of I32 = None
+greatest_of I64 = None
+greatest_of I128 = None
+greatest_of Isize = None
+greatest_of U8 = Some (pos 255)
+greatest_of U16 = Some (pos 65535)
+greatest_of U32 = None
+greatest_of U64 = None
+greatest_of U128 = None
+greatest_of Usize = None
+
+abbrev pub is_at_least : Option ℤ → ℤ → Bool
+is_at_least None z = true
+is_at_least (Some least) z = int_le least z
+
+abbrev pub is_at_most : Option ℤ → ℤ → Bool
+is_at_most None z = true
+is_at_most (Some greatest) z = int_le z greatest
+
+abbrev pub is_of_kind : IntKind → ℤ → Bool
+is_of_kind kind z = is_at_least (least_of kind) z && is_at_most (greatest_of kind) z
+
+abbrev pub is_zero : ℤ → Bool
+is_zero (pos n) = 0 == n
+is_zero (negsuc n) = false
+
+-- there is one, and it passes
+abbrev pub holds : {A : Type 0} → Option A → (A → Bool) → Bool
+holds None p = false
+holds (Some a) p = p a
+
+abbrev pub every_item : (Data → Bool) → Items → Bool
+every_item p no_items = true
+every_item p (item v vs) = p v && every_item p vs
+
+-- the values of a shape, where `part` says which values the rows inside it have
+abbrev pub has_shape : Contract → Patterns → (ℕ → Data → Bool) → Shape → Data → Bool
+has_shape contract patterns part null v = is_null v
+has_shape contract patterns part bool v = is_some (as_bool v)
+has_shape contract patterns part (int kind) v = holds (whole_number v) (is_of_kind kind)
+has_shape contract patterns part (non_zero kind) v = holds (whole_number v) (λ z. is_of_kind kind z && not (is_zero z))
+has_shape contract patterns part number v = is_some (as_number v)
+has_shape contract patterns part text v = is_some (as_str v)
+has_shape contract patterns part char v = holds (as_str v) (λ s. code_points s == 1)
+has_shape contract patterns part (formatted format) v = is_some (as_str v)
+has_shape contract patterns part any v = true
+has_shape contract patterns part (option n) v = is_null v || part n v
+has_shape contract patterns part (seq n) v = holds (as_array v) (every_item (part n))
+
+-- row n has the value; a row is asked at most `steps` deep
+unfoldable pub belongs_within : List Row → Contract → Patterns → ℕ → ℕ → Data → Bool
+belongs_within rows contract patterns zero n v = false
+belongs_within rows contract patterns (suc steps) n v =
+    elim (entry_at rows n) [ None ↦ false | Some entry ↦ has_shape contract patterns (belongs_within rows contract patterns steps) entry.shape v ]
+
+-- the meaning of row n: at each depth of the value every row is asked once at most
+abbrev pub belongs : List Row → Contract → Patterns → ℕ → Data → Bool
+belongs rows contract patterns n v = belongs_within rows contract patterns ((depth v + 1) * length rows) n v

@@ -1,0 +1,192 @@
+ghost use Rattle.std.specs.Prelude.{◌≡◌, codes, None, IfOk, OnErr, IfErr, string_bytes};
+ghost use Rattle.schemars_types.specs.IntKind.{format_of, non_zero_name};
+ghost use Rattle.schemars_types.specs.Names.{non_zero_id, option_id, option_name, seq_id, seq_name};
+ghost use Rattle.schemars_types.specs.Shape.{Shape as shape, shape_of, in_place, without_notes};
+ghost use Rattle.schemars_types.specs.Rows.{id_at, name_at, unknown_in};
+ghost use Rattle.schemars_types.specs.Refusals.{Registers, Refuses};
+
+use crate::error::TypesError;
+use crate::shape::{IntKind, Shape, TypeEntry, TypeNo};
+use crate::table::Types;
+use std::alloc::Global;
+
+/// Rows of common types.
+///
+/// Each call answers the number of the type's row, which is written in place and has no notes. It
+/// adds the row unless it is there. `AlreadyDefined` says that another entry stands under the id, and
+/// `UnknownType` that `n` is no row's number. After a refusal the table is as before.
+impl Types {
+    /// The type of null.
+    pub fn null(&mut self, alloc: Global) -> Result<TypeNo, TypesError>
+        ensures ok { IfOk result
+            (Registers (codes "null") (codes "null") (in_place shape.null) self.old self.new) }
+        ensures err { OnErr result (self.new ≡ self.old) }
+        ensures refused { IfErr result (Refuses (codes "null") (in_place shape.null) self.old) }
+    {
+        self.register_named(alloc, "null", "null", Shape::Null)
+    }
+
+    /// The type of truth values.
+    pub fn bool(&mut self, alloc: Global) -> Result<TypeNo, TypesError>
+        ensures ok { IfOk result
+            (Registers (codes "boolean") (codes "boolean") (in_place shape.bool) self.old self.new) }
+        ensures err { OnErr result (self.new ≡ self.old) }
+        ensures refused { IfErr result (Refuses (codes "boolean") (in_place shape.bool) self.old) }
+    {
+        self.register_named(alloc, "boolean", "boolean", Shape::Bool)
+    }
+
+    /// The type of whole numbers of this kind.
+    pub fn int(&mut self, alloc: Global, kind: IntKind) -> Result<TypeNo, TypesError>
+        ensures ok { IfOk result
+            (Registers (format_of kind) (format_of kind) (in_place (shape.int kind)) self.old self.new) }
+        ensures err { OnErr result (self.new ≡ self.old) }
+        ensures refused { IfErr result (Refuses (format_of kind) (in_place (shape.int kind)) self.old) }
+    {
+        self.register_named(alloc, kind.format(), kind.format(), Shape::Int(kind))
+    }
+
+    /// The type of whole numbers of this kind without 0.
+    pub fn non_zero(&mut self, alloc: Global, kind: IntKind) -> Result<TypeNo, TypesError>
+        ensures ok { IfOk result (Registers (non_zero_id kind) (non_zero_name kind)
+            (in_place (shape.non_zero kind)) self.old self.new) }
+        ensures err { OnErr result (self.new ≡ self.old) }
+        ensures refused { IfErr result
+            (Refuses (non_zero_id kind) (in_place (shape.non_zero kind)) self.old) }
+    {
+        let name = kind.non_zero_name();
+        let id = format!(in alloc; "std::num::{name}")?;
+        self.register_named(alloc, id.as_str(), name, Shape::NonZero(kind))
+    }
+
+    /// The type of numbers.
+    pub fn number(&mut self, alloc: Global) -> Result<TypeNo, TypesError>
+        ensures ok { IfOk result
+            (Registers (codes "Number") (codes "Number") (in_place shape.number) self.old self.new) }
+        ensures err { OnErr result (self.new ≡ self.old) }
+        ensures refused { IfErr result (Refuses (codes "Number") (in_place shape.number) self.old) }
+    {
+        self.register_named(alloc, "Number", "Number", Shape::Number)
+    }
+
+    /// The type of texts.
+    pub fn text(&mut self, alloc: Global) -> Result<TypeNo, TypesError>
+        ensures ok { IfOk result
+            (Registers (codes "string") (codes "string") (in_place shape.text) self.old self.new) }
+        ensures err { OnErr result (self.new ≡ self.old) }
+        ensures refused { IfErr result (Refuses (codes "string") (in_place shape.text) self.old) }
+    {
+        self.register_named(alloc, "string", "string", Shape::Text)
+    }
+
+    /// The type of texts of one code point.
+    pub fn char(&mut self, alloc: Global) -> Result<TypeNo, TypesError>
+        ensures ok { IfOk result
+            (Registers (codes "char") (codes "Character") (in_place shape.char) self.old self.new) }
+        ensures err { OnErr result (self.new ≡ self.old) }
+        ensures refused { IfErr result (Refuses (codes "char") (in_place shape.char) self.old) }
+    {
+        self.register_named(alloc, "char", "Character", Shape::Char)
+    }
+
+    /// The type of texts of this format, under an id and a name of the caller's.
+    pub fn formatted(
+        &mut self,
+        alloc: Global,
+        id: String,
+        name: String,
+        format: String,
+    ) -> Result<TypeNo, TypesError>
+        ensures ok { IfOk result (Registers (string_bytes id) (string_bytes name)
+            (in_place (shape.formatted (string_bytes format))) self.old self.new) }
+        ensures err { OnErr result (self.new ≡ self.old) }
+        ensures refused { IfErr result (Refuses (string_bytes id)
+            (in_place (shape.formatted (string_bytes format))) self.old) }
+    {
+        self.register_row(alloc, id, name, true, Shape::Formatted(format))
+    }
+
+    /// The type of all values.
+    pub fn any(&mut self, alloc: Global) -> Result<TypeNo, TypesError>
+        ensures ok { IfOk result
+            (Registers (codes "AnyValue") (codes "AnyValue") (in_place shape.any) self.old self.new) }
+        ensures err { OnErr result (self.new ≡ self.old) }
+        ensures refused { IfErr result (Refuses (codes "AnyValue") (in_place shape.any) self.old) }
+    {
+        self.register_named(alloc, "AnyValue", "AnyValue", Shape::Any)
+    }
+
+    /// The type of null and the values of row `n`.
+    pub fn option(&mut self, alloc: Global, n: TypeNo) -> Result<TypeNo, TypesError>
+        ensures ok { IfOk result (Registers (option_id (id_at self.old n)) (option_name (name_at self.old n))
+            (in_place (shape.option n)) self.old self.new) }
+        ensures err { OnErr result (self.new ≡ self.old) }
+        ensures refused { IfErr result
+            (Refuses (option_id (id_at self.old n)) (in_place (shape.option n)) self.old) }
+    {
+        let (Some(id), Some(name)) = (self.id(n), self.name(n)) else {
+            return Err(TypesError::UnknownType(n));
+        };
+        let id = format!(in alloc; "Option<{id}>")?;
+        let name = format!(in alloc; "Nullable_{name}")?;
+        self.register_row(alloc, id, name, true, Shape::Option(n))
+    }
+
+    /// The type of lists of values of row `n`.
+    pub fn seq(&mut self, alloc: Global, n: TypeNo) -> Result<TypeNo, TypesError>
+        ensures ok { IfOk result (Registers (seq_id (id_at self.old n)) (seq_name (name_at self.old n))
+            (in_place (shape.seq n)) self.old self.new) }
+        ensures err { OnErr result (self.new ≡ self.old) }
+        ensures refused { IfErr result
+            (Refuses (seq_id (id_at self.old n)) (in_place (shape.seq n)) self.old) }
+    {
+        let (Some(id), Some(name)) = (self.id(n), self.name(n)) else {
+            return Err(TypesError::UnknownType(n));
+        };
+        let id = format!(in alloc; "[{id}]")?;
+        let name = format!(in alloc; "Array_of_{name}")?;
+        self.register_row(alloc, id, name, true, Shape::Seq(n))
+    }
+
+    // Reserves and defines a row. Its shape refers to rows of the table alone, so a new row is never
+    // left without its entry.
+    fn register_row(
+        &mut self,
+        alloc: Global,
+        id: String,
+        name: String,
+        inline: bool,
+        shape: Shape,
+    ) -> Result<TypeNo, TypesError>
+        requires { unknown_in self.old (shape_of shape) ≡ None }
+        ensures ok { IfOk result (Registers (string_bytes id) (string_bytes name)
+            (without_notes inline (shape_of shape)) self.old self.new) }
+        ensures err { OnErr result (self.new ≡ self.old) }
+        ensures refused { IfErr result
+            (Refuses (string_bytes id) (without_notes inline (shape_of shape)) self.old) }
+    {
+        let n = self.reserve(id, name)?;
+        let entry = TypeEntry::without_notes(alloc, inline, shape);
+        self.define(n, entry)?;
+        Ok(n)
+    }
+
+    // The same for a row in place, with copies of its id and its name.
+    fn register_named(
+        &mut self,
+        alloc: Global,
+        id: &str,
+        name: &str,
+        shape: Shape,
+    ) -> Result<TypeNo, TypesError>
+        requires { unknown_in self.old (shape_of shape) ≡ None }
+        ensures ok { IfOk result
+            (Registers id.now name.now (in_place (shape_of shape)) self.old self.new) }
+        ensures err { OnErr result (self.new ≡ self.old) }
+        ensures refused { IfErr result (Refuses id.now (in_place (shape_of shape)) self.old) }
+    {
+        let id = String::from_str(alloc, id)?;
+        let name = String::from_str(alloc, name)?;
+        self.register_row(alloc, id, name, true, shape)
+    }
+}

@@ -1,0 +1,54 @@
+use std::alloc::{AllocError, AllocFailed};
+use thiserror::Error;
+
+/// Why a call of a table is refused.
+#[derive(Debug, Drop, Error)]
+pub enum TypesError {
+    /// Memory ran out.
+    #[error("OutOfMemory")]
+    OutOfMemory,
+    /// Another entry stands in this row.
+    #[error("AlreadyDefined")]
+    AlreadyDefined(usize),
+    /// The table has no row of this number.
+    #[error("UnknownType")]
+    UnknownType(usize),
+}
+
+impl TypesError {
+    ghost use Rattle.std.specs.Prelude.{◌≡◌};
+    ghost use Rattle.schemars_types.specs.Refusals.{code_of};
+
+    /// The number that callers in other languages know the refusal by.
+    pub fn code(&self) -> u32
+        ensures { result ≡ code_of self.now }
+    {
+        match self {
+            TypesError::OutOfMemory => 1,
+            TypesError::AlreadyDefined(_) => 6,
+            TypesError::UnknownType(_) => 8,
+        }
+    }
+}
+
+impl From<AllocError> for TypesError {
+    ghost use Rattle.std.specs.Prelude.{◌≡◌};
+    ghost use Rattle.schemars_types.specs.declared.error.TypesError.TheVariants.{OutOfMemory};
+
+    ghost from_gives = { λ _ e. e ≡ OutOfMemory };
+
+    fn from(_e: AllocError) -> TypesError {
+        TypesError::OutOfMemory
+    }
+}
+
+impl<T: Drop> From<AllocFailed<T>> for TypesError {
+    ghost use Rattle.std.specs.Prelude.{◌≡◌};
+    ghost use Rattle.schemars_types.specs.declared.error.TypesError.TheVariants.{OutOfMemory};
+
+    ghost from_gives = { λ _ e. e ≡ OutOfMemory };
+
+    fn from(_e: AllocFailed<T>) -> TypesError {
+        TypesError::OutOfMemory
+    }
+}

@@ -1,0 +1,214 @@
+use crate::{IntKind, Shape, TypeEntry, TypeNo, Types, TypesError};
+use serde_json::{Map, Value};
+use std::alloc::{AllocError, Global};
+use std::process::Abort;
+use std::test::Fail;
+
+fn assert_row(rt: &impl Abort, types: &Types, n: TypeNo, id: &str, name: &str) {
+    assert_eq!(rt; types.id(n), Some(id));
+    assert_eq!(rt; types.name(n), Some(name));
+    assert!(rt;
+        types.entry(n).is_some_and(|entry| entry.inline),
+        "{id} is written in place"
+    );
+}
+
+fn assert_refused(rt: &impl Abort, answer: Result<TypeNo, TypesError>, code: u32) {
+    match answer {
+        Ok(n) => assert!(rt; false, "row {n} in place of refusal {code}"),
+        Err(e) => assert_eq!(rt; e.code(), code),
+    }
+}
+
+fn text(alloc: Global, s: &str) -> Result<String, AllocError> {
+    String::from_str(alloc, s)
+}
+
+#[test]
+fn integer_rows(rt: HostRuntime) -> Result<(), Fail> {
+    let mut types = Types::new(rt.alloc());
+    for (kind, format, name, id) in [
+        (IntKind::I8, "int8", "NonZeroI8", "std::num::NonZeroI8"),
+        (IntKind::I16, "int16", "NonZeroI16", "std::num::NonZeroI16"),
+        (IntKind::I32, "int32", "NonZeroI32", "std::num::NonZeroI32"),
+        (IntKind::I64, "int64", "NonZeroI64", "std::num::NonZeroI64"),
+        (
+            IntKind::I128,
+            "int128",
+            "NonZeroI128",
+            "std::num::NonZeroI128",
+        ),
+        (
+            IntKind::Isize,
+            "int",
+            "NonZeroIsize",
+            "std::num::NonZeroIsize",
+        ),
+        (IntKind::U8, "uint8", "NonZeroU8", "std::num::NonZeroU8"),
+        (IntKind::U16, "uint16", "NonZeroU16", "std::num::NonZeroU16"),
+        (IntKind::U32, "uint32", "NonZeroU32", "std::num::NonZeroU32"),
+        (IntKind::U64, "uint64", "NonZeroU64", "std::num::NonZeroU64"),
+        (
+            IntKind::U128,
+            "uint128",
+            "NonZeroU128",
+            "std::num::NonZeroU128",
+        ),
+        (
+            IntKind::Usize,
+            "uint",
+            "NonZeroUsize",
+            "std::num::NonZeroUsize",
+        ),
+    ] {
+        let int = types.int(rt.alloc(), kind)?;
+        assert_row(&rt, &types, int, format, format);
+        let non_zero = types.non_zero(rt.alloc(), kind)?;
+        assert_row(&rt, &types, non_zero, id, name);
+    }
+    assert_eq!(rt; types.len(), 24);
+    Ok(())
+}
+
+#[test]
+fn other_rows(rt: HostRuntime) -> Result<(), Fail> {
+    let alloc = rt.alloc();
+    let mut types = Types::new(alloc);
+    assert!(rt; types.is_empty());
+
+    let null = types.null(alloc)?;
+    assert_row(&rt, &types, null, "null", "null");
+    let truth = types.bool(alloc)?;
+    assert_row(&rt, &types, truth, "boolean", "boolean");
+    let number = types.number(alloc)?;
+    assert_row(&rt, &types, number, "Number", "Number");
+    let character = types.char(alloc)?;
+    assert_row(&rt, &types, character, "char", "Character");
+    let any = types.any(alloc)?;
+    assert_row(&rt, &types, any, "AnyValue", "AnyValue");
+    let date = types.formatted(
+        alloc,
+        text(alloc, "jiff::Date")?,
+        text(alloc, "Date")?,
+        text(alloc, "date")?,
+    )?;
+    assert_row(&rt, &types, date, "jiff::Date", "Date");
+
+    let string = types.text(alloc)?;
+    assert_row(&rt, &types, string, "string", "string");
+    let option = types.option(alloc, string)?;
+    assert_row(&rt, &types, option, "Option<string>", "Nullable_string");
+    let list = types.seq(alloc, option)?;
+    assert_row(
+        &rt,
+        &types,
+        list,
+        "[Option<string>]",
+        "Array_of_Nullable_string",
+    );
+
+    assert_eq!(rt; types.text(alloc)?, string, "a row is there once");
+    assert_eq!(rt; types.find("Option<string>"), Some(option));
+    assert_eq!(rt; types.len(), 9);
+    Ok(())
+}
+
+#[test]
+fn refused_rows(rt: HostRuntime) -> Result<(), Fail> {
+    let alloc = rt.alloc();
+    let mut types = Types::new(alloc);
+    types.text(alloc)?;
+
+    assert_refused(&rt, types.option(alloc, 1), 8);
+    assert_refused(&rt, types.seq(alloc, 7), 8);
+    let id = text(alloc, "string")?;
+    assert_refused(
+        &rt,
+        types.formatted(alloc, id, text(alloc, "Url")?, text(alloc, "uri")?),
+        6,
+    );
+    assert_eq!(rt; types.len(), 1);
+    assert_row(&rt, &types, 0, "string", "string");
+    Ok(())
+}
+
+// A type that holds itself: the row is reserved before it is defined.
+#[test]
+fn reserved_rows(rt: HostRuntime) -> Result<(), Fail> {
+    let alloc = rt.alloc();
+    let mut types = Types::new(alloc);
+    let tree = types.reserve(text(alloc, "Tree")?, text(alloc, "Tree")?)?;
+    assert!(rt; types.entry(tree).is_none());
+    let trees = types.seq(alloc, tree)?;
+    types.define(tree, entry(alloc, Shape::Option(trees)))?;
+    assert!(rt; types.entry(tree).is_some());
+
+    assert_eq!(rt;
+        types.reserve(text(alloc, "Tree")?, text(alloc, "Other")?)?,
+        tree
+    );
+    assert_eq!(rt; types.name(tree), Some("Tree"));
+    assert_eq!(rt; types.find("Other"), None);
+    Ok(())
+}
+
+fn entry(alloc: Global, shape: Shape) -> TypeEntry {
+    TypeEntry {
+        inline: false,
+        notes: Map::new(alloc),
+        shape,
+    }
+}
+
+// The notes of the second row hold a decimal, which equals nothing.
+#[test]
+fn entries_defined_twice(rt: HostRuntime) -> Result<(), Fail> {
+    let alloc = rt.alloc();
+    let mut types = Types::new(alloc);
+    for (id, note, code) in [("whole", "1", None), ("decimal", "0.5", Some(6))] {
+        let n = types.reserve(text(alloc, id)?, text(alloc, id)?)?;
+        types.define(n, noted(alloc, note)?)?;
+        assert_eq!(rt;
+            types.define(n, noted(alloc, note)?).err().map(|e| e.code()),
+            code
+        );
+        assert_eq!(rt;
+            types
+                .define(n, entry(alloc, Shape::Any))
+                .err()
+                .map(|e| e.code()),
+            Some(6)
+        );
+        assert_eq!(rt;
+            types
+                .define(n, entry(alloc, Shape::Seq(2)))
+                .err()
+                .map(|e| e.code()),
+            Some(8)
+        );
+    }
+    Ok(())
+}
+
+fn noted(alloc: Global, default: &str) -> Result<TypeEntry, Fail> {
+    let mut notes = Map::new(alloc);
+    notes.insert(text(alloc, "default")?, Value::from_str(alloc, default)?)?;
+    Ok(TypeEntry {
+        inline: false,
+        notes,
+        shape: Shape::Any,
+    })
+}
+
+#[test]
+fn errors_by_name(rt: HostRuntime) -> Result<(), Fail> {
+    for (error, name, code) in [
+        (TypesError::OutOfMemory, "OutOfMemory", 1),
+        (TypesError::AlreadyDefined(3), "AlreadyDefined", 6),
+        (TypesError::UnknownType(4), "UnknownType", 8),
+    ] {
+        assert_eq!(rt; error.to_string(rt.alloc())?.as_str(), name);
+        assert_eq!(rt; error.code(), code);
+    }
+    Ok(())
+}
