@@ -57,7 +57,12 @@ fn null_schema(alloc: Global) -> Result<Schema, AllocError>
     ensures { IfOk result (λ s. s ≡ null_schema) }
 {
     let mut members = Map::new(alloc);
-    serde_json::put(&mut members, alloc, "type", Value::try_from_str(alloc, "null")?)?;
+    serde_json::put(
+        &mut members,
+        alloc,
+        "type",
+        Value::try_from_str(alloc, "null")?,
+    )?;
     Ok(Schema::from(members))
 }
 

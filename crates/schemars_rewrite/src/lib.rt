@@ -2,3 +2,5 @@
 #![tactic(auto)]
 
 pub mod builders;
+#[cfg(test)]
+mod tests;

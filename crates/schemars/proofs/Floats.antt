@@ -1,0 +1,168 @@
+-- A document has no float but those of its notes.
+use Rattle.std.proofs.Common.{◌≡◌, ℕ, zero, suc, List, [], ◌∷◌, Option, Some, None, Bool, true, false, refl, sym, ap, ◌∙◌, true≢false}
+use Rattle.std.specs.Prelude.{codes, is_some, if◌then◌else◌, ◌||◌, bytes_eq}
+use Rattle.std.proofs.Common.{Ordering, Less, Equal, Greater, nat_cmp}
+use Rattle.std.specs.Ordering.{match_ordering}
+use Rattle.std.specs.Cmp.Lexicographic.{slice_cmp}
+use Rattle.serde_json.specs.Data.{Data, null, boolean, number, string, array, object, Items, no_items, item, Members, no_members, member, put}
+use Rattle.serde_json.specs.Find.{get_member}
+use Rattle.serde_json.specs.Written.{has_float, items_have_float, members_have_float}
+use Rattle.schemars_schema.specs.Json.{Text}
+use Rattle.schemars_schema.specs.SchemaData.{members_in}
+use Rattle.schemars_schema.proofs.Contents.{members_have_float-put}
+use Rattle.schemars_rewrite.specs.AllowNull.{is_combined, or_null, allow_null, type_with_null, null_in_type, with_item, holds_text}
+use Rattle.schemars_types.specs.declared.shape.IntKind.{IntKind}
+use Rattle.schemars_types.specs.declared.shape.IntKind.TheVariants.{I8, I16, I32, I64, I128, Isize, U8, U16, U32, U64, U128, Usize}
+use Rattle.schemars_types.specs.Shape as shape
+use Rattle.schemars_types.specs.Shape.{Shape, Entry}
+use Rattle.schemars_types.specs.Rows.{Row, entry_at}
+use Rattle.schemars_types.specs.Meaning.{Contract}
+use Rattle.schemars.specs.Documents.{IsDocument, IsOwnDocument, Describes, put_members, annotated, with_title, with_meta_schema, root_document, int_document, non_zero_document}
+use Rattle.schemars.specs.Headline.{HasNoFloat}
+
+abbrev IsWhole : Data → Type 0
+IsWhole s = has_float s ≡ false
+
+either_false : (a b : Bool) → a || b ≡ false → (a ≡ false) × (b ≡ false)
+either_false true b h = absurd (true≢false h)
+either_false false b h = (refl, h)
+
+whole_put_members : (notes ms : Members) → members_have_float notes ≡ false → members_have_float ms ≡ false → members_have_float (put_members notes ms) ≡ false
+whole_put_members no_members ms h e = e
+whole_put_members (member k d notes) ms h e =
+    let parts = either_false (has_float d) (members_have_float notes) h in
+    whole_put_members notes (put k d ms) parts.1 (members_have_float-put k d ms parts.0 e)
+
+whole_members_in : (s : Data) → IsWhole s → members_have_float (members_in s) ≡ false
+whole_members_in (boolean true) h = refl
+whole_members_in (boolean false) h = refl
+whole_members_in (object ms) h = h
+whole_members_in null h = refl
+whole_members_in (number n) h = refl
+whole_members_in (string t) h = refl
+whole_members_in (array ds) h = refl
+
+whole_annotated : (notes : Members) (s : Data) → members_have_float notes ≡ false → IsWhole s → IsWhole (annotated notes s)
+whole_annotated no_members s h e = e
+whole_annotated (member k d notes) s h e = whole_put_members (member k d notes) (members_in s) h (whole_members_in s e)
+
+whole_with_item : (ds : Items) (t : Text) → items_have_float ds ≡ false → items_have_float (with_item ds (string t)) ≡ false
+whole_with_item no_items t h = refl
+whole_with_item (item d ds) t h = let parts = either_false (has_float d) (items_have_float ds) h in rw parts.0 (whole_with_item ds t parts.1)
+
+whole_type : (d : Data) → IsWhole d → IsWhole (type_with_null d)
+whole_type (string t) h = go (bytes_eq t (codes "null"))
+  where
+    go : (b : Bool) → IsWhole (if b then string t else array (item (string t) (item (string (codes "null")) no_items)))
+    go true = refl
+    go false = refl
+whole_type (array ds) h = go (holds_text (codes "null") ds)
+  where
+    go : (b : Bool) → IsWhole (if b then array ds else array (with_item ds (string (codes "null"))))
+    go true = h
+    go false = whole_with_item ds (codes "null") h
+whole_type null h = h
+whole_type (boolean b) h = h
+whole_type (number n) h = h
+whole_type (object ms) h = h
+
+-- what stands in an object without floats has none
+whole_member : (k : Text) (ms : Members) → members_have_float ms ≡ false → (d : Data) → get_member k ms ≡ Some d → IsWhole d
+whole_member k no_members h d is = cc
+whole_member k (member l e ms) h d is = go (slice_cmp nat_cmp k l) is (whole_member k ms parts.1 d)
+  where
+    parts : (has_float e ≡ false) × (members_have_float ms ≡ false)
+    parts = either_false (has_float e) (members_have_float ms) h
+
+    go : (o : Ordering) → match_ordering o (get_member k ms) (Some e) (get_member k ms) ≡ Some d → (get_member k ms ≡ Some d → IsWhole d) → IsWhole d
+    go Less at later = later at
+    go Equal at later = let same : e ≡ d = cc in rw (← same) parts.0
+    go Greater at later = later at
+
+whole_null_in_type : (o : Option Data) (ms : Members) → ((d : Data) → o ≡ Some d → IsWhole d) → members_have_float ms ≡ false → members_have_float (null_in_type o ms) ≡ false
+whole_null_in_type None ms h e = e
+whole_null_in_type (Some d) ms h e = members_have_float-put (codes "type") (type_with_null d) ms (whole_type d (h d refl)) e
+
+whole_allow_null : (s : Data) → IsWhole s → IsWhole (allow_null s)
+whole_allow_null (boolean true) h = refl
+whole_allow_null (boolean false) h = refl
+whole_allow_null (object ms) h = go (is_combined (object ms))
+  where
+    go : (b : Bool) → IsWhole (if b then or_null (object ms) else object (null_in_type (get_member (codes "type") ms) ms))
+    go true = rw h
+    go false = whole_null_in_type (get_member (codes "type") ms) ms (whole_member (codes "type") ms h) h
+whole_allow_null null h = h
+whole_allow_null (number n) h = h
+whole_allow_null (string t) h = h
+whole_allow_null (array ds) h = h
+
+int_whole : (kind : IntKind) → IsWhole (int_document kind)
+int_whole I8 = refl
+int_whole I16 = refl
+int_whole I32 = refl
+int_whole I64 = refl
+int_whole I128 = refl
+int_whole Isize = refl
+int_whole U8 = refl
+int_whole U16 = refl
+int_whole U32 = refl
+int_whole U64 = refl
+int_whole U128 = refl
+int_whole Usize = refl
+
+non_zero_whole : (kind : IntKind) → IsWhole (non_zero_document kind)
+non_zero_whole I8 = refl
+non_zero_whole I16 = refl
+non_zero_whole I32 = refl
+non_zero_whole I64 = refl
+non_zero_whole I128 = refl
+non_zero_whole Isize = refl
+non_zero_whole U8 = refl
+non_zero_whole U16 = refl
+non_zero_whole U32 = refl
+non_zero_whole U64 = refl
+non_zero_whole U128 = refl
+non_zero_whole Usize = refl
+
+or-false : (a : Bool) → a || false ≡ a
+or-false true = refl
+or-false false = refl
+
+shape_whole : (W : ℕ → Data → Type 0) (contract : Contract) → ((j : ℕ) (t : Data) → W j t → IsWhole t) → (kind : Shape) (s : Data) → IsDocument W contract kind s → IsWhole s
+shape_whole W contract whole shape.null s is = rw is refl
+shape_whole W contract whole shape.bool s is = rw is refl
+shape_whole W contract whole (shape.int k) s is = rw is (int_whole k)
+shape_whole W contract whole (shape.non_zero k) s is = rw is (non_zero_whole k)
+shape_whole W contract whole shape.number s is = rw is refl
+shape_whole W contract whole shape.text s is = rw is refl
+shape_whole W contract whole shape.char s is = rw is refl
+shape_whole W contract whole (shape.formatted f) s is = rw is refl
+shape_whole W contract whole shape.any s is = rw is refl
+shape_whole W contract whole (shape.option n) s is = rw is.2 (whole_allow_null is.0 (whole n is.0 is.1))
+shape_whole W contract whole (shape.seq n) s is = rw is.2 (or-false (has_float is.0) ∙ whole n is.0 is.1)
+
+own_whole : (W : ℕ → Data → Type 0) (contract : Contract) → ((j : ℕ) (t : Data) → W j t → IsWhole t) → (o : Option Entry) → ((e : Entry) → o ≡ Some e → members_have_float e.notes ≡ false)
+    → (s : Data) → IsOwnDocument W contract o s → IsWhole s
+own_whole W contract whole None noted s is = absurd is
+own_whole W contract whole (Some e) noted s is = rw is.2 (whole_annotated e.notes is.0 (noted e refl) (shape_whole W contract whole e.shape is.0 is.1))
+
+described_whole : (rows : List Row) (contract : Contract) → HasNoFloat rows → (d n : ℕ) (s : Data) → Describes rows contract d n s → IsWhole s
+unfolding Describes
+described_whole rows contract plain zero n s h = absurd h
+described_whole rows contract plain (suc d) n s h = own_whole (Describes rows contract d) contract (described_whole rows contract plain d) (entry_at rows n) (plain n) s h
+
+whole_with_title : (name : Text) (ms : Members) → members_have_float ms ≡ false → members_have_float (with_title name ms) ≡ false
+whole_with_title name ms e = go (is_some (get_member (codes "title") ms))
+  where
+    go : (b : Bool) → members_have_float (if b then ms else put (codes "title") (string name) ms) ≡ false
+    go true = e
+    go false = members_have_float-put (codes "title") (string name) ms refl e
+
+whole_with_meta_schema : (uri : Option Text) (ms : Members) → members_have_float ms ≡ false → members_have_float (with_meta_schema uri ms) ≡ false
+whole_with_meta_schema None ms e = e
+whole_with_meta_schema (Some uri) ms e = members_have_float-put (codes "$schema") (string uri) ms refl e
+
+pub root_whole : (rows : List Row) (contract : Contract) → HasNoFloat rows → (d n : ℕ) (name : Text) (uri : Option Text) (s : Data) → Describes rows contract d n s
+    → has_float (root_document name uri s) ≡ false
+root_whole rows contract plain d n name uri s h =
+    whole_with_meta_schema uri (with_title name (members_in s)) (whole_with_title name (members_in s) (whole_members_in s (described_whole rows contract plain d n s h)))

@@ -1,0 +1,241 @@
+-- What the document of each shape says under 2020-12.
+use Rattle.std.proofs.Common.{◌≡◌, ℕ, zero, ◌<◌, ◌≤◌, List, [], ◌∷◌, Option, Some, None, Bool, true, false, refl, sym, ap, ◌∙◌, arith, rules}
+use Rattle.std.specs.Prelude.{codes, ℤ, pos, negsuc, int_le, is_some, ◌||◌, ◌&&◌, ◌==◌, not, nat_le, ◌++◌, if◌then◌else◌}
+use Rattle.std.specs.Ordering.{int_eq}
+use Rattle.std.proofs.lemmas.Bool.Decides.{nat_tests}
+use Rattle.serde_json.specs.Data.{Data, Num, null, boolean, number, unsigned, negative, float, string, array, object, Items, no_items, item, depth, items_depth}
+use Rattle.serde_json.specs.Find.{as_integer, of_integer}
+use Rattle.schemars_schema.specs.Verdict.{Verdict, Yes, No, both, verdict, opposite}
+use Rattle.schemars_schema.specs.Json.{Text, IsJson, AreJson, json_eq}
+use Rattle.schemars_schema.specs.SchemaData.{IsSchema, object_of}
+use Rattle.schemars_schema.specs.Acceptance.{Patterns, Judge, Context, judge, read_data, all_keywords, each_past, where_some, code_points, is_null, whole_number}
+use Rattle.schemars_schema.proofs.Verdicts.{both-yes, both-verdict, opposite-verdict}
+use Rattle.schemars_schema.proofs.Objects.{schema-judge}
+use Rattle.schemars_rewrite.specs.NullLaw.{context2020_12, zero_schema}
+use Rattle.schemars_types.specs.declared.shape.IntKind.{IntKind}
+use Rattle.schemars_types.specs.declared.shape.IntKind.TheVariants.{I8, I16, I32, I64, I128, Isize, U8, U16, U32, U64, U128, Usize}
+use Rattle.schemars_types.specs.IntKind.{format_of}
+use Rattle.schemars_types.specs.Shape as shape
+use Rattle.schemars_types.specs.Meaning.{Contract, has_shape, every_item, holds, least_of, greatest_of, is_at_least, is_at_most, is_of_kind, is_zero}
+use Rattle.schemars.specs.Documents.{typed, type_alone, is_signed, bound_at, int_keywords, int_document, non_zero_document, char_document, formatted_document, seq_document}
+
+module _ (patterns : Patterns) (f : Text → Judge) (contract : Contract) (M : ℕ → Data → Bool) where
+  abbrev c : Context
+  c = context2020_12 patterns f
+
+  abbrev Says : Data → shape.Shape → Data → Type 0
+  Says s kind v = (judge c s).fits v ≡ verdict (has_shape contract patterns M kind v)
+
+  pub null_says : (v : Data) → Says (type_alone (codes "null")) shape.null v
+  unfolding read_data all_keywords
+  null_says null = refl
+  null_says (boolean b) = refl
+  null_says (number n) = refl
+  null_says (string s) = refl
+  null_says (array vs) = refl
+  null_says (object ms) = refl
+
+  pub bool_says : (v : Data) → Says (type_alone (codes "boolean")) shape.bool v
+  unfolding read_data all_keywords
+  bool_says null = refl
+  bool_says (boolean b) = refl
+  bool_says (number n) = refl
+  bool_says (string s) = refl
+  bool_says (array vs) = refl
+  bool_says (object ms) = refl
+
+  pub number_says : (v : Data) → Says (type_alone (codes "number")) shape.number v
+  unfolding read_data all_keywords
+  number_says null = refl
+  number_says (boolean b) = refl
+  number_says (number n) = refl
+  number_says (string s) = refl
+  number_says (array vs) = refl
+  number_says (object ms) = refl
+
+  pub text_says : (v : Data) → Says (type_alone (codes "string")) shape.text v
+  unfolding read_data all_keywords
+  text_says null = refl
+  text_says (boolean b) = refl
+  text_says (number n) = refl
+  text_says (string s) = refl
+  text_says (array vs) = refl
+  text_says (object ms) = refl
+
+  pub formatted_says : (format : Text) (v : Data) → Says (formatted_document format) (shape.formatted format) v
+  unfolding read_data all_keywords
+  formatted_says format null = refl
+  formatted_says format (boolean b) = refl
+  formatted_says format (number n) = refl
+  formatted_says format (string s) = refl
+  formatted_says format (array vs) = refl
+  formatted_says format (object ms) = refl
+
+  same_count : (n : ℕ) → nat_le 1 n && nat_le n 1 ≡ (n == 1)
+  same_count n = grind (arith, nat_tests)
+
+  pub char_says : (v : Data) → Says char_document shape.char v
+  unfolding read_data all_keywords
+  char_says null = refl
+  char_says (boolean b) = refl
+  char_says (number n) = refl
+  char_says (string s) = rw both-yes (both-verdict _ _ ∙ ap verdict (same_count (code_points s)))
+  char_says (array vs) = refl
+  char_says (object ms) = refl
+
+  pub any_says : (v : Data) → Says (boolean true) shape.any v
+  unfolding read_data
+  any_says v = refl
+
+  each_item : (n : ℕ) (t : Data) (vs : Items) → AreJson vs → ((w : Data) → IsJson w → depth w ≤ items_depth vs → (judge c t).fits w ≡ verdict (M n w))
+      → each_past zero (judge c t) vs ≡ verdict (every_item (M n) vs)
+  each_item n t no_items are h = refl
+  each_item n t (item v vs) are h = rw (h v are.0 (omega arith), each_item n t vs are.1 (λ w is less. h w is (omega arith))) (both-verdict (M n v) (every_item (M n) vs))
+
+  pub seq_says : (n : ℕ) (t : Data) → IsSchema t → (v : Data) → IsJson v → ((w : Data) → IsJson w → depth w < depth v → (judge c t).fits w ≡ verdict (M n w))
+      → Says (seq_document t) (shape.seq n) v
+  unfolding read_data all_keywords
+  seq_says n t is null json h = refl
+  seq_says n t is (boolean b) json h = refl
+  seq_says n t is (number k) json h = refl
+  seq_says n t is (string s) json h = refl
+  seq_says n t is (array vs) json h = rw (schema-judge c t is, both-yes) (each_item n t vs json (λ w is less. h w is (omega arith)))
+  seq_says n t is (object ms) json h = refl
+
+  -- ---- integers
+
+  whole_of_integer : (z : ℤ) → as_integer (of_integer z) ≡ Some z
+  whole_of_integer (pos n) = refl
+  whole_of_integer (negsuc n) = refl
+
+  abbrev says_least : ℤ → Option ℤ → Verdict
+  says_least m z = where_some z (λ n. verdict (int_le m n))
+
+  abbrev says_greatest : ℤ → Option ℤ → Verdict
+  says_greatest m z = where_some z (λ n. verdict (int_le n m))
+
+  unbounded : (z : Option ℤ) → verdict (is_some z || false) ≡ verdict (holds z (λ n. true && true))
+  unbounded None = refl
+  unbounded (Some z) = refl
+
+  from_least : (m : ℤ) (z : Option ℤ) → both (verdict (is_some z || false)) (says_least m z) ≡ verdict (holds z (λ n. int_le m n && true))
+  from_least m None = refl
+  from_least m (Some z) = go (int_le m z)
+    where
+      go : (b : Bool) → verdict b ≡ verdict (b && true)
+      go true = refl
+      go false = refl
+
+  to_greatest : (m : ℤ) (z : Option ℤ) → both (verdict (is_some z || false)) (says_greatest m z) ≡ verdict (holds z (λ n. true && int_le n m))
+  to_greatest m None = refl
+  to_greatest m (Some z) = refl
+
+  between : (l g : ℤ) (z : Option ℤ) → both (verdict (is_some z || false)) (both (says_least l z) (says_greatest g z)) ≡ verdict (holds z (λ n. int_le l n && int_le n g))
+  between l g None = refl
+  between l g (Some z) = both-verdict (int_le l z) (int_le z g)
+
+  bounds_say : (format : Text) (least greatest : Option ℤ) (v : Data)
+      → (judge c (object_of (int_keywords format least greatest))).fits v ≡ verdict (holds (whole_number v) (λ z. is_at_least least z && is_at_most greatest z))
+  unfolding read_data all_keywords
+  bounds_say format None None null = refl
+  bounds_say format None None (boolean b) = refl
+  bounds_say format None None (string s) = refl
+  bounds_say format None None (array vs) = refl
+  bounds_say format None None (object ms) = refl
+  bounds_say format None None (number n) = rw both-yes (unbounded (as_integer n))
+  bounds_say format (Some l) None null = refl
+  bounds_say format (Some l) None (boolean b) = refl
+  bounds_say format (Some l) None (string s) = refl
+  bounds_say format (Some l) None (array vs) = refl
+  bounds_say format (Some l) None (object ms) = refl
+  bounds_say format (Some l) None (number n) = rw (whole_of_integer l, both-yes) (from_least l (as_integer n))
+  bounds_say format None (Some g) null = refl
+  bounds_say format None (Some g) (boolean b) = refl
+  bounds_say format None (Some g) (string s) = refl
+  bounds_say format None (Some g) (array vs) = refl
+  bounds_say format None (Some g) (object ms) = refl
+  bounds_say format None (Some g) (number n) = rw (whole_of_integer g, both-yes) (to_greatest g (as_integer n))
+  bounds_say format (Some l) (Some g) null = refl
+  bounds_say format (Some l) (Some g) (boolean b) = refl
+  bounds_say format (Some l) (Some g) (string s) = refl
+  bounds_say format (Some l) (Some g) (array vs) = refl
+  bounds_say format (Some l) (Some g) (object ms) = refl
+  bounds_say format (Some l) (Some g) (number n) = rw (whole_of_integer l, whole_of_integer g, both-yes) (between l g (as_integer n))
+
+  pub int_says : (kind : IntKind) (v : Data) → Says (int_document kind) (shape.int kind) v
+  int_says kind v = bounds_say (format_of kind) (least_of kind) (greatest_of kind) v
+
+  -- the value is judged as before, and is not 0
+  abbrev IsNonZeroLaw : Text → Option ℤ → Option ℤ → Data → Type 0
+  IsNonZeroLaw format least greatest v =
+      (judge c (object_of (int_keywords format least greatest ++ (codes "not", zero_schema) ∷ []))).fits v
+      ≡ verdict (holds (whole_number v) (λ z. (is_at_least least z && is_at_most greatest z) && not (is_zero z)))
+
+  opposite_alone : (b : Bool) → both (opposite (both (verdict b) Yes)) Yes ≡ verdict (not b)
+  opposite_alone true = refl
+  opposite_alone false = refl
+
+  three : (x y z : Bool) → both (verdict x) (both (verdict y) (verdict z)) ≡ verdict ((x && y) && z)
+  three true y z = both-verdict y z
+  three false true true = refl
+  three false true false = refl
+  three false false true = refl
+  three false false false = refl
+
+  three_with_not : (x y b : Bool) → both (verdict x) (both (verdict y) (both (opposite (both (verdict b) Yes)) Yes)) ≡ verdict ((x && y) && not b)
+  three_with_not x y b = rw (opposite_alone b) (three x y (not b))
+
+  wide_not_zero : (format : Text) (v : Data) → IsJson v → IsNonZeroLaw format None None v
+  unfolding read_data all_keywords json_eq
+  wide_not_zero format null is = refl
+  wide_not_zero format (boolean b) is = refl
+  wide_not_zero format (string s) is = refl
+  wide_not_zero format (array vs) is = refl
+  wide_not_zero format (object ms) is = refl
+  wide_not_zero format (number (unsigned k)) is = opposite_alone (0 == k)
+  wide_not_zero format (number (negative (pos k))) is = absurd is
+  wide_not_zero format (number (negative (negsuc k))) is = refl
+  wide_not_zero format (number (float x)) is = refl
+
+  narrow_not_zero : (format : Text) (l g : ℤ) (v : Data) → IsJson v → IsNonZeroLaw format (Some l) (Some g) v
+  unfolding read_data all_keywords json_eq
+  narrow_not_zero format l g null is = refl
+  narrow_not_zero format l g (boolean b) is = refl
+  narrow_not_zero format l g (string s) is = refl
+  narrow_not_zero format l g (array vs) is = refl
+  narrow_not_zero format l g (object ms) is = refl
+  narrow_not_zero format l g (number (unsigned k)) is = rw (whole_of_integer l, whole_of_integer g) (three_with_not (int_le l (pos k)) (int_le (pos k) g) (0 == k))
+  narrow_not_zero format l g (number (negative (pos k))) is = absurd is
+  narrow_not_zero format l g (number (negative (negsuc k))) is = rw (whole_of_integer l, whole_of_integer g) (three (int_le l (negsuc k)) (int_le (negsuc k) g) true)
+  narrow_not_zero format l g (number (float x)) is = refl
+
+  at_least_one : (n : ℕ) (b : Bool) → nat_le 1 n && b ≡ (nat_le 0 n && b) && not (0 == n)
+  at_least_one n true = grind (arith, nat_tests)
+  at_least_one n false = grind (arith, nat_tests)
+
+  from_one : (greatest : Option ℤ) (z : ℤ) → int_le (pos 1) z && is_at_most greatest z ≡ (int_le (pos 0) z && is_at_most greatest z) && not (is_zero z)
+  from_one greatest (pos n) = at_least_one n (is_at_most greatest (pos n))
+  from_one greatest (negsuc n) = refl
+
+  held : (o : Option ℤ) (p q : ℤ → Bool) → ((z : ℤ) → p z ≡ q z) → holds o p ≡ holds o q
+  held None p q same = refl
+  held (Some z) p q same = same z
+
+  unsigned_says : (format : Text) (greatest : Option ℤ) (v : Data)
+      → (judge c (object_of (int_keywords format (Some (pos 1)) greatest))).fits v
+      ≡ verdict (holds (whole_number v) (λ z. (is_at_least (Some (pos 0)) z && is_at_most greatest z) && not (is_zero z)))
+  unsigned_says format greatest v = bounds_say format (Some (pos 1)) greatest v ∙ ap verdict (held (whole_number v) _ _ (from_one greatest))
+
+  pub non_zero_says : (kind : IntKind) (v : Data) → IsJson v → Says (non_zero_document kind) (shape.non_zero kind) v
+  non_zero_says I8 v is = narrow_not_zero (codes "int8") (negsuc 127) (pos 127) v is
+  non_zero_says I16 v is = narrow_not_zero (codes "int16") (negsuc 32767) (pos 32767) v is
+  non_zero_says I32 v is = wide_not_zero (codes "int32") v is
+  non_zero_says I64 v is = wide_not_zero (codes "int64") v is
+  non_zero_says I128 v is = wide_not_zero (codes "int128") v is
+  non_zero_says Isize v is = wide_not_zero (codes "int") v is
+  non_zero_says U8 v is = unsigned_says (codes "uint8") (Some (pos 255)) v
+  non_zero_says U16 v is = unsigned_says (codes "uint16") (Some (pos 65535)) v
+  non_zero_says U32 v is = unsigned_says (codes "uint32") None v
+  non_zero_says U64 v is = unsigned_says (codes "uint64") None v
+  non_zero_says U128 v is = unsigned_says (codes "uint128") None v
+  non_zero_says Usize v is = unsigned_says (codes "uint") None v

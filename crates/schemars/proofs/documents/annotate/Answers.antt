@@ -1,0 +1,15 @@
+use Rattle.std.proofs.Common.{◌≡◌, [], ap, ◌∙◌, sym, rules}
+use Rattle.serde_json.specs.Data.{object}
+use Rattle.serde_json.specs.View.{members_view}
+use Rattle.schemars_schema.specs.SchemaData.{members_in}
+use Rattle.schemars.specs.Documents.{put_members}
+use Rattle.schemars.proofs.Annotating.{annotated-some}
+use Rattle.schemars.proofs.documents.annotate.Goals as goal
+
+pub returns : goal.returns
+returns c =
+    let i = c.loop-key.invariant in
+    let done : c.loop-key.key-iterator ≡ [] = search rules in
+    let all : members_in c.loop-key.schema ≡ put_members (members_view c.args.notes.now.entries) (members_in c.args.schema.now) =
+    ap (λ es. put_members (members_view es) (members_in c.loop-key.schema)) (sym done) ∙ i.left in
+    i.is_object ∙ (ap object all ∙ annotated-some c.args.notes.now.entries c.is_empty.result c.if-is_empty.false c.is_empty.ensures.1 c.args.schema.now)

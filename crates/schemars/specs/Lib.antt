@@ -1,0 +1,5 @@
+pub mod Documents
+pub mod State
+pub mod Headline
+pub mod Settings
+pub mod Refusals

@@ -1,0 +1,18 @@
+//! Generates JSON Schema documents from tables of types.
+//!
+//! A table says which JSON values each type has, and the root document of a type accepts exactly
+//! those: that is the contract of `SchemaGenerator::root_schema_for_type`.
+#![tactic(auto)]
+
+mod build;
+mod documents;
+mod error;
+pub mod generate;
+mod integers;
+#[cfg(test)]
+mod tests;
+
+pub use error::GenerateError;
+pub use generate::{SchemaGenerator, SchemaSettings};
+pub use schemars_schema::{Schema, consts};
+pub use schemars_types as types;

@@ -1,0 +1,169 @@
+ghost use Rattle.std.specs.Prelude.{◌≡◌, ◌<◌, Some, IsTrue, length, true};
+ghost use Rattle.schemars_types.specs.Shape.{shape_of, entry_of, numbers_of};
+ghost use Rattle.schemars_types.specs.Rows.{entry_at};
+ghost use Rattle.schemars_types.specs.InOrder.{AllBelow, IsInOrder, RefersBelow};
+
+use crate::types::{IntKind, Shape, TypeEntry, TypeNo, Types};
+use crate::{GenerateError, SchemaGenerator, SchemaSettings};
+use serde_json::{Map, Value};
+use std::alloc::Global;
+use std::process::Abort;
+use std::test::Fail;
+
+// Whether each row is written in place and refers to lower rows alone.
+fn is_in_order(types: &Types) -> bool
+    ensures { IsTrue result → IsInOrder types.now }
+{
+    for n in 0..types.len() {
+        if !refers_below(types, n) {
+            return false;
+        }
+    }
+    true
+}
+
+fn refers_below(types: &Types, n: TypeNo) -> bool
+    ensures { IsTrue result → RefersBelow types.now n }
+{
+    match types.entry(n) {
+        Some(entry) => entry.inline && is_below(&entry.shape, n),
+        None => false,
+    }
+}
+
+fn is_below(shape: &Shape, n: TypeNo) -> bool
+    ensures { IsTrue result → AllBelow n (numbers_of (shape_of shape.now)) }
+{
+    match shape {
+        Shape::Option(m) => *m < n,
+        Shape::Seq(m) => *m < n,
+        _ => true,
+    }
+}
+
+// The text of the root document of row `n`.
+fn root_text(rt: &impl Abort, alloc: Global, types: Types, n: TypeNo) -> Result<String, Fail> {
+    assert!(rt; is_in_order(&types));
+    let settings = SchemaSettings::draft2020_12(alloc);
+    let mut generator = SchemaGenerator::with_types(alloc, settings, types)?;
+    let schema = generator.root_schema_for_type(alloc, n)?;
+    Ok(schema.to_ordered_string(alloc)?)
+}
+
+// A root document of 2020-12 with these members beside `$schema`.
+fn document(alloc: Global, members: &str) -> Result<String, Fail> {
+    let uri = "https://json-schema.org/draft/2020-12/schema";
+    Ok(format!(in alloc; "{{\"$schema\":\"{uri}\",{members}}}")?)
+}
+
+#[test]
+fn any_value(rt: HostRuntime) -> Result<(), Fail> {
+    let alloc = rt.alloc();
+    let mut types = Types::new(alloc);
+    let any = types.any(alloc)?;
+    let text = root_text(&rt, alloc, types, any)?;
+    let expected = document(alloc, r#""title":"AnyValue""#)?;
+    assert_eq!(rt; text.as_str(), expected.as_str());
+    Ok(())
+}
+
+#[test]
+fn nullable_non_zero(rt: HostRuntime) -> Result<(), Fail> {
+    let alloc = rt.alloc();
+    let mut types = Types::new(alloc);
+    let non_zero = types.non_zero(alloc, IntKind::I8)?;
+    let option = types.option(alloc, non_zero)?;
+    let text = root_text(&rt, alloc, types, option)?;
+    let expected = document(
+        alloc,
+        r#""title":"Nullable_NonZeroI8","type":["integer","null"],"format":"int8","maximum":127,"minimum":-128,"not":{"const":0}"#,
+    )?;
+    assert_eq!(rt; text.as_str(), expected.as_str());
+    Ok(())
+}
+
+#[test]
+fn nested_lists(rt: HostRuntime) -> Result<(), Fail> {
+    let alloc = rt.alloc();
+    let mut types = Types::new(alloc);
+    let character = types.char(alloc)?;
+    let seq = types.seq(alloc, character)?;
+    let option = types.option(alloc, seq)?;
+    let outer = types.seq(alloc, option)?;
+    let text = root_text(&rt, alloc, types, outer)?;
+    let expected = document(
+        alloc,
+        r#""title":"Array_of_Nullable_Array_of_Character","type":"array","items":{"type":["array","null"],"items":{"type":"string","maxLength":1,"minLength":1}}"#,
+    )?;
+    assert_eq!(rt; text.as_str(), expected.as_str());
+    Ok(())
+}
+
+// Notes take the place of members of their names, and a title among them stays.
+#[test]
+fn notes(rt: HostRuntime) -> Result<(), Fail> {
+    let alloc = rt.alloc();
+    let mut types = Types::new(alloc);
+    let id = String::from_str(alloc, "Celsius")?;
+    let name = String::from_str(alloc, "Celsius")?;
+    let row = types.reserve(id, name)?;
+    let mut notes = Map::new(alloc);
+    serde_json::put(
+        &mut notes,
+        alloc,
+        "title",
+        Value::try_from_str(alloc, "Degrees")?,
+    )?;
+    serde_json::put(
+        &mut notes,
+        alloc,
+        "format",
+        Value::try_from_str(alloc, "celsius")?,
+    )?;
+    let shape = Shape::Int(IntKind::I16);
+    types.define(
+        row,
+        TypeEntry {
+            inline: true,
+            notes,
+            shape,
+        },
+    )?;
+    let text = root_text(&rt, alloc, types, row)?;
+    let expected = document(
+        alloc,
+        r#""title":"Degrees","type":"integer","format":"celsius","maximum":32767,"minimum":-32768"#,
+    )?;
+    assert_eq!(rt; text.as_str(), expected.as_str());
+    Ok(())
+}
+
+#[test]
+fn settings_are_kept(rt: HostRuntime) -> Result<(), Fail> {
+    let alloc = rt.alloc();
+    let mut types = Types::new(alloc);
+    let text = types.text(alloc)?;
+    assert!(rt; is_in_order(&types));
+    let mut settings = SchemaSettings::draft2020_12(alloc);
+    settings.meta_schema = None;
+    let generator = SchemaGenerator::with_types(alloc, settings, types)?;
+    assert_eq!(rt; generator.settings().definitions_path.as_str(), "/$defs");
+    assert_eq!(rt; generator.types().len(), 1);
+    let schema = generator.into_root_schema_for_type(alloc, text)?;
+    let written = schema.to_ordered_string(alloc)?;
+    assert_eq!(rt; written.as_str(), r#"{"title":"string","type":"string"}"#);
+    Ok(())
+}
+
+#[test]
+fn refuses_unknown_rows(rt: HostRuntime) {
+    let alloc = rt.alloc();
+    let settings = SchemaSettings::draft2020_12(alloc);
+    let mut generator = SchemaGenerator::new(alloc, settings);
+    match generator.root_schema_for_type(alloc, 0) {
+        Err(GenerateError::UnknownType(n)) => assert_eq!(rt; n, 0),
+        _ => assert!(rt; false, "an empty table has no rows"),
+    }
+    assert_eq!(rt; GenerateError::UnknownType(0).code(), 8);
+    assert_eq!(rt; GenerateError::OutOfMemory.code(), 1);
+}
