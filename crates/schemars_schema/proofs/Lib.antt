@@ -5,3 +5,8 @@ pub mod Outputs
 pub mod OrderedTexts
 pub mod MapEdits
 pub mod Contents
+pub mod Encodings
+pub mod Pointers
+pub mod Equalities
+pub mod Switched
+mod AcceptanceExamples

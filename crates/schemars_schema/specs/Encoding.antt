@@ -1,5 +1,5 @@
--- Percent-encoding in the fragment of a reference (RFC 3986, section 2.1).
-use Rattle.std.specs.Prelude.{ℕ, ◌+◌, ◌-◌, ◌*◌, ◌&&◌, ◌||◌, ◌==◌, nat_le, List, [], ◌∷◌, Bool, if◌then◌else◌, Option, Some, None, length}
+-- Names in the fragment of a reference (RFC 3986, section 3.5), as tokens of a JSON Pointer (RFC 6901, section 6).
+use Rattle.std.specs.Prelude.{ℕ, ◌+◌, ◌-◌, ◌*◌, ◌/◌, ◌%◌, ◌&&◌, ◌||◌, ◌==◌, nat_le, nat_lt, List, [], ◌∷◌, ◌++◌, Bool, false, if◌then◌else◌, Option, Some, None, length}
 use Rattle.std.specs.Str.Lossy.{utf8_valid_len}
 use Rattle.schemars_schema.specs.Json.{Text}
 
@@ -27,3 +27,35 @@ text_of_bytes bs = if utf8_valid_len bs == length bs then Some bs else None
 -- none where the bytes are no UTF-8
 unfoldable pub percent_decoded : Text → Option Text
 percent_decoded s = text_of_bytes (percent_decoded_bytes s)
+
+-- the bytes begin with `%` and two hexadecimal digits
+abbrev pub begins_escape : List ℕ → Bool
+begins_escape [] = false
+begins_escape (x ∷ []) = false
+begins_escape (x ∷ y ∷ []) = false
+begins_escape (x ∷ y ∷ z ∷ rest) = x == 37 && (is_hex_digit y && is_hex_digit z)
+
+-- such bytes stand somewhere
+abbrev pub has_escape : List ℕ → Bool
+has_escape [] = false
+has_escape (x ∷ rest) = begins_escape (x ∷ rest) || has_escape rest
+
+-- `!`, `$`, `&` to `;` without `/`, `=`, `?` to `Z`, `_`, `a` to `z`
+abbrev pub stays : ℕ → Bool
+stays b = b == 33 || (b == 36 || (is_between 38 46 b || (is_between 48 59 b || (b == 61 || (is_between 63 90 b || (b == 95 || is_between 97 122 b))))))
+
+-- `0` to `9`, `A` to `F`
+abbrev pub hex_digit : ℕ → ℕ
+hex_digit n = if nat_lt n 10 then 48 + n else 55 + n
+
+-- `~` becomes `~0` and `/` becomes `~1`; what can't stand in a fragment becomes `%` and two digits
+abbrev pub encoded_byte : ℕ → Text
+encoded_byte b =
+    if b == 126 then 126 ∷ 48 ∷ []
+    else (if b == 47 then 126 ∷ 49 ∷ []
+    else (if stays b then b ∷ [] else 37 ∷ hex_digit (b / 16) ∷ hex_digit (b % 16) ∷ []))
+
+-- a name as a token in a fragment
+unfoldable pub encoded : Text → Text
+encoded [] = []
+encoded (b ∷ bs) = encoded_byte b ++ encoded bs

@@ -1,17 +1,28 @@
 //! Equality of JSON values.
-ghost use Rattle.std.specs.Prelude.{◌≡◌};
+ghost use Rattle.std.specs.Prelude.{◌≡◌, ◌↔◌, IsTrue, false};
+ghost use Rattle.std.specs.Float.{Float};
+ghost use Rattle.serde_json.specs.Data.{number, float};
 ghost use Rattle.serde_json.specs.View.{view, number_view, items_view, members_view};
-ghost use Rattle.schemars_schema.specs.Json.{json_eq, items_eq, members_eq, num_eq};
+ghost use Rattle.schemars_schema.specs.Json.{IsJson, json_eq, items_eq, members_eq, num_eq};
 
 use serde_json::{Map, Number, Value};
 
-/// Whether two JSON values are equal. A number that is no 64-bit whole number equals nothing, not
-/// even itself.
+/// Whether two JSON values are equal: among JSON values without other numbers, whether they are
+/// the same. A number that is no 64-bit whole number equals nothing, not even itself.
 ///
 /// It stops at the first difference, so it reads no more than the smaller value has.
+pub fn json_eq(a: &Value, b: &Value) -> bool
+    ensures value { result ≡ json_eq (view a.now) (view b.now) }
+    ensures same { IsJson (view a.now) → (IsTrue result ↔ (view a.now ≡ view b.now)) }
+    ensures float { (x : Float) → view a.now ≡ number (float x) → result ≡ false }
+    ensures other_float { (x : Float) → view b.now ≡ number (float x) → result ≡ false }
+{
+    values_eq(a, b)
+}
+
 #[cycle(equality)]
 #[tactic(auto, unfolding(crate::specs::Json::json_eq, crate::specs::Json::items_eq, crate::specs::Json::members_eq))]
-pub fn json_eq(a: &Value, b: &Value) -> bool
+fn values_eq(a: &Value, b: &Value) -> bool
     ensures { result ≡ json_eq (view a.now) (view b.now) }
 {
     match a {
@@ -47,7 +58,7 @@ pub fn json_eq_members(a: &Map<String, Value>, b: &Map<String, Value>) -> bool
         let Some((other_key, other)) = others.next() else {
             return false;
         };
-        if key.as_str() != other_key.as_str() || !json_eq(value, other) {
+        if key.as_str() != other_key.as_str() || !values_eq(value, other) {
             return false;
         }
     }
@@ -64,7 +75,7 @@ fn items_eq(a: &Vec<Value>, b: &Vec<Value>) -> bool
         let Some(other) = others.next() else {
             return false;
         };
-        if !json_eq(item, other) {
+        if !values_eq(item, other) {
             return false;
         }
     }

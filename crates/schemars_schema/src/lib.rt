@@ -2,11 +2,14 @@
 #![tactic(auto)]
 
 pub mod consts;
+pub mod encoding;
 mod equality;
 mod error;
 mod ordered;
 mod output;
+mod pointer;
 mod schema;
+mod serialized;
 #[cfg(test)]
 mod tests;
 

@@ -47,7 +47,7 @@ pub(crate) enum Layout {
 
 impl Layout {
     // How the value of a member is written, where its object is written in this way.
-    fn under(self, key: &str) -> Layout
+    pub(crate) fn under(self, key: &str) -> Layout
         ensures { meant result ≡ layout_under (meant self) key.now }
     {
         match self {
@@ -66,7 +66,7 @@ impl Layout {
     }
 
     // How an item is written, where its list is written in this way.
-    fn inside(self) -> Layout
+    pub(crate) fn inside(self) -> Layout
         ensures { meant result ≡ layout_inside (meant self) }
     {
         match self {
@@ -76,7 +76,7 @@ impl Layout {
     }
 }
 
-const FIRST_KEYWORDS: [&str; 7] = [
+pub(crate) const FIRST_KEYWORDS: [&str; 7] = [
     "$id",
     "$schema",
     "title",
@@ -86,7 +86,7 @@ const FIRST_KEYWORDS: [&str; 7] = [
     "properties",
 ];
 
-const LAST_KEYWORDS: [&str; 2] = ["$defs", "definitions"];
+pub(crate) const LAST_KEYWORDS: [&str; 2] = ["$defs", "definitions"];
 
 fn holds_plain_json(key: &str) -> bool
     ensures { result ≡ holds_plain_json key.now }
@@ -115,7 +115,7 @@ fn is_listed(key: &str, keywords: &[&str]) -> bool
     false
 }
 
-fn has_fixed_place(key: &str) -> bool
+pub(crate) fn has_fixed_place(key: &str) -> bool
     ensures { result ≡ is_listed key.now first_keywords || is_listed key.now last_keywords }
 {
     is_listed(key, &FIRST_KEYWORDS) || is_listed(key, &LAST_KEYWORDS)

@@ -1,12 +1,13 @@
 //! The type of schemas.
-ghost use Rattle.std.specs.Prelude.{◌≡◌, None, codes, string_bytes, option_map, IfOk, OnOk, OnErr, OnSome};
-ghost use Rattle.serde_json.specs.Data.{boolean, object, string, member, no_members, put};
+ghost use Rattle.std.specs.Prelude.{◌≡◌, ℕ, None, codes, string_bytes, option_map, IfOk, OnOk, OnErr, OnSome};
+ghost use Rattle.serde_json.specs.Data.{Data, boolean, object, string, member, no_members, put};
 ghost use Rattle.serde_json.specs.Find.{as_bool, as_object, get, get_member};
 ghost use Rattle.serde_json.specs.View.{view, members_view};
 ghost use Rattle.schemars_schema.specs.SchemaData.{IsSchema, is_schema, members_in, inserted};
 ghost use Rattle.std.specs.Borrow.{LendsIf, LendsIfOk, LendsSo, sem};
 ghost use Rattle.serde_json.specs.Rows.{map_row};
 ghost use Rattle.serde_json.specs.contracts.value.Value.{the_row as value_row};
+ghost use Rattle.schemars_schema.specs.Acceptance.{Dialect, Patterns, accepts};
 ghost use Rattle.schemars_schema.specs.Edits.{removed, replaced, without};
 
 use crate::error::NotASchema;
@@ -174,15 +175,20 @@ impl Schema {
         ensures* writes_back { sem 𝓛 (LendsIfOk the_row map_row self.entry result
             (λ m. object (members_view m.entries)) self.old) }
         ensures value { IfOk result (λ m. members_view m.now.entries ≡ members_in self.old) }
+        ensures says_the_same { IfOk result (λ m. (dialect : Dialect) (document : Data)
+            (patterns : Patterns) (n : ℕ) (v : Data)
+            → accepts dialect document patterns n (object (members_view m.now.entries)) v
+            ≡ accepts dialect document patterns n self.old v) }
     {
         self.make_object(alloc)?;
-        match self.value.as_object_mut() {
+        match self.as_object_mut() {
             Some(members) => Ok(members),
             None => unreachable!(),
         }
     }
 
     fn make_object(&mut self, alloc: Global) -> Result<(), AllocError>
+        ensures schema { IsSchema self.old }
         ensures ok { OnOk result (self.new ≡ object (members_in self.old)) }
         ensures err { OnErr result (self.new ≡ self.old) }
     {

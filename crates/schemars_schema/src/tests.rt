@@ -1,7 +1,13 @@
+ghost use Rattle.std.specs.Prelude.{◌≡◌, IfOk, IsErr};
+ghost use Rattle.serde_json.specs.View.{view};
+ghost use Rattle.schemars_schema.specs.SchemaData.{IsSchema};
+
 use crate::consts::meta_schemas;
+use crate::encoding::{encode_ref_name, percent_decode};
 use crate::{NotASchema, Schema, json_eq, json_eq_members};
 use serde_json::{Map, Value};
 use std::alloc::Global;
+use std::borrow::CowStr;
 use std::test::Fail;
 
 fn schema_of(alloc: Global, text: &str) -> Result<Schema, Fail> {
@@ -201,6 +207,178 @@ fn writes_keywords_in_their_places(rt: HostRuntime) -> Result<(), Fail> {
         schema.to_ordered_string(alloc)?.as_str(),
         expected.as_str()
     );
+    Ok(())
+}
+
+#[test]
+fn encodes_names(rt: HostRuntime) -> Result<(), Fail> {
+    for (name, token) in [
+        ("", ""),
+        ("Some_Name-1.2", "Some_Name-1.2"),
+        ("a\nb", "a%0Ab"),
+        ("\"£%^\\~/", "%22%C2%A3%25%5E%5C~0~1"),
+        ("Needs %-encoding 🚀", "Needs%20%25-encoding%20%F0%9F%9A%80"),
+        ("!$&'()*+,-./:;=?@_", "!$&'()*+,-.~1:;=?@_"),
+        ("#<>[]`{|}", "%23%3C%3E%5B%5D%60%7B%7C%7D"),
+    ] {
+        let encoded = encode_ref_name(rt.alloc(), name)?;
+        assert_eq!(rt; encoded.as_str(), token, "{name}");
+        assert_eq!(rt;
+            matches!(encoded, CowStr::Borrowed(_)),
+            name == token,
+            "{name}"
+        );
+    }
+    Ok(())
+}
+
+#[test]
+fn decodes_percents(rt: HostRuntime) -> Result<(), Fail> {
+    for (text, decoded) in [
+        ("", ""),
+        ("%%%2020%%%", "%% 20%%%"),
+        ("%+A", "%+A"),
+        ("%f0%9F%9a%80", "🚀"),
+        ("a%2Fb~1", "a/b~1"),
+        ("%2541", "%41"),
+    ] {
+        let found = percent_decode(rt.alloc(), text)?.ok_or("a text")?;
+        assert_eq!(rt; found.as_str(), decoded, "{text}");
+        assert_eq!(rt;
+            matches!(found, CowStr::Borrowed(_)),
+            text == decoded,
+            "{text}"
+        );
+    }
+    for text in ["%F0%9F%9A", "%80", "a%C3/"] {
+        assert!(rt; percent_decode(rt.alloc(), text)?.is_none(), "{text}");
+    }
+    Ok(())
+}
+
+#[test]
+fn follows_pointers(rt: HostRuntime) -> Result<(), Fail> {
+    let alloc = rt.alloc();
+    let text = "{\"\":0,\"$defs\":{\"🚀\":true},\"a\":[1,2],\"m~n\":3,\"p/q\":{\"~1\":4}}";
+    let mut schema = schema_of(alloc, text)?;
+    for (pointer, wanted) in [
+        ("", Some(text)),
+        ("#", Some(text)),
+        ("/", Some("0")),
+        ("/a/1", Some("2")),
+        ("/a/01", None),
+        ("/a/2", None),
+        ("/a/-1", None),
+        ("a", None),
+        ("#a", None),
+        ("/b", None),
+        ("/m~0n", Some("3")),
+        ("/m~n", Some("3")),
+        ("/p~1q/~01", Some("4")),
+        ("/p~1q/~1", None),
+        ("#/p%7E1q/%7e01", Some("4")),
+        ("#/p%2Fq", None),
+        ("#/$defs/%F0%9F%9A%80", Some("true")),
+        ("/$defs/%F0%9F%9A%80", None),
+        ("#%F0", None),
+    ] {
+        match schema.pointer(alloc, pointer)? {
+            Some(found) => assert_eq!(rt;
+                found.to_string(alloc)?.as_str(),
+                wanted.ok_or("nothing")?,
+                "{pointer}"
+            ),
+            None => assert!(rt; wanted.is_none(), "{pointer}"),
+        }
+        match schema.pointer_mut(alloc, pointer)? {
+            Some(found) => assert_eq!(rt;
+                found.to_string(alloc)?.as_str(),
+                wanted.ok_or("nothing")?,
+                "{pointer}"
+            ),
+            None => assert!(rt; wanted.is_none() || wanted == Some(text), "{pointer}"),
+        }
+    }
+    Ok(())
+}
+
+#[test]
+fn writes_through_pointers(rt: HostRuntime) -> Result<(), Fail> {
+    let alloc = rt.alloc();
+    let mut schema = schema_of(alloc, "{\"a\":[1,{\"b\":2}]}")?;
+    *schema.pointer_mut(alloc, "#/a/1/b")?.ok_or("b")? = Value::Null;
+    *schema.pointer_mut(alloc, "/a/0")?.ok_or("an item")? = Value::Bool(false);
+    assert_eq!(rt;
+        schema.to_ordered_string(alloc)?.as_str(),
+        "{\"a\":[false,{\"b\":null}]}"
+    );
+    *schema.pointer_mut(alloc, "/a")?.ok_or("a")? = Value::Null;
+    assert_eq!(rt; schema.to_ordered_string(alloc)?.as_str(), "{\"a\":null}");
+    let mut truth = Schema::from(true);
+    for pointer in ["", "#", "/", "/a", "#/a"] {
+        assert!(rt; truth.pointer(alloc, pointer)?.is_none(), "{pointer}");
+        assert!(rt; truth.pointer_mut(alloc, pointer)?.is_none(), "{pointer}");
+    }
+    Ok(())
+}
+
+#[test]
+fn names_are_found_by_their_tokens(rt: HostRuntime) -> Result<(), Fail> {
+    let alloc = rt.alloc();
+    for name in ["", "a", "a/b", "~1", "%41", "a b", "🚀", "\u{1}", "~"] {
+        let mut schema = Schema::default(alloc);
+        let _ = schema.insert(alloc, String::from_str(alloc, name)?, Value::Bool(true))?;
+        let token = encode_ref_name(alloc, name)?;
+        let reference = format!(in alloc; "#/{token}")?;
+        let found = schema
+            .pointer(alloc, reference.as_str())?
+            .ok_or("the member")?;
+        assert_eq!(rt; found.as_bool(), Some(true), "{name}");
+    }
+    Ok(())
+}
+
+fn into_schema_and_back(value: Value) -> Result<Value, NotASchema>
+    ensures back { IfOk result (λ v. view v ≡ view value) }
+    ensures refused { IsErr result → ¬ IsSchema (view value) }
+{
+    let schema = Schema::try_from(value)?;
+    Ok(schema.to_value())
+}
+
+#[test]
+fn a_schema_gives_its_value_back(rt: HostRuntime) -> Result<(), Fail> {
+    let alloc = rt.alloc();
+    for text in ["true", "{\"b\":[],\"type\":null}"] {
+        let value = into_schema_and_back(Value::from_str(alloc, text)?)?;
+        assert_eq!(rt; value.to_string(alloc)?.as_str(), text);
+    }
+    assert!(rt; into_schema_and_back(Value::Null).is_err());
+    Ok(())
+}
+
+#[test]
+fn is_data_of_any_format(rt: HostRuntime) -> Result<(), Fail> {
+    let alloc = rt.alloc();
+    for text in [
+        "true",
+        "false",
+        "{}",
+        "{\"zeta\":[{\"const\":1,\"type\":\"t\"}],\"definitions\":{\"type\":{\"const\":1,\"type\":\"null\"},\"A\":true},\"$defs\":{},\"x-a\":{\"title\":-2,\"a\":null},\"examples\":[{\"type\":1,\"a\":2}],\"default\":{\"type\":1,\"a\":2},\"properties\":{\"type\":{},\"a\":{}},\"format\":\"g\",\"type\":\"object\",\"description\":\"d\",\"title\":\"T\\\"\\n\",\"$schema\":\"S\",\"$id\":\"I\",\"$ref\":\"#\"}",
+    ] {
+        let schema = schema_of(alloc, text)?;
+        let ordered = schema.to_ordered_string(alloc)?;
+        let sent = serde_json::to_string(alloc, &schema)?;
+        assert_eq!(rt; sent.as_str(), ordered.as_str());
+        let read: Schema = serde_json::from_str(alloc, sent.as_str())?;
+        assert!(rt; json_eq(read.as_value(), schema.as_value()));
+        let owned: Schema = serde_json::from_value(alloc, schema.to_value())?;
+        assert!(rt; json_eq(read.as_value(), owned.as_value()));
+    }
+    for text in ["null", "1", "\"true\"", "[{}]", "{"] {
+        let read: Result<Schema, serde_json::Error> = serde_json::from_str(alloc, text);
+        assert!(rt; read.is_err(), "{text}");
+    }
     Ok(())
 }
 

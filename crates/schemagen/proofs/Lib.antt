@@ -1,0 +1,4 @@
+-- The lemmas of the proofs.
+pub mod Reading
+pub mod Tables
+mod Examples

@@ -1,0 +1,326 @@
+//! The table that a JSON value says.
+ghost use Rattle.std.specs.Prelude.{◌≡◌, [], false, None, Some, IfOk, IfErr, option_map, string_bytes, map, codes, nat_lt};
+ghost use Rattle.std.specs.List.{list_all};
+ghost use Rattle.serde_json.specs.View.{view, items_view, members_view};
+ghost use Rattle.schemars_types.specs.Shape.{shape_of, entry_of, formatted, numbers_of};
+ghost use Rattle.schemars_schema.specs.OrderedText.{is_listed};
+ghost use Rattle.schemagen.specs.Input.{has_only, lone_in, number_in, kind_named, kind_in, shape_named, shape_under, shape_in, entry_in, optional, needed};
+ghost use Rattle.schemagen.specs.Input.{heading_in, unentered, is_plain, input_of};
+ghost use Rattle.schemagen.specs.Reading.{as_input, headings_in, reserved_after, plain_after};
+ghost use Rattle.serde_json.specs.Data.{no_members};
+ghost use Rattle.serde_json.specs.Find.{as_object, as_bool, as_str, as_array};
+
+use schemars_types::{IntKind, Shape, TypeEntry, TypeNo, Types, TypesError};
+use serde_json::{Map, Value};
+use std::alloc::{AllocError, Global};
+
+/// Why a value is no input.
+#[derive(Clone, Copy, Debug, PartialEq, Eq)]
+pub enum InputError {
+    /// Memory ran out.
+    OutOfMemory,
+    /// The value is no table with a root.
+    BadTable,
+}
+
+impl From<AllocError> for InputError {
+    ghost use Rattle.schemagen.specs.declared.input.InputError.TheVariants.{OutOfMemory};
+
+    ghost from_gives = { λ _ e. e ≡ OutOfMemory };
+
+    fn from(_e: AllocError) -> InputError {
+        InputError::OutOfMemory
+    }
+}
+
+impl From<TypesError> for InputError {
+    ghost from_gives = { λ e r. r ≡ as_input e };
+
+    fn from(e: TypesError) -> InputError {
+        match e {
+            TypesError::OutOfMemory => InputError::OutOfMemory,
+            TypesError::AlreadyDefined(_) | TypesError::UnknownType(_) => InputError::BadTable,
+        }
+    }
+}
+
+fn is_listed(name: &str, names: &[&str]) -> bool
+    ensures { result ≡ is_listed name.now (map (λ n. n.now) names.now) }
+{
+    for listed in names {
+        if name == *listed {
+            return true;
+        }
+    }
+    false
+}
+
+// Whether the value is an object whose members all have one of these names.
+fn has_only(value: &Value, names: &[&str]) -> bool
+    ensures { result ≡ has_only (map (λ n. n.now) names.now) (view value.now) }
+{
+    let Some(members) = value.as_object() else {
+        return false;
+    };
+    for (name, _) in members.iter() {
+        if !is_listed(name.as_str(), names) {
+            return false;
+        }
+    }
+    true
+}
+
+// The member of an object that has no other.
+fn lone_member(members: &Map<String, Value>) -> Option<(&String, &Value)>
+    ensures { option_map (λ m. (string_bytes m.0.now, view m.1.now)) result
+        ≡ lone_in (members_view members.now.entries) }
+{
+    let mut entries = members.iter();
+    match (entries.next(), entries.next()) {
+        (Some(member), None) => Some(member),
+        _ => None,
+    }
+}
+
+fn number_in(value: &Value) -> Option<TypeNo>
+    ensures { result ≡ number_in (view value.now) }
+{
+    let number = value.as_u64()?;
+    Some(number as usize)
+}
+
+fn kind_named(name: &str) -> Option<IntKind>
+    ensures { result ≡ kind_named name.now }
+{
+    match name {
+        "i8" => Some(IntKind::I8),
+        "i16" => Some(IntKind::I16),
+        "i32" => Some(IntKind::I32),
+        "i64" => Some(IntKind::I64),
+        "i128" => Some(IntKind::I128),
+        "isize" => Some(IntKind::Isize),
+        "u8" => Some(IntKind::U8),
+        "u16" => Some(IntKind::U16),
+        "u32" => Some(IntKind::U32),
+        "u64" => Some(IntKind::U64),
+        "u128" => Some(IntKind::U128),
+        "usize" => Some(IntKind::Usize),
+        _ => None,
+    }
+}
+
+fn kind_in(value: &Value) -> Option<IntKind>
+    ensures { result ≡ kind_in (view value.now) }
+{
+    kind_named(value.as_str()?)
+}
+
+fn shape_named(name: &str) -> Option<Shape>
+    ensures { option_map shape_of result ≡ shape_named name.now }
+{
+    match name {
+        "null" => Some(Shape::Null),
+        "bool" => Some(Shape::Bool),
+        "number" => Some(Shape::Number),
+        "text" => Some(Shape::Text),
+        "char" => Some(Shape::Char),
+        "any" => Some(Shape::Any),
+        _ => None,
+    }
+}
+
+// The shape that an object with this one member says.
+fn shape_under(alloc: Global, name: &str, value: &Value) -> Result<Shape, InputError>
+    ensures ok { IfOk result (λ s. shape_under name.now (view value.now) ≡ Some (shape_of s)) }
+    ensures bad { IfErr result
+        (λ e. e ≡ InputError.BadTable → shape_under name.now (view value.now) ≡ None) }
+{
+    let shape = match name {
+        "int" => kind_in(value).map(Shape::Int),
+        "nonzero" => kind_in(value).map(Shape::NonZero),
+        "format" => format_in(alloc, value)?,
+        "option" => number_in(value).map(Shape::Option),
+        "seq" => number_in(value).map(Shape::Seq),
+        _ => None,
+    };
+    shape.ok_or(InputError::BadTable)
+}
+
+fn format_in(alloc: Global, value: &Value) -> Result<Option<Shape>, AllocError>
+    ensures { IfOk result (λ s. option_map shape_of s
+        ≡ option_map formatted (as_str (view value.now))) }
+{
+    let Some(format) = value.as_str() else {
+        return Ok(None);
+    };
+    Ok(Some(Shape::Formatted(String::from_str(alloc, format)?)))
+}
+
+fn shape_in(alloc: Global, value: &Value) -> Result<Shape, InputError>
+    ensures ok { IfOk result (λ s. shape_in (view value.now) ≡ Some (shape_of s)) }
+    ensures bad { IfErr result (λ e. e ≡ InputError.BadTable → shape_in (view value.now) ≡ None) }
+{
+    match value {
+        Value::String(name) => shape_named(name.as_str()).ok_or(InputError::BadTable),
+        Value::Object(members) => {
+            let Some((name, part)) = lone_member(members) else {
+                return Err(InputError::BadTable);
+            };
+            shape_under(alloc, name.as_str(), part)
+        }
+        _ => Err(InputError::BadTable),
+    }
+}
+
+// The text of a member that has to be there.
+fn text_in<'v>(value: &'v Value, name: &str) -> Option<&'v str>
+    ensures { option_map (λ t. t.now) result ≡ needed as_str name.now (view value.now) }
+{
+    value.get(name)?.as_str()
+}
+
+fn inline_in(value: &Value) -> Option<bool>
+    ensures { result ≡ optional false as_bool (codes "inline") (view value.now) }
+{
+    match value.get("inline") {
+        None => Some(false),
+        Some(inline) => inline.as_bool(),
+    }
+}
+
+fn notes_in(alloc: Global, value: &Value) -> Result<Map<String, Value>, InputError>
+    ensures ok { IfOk result (λ m. optional no_members as_object (codes "notes") (view value.now)
+        ≡ Some (members_view m.entries)) }
+    ensures bad { IfErr result (λ e. e ≡ InputError.BadTable
+        → optional no_members as_object (codes "notes") (view value.now) ≡ None) }
+{
+    let Some(notes) = value.get("notes") else {
+        return Ok(Map::new(alloc));
+    };
+    match notes.clone()? {
+        Value::Object(members) => Ok(members),
+        _ => Err(InputError::BadTable),
+    }
+}
+
+fn entry_in(alloc: Global, value: &Value) -> Result<TypeEntry, InputError>
+    ensures ok { IfOk result (λ e. entry_in (view value.now) ≡ Some (entry_of e)) }
+    ensures bad { IfErr result (λ e. e ≡ InputError.BadTable → entry_in (view value.now) ≡ None) }
+{
+    let (Some(inline), Some(shape)) = (inline_in(value), value.get("shape")) else {
+        return Err(InputError::BadTable);
+    };
+    let notes = notes_in(alloc, value)?;
+    let shape = shape_in(alloc, shape)?;
+    Ok(TypeEntry {
+        inline,
+        notes,
+        shape,
+    })
+}
+
+const ROW_NAMES: [&str; 5] = ["id", "name", "inline", "notes", "shape"];
+
+// The id and the name of a row.
+fn heading_in(value: &Value) -> Option<(&str, &str)>
+    ensures { option_map (λ h. unentered h.0.now h.1.now) result ≡ heading_in (view value.now) }
+{
+    if !has_only(value, &ROW_NAMES) {
+        return None;
+    }
+    let id = text_in(value, "id")?;
+    let name = text_in(value, "name")?;
+    Some((id, name))
+}
+
+fn refers_below(shape: &Shape, n: TypeNo) -> bool
+    ensures { result ≡ list_all (λ m. nat_lt m n) (numbers_of (shape_of shape.now)) }
+{
+    match shape {
+        Shape::Option(m) => *m < n,
+        Shape::Seq(m) => *m < n,
+        _ => true,
+    }
+}
+
+// Whether row `n` may have this entry: it is written in place, has no notes, and refers to lower
+// rows alone.
+fn is_plain(n: TypeNo, entry: &TypeEntry) -> bool
+    ensures { result ≡ is_plain n (entry_of entry.now) }
+{
+    entry.inline && entry.notes.is_empty() && refers_below(&entry.shape, n)
+}
+
+// A table with the ids and the names of these rows.
+fn reserve_rows(alloc: Global, rows: &[Value]) -> Result<Types, InputError>
+    ensures ok { IfOk result (λ t. reserved_after [] (items_view rows.now) ≡ Some t) }
+    ensures bad { IfErr result (λ e. e ≡ InputError.BadTable
+        → reserved_after [] (items_view rows.now) ≡ None) }
+{
+    let mut types = Types::new(alloc);
+    for row in rows {
+        let Some((id, name)) = heading_in(row) else {
+            return Err(InputError::BadTable);
+        };
+        if types.find(id).is_some() {
+            return Err(InputError::BadTable);
+        }
+        let id = String::from_str(alloc, id)?;
+        let name = String::from_str(alloc, name)?;
+        types.reserve(id, name)?;
+    }
+    Ok(types)
+}
+
+// Gives the rows of the table their entries.
+fn define_rows(alloc: Global, mut types: Types, rows: &[Value]) -> Result<Types, InputError>
+    requires { headings_in (items_view rows.now) ≡ Some types }
+    ensures ok { IfOk result (λ t. plain_after [] (items_view rows.now) ≡ Some t) }
+    ensures bad { IfErr result (λ e. e ≡ InputError.BadTable
+        → plain_after [] (items_view rows.now) ≡ None) }
+{
+    for (n, row) in rows.iter().enumerate() {
+        let entry = entry_in(alloc, row)?;
+        if !is_plain(n, &entry) {
+            return Err(InputError::BadTable);
+        }
+        types.define(n, entry)?;
+    }
+    Ok(types)
+}
+
+fn items_in<'v>(value: &'v Value, name: &str) -> Option<&'v Vec<Value>>
+    ensures { option_map (λ v. items_view v.now.items) result
+        ≡ needed as_array name.now (view value.now) }
+{
+    value.get(name)?.as_array()
+}
+
+fn root_in(value: &Value) -> Option<TypeNo>
+    ensures { result ≡ needed number_in (codes "root") (view value.now) }
+{
+    number_in(value.get("root")?)
+}
+
+/// The table that a value says, and its root.
+///
+/// The value is an object with the members `types`, a list of rows, and `root`, the number of one
+/// of them. A row has the members `id`, `name` and `shape`, and may have `inline` and `notes`. No
+/// two rows have one id. Each row is inline, has no notes, and refers to lower rows alone.
+pub fn read_input(alloc: Global, value: &Value) -> Result<(Types, TypeNo), InputError>
+    ensures ok { IfOk result (λ t. input_of (view value.now) ≡ Some (t.0, t.1)) }
+    ensures bad { IfErr result (λ e. e ≡ InputError.BadTable → input_of (view value.now) ≡ None) }
+{
+    if !has_only(value, &["types", "root"]) {
+        return Err(InputError::BadTable);
+    }
+    let (Some(rows), Some(root)) = (items_in(value, "types"), root_in(value)) else {
+        return Err(InputError::BadTable);
+    };
+    let types = reserve_rows(alloc, rows)?;
+    let types = define_rows(alloc, types, rows)?;
+    if root >= types.len() {
+        return Err(InputError::BadTable);
+    }
+    Ok((types, root))
+}
