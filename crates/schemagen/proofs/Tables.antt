@@ -11,13 +11,15 @@ use Rattle.serde_json.specs.Written.{has_float, members_have_float}
 use Rattle.schemars_schema.specs.Json.{Text}
 use Rattle.schemars_schema.specs.OrderedText.{ordered_text}
 use Rattle.schemars_schema.specs.Annotations.{AreNotes}
-use Rattle.schemars_types.specs.Shape.{Entry, numbers_of}
+use Rattle.schemars_types.specs.Shape as shape
+use Rattle.schemars_types.specs.Shape.{Entry, Shape, numbers_of}
 use Rattle.schemars_types.specs.Rows.{Row, entry_at}
 use Rattle.schemars_types.specs.InOrder.{AllBelow, IsInOrder}
 use Rattle.schemars_types.specs.Meaning.{Deserialize}
-use Rattle.schemars.specs.Headline.{IsPlainTable, HasNoFloat, Headline, IsRootOf}
+use Rattle.schemars.specs.Headline.{Headline, IsRootOf}
+use Rattle.schemars.specs.PlainTable.{IsPlainShape, IsPlainEntry, IsPlainTable, ShapeHasNoFloat, EntryHasNoFloat, HasNoFloat}
 use Rattle.schemars.specs.State.{Settings, settings2020_12}
-use Rattle.schemagen.specs.Input.{input_of, has_only, needed, number_in, rows_in, all_differ, ids_of, are_none, is_plain, are_plain, is_table}
+use Rattle.schemagen.specs.Input.{input_of, has_only, needed, number_in, rows_in, all_differ, ids_of, are_none, is_struct, is_plain, are_plain, is_table}
 use Rattle.schemagen.specs.Run.{IsLineOf, AreKnown}
 
 both : (a b : Bool) → a && b ≡ true → (a ≡ true) × (b ≡ true)
@@ -70,8 +72,9 @@ is_in_order rows root table n within =
     let found = plain_at 0 rows n (are_plain_rows rows root table) within in
     let e = found.0 in
     let at : 0 + n ≡ n = omega arith in
-    let plain = both e.inline (are_none e.notes && list_all (λ m. nat_lt m n) (numbers_of e.shape)) (ap (λ (m : ℕ). is_plain m e) (sym at) ∙ found.2) in
-    record { entry = e; is_there = found.1; is_inline = plain.0; below = all_below n (numbers_of e.shape) (both (are_none e.notes) _ plain.1).1 }
+    let plain = both e.inline (are_none e.notes && (not (is_struct e.shape) && list_all (λ m. nat_lt m n) (numbers_of e.shape))) (ap (λ (m : ℕ). is_plain m e) (sym at) ∙ found.2) in
+    let shaped = (both (are_none e.notes) _ plain.1).1 in
+    record { entry = e; is_there = found.1; is_inline = plain.0; below = all_below n (numbers_of e.shape) (both (not (is_struct e.shape)) _ shaped).1 }
 
 without_notes : (rows : List Row) (root n : ℕ) (e : Entry) → is_table rows root ≡ true → entry_at rows n ≡ Some e → are_none e.notes ≡ true
 without_notes rows root n e table there =
@@ -85,11 +88,58 @@ none_have_float : (ms : Members) → are_none ms ≡ true → members_have_float
 none_have_float no_members h = refl
 none_have_float (member k d ms) h = cc
 
+no_struct : (rows : List Row) (root n : ℕ) (e : Entry) → is_table rows root ≡ true → entry_at rows n ≡ Some e → not (is_struct e.shape) ≡ true
+no_struct rows root n e table there =
+    let plain = both e.inline _ (plain_entry 0 rows n e (are_plain_rows rows root table) there) in
+    (both (not (is_struct e.shape)) (list_all (λ m. nat_lt m n) (numbers_of e.shape)) (both (are_none e.notes) _ plain.1).1).0
+
+plain_shape : (s : Shape) → not (is_struct s) ≡ true → IsPlainShape s
+plain_shape (shape.struct fields closed) h = cc
+plain_shape shape.null h = tt
+plain_shape shape.bool h = tt
+plain_shape (shape.int k) h = tt
+plain_shape (shape.non_zero k) h = tt
+plain_shape shape.number h = tt
+plain_shape shape.text h = tt
+plain_shape shape.char h = tt
+plain_shape (shape.formatted g) h = tt
+plain_shape shape.any h = tt
+plain_shape shape.bytes h = tt
+plain_shape shape.schema_itself h = tt
+plain_shape (shape.option n) h = tt
+plain_shape (shape.seq n) h = tt
+plain_shape (shape.newtype n) h = tt
+
+shape_without_float : (s : Shape) → not (is_struct s) ≡ true → ShapeHasNoFloat s
+shape_without_float (shape.struct fields closed) h = cc
+shape_without_float shape.null h = tt
+shape_without_float shape.bool h = tt
+shape_without_float (shape.int k) h = tt
+shape_without_float (shape.non_zero k) h = tt
+shape_without_float shape.number h = tt
+shape_without_float shape.text h = tt
+shape_without_float shape.char h = tt
+shape_without_float (shape.formatted g) h = tt
+shape_without_float shape.any h = tt
+shape_without_float shape.bytes h = tt
+shape_without_float shape.schema_itself h = tt
+shape_without_float (shape.option n) h = tt
+shape_without_float (shape.seq n) h = tt
+shape_without_float (shape.newtype n) h = tt
+
 pub is_plain_table : (rows : List Row) (root : ℕ) → is_table rows root ≡ true → IsPlainTable rows
-is_plain_table rows root table n e there = none_are_notes e.notes (without_notes rows root n e table there)
+is_plain_table rows root table n = at (entry_at rows n) refl
+  where
+    at : (o : Option Entry) → entry_at rows n ≡ o → IsPlainEntry o
+    at None there = tt
+    at (Some e) there = (none_are_notes e.notes (without_notes rows root n e table there), plain_shape e.shape (no_struct rows root n e table there))
 
 pub has_no_float : (rows : List Row) (root : ℕ) → is_table rows root ≡ true → HasNoFloat rows
-has_no_float rows root table n e there = none_have_float e.notes (without_notes rows root n e table there)
+has_no_float rows root table n = at (entry_at rows n) refl
+  where
+    at : (o : Option Entry) → entry_at rows n ≡ o → EntryHasNoFloat o
+    at None there = tt
+    at (Some e) there = (none_have_float e.notes (without_notes rows root n e table there), shape_without_float e.shape (no_struct rows root n e table there))
 
 -- what an input gives is a table
 pub input_of-table : (d : Data) (rows : List Row) (root : ℕ) → input_of d ≡ Some (rows, root) → is_table rows root ≡ true

@@ -8,7 +8,7 @@ use Rattle.schemars_schema.specs.Json.{Text}
 use Rattle.schemars_schema.specs.OrderedText.{is_listed}
 use Rattle.schemars_types.specs.declared.shape.IntKind.{IntKind}
 use Rattle.schemars_types.specs.declared.shape.IntKind.TheVariants.{I8, I16, I32, I64, I128, Isize, U8, U16, U32, U64, U128, Usize}
-use Rattle.schemars_types.specs.Shape.{Shape, Entry, null as null_shape, bool, int, non_zero, number as number_shape, text, char, formatted, any, option, seq, numbers_of}
+use Rattle.schemars_types.specs.Shape.{Shape, Entry, null as null_shape, bool, int, non_zero, number as number_shape, text, char, formatted, any, bytes, schema_itself, option, seq, struct, newtype, numbers_of}
 use Rattle.schemars_types.specs.Rows.{Row, with_entry}
 
 -- ---- the members of an object
@@ -55,14 +55,15 @@ kind_in d = option_and_then kind_named (as_str d)
 abbrev pub shape_named : Text → Option Shape
 shape_named t =
     if bytes_eq t (codes "null") then Some null_shape else (if bytes_eq t (codes "bool") then Some bool else (if bytes_eq t (codes "number") then Some number_shape
-    else (if bytes_eq t (codes "text") then Some text else (if bytes_eq t (codes "char") then Some char else (if bytes_eq t (codes "any") then Some any else None)))))
+    else (if bytes_eq t (codes "text") then Some text else (if bytes_eq t (codes "char") then Some char else (if bytes_eq t (codes "any") then Some any
+    else (if bytes_eq t (codes "bytes") then Some bytes else (if bytes_eq t (codes "schema") then Some schema_itself else None)))))))
 
 -- and those that are said by an object with this one member
 abbrev pub shape_under : Text → Data → Option Shape
 shape_under name d =
     if bytes_eq name (codes "int") then option_map int (kind_in d) else (if bytes_eq name (codes "nonzero") then option_map non_zero (kind_in d)
     else (if bytes_eq name (codes "format") then option_map formatted (as_str d) else (if bytes_eq name (codes "option") then option_map option (number_in d)
-    else (if bytes_eq name (codes "seq") then option_map seq (number_in d) else None))))
+    else (if bytes_eq name (codes "seq") then option_map seq (number_in d) else (if bytes_eq name (codes "newtype") then option_map newtype (number_in d) else None)))))
 
 abbrev pub shape_in : Data → Option Shape
 shape_in null = None
@@ -115,9 +116,27 @@ abbrev pub are_none : Members → Bool
 are_none no_members = true
 are_none (member k d ms) = false
 
--- row n is written in place, has no notes, and refers to lower rows alone
+-- no input says a struct
+abbrev pub is_struct : Shape → Bool
+is_struct null_shape = false
+is_struct bool = false
+is_struct (int k) = false
+is_struct (non_zero k) = false
+is_struct number_shape = false
+is_struct text = false
+is_struct char = false
+is_struct (formatted format) = false
+is_struct any = false
+is_struct bytes = false
+is_struct schema_itself = false
+is_struct (option n) = false
+is_struct (seq n) = false
+is_struct (struct fields closed) = true
+is_struct (newtype n) = false
+
+-- row n is written in place, has no notes, is no struct, and refers to lower rows alone
 abbrev pub is_plain : ℕ → Entry → Bool
-is_plain n e = e.inline && (are_none e.notes && list_all (λ m. nat_lt m n) (numbers_of e.shape))
+is_plain n e = e.inline && (are_none e.notes && (not (is_struct e.shape) && list_all (λ m. nat_lt m n) (numbers_of e.shape)))
 
 -- so are these rows, the first of which has number n
 abbrev pub are_plain : ℕ → List Row → Bool

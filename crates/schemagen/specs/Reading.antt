@@ -11,6 +11,10 @@ use Rattle.schemagen.specs.Input.{heading_in, rows_in, all_differ, ids_of, are_p
 -- the refusal of a table's call as one of the whole input
 abbrev pub as_input : TypesError → InputError
 as_input types.OutOfMemory = OutOfMemory
+as_input (types.UndefinedType n) = BadTable
+as_input (types.RepeatedName n name) = BadTable
+as_input (types.DirectCycle n) = BadTable
+as_input (types.EmptyCycle n) = BadTable
 as_input (types.AlreadyDefined n) = BadTable
 as_input (types.UnknownType n) = BadTable
 

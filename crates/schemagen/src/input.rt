@@ -1,11 +1,11 @@
 //! The table that a JSON value says.
-ghost use Rattle.std.specs.Prelude.{◌≡◌, [], false, None, Some, IfOk, IfErr, option_map, string_bytes, map, codes, nat_lt};
+ghost use Rattle.std.specs.Prelude.{◌≡◌, ◌&&◌, not, [], false, None, Some, IfOk, IfErr, option_map, string_bytes, map, codes, nat_lt};
 ghost use Rattle.std.specs.List.{list_all};
 ghost use Rattle.serde_json.specs.View.{view, items_view, members_view};
 ghost use Rattle.schemars_types.specs.Shape.{shape_of, entry_of, formatted, numbers_of};
 ghost use Rattle.schemars_schema.specs.OrderedText.{is_listed};
 ghost use Rattle.schemagen.specs.Input.{has_only, lone_in, number_in, kind_named, kind_in, shape_named, shape_under, shape_in, entry_in, optional, needed};
-ghost use Rattle.schemagen.specs.Input.{heading_in, unentered, is_plain, input_of};
+ghost use Rattle.schemagen.specs.Input.{heading_in, unentered, is_struct, is_plain, input_of};
 ghost use Rattle.schemagen.specs.Reading.{as_input, headings_in, reserved_after, plain_after};
 ghost use Rattle.serde_json.specs.Data.{no_members};
 ghost use Rattle.serde_json.specs.Find.{as_object, as_bool, as_str, as_array};
@@ -39,7 +39,7 @@ impl From<TypesError> for InputError {
     fn from(e: TypesError) -> InputError {
         match e {
             TypesError::OutOfMemory => InputError::OutOfMemory,
-            TypesError::AlreadyDefined(_) | TypesError::UnknownType(_) => InputError::BadTable,
+            _ => InputError::BadTable,
         }
     }
 }
@@ -125,6 +125,8 @@ fn shape_named(name: &str) -> Option<Shape>
         "text" => Some(Shape::Text),
         "char" => Some(Shape::Char),
         "any" => Some(Shape::Any),
+        "bytes" => Some(Shape::Bytes),
+        "schema" => Some(Shape::SchemaItself),
         _ => None,
     }
 }
@@ -141,6 +143,7 @@ fn shape_under(alloc: Global, name: &str, value: &Value) -> Result<Shape, InputE
         "format" => format_in(alloc, value)?,
         "option" => number_in(value).map(Shape::Option),
         "seq" => number_in(value).map(Shape::Seq),
+        "newtype" => number_in(value).map(Shape::Newtype),
         _ => None,
     };
     shape.ok_or(InputError::BadTable)
@@ -233,18 +236,22 @@ fn heading_in(value: &Value) -> Option<(&str, &str)>
     Some((id, name))
 }
 
+// Whether the shape is no struct, and refers to lower rows alone.
 fn refers_below(shape: &Shape, n: TypeNo) -> bool
-    ensures { result ≡ list_all (λ m. nat_lt m n) (numbers_of (shape_of shape.now)) }
+    ensures { result ≡ not (is_struct (shape_of shape.now))
+        && list_all (λ m. nat_lt m n) (numbers_of (shape_of shape.now)) }
 {
     match shape {
         Shape::Option(m) => *m < n,
         Shape::Seq(m) => *m < n,
+        Shape::Newtype(m) => *m < n,
+        Shape::Struct(_) => false,
         _ => true,
     }
 }
 
-// Whether row `n` may have this entry: it is written in place, has no notes, and refers to lower
-// rows alone.
+// Whether row `n` may have this entry: it is written in place, has no notes, is no struct, and
+// refers to lower rows alone.
 fn is_plain(n: TypeNo, entry: &TypeEntry) -> bool
     ensures { result ≡ is_plain n (entry_of entry.now) }
 {

@@ -99,6 +99,11 @@ fn writes_each_plain_shape(rt: HostRuntime) -> Result<(), Fail> {
             r#"{"format":"ipv4"}"#,
             r#","type":"string","format":"ipv4""#,
         ),
+        (
+            r#""bytes""#,
+            r#","type":["array","string"],"items":{"type":"integer","format":"uint8","maximum":255,"minimum":0}"#,
+        ),
+        (r#""schema""#, r#","type":["object","boolean"]"#),
     ] {
         assert_document(&rt, rt.alloc(), [shape, shape, shape], rest)?;
     }
@@ -173,6 +178,7 @@ fn writes_options_and_lists(rt: HostRuntime) -> Result<(), Fail> {
     let of_option = r#"{"option":1}"#;
     let seq = r#"{"seq":0}"#;
     let of_seq = r#"{"seq":1}"#;
+    let newtype = r#"{"newtype":0}"#;
     let small = r#"{"nonzero":"i8"}"#;
     for (shapes, rest) in [
         (
@@ -184,6 +190,10 @@ fn writes_options_and_lists(rt: HostRuntime) -> Result<(), Fail> {
             r#","type":["string","null"]"#,
         ),
         (["\"null\"", option, of_option], r#","type":"null""#),
+        (
+            ["\"schema\"", newtype, of_option],
+            r#","type":["object","boolean","null"]"#,
+        ),
         (["\"any\"", option, of_option], ""),
         (
             ["\"any\"", seq, of_seq],

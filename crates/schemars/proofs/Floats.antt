@@ -11,6 +11,7 @@ use Rattle.schemars_schema.specs.Json.{Text}
 use Rattle.schemars_schema.specs.SchemaData.{members_in}
 use Rattle.schemars_schema.proofs.Contents.{members_have_float-put}
 use Rattle.schemars_rewrite.specs.AllowNull.{is_combined, or_null, allow_null, type_with_null, null_in_type, with_item, holds_text}
+use Rattle.schemars_rewrite.specs.NullLaw.{text_items}
 use Rattle.schemars_types.specs.declared.shape.IntKind.{IntKind}
 use Rattle.schemars_types.specs.declared.shape.IntKind.TheVariants.{I8, I16, I32, I64, I128, Isize, U8, U16, U32, U64, U128, Usize}
 use Rattle.schemars_types.specs.Shape as shape
@@ -18,7 +19,12 @@ use Rattle.schemars_types.specs.Shape.{Shape, Entry}
 use Rattle.schemars_types.specs.Rows.{Row, entry_at}
 use Rattle.schemars_types.specs.Meaning.{Contract}
 use Rattle.schemars.specs.Documents.{IsDocument, IsOwnDocument, Describes, put_members, annotated, with_title, with_meta_schema, root_document, int_document, non_zero_document}
-use Rattle.schemars.specs.Headline.{HasNoFloat}
+use Rattle.schemars.specs.PlainTable.{FieldsHaveNoFloat, ShapeHasNoFloat, EntryHasNoFloat, HasNoFloat}
+use Rattle.schemars_types.specs.Shape.{Field}
+use Rattle.schemars_types.specs.Meaning.{Deserialize, Serialize}
+use Rattle.schemars_schema.specs.SchemaData.{put_all}
+use Rattle.schemars.specs.Documents.{Keyword, bytes_document, map_document, field_keywords, AreWritten, IsWritten, References, reference_of, reference}
+use Rattle.std.proofs.Common.{◌⊎◌, inl, inr}
 
 abbrev IsWhole : Data → Type 0
 IsWhole s = has_float s ≡ false
@@ -128,28 +134,68 @@ or-false : (a : Bool) → a || false ≡ a
 or-false true = refl
 or-false false = refl
 
-shape_whole : (W : ℕ → Data → Type 0) (contract : Contract) → ((j : ℕ) (t : Data) → W j t → IsWhole t) → (kind : Shape) (s : Data) → IsDocument W contract kind s → IsWhole s
-shape_whole W contract whole shape.null s is = rw is refl
-shape_whole W contract whole shape.bool s is = rw is refl
-shape_whole W contract whole (shape.int k) s is = rw is (int_whole k)
-shape_whole W contract whole (shape.non_zero k) s is = rw is (non_zero_whole k)
-shape_whole W contract whole shape.number s is = rw is refl
-shape_whole W contract whole shape.text s is = rw is refl
-shape_whole W contract whole shape.char s is = rw is refl
-shape_whole W contract whole (shape.formatted f) s is = rw is refl
-shape_whole W contract whole shape.any s is = rw is refl
-shape_whole W contract whole (shape.option n) s is = rw is.2 (whole_allow_null is.0 (whole n is.0 is.1))
-shape_whole W contract whole (shape.seq n) s is = rw is.2 (or-false (has_float is.0) ∙ whole n is.0 is.1)
+abbrev AllWhole : List Keyword → Type 0
+AllWhole [] = Unit {0}
+AllWhole (e ∷ es) = IsWhole e.1 × AllWhole es
 
-own_whole : (W : ℕ → Data → Type 0) (contract : Contract) → ((j : ℕ) (t : Data) → W j t → IsWhole t) → (o : Option Entry) → ((e : Entry) → o ≡ Some e → members_have_float e.notes ≡ false)
-    → (s : Data) → IsOwnDocument W contract o s → IsWhole s
+whole_entries : (es : List Keyword) (ms : Members) → AllWhole es → members_have_float ms ≡ false → members_have_float (put_all es ms) ≡ false
+whole_entries [] ms h e = e
+whole_entries (x ∷ es) ms h e = whole_entries es (put x.0 x.1 ms) h.1 (members_have_float-put x.0 x.1 ms h.0 e)
+
+whole_texts : (ns : List Text) → items_have_float (text_items ns) ≡ false
+whole_texts [] = refl
+whole_texts (n ∷ ns) = whole_texts ns
+
+whole_map : (es : List Keyword) (ns : List Text) (closed : Bool) → members_have_float (put_all es no_members) ≡ false → IsWhole (map_document es ns closed)
+whole_map [] [] false h = refl
+whole_map [] [] true h = refl
+whole_map [] (n ∷ ns) false h = rw (whole_texts ns) refl
+whole_map [] (n ∷ ns) true h = rw (whole_texts ns) refl
+whole_map (e ∷ es) [] false h = rw h refl
+whole_map (e ∷ es) [] true h = rw h refl
+whole_map (e ∷ es) (n ∷ ns) false h = rw (h, whole_texts ns) refl
+whole_map (e ∷ es) (n ∷ ns) true h = rw (h, whole_texts ns) refl
+
+fields_whole : (W : ℕ → Data → Type 0) → ((j : ℕ) (t : Data) → W j t → IsWhole t) → (xs : List Field) (ts : List Data) → FieldsHaveNoFloat xs → AreWritten W xs ts → AllWhole (field_keywords xs ts)
+fields_whole W whole [] ts n h = tt
+fields_whole W whole (x ∷ xs) [] n h = tt
+fields_whole W whole (x ∷ xs) (t ∷ ts) n h = (whole_annotated x.notes t n.0 (whole x.ty t h.0), fields_whole W whole xs ts n.1 h.1)
+
+bytes_whole : (contract : Contract) → IsWhole (bytes_document contract)
+bytes_whole Deserialize = refl
+bytes_whole Serialize = refl
+
+shape_whole : (W : ℕ → Data → Type 0) (contract : Contract) → ((j : ℕ) (t : Data) → W j t → IsWhole t) → (kind : Shape) → ShapeHasNoFloat kind → (s : Data) → IsDocument W contract kind s → IsWhole s
+shape_whole W contract whole shape.null n s is = rw is refl
+shape_whole W contract whole shape.bool n s is = rw is refl
+shape_whole W contract whole (shape.int k) n s is = rw is (int_whole k)
+shape_whole W contract whole (shape.non_zero k) n s is = rw is (non_zero_whole k)
+shape_whole W contract whole shape.number n s is = rw is refl
+shape_whole W contract whole shape.text n s is = rw is refl
+shape_whole W contract whole shape.char n s is = rw is refl
+shape_whole W contract whole (shape.formatted f) n s is = rw is refl
+shape_whole W contract whole shape.any n s is = rw is refl
+shape_whole W contract whole shape.bytes n s is = rw is (bytes_whole contract)
+shape_whole W contract whole shape.schema_itself n s is = rw is refl
+shape_whole W contract whole (shape.option j) n s is = rw is.2 (whole_allow_null is.0 (whole j is.0 is.1))
+shape_whole W contract whole (shape.seq j) n s is = rw is.2 (or-false (has_float is.0) ∙ whole j is.0 is.1)
+shape_whole W contract whole (shape.struct xs closed) n s is =
+    rw is.2 (whole_map (field_keywords xs is.0) _ closed (whole_entries (field_keywords xs is.0) no_members (fields_whole W whole xs is.0 n is.1) refl))
+shape_whole W contract whole (shape.newtype j) n s is = whole j s is
+
+own_whole : (W : ℕ → Data → Type 0) (contract : Contract) → ((j : ℕ) (t : Data) → W j t → IsWhole t) → (o : Option Entry) → EntryHasNoFloat o → (s : Data) → IsOwnDocument W contract o s → IsWhole s
 own_whole W contract whole None noted s is = absurd is
-own_whole W contract whole (Some e) noted s is = rw is.2 (whole_annotated e.notes is.0 (noted e refl) (shape_whole W contract whole e.shape is.0 is.1))
+own_whole W contract whole (Some e) noted s is = rw is.2 (whole_annotated e.notes is.0 noted.0 (shape_whole W contract whole e.shape noted.1 is.0 is.1))
 
-described_whole : (rows : List Row) (contract : Contract) → HasNoFloat rows → (d n : ℕ) (s : Data) → Describes rows contract d n s → IsWhole s
-unfolding Describes
-described_whole rows contract plain zero n s h = absurd h
-described_whole rows contract plain (suc d) n s h = own_whole (Describes rows contract d) contract (described_whole rows contract plain d) (entry_at rows n) (plain n) s h
+module _ (rows : List Row) (contract : Contract) (refs : References) (none : HasNoFloat rows) where
+  written_whole : (d : ℕ) → ((j : ℕ) (t : Data) → Describes rows contract refs d j t → IsWhole t) → (j : ℕ) (t : Data) → IsWritten refs (Describes rows contract refs d) j t → IsWhole t
+  written_whole d own j t (inl h) = rw h.2 refl
+  written_whole d own j t (inr h) = own j t h
+
+  pub described_whole : (d n : ℕ) (s : Data) → Describes rows contract refs d n s → IsWhole s
+  unfolding Describes
+  described_whole zero n s h = absurd h
+  described_whole (suc d) n s h = own_whole (IsWritten refs (Describes rows contract refs d)) contract (written_whole d (described_whole d)) (entry_at rows n) (none n) s h
 
 whole_with_title : (name : Text) (ms : Members) → members_have_float ms ≡ false → members_have_float (with_title name ms) ≡ false
 whole_with_title name ms e = go (is_some (get_member (codes "title") ms))
@@ -162,7 +208,5 @@ whole_with_meta_schema : (uri : Option Text) (ms : Members) → members_have_flo
 whole_with_meta_schema None ms e = e
 whole_with_meta_schema (Some uri) ms e = members_have_float-put (codes "$schema") (string uri) ms refl e
 
-pub root_whole : (rows : List Row) (contract : Contract) → HasNoFloat rows → (d n : ℕ) (name : Text) (uri : Option Text) (s : Data) → Describes rows contract d n s
-    → has_float (root_document name uri s) ≡ false
-root_whole rows contract plain d n name uri s h =
-    whole_with_meta_schema uri (with_title name (members_in s)) (whole_with_title name (members_in s) (whole_members_in s (described_whole rows contract plain d n s h)))
+pub root_whole : (name : Text) (uri : Option Text) (s : Data) → IsWhole s → has_float (root_document name uri s) ≡ false
+root_whole name uri s h = whole_with_meta_schema uri (with_title name (members_in s)) (whole_with_title name (members_in s) (whole_members_in s h))

@@ -1,7 +1,10 @@
 pub mod Shapes
 pub mod Notes
+pub mod Maps
+pub mod Structs
 pub mod Meanings
-pub mod Closed
+pub mod Following
+pub mod Resolving
 pub mod Floats
 pub mod Roots
 pub mod Annotating

@@ -81,3 +81,7 @@ pub nullable-annotated : (notes : Members) (s : Data) → AreNotes notes → IsN
 nullable-annotated no_members s h r = r
 nullable-annotated (member k d notes) s h r =
     nullable-agree (put_members (member k d notes) (members_in s)) (members_in s) (λ l e. put_members-other l (member k d notes) (members_in s) e h) (nullable-members_in s r)
+
+pub annotated-schema : (notes : Members) (s : Data) → IsSchema s → IsSchema (annotated notes s)
+annotated-schema no_members s is = is
+annotated-schema (member k d notes) s is = tt

@@ -4,7 +4,7 @@ use Rattle.std.specs.Prelude.{codes, ℤ, pos, negsuc, int_le, is_some, ◌||◌
 use Rattle.std.specs.Ordering.{int_eq}
 use Rattle.std.proofs.lemmas.Bool.Decides.{nat_tests}
 use Rattle.serde_json.specs.Data.{Data, Num, null, boolean, number, unsigned, negative, float, string, array, object, Items, no_items, item, depth, items_depth}
-use Rattle.serde_json.specs.Find.{as_integer, of_integer}
+use Rattle.serde_json.specs.Find.{as_integer, of_integer, as_array}
 use Rattle.schemars_schema.specs.Verdict.{Verdict, Yes, No, both, verdict, opposite}
 use Rattle.schemars_schema.specs.Json.{Text, IsJson, AreJson, json_eq}
 use Rattle.schemars_schema.specs.SchemaData.{IsSchema, object_of}
@@ -16,8 +16,8 @@ use Rattle.schemars_types.specs.declared.shape.IntKind.{IntKind}
 use Rattle.schemars_types.specs.declared.shape.IntKind.TheVariants.{I8, I16, I32, I64, I128, Isize, U8, U16, U32, U64, U128, Usize}
 use Rattle.schemars_types.specs.IntKind.{format_of}
 use Rattle.schemars_types.specs.Shape as shape
-use Rattle.schemars_types.specs.Meaning.{Contract, has_shape, every_item, holds, least_of, greatest_of, is_at_least, is_at_most, is_of_kind, is_zero}
-use Rattle.schemars.specs.Documents.{typed, type_alone, is_signed, bound_at, int_keywords, int_document, non_zero_document, char_document, formatted_document, seq_document}
+use Rattle.schemars_types.specs.Meaning.{Contract, Deserialize, Serialize, is_byte, is_byte_text, has_shape, every_item, holds, least_of, greatest_of, is_at_least, is_at_most, is_of_kind, is_zero}
+use Rattle.schemars.specs.Documents.{typed, type_alone, is_signed, bound_at, int_keywords, int_document, non_zero_document, char_document, formatted_document, seq_document, bytes_document, schema_document}
 
 module _ (patterns : Patterns) (f : Text → Judge) (contract : Contract) (M : ℕ → Data → Bool) where
   abbrev c : Context
@@ -239,3 +239,50 @@ module _ (patterns : Patterns) (f : Text → Judge) (contract : Contract) (M : �
   non_zero_says U64 v is = unsigned_says (codes "uint64") None v
   non_zero_says U128 v is = unsigned_says (codes "uint128") None v
   non_zero_says Usize v is = unsigned_says (codes "uint") None v
+
+  -- ---- bytes and schemas
+
+  each_byte : (vs : Items) → each_past zero (judge c (int_document U8)) vs ≡ verdict (every_item is_byte vs)
+  each_byte no_items = refl
+  each_byte (item v vs) = rw (int_says U8 v, each_byte vs) (both-verdict (is_byte v) (every_item is_byte vs))
+
+  or-false : (a : Bool) → a || false ≡ a
+  or-false true = refl
+  or-false false = refl
+
+  bytes_of : (vs : Items) → both (each_past zero (judge c (int_document U8)) vs) Yes ≡ verdict (every_item is_byte vs || false)
+  bytes_of vs = both-yes (each_past zero (judge c (int_document U8)) vs) ∙ (each_byte vs ∙ ap verdict (sym (or-false (every_item is_byte vs))))
+
+  bytes_read : (v : Data) → (judge c (bytes_document Deserialize)).fits v ≡ verdict (holds (as_array v) (every_item is_byte) || is_byte_text Deserialize v)
+  unfolding read_data all_keywords
+  bytes_read null = refl
+  bytes_read (boolean b) = refl
+  bytes_read (number n) = refl
+  bytes_read (string t) = refl
+  bytes_read (array vs) = bytes_of vs
+  bytes_read (object ms) = refl
+
+  bytes_written : (v : Data) → (judge c (bytes_document Serialize)).fits v ≡ verdict (holds (as_array v) (every_item is_byte) || is_byte_text Serialize v)
+  unfolding read_data all_keywords
+  bytes_written null = refl
+  bytes_written (boolean b) = refl
+  bytes_written (number n) = refl
+  bytes_written (string t) = refl
+  bytes_written (array vs) = bytes_of vs
+  bytes_written (object ms) = refl
+
+  pub bytes_say : (v : Data) → Says (bytes_document contract) shape.bytes v
+  bytes_say v = go contract
+    where
+      go : (k : Contract) → (judge c (bytes_document k)).fits v ≡ verdict (holds (as_array v) (every_item is_byte) || is_byte_text k v)
+      go Deserialize = bytes_read v
+      go Serialize = bytes_written v
+
+  pub schema_says : (v : Data) → Says schema_document shape.schema_itself v
+  unfolding read_data all_keywords
+  schema_says null = refl
+  schema_says (boolean b) = refl
+  schema_says (number n) = refl
+  schema_says (string t) = refl
+  schema_says (array vs) = refl
+  schema_says (object ms) = refl

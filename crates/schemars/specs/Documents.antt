@@ -1,18 +1,18 @@
 -- Which documents belong to a row of a table.
-use Rattle.std.specs.Prelude.{◌≡◌, ℕ, zero, suc, ◌++◌, ℤ, pos, List, [], ◌∷◌, Bool, true, false, Option, Some, None, is_some, if◌then◌else◌, codes}
-use Rattle.serde_json.specs.Data.{Data, boolean, number, unsigned, string, object, Members, no_members, member, put}
+use Rattle.std.specs.Prelude.{◌≡◌, ◌⊎◌, ◌==◌, ℕ, zero, suc, ◌++◌, ℤ, pos, List, [], ◌∷◌, Bool, true, false, Option, Some, None, is_some, if◌then◌else◌, codes}
+use Rattle.serde_json.specs.Data.{Data, boolean, number, unsigned, string, array, object, Items, no_items, item, Members, no_members, member, put}
 use Rattle.serde_json.specs.Find.{get_member, of_integer}
 use Rattle.schemars_schema.specs.Json.{Text}
 use Rattle.schemars_schema.specs.SchemaData.{members_in, object_of}
 use Rattle.schemars_rewrite.specs.AllowNull.{allow_null}
-use Rattle.schemars_rewrite.specs.NullLaw.{zero_schema}
+use Rattle.schemars_rewrite.specs.NullLaw.{zero_schema, text_items}
 use Rattle.schemars_types.specs.declared.shape.IntKind.{IntKind}
 use Rattle.schemars_types.specs.declared.shape.IntKind.TheVariants.{I8, I16, I32, I64, I128, Isize, U8, U16, U32, U64, U128, Usize}
 use Rattle.schemars_types.specs.IntKind.{format_of}
 use Rattle.schemars_types.specs.Shape as shape
-use Rattle.schemars_types.specs.Shape.{Shape, Entry}
+use Rattle.schemars_types.specs.Shape.{Shape, Field, Entry}
 use Rattle.schemars_types.specs.Rows.{Row, entry_at}
-use Rattle.schemars_types.specs.Meaning.{Contract, least_of, greatest_of}
+use Rattle.schemars_types.specs.Meaning.{Contract, Deserialize, Serialize, is_required, least_of, greatest_of}
 
 abbrev pub Keyword : Type 0
 Keyword = Text × Data
@@ -66,20 +66,56 @@ formatted_document format = object_of (typed (codes "string") ∷ (codes "format
 abbrev pub seq_document : Data → Data
 seq_document items = object_of (typed (codes "array") ∷ (codes "items", items) ∷ [])
 
--- ---- by shape, where `Written n` says how a reference to row n may be written
+-- ---- bytes and schemas
 
-abbrev pub IsDocument : (ℕ → Data → Type 0) → Contract → Shape → Data → Type 0
-IsDocument Written contract shape.null s = s ≡ type_alone (codes "null")
-IsDocument Written contract shape.bool s = s ≡ type_alone (codes "boolean")
-IsDocument Written contract (shape.int kind) s = s ≡ int_document kind
-IsDocument Written contract (shape.non_zero kind) s = s ≡ non_zero_document kind
-IsDocument Written contract shape.number s = s ≡ type_alone (codes "number")
-IsDocument Written contract shape.text s = s ≡ type_alone (codes "string")
-IsDocument Written contract shape.char s = s ≡ char_document
-IsDocument Written contract (shape.formatted format) s = s ≡ formatted_document format
-IsDocument Written contract shape.any s = s ≡ boolean true
-IsDocument Written contract (shape.option n) s = (t : Data) × Written n t × (s ≡ allow_null t)
-IsDocument Written contract (shape.seq n) s = (t : Data) × Written n t × (s ≡ seq_document t)
+abbrev pub byte_document : Data
+byte_document = int_document U8
+
+abbrev pub bytes_type : Contract → Data
+bytes_type Deserialize = array (item (string (codes "array")) (item (string (codes "string")) no_items))
+bytes_type Serialize = string (codes "array")
+
+abbrev pub bytes_document : Contract → Data
+bytes_document contract = object_of ((codes "type", bytes_type contract) ∷ (codes "items", byte_document) ∷ [])
+
+abbrev pub schema_document : Data
+schema_document = object_of ((codes "type", array (item (string (codes "object")) (item (string (codes "boolean")) no_items))) ∷ [])
+
+-- ---- structs
+
+abbrev pub properties_keyword : List Keyword → List Keyword
+properties_keyword [] = []
+properties_keyword (e ∷ es) = (codes "properties", object_of (e ∷ es)) ∷ []
+
+abbrev pub required_keyword : List Text → List Keyword
+required_keyword [] = []
+required_keyword (k ∷ ks) = (codes "required", array (text_items (k ∷ ks))) ∷ []
+
+abbrev pub closed_keyword : Bool → List Keyword
+closed_keyword false = []
+closed_keyword true = (codes "additionalProperties", boolean false) ∷ []
+
+-- a map with these properties
+abbrev pub map_document : List Keyword → List Text → Bool → Data
+map_document properties required closed =
+    object_of (typed (codes "object") ∷ (properties_keyword properties ++ (required_keyword required ++ closed_keyword closed)))
+
+-- the same by the members of `properties` and the items of `required`
+abbrev pub keyword_of_members : Text → Members → List Keyword
+keyword_of_members key no_members = []
+keyword_of_members key (member k d ms) = (key, object (member k d ms)) ∷ []
+
+abbrev pub keyword_of_items : Text → Items → List Keyword
+keyword_of_items key no_items = []
+keyword_of_items key (item d ds) = (key, array (item d ds)) ∷ []
+
+abbrev pub map_of : Members → Items → Bool → Data
+map_of properties required closed =
+    object_of (typed (codes "object") ∷ (keyword_of_members (codes "properties") properties ++ (keyword_of_items (codes "required") required ++ closed_keyword closed)))
+
+abbrev pub required_names : Contract → List Field → List Text
+required_names contract [] = []
+required_names contract (x ∷ xs) = if is_required contract x.required then x.name ∷ required_names contract xs else required_names contract xs
 
 -- ---- with its notes
 
@@ -93,14 +129,64 @@ abbrev pub annotated : Members → Data → Data
 annotated no_members s = s
 annotated (member k d notes) s = object (put_members (member k d notes) (members_in s))
 
+-- the fields' schemas under their names, each with its notes
+abbrev pub field_keywords : List Field → List Data → List Keyword
+field_keywords [] ts = []
+field_keywords (x ∷ xs) [] = []
+field_keywords (x ∷ xs) (t ∷ ts) = (x.name, annotated x.notes t) ∷ field_keywords xs ts
+
+abbrev pub struct_document : Contract → List Field → List Data → Bool → Data
+struct_document contract fields ts closed = map_document (field_keywords fields ts) (required_names contract fields) closed
+
+-- ---- by shape, where `Written n` says how a reference to row n may be written
+
+abbrev pub AreWritten : (ℕ → Data → Type 0) → List Field → List Data → Type 0
+AreWritten Written [] ts = ts ≡ []
+AreWritten Written (x ∷ xs) [] = ⊥
+AreWritten Written (x ∷ xs) (t ∷ ts) = Written x.ty t × AreWritten Written xs ts
+
+abbrev pub IsDocument : (ℕ → Data → Type 0) → Contract → Shape → Data → Type 0
+IsDocument Written contract shape.null s = s ≡ type_alone (codes "null")
+IsDocument Written contract shape.bool s = s ≡ type_alone (codes "boolean")
+IsDocument Written contract (shape.int kind) s = s ≡ int_document kind
+IsDocument Written contract (shape.non_zero kind) s = s ≡ non_zero_document kind
+IsDocument Written contract shape.number s = s ≡ type_alone (codes "number")
+IsDocument Written contract shape.text s = s ≡ type_alone (codes "string")
+IsDocument Written contract shape.char s = s ≡ char_document
+IsDocument Written contract (shape.formatted format) s = s ≡ formatted_document format
+IsDocument Written contract shape.any s = s ≡ boolean true
+IsDocument Written contract shape.bytes s = s ≡ bytes_document contract
+IsDocument Written contract shape.schema_itself s = s ≡ schema_document
+IsDocument Written contract (shape.option n) s = (t : Data) × Written n t × (s ≡ allow_null t)
+IsDocument Written contract (shape.seq n) s = (t : Data) × Written n t × (s ≡ seq_document t)
+IsDocument Written contract (shape.struct fields closed) s = (ts : List Data) × AreWritten Written fields ts × (s ≡ struct_document contract fields ts closed)
+IsDocument Written contract (shape.newtype n) s = Written n s
+
+-- ---- by reference, or in place with its notes
+
 abbrev pub IsOwnDocument : (ℕ → Data → Type 0) → Contract → Option Entry → Data → Type 0
 IsOwnDocument Written contract None s = ⊥
 IsOwnDocument Written contract (Some entry) s = (bare : Data) × IsDocument Written contract entry.shape bare × (s ≡ annotated entry.notes bare)
 
+abbrev pub reference : Text → Data
+reference name = object_of ((codes "$ref", string name) ∷ [])
+
+-- the rows that are referred to, each with its reference
+abbrev pub References : Type 0
+References = List (ℕ × Text)
+
+abbrev pub reference_of : References → ℕ → Option Text
+reference_of [] n = None
+reference_of (r ∷ rs) n = if r.0 == n then Some r.1 else reference_of rs n
+
+-- a part is a reference, or its own document in place
+abbrev pub IsWritten : References → (ℕ → Data → Type 0) → ℕ → Data → Type 0
+IsWritten refs Own n s = ((name : Text) × (reference_of refs n ≡ Some name) × (s ≡ reference name)) ⊎ Own n s
+
 -- s is a document of row n, with at most `depth` documents within one another
-unfoldable pub Describes : List Row → Contract → ℕ → ℕ → Data → Type 0
-Describes rows contract zero n s = ⊥
-Describes rows contract (suc depth) n s = IsOwnDocument (Describes rows contract depth) contract (entry_at rows n) s
+unfoldable pub Describes : List Row → Contract → References → ℕ → ℕ → Data → Type 0
+Describes rows contract refs zero n s = ⊥
+Describes rows contract refs (suc depth) n s = IsOwnDocument (IsWritten refs (Describes rows contract refs depth)) contract (entry_at rows n) s
 
 -- ---- a root document
 

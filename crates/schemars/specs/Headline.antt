@@ -1,25 +1,15 @@
 -- What a generated document promises: it accepts just the values that belong to its type.
-use Rattle.std.specs.Prelude.{◌≡◌, ◌≤◌, ℕ, suc, List, Option, Some, false}
+use Rattle.std.specs.Prelude.{◌≡◌, ◌≤◌, ℕ, suc, List, []}
 use Rattle.serde_json.specs.Data.{Data}
-use Rattle.serde_json.specs.Written.{members_have_float}
 use Rattle.schemars_schema.specs.Verdict.{verdict}
 use Rattle.schemars_schema.specs.Json.{Text, IsJson}
 use Rattle.schemars_schema.specs.Acceptance.{Patterns, draft2020_12, accepts, bound}
-use Rattle.schemars_schema.specs.Annotations.{AreNotes}
 use Rattle.schemars_schema.specs.References.{ReferencesResolve}
-use Rattle.schemars_types.specs.Shape.{Entry}
-use Rattle.schemars_types.specs.Rows.{Row, entry_at, name_at}
+use Rattle.schemars_types.specs.Rows.{Row, name_at}
 use Rattle.schemars_types.specs.Meaning.{Contract, belongs}
+use Rattle.schemars.specs.PlainTable.{IsPlainTable}
 use Rattle.schemars.specs.Documents.{Describes, root_document}
 use Rattle.schemars.specs.State.{Settings}
-
--- the notes of each row are annotations alone
-abbrev pub IsPlainTable : List Row → Type 0
-IsPlainTable rows = (n : ℕ) (e : Entry) → entry_at rows n ≡ Some e → AreNotes e.notes
-
--- the numbers in the notes are whole numbers
-abbrev pub HasNoFloat : List Row → Type 0
-HasNoFloat rows = (n : ℕ) (e : Entry) → entry_at rows n ≡ Some e → members_have_float e.notes ≡ false
 
 -- under every reading of patterns, from the bound on, a JSON value is accepted exactly when it belongs to the row, and is never left open
 abbrev pub AcceptsItsValues : List Row → Contract → Text → ℕ → Data → Type 0
@@ -38,5 +28,5 @@ Headline rows contract path n document = IsPlainTable rows → MeansItsType rows
 -- the document of row n, made a root document
 pub record IsRootOf (rows : List Row) (contract : Contract) (settings : Settings) (n : ℕ) (document : Data) : Type 0 where
   pub own : Data
-  pub describes : Describes rows contract (suc n) n own
+  pub describes : Describes rows contract [] (suc n) n own
   pub is_root : document ≡ root_document (name_at rows n) settings.meta_schema own

@@ -1,11 +1,18 @@
 //! The documents of shapes, from finished subschemas.
 ghost use Rattle.std.specs.Prelude.{◌≡◌, ◌∷◌, [], None, Some, IfOk, OnOk, OnErr, codes, option_map};
-ghost use Rattle.serde_json.specs.Data.{string, object, no_members, put};
+ghost use Rattle.serde_json.specs.Data.{string, array, object, no_items, item, no_members, put};
+ghost use Rattle.std.specs.Prelude.{map};
+ghost use Rattle.serde_json.specs.View.{items_view};
+ghost use Rattle.schemars_rewrite.specs.NullLaw.{text_items};
+ghost use Rattle.schemars_types.specs.Shape.{field_of};
+ghost use Rattle.schemars_types.specs.Meaning.{Deserialize};
+ghost use Rattle.schemars.specs.Documents.{byte_document, bytes_document, schema_document, map_of, keyword_of_members, keyword_of_items, required_names};
 ghost use Rattle.serde_json.specs.View.{view, members_view};
 ghost use Rattle.schemars_schema.specs.SchemaData.{IsSchema, members_in, inserted, put_all};
 ghost use Rattle.schemars.specs.Documents.{typed, type_alone, char_document, formatted_document, seq_document, put_members, annotated, with_title, with_meta_schema, root_document};
 
 use schemars_schema::Schema;
+use schemars_types::Field;
 use serde_json::{Map, Value};
 use std::alloc::{AllocError, Global};
 
@@ -47,6 +54,111 @@ pub(crate) fn seq_document(alloc: Global, items: Schema) -> Result<Schema, Alloc
     let mut members = typed(alloc, "array")?;
     serde_json::put(&mut members, alloc, "items", items.to_value())?;
     Ok(Schema::from(members))
+}
+
+/// A map with these properties.
+pub(crate) fn map_document(
+    alloc: Global,
+    properties: Map<String, Value>,
+    required: Vec<Value>,
+    closed: bool,
+) -> Result<Schema, AllocError>
+    ensures { IfOk result (λ s. s ≡ map_of (members_view properties.entries)
+        (items_view required.items) closed) }
+{
+    let mut members = typed(alloc, "object")?;
+    put_members(&mut members, alloc, properties)?;
+    put_required(&mut members, alloc, required)?;
+    if closed {
+        serde_json::put(
+            &mut members,
+            alloc,
+            "additionalProperties",
+            Value::Bool(false),
+        )?;
+    }
+    Ok(Schema::from(members))
+}
+
+fn put_members(
+    members: &mut Map<String, Value>,
+    alloc: Global,
+    properties: Map<String, Value>,
+) -> Result<(), AllocError>
+    ensures { OnOk result (members_view members.new.entries
+        ≡ put_all (keyword_of_members (codes "properties") (members_view properties.entries))
+        (members_view members.old.entries)) }
+{
+    if properties.is_empty() {
+        return Ok(());
+    }
+    serde_json::put(members, alloc, "properties", Value::Object(properties))?;
+    Ok(())
+}
+
+fn put_required(
+    members: &mut Map<String, Value>,
+    alloc: Global,
+    required: Vec<Value>,
+) -> Result<(), AllocError>
+    ensures { OnOk result (members_view members.new.entries
+        ≡ put_all (keyword_of_items (codes "required") (items_view required.items))
+        (members_view members.old.entries)) }
+{
+    if required.is_empty() {
+        return Ok(());
+    }
+    serde_json::put(members, alloc, "required", Value::Array(required))?;
+    Ok(())
+}
+
+/// Bytes that are read: a list of them, or a text.
+pub(crate) fn bytes_document(alloc: Global, byte: Schema) -> Result<Schema, AllocError>
+    ensures { IfOk result (λ s. byte ≡ byte_document → s ≡ bytes_document Deserialize) }
+{
+    let mut members = one_of_two(alloc, "array", "string")?;
+    serde_json::put(&mut members, alloc, "items", byte.to_value())?;
+    Ok(Schema::from(members))
+}
+
+/// A schema: a map or a truth value.
+pub(crate) fn schema_document(alloc: Global) -> Result<Schema, AllocError>
+    ensures { IfOk result (λ s. s ≡ schema_document) }
+{
+    Ok(Schema::from(one_of_two(alloc, "object", "boolean")?))
+}
+
+fn one_of_two(alloc: Global, first: &str, second: &str) -> Result<Map<String, Value>, AllocError>
+    ensures { IfOk result (λ m. members_view m.entries ≡ put_all ((
+      codes "type",
+      array (item (string first.now) (item (string second.now) no_items)),
+    ) ∷ []) no_members) }
+{
+    let first = Value::try_from_str(alloc, first)?;
+    let second = Value::try_from_str(alloc, second)?;
+    let mut members = Map::new(alloc);
+    serde_json::put(
+        &mut members,
+        alloc,
+        "type",
+        Value::Array(vec![in alloc; first, second]?),
+    )?;
+    Ok(members)
+}
+
+/// The names of the fields that have to be there in values that are read.
+pub(crate) fn required_names(alloc: Global, fields: &[Field]) -> Result<Vec<Value>, AllocError>
+    ensures { IfOk result (λ v. items_view v.items
+        ≡ text_items (required_names Deserialize (map field_of fields.now))) }
+{
+    let mut names = Vec::new(alloc);
+    for field in fields {
+        if field.required.deserialize {
+            let name = Value::try_from_str(alloc, field.name.as_str())?;
+            serde_json::push(&mut names, name)?;
+        }
+    }
+    Ok(names)
 }
 
 fn typed(alloc: Global, name: &str) -> Result<Map<String, Value>, AllocError>

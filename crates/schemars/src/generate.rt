@@ -5,7 +5,8 @@ ghost use Rattle.schemars_types.specs.InOrder.{IsInOrder};
 ghost use Rattle.schemars_types.specs.Meaning.{Deserialize};
 ghost use Rattle.schemars.specs.State.{Settings, settings2020_12};
 ghost use Rattle.schemars.specs.Settings.{settings_of};
-ghost use Rattle.schemars.specs.Headline.{Headline, HasNoFloat, IsRootOf};
+ghost use Rattle.schemars.specs.Headline.{Headline, IsRootOf};
+ghost use Rattle.schemars.specs.PlainTable.{HasNoFloat};
 ghost use Rattle.serde_json.specs.Data.{Data};
 ghost use Rattle.schemars.specs.Documents.{Describes, root_document};
 
@@ -178,7 +179,7 @@ fn named_root(
 ) -> Result<Schema, AllocError>
     requires known { n < length types.now }
     requires in_order { IsInOrder types.now }
-    ensures { IfOk result (λ s. (own : Data) × Describes types.now Deserialize (suc n) n own
+    ensures { IfOk result (λ s. (own : Data) × Describes types.now Deserialize [] (suc n) n own
         × (s ≡ root_document name.now (settings_of settings.now).meta_schema own)) }
 {
     let mut schema = own_document(alloc, types, n)?;

@@ -1,9 +1,9 @@
-ghost use Rattle.std.specs.Prelude.{◌≡◌, ◌<◌, Some, IsTrue, length, true};
-ghost use Rattle.schemars_types.specs.Shape.{shape_of, entry_of, numbers_of};
+ghost use Rattle.std.specs.Prelude.{◌≡◌, ◌<◌, Some, IsTrue, length, map, true};
+ghost use Rattle.schemars_types.specs.Shape.{shape_of, entry_of, field_of, numbers_of};
 ghost use Rattle.schemars_types.specs.Rows.{entry_at};
 ghost use Rattle.schemars_types.specs.InOrder.{AllBelow, IsInOrder, RefersBelow};
 
-use crate::types::{IntKind, Shape, TypeEntry, TypeNo, Types};
+use crate::types::{Field, Fields, IntKind, Required, Shape, TypeEntry, TypeNo, Types};
 use crate::{GenerateError, SchemaGenerator, SchemaSettings};
 use serde_json::{Map, Value};
 use std::alloc::Global;
@@ -37,8 +37,21 @@ fn is_below(shape: &Shape, n: TypeNo) -> bool
     match shape {
         Shape::Option(m) => *m < n,
         Shape::Seq(m) => *m < n,
+        Shape::Newtype(m) => *m < n,
+        Shape::Struct(fields) => are_below(&fields.list, n),
         _ => true,
     }
+}
+
+fn are_below(fields: &[Field], n: TypeNo) -> bool
+    ensures { IsTrue result → AllBelow n (map (λ f. f.ty) (map field_of fields.now)) }
+{
+    for field in fields {
+        if field.ty >= n {
+            return false;
+        }
+    }
+    true
 }
 
 // The text of the root document of row `n`.
@@ -166,4 +179,101 @@ fn refuses_unknown_rows(rt: HostRuntime) {
     }
     assert_eq!(rt; GenerateError::UnknownType(0).code(), 8);
     assert_eq!(rt; GenerateError::OutOfMemory.code(), 1);
+}
+
+// Reserves a row under this name, and defines it in place with this shape.
+fn define(alloc: Global, types: &mut Types, name: &str, shape: Shape) -> Result<TypeNo, Fail> {
+    let row = types.reserve(
+        String::from_str(alloc, name)?,
+        String::from_str(alloc, name)?,
+    )?;
+    let notes = Map::new(alloc);
+    types.define(
+        row,
+        TypeEntry {
+            inline: true,
+            notes,
+            shape,
+        },
+    )?;
+    Ok(row)
+}
+
+fn field(alloc: Global, name: &str, ty: TypeNo, required: bool) -> Result<Field, Fail> {
+    Ok(Field {
+        name: String::from_str(alloc, name)?,
+        ty,
+        required: Required {
+            deserialize: required,
+            serialize: false,
+        },
+        notes: Map::new(alloc),
+    })
+}
+
+#[test]
+fn structs(rt: HostRuntime) -> Result<(), Fail> {
+    let alloc = rt.alloc();
+    let mut types = Types::new(alloc);
+    let truth = types.bool(alloc)?;
+    let text = types.text(alloc)?;
+    let mut noted = field(alloc, "b", text, false)?;
+    serde_json::put(
+        &mut noted.notes,
+        alloc,
+        "description",
+        Value::try_from_str(alloc, "d")?,
+    )?;
+    let list = vec![in alloc;
+        field(alloc, "z", truth, true)?,
+        noted,
+        field(alloc, "a", truth, true)?,
+    ]?;
+    let fields = Fields { list, closed: true };
+    let point = define(alloc, &mut types, "Point", Shape::Struct(fields))?;
+    let wrapper = define(alloc, &mut types, "Wrapper", Shape::Newtype(point))?;
+    let option = types.option(alloc, wrapper)?;
+    let text = root_text(&rt, alloc, types, option)?;
+    let expected = document(
+        alloc,
+        r#""title":"Nullable_Wrapper","type":["object","null"],"properties":{"a":{"type":"boolean"},"b":{"description":"d","type":"string"},"z":{"type":"boolean"}},"additionalProperties":false,"required":["z","a"]"#,
+    )?;
+    assert_eq!(rt; text.as_str(), expected.as_str());
+    Ok(())
+}
+
+#[test]
+fn empty_struct(rt: HostRuntime) -> Result<(), Fail> {
+    let alloc = rt.alloc();
+    let mut types = Types::new(alloc);
+    let list = Vec::new(alloc);
+    let fields = Fields {
+        list,
+        closed: false,
+    };
+    let empty = define(alloc, &mut types, "Empty", Shape::Struct(fields))?;
+    let text = root_text(&rt, alloc, types, empty)?;
+    let expected = document(alloc, r#""title":"Empty","type":"object""#)?;
+    assert_eq!(rt; text.as_str(), expected.as_str());
+    Ok(())
+}
+
+#[test]
+fn bytes_and_schemas(rt: HostRuntime) -> Result<(), Fail> {
+    let alloc = rt.alloc();
+    let mut types = Types::new(alloc);
+    let bytes = define(alloc, &mut types, "Bytes", Shape::Bytes)?;
+    let text = root_text(&rt, alloc, types, bytes)?;
+    let expected = document(
+        alloc,
+        r#""title":"Bytes","type":["array","string"],"items":{"type":"integer","format":"uint8","maximum":255,"minimum":0}"#,
+    )?;
+    assert_eq!(rt; text.as_str(), expected.as_str());
+
+    let mut types = Types::new(alloc);
+    let schema = define(alloc, &mut types, "Schema", Shape::SchemaItself)?;
+    let text = root_text(&rt, alloc, types, schema)?;
+    let expected = document(alloc, r#""title":"Schema","type":["object","boolean"]"#)?;
+    assert_eq!(rt; text.as_str(), expected.as_str());
+    Ok(())
 }

@@ -1,5 +1,6 @@
 -- Equal entries are the same entry.
-use Rattle.std.proofs.Common.{◌≡◌, ◌&&◌, Bool, true, false, not, if◌then◌else◌, refl, ap, sym, ◌∙◌, true≢false}
+use Rattle.std.proofs.Common.{◌≡◌, ◌==◌, ◌&&◌, Bool, true, false, not, if◌then◌else◌, List, [], ◌∷◌, Option, Some, None, refl, ap, sym, ◌∙◌, true≢false}
+use Rattle.std.specs.Option.{option_eq}
 use Rattle.std.specs.Cmp.{signed_Decides}
 use Rattle.std.specs.Str.{bytes_eq}
 use Rattle.std.proofs.lemmas.Bool.Decides.{Decides-eqb}
@@ -8,8 +9,8 @@ use Rattle.serde_json.specs.Data.{Num, unsigned, negative, Data, null, boolean, 
 use Rattle.schemars_schema.specs.Json.{num_eq, json_eq, items_eq, members_eq}
 use Rattle.schemars_types.specs.declared.shape.IntKind.{IntKind}
 use Rattle.schemars_types.specs.IntKind.{kind_eq, kind_number, kind_at, kind_at-kind_number}
-use Rattle.schemars_types.specs.Shape as shape
-use Rattle.schemars_types.specs.Shape.{Shape, Entry, shape_eq, entry_eq}
+use Rattle.schemars_types.specs.Shape.{Required, Field, Shape, Entry}
+use Rattle.schemars_types.specs.ShapeParts.{Parts, parts_of, parts_eq, shape_from, shape_from-parts_of, bool_eq, required_eq, field_eq, list_eq, fields_eq, shape_eq, entry_eq}
 
 and_left : (a b : Bool) → (a && b) ≡ true → a ≡ true
 and_left true b h = refl
@@ -56,24 +57,57 @@ mutual
 same_kind : (k l : IntKind) → kind_eq k l ≡ true → k ≡ l
 same_kind k l h = sym (kind_at-kind_number k) ∙ ap kind_at ((Decides-eqb (kind_number k) (kind_number l)).0 h) ∙ kind_at-kind_number l
 
+same_required : (a b : Required) → required_eq a b ≡ true → a ≡ b
+same_required a b h =
+    let deserialize : a.deserialize ≡ b.deserialize = same_bool a.deserialize b.deserialize (and_left (bool_eq a.deserialize b.deserialize) (bool_eq a.serialize b.serialize) h) in
+    let serialize : a.serialize ≡ b.serialize = same_bool a.serialize b.serialize (and_right (bool_eq a.deserialize b.deserialize) (bool_eq a.serialize b.serialize) h) in
+    λ i. record { deserialize = deserialize i; serialize = serialize i }
+
+same_field : (a b : Field) → field_eq a b ≡ true → a ≡ b
+same_field a b h =
+    let rest : (a.ty == b.ty && (required_eq a.required b.required && members_eq a.notes b.notes)) ≡ true = and_right (bytes_eq a.name b.name) (a.ty == b.ty && (required_eq a.required b.required && members_eq a.notes b.notes)) h in
+    let last : (required_eq a.required b.required && members_eq a.notes b.notes) ≡ true = and_right (a.ty == b.ty) (required_eq a.required b.required && members_eq a.notes b.notes) rest in
+    let name : a.name ≡ b.name = (bytes_eq-Decides a.name b.name).0 (and_left (bytes_eq a.name b.name) (a.ty == b.ty && (required_eq a.required b.required && members_eq a.notes b.notes)) h) in
+    let ty : a.ty ≡ b.ty = (Decides-eqb a.ty b.ty).0 (and_left (a.ty == b.ty) (required_eq a.required b.required && members_eq a.notes b.notes) rest) in
+    let required : a.required ≡ b.required = same_required a.required b.required (and_left (required_eq a.required b.required) (members_eq a.notes b.notes) last) in
+    let notes : a.notes ≡ b.notes = same_members a.notes b.notes (and_right (required_eq a.required b.required) (members_eq a.notes b.notes) last) in
+    λ i. record { name = name i; ty = ty i; required = required i; notes = notes i }
+
+same_list : (fs gs : List Field) → list_eq fs gs ≡ true → fs ≡ gs
+same_list [] [] h = refl
+same_list (f ∷ fs) (g ∷ gs) h = λ i. same_field f g (and_left (field_eq f g) (list_eq fs gs) h) i ∷ same_list fs gs (and_right (field_eq f g) (list_eq fs gs) h) i
+same_list fs gs h = cc
+
+same_fields : (a b : List Field × Bool) → fields_eq a b ≡ true → a ≡ b
+same_fields a b h = λ i. (same_list a.0 b.0 (and_right (bool_eq a.1 b.1) (list_eq a.0 b.0) h) i, same_bool a.1 b.1 (and_left (bool_eq a.1 b.1) (list_eq a.0 b.0) h) i)
+
+same_option : {A : Type 0} (test : A → A → Bool) → ((a b : A) → test a b ≡ true → a ≡ b) → (x y : Option A) → option_eq test x y ≡ true → x ≡ y
+same_option test same None None h = refl
+same_option test same (Some a) (Some b) h = ap Some (same a b h)
+same_option test same x y h = cc
+
+same_parts : (p q : Parts) → parts_eq p q ≡ true → p ≡ q
+same_parts (k, (i, (f, (n, fs)))) (l, (j, (g, (m, gs)))) h =
+    let fourth : Bool = option_eq (λ a b. a == b) n m && option_eq fields_eq fs gs in
+    let third : Bool = option_eq bytes_eq f g && fourth in
+    let second : Bool = option_eq kind_eq i j && third in
+    let after_kind : second ≡ true = and_right (k == l) second h in
+    let after_int : third ≡ true = and_right (option_eq kind_eq i j) third after_kind in
+    let after_format : fourth ≡ true = and_right (option_eq bytes_eq f g) fourth after_int in
+    let kinds : k ≡ l = (Decides-eqb k l).0 (and_left (k == l) second h) in
+    let ints : i ≡ j = same_option kind_eq same_kind i j (and_left (option_eq kind_eq i j) third after_kind) in
+    let formats : f ≡ g = same_option bytes_eq (λ a b. (bytes_eq-Decides a b).0) f g (and_left (option_eq bytes_eq f g) fourth after_int) in
+    let rows : n ≡ m = same_option (λ a b. a == b) (λ a b. (Decides-eqb a b).0) n m (and_left (option_eq (λ a b. a == b) n m) (option_eq fields_eq fs gs) after_format) in
+    let fields : fs ≡ gs = same_option fields_eq same_fields fs gs (and_right (option_eq (λ a b. a == b) n m) (option_eq fields_eq fs gs) after_format) in
+    λ t. (kinds t, (ints t, (formats t, (rows t, fields t))))
+
 same_shape : (s t : Shape) → shape_eq s t ≡ true → s ≡ t
-same_shape shape.null shape.null h = refl
-same_shape shape.bool shape.bool h = refl
-same_shape (shape.int k) (shape.int l) h = ap shape.int (same_kind k l h)
-same_shape (shape.non_zero k) (shape.non_zero l) h = ap shape.non_zero (same_kind k l h)
-same_shape shape.number shape.number h = refl
-same_shape shape.text shape.text h = refl
-same_shape shape.char shape.char h = refl
-same_shape (shape.formatted f) (shape.formatted g) h = ap shape.formatted ((bytes_eq-Decides f g).0 h)
-same_shape shape.any shape.any h = refl
-same_shape (shape.option m) (shape.option n) h = ap shape.option ((Decides-eqb m n).0 h)
-same_shape (shape.seq m) (shape.seq n) h = ap shape.seq ((Decides-eqb m n).0 h)
-same_shape s t h = cc
+same_shape s t h = sym (shape_from-parts_of s) ∙ ap shape_from (same_parts (parts_of s) (parts_of t) h) ∙ shape_from-parts_of t
 
 pub same_entry : (a b : Entry) → entry_eq a b ≡ true → a ≡ b
 same_entry a b h =
-    let rest : (shape_eq a.shape b.shape && members_eq a.notes b.notes) ≡ true = and_right (if a.inline then b.inline else not b.inline) (shape_eq a.shape b.shape && members_eq a.notes b.notes) h in
-    let inline : a.inline ≡ b.inline = same_bool a.inline b.inline (and_left (if a.inline then b.inline else not b.inline) (shape_eq a.shape b.shape && members_eq a.notes b.notes) h) in
+    let rest : (shape_eq a.shape b.shape && members_eq a.notes b.notes) ≡ true = and_right (bool_eq a.inline b.inline) (shape_eq a.shape b.shape && members_eq a.notes b.notes) h in
+    let inline : a.inline ≡ b.inline = same_bool a.inline b.inline (and_left (bool_eq a.inline b.inline) (shape_eq a.shape b.shape && members_eq a.notes b.notes) h) in
     let notes : a.notes ≡ b.notes = same_members a.notes b.notes (and_right (shape_eq a.shape b.shape) (members_eq a.notes b.notes) rest) in
     let same : a.shape ≡ b.shape = same_shape a.shape b.shape (and_left (shape_eq a.shape b.shape) (members_eq a.notes b.notes) rest) in
     λ i. record { inline = inline i; notes = notes i; shape = same i }

@@ -1,5 +1,6 @@
 pub mod IntKind
 pub mod Shape
+pub mod ShapeParts
 pub mod Rows
 pub mod RowCode
 pub mod Slots
@@ -7,3 +8,9 @@ pub mod Refusals
 pub mod Names
 pub mod InOrder
 pub mod Meaning
+pub mod Walks
+pub mod Search
+pub mod Edges
+pub mod EdgeKind
+pub mod Repeated
+pub mod Faults

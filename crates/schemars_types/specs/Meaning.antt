@@ -1,9 +1,13 @@
 -- Which JSON values belong to a type of a table.
-use Rattle.std.specs.Prelude.{ℕ, zero, suc, ◌+◌, ◌*◌, ◌&&◌, ◌||◌, ◌==◌, ℤ, pos, negsuc, List, length, Bool, true, false, not, int_le, Option, Some, None, is_some}
-use Rattle.serde_json.specs.Data.{Data, Items, no_items, item, depth}
-use Rattle.serde_json.specs.Find.{as_bool, as_number, as_str, as_array}
+use Rattle.std.specs.Prelude.{ℕ, zero, suc, ◌+◌, ◌*◌, ◌&&◌, ◌||◌, ◌==◌, ℤ, pos, negsuc, List, length, find, Bool, true, false, not, int_le, Option, Some, None, is_some, bytes_eq}
+use Rattle.std.specs.List.{list_all}
+use Rattle.std.specs.Option.{option_map_or}
+use Rattle.serde_json.specs.Data.{Data, Items, no_items, item, Members, no_members, member, depth}
+use Rattle.serde_json.specs.Find.{as_bool, as_number, as_str, as_array, as_object, get_member}
+use Rattle.schemars_schema.specs.Json.{Text}
+use Rattle.schemars_schema.specs.SchemaData.{is_schema}
 use Rattle.schemars_schema.specs.Acceptance.{Patterns, is_null, whole_number, code_points}
-use Rattle.schemars_types.specs.Shape.{Shape, null, bool, int, non_zero, number, text, char, formatted, any, option, seq}
+use Rattle.schemars_types.specs.Shape.{Required, Field, Shape, null, bool, int, non_zero, number, text, char, formatted, any, bytes, schema_itself, option, seq, struct, newtype}
 use Rattle.schemars_types.specs.Rows.{Row, entry_at}
 use Rattle.schemars_types.specs.declared.shape.IntKind.{IntKind}
 use Rattle.schemars_types.specs.declared.shape.IntKind.TheVariants.{I8, I16, I32, I64, I128, Isize, U8, U16, U32, U64, U128, Usize}
@@ -66,6 +70,31 @@ abbrev pub every_item : (Data → Bool) → Items → Bool
 every_item p no_items = true
 every_item p (item v vs) = p v && every_item p vs
 
+abbrev pub every_member : (Text → Data → Bool) → Members → Bool
+every_member p no_members = true
+every_member p (member k v ms) = p k v && every_member p ms
+
+abbrev pub is_byte : Data → Bool
+is_byte v = holds (whole_number v) (is_of_kind U8)
+
+abbrev pub is_byte_text : Contract → Data → Bool
+is_byte_text Deserialize v = is_some (as_str v)
+is_byte_text Serialize v = false
+
+abbrev pub is_required : Contract → Required → Bool
+is_required Deserialize required = required.deserialize
+is_required Serialize required = required.serialize
+
+abbrev pub field_named : List Field → Text → Option Field
+field_named list k = find (λ f. bytes_eq f.name k) list
+
+-- the member is of its field's type; one that is no field's is free where the struct is open
+abbrev pub member_fits : (ℕ → Data → Bool) → List Field → Bool → Text → Data → Bool
+member_fits part list closed k v = option_map_or (λ f. part f.ty v) (field_named list k) (not closed)
+
+abbrev pub has_required : Contract → List Field → Members → Bool
+has_required contract list ms = list_all (λ f. not (is_required contract f.required) || is_some (get_member f.name ms)) list
+
 -- the values of a shape, where `part` says which values the rows inside it have
 abbrev pub has_shape : Contract → Patterns → (ℕ → Data → Bool) → Shape → Data → Bool
 has_shape contract patterns part null v = is_null v
@@ -77,8 +106,12 @@ has_shape contract patterns part text v = is_some (as_str v)
 has_shape contract patterns part char v = holds (as_str v) (λ s. code_points s == 1)
 has_shape contract patterns part (formatted format) v = is_some (as_str v)
 has_shape contract patterns part any v = true
+has_shape contract patterns part bytes v = holds (as_array v) (every_item is_byte) || is_byte_text contract v
+has_shape contract patterns part schema_itself v = is_schema v
 has_shape contract patterns part (option n) v = is_null v || part n v
 has_shape contract patterns part (seq n) v = holds (as_array v) (every_item (part n))
+has_shape contract patterns part (struct list closed) v = holds (as_object v) (λ ms. every_member (member_fits part list closed) ms && has_required contract list ms)
+has_shape contract patterns part (newtype n) v = part n v
 
 -- row n has the value; a row is asked at most `steps` deep
 unfoldable pub belongs_within : List Row → Contract → Patterns → ℕ → ℕ → Data → Bool

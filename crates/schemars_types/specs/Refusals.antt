@@ -5,10 +5,14 @@ use Rattle.schemars_schema.specs.Json.{Text}
 use Rattle.schemars_types.specs.Shape.{Shape, Entry}
 use Rattle.schemars_types.specs.Rows.{Row, place_of, reserved, defined, unknown_in, holds_another}
 use Rattle.schemars_types.specs.declared.error.TypesError.{TypesError}
-use Rattle.schemars_types.specs.declared.error.TypesError.TheVariants.{OutOfMemory, AlreadyDefined, UnknownType}
+use Rattle.schemars_types.specs.declared.error.TypesError.TheVariants.{OutOfMemory, UndefinedType, RepeatedName, DirectCycle, EmptyCycle, AlreadyDefined, UnknownType}
 
 abbrev pub code_of : TypesError → ℕ
 code_of OutOfMemory = 1
+code_of (UndefinedType n) = 2
+code_of (RepeatedName n name) = 3
+code_of (DirectCycle n) = 4
+code_of (EmptyCycle n) = 5
 code_of (AlreadyDefined n) = 6
 code_of (UnknownType n) = 8
 
@@ -32,3 +36,4 @@ abbrev pub Refuses : Text → Entry → List Row → TypesError → Type 0
 Refuses id e rows OutOfMemory = unknown_in rows e.shape ≡ None
 Refuses id e rows (AlreadyDefined n) = (unknown_in rows e.shape ≡ None) × (place_of id rows ≡ Some n) × (holds_another rows n e ≡ true)
 Refuses id e rows (UnknownType n) = unknown_in rows e.shape ≡ Some n
+Refuses id e rows _ = ⊥

@@ -1,15 +1,28 @@
 -- What an entry of a table says: a row's shape, whether it is written in place, and its notes.
-use Rattle.std.specs.Prelude.{ℕ, List, [], ◌∷◌, Bool, true, false, ◌==◌, ◌&&◌, not, if◌then◌else◌, bytes_eq, string_bytes}
+use Rattle.std.specs.Prelude.{ℕ, List, [], ◌∷◌, map, Bool, true, string_bytes}
 use Rattle.serde_json.specs.Data.{Members, no_members}
 use Rattle.serde_json.specs.View.{members_view}
-use Rattle.schemars_schema.specs.Json.{Text, members_eq}
+use Rattle.schemars_schema.specs.Json.{Text}
 use Rattle.schemars_types.specs.declared.shape.IntKind.{IntKind}
-use Rattle.schemars_types.specs.IntKind.{kind_eq}
+use Rattle.schemars_types.specs.declared.shape.Required as src-required
+use Rattle.schemars_types.specs.declared.shape.Field as src-field
+use Rattle.schemars_types.specs.declared.shape.Fields as src-fields
 use Rattle.schemars_types.specs.declared.shape.TypeEntry as src-entry
 use Rattle.schemars_types.specs.declared.shape.Shape as src-shape
 use Rattle.schemars_types.specs.declared.shape.Shape.TheVariants as src
 
--- numbers are those of rows
+-- whether a member has to be there, in values that are read and in those that are written
+pub record Required : Type 0 where
+  pub deserialize : Bool
+  pub serialize : Bool
+
+pub record Field : Type 0 where
+  pub name : Text
+  pub ty : ℕ
+  pub required : Required
+  pub notes : Members
+
+-- Numbers are those of rows. A struct has fields, in order, and may be closed to other keys.
 pub data Shape : Type 0 where
   null : Shape
   bool : Shape
@@ -20,13 +33,27 @@ pub data Shape : Type 0 where
   char : Shape
   formatted : Text → Shape
   any : Shape
+  bytes : Shape
+  schema_itself : Shape
   option : ℕ → Shape
   seq : ℕ → Shape
+  struct : List Field → Bool → Shape
+  newtype : ℕ → Shape
 
 pub record Entry : Type 0 where
   pub inline : Bool
   pub notes : Members
   pub shape : Shape
+
+abbrev pub required_of : src-required.Required → Required
+required_of r = record { deserialize = r.deserialize; serialize = r.serialize }
+
+abbrev pub field_of : src-field.Field → Field
+field_of f = record { name = string_bytes f.name; ty = f.ty; required = required_of f.required; notes = members_view f.notes.entries }
+
+-- the fields, and whether other keys are excluded
+abbrev pub fields_view : src-fields.Fields → List Field × Bool
+fields_view fields = (map field_of fields.list.items, fields.closed)
 
 abbrev pub shape_of : src-shape.Shape → Shape
 shape_of src.Null = null
@@ -38,8 +65,12 @@ shape_of src.Text = text
 shape_of src.Char = char
 shape_of (src.Formatted s) = formatted (string_bytes s)
 shape_of src.Any = any
+shape_of src.Bytes = bytes
+shape_of src.SchemaItself = schema_itself
 shape_of (src.Option n) = option n
 shape_of (src.Seq n) = seq n
+shape_of (src.Struct fields) = struct (fields_view fields).0 (fields_view fields).1
+shape_of (src.Newtype n) = newtype n
 
 abbrev pub entry_of : src-entry.TypeEntry → Entry
 entry_of e = record { inline = e.inline; notes = members_view e.notes.entries; shape = shape_of e.shape }
@@ -53,31 +84,8 @@ in_place s = without_notes true s
 
 -- the rows that a shape refers to, as they are written
 abbrev pub numbers_of : Shape → List ℕ
-numbers_of null = []
-numbers_of bool = []
-numbers_of (int k) = []
-numbers_of (non_zero k) = []
-numbers_of number = []
-numbers_of text = []
-numbers_of char = []
-numbers_of (formatted f) = []
-numbers_of any = []
 numbers_of (option n) = n ∷ []
 numbers_of (seq n) = n ∷ []
-
-abbrev pub shape_eq : Shape → Shape → Bool
-shape_eq null t = elim t [ null ↦ true | _ ↦ false ]
-shape_eq bool t = elim t [ bool ↦ true | _ ↦ false ]
-shape_eq (int k) t = elim t [ int l ↦ kind_eq k l | _ ↦ false ]
-shape_eq (non_zero k) t = elim t [ non_zero l ↦ kind_eq k l | _ ↦ false ]
-shape_eq number t = elim t [ number ↦ true | _ ↦ false ]
-shape_eq text t = elim t [ text ↦ true | _ ↦ false ]
-shape_eq char t = elim t [ char ↦ true | _ ↦ false ]
-shape_eq (formatted f) t = elim t [ formatted g ↦ bytes_eq f g | _ ↦ false ]
-shape_eq any t = elim t [ any ↦ true | _ ↦ false ]
-shape_eq (option m) t = elim t [ option n ↦ m == n | _ ↦ false ]
-shape_eq (seq m) t = elim t [ seq n ↦ m == n | _ ↦ false ]
-
--- equal entries: the notes are compared as JSON values, where a number that is no 64-bit whole number equals nothing
-abbrev pub entry_eq : Entry → Entry → Bool
-entry_eq a b = (if a.inline then b.inline else not b.inline) && (shape_eq a.shape b.shape && members_eq a.notes b.notes)
+numbers_of (struct list closed) = map (λ f. f.ty) list
+numbers_of (newtype n) = n ∷ []
+numbers_of _ = []

@@ -1,4 +1,4 @@
-ghost use Rattle.std.specs.Prelude.{◌≡◌, codes, None, IfOk, OnErr, IfErr, string_bytes};
+ghost use Rattle.std.specs.Prelude.{◌≡◌, false, codes, None, IfOk, OnErr, IfErr, string_bytes};
 ghost use Rattle.schemars_types.specs.IntKind.{format_of, non_zero_name};
 ghost use Rattle.schemars_types.specs.Names.{non_zero_id, option_id, option_name, seq_id, seq_name};
 ghost use Rattle.schemars_types.specs.Shape.{Shape as shape, shape_of, in_place, without_notes};
@@ -12,8 +12,8 @@ use std::alloc::Global;
 
 /// Rows of common types.
 ///
-/// Each call answers the number of the type's row, which is written in place and has no notes. It
-/// adds the row unless it is there. `AlreadyDefined` says that another entry stands under the id, and
+/// Each call answers the number of the type's row, which has no notes. It adds the row unless it is
+/// there. Rows are written in place but for those of bytes and of schemas. `AlreadyDefined` says that another entry stands under the id, and
 /// `UnknownType` that `n` is no row's number. After a refusal the table is as before.
 impl Types {
     /// The type of null.
@@ -23,7 +23,7 @@ impl Types {
         ensures err { OnErr result (self.new ≡ self.old) }
         ensures refused { IfErr result (Refuses (codes "null") (in_place shape.null) self.old) }
     {
-        self.register_named(alloc, "null", "null", Shape::Null)
+        self.register_named(alloc, "null", "null", true, Shape::Null)
     }
 
     /// The type of truth values.
@@ -33,7 +33,7 @@ impl Types {
         ensures err { OnErr result (self.new ≡ self.old) }
         ensures refused { IfErr result (Refuses (codes "boolean") (in_place shape.bool) self.old) }
     {
-        self.register_named(alloc, "boolean", "boolean", Shape::Bool)
+        self.register_named(alloc, "boolean", "boolean", true, Shape::Bool)
     }
 
     /// The type of whole numbers of this kind.
@@ -43,7 +43,7 @@ impl Types {
         ensures err { OnErr result (self.new ≡ self.old) }
         ensures refused { IfErr result (Refuses (format_of kind) (in_place (shape.int kind)) self.old) }
     {
-        self.register_named(alloc, kind.format(), kind.format(), Shape::Int(kind))
+        self.register_named(alloc, kind.format(), kind.format(), true, Shape::Int(kind))
     }
 
     /// The type of whole numbers of this kind without 0.
@@ -56,7 +56,7 @@ impl Types {
     {
         let name = kind.non_zero_name();
         let id = format!(in alloc; "std::num::{name}")?;
-        self.register_named(alloc, id.as_str(), name, Shape::NonZero(kind))
+        self.register_named(alloc, id.as_str(), name, true, Shape::NonZero(kind))
     }
 
     /// The type of numbers.
@@ -66,7 +66,7 @@ impl Types {
         ensures err { OnErr result (self.new ≡ self.old) }
         ensures refused { IfErr result (Refuses (codes "Number") (in_place shape.number) self.old) }
     {
-        self.register_named(alloc, "Number", "Number", Shape::Number)
+        self.register_named(alloc, "Number", "Number", true, Shape::Number)
     }
 
     /// The type of texts.
@@ -76,7 +76,7 @@ impl Types {
         ensures err { OnErr result (self.new ≡ self.old) }
         ensures refused { IfErr result (Refuses (codes "string") (in_place shape.text) self.old) }
     {
-        self.register_named(alloc, "string", "string", Shape::Text)
+        self.register_named(alloc, "string", "string", true, Shape::Text)
     }
 
     /// The type of texts of one code point.
@@ -86,7 +86,7 @@ impl Types {
         ensures err { OnErr result (self.new ≡ self.old) }
         ensures refused { IfErr result (Refuses (codes "char") (in_place shape.char) self.old) }
     {
-        self.register_named(alloc, "char", "Character", Shape::Char)
+        self.register_named(alloc, "char", "Character", true, Shape::Char)
     }
 
     /// The type of texts of this format, under an id and a name of the caller's.
@@ -113,7 +113,35 @@ impl Types {
         ensures err { OnErr result (self.new ≡ self.old) }
         ensures refused { IfErr result (Refuses (codes "AnyValue") (in_place shape.any) self.old) }
     {
-        self.register_named(alloc, "AnyValue", "AnyValue", Shape::Any)
+        self.register_named(alloc, "AnyValue", "AnyValue", true, Shape::Any)
+    }
+
+    /// The type of byte strings.
+    pub fn bytes(&mut self, alloc: Global) -> Result<TypeNo, TypesError>
+        ensures ok { IfOk result (Registers (codes "bytes::Bytes") (codes "Bytes")
+            (without_notes false shape.bytes) self.old self.new) }
+        ensures err { OnErr result (self.new ≡ self.old) }
+        ensures refused { IfErr result
+            (Refuses (codes "bytes::Bytes") (without_notes false shape.bytes) self.old) }
+    {
+        self.register_named(alloc, "bytes::Bytes", "Bytes", false, Shape::Bytes)
+    }
+
+    /// The type of schemas.
+    pub fn schema(&mut self, alloc: Global) -> Result<TypeNo, TypesError>
+        ensures ok { IfOk result (Registers (codes "schemars::Schema") (codes "Schema")
+            (without_notes false shape.schema_itself) self.old self.new) }
+        ensures err { OnErr result (self.new ≡ self.old) }
+        ensures refused { IfErr result
+            (Refuses (codes "schemars::Schema") (without_notes false shape.schema_itself) self.old) }
+    {
+        self.register_named(
+            alloc,
+            "schemars::Schema",
+            "Schema",
+            false,
+            Shape::SchemaItself,
+        )
     }
 
     /// The type of null and the values of row `n`.
@@ -171,22 +199,24 @@ impl Types {
         Ok(n)
     }
 
-    // The same for a row in place, with copies of its id and its name.
+    // The same with copies of the id and the name.
     fn register_named(
         &mut self,
         alloc: Global,
         id: &str,
         name: &str,
+        inline: bool,
         shape: Shape,
     ) -> Result<TypeNo, TypesError>
         requires { unknown_in self.old (shape_of shape) ≡ None }
         ensures ok { IfOk result
-            (Registers id.now name.now (in_place (shape_of shape)) self.old self.new) }
+            (Registers id.now name.now (without_notes inline (shape_of shape)) self.old self.new) }
         ensures err { OnErr result (self.new ≡ self.old) }
-        ensures refused { IfErr result (Refuses id.now (in_place (shape_of shape)) self.old) }
+        ensures refused { IfErr result
+            (Refuses id.now (without_notes inline (shape_of shape)) self.old) }
     {
         let id = String::from_str(alloc, id)?;
         let name = String::from_str(alloc, name)?;
-        self.register_row(alloc, id, name, true, shape)
+        self.register_row(alloc, id, name, inline, shape)
     }
 }

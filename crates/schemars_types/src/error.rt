@@ -7,6 +7,18 @@ pub enum TypesError {
     /// Memory ran out.
     #[error("OutOfMemory")]
     OutOfMemory,
+    /// This row was reserved and never defined.
+    #[error("UndefinedType")]
+    UndefinedType(usize),
+    /// This row's list of fields has this name twice.
+    #[error("RepeatedName")]
+    RepeatedName(usize, String),
+    /// This row is on a cycle of rows that are written in place.
+    #[error("DirectCycle")]
+    DirectCycle(usize),
+    /// This row is on a cycle of rows that have the values of the next.
+    #[error("EmptyCycle")]
+    EmptyCycle(usize),
     /// Another entry stands in this row.
     #[error("AlreadyDefined")]
     AlreadyDefined(usize),
@@ -25,6 +37,10 @@ impl TypesError {
     {
         match self {
             TypesError::OutOfMemory => 1,
+            TypesError::UndefinedType(_) => 2,
+            TypesError::RepeatedName(_, _) => 3,
+            TypesError::DirectCycle(_) => 4,
+            TypesError::EmptyCycle(_) => 5,
             TypesError::AlreadyDefined(_) => 6,
             TypesError::UnknownType(_) => 8,
         }

@@ -1,7 +1,10 @@
 //! Tables of types: the shapes of values by number.
 #![tactic(auto)]
 
+mod check;
+mod clone;
 mod constructors;
+mod cycles;
 mod error;
 mod shape;
 mod table;
@@ -9,5 +12,5 @@ mod table;
 mod tests;
 
 pub use error::TypesError;
-pub use shape::{IntKind, Shape, TypeEntry, TypeNo};
+pub use shape::{Field, Fields, IntKind, Required, Shape, TypeEntry, TypeNo};
 pub use table::Types;

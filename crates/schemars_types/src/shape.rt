@@ -1,10 +1,16 @@
-ghost use Rattle.std.specs.Prelude.{◌≡◌, nat_le, find};
-ghost use Rattle.schemars_types.specs.IntKind.{format_of, non_zero_name};
-ghost use Rattle.schemars_types.specs.Shape.{shape_of, entry_of, numbers_of, shape_eq, entry_eq, without_notes};
+ghost use Rattle.std.specs.Prelude.{◌≡◌, ◌==◌, nat_le, find, map, option_map, bytes_eq, string_bytes, IfOk, MatchOption};
+ghost use Rattle.std.specs.Option.{option_eq};
+ghost use Rattle.std.specs.List.{IsDistinct};
+ghost use Rattle.schemars_types.specs.IntKind.{format_of, kind_eq, non_zero_name};
+ghost use Rattle.schemars_types.specs.Shape.{shape_of, field_of, fields_view, entry_of, numbers_of, without_notes};
+ghost use Rattle.schemars_types.specs.Edges.{same_value_numbers, names_of};
+ghost use Rattle.schemars_types.specs.Repeated.{IsRepeated};
+ghost use Rattle.schemars_types.specs.ShapeParts.{kind_of, int_kind_in, format_in, part_of, fields_in, parts_of, holdings_eq, shape_eq, fields_eq, list_eq, field_eq, entry_eq};
 
 use schemars_schema::json_eq_members;
 use serde_json::{Map, Value};
-use std::alloc::Global;
+use std::alloc::{AllocError, Global};
+use std::collections::BTreeSet;
 
 /// A row's number in a table.
 pub type TypeNo = usize;
@@ -89,10 +95,43 @@ pub enum Shape {
     Formatted(String),
     /// every value
     Any,
+    /// a list of bytes; one that is read may also be a text
+    Bytes,
+    /// a map or a truth value
+    SchemaItself,
     /// null, or a value of this row
     Option(TypeNo),
     /// a list of values of this row
     Seq(TypeNo),
+    /// a map with these fields
+    Struct(Fields),
+    /// a value of this row
+    Newtype(TypeNo),
+}
+
+/// The fields of a struct.
+#[derive(Drop)]
+pub struct Fields {
+    pub list: Vec<Field>,
+    /// No other keys are allowed.
+    pub closed: bool,
+}
+
+/// A member of a struct.
+#[derive(Drop)]
+pub struct Field {
+    pub name: String,
+    pub ty: TypeNo,
+    pub required: Required,
+    /// Annotations that are inserted into the field's schema.
+    pub notes: Map<String, Value>,
+}
+
+/// Whether a member has to be there, in values that are read and in those that are written.
+#[derive(Clone, Copy, PartialEq, Eq, Debug)]
+pub struct Required {
+    pub deserialize: bool,
+    pub serialize: bool,
 }
 
 impl Shape {
@@ -101,26 +140,216 @@ impl Shape {
         ensures { result ≡ find (λ n. nat_le len n) (numbers_of (shape_of self.now)) }
     {
         match self {
-            Shape::Option(n) | Shape::Seq(n) if len <= *n => Some(*n),
+            Shape::Option(n) | Shape::Seq(n) | Shape::Newtype(n) if len <= *n => Some(*n),
+            Shape::Struct(fields) => fields.first_unknown(len),
             _ => None,
         }
     }
 
+    /// The rows that the shape refers to, as they are written.
+    pub(crate) fn numbers(&self, alloc: Global) -> Result<Vec<TypeNo>, AllocError>
+        ensures { IfOk result (λ v. v.items ≡ numbers_of (shape_of self.now)) }
+    {
+        match self {
+            Shape::Option(n) | Shape::Seq(n) | Shape::Newtype(n) => Ok(vec![in alloc; *n]?),
+            Shape::Struct(fields) => fields.numbers(alloc),
+            _ => Ok(Vec::new(alloc)),
+        }
+    }
+
+    /// The rows whose values the shape has itself.
+    pub(crate) fn same_value_numbers(&self, alloc: Global) -> Result<Vec<TypeNo>, AllocError>
+        ensures { IfOk result (λ v. v.items ≡ same_value_numbers (shape_of self.now)) }
+    {
+        match self {
+            Shape::Option(n) | Shape::Newtype(n) => Ok(vec![in alloc; *n]?),
+            _ => Ok(Vec::new(alloc)),
+        }
+    }
+
+    /// The first name in the list of fields that is met a second time.
+    pub(crate) fn repeated_name(&self, alloc: Global) -> Result<Option<String>, AllocError>
+        ensures { IfOk result (λ r. MatchOption r (IsDistinct bytes_eq (names_of (shape_of self.now)))
+            (λ s. IsRepeated (names_of (shape_of self.now)) (string_bytes s))) }
+    {
+        match self {
+            Shape::Struct(fields) => fields.repeated_name(alloc),
+            _ => Ok(None),
+        }
+    }
+
+    // Which shape it is, as a number of its own.
+    fn kind(&self) -> u8
+        ensures { result ≡ kind_of (shape_of self.now) }
+    {
+        match self {
+            Shape::Null => 0,
+            Shape::Bool => 1,
+            Shape::Int(_) => 2,
+            Shape::NonZero(_) => 3,
+            Shape::Number => 4,
+            Shape::Text => 5,
+            Shape::Char => 6,
+            Shape::Formatted(_) => 7,
+            Shape::Any => 8,
+            Shape::Bytes => 9,
+            Shape::SchemaItself => 10,
+            Shape::Option(_) => 11,
+            Shape::Seq(_) => 12,
+            Shape::Struct(_) => 13,
+            Shape::Newtype(_) => 14,
+        }
+    }
+
+    fn int_kind(&self) -> Option<IntKind>
+        ensures { result ≡ int_kind_in (shape_of self.now) }
+    {
+        match self {
+            Shape::Int(kind) | Shape::NonZero(kind) => Some(*kind),
+            _ => None,
+        }
+    }
+
+    fn format(&self) -> Option<&str>
+        ensures { option_map (λ s. s.now) result ≡ format_in (shape_of self.now) }
+    {
+        match self {
+            Shape::Formatted(format) => Some(format.as_str()),
+            _ => None,
+        }
+    }
+
+    // The row that it is made of, where it is made of one.
+    fn part(&self) -> Option<TypeNo>
+        ensures { result ≡ part_of (shape_of self.now) }
+    {
+        match self {
+            Shape::Option(n) | Shape::Seq(n) | Shape::Newtype(n) => Some(*n),
+            _ => None,
+        }
+    }
+
+    fn fields(&self) -> Option<&Fields>
+        ensures { option_map (λ f. fields_view f.now) result ≡ fields_in (shape_of self.now) }
+    {
+        match self {
+            Shape::Struct(fields) => Some(fields),
+            _ => None,
+        }
+    }
+
+    // Shapes of one kind are compared by what they hold.
     fn is_equal(&self, other: &Shape) -> bool
         ensures { result ≡ shape_eq (shape_of self.now) (shape_of other.now) }
     {
-        match (self, other) {
-            (Shape::Null, Shape::Null)
-            | (Shape::Bool, Shape::Bool)
-            | (Shape::Number, Shape::Number)
-            | (Shape::Text, Shape::Text)
-            | (Shape::Char, Shape::Char)
-            | (Shape::Any, Shape::Any) => true,
-            (Shape::Int(a), Shape::Int(b)) | (Shape::NonZero(a), Shape::NonZero(b)) => a == b,
-            (Shape::Formatted(a), Shape::Formatted(b)) => a == b,
-            (Shape::Option(a), Shape::Option(b)) | (Shape::Seq(a), Shape::Seq(b)) => a == b,
+        self.kind() == other.kind() && self.holds_same(other)
+    }
+
+    fn holds_same(&self, other: &Shape) -> bool
+        ensures { result ≡ holdings_eq (parts_of (shape_of self.now)).1 (parts_of (shape_of other.now)).1 }
+    {
+        self.has_int_kind(other.int_kind())
+            && self.has_format(other.format())
+            && self.has_part(other.part())
+            && self.has_fields(other.fields())
+    }
+
+    fn has_int_kind(&self, kind: Option<IntKind>) -> bool
+        ensures { result ≡ option_eq kind_eq (int_kind_in (shape_of self.now)) kind }
+    {
+        self.int_kind() == kind
+    }
+
+    fn has_format(&self, format: Option<&str>) -> bool
+        ensures { result ≡ option_eq bytes_eq (format_in (shape_of self.now))
+            (option_map (λ s. s.now) format.entry) }
+    {
+        self.format() == format
+    }
+
+    fn has_part(&self, part: Option<TypeNo>) -> bool
+        ensures { result ≡ option_eq (λ m n. m == n) (part_of (shape_of self.now)) part }
+    {
+        self.part() == part
+    }
+
+    fn has_fields(&self, fields: Option<&Fields>) -> bool
+        ensures { result ≡ option_eq fields_eq (fields_in (shape_of self.now))
+            (option_map (λ f. fields_view f.now) fields.entry) }
+    {
+        match (self.fields(), fields) {
+            (Some(own), Some(others)) => own.is_equal(others),
+            (None, None) => true,
             _ => false,
         }
+    }
+}
+
+impl Fields {
+    fn numbers(&self, alloc: Global) -> Result<Vec<TypeNo>, AllocError>
+        ensures { IfOk result (λ v. v.items ≡ map (λ f. f.ty) (map field_of self.now.list.items)) }
+    {
+        self.list.iter().map(|field| field.ty).collect(alloc)
+    }
+
+    fn repeated_name(&self, alloc: Global) -> Result<Option<String>, AllocError>
+        ensures { IfOk result (λ r.
+            let names = map (λ f. f.name) (map field_of self.now.list.items) in
+            MatchOption r (IsDistinct bytes_eq names) (λ s. IsRepeated names (string_bytes s))) }
+    {
+        let mut met = BTreeSet::new(alloc);
+        for field in &self.list {
+            let name = field.name.as_str();
+            if !met.insert(name)? {
+                let name = String::from_str(alloc, name)?;
+                return Ok(Some(name));
+            }
+        }
+        Ok(None)
+    }
+
+    fn first_unknown(&self, len: usize) -> Option<TypeNo>
+        ensures { result ≡ find (λ n. nat_le len n) (map (λ f. f.ty) (map field_of self.now.list.items)) }
+    {
+        for field in &self.list {
+            if len <= field.ty {
+                return Some(field.ty);
+            }
+        }
+        None
+    }
+
+    // The order of the fields counts.
+    fn is_equal(&self, other: &Fields) -> bool
+        ensures { result ≡ fields_eq (fields_view self.now) (fields_view other.now) }
+    {
+        self.closed == other.closed && lists_equal(&self.list, &other.list)
+    }
+}
+
+fn lists_equal(a: &[Field], b: &[Field]) -> bool
+    ensures { result ≡ list_eq (map field_of a.now) (map field_of b.now) }
+{
+    let mut others = b.iter();
+    for field in a {
+        let Some(other) = others.next() else {
+            return false;
+        };
+        if !field.is_equal(other) {
+            return false;
+        }
+    }
+    others.next().is_none()
+}
+
+impl Field {
+    fn is_equal(&self, other: &Field) -> bool
+        ensures { result ≡ field_eq (field_of self.now) (field_of other.now) }
+    {
+        self.name == other.name
+            && self.ty == other.ty
+            && self.required == other.required
+            && json_eq_members(&self.notes, &other.notes)
     }
 }
 

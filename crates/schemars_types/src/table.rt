@@ -1,13 +1,14 @@
 ghost use Rattle.std.specs.Prelude.{◌≡◌, ◌≢◌, ◌<◌, ◌↔◌, [], length, None, Some, IsTrue, IsSome, IsOk, IfOk, OnOk, OnErr, IfErr, Err, option_map, string_bytes, slice_get};
 ghost use Rattle.schemars_types.specs.Shape.{entry_of, shape_of};
-ghost use Rattle.schemars_types.specs.Rows.{place_of, entry_at, reserved, defined};
+ghost use Rattle.schemars_types.specs.Rows.{place_of, entry_at, unknown_in, reserved, defined};
+ghost use Rattle.schemars_types.specs.Edges.{RefersWithin};
 ghost use Rattle.schemars_types.specs.Refusals.{first_unknown, refusal_of};
 ghost use Rattle.std.specs.Result.{result_err};
 
 use crate::error::TypesError;
 use crate::shape::{Shape, TypeEntry, TypeNo};
 use indexmap::IndexMap;
-use std::alloc::Global;
+use std::alloc::{AllocError, Global};
 use std::marker::Model;
 
 /// A row without its id.
@@ -45,8 +46,38 @@ impl Model for Types {
     ghost coded = { rows_code };
 
     ghost use Rattle.schemars_types.specs.Slots.{row_of};
+    ghost use Rattle.schemars_types.specs.Edges.{RefersWithin};
 
     ghost view = { λ t. map row_of t.slots.entries };
+
+    ghost invariant = { λ t. RefersWithin (map row_of t.slots.entries) };
+}
+
+impl Clone for Slot {
+    ghost use Rattle.std.specs.Prelude.{◌≡◌, option_map, string_bytes};
+    ghost use Rattle.schemars_types.specs.Slots.{SameSlot};
+
+    ghost is_clone = { SameSlot };
+
+    fn clone(&self) -> Result<Slot, AllocError> {
+        Ok(Slot {
+            name: self.name.clone()?,
+            entry: self.entry.clone()?,
+        })
+    }
+}
+
+/// The same rows under the same numbers.
+impl Clone for Types {
+    ghost use Rattle.std.specs.Prelude.{◌≡◌};
+
+    ghost is_clone = { λ t u. u ≡ t };
+
+    fn clone(&self) -> Result<Types, AllocError> {
+        Ok(Types {
+            slots: self.slots.clone()?,
+        })
+    }
 }
 
 impl Types {
@@ -59,9 +90,10 @@ impl Types {
         }
     }
 
-    /// The number of rows.
+    /// The number of rows. It is above every number in an entry.
     pub fn len(&self) -> usize
-        ensures { result ≡ length self.now }
+        ensures len { result ≡ length self.now }
+        ensures above { RefersWithin self.now }
     {
         self.slots.len()
     }
@@ -156,7 +188,8 @@ impl Types {
     }
 
     fn set_entry(&mut self, n: TypeNo, entry: TypeEntry)
-        requires { n < length self.old }
+        requires within { n < length self.old }
+        requires known { unknown_in self.old (shape_of entry.shape) ≡ None }
         ensures { self.new ≡ defined n (entry_of entry) self.old }
     {
         self.slots[n].define(entry);

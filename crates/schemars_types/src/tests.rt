@@ -1,4 +1,4 @@
-use crate::{IntKind, Shape, TypeEntry, TypeNo, Types, TypesError};
+use crate::{Field, Fields, IntKind, Required, Shape, TypeEntry, TypeNo, Types, TypesError};
 use serde_json::{Map, Value};
 use std::alloc::{AllocError, Global};
 use std::process::Abort;
@@ -107,9 +107,18 @@ fn other_rows(rt: HostRuntime) -> Result<(), Fail> {
         "Array_of_Nullable_string",
     );
 
+    for (n, id, name) in [
+        (types.bytes(alloc)?, "bytes::Bytes", "Bytes"),
+        (types.schema(alloc)?, "schemars::Schema", "Schema"),
+    ] {
+        assert_eq!(rt; types.id(n), Some(id));
+        assert_eq!(rt; types.name(n), Some(name));
+        assert!(rt; types.entry(n).is_some_and(|entry| !entry.inline));
+    }
+
     assert_eq!(rt; types.text(alloc)?, string, "a row is there once");
     assert_eq!(rt; types.find("Option<string>"), Some(option));
-    assert_eq!(rt; types.len(), 9);
+    assert_eq!(rt; types.len(), 11);
     Ok(())
 }
 
@@ -200,10 +209,184 @@ fn noted(alloc: Global, default: &str) -> Result<TypeEntry, Fail> {
     })
 }
 
+// Structs are compared field by field, in order.
+#[test]
+fn structs_defined_twice(rt: HostRuntime) -> Result<(), Fail> {
+    let alloc = rt.alloc();
+    let mut types = Types::new(alloc);
+    let text = types.text(alloc)?;
+    let row = new_row(alloc, &mut types, "Pair")?;
+    types.define(row, pair(alloc, "left", "right", text)?)?;
+    types.define(row, pair(alloc, "left", "right", text)?)?;
+    for other in [
+        pair(alloc, "right", "left", text)?,
+        pair(alloc, "left", "right", row)?,
+        entry(alloc, Shape::Newtype(text)),
+    ] {
+        assert_eq!(rt; types.define(row, other).err().map(|e| e.code()), Some(6));
+    }
+    assert_eq!(rt;
+        types
+            .define(row, pair(alloc, "left", "right", 2)?)
+            .err()
+            .map(|e| e.code()),
+        Some(8)
+    );
+    Ok(())
+}
+
+fn pair(alloc: Global, first: &str, second: &str, ty: TypeNo) -> Result<TypeEntry, AllocError> {
+    let mut list = Vec::new(alloc);
+    list.push(field(alloc, first, ty)?)?;
+    list.push(field(alloc, second, ty)?)?;
+    Ok(entry(
+        alloc,
+        Shape::Struct(Fields {
+            list,
+            closed: false,
+        }),
+    ))
+}
+
+fn field(alloc: Global, name: &str, ty: TypeNo) -> Result<Field, AllocError> {
+    Ok(Field {
+        name: text(alloc, name)?,
+        ty,
+        required: Required {
+            deserialize: true,
+            serialize: true,
+        },
+        notes: Map::new(alloc),
+    })
+}
+
+fn new_row(alloc: Global, types: &mut Types, id: &str) -> Result<TypeNo, TypesError> {
+    let name = text(alloc, id)?;
+    let id = text(alloc, id)?;
+    types.reserve(id, name)
+}
+
+fn in_place(alloc: Global, shape: Shape) -> TypeEntry {
+    TypeEntry {
+        inline: true,
+        notes: Map::new(alloc),
+        shape,
+    }
+}
+
+fn assert_fault(rt: &impl Abort, alloc: Global, types: &Types, code: u32, row: TypeNo) {
+    match types.check(alloc) {
+        Err(TypesError::UndefinedType(n)) => assert_eq!(rt; (n, 2), (row, code)),
+        Err(TypesError::RepeatedName(n, _)) => assert_eq!(rt; (n, 3), (row, code)),
+        Err(TypesError::DirectCycle(n)) => assert_eq!(rt; (n, 4), (row, code)),
+        Err(TypesError::EmptyCycle(n)) => assert_eq!(rt; (n, 5), (row, code)),
+        answer => assert!(rt; false, "{answer:?} in place of refusal {code}"),
+    }
+}
+
+#[test]
+fn accepted_tables(rt: HostRuntime) -> Result<(), Fail> {
+    let alloc = rt.alloc();
+    let mut types = Types::new(alloc);
+    types.check(alloc)?;
+
+    // A list that holds itself is referred to by name.
+    let list = new_row(alloc, &mut types, "List")?;
+    types.define(list, pair(alloc, "first", "next", list)?)?;
+    types.check(alloc)?;
+
+    let mut last = types.bool(alloc)?;
+    for i in 0..300 {
+        let id = format!(in alloc; "Link{i}")?;
+        let link = new_row(alloc, &mut types, id.as_str())?;
+        types.define(link, in_place(alloc, Shape::Newtype(last)))?;
+        last = link;
+    }
+    types.check(alloc)?;
+    Ok(())
+}
+
+#[test]
+fn undefined_rows(rt: HostRuntime) -> Result<(), Fail> {
+    let alloc = rt.alloc();
+    let mut types = Types::new(alloc);
+    let pairs = new_row(alloc, &mut types, "Pair")?;
+    let missing = new_row(alloc, &mut types, "Missing")?;
+    types.define(pairs, pair(alloc, "x", "x", missing)?)?;
+    assert_fault(&rt, alloc, &types, 2, missing);
+    Ok(())
+}
+
+#[test]
+fn repeated_names(rt: HostRuntime) -> Result<(), Fail> {
+    let alloc = rt.alloc();
+    let mut types = Types::new(alloc);
+    types.text(alloc)?;
+    let row = new_row(alloc, &mut types, "Row")?;
+    let mut list = Vec::new(alloc);
+    for name in ["a", "b", "c", "b", "a"] {
+        list.push(field(alloc, name, row)?)?;
+    }
+    types.define(
+        row,
+        in_place(alloc, Shape::Struct(Fields { list, closed: true })),
+    )?;
+    match types.check(alloc) {
+        Err(TypesError::RepeatedName(n, name)) => {
+            assert_eq!(rt; n, row, "names come before the cycle");
+            assert_eq!(rt; name.as_str(), "b");
+        }
+        answer => assert!(rt; false, "{answer:?}"),
+    }
+    Ok(())
+}
+
+#[test]
+fn cycles_in_place(rt: HostRuntime) -> Result<(), Fail> {
+    let alloc = rt.alloc();
+    let mut types = Types::new(alloc);
+    let first = new_row(alloc, &mut types, "First")?;
+    let second = new_row(alloc, &mut types, "Second")?;
+    types.define(first, in_place(alloc, Shape::Newtype(second)))?;
+    types.define(second, in_place(alloc, Shape::Newtype(first)))?;
+    assert_fault(&rt, alloc, &types, 4, first);
+
+    // Lower rows that lead to a cycle are not on it.
+    let mut types = Types::new(alloc);
+    let outer = new_row(alloc, &mut types, "Outer")?;
+    let inner = new_row(alloc, &mut types, "Inner")?;
+    let own = new_row(alloc, &mut types, "Own")?;
+    types.define(outer, in_place(alloc, Shape::Seq(inner)))?;
+    types.define(inner, in_place(alloc, Shape::Seq(own)))?;
+    types.define(own, in_place(alloc, Shape::Seq(own)))?;
+    assert_fault(&rt, alloc, &types, 4, own);
+    Ok(())
+}
+
+#[test]
+fn cycles_of_values(rt: HostRuntime) -> Result<(), Fail> {
+    let alloc = rt.alloc();
+    let mut types = Types::new(alloc);
+    types.null(alloc)?;
+    let row = new_row(alloc, &mut types, "A")?;
+    let option = types.option(alloc, row)?;
+    types.define(row, entry(alloc, Shape::Newtype(option)))?;
+    assert_fault(&rt, alloc, &types, 5, row);
+    Ok(())
+}
+
 #[test]
 fn errors_by_name(rt: HostRuntime) -> Result<(), Fail> {
     for (error, name, code) in [
         (TypesError::OutOfMemory, "OutOfMemory", 1),
+        (TypesError::UndefinedType(1), "UndefinedType", 2),
+        (
+            TypesError::RepeatedName(2, text(rt.alloc(), "x")?),
+            "RepeatedName",
+            3,
+        ),
+        (TypesError::DirectCycle(3), "DirectCycle", 4),
+        (TypesError::EmptyCycle(4), "EmptyCycle", 5),
         (TypesError::AlreadyDefined(3), "AlreadyDefined", 6),
         (TypesError::UnknownType(4), "UnknownType", 8),
     ] {

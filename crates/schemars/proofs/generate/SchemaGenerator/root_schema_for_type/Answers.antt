@@ -1,7 +1,7 @@
 use Rattle.std.proofs.Common.{◌≡◌, List, IfOk, false, ap, subst}
 use Rattle.serde_json.specs.Written.{has_float}
 use Rattle.schemars_types.specs.Rows.{Row}
-use Rattle.schemars.specs.Headline.{HasNoFloat}
+use Rattle.schemars.specs.PlainTable.{HasNoFloat}
 use Rattle.schemars.proofs.generate.SchemaGenerator.root_schema_for_type.Goals as goal
 
 pub returns-clause-whole : goal.returns-clause-whole

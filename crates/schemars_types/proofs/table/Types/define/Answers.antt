@@ -1,5 +1,6 @@
 use Rattle.std.proofs.Common.{◌≡◌, true, Some, ap, ◌∙◌, sym, rules}
-use Rattle.schemars_types.specs.Shape.{entry_of, entry_eq}
+use Rattle.schemars_types.specs.Shape.{entry_of}
+use Rattle.schemars_types.specs.ShapeParts.{entry_eq}
 use Rattle.schemars_types.specs.Rows.{entry_at}
 use Rattle.schemars_types.proofs.TableLemmas.{defined-same}
 use Rattle.schemars_types.proofs.EqualEntries.{same_entry}

@@ -1,0 +1,79 @@
+-- Tables of plain parts.
+use Rattle.std.specs.Prelude.{◌≡◌, ℕ, List, [], ◌∷◌, Option, Some, None, false, bytes_eq}
+use Rattle.serde_json.specs.Written.{members_have_float}
+use Rattle.schemars_schema.specs.Json.{Text}
+use Rattle.schemars_schema.specs.Annotations.{AreNotes}
+use Rattle.schemars_types.specs.Shape as shape
+use Rattle.schemars_types.specs.Shape.{Shape, Field, Entry}
+use Rattle.schemars_types.specs.Rows.{Row, entry_at}
+
+-- no field has this name
+abbrev pub IsNoName : Text → List Field → Type 0
+IsNoName k [] = Unit {0}
+IsNoName k (x ∷ xs) = (bytes_eq x.name k ≡ false) × IsNoName k xs
+
+-- the names of the fields are all different
+abbrev pub AreDistinct : List Field → Type 0
+AreDistinct [] = Unit {0}
+AreDistinct (x ∷ xs) = IsNoName x.name xs × AreDistinct xs
+
+-- the notes of each field are annotations
+abbrev pub AreNoted : List Field → Type 0
+AreNoted [] = Unit {0}
+AreNoted (x ∷ xs) = AreNotes x.notes × AreNoted xs
+
+abbrev pub IsPlainShape : Shape → Type 0
+IsPlainShape shape.null = Unit {0}
+IsPlainShape shape.bool = Unit {0}
+IsPlainShape (shape.int k) = Unit {0}
+IsPlainShape (shape.non_zero k) = Unit {0}
+IsPlainShape shape.number = Unit {0}
+IsPlainShape shape.text = Unit {0}
+IsPlainShape shape.char = Unit {0}
+IsPlainShape (shape.formatted g) = Unit {0}
+IsPlainShape shape.any = Unit {0}
+IsPlainShape shape.bytes = Unit {0}
+IsPlainShape shape.schema_itself = Unit {0}
+IsPlainShape (shape.option n) = Unit {0}
+IsPlainShape (shape.seq n) = Unit {0}
+IsPlainShape (shape.struct xs closed) = AreDistinct xs × AreNoted xs
+IsPlainShape (shape.newtype n) = Unit {0}
+
+abbrev pub IsPlainEntry : Option Entry → Type 0
+IsPlainEntry None = Unit {0}
+IsPlainEntry (Some e) = AreNotes e.notes × IsPlainShape e.shape
+
+-- the notes of rows and fields are annotations alone, and the names of each struct's fields are all different
+abbrev pub IsPlainTable : List Row → Type 0
+IsPlainTable rows = (n : ℕ) → IsPlainEntry (entry_at rows n)
+
+-- ---- numbers in notes
+
+abbrev pub FieldsHaveNoFloat : List Field → Type 0
+FieldsHaveNoFloat [] = Unit {0}
+FieldsHaveNoFloat (x ∷ xs) = (members_have_float x.notes ≡ false) × FieldsHaveNoFloat xs
+
+abbrev pub ShapeHasNoFloat : Shape → Type 0
+ShapeHasNoFloat shape.null = Unit {0}
+ShapeHasNoFloat shape.bool = Unit {0}
+ShapeHasNoFloat (shape.int k) = Unit {0}
+ShapeHasNoFloat (shape.non_zero k) = Unit {0}
+ShapeHasNoFloat shape.number = Unit {0}
+ShapeHasNoFloat shape.text = Unit {0}
+ShapeHasNoFloat shape.char = Unit {0}
+ShapeHasNoFloat (shape.formatted g) = Unit {0}
+ShapeHasNoFloat shape.any = Unit {0}
+ShapeHasNoFloat shape.bytes = Unit {0}
+ShapeHasNoFloat shape.schema_itself = Unit {0}
+ShapeHasNoFloat (shape.option n) = Unit {0}
+ShapeHasNoFloat (shape.seq n) = Unit {0}
+ShapeHasNoFloat (shape.struct xs closed) = FieldsHaveNoFloat xs
+ShapeHasNoFloat (shape.newtype n) = Unit {0}
+
+abbrev pub EntryHasNoFloat : Option Entry → Type 0
+EntryHasNoFloat None = Unit {0}
+EntryHasNoFloat (Some e) = (members_have_float e.notes ≡ false) × ShapeHasNoFloat e.shape
+
+-- the numbers in the notes are whole numbers
+abbrev pub HasNoFloat : List Row → Type 0
+HasNoFloat rows = (n : ℕ) → EntryHasNoFloat (entry_at rows n)

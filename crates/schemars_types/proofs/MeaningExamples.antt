@@ -1,0 +1,145 @@
+-- What belongs to types, computed: each shape has one value and not another.
+use Rattle.std.proofs.Common.{◌≡◌, ℕ, List, [], ◌∷◌, Some, Bool, true, false, refl}
+use Rattle.std.specs.Prelude.{codes, negsuc}
+use Prim.Native.String.{String}
+use Rattle.serde_json.specs.Data.{Data, null, boolean, number, unsigned, negative, string, array, object, item, no_items, no_members}
+use Rattle.schemars_schema.specs.Json.{Text}
+use Rattle.schemars_schema.specs.SchemaData.{object_of}
+use Rattle.schemars_types.specs.declared.shape.IntKind.TheVariants.{I8, U8, U128, I64}
+use Rattle.schemars_types.specs.Shape as shape
+use Rattle.schemars_types.specs.Shape.{Shape, Field, Required, in_place}
+use Rattle.schemars_types.specs.Rows.{Row}
+use Rattle.schemars_types.specs.Meaning.{Contract, Deserialize, Serialize, belongs, belongs_within}
+
+-- row 0 has the bytes, and row 1 this shape
+table : Shape → List Row
+table s =
+    record { id = codes "u8"; name = codes "u8"; entry = Some (in_place (shape.int U8)) } ∷
+    record { id = codes "t"; name = codes "t"; entry = Some (in_place s) } ∷ []
+
+has : Contract → Shape → Data → Bool
+has contract s v = belongs (table s) contract [] 1 v
+
+-- which of two values are of the shape: the first is, and the second is not
+TellsApart : Contract → Shape → Data → Data → Type 0
+TellsApart contract s v w = (has contract s v ≡ true) × (has contract s w ≡ false)
+
+whole : ℕ → Data
+whole n = number (unsigned n)
+
+text : String → Data
+text s = string (codes s)
+
+pair : Data → Data → Data
+pair v w = array (item v (item w no_items))
+
+null_alone : TellsApart Deserialize shape.null null (boolean false)
+unfolding TellsApart has table belongs_within
+null_alone = (refl, refl)
+
+truth_values : TellsApart Deserialize shape.bool (boolean false) (whole 0)
+unfolding TellsApart has table belongs_within whole
+truth_values = (refl, refl)
+
+small_integers : TellsApart Deserialize (shape.int I8) (number (negative (negsuc 127))) (whole 128)
+unfolding TellsApart has table belongs_within whole
+small_integers = (refl, refl)
+
+integers_without_bound : TellsApart Deserialize (shape.int I64) (whole 18446744073709551615) (text "1")
+unfolding TellsApart has table belongs_within whole text
+integers_without_bound = (refl, refl)
+
+integers_from_zero : TellsApart Deserialize (shape.int U128) (whole 0) (number (negative (negsuc 0)))
+unfolding TellsApart has table belongs_within whole
+integers_from_zero = (refl, refl)
+
+integers_without_zero : TellsApart Deserialize (shape.non_zero I8) (number (negative (negsuc 0))) (whole 0)
+unfolding TellsApart has table belongs_within whole
+integers_without_zero = (refl, refl)
+
+numbers : TellsApart Deserialize shape.number (whole 7) (text "7")
+unfolding TellsApart has table belongs_within whole text
+numbers = (refl, refl)
+
+texts : TellsApart Deserialize shape.text (text "") null
+unfolding TellsApart has table belongs_within text
+texts = (refl, refl)
+
+characters : TellsApart Deserialize shape.char (string (206 ∷ 187 ∷ [])) (text "ab")
+unfolding TellsApart has table belongs_within text
+characters = (refl, refl)
+
+formatted_texts : TellsApart Deserialize (shape.formatted (codes "ipv4")) (text "no address") (whole 1)
+unfolding TellsApart has table belongs_within whole text
+formatted_texts = (refl, refl)
+
+any_value : (has Deserialize shape.any null ≡ true) × (has Deserialize shape.any (pair null (whole 1)) ≡ true)
+unfolding has table belongs_within whole pair
+any_value = (refl, refl)
+
+options : TellsApart Deserialize (shape.option 0) null (whole 256)
+unfolding TellsApart has table belongs_within whole
+options = (refl, refl)
+
+some_values : TellsApart Deserialize (shape.option 0) (whole 255) (boolean true)
+unfolding TellsApart has table belongs_within whole
+some_values = (refl, refl)
+
+lists : TellsApart Deserialize (shape.seq 0) (pair (whole 0) (whole 255)) (pair (whole 0) null)
+unfolding TellsApart has table belongs_within whole pair
+lists = (refl, refl)
+
+empty_lists : TellsApart Deserialize (shape.seq 0) (array no_items) (object no_members)
+unfolding TellsApart has table belongs_within
+empty_lists = (refl, refl)
+
+-- a row that is not there has no value
+unknown_rows : (belongs (table shape.any) Deserialize [] 2 null ≡ false) × (has Deserialize (shape.option 2) (whole 1) ≡ false)
+unfolding has table belongs_within whole
+unknown_rows = (refl, refl)
+
+newtypes : TellsApart Deserialize (shape.newtype 0) (whole 1) null
+unfolding TellsApart has table belongs_within whole
+newtypes = (refl, refl)
+
+schemas : TellsApart Deserialize shape.schema_itself (object no_members) (array no_items)
+unfolding TellsApart has table belongs_within
+schemas = (refl, refl)
+
+bytes : TellsApart Deserialize shape.bytes (pair (whole 0) (whole 255)) (pair (whole 0) (whole 256))
+unfolding TellsApart has table belongs_within whole pair
+bytes = (refl, refl)
+
+-- a text is bytes that are read, and never bytes that are written
+bytes_as_text : (has Deserialize shape.bytes (text "a") ≡ true) × (has Serialize shape.bytes (text "a") ≡ false)
+unfolding has table belongs_within text
+bytes_as_text = (refl, refl)
+
+-- a field that is required where values are read, and one that isn't
+fields : List Field
+fields =
+    record { name = codes "a"; ty = 0; required = record { deserialize = true; serialize = false }; notes = no_members } ∷
+    record { name = codes "b"; ty = 0; required = record { deserialize = false; serialize = true }; notes = no_members } ∷ []
+
+member_of : String → Data → Text × Data
+member_of k v = (codes k, v)
+
+required_fields : TellsApart Deserialize (shape.struct fields false) (object_of (member_of "a" (whole 1) ∷ [])) (object_of (member_of "b" (whole 1) ∷ []))
+unfolding TellsApart has table belongs_within whole fields member_of
+required_fields = (refl, refl)
+
+required_fields_written : TellsApart Serialize (shape.struct fields false) (object_of (member_of "b" (whole 1) ∷ [])) (object_of (member_of "a" (whole 1) ∷ []))
+unfolding TellsApart has table belongs_within whole fields member_of
+required_fields_written = (refl, refl)
+
+field_types : TellsApart Deserialize (shape.struct fields false) (object_of (member_of "a" (whole 1) ∷ member_of "c" null ∷ [])) (object_of (member_of "a" (whole 1) ∷ member_of "b" null ∷ []))
+unfolding TellsApart has table belongs_within whole fields member_of
+field_types = (refl, refl)
+
+closed_structs : TellsApart Deserialize (shape.struct fields true) (object_of (member_of "a" (whole 1) ∷ [])) (object_of (member_of "a" (whole 1) ∷ member_of "c" null ∷ []))
+unfolding TellsApart has table belongs_within whole fields member_of
+closed_structs = (refl, refl)
+
+structs_are_maps : has Deserialize (shape.struct [] false) (array no_items) ≡ false
+unfolding has table belongs_within
+structs_are_maps = refl

@@ -1,0 +1,57 @@
+use Rattle.std.proofs.Common.{inr, string_bytes}
+use Rattle.std.proofs.lemmas.Option.{MatchOption-at_some, MatchOption-at_none}
+use Rattle.schemars_types.specs.Walks.{IsLeast}
+use Rattle.schemars_types.specs.Edges.{names_at}
+use Rattle.schemars_types.specs.Repeated.{IsRepeated}
+use Rattle.schemars_types.specs.Faults.{HasRepeated, OnDirectCycle, OnEmptyCycle}
+use Rattle.schemars_types.proofs.Accepted.{none_repeated, least_repeated, direct_cycles, empty_cycles, checked}
+use Rattle.schemars_types.proofs.table.Types.check.Goals as goal
+
+-- the name that is told
+repeated : (c : goal.In-Some-2) → IsLeast (HasRepeated c.args.self.now) c.in-Some-2.n × IsRepeated (names_at c.args.self.now c.in-Some-2.n) (string_bytes c.in-Some-2.name)
+repeated c =
+    let found = MatchOption-at_some _ _ _ c.in-Some-2.is c.in_ok-n.ensures in
+    (least_repeated c.args.self.now c.in-Some-2.n (string_bytes c.in-Some-2.name) found.0 found.1, found.1)
+
+pub returns-in-Some-2-clause-refused : goal.returns-in-Some-2-clause-refused
+returns-in-Some-2-clause-refused c = inr (c.in_default.ensures.first, (repeated c).0, (repeated c).1)
+
+pub returns-in-Some-2-clause-only_memory : goal.returns-in-Some-2-clause-only_memory
+returns-in-Some-2-clause-only_memory c = λ a. absurd (a.named c.in-Some-2.n (repeated c).0.0)
+
+-- the row that is told, on a direct cycle
+direct : (c : goal.In-Some-3) → IsLeast (OnDirectCycle c.args.self.now) c.in-Some-3.n
+direct c = MatchOption-at_some _ _ _ c.in-Some-3.is (direct_cycles c.args.self.now c.in_ok-n-2.field-0 c.in_ok-n-2.ensures)
+
+pub returns-in-Some-3-clause-refused : goal.returns-in-Some-3-clause-refused
+returns-in-Some-3-clause-refused c = inr (c.in_default.ensures.first, none_repeated c.args.self.now (MatchOption-at_none _ _ c.in_default-2.is c.in_ok-n.ensures), direct c)
+
+pub returns-in-Some-3-clause-only_memory : goal.returns-in-Some-3-clause-only_memory
+returns-in-Some-3-clause-only_memory c = λ a. absurd (a.direct c.in-Some-3.n (direct c).0)
+
+-- the row that is told, on an empty cycle
+empty : (c : goal.In-Some-4) → IsLeast (OnEmptyCycle c.args.self.now) c.in-Some-4.n
+empty c = MatchOption-at_some _ _ _ c.in-Some-4.is (empty_cycles c.args.self.now c.in_ok-n-3.field-0 c.in_ok-n-3.ensures)
+
+pub returns-in-Some-4-clause-refused : goal.returns-in-Some-4-clause-refused
+returns-in-Some-4-clause-refused c =
+    inr (
+      c.in_default.ensures.first,
+      none_repeated c.args.self.now (MatchOption-at_none _ _ c.in_default-2.is c.in_ok-n.ensures),
+      MatchOption-at_none _ _ c.in_default-3.is (direct_cycles c.args.self.now c.in_ok-n-2.field-0 c.in_ok-n-2.ensures),
+      empty c,
+    )
+
+pub returns-in-Some-4-clause-only_memory : goal.returns-in-Some-4-clause-only_memory
+returns-in-Some-4-clause-only_memory c = λ a. absurd (a.empty c.in-Some-4.n (empty c).0)
+
+pub returns-clause-accepted : goal.returns-clause-accepted
+returns-clause-accepted c = record {
+  defined = c.in_default.ensures.first;
+  named = none_repeated c.args.self.now (MatchOption-at_none _ _ c.in_default-2.is c.in_ok-n.ensures);
+  direct = MatchOption-at_none _ _ c.in_default-3.is (direct_cycles c.args.self.now c.in_ok-n-2.field-0 c.in_ok-n-2.ensures);
+  empty = MatchOption-at_none _ _ c.in_default-4.is (empty_cycles c.args.self.now c.in_ok-n-3.field-0 c.in_ok-n-3.ensures);
+}
+
+pub returns-clause-checked : goal.returns-clause-checked
+returns-clause-checked c = checked c.args.self.now c.first_undefined.ensures.within (returns-clause-accepted c)

@@ -1,0 +1,58 @@
+-- The edges of a table, as pairs of rows: a row refers to another.
+use Rattle.std.specs.Prelude.{◌≡◌, ◌<◌, ℕ, List, [], ◌∷◌, length, map, filter, Contains, Bool, true, false, nat_lt}
+use Rattle.std.specs.Option.{option_map_or}
+use Rattle.schemars_schema.specs.Json.{Text}
+use Rattle.schemars_types.specs.Shape.{Shape, option, struct, newtype, numbers_of}
+use Rattle.schemars_types.specs.Rows.{Row, entry_at}
+use Rattle.schemars_types.specs.Walks.{longest}
+
+-- the numbers in row n's entry; none where it has no entry
+abbrev pub numbers_at : List Row → ℕ → List ℕ
+numbers_at rows n = option_map_or (λ e. numbers_of e.shape) (entry_at rows n) []
+
+-- every number in an entry is a row's
+pub record RefersWithin (rows : List Row) : Type 0 where
+  pub within : (n m : ℕ) → Contains (numbers_at rows n) m → m < length rows
+
+abbrev pub is_inline_at : List Row → ℕ → Bool
+is_inline_at rows n = option_map_or (λ e. e.inline) (entry_at rows n) false
+
+-- the rows whose values a shape has itself
+abbrev pub same_value_numbers : Shape → List ℕ
+same_value_numbers (option n) = n ∷ []
+same_value_numbers (newtype n) = n ∷ []
+same_value_numbers _ = []
+
+abbrev pub same_value_numbers_at : List Row → ℕ → List ℕ
+same_value_numbers_at rows n = option_map_or (λ e. same_value_numbers e.shape) (entry_at rows n) []
+
+-- row n's document holds that of row m, which is written in place
+abbrev pub DirectEdge : List Row → ℕ → ℕ → Type 0
+DirectEdge rows n m = Contains (numbers_at rows n) m × (is_inline_at rows m ≡ true)
+
+-- row n has the values of row m
+abbrev pub SameValueEdge : List Row → ℕ → ℕ → Type 0
+SameValueEdge rows n m = Contains (same_value_numbers_at rows n) m × (m < length rows)
+
+-- the ends of these edges
+unfoldable pub direct_targets : List Row → ℕ → List ℕ
+direct_targets rows n = filter (is_inline_at rows) (numbers_at rows n)
+
+unfoldable pub same_value_targets : List Row → ℕ → List ℕ
+same_value_targets rows n = filter (λ m. nat_lt m (length rows)) (same_value_numbers_at rows n)
+
+-- the most direct edges that can be followed from row n
+unfoldable pub height : List Row → ℕ → ℕ
+height rows n = longest (direct_targets rows) (length rows) n
+
+-- the most same-value edges that can be followed from row n
+unfoldable pub rank : List Row → ℕ → ℕ
+rank rows n = longest (same_value_targets rows) (length rows) n
+
+-- the names in a shape's list of fields, in order
+abbrev pub names_of : Shape → List Text
+names_of (struct list closed) = map (λ f. f.name) list
+names_of _ = []
+
+abbrev pub names_at : List Row → ℕ → List Text
+names_at rows n = option_map_or (λ e. names_of e.shape) (entry_at rows n) []

@@ -1,0 +1,11 @@
+-- Lists in which a name stands twice.
+use Rattle.std.specs.Prelude.{◌≡◌, ℕ, List, take, Contains, slice_get, Some, bytes_eq}
+use Rattle.std.specs.List.{IsDistinct}
+use Rattle.schemars_schema.specs.Json.{Text}
+
+-- the name is the first that is met a second time
+pub record IsRepeated (names : List Text) (name : Text) : Type 0 where
+  pub place : ℕ
+  pub is_there : slice_get names place ≡ Some name
+  pub is_before : Contains (take place names) name
+  pub is_first : IsDistinct bytes_eq (take place names)

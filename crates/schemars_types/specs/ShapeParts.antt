@@ -1,0 +1,116 @@
+-- A shape by what it holds, and when two shapes are equal.
+use Rattle.std.specs.Prelude.{◌≡◌, ℕ, ◌==◌, ◌&&◌, List, [], ◌∷◌, Bool, true, false, not, Option, Some, None, unwrap_or, refl, if◌then◌else◌, bytes_eq}
+use Rattle.std.specs.Option.{option_eq}
+use Rattle.schemars_schema.specs.Json.{Text, members_eq}
+use Rattle.schemars_types.specs.declared.shape.IntKind.{IntKind}
+use Rattle.schemars_types.specs.declared.shape.IntKind.TheVariants.{I8}
+use Rattle.schemars_types.specs.IntKind.{kind_eq}
+use Rattle.schemars_types.specs.Shape.{Required, Field, Shape, Entry, null, bool, int, non_zero, number, text, char, formatted, any, bytes, schema_itself, option, seq, struct, newtype}
+
+-- its place among the shapes
+abbrev pub kind_of : Shape → ℕ
+kind_of null = 0
+kind_of bool = 1
+kind_of (int k) = 2
+kind_of (non_zero k) = 3
+kind_of number = 4
+kind_of text = 5
+kind_of char = 6
+kind_of (formatted f) = 7
+kind_of any = 8
+kind_of bytes = 9
+kind_of schema_itself = 10
+kind_of (option n) = 11
+kind_of (seq n) = 12
+kind_of (struct list closed) = 13
+kind_of (newtype n) = 14
+
+abbrev pub int_kind_in : Shape → Option IntKind
+int_kind_in (int k) = Some k
+int_kind_in (non_zero k) = Some k
+int_kind_in _ = None
+
+abbrev pub format_in : Shape → Option Text
+format_in (formatted f) = Some f
+format_in _ = None
+
+-- the row that it is made of, where it is made of one
+abbrev pub part_of : Shape → Option ℕ
+part_of (option n) = Some n
+part_of (seq n) = Some n
+part_of (newtype n) = Some n
+part_of _ = None
+
+abbrev pub fields_in : Shape → Option (List Field × Bool)
+fields_in (struct list closed) = Some (list, closed)
+fields_in _ = None
+
+abbrev pub Holdings : Type 0
+Holdings = Option IntKind × (Option Text × (Option ℕ × Option (List Field × Bool)))
+
+abbrev pub Parts : Type 0
+Parts = ℕ × Holdings
+
+abbrev pub parts_of : Shape → Parts
+parts_of s = (kind_of s, (int_kind_in s, (format_in s, (part_of s, fields_in s))))
+
+-- the shape that has these parts
+abbrev pub shape_from : Parts → Shape
+shape_from p =
+    let kind = p.0 in
+    let int_kind = unwrap_or p.1.0 I8 in
+    let format = unwrap_or p.1.1.0 [] in
+    let part = unwrap_or p.1.1.1.0 0 in
+    let fields = unwrap_or p.1.1.1.1 ([], false) in
+    if kind == 0 then null else (if kind == 1 then bool else (if kind == 2 then int int_kind else (if kind == 3 then non_zero int_kind else (if kind == 4 then number else (if kind == 5 then text
+    else (if kind == 6 then char else (if kind == 7 then formatted format else (if kind == 8 then any else (if kind == 9 then bytes else (if kind == 10 then schema_itself
+    else (if kind == 11 then option part else (if kind == 12 then seq part else (if kind == 13 then struct fields.0 fields.1 else newtype part)))))))))))))
+
+pub shape_from-parts_of : (s : Shape) → shape_from (parts_of s) ≡ s
+shape_from-parts_of null = refl
+shape_from-parts_of bool = refl
+shape_from-parts_of (int k) = refl
+shape_from-parts_of (non_zero k) = refl
+shape_from-parts_of number = refl
+shape_from-parts_of text = refl
+shape_from-parts_of char = refl
+shape_from-parts_of (formatted f) = refl
+shape_from-parts_of any = refl
+shape_from-parts_of bytes = refl
+shape_from-parts_of schema_itself = refl
+shape_from-parts_of (option n) = refl
+shape_from-parts_of (seq n) = refl
+shape_from-parts_of (struct list closed) = refl
+shape_from-parts_of (newtype n) = refl
+
+abbrev pub bool_eq : Bool → Bool → Bool
+bool_eq a b = if a then b else not b
+
+abbrev pub required_eq : Required → Required → Bool
+required_eq a b = bool_eq a.deserialize b.deserialize && bool_eq a.serialize b.serialize
+
+-- notes are compared as JSON values, where a number that is no 64-bit whole number equals nothing
+abbrev pub field_eq : Field → Field → Bool
+field_eq a b = bytes_eq a.name b.name && (a.ty == b.ty && (required_eq a.required b.required && members_eq a.notes b.notes))
+
+-- the order of the fields counts
+abbrev pub list_eq : List Field → List Field → Bool
+list_eq [] [] = true
+list_eq [] (g ∷ gs) = false
+list_eq (f ∷ fs) [] = false
+list_eq (f ∷ fs) (g ∷ gs) = field_eq f g && list_eq fs gs
+
+abbrev pub fields_eq : List Field × Bool → List Field × Bool → Bool
+fields_eq a b = bool_eq a.1 b.1 && list_eq a.0 b.0
+
+abbrev pub holdings_eq : Holdings → Holdings → Bool
+holdings_eq p q = option_eq kind_eq p.0 q.0 && (option_eq bytes_eq p.1.0 q.1.0 && (option_eq (λ m n. m == n) p.1.1.0 q.1.1.0 && option_eq fields_eq p.1.1.1 q.1.1.1))
+
+abbrev pub parts_eq : Parts → Parts → Bool
+parts_eq p q = (p.0 == q.0) && holdings_eq p.1 q.1
+
+abbrev pub shape_eq : Shape → Shape → Bool
+shape_eq s t = parts_eq (parts_of s) (parts_of t)
+
+abbrev pub entry_eq : Entry → Entry → Bool
+entry_eq a b = bool_eq a.inline b.inline && (shape_eq a.shape b.shape && members_eq a.notes b.notes)
