@@ -1,5 +1,5 @@
 //! Names in references: JSON Pointers in the fragment of a URI.
-ghost use Rattle.std.specs.Prelude.{◌≡◌, ◌≢◌, ◌∷◌, ◌++◌, ◌<◌, ◌+◌, Some, option_map, string_bytes, All, IfOk, OnOk, IsOkAnd, IsSomeAnd, IfSome, IsTrue, is_some, length};
+ghost use Rattle.std.specs.Prelude.{◌≡◌, ◌≢◌, ◌∷◌, ◌++◌, ◌<◌, Some, option_map, string_bytes, All, IfOk, OnOk, IsOkAnd, IsSomeAnd, IfSome, IsTrue, is_some, length};
 ghost use Rattle.std.specs.List.{list_all};
 ghost use Rattle.std.specs.Cow.{cow_str_bytes, IsBorrowedStr};
 ghost use Rattle.serde_json.specs.Data.{Data, object, Members};
@@ -14,9 +14,9 @@ use std::borrow::CowStr;
 /// The name as a token of a JSON Pointer in a URI fragment (RFC 6901, section 6; RFC 3986,
 /// section 3.5): where `#path` leads to an object, `#path/token` leads to its member at the name.
 ///
-/// `~` becomes `~0` and `/` becomes `~1`. The bytes `!`, `$`, `&` to `;`, `=`, `?` to `Z`, `_` and
-/// `a` to `z` stay. Every other byte of the UTF-8 text becomes `%` and two upper-case hexadecimal
-/// digits. A name that needs no change is borrowed.
+/// `~` becomes `~0` and `/` becomes `~1`. Of the other bytes `!`, `$`, `&` to `;`, `=`, `?` to `Z`,
+/// `_` and `a` to `z` stay, and each of the rest becomes `%` and two upper-case hexadecimal digits.
+/// A name that needs no change is borrowed.
 pub fn encode_ref_name<'n>(alloc: Global, name: &'n str) -> Result<CowStr<'n>, AllocError>
     ensures encoded { IfOk result (λ token. cow_str_bytes token ≡ encoded name.now) }
     ensures borrows { encoded name.now ≡ name.now → IsOkAnd result IsBorrowedStr }
