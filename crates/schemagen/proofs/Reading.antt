@@ -16,7 +16,7 @@ use Rattle.schemars_schema.specs.Json.{Text}
 use Rattle.schemars_types.specs.Shape.{Entry, numbers_of}
 use Rattle.schemars_types.specs.Rows.{Row, place_of, with_entry, defined, reserved}
 use Rattle.schemars_types.specs.Refusals.{refusal_of}
-use Rattle.schemagen.specs.Input.{input_of, number_in, unentered, has_only, needed, row_names, heading_in, entry_in, row_in, rows_in, all_differ, ids_of, are_none, is_plain, are_plain, is_table}
+use Rattle.schemagen.specs.Input.{input_of, number_in, unentered, has_only, needed, row_names, heading_in, entry_in, row_in, rows_in, all_differ, ids_of, are_none, is_struct, is_plain, are_plain, is_table}
 use Rattle.schemagen.specs.Reading.{headings_in, reserved_after, plain_after}
 
 -- ---- options
@@ -311,7 +311,8 @@ defining_is_not_refused rows n types row e is here before plain =
     fits done r rs f none plain =
         let inside = is_within done rs r in
         let past : nat_le (length (done ++ r ∷ rs)) (length done) ≡ false = above _ _ inside in
-        let numbers = (both (are_none f.notes) (list_all (λ m. nat_lt m (length done)) (numbers_of f.shape)) (both f.inline _ plain).1).1 in
+        let shaped = (both (are_none f.notes) (not (is_struct f.shape) && list_all (λ m. nat_lt m (length done)) (numbers_of f.shape)) (both f.inline _ plain).1).1 in
+        let numbers = (both (not (is_struct f.shape)) (list_all (λ m. nat_lt m (length done)) (numbers_of f.shape)) shaped).1 in
         let known = none_unknown (numbers_of f.shape) (length done) (length (done ++ r ∷ rs)) (omega arith) numbers in
         rw (past, known, slice_get-middle done rs r, none)
 

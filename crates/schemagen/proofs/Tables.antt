@@ -1,5 +1,5 @@
 -- What the generator asks of a table holds of each input.
-use Rattle.std.proofs.Common.{◌≡◌, ◌+◌, ◌<◌, ℕ, zero, suc, nat_lt, List, [], ◌∷◌, ◌++◌, length, Bool, true, false, ◌&&◌, Option, Some, None, option_and_then, cond, codes, refl, ap, ◌∙◌, sym, arith, subst, get_or, String, Global, string_bytes, IsTrue, ◌↔◌}
+use Rattle.std.proofs.Common.{◌≡◌, ◌+◌, ◌<◌, ℕ, zero, suc, nat_lt, List, [], ◌∷◌, ◌++◌, length, Bool, true, false, not, ◌&&◌, Option, Some, None, option_and_then, cond, codes, refl, ap, ◌∙◌, sym, arith, subst, get_or, String, Global, string_bytes, IsTrue, ◌↔◌}
 use Rattle.std.specs.Str.{bytes_eq}
 use Rattle.std.proofs.lemmas.Slice.Eq.{bytes_eq-Decides}
 use Rattle.std.specs.List.{list_all}
@@ -91,7 +91,7 @@ none_have_float (member k d ms) h = cc
 no_struct : (rows : List Row) (root n : ℕ) (e : Entry) → is_table rows root ≡ true → entry_at rows n ≡ Some e → not (is_struct e.shape) ≡ true
 no_struct rows root n e table there =
     let plain = both e.inline _ (plain_entry 0 rows n e (are_plain_rows rows root table) there) in
-    (both (not (is_struct e.shape)) (list_all (λ m. nat_lt m n) (numbers_of e.shape)) (both (are_none e.notes) _ plain.1).1).0
+    (both (not (is_struct e.shape)) _ (both (are_none e.notes) _ plain.1).1).0
 
 plain_shape : (s : Shape) → not (is_struct s) ≡ true → IsPlainShape s
 plain_shape (shape.struct fields closed) h = cc
