@@ -84,6 +84,25 @@ fn assert_document(
 }
 
 #[test]
+fn writes_the_title_of_the_root(rt: HostRuntime) -> Result<(), Fail> {
+    let any = br#"{"types":[{"id":"any","name":"AnyValue","inline":true,"shape":"any"}],"root":0}"#;
+    let ended = run_over(rt.alloc(), &WORDS, any)?;
+    let wanted = "{\"$schema\":\"https://json-schema.org/draft/2020-12/schema\",\
+        \"title\":\"AnyValue\"}\n";
+    assert_eq!(rt; ended.written.as_slice(), wanted.as_bytes());
+    let option = br#"{"types":[
+        {"id":"NonZeroI8","name":"NonZeroI8","inline":true,"shape":{"nonzero":"i8"}},
+        {"id":"option","name":"Nullable_NonZeroI8","inline":true,"shape":{"option":0}}
+    ],"root":1}"#;
+    let ended = run_over(rt.alloc(), &WORDS, option)?;
+    let wanted = "{\"$schema\":\"https://json-schema.org/draft/2020-12/schema\",\
+        \"title\":\"Nullable_NonZeroI8\",\"type\":[\"integer\",\"null\"],\"format\":\"int8\",\
+        \"maximum\":127,\"minimum\":-128,\"not\":{\"const\":0}}\n";
+    assert_eq!(rt; ended.written.as_slice(), wanted.as_bytes());
+    Ok(())
+}
+
+#[test]
 fn writes_each_plain_shape(rt: HostRuntime) -> Result<(), Fail> {
     for (shape, rest) in [
         (r#""null""#, r#","type":"null""#),
