@@ -1,15 +1,23 @@
 -- What the definition of an input says of some texts.
-use Rattle.std.proofs.Common.{◌≡◌, ℕ, List, [], ◌∷◌, Option, Some, None, option_and_then, codes, refl}
+use Rattle.std.proofs.Common.{◌≡◌, ℕ, List, [], ◌∷◌, true, false, Option, Some, None, option_and_then, codes, refl}
 use Rattle.serde_json.specs.Read.{read}
 use Rattle.serde_json.proofs.OnLiterals.{serde_json_on_literals}
 use Rattle.schemars_schema.specs.Json.{Text}
-use Rattle.schemars_types.specs.declared.shape.IntKind.TheVariants.{U8, I128}
-use Rattle.schemars_types.specs.Shape.{Shape, in_place, int, non_zero, formatted, char, option, seq}
+use Rattle.serde_json.specs.Data.{no_members}
+use Rattle.schemars_types.specs.declared.shape.IntKind.TheVariants.{U8, I32, I128}
+use Rattle.schemars_types.specs.Shape.{Shape, Field, Required, without_notes, in_place, int, non_zero, formatted, char, option, seq, struct}
 use Rattle.schemars_types.specs.Rows.{Row}
-use Rattle.schemagen.specs.Input.{input_of}
+use Rattle.schemagen.specs.Input.{input_of, required}
 
 row : Text → Text → Shape → Row
 row id name shape = record { id = id; name = name; entry = Some (in_place shape) }
+
+-- a row that is referred to by its name
+named : Text → Shape → Row
+named name shape = record { id = name; name = name; entry = Some (without_notes false shape) }
+
+field : Text → ℕ → Required → Field
+field name ty need = record { name = name; ty = ty; required = need; notes = no_members }
 
 -- the input that a text says
 said : Text → Option (List Row × ℕ)
@@ -31,6 +39,44 @@ root_below : said (codes "{\"types\":[{\"id\":\"a\",\"name\":\"a\",\"inline\":tr
 unfolding serde_json_on_literals said row
 root_below = refl
 
+-- a struct that refers to itself through its option
+node : said (codes "{\"types\":[{\"id\":\"int32\",\"name\":\"int32\",\"inline\":true,\"shape\":{\"int\":\"i32\"}},{\"id\":\"Node\",\"name\":\"Node\",\"shape\":{\"struct\":{\"fields\":[{\"name\":\"value\",\"type\":0,\"required\":true},{\"name\":\"next\",\"type\":2,\"required\":false}]}}},{\"id\":\"Option<Node>\",\"name\":\"Nullable_Node\",\"inline\":true,\"shape\":{\"option\":1}}],\"root\":1}")
+    ≡ Some (row (codes "int32") (codes "int32") (int I32) ∷ named (codes "Node") (struct (field (codes "value") 0 (required true true) ∷ field (codes "next") 2 (required false false) ∷ []) false) ∷ row (codes "Option<Node>") (codes "Nullable_Node") (option 1) ∷ [], 1)
+unfolding serde_json_on_literals said row named field
+node = refl
+
+-- it is said for both contracts at once, or for each; a missing one is true
+required_by_contract : said (codes "{\"types\":[{\"id\":\"a\",\"name\":\"a\",\"shape\":{\"struct\":{\"closed\":true,\"fields\":[{\"type\":0,\"name\":\"b\"},{\"name\":\"b\",\"type\":0,\"notes\":{},\"required\":{\"serialize\":true,\"deserialize\":false}}]}}}],\"root\":0}")
+    ≡ Some (named (codes "a") (struct (field (codes "b") 0 (required true true) ∷ field (codes "b") 0 (required false true) ∷ []) true) ∷ [], 0)
+unfolding serde_json_on_literals said named field
+required_by_contract = refl
+
+no_fields : said (codes "{\"types\":[{\"id\":\"a\",\"name\":\"a\",\"shape\":{\"struct\":{}}}],\"root\":0}") ≡ Some (named (codes "a") (struct [] false) ∷ [], 0)
+unfolding serde_json_on_literals said named
+no_fields = refl
+
+-- a row may refer to itself, and to a later one
+any_row : said (codes "{\"types\":[{\"id\":\"a\",\"name\":\"a\",\"shape\":{\"seq\":1}},{\"id\":\"b\",\"name\":\"b\",\"shape\":{\"seq\":1}}],\"root\":0}")
+    ≡ Some (named (codes "a") (seq 1) ∷ named (codes "b") (seq 1) ∷ [], 0)
+unfolding serde_json_on_literals said named
+any_row = refl
+
+required_by_one_contract : said (codes "{\"types\":[{\"id\":\"a\",\"name\":\"a\",\"shape\":{\"struct\":{\"fields\":[{\"name\":\"b\",\"type\":0,\"required\":{\"serialize\":true}}]}}}],\"root\":0}") ≡ None
+unfolding serde_json_on_literals said
+required_by_one_contract = refl
+
+field_of_no_row : said (codes "{\"types\":[{\"id\":\"a\",\"name\":\"a\",\"shape\":{\"struct\":{\"fields\":[{\"name\":\"b\",\"type\":1}]}}}],\"root\":0}") ≡ None
+unfolding serde_json_on_literals said
+field_of_no_row = refl
+
+field_with_notes : said (codes "{\"types\":[{\"id\":\"a\",\"name\":\"a\",\"shape\":{\"struct\":{\"fields\":[{\"name\":\"b\",\"type\":0,\"notes\":{\"title\":\"t\"}}]}}}],\"root\":0}") ≡ None
+unfolding serde_json_on_literals said
+field_with_notes = refl
+
+with_flatten : said (codes "{\"types\":[{\"id\":\"a\",\"name\":\"a\",\"shape\":{\"struct\":{\"fields\":[],\"flatten\":[]}}}],\"root\":0}") ≡ None
+unfolding serde_json_on_literals said
+with_flatten = refl
+
 no_rows : said (codes "{\"types\":[],\"root\":0}") ≡ None
 unfolding serde_json_on_literals said
 no_rows = refl
@@ -47,10 +93,6 @@ null_for_missing : said (codes "{\"types\":[{\"id\":\"a\",\"name\":\"a\",\"inlin
 unfolding serde_json_on_literals said
 null_for_missing = refl
 
-not_inline : said (codes "{\"types\":[{\"id\":\"a\",\"name\":\"a\",\"shape\":\"any\"}],\"root\":0}") ≡ None
-unfolding serde_json_on_literals said
-not_inline = refl
-
 with_notes : said (codes "{\"types\":[{\"id\":\"a\",\"name\":\"a\",\"inline\":true,\"notes\":{\"title\":\"t\"},\"shape\":\"any\"}],\"root\":0}") ≡ None
 unfolding serde_json_on_literals said
 with_notes = refl
@@ -59,9 +101,9 @@ id_twice : said (codes "{\"types\":[{\"id\":\"a\",\"name\":\"a\",\"inline\":true
 unfolding serde_json_on_literals said
 id_twice = refl
 
-own_number : said (codes "{\"types\":[{\"id\":\"a\",\"name\":\"a\",\"inline\":true,\"shape\":{\"seq\":0}}],\"root\":0}") ≡ None
+number_of_no_row : said (codes "{\"types\":[{\"id\":\"a\",\"name\":\"a\",\"shape\":{\"seq\":1}}],\"root\":0}") ≡ None
 unfolding serde_json_on_literals said
-own_number = refl
+number_of_no_row = refl
 
 float_number : said (codes "{\"types\":[{\"id\":\"a\",\"name\":\"a\",\"inline\":true,\"shape\":\"any\"}],\"root\":-0}") ≡ None
 unfolding serde_json_on_literals said

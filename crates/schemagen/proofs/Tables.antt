@@ -1,8 +1,8 @@
 -- What the generator asks of a table holds of each input.
-use Rattle.std.proofs.Common.{◌≡◌, ◌+◌, ◌<◌, ℕ, zero, suc, nat_lt, List, [], ◌∷◌, ◌++◌, length, Bool, true, false, not, ◌&&◌, Option, Some, None, option_and_then, cond, codes, refl, ap, ◌∙◌, sym, arith, subst, get_or, String, Global, string_bytes, IsTrue, ◌↔◌}
+use Rattle.std.proofs.Common.{◌≡◌, ◌<◌, ℕ, zero, suc, nat_lt, List, [], ◌∷◌, ◌++◌, length, map, Bool, true, false, ◌&&◌, Option, Some, None, option_and_then, cond, codes, refl, ap, ◌∙◌, sym, subst, inl, true≢false}
 use Rattle.std.specs.Str.{bytes_eq}
 use Rattle.std.proofs.lemmas.Slice.Eq.{bytes_eq-Decides}
-use Rattle.std.specs.List.{list_all}
+use Rattle.std.specs.List.{list_all, AllByRecursion, IsDistinct}
 use Rattle.std.specs.Option.{option_map_or}
 use borrow.Author.Tests.{ltb-true}
 use Rattle.serde_json.specs.Data.{Data, Members, no_members, member}
@@ -12,73 +12,39 @@ use Rattle.schemars_schema.specs.Json.{Text}
 use Rattle.schemars_schema.specs.OrderedText.{ordered_text}
 use Rattle.schemars_schema.specs.Annotations.{AreNotes}
 use Rattle.schemars_types.specs.Shape as shape
-use Rattle.schemars_types.specs.Shape.{Entry, Shape, numbers_of}
+use Rattle.schemars_types.specs.Shape.{Field, Entry, Shape, numbers_of}
 use Rattle.schemars_types.specs.Rows.{Row, entry_at}
-use Rattle.schemars_types.specs.InOrder.{AllBelow, IsInOrder}
-use Rattle.schemars_types.specs.Meaning.{Deserialize}
-use Rattle.schemars.specs.Headline.{Headline, IsRootOf}
-use Rattle.schemars.specs.PlainTable.{IsPlainShape, IsPlainEntry, IsPlainTable, ShapeHasNoFloat, EntryHasNoFloat, HasNoFloat}
-use Rattle.schemars.specs.State.{Settings, settings2020_12}
-use Rattle.schemagen.specs.Input.{input_of, has_only, needed, number_in, rows_in, all_differ, ids_of, are_none, is_struct, is_plain, are_plain, is_table}
-use Rattle.schemagen.specs.Run.{IsLineOf, AreKnown}
+use Rattle.schemars_types.specs.Edges.{names_of}
+use Rattle.schemars_types.specs.Faults.{IsChecked}
+use Rattle.schemars.specs.declared.contract.Contract.{Contract}
+use Rattle.schemars.specs.Headline.{Headline, IsRootOf, IsDraftPath}
+use Rattle.schemars.specs.Naming.{contract_of}
+use Rattle.schemars.specs.PlainTable.{IsNoName, AreDistinct, AreNoted, IsPlainShape, IsPlainEntry, IsPlainTable, FieldsHaveNoFloat, ShapeHasNoFloat, EntryHasNoFloat, HasNoFloat}
+use Rattle.schemars.specs.State.{Settings, State, plan_of, HasOwnDefinitions}
+use Rattle.schemars.specs.Work.{Work}
+use Rattle.schemagen.specs.Input.{input_of, has_only, needed, number_in, rows_in, all_differ, ids_of, are_none, are_fields_bare, is_bare, refers_within, fits, all_fit, is_table}
+use Rattle.schemagen.specs.Run.{settings_for, fresh, IsLineOf}
 
-both : (a b : Bool) → a && b ≡ true → (a ≡ true) × (b ≡ true)
+pub both : (a b : Bool) → a && b ≡ true → (a ≡ true) × (b ≡ true)
 both true b e = (refl, e)
 both false b e = cc
 
-are_plain_rows : (rows : List Row) (root : ℕ) → is_table rows root ≡ true → are_plain 0 rows ≡ true
-are_plain_rows rows root table = (both (are_plain 0 rows) (nat_lt root (length rows)) (both (all_differ (ids_of rows)) _ table).1).0
+all_rows_fit : (rows : List Row) (root : ℕ) → is_table rows root ≡ true → all_fit (length rows) rows ≡ true
+all_rows_fit rows root table = (both (all_fit (length rows) rows) (nat_lt root (length rows)) (both (all_differ (ids_of rows)) _ table).1).0
 
-pub root_is_within : (rows : List Row) (root : ℕ) → is_table rows root ≡ true → root < length rows
-root_is_within rows root table = ltb-true root (length rows) (both (are_plain 0 rows) (nat_lt root (length rows)) (both (all_differ (ids_of rows)) _ table).1).1
+root_is_within : (rows : List Row) (root : ℕ) → is_table rows root ≡ true → root < length rows
+root_is_within rows root table = ltb-true root (length rows) (both (all_fit (length rows) rows) (nat_lt root (length rows)) (both (all_differ (ids_of rows)) _ table).1).1
 
-defined_here : (n : ℕ) (o : Option Entry) → option_map_or (is_plain n) o false ≡ true → (e : Entry) × (o ≡ Some e) × (is_plain n e ≡ true)
-defined_here n None h = cc
-defined_here n (Some e) h = (e, refl, h)
+-- what stands in row n fits
+entry_fits : (count : ℕ) (rows : List Row) (n : ℕ) (e : Entry) → all_fit count rows ≡ true → entry_at rows n ≡ Some e → fits count e ≡ true
+entry_fits count [] n e fit there = cc
+entry_fits count (r ∷ rows) zero e fit there = rw there at ((both (option_map_or (fits count) r.entry false) (all_fit count rows) fit).0)
+entry_fits count (r ∷ rows) (suc n) e fit there = entry_fits count rows n e (both (option_map_or (fits count) r.entry false) (all_fit count rows) fit).1 there
 
--- row n has an entry, and a plain one
-plain_at : (k : ℕ) (rows : List Row) (n : ℕ) → are_plain k rows ≡ true → n < length rows → (e : Entry) × (entry_at rows n ≡ Some e) × (is_plain (k + n) e ≡ true)
-plain_at k [] n plain within = absurd (omega arith)
-plain_at k (r ∷ rows) zero plain within =
-    let here = defined_here k r.entry (both (option_map_or (is_plain k) r.entry false) (are_plain (k + 1) rows) plain).0 in
-    let at : k ≡ k + zero = omega arith in
-    (here.0, here.1, ap (λ (m : ℕ). is_plain m here.0) (sym at) ∙ here.2)
-plain_at k (r ∷ rows) (suc n) plain within =
-    let there = plain_at (k + 1) rows n (both (option_map_or (is_plain k) r.entry false) (are_plain (k + 1) rows) plain).1 (omega arith) in
-    let at : k + 1 + n ≡ k + suc n = omega arith in
-    (there.0, there.1, ap (λ (m : ℕ). is_plain m there.0) (sym at) ∙ there.2)
+entry_is_bare : (rows : List Row) (root n : ℕ) (e : Entry) → is_table rows root ≡ true → entry_at rows n ≡ Some e → (are_none e.notes ≡ true) × (are_fields_bare e.shape ≡ true)
+entry_is_bare rows root n e table there = both (are_none e.notes) (are_fields_bare e.shape) (both (is_bare e) (refers_within (length rows) e) (entry_fits (length rows) rows n e (all_rows_fit rows root table) there)).0
 
-plain_entry : (k : ℕ) (rows : List Row) (n : ℕ) (e : Entry) → are_plain k rows ≡ true → entry_at rows n ≡ Some e → is_plain (k + n) e ≡ true
-plain_entry k [] n e plain there = cc
-plain_entry k (r ∷ rows) zero e plain there =
-    let here = defined_here k r.entry (both (option_map_or (is_plain k) r.entry false) (are_plain (k + 1) rows) plain).0 in
-    let at : k + zero ≡ k = omega arith in
-    let same : here.0 ≡ e = some_same here.0 e (sym here.1 ∙ there) in
-    ap (λ (m : ℕ). is_plain m e) at ∙ ap (λ (f : Entry). is_plain k f) (sym same) ∙ here.2
-  where
-    some_same : (a b : Entry) → Some a ≡ Some b → a ≡ b
-    some_same a b e = cc
-plain_entry k (r ∷ rows) (suc n) e plain there =
-    let at : k + suc n ≡ k + 1 + n = omega arith in
-    ap (λ (m : ℕ). is_plain m e) at ∙ plain_entry (k + 1) rows n e (both (option_map_or (is_plain k) r.entry false) (are_plain (k + 1) rows) plain).1 there
-
-all_below : (n : ℕ) (ms : List ℕ) → list_all (λ m. nat_lt m n) ms ≡ true → AllBelow n ms
-all_below n [] h = tt
-all_below n (m ∷ ms) h = let parts = both (nat_lt m n) (list_all (λ m. nat_lt m n) ms) h in (ltb-true m n parts.0, all_below n ms parts.1)
-
--- each row is defined, inline and refers to lower rows alone
-pub is_in_order : (rows : List Row) (root : ℕ) → is_table rows root ≡ true → IsInOrder rows
-is_in_order rows root table n within =
-    let found = plain_at 0 rows n (are_plain_rows rows root table) within in
-    let e = found.0 in
-    let at : 0 + n ≡ n = omega arith in
-    let plain = both e.inline (are_none e.notes && (not (is_struct e.shape) && list_all (λ m. nat_lt m n) (numbers_of e.shape))) (ap (λ (m : ℕ). is_plain m e) (sym at) ∙ found.2) in
-    let shaped = (both (are_none e.notes) _ plain.1).1 in
-    record { entry = e; is_there = found.1; is_inline = plain.0; below = all_below n (numbers_of e.shape) (both (not (is_struct e.shape)) _ shaped).1 }
-
-without_notes : (rows : List Row) (root n : ℕ) (e : Entry) → is_table rows root ≡ true → entry_at rows n ≡ Some e → are_none e.notes ≡ true
-without_notes rows root n e table there =
-    (both (are_none e.notes) _ (both e.inline _ (plain_entry 0 rows n e (are_plain_rows rows root table) there)).1).0
+-- ---- without notes
 
 none_are_notes : (ms : Members) → are_none ms ≡ true → AreNotes ms
 none_are_notes no_members h = tt
@@ -88,30 +54,20 @@ none_have_float : (ms : Members) → are_none ms ≡ true → members_have_float
 none_have_float no_members h = refl
 none_have_float (member k d ms) h = cc
 
-no_struct : (rows : List Row) (root n : ℕ) (e : Entry) → is_table rows root ≡ true → entry_at rows n ≡ Some e → not (is_struct e.shape) ≡ true
-no_struct rows root n e table there =
-    let plain = both e.inline _ (plain_entry 0 rows n e (are_plain_rows rows root table) there) in
-    (both (not (is_struct e.shape)) _ (both (are_none e.notes) _ plain.1).1).0
+bare_are_noted : (fs : List Field) → list_all (λ f. are_none f.notes) fs ≡ true → AreNoted fs
+bare_are_noted [] h = tt
+bare_are_noted (f ∷ fs) h =
+    let parts = both (are_none f.notes) (list_all (λ g. are_none g.notes) fs) h in
+    (none_are_notes f.notes parts.0, bare_are_noted fs parts.1)
 
-plain_shape : (s : Shape) → not (is_struct s) ≡ true → IsPlainShape s
-plain_shape (shape.struct fields closed) h = cc
-plain_shape shape.null h = tt
-plain_shape shape.bool h = tt
-plain_shape (shape.int k) h = tt
-plain_shape (shape.non_zero k) h = tt
-plain_shape shape.number h = tt
-plain_shape shape.text h = tt
-plain_shape shape.char h = tt
-plain_shape (shape.formatted g) h = tt
-plain_shape shape.any h = tt
-plain_shape shape.bytes h = tt
-plain_shape shape.schema_itself h = tt
-plain_shape (shape.option n) h = tt
-plain_shape (shape.seq n) h = tt
-plain_shape (shape.newtype n) h = tt
+bare_have_no_float : (fs : List Field) → list_all (λ f. are_none f.notes) fs ≡ true → FieldsHaveNoFloat fs
+bare_have_no_float [] h = tt
+bare_have_no_float (f ∷ fs) h =
+    let parts = both (are_none f.notes) (list_all (λ g. are_none g.notes) fs) h in
+    (none_have_float f.notes parts.0, bare_have_no_float fs parts.1)
 
-shape_without_float : (s : Shape) → not (is_struct s) ≡ true → ShapeHasNoFloat s
-shape_without_float (shape.struct fields closed) h = cc
+shape_without_float : (s : Shape) → are_fields_bare s ≡ true → ShapeHasNoFloat s
+shape_without_float (shape.struct fields closed) h = bare_have_no_float fields h
 shape_without_float shape.null h = tt
 shape_without_float shape.bool h = tt
 shape_without_float (shape.int k) h = tt
@@ -127,19 +83,58 @@ shape_without_float (shape.option n) h = tt
 shape_without_float (shape.seq n) h = tt
 shape_without_float (shape.newtype n) h = tt
 
-pub is_plain_table : (rows : List Row) (root : ℕ) → is_table rows root ≡ true → IsPlainTable rows
-is_plain_table rows root table n = at (entry_at rows n) refl
-  where
-    at : (o : Option Entry) → entry_at rows n ≡ o → IsPlainEntry o
-    at None there = tt
-    at (Some e) there = (none_are_notes e.notes (without_notes rows root n e table there), plain_shape e.shape (no_struct rows root n e table there))
+-- ---- names of fields
 
-pub has_no_float : (rows : List Row) (root : ℕ) → is_table rows root ≡ true → HasNoFloat rows
-has_no_float rows root table n = at (entry_at rows n) refl
+flipped : (a b : Text) → bytes_eq a b ≡ false → bytes_eq b a ≡ false
+flipped a b other = either (bytes_eq b a) refl
   where
-    at : (o : Option Entry) → entry_at rows n ≡ o → EntryHasNoFloat o
-    at None there = tt
-    at (Some e) there = (none_have_float e.notes (without_notes rows root n e table there), shape_without_float e.shape (no_struct rows root n e table there))
+    either : (c : Bool) → bytes_eq b a ≡ c → c ≡ false
+    either true same = absurd (true≢false (sym ((bytes_eq-Decides a b).1 (sym ((bytes_eq-Decides b a).0 same))) ∙ other))
+    either false same = refl
+
+no_name : (k : Text) (fs : List Field) → AllByRecursion (λ t. bytes_eq k t ≡ false) (map (λ f. f.name) fs) → IsNoName k fs
+no_name k [] h = tt
+no_name k (f ∷ fs) h = (flipped k f.name h.0, no_name k fs h.1)
+
+names_are_distinct : (fs : List Field) → IsDistinct bytes_eq (map (λ f. f.name) fs) → AreDistinct fs
+unfolding IsDistinct
+names_are_distinct [] h = tt
+names_are_distinct (f ∷ fs) h = (no_name f.name fs h.0, names_are_distinct fs h.1)
+
+plain_shape : (s : Shape) → are_fields_bare s ≡ true → IsDistinct bytes_eq (names_of s) → IsPlainShape s
+plain_shape (shape.struct fields closed) h differ = (names_are_distinct fields differ, bare_are_noted fields h)
+plain_shape shape.null h differ = tt
+plain_shape shape.bool h differ = tt
+plain_shape (shape.int k) h differ = tt
+plain_shape (shape.non_zero k) h differ = tt
+plain_shape shape.number h differ = tt
+plain_shape shape.text h differ = tt
+plain_shape shape.char h differ = tt
+plain_shape (shape.formatted g) h differ = tt
+plain_shape shape.any h differ = tt
+plain_shape shape.bytes h differ = tt
+plain_shape shape.schema_itself h differ = tt
+plain_shape (shape.option n) h differ = tt
+plain_shape (shape.seq n) h differ = tt
+plain_shape (shape.newtype n) h differ = tt
+
+-- ---- the table
+
+is_plain_table : (rows : List Row) (root : ℕ) → is_table rows root ≡ true → IsChecked rows → IsPlainTable rows
+is_plain_table rows root table checked n = by (entry_at rows n) refl
+  where
+    by : (o : Option Entry) → entry_at rows n ≡ o → IsPlainEntry o
+    by None there = tt
+    by (Some e) there =
+        let bare = entry_is_bare rows root n e table there in
+        (none_are_notes e.notes bare.0, plain_shape e.shape bare.1 (subst (λ (o : Option Entry). IsDistinct bytes_eq (option_map_or (λ f. names_of f.shape) o [])) there (checked.names_differ n)))
+
+has_no_float : (rows : List Row) (root : ℕ) → is_table rows root ≡ true → HasNoFloat rows
+has_no_float rows root table n = by (entry_at rows n) refl
+  where
+    by : (o : Option Entry) → entry_at rows n ≡ o → EntryHasNoFloat o
+    by None there = tt
+    by (Some e) there = let bare = entry_is_bare rows root n e table there in (none_have_float e.notes bare.0, shape_without_float e.shape bare.1)
 
 -- what an input gives is a table
 pub input_of-table : (d : Data) (rows : List Row) (root : ℕ) → input_of d ≡ Some (rows, root) → is_table rows root ≡ true
@@ -159,30 +154,34 @@ input_of-table d rows root e = by (has_only (codes "types" ∷ codes "root" ∷ 
     by true None r h = cc
     by false o r h = cc
 
+-- ---- a generator over the table
+
+pub fresh_of : (s : State) (settings : Settings) (contract : Contract) (rows : List Row) → settings ≡ settings_for contract
+    → s ≡ record { settings = settings; rows = rows; names = []; definitions = no_members } → s ≡ fresh contract rows
+fresh_of s settings contract rows same made =
+    made ∙ ap (λ (t : Settings). let state : State = record { settings = t; rows = rows; names = []; definitions = no_members } in state) same
+
+has_own_definitions : (contract : Contract) (rows : List Row) → HasOwnDefinitions (fresh contract rows)
+has_own_definitions contract rows name d there = cc
+
 -- what the generator says of a document
-abbrev pub Generated : List Row → Settings → ℕ → Data → Type 0
-Generated rows settings root document =
-    Headline rows Deserialize settings.definitions_path root document × IsRootOf rows Deserialize settings root document × (HasNoFloat rows → has_float document ≡ false)
+abbrev pub Generated : State → ℕ → Data → Type 0
+Generated s root document =
+    (HasOwnDefinitions s → IsDraftPath (plan_of s None).path → Headline s.rows (contract_of s.settings.contract) (plan_of s None).path root document)
+    × ((w : Work) × IsRootOf s root w document) × (HasNoFloat s.rows → HasOwnDefinitions s → has_float document ≡ false)
 
 -- the text of a root document, and a newline, is its line
-pub line_of_document : (rows known : List Row) (settings : Settings) (root : ℕ) (document : Data) (text line : Text) → is_table rows root ≡ true → known ≡ rows → settings ≡ settings2020_12
-    → Generated known settings root document → (has_float document ≡ false → text ≡ ordered_text document) → line ≡ text ++ 10 ∷ [] → IsLineOf rows root line
-line_of_document rows known settings root document text line table same_rows same_settings generated written ends =
-    let here : Generated rows settings2020_12 root document =
-    subst (λ (rs : List Row). Generated rs settings2020_12 root document) same_rows (subst (λ (s : Settings). Generated known s root document) same_settings generated) in
-    (document, (here.1, here.0 (is_plain_table rows root table)), ends ∙ ap (λ (t : Text). t ++ 10 ∷ []) (written (here.2 (has_no_float rows root table))))
+pub line_of_document : (s : State) (contract : Contract) (rows : List Row) (root : ℕ) (document : Data) (text line : Text) → is_table rows root ≡ true → IsChecked rows → s ≡ fresh contract rows
+    → Generated s root document → (has_float document ≡ false → text ≡ ordered_text document) → line ≡ text ++ 10 ∷ [] → IsLineOf contract rows root line
+line_of_document s contract rows root document text line table checked same generated written ends =
+    let here : Generated (fresh contract rows) root document = subst (λ (t : State). Generated t root document) same generated in
+    let own = has_own_definitions contract rows in
+    (document, (here.1, here.0 own (inl refl) (is_plain_table rows root table checked)), ends ∙ ap (λ (t : Text). t ++ 10 ∷ []) (written (here.2 (has_no_float rows root table) own)))
 
--- two words are compared one by one
-pub known_words : (words : List (String Global)) (a b : String Global) (y : Bool) → length words ≡ 2 → a ≡ get_or words 0 a → b ≡ get_or words 1 b
-    → bytes_eq (string_bytes a) (codes "types") ≡ true → y ≡ bytes_eq (string_bytes b) (codes "2020-12") → IsTrue y ↔ AreKnown words
-known_words [] a b y two first second is dialect = absurd (omega arith)
-known_words (u ∷ []) a b y two first second is dialect = absurd (omega arith)
-known_words (u ∷ v ∷ w ∷ ws) a b y two first second is dialect = absurd (omega arith)
-known_words (u ∷ v ∷ []) a b y two first second is dialect =
-    let command : string_bytes u ≡ codes "types" = ap string_bytes (sym first) ∙ (bytes_eq-Decides (string_bytes a) (codes "types")).0 is in
-    let decides = bytes_eq-Decides (string_bytes b) (codes "2020-12") in
-    let other : string_bytes v ≡ string_bytes b = ap string_bytes (sym second) in
-    (λ h. rw (command, other, decides.0 (sym dialect ∙ h)), λ e. dialect ∙ decides.1 (sym other ∙ last e))
-  where
-    last : {s t p q : Text} → s ∷ t ∷ [] ≡ p ∷ q ∷ [] → t ≡ q
-    last e = cc
+-- memory is all that its root document may want
+pub root_wants_only_memory : {P : Type 0} (s : State) (contract : Contract) (rows : List Row) (root : ℕ) → is_table rows root ≡ true → IsChecked rows → s ≡ fresh contract rows
+    → (IsPlainTable s.rows → IsDraftPath (plan_of s None).path → root < length s.rows → P) → P
+root_wants_only_memory {P} s contract rows root table checked same only =
+    let here : IsPlainTable rows → IsDraftPath (plan_of (fresh contract rows) None).path → root < length rows → P =
+    subst (λ (t : State). IsPlainTable t.rows → IsDraftPath (plan_of t None).path → root < length t.rows → P) same only in
+    here (is_plain_table rows root table checked) (inl refl) (root_is_within rows root table)

@@ -1,5 +1,5 @@
 -- The table that a JSON value says, and its root.
-use Rattle.std.specs.Prelude.{ℕ, ◌+◌, List, [], ◌∷◌, Bool, true, false, ◌&&◌, not, nat_lt, length, Option, Some, None, map, option_map, option_and_then, if◌then◌else◌, bytes_eq, codes}
+use Rattle.std.specs.Prelude.{ℕ, List, [], ◌∷◌, Bool, true, false, ◌&&◌, not, nat_lt, length, Option, Some, None, map, option_map, option_and_then, if◌then◌else◌, bytes_eq, codes}
 use Rattle.std.specs.List.{list_all, list_any}
 use Rattle.std.specs.Option.{option_map_or}
 use Rattle.serde_json.specs.Data.{Data, null, boolean, number, string, array, object, Items, no_items, item, Members, no_members, member}
@@ -8,7 +8,7 @@ use Rattle.schemars_schema.specs.Json.{Text}
 use Rattle.schemars_schema.specs.OrderedText.{is_listed}
 use Rattle.schemars_types.specs.declared.shape.IntKind.{IntKind}
 use Rattle.schemars_types.specs.declared.shape.IntKind.TheVariants.{I8, I16, I32, I64, I128, Isize, U8, U16, U32, U64, U128, Usize}
-use Rattle.schemars_types.specs.Shape.{Shape, Entry, null as null_shape, bool, int, non_zero, number as number_shape, text, char, formatted, any, bytes, schema_itself, option, seq, struct, newtype, numbers_of}
+use Rattle.schemars_types.specs.Shape.{Required, Field, Shape, Entry, null as null_shape, bool, int, non_zero, number as number_shape, text, char, formatted, any, bytes, schema_itself, option, seq, struct, newtype, numbers_of}
 use Rattle.schemars_types.specs.Rows.{Row, with_entry}
 
 -- ---- the members of an object
@@ -41,6 +41,10 @@ lone_in (member k d (member l e ms)) = None
 abbrev pub number_in : Data → Option ℕ
 number_in d = option_and_then as_u64 (as_number d)
 
+-- the notes of a row or a field: none where they are missing
+abbrev pub notes_in : Data → Option Members
+notes_in d = optional no_members as_object (codes "notes") d
+
 abbrev pub kind_named : Text → Option IntKind
 kind_named t =
     if bytes_eq t (codes "i8") then Some I8 else (if bytes_eq t (codes "i16") then Some I16 else (if bytes_eq t (codes "i32") then Some I32
@@ -50,6 +54,50 @@ kind_named t =
 
 abbrev pub kind_in : Data → Option IntKind
 kind_in d = option_and_then kind_named (as_str d)
+
+-- ---- fields
+
+abbrev pub required : Bool → Bool → Required
+required read written = record { deserialize = read; serialize = written }
+
+-- an object says it for values that are read, and for those that are written
+abbrev pub required_each : Data → Option Required
+required_each d =
+    if has_only (codes "deserialize" ∷ codes "serialize" ∷ []) d
+    then option_and_then (λ read. option_map (required read) (needed as_bool (codes "serialize") d)) (needed as_bool (codes "deserialize") d)
+    else None
+
+-- a truth value says it for both
+abbrev pub required_in : Data → Option Required
+required_in d = option_map_or (λ b. Some (required b b)) (as_bool d) (required_each d)
+
+abbrev pub field_names : List Text
+field_names = codes "name" ∷ codes "type" ∷ codes "required" ∷ codes "notes" ∷ []
+
+-- a field whose members are known by name
+abbrev pub field_of_members : Data → Option Field
+field_of_members d =
+    option_and_then (λ name. option_and_then (λ ty. option_and_then (λ need. option_map (λ notes. record { name = name; ty = ty; required = need; notes = notes }) (notes_in d))
+    (optional (required true true) required_in (codes "required") d)) (needed number_in (codes "type") d)) (needed as_str (codes "name") d)
+
+abbrev pub field_in : Data → Option Field
+field_in d = if has_only field_names d then field_of_members d else None
+
+abbrev pub fields_in : Items → Option (List Field)
+fields_in no_items = Some []
+fields_in (item d ds) = option_and_then (λ f. option_map (λ fs. f ∷ fs) (fields_in ds)) (field_in d)
+
+-- the fields of a struct: none where they are missing
+abbrev pub list_in : Data → Option (List Field)
+list_in d = optional [] (λ e. option_and_then fields_in (as_array e)) (codes "fields") d
+
+abbrev pub struct_in : Data → Option Shape
+struct_in d =
+    if has_only (codes "fields" ∷ codes "closed" ∷ []) d
+    then option_and_then (λ fields. option_map (struct fields) (optional false as_bool (codes "closed") d)) (list_in d)
+    else None
+
+-- ---- shapes
 
 -- the shapes that are said by a text
 abbrev pub shape_named : Text → Option Shape
@@ -63,7 +111,8 @@ abbrev pub shape_under : Text → Data → Option Shape
 shape_under name d =
     if bytes_eq name (codes "int") then option_map int (kind_in d) else (if bytes_eq name (codes "nonzero") then option_map non_zero (kind_in d)
     else (if bytes_eq name (codes "format") then option_map formatted (as_str d) else (if bytes_eq name (codes "option") then option_map option (number_in d)
-    else (if bytes_eq name (codes "seq") then option_map seq (number_in d) else (if bytes_eq name (codes "newtype") then option_map newtype (number_in d) else None)))))
+    else (if bytes_eq name (codes "seq") then option_map seq (number_in d) else (if bytes_eq name (codes "newtype") then option_map newtype (number_in d)
+    else (if bytes_eq name (codes "struct") then struct_in d else None))))))
 
 abbrev pub shape_in : Data → Option Shape
 shape_in null = None
@@ -81,7 +130,7 @@ row_names = codes "id" ∷ codes "name" ∷ codes "inline" ∷ codes "notes" ∷
 abbrev pub entry_in : Data → Option Entry
 entry_in d =
     option_and_then (λ inline. option_and_then (λ notes. option_map (λ shape. record { inline = inline; notes = notes; shape = shape }) (needed shape_in (codes "shape") d))
-    (optional no_members as_object (codes "notes") d)) (optional false as_bool (codes "inline") d)
+    (notes_in d)) (optional false as_bool (codes "inline") d)
 
 -- a row that has no entry yet
 abbrev pub unentered : Text → Text → Row
@@ -116,36 +165,29 @@ abbrev pub are_none : Members → Bool
 are_none no_members = true
 are_none (member k d ms) = false
 
--- no input says a struct
-abbrev pub is_struct : Shape → Bool
-is_struct null_shape = false
-is_struct bool = false
-is_struct (int k) = false
-is_struct (non_zero k) = false
-is_struct number_shape = false
-is_struct text = false
-is_struct char = false
-is_struct (formatted format) = false
-is_struct any = false
-is_struct bytes = false
-is_struct schema_itself = false
-is_struct (option n) = false
-is_struct (seq n) = false
-is_struct (struct fields closed) = true
-is_struct (newtype n) = false
+-- no field of a struct has notes
+abbrev pub are_fields_bare : Shape → Bool
+are_fields_bare (struct fields closed) = list_all (λ f. are_none f.notes) fields
+are_fields_bare _ = true
 
--- row n is written in place, has no notes, is no struct, and refers to lower rows alone
-abbrev pub is_plain : ℕ → Entry → Bool
-is_plain n e = e.inline && (are_none e.notes && (not (is_struct e.shape) && list_all (λ m. nat_lt m n) (numbers_of e.shape)))
+-- neither the row nor a field of it has notes
+abbrev pub is_bare : Entry → Bool
+is_bare e = are_none e.notes && are_fields_bare e.shape
 
--- so are these rows, the first of which has number n
-abbrev pub are_plain : ℕ → List Row → Bool
-are_plain n [] = true
-are_plain n (r ∷ rs) = option_map_or (is_plain n) r.entry false && are_plain (n + 1) rs
+-- every number in the entry is one of so many rows
+abbrev pub refers_within : ℕ → Entry → Bool
+refers_within count e = list_all (λ m. nat_lt m count) (numbers_of e.shape)
 
--- a table that has the root
+abbrev pub fits : ℕ → Entry → Bool
+fits count e = is_bare e && refers_within count e
+
+-- each row has an entry without notes, whose numbers are those of so many rows
+abbrev pub all_fit : ℕ → List Row → Bool
+all_fit count rows = list_all (λ r. option_map_or (fits count) r.entry false) rows
+
+-- A table that has the root: the ids all differ, every number in an entry is a row's, and there are no notes.
 abbrev pub is_table : List Row → ℕ → Bool
-is_table rows root = all_differ (ids_of rows) && (are_plain 0 rows && nat_lt root (length rows))
+is_table rows root = all_differ (ids_of rows) && (all_fit (length rows) rows && nat_lt root (length rows))
 
 -- the rows and the root that a value says
 abbrev pub input_of : Data → Option (List Row × ℕ)

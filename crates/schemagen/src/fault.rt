@@ -5,6 +5,30 @@ use std::fmt;
 /// Memory ran out.
 pub const OUT_OF_MEMORY: u32 = 1;
 
+/// A row was reserved and never defined.
+pub const UNDEFINED_TYPE: u32 = 2;
+
+/// A row's list of fields has a name twice.
+pub const REPEATED_NAME: u32 = 3;
+
+/// A row is on a cycle of rows that are written in place.
+pub const DIRECT_CYCLE: u32 = 4;
+
+/// A row is on a cycle of rows that have the values of the next.
+pub const EMPTY_CYCLE: u32 = 5;
+
+/// Another entry stands in a row.
+pub const ALREADY_DEFINED: u32 = 6;
+
+/// A table does not begin with the rows of another.
+pub const NOT_AN_EXTENSION: u32 = 7;
+
+/// A table has no row of a number.
+pub const UNKNOWN_TYPE: u32 = 8;
+
+/// Definitions can't be placed where they are to stand.
+pub const DEFINITIONS_PATH: u32 = 9;
+
 /// What was read is no JSON.
 pub const NOT_JSON: u32 = 20;
 
@@ -68,6 +92,14 @@ impl From<GenerateError> for Fault {
 fn name_of(code: u32) -> &'static str {
     match code {
         OUT_OF_MEMORY => "OutOfMemory",
+        UNDEFINED_TYPE => "UndefinedType",
+        REPEATED_NAME => "RepeatedName",
+        DIRECT_CYCLE => "DirectCycle",
+        EMPTY_CYCLE => "EmptyCycle",
+        ALREADY_DEFINED => "AlreadyDefined",
+        NOT_AN_EXTENSION => "NotAnExtension",
+        UNKNOWN_TYPE => "UnknownType",
+        DEFINITIONS_PATH => "DefinitionsPath",
         NOT_JSON => "NotJson",
         BAD_TABLE => "BadTable",
         READ => "Read",

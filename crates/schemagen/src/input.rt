@@ -1,18 +1,19 @@
 //! The table that a JSON value says.
-ghost use Rattle.std.specs.Prelude.{◌≡◌, ◌&&◌, not, [], false, None, Some, IfOk, IfErr, option_map, string_bytes, map, codes, nat_lt};
+ghost use Rattle.std.specs.Prelude.{◌≡◌, ◌&&◌, ◌∷◌, [], false, true, None, Some, IfOk, IfErr, option_map, string_bytes, length, map, codes};
 ghost use Rattle.std.specs.List.{list_all};
 ghost use Rattle.serde_json.specs.View.{view, items_view, members_view};
-ghost use Rattle.schemars_types.specs.Shape.{shape_of, entry_of, formatted, numbers_of};
+ghost use Rattle.schemars_types.specs.Shape.{shape_of, field_of, fields_view, required_of, entry_of, formatted, struct};
 ghost use Rattle.schemars_schema.specs.OrderedText.{is_listed};
-ghost use Rattle.schemagen.specs.Input.{has_only, lone_in, number_in, kind_named, kind_in, shape_named, shape_under, shape_in, entry_in, optional, needed};
-ghost use Rattle.schemagen.specs.Input.{heading_in, unentered, is_struct, is_plain, input_of};
-ghost use Rattle.schemagen.specs.Reading.{as_input, headings_in, reserved_after, plain_after};
-ghost use Rattle.serde_json.specs.Data.{no_members};
-ghost use Rattle.serde_json.specs.Find.{as_object, as_bool, as_str, as_array};
+ghost use Rattle.schemagen.specs.Input.{has_only, lone_in, number_in, notes_in, kind_named, kind_in, required, required_each, required_in, field_in, fields_in, list_in, struct_in};
+ghost use Rattle.schemagen.specs.Input.{shape_named, shape_under, shape_in, entry_in, optional, needed, heading_in, unentered, are_none, are_fields_bare, is_bare, input_of};
+ghost use Rattle.schemagen.specs.Reading.{as_input, headings_in, reserved_after, fitting_after};
+ghost use Rattle.serde_json.specs.Find.{as_bool, as_str, as_array};
 
-use schemars_types::{IntKind, Shape, TypeEntry, TypeNo, Types, TypesError};
+use schemars_types::{
+    Field, Fields, IntKind, Required, Shape, TypeEntry, TypeNo, Types, TypesError,
+};
 use serde_json::{Map, Value};
-use std::alloc::{AllocError, Global};
+use std::alloc::{AllocError, AllocFailed, Global};
 
 /// Why a value is no input.
 #[derive(Clone, Copy, Debug, PartialEq, Eq)]
@@ -29,6 +30,16 @@ impl From<AllocError> for InputError {
     ghost from_gives = { λ _ e. e ≡ OutOfMemory };
 
     fn from(_e: AllocError) -> InputError {
+        InputError::OutOfMemory
+    }
+}
+
+impl<T: Drop> From<AllocFailed<T>> for InputError {
+    ghost use Rattle.schemagen.specs.declared.input.InputError.TheVariants.{OutOfMemory};
+
+    ghost from_gives = { λ _ e. e ≡ OutOfMemory };
+
+    fn from(_e: AllocFailed<T>) -> InputError {
         InputError::OutOfMemory
     }
 }
@@ -131,6 +142,151 @@ fn shape_named(name: &str) -> Option<Shape>
     }
 }
 
+// The text of a member that has to be there.
+fn text_in<'v>(value: &'v Value, name: &str) -> Option<&'v str>
+    ensures { option_map (λ t. t.now) result ≡ needed as_str name.now (view value.now) }
+{
+    value.get(name)?.as_str()
+}
+
+// The number of a member that has to be there.
+fn number_of(value: &Value, name: &str) -> Option<TypeNo>
+    ensures { result ≡ needed number_in name.now (view value.now) }
+{
+    number_in(value.get(name)?)
+}
+
+// The truth value of a member; one that is missing is false.
+fn flag_in(value: &Value, name: &str) -> Option<bool>
+    ensures { result ≡ optional false as_bool name.now (view value.now) }
+{
+    match value.get(name) {
+        None => Some(false),
+        Some(flag) => flag.as_bool(),
+    }
+}
+
+fn notes_in(alloc: Global, value: &Value) -> Result<Map<String, Value>, InputError>
+    ensures ok { IfOk result (λ m. notes_in (view value.now) ≡ Some (members_view m.entries)) }
+    ensures bad { IfErr result (λ e. e ≡ InputError.BadTable → notes_in (view value.now) ≡ None) }
+{
+    let Some(notes) = value.get("notes") else {
+        return Ok(Map::new(alloc));
+    };
+    match notes.clone()? {
+        Value::Object(members) => Ok(members),
+        _ => Err(InputError::BadTable),
+    }
+}
+
+// Whether a member has to be there, said for values that are read and for those that are written.
+fn required_each(value: &Value) -> Option<Required>
+    ensures { option_map required_of result ≡ required_each (view value.now) }
+{
+    if !has_only(value, &["deserialize", "serialize"]) {
+        return None;
+    }
+    let deserialize = value.get("deserialize")?.as_bool()?;
+    let serialize = value.get("serialize")?.as_bool()?;
+    Some(Required {
+        deserialize,
+        serialize,
+    })
+}
+
+fn required_in(value: &Value) -> Option<Required>
+    ensures { option_map required_of result ≡ required_in (view value.now) }
+{
+    match value.as_bool() {
+        Some(both) => Some(Required {
+            deserialize: both,
+            serialize: both,
+        }),
+        None => required_each(value),
+    }
+}
+
+// What a field says under `required`; where that is missing, it has to be there.
+fn need_in(value: &Value) -> Option<Required>
+    ensures { option_map required_of result
+        ≡ optional (required true true) required_in (codes "required") (view value.now) }
+{
+    match value.get("required") {
+        None => Some(Required {
+            deserialize: true,
+            serialize: true,
+        }),
+        Some(need) => required_in(need),
+    }
+}
+
+const FIELD_NAMES: [&str; 4] = ["name", "type", "required", "notes"];
+
+fn field_in(alloc: Global, value: &Value) -> Result<Field, InputError>
+    ensures ok { IfOk result (λ f. field_in (view value.now) ≡ Some (field_of f)) }
+    ensures bad { IfErr result (λ e. e ≡ InputError.BadTable → field_in (view value.now) ≡ None) }
+{
+    if !has_only(value, &FIELD_NAMES) {
+        return Err(InputError::BadTable);
+    }
+    let (Some(name), Some(ty), Some(required)) = (
+        text_in(value, "name"),
+        number_of(value, "type"),
+        need_in(value),
+    ) else {
+        return Err(InputError::BadTable);
+    };
+    let notes = notes_in(alloc, value)?;
+    let name = String::from_str(alloc, name)?;
+    Ok(Field {
+        name,
+        ty,
+        required,
+        notes,
+    })
+}
+
+fn fields_in(alloc: Global, values: &[Value]) -> Result<Vec<Field>, InputError>
+    ensures ok { IfOk result (λ v. fields_in (items_view values.now) ≡ Some (map field_of v.items)) }
+    ensures bad { IfErr result
+        (λ e. e ≡ InputError.BadTable → fields_in (items_view values.now) ≡ None) }
+{
+    let mut fields = Vec::new(alloc);
+    for value in values {
+        let field = field_in(alloc, value)?;
+        fields.push(field)?;
+    }
+    Ok(fields)
+}
+
+// The fields of a struct; there are none where they are missing.
+fn list_in(alloc: Global, value: &Value) -> Result<Vec<Field>, InputError>
+    ensures ok { IfOk result (λ v. list_in (view value.now) ≡ Some (map field_of v.items)) }
+    ensures bad { IfErr result (λ e. e ≡ InputError.BadTable → list_in (view value.now) ≡ None) }
+{
+    let Some(list) = value.get("fields") else {
+        return Ok(Vec::new(alloc));
+    };
+    match list.as_array() {
+        Some(values) => fields_in(alloc, values),
+        None => Err(InputError::BadTable),
+    }
+}
+
+fn struct_in(alloc: Global, value: &Value) -> Result<Shape, InputError>
+    ensures ok { IfOk result (λ s. struct_in (view value.now) ≡ Some (shape_of s)) }
+    ensures bad { IfErr result (λ e. e ≡ InputError.BadTable → struct_in (view value.now) ≡ None) }
+{
+    if !has_only(value, &["fields", "closed"]) {
+        return Err(InputError::BadTable);
+    }
+    let Some(closed) = flag_in(value, "closed") else {
+        return Err(InputError::BadTable);
+    };
+    let list = list_in(alloc, value)?;
+    Ok(Shape::Struct(Fields { list, closed }))
+}
+
 // The shape that an object with this one member says.
 fn shape_under(alloc: Global, name: &str, value: &Value) -> Result<Shape, InputError>
     ensures ok { IfOk result (λ s. shape_under name.now (view value.now) ≡ Some (shape_of s)) }
@@ -144,6 +300,7 @@ fn shape_under(alloc: Global, name: &str, value: &Value) -> Result<Shape, InputE
         "option" => number_in(value).map(Shape::Option),
         "seq" => number_in(value).map(Shape::Seq),
         "newtype" => number_in(value).map(Shape::Newtype),
+        "struct" => Some(struct_in(alloc, value)?),
         _ => None,
     };
     shape.ok_or(InputError::BadTable)
@@ -175,42 +332,11 @@ fn shape_in(alloc: Global, value: &Value) -> Result<Shape, InputError>
     }
 }
 
-// The text of a member that has to be there.
-fn text_in<'v>(value: &'v Value, name: &str) -> Option<&'v str>
-    ensures { option_map (λ t. t.now) result ≡ needed as_str name.now (view value.now) }
-{
-    value.get(name)?.as_str()
-}
-
-fn inline_in(value: &Value) -> Option<bool>
-    ensures { result ≡ optional false as_bool (codes "inline") (view value.now) }
-{
-    match value.get("inline") {
-        None => Some(false),
-        Some(inline) => inline.as_bool(),
-    }
-}
-
-fn notes_in(alloc: Global, value: &Value) -> Result<Map<String, Value>, InputError>
-    ensures ok { IfOk result (λ m. optional no_members as_object (codes "notes") (view value.now)
-        ≡ Some (members_view m.entries)) }
-    ensures bad { IfErr result (λ e. e ≡ InputError.BadTable
-        → optional no_members as_object (codes "notes") (view value.now) ≡ None) }
-{
-    let Some(notes) = value.get("notes") else {
-        return Ok(Map::new(alloc));
-    };
-    match notes.clone()? {
-        Value::Object(members) => Ok(members),
-        _ => Err(InputError::BadTable),
-    }
-}
-
 fn entry_in(alloc: Global, value: &Value) -> Result<TypeEntry, InputError>
     ensures ok { IfOk result (λ e. entry_in (view value.now) ≡ Some (entry_of e)) }
     ensures bad { IfErr result (λ e. e ≡ InputError.BadTable → entry_in (view value.now) ≡ None) }
 {
-    let (Some(inline), Some(shape)) = (inline_in(value), value.get("shape")) else {
+    let (Some(inline), Some(shape)) = (flag_in(value, "inline"), value.get("shape")) else {
         return Err(InputError::BadTable);
     };
     let notes = notes_in(alloc, value)?;
@@ -236,26 +362,32 @@ fn heading_in(value: &Value) -> Option<(&str, &str)>
     Some((id, name))
 }
 
-// Whether the shape is no struct, and refers to lower rows alone.
-fn refers_below(shape: &Shape, n: TypeNo) -> bool
-    ensures { result ≡ not (is_struct (shape_of shape.now))
-        && list_all (λ m. nat_lt m n) (numbers_of (shape_of shape.now)) }
+// Whether no field has notes.
+fn are_bare(fields: &[Field]) -> bool
+    ensures { result ≡ list_all (λ f. are_none f.notes) (map field_of fields.now) }
+{
+    for field in fields {
+        if !field.notes.is_empty() {
+            return false;
+        }
+    }
+    true
+}
+
+fn are_fields_bare(shape: &Shape) -> bool
+    ensures { result ≡ are_fields_bare (shape_of shape.now) }
 {
     match shape {
-        Shape::Option(m) => *m < n,
-        Shape::Seq(m) => *m < n,
-        Shape::Newtype(m) => *m < n,
-        Shape::Struct(_) => false,
+        Shape::Struct(fields) => are_bare(&fields.list),
         _ => true,
     }
 }
 
-// Whether row `n` may have this entry: it is written in place, has no notes, is no struct, and
-// refers to lower rows alone.
-fn is_plain(n: TypeNo, entry: &TypeEntry) -> bool
-    ensures { result ≡ is_plain n (entry_of entry.now) }
+// Whether neither the row nor a field of it has notes.
+fn is_bare(entry: &TypeEntry) -> bool
+    ensures { result ≡ is_bare (entry_of entry.now) }
 {
-    entry.inline && entry.notes.is_empty() && refers_below(&entry.shape, n)
+    entry.notes.is_empty() && are_fields_bare(&entry.shape)
 }
 
 // A table with the ids and the names of these rows.
@@ -279,16 +411,16 @@ fn reserve_rows(alloc: Global, rows: &[Value]) -> Result<Types, InputError>
     Ok(types)
 }
 
-// Gives the rows of the table their entries.
+// Gives the rows of the table their entries. A table takes no number that is no row's.
 fn define_rows(alloc: Global, mut types: Types, rows: &[Value]) -> Result<Types, InputError>
     requires { headings_in (items_view rows.now) ≡ Some types }
-    ensures ok { IfOk result (λ t. plain_after [] (items_view rows.now) ≡ Some t) }
+    ensures ok { IfOk result (λ t. fitting_after (length types) [] (items_view rows.now) ≡ Some t) }
     ensures bad { IfErr result (λ e. e ≡ InputError.BadTable
-        → plain_after [] (items_view rows.now) ≡ None) }
+        → fitting_after (length types) [] (items_view rows.now) ≡ None) }
 {
     for (n, row) in rows.iter().enumerate() {
         let entry = entry_in(alloc, row)?;
-        if !is_plain(n, &entry) {
+        if !is_bare(&entry) {
             return Err(InputError::BadTable);
         }
         types.define(n, entry)?;
@@ -303,17 +435,12 @@ fn items_in<'v>(value: &'v Value, name: &str) -> Option<&'v Vec<Value>>
     value.get(name)?.as_array()
 }
 
-fn root_in(value: &Value) -> Option<TypeNo>
-    ensures { result ≡ needed number_in (codes "root") (view value.now) }
-{
-    number_in(value.get("root")?)
-}
-
 /// The table that a value says, and its root.
 ///
 /// The value is an object with the members `types`, a list of rows, and `root`, the number of one
 /// of them. A row has the members `id`, `name` and `shape`, and may have `inline` and `notes`. No
-/// two rows have one id. Each row is inline, has no notes, and refers to lower rows alone.
+/// two rows have one id, and each number in a shape is a row's: the row's own, or one before or
+/// behind it. No row and no field has notes.
 pub fn read_input(alloc: Global, value: &Value) -> Result<(Types, TypeNo), InputError>
     ensures ok { IfOk result (λ t. input_of (view value.now) ≡ Some (t.0, t.1)) }
     ensures bad { IfErr result (λ e. e ≡ InputError.BadTable → input_of (view value.now) ≡ None) }
@@ -321,7 +448,7 @@ pub fn read_input(alloc: Global, value: &Value) -> Result<(Types, TypeNo), Input
     if !has_only(value, &["types", "root"]) {
         return Err(InputError::BadTable);
     }
-    let (Some(rows), Some(root)) = (items_in(value, "types"), root_in(value)) else {
+    let (Some(rows), Some(root)) = (items_in(value, "types"), number_of(value, "root")) else {
         return Err(InputError::BadTable);
     };
     let types = reserve_rows(alloc, rows)?;

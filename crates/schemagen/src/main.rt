@@ -3,6 +3,8 @@
 
 mod fault;
 mod input;
+#[cfg(test)]
+mod input_tests;
 mod run;
 mod streams;
 #[cfg(test)]

@@ -1,4 +1,6 @@
-use crate::fault::{BAD_TABLE, Fault, NOT_JSON, READ, WRITE};
+use crate::fault::{
+    BAD_TABLE, DIRECT_CYCLE, EMPTY_CYCLE, Fault, NOT_JSON, READ, REPEATED_NAME, WRITE,
+};
 use crate::run::run;
 use crate::streams::{Sink, SinkOf, Source, SourceOf};
 use std::alloc::{AllocError, Global};
@@ -8,6 +10,8 @@ use std::process::Abort;
 use std::test::Fail;
 
 const WORDS: [&str; 2] = ["types", "2020-12"];
+
+const SERIALIZE: [&str; 3] = ["types", "2020-12", "--serialize"];
 
 const HEAD: &str = r#"{"$schema":"https://json-schema.org/draft/2020-12/schema","title":"T""#;
 
@@ -232,12 +236,152 @@ fn writes_options_and_lists(rt: HostRuntime) -> Result<(), Fail> {
     Ok(())
 }
 
+fn assert_line(
+    rt: &impl Abort,
+    alloc: Global,
+    words: &[&str],
+    input: &str,
+    line: &str,
+) -> Result<(), AllocError> {
+    let ended = run_over(alloc, words, input.as_bytes())?;
+    assert_eq!(rt; ended.result, Ok(()), "{input}");
+    assert_eq!(rt; ended.written.as_slice(), line.as_bytes(), "{input}");
+    Ok(())
+}
+
+#[test]
+fn writes_a_recursive_struct(rt: HostRuntime) -> Result<(), Fail> {
+    let node = r#"{"types":[
+        {"id":"int32","name":"int32","inline":true,"shape":{"int":"i32"}},
+        {"id":"Node","name":"Node","shape":{"struct":{"fields":[
+            {"name":"value","type":0,"required":true},
+            {"name":"next","type":2,"required":false}]}}},
+        {"id":"Option<Node>","name":"Nullable_Node","inline":true,"shape":{"option":1}}
+    ],"root":1}"#;
+    let line = "{\"$schema\":\"https://json-schema.org/draft/2020-12/schema\",\
+        \"title\":\"Node\",\"type\":\"object\",\"properties\":{\
+        \"next\":{\"anyOf\":[{\"$ref\":\"#\"},{\"type\":\"null\"}]},\
+        \"value\":{\"type\":\"integer\",\"format\":\"int32\"}},\"required\":[\"value\"]}\n";
+    assert_line(&rt, rt.alloc(), &WORDS, node, line)?;
+    Ok(())
+}
+
+// A line with these members behind `$schema`.
+fn assert_members(
+    rt: &impl Abort,
+    alloc: Global,
+    input: &str,
+    members: &str,
+) -> Result<(), AllocError> {
+    let uri = "https://json-schema.org/draft/2020-12/schema";
+    let line = format!(in alloc; "{{\"$schema\":\"{uri}\",{members}}}\n")?;
+    assert_line(rt, alloc, &WORDS, input, line.as_str())
+}
+
+#[test]
+fn writes_a_list_of_a_recursive_struct(rt: HostRuntime) -> Result<(), Fail> {
+    let list = r#"{"types":[
+        {"id":"int32","name":"int32","inline":true,"shape":{"int":"i32"}},
+        {"id":"Node","name":"Node","shape":{"struct":{"fields":[
+            {"name":"value","type":0},
+            {"name":"next","type":2,"required":false}]}}},
+        {"id":"Option<Node>","name":"Nullable_Node","inline":true,"shape":{"option":1}},
+        {"id":"[Node]","name":"Array_of_Node","inline":true,"shape":{"seq":1}}
+    ],"root":3}"#;
+    let members =
+        r##""title":"Array_of_Node","type":"array","items":{"$ref":"#/$defs/Node"},"$defs":{"Node":{"type":"object","properties":{"next":{"anyOf":[{"$ref":"#/$defs/Node"},{"type":"null"}]},"value":{"type":"integer","format":"int32"}},"required":["value"]}}"##;
+    assert_members(&rt, rt.alloc(), list, members)?;
+    Ok(())
+}
+
+#[test]
+fn writes_types_of_one_name(rt: HostRuntime) -> Result<(), Fail> {
+    let configs = r#"{"types":[
+        {"id":"bool","name":"boolean","inline":true,"shape":"bool"},
+        {"id":"a","name":"Config","shape":{"newtype":0}},
+        {"id":"b","name":"Config","shape":{"newtype":0}},
+        {"id":"c","name":"Config","shape":{"newtype":0}},
+        {"id":"root","name":"Config2","shape":{"struct":{"fields":[
+            {"name":"x","type":1},{"name":"y","type":2},{"name":"z","type":3}]}}}
+    ],"root":4}"#;
+    let members =
+        r##""title":"Config2","type":"object","properties":{"x":{"$ref":"#/$defs/Config"},"y":{"$ref":"#/$defs/Config2"},"z":{"$ref":"#/$defs/Config3"}},"required":["x","y","z"],"$defs":{"Config":{"type":"boolean"},"Config2":{"type":"boolean"},"Config3":{"type":"boolean"}}"##;
+    assert_members(&rt, rt.alloc(), configs, members)?;
+    Ok(())
+}
+
+#[test]
+fn writes_structs_of_each_other(rt: HostRuntime) -> Result<(), Fail> {
+    let pair = r#"{"types":[
+        {"id":"A","name":"A","shape":{"struct":{"fields":[{"name":"b","type":1}]}}},
+        {"id":"B","name":"B","shape":{"struct":{"fields":[
+            {"name":"a","type":2,"required":false}]}}},
+        {"id":"Option<A>","name":"Nullable_A","inline":true,"shape":{"option":0}}
+    ],"root":0}"#;
+    let members =
+        r##""title":"A","type":"object","properties":{"b":{"$ref":"#/$defs/B"}},"required":["b"],"$defs":{"B":{"type":"object","properties":{"a":{"anyOf":[{"$ref":"#"},{"type":"null"}]}}}}"##;
+    assert_members(&rt, rt.alloc(), pair, members)?;
+    Ok(())
+}
+
+#[test]
+fn writes_a_newtype_over_a_struct(rt: HostRuntime) -> Result<(), Fail> {
+    let newtype = r#"{"types":[
+        {"id":"bool","name":"boolean","inline":true,"shape":"bool"},
+        {"id":"S","name":"S","shape":{"struct":{"fields":[{"name":"x","type":0}]}}},
+        {"id":"N","name":"N","shape":{"newtype":1}}
+    ],"root":2}"#;
+    let members =
+        r##""title":"N","$ref":"#/$defs/S","$defs":{"S":{"type":"object","properties":{"x":{"type":"boolean"}},"required":["x"]}}"##;
+    assert_members(&rt, rt.alloc(), newtype, members)?;
+    Ok(())
+}
+
+#[test]
+fn writes_for_values_that_are_written(rt: HostRuntime) -> Result<(), Fail> {
+    let bytes = r#"{"types":[{"id":"b","name":"Bytes","inline":true,"shape":"bytes"}],"root":0}"#;
+    let line = "{\"$schema\":\"https://json-schema.org/draft/2020-12/schema\",\
+        \"title\":\"Bytes\",\"type\":\"array\",\
+        \"items\":{\"type\":\"integer\",\"format\":\"uint8\",\"maximum\":255,\"minimum\":0}}\n";
+    assert_line(&rt, rt.alloc(), &SERIALIZE, bytes, line)?;
+    Ok(())
+}
+
+#[test]
+fn refuses_faulty_tables(rt: HostRuntime) -> Result<(), Fail> {
+    let over_each_other = r#"{"types":[
+        {"id":"a","name":"A","inline":true,"shape":{"newtype":1}},
+        {"id":"b","name":"B","inline":true,"shape":{"newtype":0}}],"root":0}"#;
+    let name_twice = r#"{"types":[
+        {"id":"a","name":"A","shape":{"struct":{"fields":[
+            {"name":"a","type":1},{"name":"b","type":1},{"name":"a","type":1}]}}},
+        {"id":"b","name":"B","inline":true,"shape":"any"}],"root":1}"#;
+    let over_its_option = r#"{"types":[
+        {"id":"a","name":"A","shape":{"newtype":1}},
+        {"id":"b","name":"B","inline":true,"shape":{"option":0}}],"root":0}"#;
+    for (input, code) in [
+        (over_each_other, DIRECT_CYCLE),
+        (name_twice, REPEATED_NAME),
+        (over_its_option, EMPTY_CYCLE),
+    ] {
+        let ended = run_over(rt.alloc(), &WORDS, input.as_bytes())?;
+        assert_refused(&rt, &ended, code, input);
+    }
+    Ok(())
+}
+
 #[test]
 fn refuses_other_words(rt: HostRuntime) -> Result<(), Fail> {
     for words in [
         ["types", "2019-09"].as_slice(),
         &["sample", "2020-12"],
         &["types", "2020-12", "--inline"],
+        &["types", "2020-12", "--Serialize"],
+        &["types", "2020-12", "--serialize "],
+        &["types", "2020-12", "--serialize", "--serialize"],
+        &["types", "--serialize", "2020-12"],
+        &["types", "--serialize"],
+        &["sample", "2020-12", "--serialize"],
         &["types"],
         &["2020-12", "types"],
         &["types ", "2020-12"],
@@ -248,6 +392,13 @@ fn refuses_other_words(rt: HostRuntime) -> Result<(), Fail> {
         assert_eq!(rt; ended.result, Err(Fault::Usage));
         assert_eq!(rt; ended.written.len(), 0);
     }
+    Ok(())
+}
+
+#[test]
+fn knows_the_flag(rt: HostRuntime) -> Result<(), Fail> {
+    let ended = run_over(rt.alloc(), &SERIALIZE, b"{")?;
+    assert_refused(&rt, &ended, NOT_JSON, "with the flag");
     Ok(())
 }
 
@@ -302,8 +453,6 @@ fn refuses_what_is_no_table(rt: HostRuntime) -> Result<(), Fail> {
 fn refuses_bad_rows(rt: HostRuntime) -> Result<(), Fail> {
     for members in [
         r#""id":"a","name":"T","inline":true,"shape":"any""#,
-        r#""id":"t","name":"T","inline":false,"shape":"any""#,
-        r#""id":"t","name":"T","shape":"any""#,
         r#""id":"t","name":"T","inline":null,"shape":"any""#,
         r#""id":"t","name":"T","inline":1,"shape":"any""#,
         r#""id":"t","name":"T","inline":true,"notes":null,"shape":"any""#,
@@ -339,13 +488,14 @@ fn refuses_bad_shapes(rt: HostRuntime) -> Result<(), Fail> {
         r#"{"int":8}"#,
         r#"{"nonzero":null}"#,
         r#"{"format":0}"#,
-        r#"{"option":2}"#,
         r#"{"option":0.0}"#,
         r#"{"option":-0}"#,
         r#"{"seq":-1}"#,
         r#"{"seq":3}"#,
         r#"{"seq":"0"}"#,
         r#"{"set":0}"#,
+        r#"{"struct":[]}"#,
+        r#"{"struct":{"fields":[],"flatten":0}}"#,
     ] {
         let ended = line_for(rt.alloc(), "\"any\"", "\"any\"", shape)?;
         assert_refused(&rt, &ended, BAD_TABLE, shape);
@@ -470,6 +620,14 @@ fn streams_stay_failed(rt: HostRuntime) {
 fn prints_its_faults(rt: HostRuntime) -> Result<(), Fail> {
     for (fault, status, line) in [
         (Fault::Refused(1), 1, "schemagen: 1 OutOfMemory"),
+        (Fault::Refused(2), 1, "schemagen: 2 UndefinedType"),
+        (Fault::Refused(3), 1, "schemagen: 3 RepeatedName"),
+        (Fault::Refused(4), 1, "schemagen: 4 DirectCycle"),
+        (Fault::Refused(5), 1, "schemagen: 5 EmptyCycle"),
+        (Fault::Refused(6), 1, "schemagen: 6 AlreadyDefined"),
+        (Fault::Refused(7), 1, "schemagen: 7 NotAnExtension"),
+        (Fault::Refused(8), 1, "schemagen: 8 UnknownType"),
+        (Fault::Refused(9), 1, "schemagen: 9 DefinitionsPath"),
         (Fault::Refused(NOT_JSON), 1, "schemagen: 20 NotJson"),
         (Fault::Refused(BAD_TABLE), 1, "schemagen: 21 BadTable"),
         (Fault::Refused(READ), 1, "schemagen: 23 Read"),

@@ -3,8 +3,8 @@ use Rattle.std.proofs.Common.{◌≡◌, List, [], ◌∷◌, length, Bool, true
 use Rattle.serde_json.specs.Data.{Data, object}
 use Rattle.serde_json.specs.View.{members_view}
 use Rattle.serde_json.proofs.Views.{Entry}
-use Rattle.schemars_schema.specs.SchemaData.{members_in}
-use Rattle.schemars.specs.Documents.{put_members, annotated}
+use Rattle.schemars_schema.specs.SchemaData.{put_members, members_in}
+use Rattle.schemars.specs.Documents.{annotated}
 
 pub annotated-some : (es : List Entry) (b : Bool) → b ≡ false → (length es ≡ 0 → IsTrue b) → (s : Data) → object (put_members (members_view es) (members_in s)) ≡ annotated (members_view es) s
 annotated-some [] true e h s = absurd (true≢false e)

@@ -1,30 +1,31 @@
 -- A document has no float but those of its notes.
-use Rattle.std.proofs.Common.{◌≡◌, ℕ, zero, suc, List, [], ◌∷◌, Option, Some, None, Bool, true, false, refl, sym, ap, ◌∙◌, true≢false}
-use Rattle.std.specs.Prelude.{codes, is_some, if◌then◌else◌, ◌||◌, bytes_eq}
-use Rattle.std.proofs.Common.{Ordering, Less, Equal, Greater, nat_cmp}
+use Rattle.std.proofs.Common.{◌≡◌, ℕ, zero, suc, List, [], ◌∷◌, Option, Some, None, Bool, true, false, refl, ◌∙◌, true≢false, Ordering, Less, Equal, Greater, nat_cmp, inl, inr}
+use Rattle.std.specs.Prelude.{codes, is_some, if◌then◌else◌, ◌||◌, bytes_eq, option_map, option_and_then}
 use Rattle.std.specs.Ordering.{match_ordering}
 use Rattle.std.specs.Cmp.Lexicographic.{slice_cmp}
 use Rattle.serde_json.specs.Data.{Data, null, boolean, number, string, array, object, Items, no_items, item, Members, no_members, member, put}
 use Rattle.serde_json.specs.Find.{get_member}
 use Rattle.serde_json.specs.Written.{has_float, items_have_float, members_have_float}
 use Rattle.schemars_schema.specs.Json.{Text}
-use Rattle.schemars_schema.specs.SchemaData.{members_in}
+use Rattle.schemars_schema.specs.SchemaData.{put_members, members_in, put_all}
 use Rattle.schemars_schema.proofs.Contents.{members_have_float-put}
 use Rattle.schemars_rewrite.specs.AllowNull.{is_combined, or_null, allow_null, type_with_null, null_in_type, with_item, holds_text}
 use Rattle.schemars_rewrite.specs.NullLaw.{text_items}
 use Rattle.schemars_types.specs.declared.shape.IntKind.{IntKind}
 use Rattle.schemars_types.specs.declared.shape.IntKind.TheVariants.{I8, I16, I32, I64, I128, Isize, U8, U16, U32, U64, U128, Usize}
 use Rattle.schemars_types.specs.Shape as shape
-use Rattle.schemars_types.specs.Shape.{Shape, Entry}
+use Rattle.schemars_types.specs.Shape.{Shape, Entry, Field}
 use Rattle.schemars_types.specs.Rows.{Row, entry_at}
-use Rattle.schemars_types.specs.Meaning.{Contract}
-use Rattle.schemars.specs.Documents.{IsDocument, IsOwnDocument, Describes, put_members, annotated, with_title, with_meta_schema, root_document, int_document, non_zero_document}
+use Rattle.schemars_types.specs.Meaning.{Contract, Deserialize, Serialize}
+use Rattle.schemars.specs.Documents.{IsDocument, IsOwnDocument, Describes, annotated, with_title, with_meta_schema, root_document, int_document, non_zero_document, Keyword, bytes_document, map_document, field_keywords, AreWritten, IsWritten}
 use Rattle.schemars.specs.PlainTable.{FieldsHaveNoFloat, ShapeHasNoFloat, EntryHasNoFloat, HasNoFloat}
-use Rattle.schemars_types.specs.Shape.{Field}
-use Rattle.schemars_types.specs.Meaning.{Deserialize, Serialize}
-use Rattle.schemars_schema.specs.SchemaData.{put_all}
-use Rattle.schemars.specs.Documents.{Keyword, bytes_document, map_document, field_keywords, AreWritten, IsWritten, References, reference_of, reference}
-use Rattle.std.proofs.Common.{◌⊎◌, inl, inr}
+use Rattle.schemars_schema.specs.Edits.{without, replaced}
+use Rattle.schemars_schema.specs.Placing.{placed, placed_at, tokens_of}
+use Rattle.schemars.specs.Naming.{contract_of}
+use Rattle.schemars.specs.Work.{Plan, Work, Refers, AreDefinitions}
+use Rattle.schemars.specs.Headline.{with_definitions}
+use Rattle.schemars.specs.Keys.{HasKeysOnce}
+use Rattle.schemars.proofs.Keys.{AllMembers, all_members}
 
 abbrev IsWhole : Data → Type 0
 IsWhole s = has_float s ≡ false
@@ -73,7 +74,7 @@ whole_type (number n) h = h
 whole_type (object ms) h = h
 
 -- what stands in an object without floats has none
-whole_member : (k : Text) (ms : Members) → members_have_float ms ≡ false → (d : Data) → get_member k ms ≡ Some d → IsWhole d
+pub whole_member : (k : Text) (ms : Members) → members_have_float ms ≡ false → (d : Data) → get_member k ms ≡ Some d → has_float d ≡ false
 whole_member k no_members h d is = cc
 whole_member k (member l e ms) h d is = go (slice_cmp nat_cmp k l) is (whole_member k ms parts.1 d)
   where
@@ -187,15 +188,18 @@ own_whole : (W : ℕ → Data → Type 0) (contract : Contract) → ((j : ℕ) (
 own_whole W contract whole None noted s is = absurd is
 own_whole W contract whole (Some e) noted s is = rw is.2 (whole_annotated e.notes is.0 noted.0 (shape_whole W contract whole e.shape noted.1 is.0 is.1))
 
-module _ (rows : List Row) (contract : Contract) (refs : References) (none : HasNoFloat rows) where
-  written_whole : (d : ℕ) → ((j : ℕ) (t : Data) → Describes rows contract refs d j t → IsWhole t) → (j : ℕ) (t : Data) → IsWritten refs (Describes rows contract refs d) j t → IsWhole t
-  written_whole d own j t (inl h) = rw h.2 refl
-  written_whole d own j t (inr h) = own j t h
+module _ (rows : List Row) (contract : Contract) (Refers : ℕ → Text → Type 0) (none : HasNoFloat rows) where
+  written_by : (d : ℕ) → ((j : ℕ) (t : Data) → Describes rows contract Refers d j t → IsWhole t) → (j : ℕ) (t : Data) → IsWritten Refers (Describes rows contract Refers d) j t → IsWhole t
+  written_by d own j t (inl h) = rw h.2 refl
+  written_by d own j t (inr h) = own j t h
 
-  pub described_whole : (d n : ℕ) (s : Data) → Describes rows contract refs d n s → IsWhole s
+  pub described_whole : (d n : ℕ) (s : Data) → Describes rows contract Refers d n s → has_float s ≡ false
   unfolding Describes
   described_whole zero n s h = absurd h
-  described_whole (suc d) n s h = own_whole (IsWritten refs (Describes rows contract refs d)) contract (written_whole d (described_whole d)) (entry_at rows n) (none n) s h
+  described_whole (suc d) n s h = own_whole (IsWritten Refers (Describes rows contract Refers d)) contract (written_by d (described_whole d)) (entry_at rows n) (none n) s h
+
+  pub written_whole : (d n : ℕ) (s : Data) → IsWritten Refers (Describes rows contract Refers d) n s → has_float s ≡ false
+  written_whole d n s h = written_by d (described_whole d) n s h
 
 whole_with_title : (name : Text) (ms : Members) → members_have_float ms ≡ false → members_have_float (with_title name ms) ≡ false
 whole_with_title name ms e = go (is_some (get_member (codes "title") ms))
@@ -208,5 +212,88 @@ whole_with_meta_schema : (uri : Option Text) (ms : Members) → members_have_flo
 whole_with_meta_schema None ms e = e
 whole_with_meta_schema (Some uri) ms e = members_have_float-put (codes "$schema") (string uri) ms refl e
 
-pub root_whole : (name : Text) (uri : Option Text) (s : Data) → IsWhole s → has_float (root_document name uri s) ≡ false
+pub root_whole : (name : Text) (uri : Option Text) (s : Data) → has_float s ≡ false → has_float (root_document name uri s) ≡ false
 root_whole name uri s h = whole_with_meta_schema uri (with_title name (members_in s)) (whole_with_title name (members_in s) (whole_members_in s h))
+
+-- ---- definitions
+
+members_whole : (ms : Members) → AllMembers IsWhole ms → members_have_float ms ≡ false
+members_whole no_members h = refl
+members_whole (member k d ms) h = rw (h.0, members_whole ms h.1)
+
+-- members with each key once have no float where none is found
+pub found_whole : (ms : Members) → HasKeysOnce ms → ((k : Text) (d : Data) → get_member k ms ≡ Some d → has_float d ≡ false) → members_have_float ms ≡ false
+found_whole ms once h = members_whole ms (all_members IsWhole ms once h)
+
+-- so the definitions of a table's rows have none
+pub definitions_whole : (plan : Plan) (w : Work) → HasNoFloat plan.rows → AreDefinitions plan w → HasKeysOnce w.definitions → members_have_float w.definitions ≡ false
+definitions_whole plan w none definitions once =
+    found_whole w.definitions once (λ k d found.
+    let definition = definitions k d found in
+    described_whole plan.rows (contract_of plan.contract) (Refers plan false w) none definition.depth definition.row d definition.describes)
+
+pub whole_without : (k : Text) (ms : Members) → members_have_float ms ≡ false → members_have_float (without k ms) ≡ false
+whole_without k no_members h = refl
+whole_without k (member l e ms) h = go (bytes_eq k l) (whole_without k ms parts.1)
+  where
+    parts : (has_float e ≡ false) × (members_have_float ms ≡ false)
+    parts = either_false (has_float e) (members_have_float ms) h
+
+    go : (b : Bool) → members_have_float (without k ms) ≡ false → members_have_float (if b then ms else member l e (without k ms)) ≡ false
+    go true later = parts.1
+    go false later = rw (parts.0) later
+
+pub whole_replaced : (k : Text) (d : Data) (ms : Members) → has_float d ≡ false → members_have_float ms ≡ false → members_have_float (replaced k d ms) ≡ false
+whole_replaced k d no_members new h = refl
+whole_replaced k d (member l e ms) new h = go (bytes_eq k l) (whole_replaced k d ms new parts.1)
+  where
+    parts : (has_float e ≡ false) × (members_have_float ms ≡ false)
+    parts = either_false (has_float e) (members_have_float ms) h
+
+    go : (b : Bool) → members_have_float (replaced k d ms) ≡ false → members_have_float (if b then member l d ms else member l e (replaced k d ms)) ≡ false
+    go true later = rw new parts.1
+    go false later = rw (parts.0) later
+
+-- ---- placed at a path
+
+abbrev IsWholeSome : Option Data → Type 0
+IsWholeSome o = (d : Data) → o ≡ Some d → IsWhole d
+
+whole_map_some : (f : Data → Data) (o : Option Data) → ((d : Data) → IsWhole d → IsWhole (f d)) → IsWholeSome o → IsWholeSome (option_map f o)
+whole_map_some f None keeps h d is = cc
+whole_map_some f (Some e) keeps h d is = let same : f e ≡ d = cc in rw (← same) (keeps e (h e refl))
+
+module _ (new : Members) (whole : members_have_float new ≡ false) where
+  placed_whole : (tokens : List Text) (old : Option Data) → IsWholeSome old → IsWholeSome (placed tokens new old)
+  placed_whole [] None h = λ d is. let same : object new ≡ d = cc in rw (← same) whole
+  placed_whole [] (Some (object ms)) h = λ d is. let same : object (put_members new ms) ≡ d = cc in rw (← same) (whole_put_members new ms whole (h (object ms) refl))
+  placed_whole [] (Some null) h = λ d is. cc
+  placed_whole [] (Some (boolean b)) h = λ d is. cc
+  placed_whole [] (Some (number n)) h = λ d is. cc
+  placed_whole [] (Some (string s)) h = λ d is. cc
+  placed_whole [] (Some (array ds)) h = λ d is. cc
+  placed_whole (t ∷ ts) None h = whole_map_some (λ d. object (put t d no_members)) (placed ts new None) (λ d e. members_have_float-put t d no_members e refl) (placed_whole ts None h)
+  placed_whole (t ∷ ts) (Some (object ms)) h = go (get_member t ms) (whole_member t ms (h (object ms) refl)) (λ o at. placed_whole ts o at)
+    where
+      go : (o : Option Data) → IsWholeSome o → ((o : Option Data) → IsWholeSome o → IsWholeSome (placed ts new o))
+          → IsWholeSome (elim o [ None ↦ option_map (λ d. object (put t d ms)) (placed ts new None) | Some e ↦ option_map (λ d. object (replaced t d ms)) (placed ts new (Some e)) ])
+      go None at below = whole_map_some (λ d. object (put t d ms)) (placed ts new None) (λ d e. members_have_float-put t d ms e (h (object ms) refl)) (below None at)
+      go (Some e) at below = whole_map_some (λ d. object (replaced t d ms)) (placed ts new (Some e)) (λ d f. whole_replaced t d ms f (h (object ms) refl)) (below (Some e) at)
+  placed_whole (t ∷ ts) (Some null) h = λ d is. cc
+  placed_whole (t ∷ ts) (Some (boolean b)) h = λ d is. cc
+  placed_whole (t ∷ ts) (Some (number n)) h = λ d is. cc
+  placed_whole (t ∷ ts) (Some (string s)) h = λ d is. cc
+  placed_whole (t ∷ ts) (Some (array ds)) h = λ d is. cc
+
+  pub whole_placed_at : (path : Text) (document made : Data) → has_float document ≡ false → placed_at path new document ≡ Some made → has_float made ≡ false
+  whole_placed_at path document made h is = go (tokens_of path) is
+    where
+      go : (o : Option (List Text)) → option_and_then (λ tokens. placed tokens new (Some document)) o ≡ Some made → IsWhole made
+      go None is = cc
+      go (Some tokens) is = placed_whole tokens (Some document) (λ d e. let same : document ≡ d = cc in rw (← same) h) made is
+
+-- with definitions that have none a document has none still, whatever the path
+pub whole_with_definitions : (path : Text) (definitions : Members) (document made : Data) → members_have_float definitions ≡ false → has_float document ≡ false
+    → with_definitions path definitions document ≡ Some made → has_float made ≡ false
+whole_with_definitions path no_members document made none h is = let same : document ≡ made = cc in rw (← same) h
+whole_with_definitions path (member k d ms) document made none h is = whole_placed_at (member k d ms) none path document made h is

@@ -1,25 +1,35 @@
 -- A document accepts just what belongs to its row, through references and rows that lead back to themselves.
-use Rattle.std.proofs.Common.{◌≡◌, ◌⊎◌, inl, inr, ℕ, zero, suc, ◌+◌, ◌*◌, ◌<◌, ◌≤◌, List, [], ◌∷◌, Option, Some, None, Bool, true, false, refl, sym, ap, ◌∙◌, arith, add-one, subst}
-use Rattle.std.specs.Prelude.{nat_lt, ◌==◌, if◌then◌else◌, length}
+use Rattle.std.proofs.Common.{◌≡◌, ◌⊎◌, inl, inr, ℕ, zero, suc, ◌+◌, ◌*◌, ◌<◌, ◌≤◌, List, [], ◌∷◌, Option, Some, None, Bool, true, false, refl, ap, ◌∙◌, arith, add-one}
+use Rattle.std.specs.Prelude.{nat_lt, if◌then◌else◌, length}
 use Rattle.std.proofs.Math.Nat.{mul-le-mul_right}
-use Rattle.std.proofs.lemmas.Bool.{eqb-true}
 use Rattle.std.proofs.lemmas.Bool.Decides.{nat_tests}
 use Rattle.serde_json.specs.Data.{Data, depth}
 use Rattle.schemars_schema.specs.Verdict.{verdict}
 use Rattle.schemars_schema.specs.Json.{Text, IsJson}
+use Rattle.schemars_schema.specs.SchemaData.{IsSchema}
 use Rattle.schemars_schema.specs.Lookup.{resolved}
 use Rattle.schemars_schema.specs.Acceptance.{Patterns, Judge, draft2020_12, judge, read_data, all_keywords, follow}
-use Rattle.schemars_schema.specs.Annotations.{AreNotes}
 use Rattle.schemars_schema.proofs.Verdicts.{both-yes}
 use Rattle.schemars_rewrite.specs.NullLaw.{IsNullable, context2020_12}
 use Rattle.schemars_rewrite.proofs.Nulls.{nullable-schema}
-use Rattle.schemars_types.specs.Shape.{Shape, Entry}
+use Rattle.schemars_types.specs.Shape.{Entry}
 use Rattle.schemars_types.specs.Rows.{Row, entry_at}
 use Rattle.schemars_types.specs.Meaning.{Contract, has_shape, belongs_within}
-use Rattle.schemars.specs.Documents.{IsDocument, IsOwnDocument, IsWritten, Describes, References, reference_of, reference, annotated}
+use Rattle.schemars.specs.Documents.{IsOwnDocument, IsWritten, Describes, reference}
 use Rattle.schemars.specs.PlainTable.{IsPlainEntry, IsPlainTable}
 use Rattle.schemars.proofs.Notes.{judge-annotated, nullable-annotated}
 use Rattle.schemars.proofs.Meanings.{IsSame, Inside, shape_nullable, shape_says}
+
+-- ---- the references of a document
+
+-- rows, each with a reference to it
+abbrev pub References : Type 0
+References = List (ℕ × Text)
+
+-- r is a reference to row n
+abbrev pub InList : References → ℕ → Text → Type 0
+InList [] n r = ⊥
+InList (x ∷ xs) n r = ((x.0 ≡ n) × (x.1 ≡ r)) ⊎ InList xs n r
 
 -- ---- counting down
 
@@ -52,24 +62,47 @@ lower_more rank a b [] h = omega arith
 lower_more rank a b (x ∷ xs) h = let e = step_up (rank x.0) a b h in let t = lower_more rank a b xs h in omega arith
 
 -- a row that is referred to counts at higher ranks alone
-lower_most : (rank : ℕ → ℕ) (j b : ℕ) (r : Text) (xs : References) → reference_of xs j ≡ Some r → rank j < b → lower rank (rank j) xs < lower rank b xs
+lower_most : (rank : ℕ → ℕ) (j b : ℕ) (r : Text) (xs : References) → InList xs j r → rank j < b → lower rank (rank j) xs < lower rank b xs
 unfolding lower
-lower_most rank j b r [] is h = cc
-lower_most rank j b r (x ∷ xs) is h = go (x.0 == j) refl is (lower_most rank j b r xs)
-  where
-    go : (t : Bool) → (x.0 == j) ≡ t → (if t then Some x.1 else reference_of xs j) ≡ Some r → (reference_of xs j ≡ Some r → rank j < b → lower rank (rank j) xs < lower rank b xs)
-        → (if nat_lt (rank x.0) (rank j) then 1 else 0) + lower rank (rank j) xs < (if nat_lt (rank x.0) b then 1 else 0) + lower rank b xs
-    go true e is later =
-        let same : x.0 ≡ j = eqb-true x.0 j e in
-        let a = step_in (rank j) b h in
-        let more = lower_more rank (rank j) b xs (omega arith) in
-        rw same (omega arith)
-    go false e is later =
-        let a = step_up (rank x.0) (rank j) b (omega arith) in
-        let more = later is h in
-        omega arith
+lower_most rank j b r [] is h = absurd is
+lower_most rank j b r (x ∷ xs) (inl is) h =
+    let a = step_in (rank j) b h in
+    let more = lower_more rank (rank j) b xs (omega arith) in
+    rw (is.0) (omega arith)
+lower_most rank j b r (x ∷ xs) (inr is) h =
+    let a = step_up (rank x.0) (rank j) b (omega arith) in
+    let more = lower_most rank j b r xs is h in
+    omega arith
 
--- ---- what is given: a plain table whose ranks fall where a part has the row's own values, and a document in which each reference leads to its row's document
+-- ---- each document of a plain table is one to which null can be added
+
+module _ (rows : List Row) (contract : Contract) (Refers : ℕ → Text → Type 0) (plain : IsPlainTable rows) where
+  abbrev In : ℕ → ℕ → Data → Type 0
+  In d = IsWritten Refers (Describes rows contract Refers d)
+
+  reference_nullable : (r : Text) → IsNullable (reference r)
+  reference_nullable r = inl refl
+
+  own_nullable : (d : ℕ) → ((j : ℕ) (t : Data) → In d j t → IsNullable t) → (o : Option Entry) → IsPlainEntry o → (t : Data) → IsOwnDocument (In d) contract o t → IsNullable t
+  own_nullable d ready None noted t is = absurd is
+  own_nullable d ready (Some e) noted t is = rw is.2 (nullable-annotated e.notes is.0 noted.0 (shape_nullable (In d) contract ready e.shape is.0 is.1))
+
+  written_by : (d : ℕ) → ((j : ℕ) (t : Data) → Describes rows contract Refers d j t → IsNullable t) → (j : ℕ) (t : Data) → In d j t → IsNullable t
+  written_by d own j t (inl h) = rw h.2 (reference_nullable h.0)
+  written_by d own j t (inr h) = own j t h
+
+  pub described_nullable : (d n : ℕ) (t : Data) → Describes rows contract Refers d n t → IsNullable t
+  unfolding Describes
+  described_nullable zero n t h = absurd h
+  described_nullable (suc d) n t h = own_nullable d (written_by d (described_nullable d)) (entry_at rows n) (plain n) t h
+
+  pub written_nullable : (d n : ℕ) (t : Data) → In d n t → IsNullable t
+  written_nullable d n t h = written_by d (described_nullable d) n t h
+
+  pub described_schema : (d n : ℕ) (t : Data) → Describes rows contract Refers d n t → IsSchema t
+  described_schema d n t h = nullable-schema t (described_nullable d n t h)
+
+-- ---- what is given: a plain table whose ranks fall where a part has the row's own values, and a document in which each reference leads to what says the same as its row's document
 
 pub record Setting : Type 0 where
   pub rows : List Row
@@ -77,7 +110,9 @@ pub record Setting : Type 0 where
   pub patterns : Patterns
   pub document : Data
   pub refs : References
-  pub resolves : (j : ℕ) (r : Text) → reference_of refs j ≡ Some r → (s : Data) × (d : ℕ) × (resolved document r ≡ Some s) × Describes rows contract refs d j s
+  pub resolves : (j : ℕ) (r : Text) → InList refs j r
+      → (found : Data) × (s : Data) × (d : ℕ) × (resolved document r ≡ Some found) × ((f : Text → Judge) → judge (context2020_12 patterns f) found ≡ judge (context2020_12 patterns f) s)
+      × Describes rows contract (InList refs) d j s
   pub plain : IsPlainTable rows
   pub rank : ℕ → ℕ
   pub ranks : ℕ
@@ -88,10 +123,10 @@ module _ (s : Setting) where
   open s use {rows, contract, patterns, document, refs, rank, ranks}
 
   abbrev D : ℕ → ℕ → Data → Type 0
-  D = Describes rows contract refs
+  D = Describes rows contract (InList refs)
 
   abbrev W : ℕ → ℕ → Data → Type 0
-  W d = IsWritten refs (D d)
+  W d = IsWritten (InList refs) (D d)
 
   described_entry : (d n : ℕ) (t : Data) → D d n t → (e : Entry) × (entry_at rows n ≡ Some e)
   unfolding Describes
@@ -105,8 +140,8 @@ module _ (s : Setting) where
   described_low : (d n : ℕ) (t : Data) → D d n t → rank n < ranks
   described_low d n t h = let e = described_entry d n t h in s.low_rank n e.0 e.1
 
-  referred_low : (j : ℕ) (r : Text) → reference_of refs j ≡ Some r → rank j < ranks
-  referred_low j r is = let to = s.resolves j r is in described_low to.1 j to.0 to.3
+  referred_low : (j : ℕ) (r : Text) → InList refs j r → rank j < ranks
+  referred_low j r is = let to = s.resolves j r is in described_low to.2 j to.1 to.5
 
   hops : ℕ → ℕ
   hops n = lower rank (rank n) refs
@@ -118,26 +153,8 @@ module _ (s : Setting) where
   unfolding hops most_hops
   few_hops n = let e = lower_few rank (rank n) refs in omega arith
 
-  -- ---- each document is one to which null can be added
-
-  reference_nullable : (r : Text) → IsNullable (reference r)
-  reference_nullable r = inl refl
-
-  own_nullable : (d : ℕ) → ((j : ℕ) (t : Data) → W d j t → IsNullable t) → (o : Option Entry) → IsPlainEntry o → (t : Data) → IsOwnDocument (W d) contract o t → IsNullable t
-  own_nullable d ready None noted t is = absurd is
-  own_nullable d ready (Some e) noted t is = rw is.2 (nullable-annotated e.notes is.0 noted.0 (shape_nullable (W d) contract ready e.shape is.0 is.1))
-
-  written_nullable : (d : ℕ) → ((j : ℕ) (t : Data) → D d j t → IsNullable t) → (j : ℕ) (t : Data) → W d j t → IsNullable t
-  written_nullable d own j t (inl h) = rw h.2 (reference_nullable h.0)
-  written_nullable d own j t (inr h) = own j t h
-
-  described_nullable : (d n : ℕ) (t : Data) → D d n t → IsNullable t
-  unfolding Describes
-  described_nullable zero n t h = absurd h
-  described_nullable (suc d) n t h = own_nullable d (written_nullable d (described_nullable d)) (entry_at rows n) (s.plain n) t h
-
   abbrev ready : (d j : ℕ) (t : Data) → W d j t → IsNullable t
-  ready d j t h = written_nullable d (described_nullable d) j t h
+  ready = written_nullable rows contract (InList refs) s.plain
 
   -- ---- by references still allowed, and by depth
 
@@ -146,7 +163,7 @@ module _ (s : Setting) where
 
   abbrev Good : ℕ → Type 0
   Good n =
-      (j : ℕ) (r : Text) → reference_of refs j ≡ Some r → (w : Data) → IsJson w → (m : ℕ) → depth w * most_hops + hops j < n → depth w * ranks + rank j < m
+      (j : ℕ) (r : Text) → InList refs j r → (w : Data) → IsJson w → (m : ℕ) → depth w * most_hops + hops j < n → depth w * ranks + rank j < m
       → (at_most n r).fits w ≡ verdict (belongs_within rows contract patterns m j w)
 
   abbrev Said : ℕ → ℕ → Type 0
@@ -206,7 +223,7 @@ module _ (s : Setting) where
   good zero j r is w json m costs low = absurd (omega arith)
   good (suc n) j r is w json m costs low =
       let to = s.resolves j r is in
-      ap (λ p. p.fits w) (followed n r to.0 to.2) ∙ said n (good n) to.1 j to.0 to.3 w json m (omega arith) low
+      ap (λ p. p.fits w) (followed n r to.0 to.3 ∙ to.4 (at_most n)) ∙ said n (good n) to.2 j to.1 to.5 w json m (omega arith) low
 
   within : (a h r n : ℕ) → r < h → (a + 1) * h ≤ n → a * h + r ≤ n
   within a h r n small less = omega arith
@@ -220,3 +237,17 @@ module _ (s : Setting) where
       let few : hops k < length refs + 1 = rw add-one (few_hops k) in
       let a : depth v * most_hops + hops k ≤ n = rw (← add-one) (within (depth v) (length refs + 1) (hops k) n few enough) in
       said n (good n) d k t h v json m a (omega arith)
+
+  strictly : (a h r n : ℕ) → r < h → (a + 1) * h ≤ n → a * h + r < n
+  strictly a h r n small less = omega arith
+
+  -- and so does a reference to it
+  pub written_says : (d k : ℕ) (t : Data) → W d k t → (v : Data) → IsJson v → (n m : ℕ) → (depth v + 1) * (length refs + 1) ≤ n → (depth v + 1) * ranks ≤ m
+      → (judge (context2020_12 patterns (at_most n)) t).fits v ≡ verdict (belongs_within rows contract patterns m k v)
+  unfolding most_hops
+  written_says d k t (inr h) v json n m enough steps = describes_says d k t h v json n m enough steps
+  written_says d k t (inl h) v json n m enough steps =
+      let low = referred_low k h.0 h.1 in
+      let wide : (depth v + 1) * most_hops ≤ n = rw (add-one (length refs)) at enough in
+      let a : depth v * most_hops + hops k < n = strictly (depth v) most_hops (hops k) n (few_hops k) wide in
+      rw (h.2, reference_says) (good n k h.0 h.1 v json m a (omega arith))

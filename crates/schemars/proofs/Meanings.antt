@@ -1,27 +1,22 @@
 -- In a table in order, a document of a row accepts just the values that belong to it.
-use Rattle.std.proofs.Common.{◌≡◌, ◌⊎◌, ℕ, zero, suc, ◌+◌, ◌*◌, ◌<◌, ◌≤◌, inl, inr, List, [], ◌∷◌, Option, Some, None, All, length, Bool, true, false, refl, sym, ap, ◌∙◌, arith, subst}
-use Rattle.std.proofs.Math.Nat.{mul-le-mul_right}
-use Rattle.serde_json.specs.Data.{Data, Members, depth}
+use Rattle.std.proofs.Common.{◌≡◌, ◌⊎◌, ℕ, ◌<◌, inl, inr, List, [], ◌∷◌, Bool, true, false, refl}
+use Rattle.serde_json.specs.Data.{Data, depth}
 use Rattle.schemars_schema.specs.Verdict.{verdict}
 use Rattle.schemars_schema.specs.Json.{Text, IsJson}
 use Rattle.schemars_schema.specs.SchemaData.{IsSchema}
 use Rattle.schemars_schema.specs.Acceptance.{Patterns, Judge, Context, judge}
-use Rattle.schemars_schema.specs.Annotations.{AreNotes}
 use Rattle.schemars_rewrite.specs.NullLaw.{IsNullable, context2020_12}
 use Rattle.schemars_rewrite.proofs.Nulls.{nullable-schema, nullable-allow_null, allow_null-says}
 use Rattle.schemars_types.specs.Shape as shape
 use Rattle.schemars_types.specs.Shape.{Shape, Entry, numbers_of}
-use Rattle.schemars_types.specs.Rows.{Row, entry_at}
-use Rattle.schemars_types.specs.InOrder.{AllBelow, IsInOrder}
-use Rattle.schemars_types.specs.Meaning.{Contract, Deserialize, Serialize, has_shape, belongs_within, belongs}
-use Rattle.schemars.specs.Documents.{IsDocument, IsOwnDocument, Describes, annotated, is_signed}
+use Rattle.schemars_types.specs.Meaning.{Contract, Deserialize, Serialize, has_shape}
+use Rattle.schemars.specs.Documents.{IsDocument}
 use Rattle.schemars.specs.PlainTable.{IsPlainShape}
 use Rattle.schemars.proofs.Shapes.{bytes_say, schema_says, null_says, bool_says, number_says, text_says, formatted_says, char_says, any_says, seq_says, int_says, non_zero_says}
 use Rattle.schemars.proofs.Structs.{struct_says}
-use Rattle.schemars.proofs.Notes.{nullable-annotated, judge-annotated}
 use Rattle.schemars_types.specs.declared.shape.IntKind.{IntKind}
 use Rattle.schemars_types.specs.declared.shape.IntKind.TheVariants.{I8, I16, I32, I64, I128, Isize, U8, U16, U32, U64, U128, Usize}
-use Rattle.schemars.specs.Documents.{Keyword, int_document, non_zero_document, bytes_document, map_document, reference, References, reference_of, IsWritten}
+use Rattle.schemars.specs.Documents.{Keyword, int_document, non_zero_document, bytes_document, map_document}
 use Rattle.std.specs.Prelude.{codes}
 
 -- ---- null can be added to each document

@@ -1,18 +1,16 @@
 -- Notes say nothing of a value, and leave a schema one to which null can be added.
-use Rattle.std.proofs.Common.{◌≡◌, ◌⊎◌, inl, inr, List, [], ◌∷◌, Option, Some, None, Bool, true, false, refl, sym, ap, ◌∙◌, true≢false}
-use Rattle.std.specs.Prelude.{codes, is_some, ◌||◌, if◌then◌else◌}
+use Rattle.std.proofs.Common.{◌≡◌, inl, inr, Option, Some, None, Bool, true, false, refl, sym, ap, ◌∙◌, true≢false}
+use Rattle.std.specs.Prelude.{codes, is_some, if◌then◌else◌}
 use Rattle.serde_json.specs.Data.{Data, null, boolean, number, string, array, object, Members, no_members, member, put}
 use Rattle.serde_json.specs.Find.{get_member}
 use Rattle.serde_json.proofs.Views.{get_member-put_other}
 use Rattle.schemars_schema.specs.Json.{Text}
-use Rattle.schemars_schema.specs.SchemaData.{IsSchema, members_in, object_of}
-use Rattle.schemars_schema.specs.OrderedText.{is_listed}
+use Rattle.schemars_schema.specs.SchemaData.{put_members, IsSchema, members_in}
 use Rattle.schemars_schema.specs.Acceptance.{Context, Patterns, Judge, judge, read_data, all_keywords}
 use Rattle.schemars_schema.specs.Annotations.{is_annotation, AreNotes}
-use Rattle.schemars_schema.proofs.Objects.{judge-put, annotation-silent, IsSilent}
-use Rattle.schemars_rewrite.specs.AllowNull.{is_combined, allow_null, or_null, null_in_type}
-use Rattle.schemars_rewrite.specs.NullLaw.{IsNullable, RefusesByType, context2020_12}
-use Rattle.schemars.specs.Documents.{put_members, annotated, with_title, with_meta_schema, root_document}
+use Rattle.schemars_schema.proofs.Objects.{judge-put, annotation-silent}
+use Rattle.schemars_rewrite.specs.NullLaw.{IsNullable, context2020_12}
+use Rattle.schemars.specs.Documents.{annotated, with_title, with_meta_schema, root_document}
 
 module _ (patterns : Patterns) (f : Text → Judge) where
   abbrev c : Context

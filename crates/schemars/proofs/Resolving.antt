@@ -1,16 +1,16 @@
 -- Every reference of a document resolves, where those of its parts do.
-use Rattle.std.proofs.Common.{◌≡◌, ◌⊎◌, inl, inr, ℕ, zero, suc, List, [], ◌∷◌, ◌++◌, Option, Some, None, Bool, true, false, Ordering, Less, Equal, Greater, nat_cmp, refl, sym, ap, ◌∙◌, true≢false}
-use Rattle.std.specs.Prelude.{codes, bytes_eq, is_some, if◌then◌else◌, ◌&&◌, ◌||◌}
+use Rattle.std.proofs.Common.{◌≡◌, inl, inr, ℕ, zero, suc, List, [], ◌∷◌, ◌++◌, Option, Some, None, Bool, true, false, Ordering, Less, Equal, Greater, nat_cmp, refl, sym, ap, ◌∙◌, true≢false}
+use Rattle.std.specs.Prelude.{codes, is_some, if◌then◌else◌, ◌&&◌}
 use Rattle.std.specs.Ordering.{match_ordering}
 use Rattle.std.specs.Cmp.Lexicographic.{slice_cmp}
 use Rattle.std.proofs.lemmas.Map.Lookups.{exact_bytes}
 use Rattle.serde_json.specs.Data.{Data, null, boolean, number, string, array, object, Members, no_members, member, put}
 use Rattle.serde_json.specs.Find.{get_member}
 use Rattle.schemars_schema.specs.Json.{Text}
-use Rattle.schemars_schema.specs.SchemaData.{IsSchema, members_in, object_of, put_all}
-use Rattle.schemars_schema.specs.Annotations.{is_annotation, AreNotes}
+use Rattle.schemars_schema.specs.SchemaData.{put_members, IsSchema, members_in, put_all}
+use Rattle.schemars_schema.specs.Annotations.{AreNotes}
 use Rattle.schemars_schema.specs.Lookup.{resolved}
-use Rattle.schemars_schema.specs.References.{found_in, found_in_items, found_in_members, found_in_keywords, references, resolves, all_resolve}
+use Rattle.schemars_schema.specs.References.{found_in, found_in_members, found_in_keywords, references, resolves, all_resolve}
 use Rattle.schemars_schema.proofs.Contents.{found_under, found_under-annotation}
 use Rattle.schemars_rewrite.specs.AllowNull.{is_combined, or_null, allow_null, type_with_null, null_in_type}
 use Rattle.schemars_types.specs.declared.shape.IntKind.{IntKind}
@@ -19,8 +19,9 @@ use Rattle.schemars_types.specs.Shape as shape
 use Rattle.schemars_types.specs.Shape.{Shape, Field, Entry}
 use Rattle.schemars_types.specs.Rows.{Row, entry_at}
 use Rattle.schemars_types.specs.Meaning.{Contract, Deserialize, Serialize}
-use Rattle.schemars.specs.Documents.{Keyword, IsDocument, IsOwnDocument, IsWritten, AreWritten, Describes, References, reference_of, reference, with_title, with_meta_schema, root_document, put_members, annotated, int_document, non_zero_document, bytes_document, map_document, field_keywords}
+use Rattle.schemars.specs.Documents.{Keyword, IsDocument, IsOwnDocument, IsWritten, AreWritten, Describes, reference, with_title, with_meta_schema, root_document, annotated, int_document, non_zero_document, bytes_document, map_document, field_keywords}
 use Rattle.schemars.specs.PlainTable.{AreNoted, IsPlainShape, IsPlainEntry, IsPlainTable}
+use Rattle.schemars.proofs.Keys.{AllMembers, IsDefinitionsKey}
 
 module _ (document : Data) where
   abbrev pub Resolve : List Data → Type 0
@@ -214,21 +215,24 @@ module _ (document : Data) where
   own_resolved W contract all None noted s is = absurd is
   own_resolved W contract all (Some e) noted s is = rw is.2 (resolved_annotated e.notes is.0 noted.0 (shape_resolved W contract all e.shape noted.1 is.0 is.1))
 
-  module _ (rows : List Row) (contract : Contract) (refs : References) (plain : IsPlainTable rows)
-      (lead : (j : ℕ) (r : Text) → reference_of refs j ≡ Some r → is_some (resolved document r) ≡ true) where
+  module _ (rows : List Row) (contract : Contract) (Refers : ℕ → Text → Type 0) (plain : IsPlainTable rows)
+      (lead : (j : ℕ) (r : Text) → Refers j r → is_some (resolved document r) ≡ true) where
     reference_resolved : (r : Text) → is_some (resolved document r) ≡ true → IsResolved (reference r)
     unfolding found_in
     reference_resolved r h = (tt, rw h)
 
-    written_resolved : (d : ℕ) → ((j : ℕ) (t : Data) → Describes rows contract refs d j t → IsResolved t) → (j : ℕ) (t : Data) → IsWritten refs (Describes rows contract refs d) j t → IsResolved t
-    written_resolved d own j t (inl h) = rw h.2 (reference_resolved h.0 (lead j h.0 h.1))
-    written_resolved d own j t (inr h) = own j t h
+    written_by : (d : ℕ) → ((j : ℕ) (t : Data) → Describes rows contract Refers d j t → IsResolved t) → (j : ℕ) (t : Data) → IsWritten Refers (Describes rows contract Refers d) j t → IsResolved t
+    written_by d own j t (inl h) = rw h.2 (reference_resolved h.0 (lead j h.0 h.1))
+    written_by d own j t (inr h) = own j t h
 
-    pub described_resolved : (d n : ℕ) (t : Data) → Describes rows contract refs d n t → IsResolved t
+    pub described_resolved : (d n : ℕ) (t : Data) → Describes rows contract Refers d n t → IsResolved t
     unfolding Describes
     described_resolved zero n t h = absurd h
     described_resolved (suc d) n t h =
-        own_resolved (IsWritten refs (Describes rows contract refs d)) contract (written_resolved d (described_resolved d)) (entry_at rows n) (plain n) t h
+        own_resolved (IsWritten Refers (Describes rows contract Refers d)) contract (written_by d (described_resolved d)) (entry_at rows n) (plain n) t h
+
+    pub written_resolved : (d n : ℕ) (t : Data) → IsWritten Refers (Describes rows contract Refers d) n t → IsResolved t
+    written_resolved d n t h = written_by d (described_resolved d) n t h
 
   -- ---- a root document
 
@@ -246,3 +250,22 @@ module _ (document : Data) where
   pub root_resolved : (name : Text) (uri : Option Text) (s : Data) → IsResolved s → Resolve (references (root_document name uri s))
   root_resolved name uri s h =
       (resolved_object (with_meta_schema uri (with_title name (members_in s))) (resolved_with_meta_schema uri (with_title name (members_in s)) (resolved_with_title name (members_in s) (resolved_members_in s h)))).1
+
+  -- ---- with definitions
+
+  abbrev pub AllResolve : Members → Type 0
+  AllResolve ms = AllMembers (λ d. Resolve (references d)) ms
+
+  resolved_definitions : (definitions : Members) → AllResolve definitions → Resolve (found_in_members definitions)
+  unfolding found_in
+  resolved_definitions no_members h = refl
+  resolved_definitions (member k d ms) h = resolve-append (references d) (found_in_members ms) h.0 (resolved_definitions ms h.1)
+
+  found_under_key : (key : Text) (definitions : Members) → IsDefinitionsKey key → found_under key (object definitions) ≡ found_in_members definitions
+  unfolding found_in
+  found_under_key key definitions (inl is) = rw is
+  found_under_key key definitions (inr is) = rw is
+
+  pub placed_resolved : (key : Text) (definitions ms : Members) → IsDefinitionsKey key → AllResolve definitions → Resolve (references (object ms)) → Resolve (references (object (put key (object definitions) ms)))
+  unfolding found_in
+  placed_resolved key definitions ms is all h = keywords-put key (object definitions) ms (rw (found_under_key key definitions is) (resolved_definitions definitions all)) h

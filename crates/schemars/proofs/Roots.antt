@@ -1,83 +1,139 @@
--- A root document of a table in order means its type.
-use Rattle.std.proofs.Common.{◌≡◌, ◌⊎◌, inl, inr, ℕ, zero, suc, ◌+◌, ◌*◌, ◌<◌, ◌≤◌, List, [], ◌∷◌, Option, Some, None, true, length, refl, sym, ap, ◌∙◌, arith, subst}
+-- Root documents mean their types, and so do subschemas beside their definitions.
+use Rattle.std.proofs.Common.{◌≡◌, inl, inr, ℕ, suc, Option, Some, None, Bool, true, false, refl, sym, ap, ◌∙◌, subst, arith}
 use Rattle.std.specs.Prelude.{is_some}
-use Rattle.serde_json.specs.Data.{Data, depth, Members, string, object}
+use Rattle.serde_json.specs.Data.{Data, object, Members}
+use Rattle.serde_json.specs.Find.{get_member}
 use Rattle.schemars_schema.specs.Json.{Text}
+use Rattle.schemars_schema.specs.SchemaData.{IsSchema, members_in}
 use Rattle.schemars_schema.specs.Lookup.{resolved}
-use Rattle.schemars_schema.specs.SchemaData.{members_in}
-use Rattle.schemars_schema.specs.References.{found_in_keywords}
-use Rattle.schemars_schema.specs.Acceptance.{Patterns, draft2020_12, follow, bound}
-use Rattle.schemars_types.specs.Shape as shape
-use Rattle.schemars_types.specs.Shape.{Shape, Entry, numbers_of}
-use Rattle.schemars_types.specs.Rows.{Row, entry_at}
-use Rattle.schemars_types.specs.InOrder.{AllBelow, IsInOrder}
-use Rattle.schemars_types.specs.Meaning.{Contract}
-use Rattle.schemars.specs.Documents.{IsDocument, IsOwnDocument, IsWritten, AreWritten, Describes, References, reference_of, with_title, with_meta_schema, root_document}
+use Rattle.schemars_schema.specs.References.{references}
+use Rattle.schemars_schema.specs.Acceptance.{Patterns, Judge, judge, draft2020_12, follow}
+use Rattle.schemars_schema.proofs.Objects.{IsSilent, judge-put}
+use Rattle.schemars_rewrite.specs.NullLaw.{context2020_12}
+use Rattle.schemars_types.specs.Rows.{name_at}
+use Rattle.schemars_types.specs.Edges.{height}
+use Rattle.schemars_types.specs.Faults.{IsChecked}
+use Rattle.schemars.specs.Documents.{IsWritten, Describes, root_document}
 use Rattle.schemars.specs.PlainTable.{IsPlainTable}
-use Rattle.schemars.specs.Headline.{Headline}
+use Rattle.schemars.specs.Naming.{IsOneToOne, contract_of}
+use Rattle.schemars.specs.Work.{Plan, Work, Refers, AreDefinitions}
+use Rattle.schemars.specs.State.{State, plan_of, work_of, HasOwnDefinitions}
+use Rattle.schemars.specs.Headline.{IsRootOf, MeansItsTypeIn, Headline, SubschemaHeadline, IsDraftPath, with_definitions}
 use Rattle.schemars.proofs.Notes.{judge-root}
-use Rattle.schemars.proofs.Meanings.{IsSame}
-use Rattle.schemars.proofs.Following.{Setting, describes_says}
-use Rattle.schemars.proofs.Resolving.{IsResolved, described_resolved, root_resolved}
+use Rattle.schemars.specs.Keys.{HasKeysOnce}
+use Rattle.schemars.proofs.Keys.{all_members, IsDefinitionsKey}
+use Rattle.schemars.proofs.OwnKeys.{no_definitions_in}
+use Rattle.schemars.proofs.Mapping.{describes-wider, written_map}
+use Rattle.schemars.proofs.Following.{described_schema}
+use Rattle.schemars.proofs.Resolving.{Resolve, AllResolve, described_resolved, written_resolved, root_resolved, placed_resolved}
+use Rattle.schemars.proofs.Leading.{HoldsDefinitions, IsItsRoot, free_refers, refers_resolve, written_accepts}
+use Rattle.schemars.proofs.Placed.{IsPlaced, stands_key, holds_put, holds_nothing, placing, placed_in, held}
 
-entry_low : (rows : List Row) (n : ℕ) (e : Entry) → entry_at rows n ≡ Some e → n < length rows
-entry_low [] n e at = cc
-entry_low (r ∷ rs) zero e at = omega arith
-entry_low (r ∷ rs) (suc n) e at = omega (arith, entry_low rs n e at)
+key_silent : (key : Text) → IsDefinitionsKey key → IsSilent key
+key_silent key (inl is) = rw is refl
+key_silent key (inr is) = rw is refl
 
-same_below : (n j : ℕ) (kind : Shape) → AllBelow n (numbers_of kind) → IsSame kind j → j < n
-same_below n j (shape.option i) h same = rw same h.0
-same_below n j (shape.newtype i) h same = rw same h.0
-same_below n j shape.null h same = absurd same
-same_below n j shape.bool h same = absurd same
-same_below n j (shape.int k) h same = absurd same
-same_below n j (shape.non_zero k) h same = absurd same
-same_below n j shape.number h same = absurd same
-same_below n j shape.text h same = absurd same
-same_below n j shape.char h same = absurd same
-same_below n j (shape.formatted g) h same = absurd same
-same_below n j shape.any h same = absurd same
-same_below n j shape.bytes h same = absurd same
-same_below n j shape.schema_itself h same = absurd same
-same_below n j (shape.seq i) h same = absurd same
-same_below n j (shape.struct xs closed) h same = absurd same
+-- ---- what holds of every document with the definitions
 
-pub below_of : (rows : List Row) (n : ℕ) (e : Entry) → IsInOrder rows → n < length rows → entry_at rows n ≡ Some e → AllBelow n (numbers_of e.shape)
-below_of rows n e in_order low at =
-    let row = in_order n low in
-    let same : row.entry ≡ e = cc (row.is_there, at) in
-    let P : Entry → Type 0 = λ x. AllBelow n (numbers_of x.shape) in
-    subst P same row.below
+module _ (plan : Plan) (w : Work) (document : Data) (checked : IsChecked plan.rows) (plain : IsPlainTable plan.rows) (one : IsOneToOne w.names) (definitions : AreDefinitions plan w)
+    (holds : HoldsDefinitions plan.path w.definitions document) (is_root : IsItsRoot plan w document) where
+  leads : (j : ℕ) (r : Text) → Refers plan true w j r → is_some (resolved document r) ≡ true
+  leads = refers_resolve plan w document checked plain one definitions holds is_root
 
--- a table in order as it stands, without references
-in_place : (rows : List Row) (contract : Contract) (patterns : Patterns) (document : Data) → IsPlainTable rows → IsInOrder rows → Setting
-in_place rows contract patterns document plain in_order = record {
-  rows = rows;
-  contract = contract;
-  patterns = patterns;
-  document = document;
-  refs = [];
-  resolves = λ j r is. cc;
-  plain = plain;
-  rank = λ n. n;
-  ranks = length rows;
-  low_rank = λ n e at. entry_low rows n e at;
-  ranked = λ n e j at same. same_below n j e.shape (below_of rows n e in_order (entry_low rows n e at) at) same;
-}
+  definition_resolved : (name : Text) (d : Data) → get_member name w.definitions ≡ Some d → Resolve document (references d)
+  definition_resolved name d found =
+      let definition = definitions name d found in
+      let wide = describes-wider plan.rows (contract_of plan.contract) (Refers plan false w) (Refers plan true w) (free_refers plan w false) definition.depth definition.depth (omega arith) definition.row d definition.describes in
+      (described_resolved document plan.rows (contract_of plan.contract) (Refers plan true w) plain leads definition.depth definition.row d wide).1
 
-bound_enough : (a defs n : ℕ) → (a + 1) * (defs + 2) ≤ n → (a + 1) * (0 + 1) ≤ n
-bound_enough a defs n h = omega arith
+  schema_resolved : (d n : ℕ) (t : Data) → IsWritten (Refers plan true w) (Describes plan.rows (contract_of plan.contract) (Refers plan true w) d) n t → Resolve document (references t)
+  schema_resolved d n t h = (written_resolved document plan.rows (contract_of plan.contract) (Refers plan true w) plain leads d n t h).1
 
-pub root_means : (rows : List Row) (contract : Contract) (path : Text) → IsInOrder rows → (d n : ℕ) (name : Text) (uri : Option Text) (s : Data) → Describes rows contract [] d n s
-    → Headline rows contract path n (root_document name uri s)
-unfolding in_place
-root_means rows contract path in_order d n name uri s h plain =
-    let document = root_document name uri s in
-    let closed : IsResolved document s = described_resolved document rows contract [] plain (λ j r is. cc) d n s h in
+-- ---- root documents
+
+judge_placed : (path : Text) (definitions : Members) (root document : Data) → IsPlaced path definitions root document → root ≡ object (members_in root) → (patterns : Patterns) (f : Text → Judge)
+    → judge (context2020_12 patterns f) document ≡ judge (context2020_12 patterns f) root
+judge_placed path definitions root document (inl is) whole patterns f = rw (is.1)
+judge_placed path definitions root document (inr (key, at, is)) whole patterns f =
+    rw is (judge-put (context2020_12 patterns f) key (object definitions) (members_in root) (key_silent key (stands_key path key at)) ∙ ap (judge (context2020_12 patterns f)) (sym whole))
+
+schema_placed : (path : Text) (definitions ms : Members) (document : Data) → IsPlaced path definitions (object ms) document → IsSchema document
+schema_placed path definitions ms document (inl is) = rw (is.1) tt
+schema_placed path definitions ms document (inr (key, at, is)) = rw is tt
+
+holds_placed : (path : Text) (definitions ms : Members) (document : Data) → IsPlaced path definitions (object ms) document → HoldsDefinitions path definitions document
+holds_placed path definitions ms document (inl is) = rw (is.0) (holds_nothing path document)
+holds_placed path definitions ms document (inr (key, at, is)) = rw is (holds_put path key at definitions ms)
+
+resolved_placed : (path : Text) (definitions ms : Members) (document : Data) → IsPlaced path definitions (object ms) document → AllResolve document definitions → Resolve document (references (object ms))
+    → Resolve document (references document)
+resolved_placed path definitions ms document (inl is) all h = let P : Data → Type 0 = λ d. Resolve document (references d) in subst P (sym is.1) h
+resolved_placed path definitions ms document (inr (key, at, is)) all h =
+    let P : Data → Type 0 = λ d. Resolve document (references d) in
+    subst P (sym is) (placed_resolved document key definitions ms (stands_key path key at) all h)
+
+-- a root document with its definitions means its type
+pub root_means : (plan : Plan) (w : Work) (n : ℕ) (name : Text) (uri : Option Text) (depth : ℕ) (own document : Data) → IsChecked plan.rows → IsOneToOne w.names → HasKeysOnce w.definitions → plan.root ≡ Some n
+    → AreDefinitions plan w → Describes plan.rows (contract_of plan.contract) (Refers plan true w) depth n own → IsPlaced plan.path w.definitions (root_document name uri own) document
+    → Headline plan.rows (contract_of plan.contract) plan.path n document
+root_means plan w n name uri depth own document checked one once root definitions h placed plain =
+    let members : Members = members_in (root_document name uri own) in
+    let is_schema : IsSchema own = described_schema plan.rows (contract_of plan.contract) (Refers plan true w) plain depth n own h in
+    let same : (patterns : Patterns) (f : Text → Judge) → judge (context2020_12 patterns f) document ≡ judge (context2020_12 patterns f) own =
+    λ patterns f. judge_placed plan.path w.definitions (root_document name uri own) document placed refl patterns f ∙ judge-root patterns f name uri own is_schema in
+    let P : ℕ → Type 0 = λ i. Describes plan.rows (contract_of plan.contract) (Refers plan true w) depth i own in
+    let is_root : IsItsRoot plan w document = λ m is. let alike : n ≡ m = cc in (own, depth, same, schema_placed plan.path w.definitions members document placed, subst P alike h) in
+    let holds : HoldsDefinitions plan.path w.definitions document = holds_placed plan.path w.definitions members document placed in
+    let all : AllResolve document w.definitions = all_members (λ d. Resolve document (references d)) w.definitions once (definition_resolved plan w document checked plain one definitions holds is_root) in
+    let resolved_own = described_resolved document plan.rows (contract_of plan.contract) (Refers plan true w) plain (refers_resolve plan w document checked plain one definitions holds is_root) depth n own h in
     record {
       accepts_its_values = λ patterns v json followed bounded.
-          let f = follow draft2020_12 document patterns followed in
-          ap (λ j. j.fits v) (judge-root patterns f name uri s closed.0)
-          ∙ describes_says (in_place rows contract patterns document plain in_order) d n s h v json followed ((depth v + 1) * length rows) (bound_enough (depth v) _ followed bounded) (omega arith);
-      references_resolve = root_resolved document name uri s closed;
+          ap (λ j. j.fits v) (same patterns (follow draft2020_12 document patterns followed))
+          ∙ written_accepts plan w document checked plain one definitions holds is_root depth n own (inr h) patterns v json followed bounded;
+      references_resolve = resolved_placed plan.path w.definitions members document placed all (root_resolved document name uri own resolved_own);
     }
+
+module _ (plan : Plan) (w : Work) (n : ℕ) (name : Text) (uri : Option Text) (depth : ℕ) (own : Data) (plain : IsPlainTable plan.rows)
+    (h : Describes plan.rows (contract_of plan.contract) (Refers plan true w) depth n own) where
+  room : (key : Text) → IsDefinitionsKey key → get_member key (members_in (root_document name uri own)) ≡ None
+  room key is = no_definitions_in key is plan.rows (contract_of plan.contract) (Refers plan true w) plain name uri depth n own h
+
+  -- at a draft's path definitions can always be placed
+  pub root_placed : IsDraftPath plan.path → (document : Data) × (with_definitions plan.path w.definitions (root_document name uri own) ≡ Some document) × IsPlaced plan.path w.definitions (root_document name uri own) document
+  root_placed draft = placing plan.path w.definitions (members_in (root_document name uri own)) draft room
+
+-- so does what is made of it by placing the definitions
+pub root_headline : (plan : Plan) (w : Work) (n : ℕ) (name : Text) (uri : Option Text) (depth : ℕ) (own document : Data) → IsChecked plan.rows → IsOneToOne w.names → HasKeysOnce w.definitions → plan.root ≡ Some n
+    → AreDefinitions plan w → Describes plan.rows (contract_of plan.contract) (Refers plan true w) depth n own → IsDraftPath plan.path → with_definitions plan.path w.definitions (root_document name uri own) ≡ Some document
+    → Headline plan.rows (contract_of plan.contract) plan.path n document
+root_headline plan w n name uri depth own document checked one once root definitions h draft made plain =
+    let placed = placed_in plan.path w.definitions (members_in (root_document name uri own)) document draft (room plan w n name uri depth own plain h) made in
+    root_means plan w n name uri depth own document checked one once root definitions h placed plain
+
+-- so does what a root call makes
+pub root_call_means : (old : State) (n : ℕ) (w : Work) (document : Data) → IsRootOf old n w document → IsChecked old.rows → IsOneToOne w.names → HasKeysOnce w.definitions → AreDefinitions (plan_of old (Some n)) w
+    → IsDraftPath (plan_of old (Some n)).path → Headline old.rows (contract_of old.settings.contract) (plan_of old (Some n)).path n document
+root_call_means old n w document h checked one once definitions draft =
+    root_headline (plan_of old (Some n)) w n (name_at old.rows n) old.settings.meta_schema (suc (height old.rows n)) h.own document checked one once refl definitions h.describes draft h.is_root
+
+-- ---- subschemas
+
+-- a subschema means its type in each document that holds its definitions
+pub subschema_means : (plan : Plan) (w : Work) (n : ℕ) (free : Bool) (depth : ℕ) (schema document : Data) → IsChecked plan.rows → IsOneToOne w.names → plan.root ≡ None → AreDefinitions plan w
+    → IsWritten (Refers plan free w) (Describes plan.rows (contract_of plan.contract) (Refers plan free w) depth) n schema → IsPlainTable plan.rows → HoldsDefinitions plan.path w.definitions document
+    → MeansItsTypeIn plan.rows (contract_of plan.contract) plan.path n w.definitions document schema
+subschema_means plan w n free depth schema document checked one none definitions h plain holds =
+    let is_root : IsItsRoot plan w document = λ m is. absurd (let never : None ≡ Some m = sym none ∙ is in cc) in
+    let more = free_refers plan w free in
+    let wide = written_map (Refers plan free w) (Refers plan true w) (Describes plan.rows (contract_of plan.contract) (Refers plan free w) depth) (Describes plan.rows (contract_of plan.contract) (Refers plan true w) depth) more
+    (describes-wider plan.rows (contract_of plan.contract) (Refers plan free w) (Refers plan true w) more depth depth (omega arith)) n schema h in
+    record {
+      accepts_its_values = written_accepts plan w document checked plain one definitions holds is_root depth n schema wide;
+      references_resolve = schema_resolved plan w document checked plain one definitions holds is_root depth n schema wide;
+      definitions_resolve = definition_resolved plan w document checked plain one definitions holds is_root;
+    }
+
+pub subschema_headline : (s : State) (n : ℕ) (free : Bool) (depth : ℕ) (schema : Data) → IsChecked s.rows → IsOneToOne s.names → HasOwnDefinitions s
+    → IsWritten (Refers (plan_of s None) free (work_of s)) (Describes s.rows (contract_of s.settings.contract) (Refers (plan_of s None) free (work_of s)) depth) n schema → SubschemaHeadline s n schema
+subschema_headline s n free depth schema checked one definitions h plain known document holding =
+    subschema_means (plan_of s None) (work_of s) n free depth schema document checked one refl definitions h plain (held (plan_of s None).path s.definitions document known holding)

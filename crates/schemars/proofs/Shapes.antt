@@ -1,23 +1,22 @@
 -- What the document of each shape says under 2020-12.
-use Rattle.std.proofs.Common.{◌≡◌, ℕ, zero, ◌<◌, ◌≤◌, List, [], ◌∷◌, Option, Some, None, Bool, true, false, refl, sym, ap, ◌∙◌, arith, rules}
-use Rattle.std.specs.Prelude.{codes, ℤ, pos, negsuc, int_le, is_some, ◌||◌, ◌&&◌, ◌==◌, not, nat_le, ◌++◌, if◌then◌else◌}
-use Rattle.std.specs.Ordering.{int_eq}
+use Rattle.std.proofs.Common.{◌≡◌, ℕ, zero, ◌<◌, ◌≤◌, [], ◌∷◌, Option, Some, None, Bool, true, false, refl, sym, ap, ◌∙◌, arith}
+use Rattle.std.specs.Prelude.{codes, ℤ, pos, negsuc, int_le, is_some, ◌||◌, ◌&&◌, ◌==◌, not, nat_le, ◌++◌}
 use Rattle.std.proofs.lemmas.Bool.Decides.{nat_tests}
-use Rattle.serde_json.specs.Data.{Data, Num, null, boolean, number, unsigned, negative, float, string, array, object, Items, no_items, item, depth, items_depth}
+use Rattle.serde_json.specs.Data.{Data, null, boolean, number, unsigned, negative, float, string, array, object, Items, no_items, item, depth, items_depth}
 use Rattle.serde_json.specs.Find.{as_integer, of_integer, as_array}
-use Rattle.schemars_schema.specs.Verdict.{Verdict, Yes, No, both, verdict, opposite}
+use Rattle.schemars_schema.specs.Verdict.{Verdict, Yes, both, verdict, opposite}
 use Rattle.schemars_schema.specs.Json.{Text, IsJson, AreJson, json_eq}
 use Rattle.schemars_schema.specs.SchemaData.{IsSchema, object_of}
-use Rattle.schemars_schema.specs.Acceptance.{Patterns, Judge, Context, judge, read_data, all_keywords, each_past, where_some, code_points, is_null, whole_number}
-use Rattle.schemars_schema.proofs.Verdicts.{both-yes, both-verdict, opposite-verdict}
+use Rattle.schemars_schema.specs.Acceptance.{Patterns, Judge, Context, judge, read_data, all_keywords, each_past, where_some, code_points, whole_number}
+use Rattle.schemars_schema.proofs.Verdicts.{both-yes, both-verdict}
 use Rattle.schemars_schema.proofs.Objects.{schema-judge}
 use Rattle.schemars_rewrite.specs.NullLaw.{context2020_12, zero_schema}
 use Rattle.schemars_types.specs.declared.shape.IntKind.{IntKind}
 use Rattle.schemars_types.specs.declared.shape.IntKind.TheVariants.{I8, I16, I32, I64, I128, Isize, U8, U16, U32, U64, U128, Usize}
 use Rattle.schemars_types.specs.IntKind.{format_of}
 use Rattle.schemars_types.specs.Shape as shape
-use Rattle.schemars_types.specs.Meaning.{Contract, Deserialize, Serialize, is_byte, is_byte_text, has_shape, every_item, holds, least_of, greatest_of, is_at_least, is_at_most, is_of_kind, is_zero}
-use Rattle.schemars.specs.Documents.{typed, type_alone, is_signed, bound_at, int_keywords, int_document, non_zero_document, char_document, formatted_document, seq_document, bytes_document, schema_document}
+use Rattle.schemars_types.specs.Meaning.{Contract, Deserialize, Serialize, is_byte, is_byte_text, has_shape, every_item, holds, least_of, greatest_of, is_at_least, is_at_most, is_zero}
+use Rattle.schemars.specs.Documents.{type_alone, int_keywords, int_document, non_zero_document, char_document, formatted_document, seq_document, bytes_document, schema_document}
 
 module _ (patterns : Patterns) (f : Text → Judge) (contract : Contract) (M : ℕ → Data → Bool) where
   abbrev c : Context

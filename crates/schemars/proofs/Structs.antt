@@ -1,7 +1,6 @@
 -- What the document of a struct says under 2020-12.
-use Rattle.std.proofs.Common.{◌≡◌, ◌≢◌, ℕ, ◌<◌, ◌≤◌, List, [], ◌∷◌, Option, Some, None, Bool, true, false, refl, sym, ap, ◌∙◌, arith, option_map, true≢false, find}
+use Rattle.std.proofs.Common.{◌≡◌, ℕ, ◌<◌, ◌≤◌, List, [], ◌∷◌, Option, Some, None, Bool, true, false, refl, sym, ap, ◌∙◌, arith, option_map, true≢false}
 use Rattle.std.specs.Prelude.{bytes_eq, ◌&&◌, ◌||◌, not, is_some, if◌then◌else◌}
-use Rattle.std.specs.List.{list_all}
 use Rattle.std.specs.Option.{option_map_or}
 use Rattle.std.proofs.lemmas.Slice.Eq.{bytes_eq-Decides}
 use Rattle.serde_json.specs.Data.{Data, null, boolean, number, string, array, object, Members, no_members, member, put, depth, members_depth}
@@ -19,7 +18,7 @@ use Rattle.schemars_types.specs.Meaning.{Contract, is_required, field_named, mem
 use Rattle.schemars.specs.PlainTable.{IsNoName, AreDistinct, AreNoted}
 use Rattle.schemars.specs.Documents.{annotated, field_keywords, required_names, struct_document, AreWritten}
 use Rattle.schemars.proofs.Notes.{judge-annotated, annotated-schema}
-use Rattle.schemars.proofs.Maps.{AreEntries, judges_in, schema_named-judges_in, judges_of, named_says, other_says, judge-map_object, judge-map_other}
+use Rattle.schemars.proofs.Maps.{AreEntries, schema_named-judges_in, judges_of, named_says, other_says, judge-map_object, judge-map_other}
 
 both-swap : (x y : Verdict) → both x y ≡ both y x
 both-swap Yes y = sym (both-yes y)

@@ -1,9 +1,9 @@
 -- Which documents belong to a row of a table.
-use Rattle.std.specs.Prelude.{◌≡◌, ◌⊎◌, ◌==◌, ℕ, zero, suc, ◌++◌, ℤ, pos, List, [], ◌∷◌, Bool, true, false, Option, Some, None, is_some, if◌then◌else◌, codes}
+use Rattle.std.specs.Prelude.{◌≡◌, ◌⊎◌, ℕ, zero, suc, ◌++◌, ℤ, pos, List, [], ◌∷◌, Bool, true, false, Option, Some, None, is_some, if◌then◌else◌, codes}
 use Rattle.serde_json.specs.Data.{Data, boolean, number, unsigned, string, array, object, Items, no_items, item, Members, no_members, member, put}
 use Rattle.serde_json.specs.Find.{get_member, of_integer}
 use Rattle.schemars_schema.specs.Json.{Text}
-use Rattle.schemars_schema.specs.SchemaData.{members_in, object_of}
+use Rattle.schemars_schema.specs.SchemaData.{members_in, object_of, put_members}
 use Rattle.schemars_rewrite.specs.AllowNull.{allow_null}
 use Rattle.schemars_rewrite.specs.NullLaw.{zero_schema, text_items}
 use Rattle.schemars_types.specs.declared.shape.IntKind.{IntKind}
@@ -119,11 +119,6 @@ required_names contract (x ∷ xs) = if is_required contract x.required then x.n
 
 -- ---- with its notes
 
--- these members put in, one after another
-abbrev pub put_members : Members → Members → Members
-put_members no_members ms = ms
-put_members (member k d notes) ms = put_members notes (put k d ms)
-
 -- a schema with notes is an object
 abbrev pub annotated : Members → Data → Data
 annotated no_members s = s
@@ -162,6 +157,17 @@ IsDocument Written contract (shape.seq n) s = (t : Data) × Written n t × (s �
 IsDocument Written contract (shape.struct fields closed) s = (ts : List Data) × AreWritten Written fields ts × (s ≡ struct_document contract fields ts closed)
 IsDocument Written contract (shape.newtype n) s = Written n s
 
+-- a shape without parts
+abbrev pub NoPart : ℕ → Data → Type 0
+NoPart n t = ⊥
+
+abbrev pub HasNoParts : Shape → Type 0
+HasNoParts (shape.option n) = ⊥
+HasNoParts (shape.seq n) = ⊥
+HasNoParts (shape.struct fields closed) = ⊥
+HasNoParts (shape.newtype n) = ⊥
+HasNoParts _ = Unit {0}
+
 -- ---- by reference, or in place with its notes
 
 abbrev pub IsOwnDocument : (ℕ → Data → Type 0) → Contract → Option Entry → Data → Type 0
@@ -171,22 +177,14 @@ IsOwnDocument Written contract (Some entry) s = (bare : Data) × IsDocument Writ
 abbrev pub reference : Text → Data
 reference name = object_of ((codes "$ref", string name) ∷ [])
 
--- the rows that are referred to, each with its reference
-abbrev pub References : Type 0
-References = List (ℕ × Text)
-
-abbrev pub reference_of : References → ℕ → Option Text
-reference_of [] n = None
-reference_of (r ∷ rs) n = if r.0 == n then Some r.1 else reference_of rs n
-
--- a part is a reference, or its own document in place
-abbrev pub IsWritten : References → (ℕ → Data → Type 0) → ℕ → Data → Type 0
-IsWritten refs Own n s = ((name : Text) × (reference_of refs n ≡ Some name) × (s ≡ reference name)) ⊎ Own n s
+-- a part is a reference, where `Refers n r` says that r refers to row n, or its own document in place
+abbrev pub IsWritten : (ℕ → Text → Type 0) → (ℕ → Data → Type 0) → ℕ → Data → Type 0
+IsWritten Refers Own n s = ((r : Text) × Refers n r × (s ≡ reference r)) ⊎ Own n s
 
 -- s is a document of row n, with at most `depth` documents within one another
-unfoldable pub Describes : List Row → Contract → References → ℕ → ℕ → Data → Type 0
-Describes rows contract refs zero n s = ⊥
-Describes rows contract refs (suc depth) n s = IsOwnDocument (IsWritten refs (Describes rows contract refs depth)) contract (entry_at rows n) s
+unfoldable pub Describes : List Row → Contract → (ℕ → Text → Type 0) → ℕ → ℕ → Data → Type 0
+Describes rows contract Refers zero n s = ⊥
+Describes rows contract Refers (suc depth) n s = IsOwnDocument (IsWritten Refers (Describes rows contract Refers depth)) contract (entry_at rows n) s
 
 -- ---- a root document
 

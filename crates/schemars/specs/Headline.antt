@@ -1,32 +1,85 @@
 -- What a generated document promises: it accepts just the values that belong to its type.
-use Rattle.std.specs.Prelude.{◌≡◌, ◌≤◌, ℕ, suc, List, []}
-use Rattle.serde_json.specs.Data.{Data}
+use Rattle.std.specs.Prelude.{◌≡◌, ◌≤◌, ◌⊎◌, ℕ, suc, List, Bool, true, Option, Some, None, codes}
+use Rattle.serde_json.specs.Data.{Data, object, Members, no_members, member}
+use Rattle.serde_json.specs.Find.{get_member}
 use Rattle.schemars_schema.specs.Verdict.{verdict}
 use Rattle.schemars_schema.specs.Json.{Text, IsJson}
 use Rattle.schemars_schema.specs.Acceptance.{Patterns, draft2020_12, accepts, bound}
-use Rattle.schemars_schema.specs.References.{ReferencesResolve}
+use Rattle.schemars_schema.specs.References.{ReferencesResolve, all_resolve, references}
+use Rattle.schemars_schema.specs.Placing.{placed_at}
 use Rattle.schemars_types.specs.Rows.{Row, name_at}
+use Rattle.schemars_types.specs.Edges.{height}
 use Rattle.schemars_types.specs.Meaning.{Contract, belongs}
 use Rattle.schemars.specs.PlainTable.{IsPlainTable}
-use Rattle.schemars.specs.Documents.{Describes, root_document}
-use Rattle.schemars.specs.State.{Settings}
+use Rattle.schemars.specs.Naming.{contract_of}
+use Rattle.schemars.specs.Documents.{Describes, IsWritten, root_document}
+use Rattle.schemars.specs.Work.{Plan, Work, Refers, Step}
+use Rattle.schemars.specs.Reached.{AreReached}
+use Rattle.schemars.specs.Missing.{depth_in_place}
+use Rattle.schemars.specs.State.{State, plan_of, work_of}
 
--- under every reading of patterns, from the bound on, a JSON value is accepted exactly when it belongs to the row, and is never left open
-abbrev pub AcceptsItsValues : List Row → Contract → Text → ℕ → Data → Type 0
-AcceptsItsValues rows contract path n document =
+-- under every reading of patterns, from the bound on, the schema in this document accepts a JSON value exactly when it belongs to the row, and never leaves it open
+abbrev pub AcceptsItsValues : List Row → Contract → Text → ℕ → Data → Data → Type 0
+AcceptsItsValues rows contract path n document schema =
     (patterns : Patterns) (v : Data) → IsJson v → (followed : ℕ) → bound path document v ≤ followed
-    → accepts draft2020_12 document patterns followed document v ≡ verdict (belongs rows contract patterns n v)
+    → accepts draft2020_12 document patterns followed schema v ≡ verdict (belongs rows contract patterns n v)
+
+-- ---- root documents
 
 -- the headline, for a root document of row n whose definitions stand at the path
 pub record MeansItsType (rows : List Row) (contract : Contract) (path : Text) (n : ℕ) (document : Data) : Type 0 where
-  pub accepts_its_values : AcceptsItsValues rows contract path n document
+  pub accepts_its_values : AcceptsItsValues rows contract path n document document
   pub references_resolve : ReferencesResolve document
 
 abbrev pub Headline : List Row → Contract → Text → ℕ → Data → Type 0
 Headline rows contract path n document = IsPlainTable rows → MeansItsType rows contract path n document
 
--- the document of row n, made a root document
-pub record IsRootOf (rows : List Row) (contract : Contract) (settings : Settings) (n : ℕ) (document : Data) : Type 0 where
+-- the paths of the drafts, and those of all dialects
+abbrev pub IsDraftPath : Text → Type 0
+IsDraftPath path = (path ≡ codes "/$defs") ⊎ (path ≡ codes "/definitions")
+
+abbrev pub IsKnownPath : Text → Type 0
+IsKnownPath path = IsDraftPath path ⊎ (path ≡ codes "/components/schemas")
+
+-- the document with the definitions at the path, if there are any
+abbrev pub with_definitions : Text → Members → Data → Option Data
+with_definitions path no_members document = Some document
+with_definitions path (member k d ms) document = placed_at path (member k d ms) document
+
+-- the document of row n as a root document, without the definitions, where each new one is reached from it
+pub record IsTitledRoot (old : State) (n : ℕ) (work : Work) (document : Data) : Type 0 where
   pub own : Data
-  pub describes : Describes rows contract [] (suc n) n own
-  pub is_root : document ≡ root_document (name_at rows n) settings.meta_schema own
+  pub describes : Describes old.rows (contract_of old.settings.contract) (Refers (plan_of old (Some n)) true work) (suc (height old.rows n)) n own
+  pub is_root : document ≡ root_document (name_at old.rows n) old.settings.meta_schema own
+  pub reached : IsPlainTable old.rows → AreReached (plan_of old (Some n)).path old.definitions work.definitions (references own)
+
+-- what a root call makes: the document of row n, made a root document, with the definitions, where each new one is reached from it
+pub record IsRootOf (old : State) (n : ℕ) (work : Work) (document : Data) : Type 0 where
+  pub step : Step (plan_of old (Some n)) (work_of old) work
+  pub own : Data
+  pub describes : Describes old.rows (contract_of old.settings.contract) (Refers (plan_of old (Some n)) true work) (suc (height old.rows n)) n own
+  pub is_root : with_definitions (plan_of old (Some n)).path work.definitions (root_document (name_at old.rows n) old.settings.meta_schema own) ≡ Some document
+  pub reached : IsPlainTable old.rows → AreReached (plan_of old (Some n)).path old.definitions work.definitions (references own)
+
+-- ---- subschemas
+
+-- the document that holds these definitions at the path
+abbrev pub IsHolding : Text → Members → Data → Type 0
+IsHolding path definitions document = placed_at path definitions (object no_members) ≡ Some document
+
+-- a subschema of row n, and the definitions that it leads to
+pub record MeansItsTypeIn (rows : List Row) (contract : Contract) (path : Text) (n : ℕ) (definitions : Members) (document schema : Data) : Type 0 where
+  pub accepts_its_values : AcceptsItsValues rows contract path n document schema
+  pub references_resolve : all_resolve document (references schema) ≡ true
+  pub definitions_resolve : (name : Text) (d : Data) → get_member name definitions ≡ Some d → all_resolve document (references d) ≡ true
+
+-- in each document that holds the definitions at the path
+abbrev pub SubschemaHeadline : State → ℕ → Data → Type 0
+SubschemaHeadline s n schema =
+    IsPlainTable s.rows → IsKnownPath (plan_of s None).path → (document : Data) → IsHolding (plan_of s None).path s.definitions document
+    → MeansItsTypeIn s.rows (contract_of s.settings.contract) (plan_of s None).path n s.definitions document schema
+
+-- a part of a document of row n
+abbrev pub IsSubschema : Plan → Bool → Work → ℕ → Data → Type 0
+IsSubschema plan free w n s =
+    IsWritten (Refers plan free w) (Describes plan.rows (contract_of plan.contract) (Refers plan free w) (depth_in_place plan.rows n)) n s

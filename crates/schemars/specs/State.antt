@@ -1,24 +1,73 @@
 -- What settings say, and what a generator holds, as callers see them.
-use Rattle.std.specs.Prelude.{◌≡◌, List, Option, Some, codes, refl, option_map}
+use Rattle.std.specs.Prelude.{ℕ, ◌==◌, List, [], ◌∷◌, false, Option, Some, None, codes, refl, length, if◌then◌else◌}
 use Rattle.std.specs.Coded.{Coded, code_by, coded×, coded_option}
+use Rattle.serde_json.specs.Data.{Members}
 use Rattle.schemars_schema.specs.Json.{Text}
-use Rattle.schemars_schema.specs.DataCode.{text_code}
+use Rattle.schemars_schema.specs.DataCode.{text_code, members_code}
 use Rattle.schemars_types.specs.Rows.{Row}
 use Rattle.schemars_types.specs.RowCode.{rows_code}
+use Rattle.schemars.specs.declared.contract.Contract.{Contract}
+use Rattle.schemars.specs.declared.contract.Contract.TheVariants.{Deserialize}
+use Rattle.schemars.specs.Naming.{Naming}
+use Rattle.schemars.specs.NamingCode.{naming_code, contract_code}
+use Rattle.schemars.specs.Work.{Plan, Work, AreDefinitions}
 
 pub record Settings : Type 0 where
   pub definitions_path : Text
   pub meta_schema : Option Text
+  pub contract : Contract
 
 abbrev pub settings2020_12 : Settings
-settings2020_12 = record { definitions_path = codes "/$defs"; meta_schema = Some (codes "https://json-schema.org/draft/2020-12/schema") }
+settings2020_12 = record { definitions_path = codes "/$defs"; meta_schema = Some (codes "https://json-schema.org/draft/2020-12/schema"); contract = Deserialize }
 
 pub record State : Type 0 where
   pub settings : Settings
   pub rows : List Row
+  pub names : Naming
+  pub definitions : Members
+
+-- ---- where definitions stand
+
+-- without one `#` in front
+abbrev pub without_hash : Text → Text
+without_hash [] = []
+without_hash (x ∷ rest) = if x == 35 then rest else x ∷ rest
+
+-- without one `/` behind
+abbrev pub without_slash : Text → Text
+without_slash [] = []
+without_slash (x ∷ []) = if x == 47 then [] else x ∷ []
+without_slash (x ∷ y ∷ rest) = x ∷ without_slash (y ∷ rest)
+
+abbrev pub stripped : Text → Text
+stripped path = without_slash (without_hash path)
+
+-- ---- between calls
+
+abbrev pub work_of : State → Work
+work_of s = record { names = s.names; definitions = s.definitions; begun = []; kept = length s.names; meets_root = false }
+
+abbrev pub plan_of : State → Option ℕ → Plan
+plan_of s root = record { rows = s.rows; contract = s.settings.contract; path = stripped s.settings.definitions_path; root = root }
+
+-- each definition is the document of the row of its name, with references to other definitions alone: so it is where the caller changed none
+abbrev pub HasOwnDefinitions : State → Type 0
+HasOwnDefinitions s = AreDefinitions (plan_of s None) (work_of s)
+
+-- what is there after a root call: where a new definition refers to the root document, which `#` means, none of the new ones stays
+abbrev pub after_root : State → Work → State
+after_root old w = record old { names = w.names; definitions = if w.meets_root then old.definitions else w.definitions }
+
+-- ---- codes
 
 abbrev pub settings_code : Coded Settings
-settings_code = code_by (Text × Option Text) (coded× text_code (coded_option text_code)) (λ s. (s.definitions_path, s.meta_schema)) (λ p. record { definitions_path = p.0; meta_schema = p.1 }) (λ _. refl)
+settings_code =
+    code_by (Text × (Option Text × Contract)) (coded× text_code (coded× (coded_option text_code) contract_code)) (λ s. (s.definitions_path, (s.meta_schema, s.contract)))
+    (λ p. record { definitions_path = p.0; meta_schema = p.1.0; contract = p.1.1 })
+    (λ _. refl)
 
 abbrev pub state_code : Coded State
-state_code = code_by (Settings × List Row) (coded× settings_code rows_code) (λ s. (s.settings, s.rows)) (λ p. record { settings = p.0; rows = p.1 }) (λ _. refl)
+state_code =
+    code_by (Settings × (List Row × (Naming × Members))) (coded× settings_code (coded× rows_code (coded× naming_code members_code))) (λ s. (s.settings, (s.rows, (s.names, s.definitions))))
+    (λ p. record { settings = p.0; rows = p.1.0; names = p.1.1.0; definitions = p.1.1.1 })
+    (λ _. refl)

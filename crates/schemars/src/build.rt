@@ -1,48 +1,241 @@
-//! The documents of rows, from the lowest up.
-ghost use Rattle.std.specs.Prelude.{◌<◌, suc, [], length, map, IfOk};
+//! The documents of rows, with parts in place or by reference.
+ghost use Rattle.std.specs.Prelude.{Some, codes, ◌≡◌, ◌<◌, ◌≤◌, ◌∷◌, not, suc, [], length, map, IfOk, OnOk, All, string_bytes};
+ghost use Rattle.serde_json.specs.Data.{string};
 ghost use Rattle.serde_json.specs.View.{members_view};
-ghost use Rattle.schemars_types.specs.InOrder.{AllBelow, IsInOrder};
-ghost use Rattle.schemars_types.specs.Meaning.{Deserialize};
+ghost use Rattle.schemars_schema.specs.References.{references, found_in_members};
+ghost use Rattle.schemars_types.specs.Edges.{height};
+ghost use Rattle.schemars_types.specs.Faults.{IsChecked};
 ghost use Rattle.schemars_types.specs.Shape.{shape_of, field_of, numbers_of};
-ghost use Rattle.schemars.specs.Documents.{IsDocument, IsWritten, Describes};
+ghost use Rattle.schemars.specs.Documents.{IsDocument, IsWritten, Describes, HasNoParts, NoPart, reference};
+ghost use Rattle.schemars.specs.Headline.{IsSubschema};
+ghost use Rattle.schemars.specs.Missing.{missing, StandsIn};
+ghost use Rattle.schemars.specs.Naming.{contract_of, name_of};
+ghost use Rattle.schemars.specs.PlainTable.{IsPlainTable, IsPlainShape, AreDistinct, AreNoted};
+ghost use Rattle.schemars.specs.Plans.{plan_of};
 ghost use Rattle.schemars.specs.Properties.{ArePropertiesOf};
+ghost use Rattle.schemars.specs.Reached.{AreReached};
+ghost use Rattle.schemars.specs.Work.{IsKey, Refers, Step, undone, reference_to};
 
+use crate::contract::Contract;
 use crate::documents::{
     annotate, bytes_document, char_document, formatted_document, map_document, required_names,
     schema_document, seq_document, type_alone,
 };
 use crate::integers::{int_document, non_zero_document};
+use crate::work::Work;
 use schemars_rewrite::builders::allow_null;
 use schemars_schema::Schema;
+use schemars_schema::encoding::encode_ref_name;
 use schemars_types::{Field, IntKind, Shape, TypeNo, Types};
 use serde_json::{Map, Value};
 use std::alloc::{AllocError, Global};
 
+/// What stays the same while documents are made.
+#[derive(Clone, Copy)]
+pub(crate) struct Plan<'t> {
+    pub(crate) types: &'t Types,
+    pub(crate) contract: Contract,
+    /// where the definitions stand
+    pub(crate) path: &'t str,
+    /// the row whose root document is made
+    pub(crate) root: Option<TypeNo>,
+}
+
+/// The schema of row `n` as a part: its document in place, or a reference to its definition, which
+/// is made unless it is there.
+#[cycle(build)]
+pub(crate) fn subschema(
+    alloc: Global,
+    plan: &Plan<'_>,
+    work: &mut Work,
+    in_definition: bool,
+    n: TypeNo,
+) -> Result<Schema, AllocError>
+    requires checked { IsChecked (plan_of plan.now).rows }
+    requires known { n < length (plan_of plan.now).rows }
+    ensures undone { undone work.new ≡ undone work.old }
+    ensures step { OnOk result (Step (plan_of plan.now) work.old work.new) }
+    ensures fewer { OnOk result (missing (plan_of plan.now).rows plan.now.contract work.new
+        ≤ missing (plan_of plan.now).rows plan.now.contract work.old) }
+    ensures written { IfOk result (IsSubschema (plan_of plan.now) (not in_definition) work.new n) }
+    ensures reached { IfOk result (λ s. IsPlainTable (plan_of plan.now).rows
+        → AreReached (plan_of plan.now).path work.old.definitions work.new.definitions (references s)) }
+{
+    let inline = match plan.types.entry(n) {
+        Some(entry) => entry.inline,
+        None => unreachable!(),
+    };
+    if inline {
+        let in_place = own_document(alloc, plan, work, in_definition, n)?;
+        return Ok(in_place);
+    }
+    if plan.root == Some(n) {
+        work.meet_root(in_definition);
+        let root = root_reference(alloc)?;
+        return Ok(root);
+    }
+    let name = work.name_for(alloc, plan.types, plan.contract, n)?;
+    define(alloc, plan, work, n, &name)?;
+    let reference = reference_to(alloc, plan.path, name.as_str())?;
+    Ok(reference)
+}
+
+// Makes the definition of row `n`, which has this name, unless it is there.
+#[cycle(build)]
+fn define(
+    alloc: Global,
+    plan: &Plan<'_>,
+    work: &mut Work,
+    n: TypeNo,
+    name: &String,
+) -> Result<(), AllocError>
+    requires checked { IsChecked (plan_of plan.now).rows }
+    requires known { n < length (plan_of plan.now).rows }
+    requires named { name_of n plan.now.contract work.old.names ≡ Some (string_bytes name.now) }
+    ensures undone { undone work.new ≡ undone work.old }
+    ensures step { OnOk result (Step (plan_of plan.now) work.old work.new) }
+    ensures fewer { OnOk result (missing (plan_of plan.now).rows plan.now.contract work.new
+        ≤ missing (plan_of plan.now).rows plan.now.contract work.old) }
+    ensures defined { OnOk result (IsKey (string_bytes name.now) work.new.definitions) }
+    ensures reached { OnOk result (IsPlainTable (plan_of plan.now).rows
+        → AreReached (plan_of plan.now).path work.old.definitions work.new.definitions
+        (string (reference_to (plan_of plan.now).path (string_bytes name.now)) ∷ [])) }
+{
+    let key = name.as_str();
+    if work.has_definition(key) {
+        return Ok(());
+    }
+    work.begin(alloc, key)?;
+    let definition = own_document(alloc, plan, work, true, n)?;
+    work.finish(key, definition);
+    Ok(())
+}
+
 /// The document of row `n`, with its notes.
 #[cycle(build)]
-pub(crate) fn own_document(alloc: Global, types: &Types, n: TypeNo) -> Result<Schema, AllocError>
-    requires known { n < length types.now }
-    requires in_order { IsInOrder types.now }
-    ensures { IfOk result (λ s. Describes types.now Deserialize [] (suc n) n s) }
+pub(crate) fn own_document(
+    alloc: Global,
+    plan: &Plan<'_>,
+    work: &mut Work,
+    in_definition: bool,
+    n: TypeNo,
+) -> Result<Schema, AllocError>
+    requires checked { IsChecked (plan_of plan.now).rows }
+    requires known { n < length (plan_of plan.now).rows }
+    ensures undone { undone work.new ≡ undone work.old }
+    ensures step { OnOk result (Step (plan_of plan.now) work.old work.new) }
+    ensures fewer { OnOk result (missing (plan_of plan.now).rows plan.now.contract work.new
+        ≤ missing (plan_of plan.now).rows plan.now.contract work.old) }
+    ensures describes { IfOk result (λ s. Describes (plan_of plan.now).rows (contract_of plan.now.contract)
+        (Refers (plan_of plan.now) (not in_definition) work.new) (suc (height (plan_of plan.now).rows n)) n s) }
+    ensures reached { IfOk result (λ s. IsPlainTable (plan_of plan.now).rows
+        → AreReached (plan_of plan.now).path work.old.definitions work.new.definitions (references s)) }
 {
-    let entry = match types.entry(n) {
+    let entry = match plan.types.entry(n) {
         Some(entry) => entry,
         None => unreachable!(),
     };
-    let mut schema = document(alloc, types, n, &entry.shape)?;
+    let mut schema = document(alloc, plan, work, in_definition, n, &entry.shape)?;
     annotate(alloc, &mut schema, &entry.notes)?;
     Ok(schema)
 }
 
 #[cycle(build)]
-fn document(alloc: Global, types: &Types, n: TypeNo, shape: &Shape) -> Result<Schema, AllocError>
-    requires known { n < length types.now }
-    requires in_order { IsInOrder types.now }
-    requires below { AllBelow n (numbers_of (shape_of shape.now)) }
-    ensures { IfOk result (λ s. IsDocument (IsWritten [] (Describes types.now Deserialize [] n)) Deserialize
-        (shape_of shape.now) s) }
+fn document(
+    alloc: Global,
+    plan: &Plan<'_>,
+    work: &mut Work,
+    in_definition: bool,
+    n: TypeNo,
+    shape: &Shape,
+) -> Result<Schema, AllocError>
+    requires checked { IsChecked (plan_of plan.now).rows }
+    requires stand { All (StandsIn (plan_of plan.now).rows n) (numbers_of (shape_of shape.now)) }
+    ensures undone { undone work.new ≡ undone work.old }
+    ensures step { OnOk result (Step (plan_of plan.now) work.old work.new) }
+    ensures fewer { OnOk result (missing (plan_of plan.now).rows plan.now.contract work.new
+        ≤ missing (plan_of plan.now).rows plan.now.contract work.old) }
+    ensures describes { IfOk result (λ s. IsDocument (IsWritten (Refers (plan_of plan.now) (not in_definition) work.new)
+        (Describes (plan_of plan.now).rows (contract_of plan.now.contract) (Refers (plan_of plan.now) (not in_definition) work.new)
+        (height (plan_of plan.now).rows n))) (contract_of plan.now.contract) (shape_of shape.now) s) }
+    ensures reached { IfOk result (λ s. IsPlainTable (plan_of plan.now).rows → IsPlainShape (shape_of shape.now)
+        → AreReached (plan_of plan.now).path work.old.definitions work.new.definitions (references s)) }
 {
     let _ = n;
+    match shape {
+        Shape::Option(some) => {
+            let mut schema = subschema(alloc, plan, work, in_definition, *some)?;
+            allow_null(alloc, &mut schema)?;
+            Ok(schema)
+        }
+        Shape::Seq(item) => {
+            let items = subschema(alloc, plan, work, in_definition, *item)?;
+            let schema = seq_document(alloc, items)?;
+            Ok(schema)
+        }
+        Shape::Struct(fields) => {
+            let properties = properties(alloc, plan, work, in_definition, n, &fields.list)?;
+            let required = required_names(alloc, plan.contract, &fields.list)?;
+            let schema = map_document(alloc, properties, required, fields.closed)?;
+            Ok(schema)
+        }
+        Shape::Newtype(inner) => {
+            let schema = subschema(alloc, plan, work, in_definition, *inner)?;
+            Ok(schema)
+        }
+        _ => {
+            let schema = document_without_parts(alloc, plan.contract, shape)?;
+            Ok(schema)
+        }
+    }
+}
+
+// The schemas of the fields under their names, each with its notes.
+#[cycle(build)]
+fn properties(
+    alloc: Global,
+    plan: &Plan<'_>,
+    work: &mut Work,
+    in_definition: bool,
+    n: TypeNo,
+    fields: &[Field],
+) -> Result<Map<String, Value>, AllocError>
+    requires checked { IsChecked (plan_of plan.now).rows }
+    requires stand { All (StandsIn (plan_of plan.now).rows n) (map (λ f. f.ty) (map field_of fields.now)) }
+    ensures undone { undone work.new ≡ undone work.old }
+    ensures step { OnOk result (Step (plan_of plan.now) work.old work.new) }
+    ensures fewer { OnOk result (missing (plan_of plan.now).rows plan.now.contract work.new
+        ≤ missing (plan_of plan.now).rows plan.now.contract work.old) }
+    ensures written { IfOk result (λ m. ArePropertiesOf (IsWritten (Refers (plan_of plan.now) (not in_definition) work.new)
+        (Describes (plan_of plan.now).rows (contract_of plan.now.contract) (Refers (plan_of plan.now) (not in_definition) work.new)
+        (height (plan_of plan.now).rows n))) (map field_of fields.now) (members_view m.entries)) }
+    ensures reached { IfOk result (λ m. IsPlainTable (plan_of plan.now).rows
+        → AreDistinct (map field_of fields.now) → AreNoted (map field_of fields.now)
+        → AreReached (plan_of plan.now).path work.old.definitions work.new.definitions (found_in_members (members_view m.entries))) }
+{
+    let _ = n;
+    let mut properties = Map::new(alloc);
+    for field in fields {
+        let mut schema = subschema(alloc, plan, work, in_definition, field.ty)?;
+        annotate(alloc, &mut schema, &field.notes)?;
+        serde_json::put(
+            &mut properties,
+            alloc,
+            field.name.as_str(),
+            schema.to_value(),
+        )?;
+    }
+    Ok(properties)
+}
+
+fn document_without_parts(
+    alloc: Global,
+    contract: Contract,
+    shape: &Shape,
+) -> Result<Schema, AllocError>
+    requires { HasNoParts (shape_of shape.now) }
+    ensures { IfOk result (IsDocument NoPart (contract_of contract) (shape_of shape.now)) }
+{
     match shape {
         Shape::Null => type_alone(alloc, "null"),
         Shape::Bool => type_alone(alloc, "boolean"),
@@ -55,58 +248,33 @@ fn document(alloc: Global, types: &Types, n: TypeNo, shape: &Shape) -> Result<Sc
         Shape::Any => Ok(Schema::from(true)),
         Shape::Bytes => {
             let byte = int_document(alloc, IntKind::U8)?;
-            let schema = bytes_document(alloc, byte)?;
+            let schema = bytes_document(alloc, contract, byte)?;
             Ok(schema)
         }
         Shape::SchemaItself => schema_document(alloc),
-        Shape::Option(some) => {
-            let mut schema = own_document(alloc, types, *some)?;
-            allow_null(alloc, &mut schema)?;
-            Ok(schema)
-        }
-        Shape::Seq(item) => {
-            let items = own_document(alloc, types, *item)?;
-            let schema = seq_document(alloc, items)?;
-            Ok(schema)
-        }
-        Shape::Struct(fields) => {
-            let properties = properties(alloc, types, n, &fields.list)?;
-            let required = required_names(alloc, &fields.list)?;
-            let schema = map_document(alloc, properties, required, fields.closed)?;
-            Ok(schema)
-        }
-        Shape::Newtype(inner) => {
-            let schema = own_document(alloc, types, *inner)?;
-            Ok(schema)
-        }
+        Shape::Option(_some) => unreachable!(),
+        Shape::Seq(_item) => unreachable!(),
+        Shape::Struct(_fields) => unreachable!(),
+        Shape::Newtype(_inner) => unreachable!(),
     }
 }
 
-// The schemas of the fields under their names, each with its notes.
-#[cycle(build)]
-fn properties(
-    alloc: Global,
-    types: &Types,
-    n: TypeNo,
-    fields: &[Field],
-) -> Result<Map<String, Value>, AllocError>
-    requires known { n < length types.now }
-    requires in_order { IsInOrder types.now }
-    requires below { AllBelow n (map (λ f. f.ty) (map field_of fields.now)) }
-    ensures { IfOk result (λ m. ArePropertiesOf types.now n (map field_of fields.now)
-        (members_view m.entries)) }
+// The whole document.
+fn root_reference(alloc: Global) -> Result<Schema, AllocError>
+    ensures { IfOk result (λ s. s ≡ reference (codes "#")) }
 {
-    let _ = n;
-    let mut properties = Map::new(alloc);
-    for field in fields {
-        let mut schema = own_document(alloc, types, field.ty)?;
-        annotate(alloc, &mut schema, &field.notes)?;
-        serde_json::put(
-            &mut properties,
-            alloc,
-            field.name.as_str(),
-            schema.to_value(),
-        )?;
-    }
-    Ok(properties)
+    let text = String::from_str(alloc, "#")?;
+    Schema::new_ref(alloc, text)
+}
+
+// The definition of this name.
+fn reference_to(alloc: Global, path: &str, name: &str) -> Result<Schema, AllocError>
+    ensures { IfOk result (λ s. s ≡ reference (reference_to path.now name.now)) }
+{
+    let token = encode_ref_name(alloc, name)?;
+    let mut text = String::from_str(alloc, "#")?;
+    text.push_str(path)?;
+    text.push('/')?;
+    text.push_str(token.as_str())?;
+    Schema::new_ref(alloc, text)
 }

@@ -4,15 +4,17 @@ ghost use Rattle.serde_json.specs.Data.{string, array, object, no_items, item, n
 ghost use Rattle.std.specs.Prelude.{map};
 ghost use Rattle.serde_json.specs.View.{items_view};
 ghost use Rattle.schemars_rewrite.specs.NullLaw.{text_items};
-ghost use Rattle.schemars_types.specs.Shape.{field_of};
-ghost use Rattle.schemars_types.specs.Meaning.{Deserialize};
+ghost use Rattle.schemars_types.specs.Shape.{field_of, required_of};
+ghost use Rattle.schemars_types.specs.Meaning.{is_required};
+ghost use Rattle.schemars.specs.Naming.{contract_of};
 ghost use Rattle.schemars.specs.Documents.{byte_document, bytes_document, schema_document, map_of, keyword_of_members, keyword_of_items, required_names};
 ghost use Rattle.serde_json.specs.View.{view, members_view};
-ghost use Rattle.schemars_schema.specs.SchemaData.{IsSchema, members_in, inserted, put_all};
-ghost use Rattle.schemars.specs.Documents.{typed, type_alone, char_document, formatted_document, seq_document, put_members, annotated, with_title, with_meta_schema, root_document};
+ghost use Rattle.schemars_schema.specs.SchemaData.{IsSchema, members_in, inserted, put_all, put_members};
+ghost use Rattle.schemars.specs.Documents.{typed, type_alone, char_document, formatted_document, seq_document, annotated, with_title, with_meta_schema, root_document};
 
+use crate::contract::Contract;
 use schemars_schema::Schema;
-use schemars_types::Field;
+use schemars_types::{Field, Required};
 use serde_json::{Map, Value};
 use std::alloc::{AllocError, Global};
 
@@ -112,11 +114,18 @@ fn put_required(
     Ok(())
 }
 
-/// Bytes that are read: a list of them, or a text.
-pub(crate) fn bytes_document(alloc: Global, byte: Schema) -> Result<Schema, AllocError>
-    ensures { IfOk result (λ s. byte ≡ byte_document → s ≡ bytes_document Deserialize) }
+/// Bytes: a list of them, or, where they are read, a text.
+pub(crate) fn bytes_document(
+    alloc: Global,
+    contract: Contract,
+    byte: Schema,
+) -> Result<Schema, AllocError>
+    ensures { IfOk result (λ s. byte ≡ byte_document → s ≡ bytes_document (contract_of contract)) }
 {
-    let mut members = one_of_two(alloc, "array", "string")?;
+    let mut members = match contract {
+        Contract::Deserialize => one_of_two(alloc, "array", "string")?,
+        Contract::Serialize => typed(alloc, "array")?,
+    };
     serde_json::put(&mut members, alloc, "items", byte.to_value())?;
     Ok(Schema::from(members))
 }
@@ -146,19 +155,32 @@ fn one_of_two(alloc: Global, first: &str, second: &str) -> Result<Map<String, Va
     Ok(members)
 }
 
-/// The names of the fields that have to be there in values that are read.
-pub(crate) fn required_names(alloc: Global, fields: &[Field]) -> Result<Vec<Value>, AllocError>
+/// The names of the fields that have to be there.
+pub(crate) fn required_names(
+    alloc: Global,
+    contract: Contract,
+    fields: &[Field],
+) -> Result<Vec<Value>, AllocError>
     ensures { IfOk result (λ v. items_view v.items
-        ≡ text_items (required_names Deserialize (map field_of fields.now))) }
+        ≡ text_items (required_names (contract_of contract) (map field_of fields.now))) }
 {
     let mut names = Vec::new(alloc);
     for field in fields {
-        if field.required.deserialize {
+        if is_required(contract, field.required) {
             let name = Value::try_from_str(alloc, field.name.as_str())?;
             serde_json::push(&mut names, name)?;
         }
     }
     Ok(names)
+}
+
+fn is_required(contract: Contract, required: Required) -> bool
+    ensures { result ≡ is_required (contract_of contract) (required_of required) }
+{
+    match contract {
+        Contract::Deserialize => required.deserialize,
+        Contract::Serialize => required.serialize,
+    }
 }
 
 fn typed(alloc: Global, name: &str) -> Result<Map<String, Value>, AllocError>

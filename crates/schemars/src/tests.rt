@@ -1,62 +1,11 @@
-ghost use Rattle.std.specs.Prelude.{◌≡◌, ◌<◌, Some, IsTrue, length, map, true};
-ghost use Rattle.schemars_types.specs.Shape.{shape_of, entry_of, field_of, numbers_of};
-ghost use Rattle.schemars_types.specs.Rows.{entry_at};
-ghost use Rattle.schemars_types.specs.InOrder.{AllBelow, IsInOrder, RefersBelow};
-
 use crate::types::{Field, Fields, IntKind, Required, Shape, TypeEntry, TypeNo, Types};
 use crate::{GenerateError, SchemaGenerator, SchemaSettings};
 use serde_json::{Map, Value};
 use std::alloc::Global;
-use std::process::Abort;
 use std::test::Fail;
 
-// Whether each row is written in place and refers to lower rows alone.
-fn is_in_order(types: &Types) -> bool
-    ensures { IsTrue result → IsInOrder types.now }
-{
-    for n in 0..types.len() {
-        if !refers_below(types, n) {
-            return false;
-        }
-    }
-    true
-}
-
-fn refers_below(types: &Types, n: TypeNo) -> bool
-    ensures { IsTrue result → RefersBelow types.now n }
-{
-    match types.entry(n) {
-        Some(entry) => entry.inline && is_below(&entry.shape, n),
-        None => false,
-    }
-}
-
-fn is_below(shape: &Shape, n: TypeNo) -> bool
-    ensures { IsTrue result → AllBelow n (numbers_of (shape_of shape.now)) }
-{
-    match shape {
-        Shape::Option(m) => *m < n,
-        Shape::Seq(m) => *m < n,
-        Shape::Newtype(m) => *m < n,
-        Shape::Struct(fields) => are_below(&fields.list, n),
-        _ => true,
-    }
-}
-
-fn are_below(fields: &[Field], n: TypeNo) -> bool
-    ensures { IsTrue result → AllBelow n (map (λ f. f.ty) (map field_of fields.now)) }
-{
-    for field in fields {
-        if field.ty >= n {
-            return false;
-        }
-    }
-    true
-}
-
 // The text of the root document of row `n`.
-fn root_text(rt: &impl Abort, alloc: Global, types: Types, n: TypeNo) -> Result<String, Fail> {
-    assert!(rt; is_in_order(&types));
+fn root_text(alloc: Global, types: Types, n: TypeNo) -> Result<String, Fail> {
     let settings = SchemaSettings::draft2020_12(alloc);
     let mut generator = SchemaGenerator::with_types(alloc, settings, types)?;
     let schema = generator.root_schema_for_type(alloc, n)?;
@@ -74,7 +23,7 @@ fn any_value(rt: HostRuntime) -> Result<(), Fail> {
     let alloc = rt.alloc();
     let mut types = Types::new(alloc);
     let any = types.any(alloc)?;
-    let text = root_text(&rt, alloc, types, any)?;
+    let text = root_text(alloc, types, any)?;
     let expected = document(alloc, r#""title":"AnyValue""#)?;
     assert_eq!(rt; text.as_str(), expected.as_str());
     Ok(())
@@ -86,7 +35,7 @@ fn nullable_non_zero(rt: HostRuntime) -> Result<(), Fail> {
     let mut types = Types::new(alloc);
     let non_zero = types.non_zero(alloc, IntKind::I8)?;
     let option = types.option(alloc, non_zero)?;
-    let text = root_text(&rt, alloc, types, option)?;
+    let text = root_text(alloc, types, option)?;
     let expected = document(
         alloc,
         r#""title":"Nullable_NonZeroI8","type":["integer","null"],"format":"int8","maximum":127,"minimum":-128,"not":{"const":0}"#,
@@ -103,7 +52,7 @@ fn nested_lists(rt: HostRuntime) -> Result<(), Fail> {
     let seq = types.seq(alloc, character)?;
     let option = types.option(alloc, seq)?;
     let outer = types.seq(alloc, option)?;
-    let text = root_text(&rt, alloc, types, outer)?;
+    let text = root_text(alloc, types, outer)?;
     let expected = document(
         alloc,
         r#""title":"Array_of_Nullable_Array_of_Character","type":"array","items":{"type":["array","null"],"items":{"type":"string","maxLength":1,"minLength":1}}"#,
@@ -142,7 +91,7 @@ fn notes(rt: HostRuntime) -> Result<(), Fail> {
             shape,
         },
     )?;
-    let text = root_text(&rt, alloc, types, row)?;
+    let text = root_text(alloc, types, row)?;
     let expected = document(
         alloc,
         r#""title":"Degrees","type":"integer","format":"celsius","maximum":32767,"minimum":-32768"#,
@@ -156,7 +105,6 @@ fn settings_are_kept(rt: HostRuntime) -> Result<(), Fail> {
     let alloc = rt.alloc();
     let mut types = Types::new(alloc);
     let text = types.text(alloc)?;
-    assert!(rt; is_in_order(&types));
     let mut settings = SchemaSettings::draft2020_12(alloc);
     settings.meta_schema = None;
     let generator = SchemaGenerator::with_types(alloc, settings, types)?;
@@ -179,6 +127,7 @@ fn refuses_unknown_rows(rt: HostRuntime) {
     }
     assert_eq!(rt; GenerateError::UnknownType(0).code(), 8);
     assert_eq!(rt; GenerateError::OutOfMemory.code(), 1);
+    assert_eq!(rt; GenerateError::DefinitionsPath.code(), 9);
 }
 
 // Reserves a row under this name, and defines it in place with this shape.
@@ -233,7 +182,7 @@ fn structs(rt: HostRuntime) -> Result<(), Fail> {
     let point = define(alloc, &mut types, "Point", Shape::Struct(fields))?;
     let wrapper = define(alloc, &mut types, "Wrapper", Shape::Newtype(point))?;
     let option = types.option(alloc, wrapper)?;
-    let text = root_text(&rt, alloc, types, option)?;
+    let text = root_text(alloc, types, option)?;
     let expected = document(
         alloc,
         r#""title":"Nullable_Wrapper","type":["object","null"],"properties":{"a":{"type":"boolean"},"b":{"description":"d","type":"string"},"z":{"type":"boolean"}},"additionalProperties":false,"required":["z","a"]"#,
@@ -252,7 +201,7 @@ fn empty_struct(rt: HostRuntime) -> Result<(), Fail> {
         closed: false,
     };
     let empty = define(alloc, &mut types, "Empty", Shape::Struct(fields))?;
-    let text = root_text(&rt, alloc, types, empty)?;
+    let text = root_text(alloc, types, empty)?;
     let expected = document(alloc, r#""title":"Empty","type":"object""#)?;
     assert_eq!(rt; text.as_str(), expected.as_str());
     Ok(())
@@ -263,7 +212,7 @@ fn bytes_and_schemas(rt: HostRuntime) -> Result<(), Fail> {
     let alloc = rt.alloc();
     let mut types = Types::new(alloc);
     let bytes = define(alloc, &mut types, "Bytes", Shape::Bytes)?;
-    let text = root_text(&rt, alloc, types, bytes)?;
+    let text = root_text(alloc, types, bytes)?;
     let expected = document(
         alloc,
         r#""title":"Bytes","type":["array","string"],"items":{"type":"integer","format":"uint8","maximum":255,"minimum":0}"#,
@@ -272,7 +221,7 @@ fn bytes_and_schemas(rt: HostRuntime) -> Result<(), Fail> {
 
     let mut types = Types::new(alloc);
     let schema = define(alloc, &mut types, "Schema", Shape::SchemaItself)?;
-    let text = root_text(&rt, alloc, types, schema)?;
+    let text = root_text(alloc, types, schema)?;
     let expected = document(alloc, r#""title":"Schema","type":["object","boolean"]"#)?;
     assert_eq!(rt; text.as_str(), expected.as_str());
     Ok(())

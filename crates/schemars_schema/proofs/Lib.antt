@@ -7,6 +7,8 @@ pub mod MapEdits
 pub mod Contents
 pub mod Encodings
 pub mod Pointers
+pub mod Placings
+pub mod PlacedFound
 pub mod Equalities
 pub mod Switched
 mod AcceptanceExamples

@@ -11,3 +11,4 @@ pub mod Annotations
 pub mod References
 pub mod Output
 pub mod Edits
+pub mod Placing

@@ -39,6 +39,10 @@ abbrev pub put_all : List (Text × Data) → Members → Members
 put_all [] ms = ms
 put_all (e ∷ es) ms = put_all es (put e.0 e.1 ms)
 
+abbrev pub put_members : Members → Members → Members
+put_members no_members ms = ms
+put_members (member k d new) ms = put_members new (put k d ms)
+
 -- an object of these members
 abbrev pub object_of : List (Text × Data) → Data
 object_of es = object (put_all es no_members)

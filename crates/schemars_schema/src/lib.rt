@@ -7,6 +7,7 @@ mod equality;
 mod error;
 mod ordered;
 mod output;
+mod placing;
 mod pointer;
 mod schema;
 mod serialized;

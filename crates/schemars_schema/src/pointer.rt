@@ -66,7 +66,7 @@ fn pointer_text<'p>(alloc: Global, pointer: &'p str) -> Result<Option<CowStr<'p>
 }
 
 // The first token, and the pointer from there on.
-fn split_token(tokens: &str) -> (&str, &str)
+pub(crate) fn split_token(tokens: &str) -> (&str, &str)
     ensures { IsFirstToken tokens.now result.0.now result.1.now }
 {
     match tokens.find('/') {
@@ -76,7 +76,7 @@ fn split_token(tokens: &str) -> (&str, &str)
 }
 
 // The key that a token stands for: `~1` is `/`, and `~0` is `~`.
-fn unescaped(alloc: Global, token: &str) -> Result<String, AllocError>
+pub(crate) fn unescaped(alloc: Global, token: &str) -> Result<String, AllocError>
     ensures { IfOk result (λ key. string_bytes key ≡ unescape token.now) }
 {
     let mut key = String::new(alloc);

@@ -269,7 +269,7 @@ fn members_for_truth_value(alloc: Global, value: &Value) -> Result<Map<String, V
     Ok(members)
 }
 
-fn insert_member(
+pub(crate) fn insert_member(
     members: &mut Map<String, Value>,
     key: String,
     value: Value,
@@ -292,7 +292,10 @@ fn remove_member(members: &mut Map<String, Value>, key: &str) -> Option<Value>
     members.remove(key)
 }
 
-fn member_mut<'m>(members: &'m mut Map<String, Value>, key: &str) -> Option<&'m mut Value>
+pub(crate) fn member_mut<'m>(
+    members: &'m mut Map<String, Value>,
+    key: &str,
+) -> Option<&'m mut Value>
     ensures* writes_back { sem 𝓛 (LendsSo map_row value_row members.entry result
         (λ n w. members_view n.entries
         ≡ replaced key.now (view w) (members_view members.old.entries))

@@ -18,6 +18,13 @@ fn text_value(alloc: Global, text: &str) -> Result<Value, Fail> {
     Ok(Value::try_from_str(alloc, text)?)
 }
 
+fn members_of(alloc: Global, text: &str) -> Result<Map<String, Value>, Fail> {
+    match Value::from_str(alloc, text)? {
+        Value::Object(members) => Ok(members),
+        _ => Err(Fail::from("no object")),
+    }
+}
+
 #[test]
 fn compares_values(rt: HostRuntime) -> Result<(), Fail> {
     for (a, b, equal) in [
@@ -400,4 +407,63 @@ fn names_the_drafts(rt: HostRuntime) {
         meta_schemas::OPENAPI3,
         "https://spec.openapis.org/oas/3.0/schema/2024-10-18#/definitions/Schema"
     );
+}
+
+#[test]
+fn members_are_put_at_a_pointer(rt: HostRuntime) -> Result<(), Fail> {
+    let alloc = rt.alloc();
+    for (before, pointer, after) in [
+        (
+            "{\"type\":\"object\"}",
+            "/$defs",
+            "{\"type\":\"object\",\"$defs\":{\"A\":true,\"B\":{}}}",
+        ),
+        (
+            "{}",
+            "/components/schemas",
+            "{\"components\":{\"schemas\":{\"A\":true,\"B\":{}}}}",
+        ),
+        (
+            "{\"components\":{\"x\":1}}",
+            "/components/schemas",
+            "{\"components\":{\"schemas\":{\"A\":true,\"B\":{}},\"x\":1}}",
+        ),
+        (
+            "{\"$defs\":{\"B\":null,\"C\":3}}",
+            "/$defs",
+            "{\"$defs\":{\"A\":true,\"B\":{},\"C\":3}}",
+        ),
+        ("{}", "/a~1b", "{\"a/b\":{\"A\":true,\"B\":{}}}"),
+        ("{\"a~1\":{}}", "/a~01", "{\"a~1\":{\"A\":true,\"B\":{}}}"),
+        ("{}", "//", "{\"\":{\"\":{\"A\":true,\"B\":{}}}}"),
+    ] {
+        let mut schema = schema_of(alloc, before)?;
+        let members = members_of(alloc, "{\"A\":true,\"B\":{}}")?;
+        assert!(rt; schema.merge_at(alloc, pointer, members)?, "{pointer}");
+        assert_eq!(rt; schema.to_ordered_string(alloc)?.as_str(), after);
+    }
+    Ok(())
+}
+
+#[test]
+fn members_are_put_into_objects_alone(rt: HostRuntime) -> Result<(), Fail> {
+    let alloc = rt.alloc();
+    for (text, pointer) in [
+        ("{}", ""),
+        ("{}", "/"),
+        ("{}", "defs"),
+        ("{}", "#/$defs"),
+        ("{\"$defs\":3}", "/$defs"),
+        ("{\"$defs\":[{}]}", "/$defs/0"),
+        ("{\"components\":true}", "/components/schemas"),
+        ("true", "/$defs"),
+    ] {
+        let mut schema = schema_of(alloc, text)?;
+        let members = members_of(alloc, "{\"A\":true}")?;
+        assert!(rt;
+            !schema.merge_at(alloc, pointer, members)?,
+            "{text} at {pointer}"
+        );
+    }
+    Ok(())
 }

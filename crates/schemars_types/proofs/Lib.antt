@@ -1,5 +1,6 @@
 pub mod TableLemmas
 pub mod EqualEntries
+pub mod Extensions
 pub mod Registered
 pub mod Heights
 pub mod Reaching

@@ -6,7 +6,6 @@ pub mod RowCode
 pub mod Slots
 pub mod Refusals
 pub mod Names
-pub mod InOrder
 pub mod Meaning
 pub mod Walks
 pub mod Search
@@ -14,3 +13,4 @@ pub mod Edges
 pub mod EdgeKind
 pub mod Repeated
 pub mod Faults
+pub mod Extends

@@ -1,8 +1,12 @@
-ghost use Rattle.std.specs.Prelude.{◌≡◌, ◌≢◌, ◌<◌, ◌↔◌, [], length, None, Some, IsTrue, IsSome, IsOk, IfOk, OnOk, OnErr, IfErr, Err, option_map, string_bytes, slice_get};
+ghost use Rattle.std.specs.Prelude.{◌≡◌, ◌≢◌, ◌<◌, ◌↔◌, ◌&&◌, [], length, take, map, false, bytes_eq, None, Some, IsTrue, IsSome, IsOk, IfOk, OnOk, OnErr, IfErr, Err, option_map, string_bytes, slice_get};
 ghost use Rattle.schemars_types.specs.Shape.{entry_of, shape_of};
 ghost use Rattle.schemars_types.specs.Rows.{place_of, entry_at, unknown_in, reserved, defined};
 ghost use Rattle.schemars_types.specs.Edges.{RefersWithin};
 ghost use Rattle.schemars_types.specs.Refusals.{first_unknown, refusal_of};
+ghost use Rattle.schemars_types.specs.ShapeParts.{entry_eq};
+ghost use Rattle.schemars_types.specs.Extends.{begins_with, rows_have_float};
+ghost use Rattle.schemars_types.specs.Slots.{row_of};
+ghost use Rattle.std.specs.Option.{option_eq};
 ghost use Rattle.std.specs.Result.{result_err};
 
 use crate::error::TypesError;
@@ -23,6 +27,19 @@ impl Slot {
         ensures { self.new ≡ record self.old { entry = Some entry } }
     {
         self.entry = Some(entry);
+    }
+
+    fn is_equal(&self, other: &Slot) -> bool
+        ensures { result ≡ (bytes_eq (string_bytes self.now.name) (string_bytes other.now.name)
+            && option_eq entry_eq (option_map entry_of self.now.entry)
+            (option_map entry_of other.now.entry)) }
+    {
+        self.name == other.name
+            && match (&self.entry, &other.entry) {
+                (Some(entry), Some(other)) => entry.is_equal(other),
+                (None, None) => true,
+                _ => false,
+            }
     }
 }
 
@@ -177,6 +194,19 @@ impl Types {
         }
     }
 
+    /// Whether the table's first rows are those of `first`: the same ids, names and entries under
+    /// the same numbers.
+    ///
+    /// Entries are compared as by `define`, so an entry with a decimal in its notes equals none.
+    pub fn begins_with(&self, first: &Types) -> bool
+        ensures value { result ≡ begins_with self.now first.now }
+        ensures same { IsTrue result → take (length first.now) self.now ≡ first.now }
+        ensures begins { rows_have_float first.now ≡ false
+            → take (length first.now) self.now ≡ first.now → IsTrue result }
+    {
+        slots_begin_with(&self.slots, &first.slots)
+    }
+
     fn first_unknown(&self, n: TypeNo, shape: &Shape) -> Option<TypeNo>
         ensures { result ≡ first_unknown self.now n (shape_of shape.now) }
     {
@@ -194,4 +224,20 @@ impl Types {
     {
         self.slots[n].define(entry);
     }
+}
+
+// Whether the first slots are these, in this order.
+fn slots_begin_with(slots: &IndexMap<String, Slot>, first: &IndexMap<String, Slot>) -> bool
+    ensures { result ≡ begins_with (map row_of slots.now.entries) (map row_of first.now.entries) }
+{
+    let mut rest = slots.iter();
+    for (id, slot) in first.iter() {
+        let Some((own_id, own)) = rest.next() else {
+            return false;
+        };
+        if own_id != id || !own.is_equal(slot) {
+            return false;
+        }
+    }
+    true
 }

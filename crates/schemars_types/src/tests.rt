@@ -395,3 +395,53 @@ fn errors_by_name(rt: HostRuntime) -> Result<(), Fail> {
     }
     Ok(())
 }
+
+// A row with this name and a note, and a reserved one.
+fn two_rows(alloc: Global, name: &str, note: &str) -> Result<Types, Fail> {
+    let mut types = Types::new(alloc);
+    let row = types.reserve(text(alloc, "row")?, text(alloc, name)?)?;
+    types.define(row, noted(alloc, note)?)?;
+    let _ = new_row(alloc, &mut types, "reserved")?;
+    Ok(types)
+}
+
+#[test]
+fn tables_begin_with_their_first_rows(rt: HostRuntime) -> Result<(), Fail> {
+    let alloc = rt.alloc();
+    let types = two_rows(alloc, "Row", "1")?;
+    let mut longer = types.clone()?;
+    assert!(rt; longer.begins_with(&types));
+    let _ = longer.bool(alloc)?;
+    assert!(rt; longer.begins_with(&types));
+    assert!(rt; !types.begins_with(&longer));
+    Ok(())
+}
+
+// A decimal equals nothing.
+#[test]
+fn tables_begin_with_no_other_rows(rt: HostRuntime) -> Result<(), Fail> {
+    let alloc = rt.alloc();
+    let types = two_rows(alloc, "Row", "1")?;
+    for (name, note, same) in [
+        ("Row", "1", true),
+        ("Other", "1", false),
+        ("Row", "2", false),
+        ("Row", "1.5", false),
+    ] {
+        let other = two_rows(alloc, name, note)?;
+        assert_eq!(rt; types.begins_with(&other), same, "{name}, {note}");
+    }
+    Ok(())
+}
+
+#[test]
+fn undefined_rows_begin_no_table(rt: HostRuntime) -> Result<(), Fail> {
+    let alloc = rt.alloc();
+    let mut types = Types::new(alloc);
+    let row = new_row(alloc, &mut types, "row")?;
+    let mut defined = types.clone()?;
+    defined.define(row, entry(alloc, Shape::Any))?;
+    assert!(rt; !defined.begins_with(&types));
+    assert!(rt; !types.begins_with(&defined));
+    Ok(())
+}

@@ -1,22 +1,24 @@
--- A row takes its entry, which the table never refuses.
-use Rattle.std.proofs.Common.{◌≡◌, false, true}
+-- A row takes its entry, unless it has notes or the table refuses it.
+use Rattle.std.proofs.Common.{◌≡◌, [], length, false, true, None, sym, rules}
 use Rattle.schemars_types.specs.Shape.{entry_of}
-use Rattle.schemagen.specs.Input.{is_plain}
-use Rattle.schemagen.proofs.Reading.{defining_goes_on, defining_is_not_plain, defining_is_not_refused}
+use Rattle.serde_json.specs.View.{items_view}
+use Rattle.schemagen.specs.Input.{is_bare}
+use Rattle.schemagen.specs.Reading.{fitting_after}
+use Rattle.schemagen.proofs.Reading.{defining_goes_on, defining_is_not_bare, defining_is_refused}
 use Rattle.schemagen.proofs.input.define_rows.Goals as goal
 
-pub returns-then-not-is_plain-clause-bad : goal.returns-then-not-is_plain-clause-bad
-returns-then-not-is_plain-clause-bad c = λ _.
-    let bad : is_plain c.loop-n.n (entry_of c.in_ok-entry.entry) ≡ false = cc in
-    defining_is_not_plain _ _ _ c.index-rows-n.result (entry_of c.in_ok-entry.entry) c.index-rows-n.is c.loop-n-test.true c.loop-n.invariant c.in_ok-entry.ensures.ok bad
+pub returns-then-not-is_bare-clause-bad : goal.returns-then-not-is_bare-clause-bad
+returns-then-not-is_bare-clause-bad c = λ _.
+    let noted : is_bare (entry_of c.in_ok-entry.entry) ≡ false = cc in
+    defining_is_not_bare _ _ _ _ c.index-rows-n.result (entry_of c.in_ok-entry.entry) c.index-rows-n.is c.loop-n-test.true c.loop-n.invariant c.in_ok-entry.ensures.ok noted
 
 pub returns-in_err-define-clause-bad : goal.returns-in_err-define-clause-bad
 returns-in_err-define-clause-bad c =
-    let plain : is_plain c.loop-n.n (entry_of c.in_ok-entry.entry) ≡ true = cc in
-    let taken = defining_is_not_refused _ _ _ c.index-rows-n.result (entry_of c.in_ok-entry.entry) c.index-rows-n.is c.loop-n-test.true c.loop-n.invariant plain in
-    absurd (cc (taken, c.in_err-define.ensures.refused))
+    let refused : fitting_after (length c.args.types) [] (items_view c.args.rows.now) ≡ None =
+    defining_is_refused _ _ _ _ c.index-rows-n.result (entry_of c.in_ok-entry.entry) _ c.index-rows-n.is c.loop-n-test.true c.loop-n.invariant c.in_ok-entry.ensures.ok (sym c.in_err-define.ensures.refused) in
+    search rules
 
 pub loop-n-preserved : goal.loop-n-preserved
 loop-n-preserved c =
-    let plain : is_plain c.loop-n.n (entry_of c.in_ok-entry.entry) ≡ true = cc in
-    defining_goes_on _ _ _ _ c.index-rows-n.result (entry_of c.in_ok-entry.entry) c.index-rows-n.is c.loop-n-test.true c.loop-n.invariant c.in_ok-entry.ensures.ok plain c.in_ok-define.ensures.ok
+    let bare : is_bare (entry_of c.in_ok-entry.entry) ≡ true = cc in
+    defining_goes_on _ _ _ _ _ c.index-rows-n.result (entry_of c.in_ok-entry.entry) c.index-rows-n.is c.loop-n-test.true c.loop-n.invariant c.in_ok-entry.ensures.ok bare (sym c.in_ok-define.ensures.refused) c.in_ok-define.ensures.ok

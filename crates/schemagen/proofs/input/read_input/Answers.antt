@@ -4,7 +4,7 @@ use Rattle.std.proofs.lemmas.Bool.Decides.{nat_tests}
 use Rattle.serde_json.specs.View.{view, items_view}
 use Rattle.schemagen.specs.declared.input.InputError.TheVariants.{BadTable}
 use Rattle.schemagen.specs.Input.{input_of, has_only}
-use Rattle.schemagen.proofs.Reading.{input_of-parts, tabled-not_reserved, tabled-done}
+use Rattle.schemagen.proofs.Reading.{input_of-parts, tabled-not_reserved, tabled-not_fitting, tabled-done}
 use Rattle.schemagen.proofs.input.read_input.Goals as goal
 
 below : (m n : ℕ) → m < n → nat_lt m n ≡ true
@@ -16,6 +16,14 @@ returns-in_err-types-clause-bad c =
     let parts = input_of-parts (view c.args.value.now) _ _ only (sym c.in-Some-Some.ensures) (sym c.in-Some-Some.ensures') in
     let bad : c.in_err-types.field-0.0 ≡ BadTable → input_of (view c.args.value.now) ≡ None =
     λ b. parts ∙ tabled-not_reserved (items_view c.in-Some-Some.rows.now.items) c.in-Some-Some.root (rw (sym c.deref.ensures.value) (c.in_err-types.ensures.bad b)) in
+    search rules
+
+pub returns-in_err-types-2-clause-bad : goal.returns-in_err-types-2-clause-bad
+returns-in_err-types-2-clause-bad c =
+    let only : has_only (codes "types" ∷ codes "root" ∷ []) (view c.args.value.now) ≡ true = cc in
+    let parts = input_of-parts (view c.args.value.now) _ _ only (sym c.in-Some-Some.ensures) (sym c.in-Some-Some.ensures') in
+    let bad : c.in_err-types-2.field-0.0 ≡ BadTable → input_of (view c.args.value.now) ≡ None =
+    λ b. parts ∙ tabled-not_fitting (items_view c.in-Some-Some.rows.now.items) c.in-Some-Some.root c.in_ok-types.types (rw (sym c.deref.ensures.value) (c.in_ok-types.ensures.ok)) (rw (sym c.deref-2.ensures.value) (c.in_err-types-2.ensures.bad b)) in
     search rules
 
 pub returns-clause-ok : goal.returns-clause-ok

@@ -1,8 +1,7 @@
 use Rattle.std.proofs.Common.{◌≡◌, [], ap, ◌∙◌, sym, rules}
 use Rattle.serde_json.specs.Data.{object}
 use Rattle.serde_json.specs.View.{members_view}
-use Rattle.schemars_schema.specs.SchemaData.{members_in}
-use Rattle.schemars.specs.Documents.{put_members}
+use Rattle.schemars_schema.specs.SchemaData.{put_members, members_in}
 use Rattle.schemars.proofs.Annotating.{annotated-some}
 use Rattle.schemars.proofs.documents.annotate.Goals as goal
 

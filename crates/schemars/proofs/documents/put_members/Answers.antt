@@ -1,9 +1,9 @@
-use Rattle.std.proofs.Common.{◌≡◌, ap, ◌∙◌, sym, codes}
-use Rattle.serde_json.specs.View.{view, members_view}
+use Rattle.std.proofs.Common.{ap, ◌∙◌, sym, codes}
+use Rattle.serde_json.specs.View.{members_view}
 use Rattle.serde_json.specs.Data.{put}
 use Rattle.serde_json.proofs.Views.{view-Object}
 use Rattle.schemars_schema.specs.SchemaData.{put_all}
-use Rattle.schemars.proofs.Building.{keyword-some}
+use Rattle.schemars.proofs.Mapping.{keyword-some}
 use Rattle.schemars.proofs.documents.put_members.Goals as goal
 
 pub returns : goal.returns

@@ -1,10 +1,10 @@
-use Rattle.std.proofs.Common.{◌≡◌, arith, ap, ◌∙◌, sym, codes}
+use Rattle.std.proofs.Common.{arith, ap, ◌∙◌, sym, codes}
 use Rattle.std.specs.Prelude.{◌==◌}
-use Rattle.serde_json.specs.View.{view, members_view}
+use Rattle.serde_json.specs.View.{members_view}
 use Rattle.serde_json.specs.Data.{put}
 use Rattle.serde_json.proofs.Views.{view-Array}
 use Rattle.schemars_schema.specs.SchemaData.{put_all}
-use Rattle.schemars.proofs.Building.{items_some}
+use Rattle.schemars.proofs.Mapping.{items_some}
 use Rattle.schemars.proofs.documents.put_required.Goals as goal
 
 pub returns : goal.returns

@@ -1,10 +1,27 @@
-use Rattle.std.proofs.Common.{◌≡◌, List, IfOk, false, ap, subst}
-use Rattle.serde_json.specs.Written.{has_float}
-use Rattle.schemars_types.specs.Rows.{Row}
-use Rattle.schemars.specs.PlainTable.{HasNoFloat}
+use Rattle.std.proofs.Common.{◌≡◌, inl, inr, subst, rules}
+use Rattle.schemars_types.specs.Faults.{IsChecked}
+use Rattle.schemars.specs.State.{State}
+use Rattle.schemars.specs.declared.error.GenerateError.TheVariants.{OutOfMemory}
+use Rattle.schemars.proofs.Calls.{root_means, root_is_whole, always_placed}
 use Rattle.schemars.proofs.generate.SchemaGenerator.into_root_schema_for_type.Goals as goal
+
+pub returns-clause-headline : goal.returns-clause-headline
+returns-clause-headline c =
+    let s = c.args.self in
+    let root = c.in_ok-document.ensures.root in
+    let P : State → Type 0 = λ x. IsChecked x.rows in
+    λ own path. root_means s c.args.n root.0 c.in_ok-document.document (subst P c.self.view_is c.self.invariant.0) root.1 root.2 root.3 own path
 
 pub returns-clause-whole : goal.returns-clause-whole
 returns-clause-whole c =
-    let P : List Row → Type 0 = λ rows. IfOk c.root_document.result (λ s. HasNoFloat rows → has_float s ≡ false) in
-    subst P (ap (λ s. s.rows) c.self.view_is) c.root_document.ensures.whole
+    let root = c.in_ok-document.ensures.root in
+    λ none own. root_is_whole c.args.self c.args.n root.0 c.in_ok-document.document root.1 root.2 none own
+
+pub returns-in_err-document-clause-only_memory : goal.returns-in_err-document-clause-only_memory
+returns-in_err-document-clause-only_memory c =
+    λ plain path known.
+    let memory : c.in_err-document.field-0.0 ≡ OutOfMemory = elim c.in_err-document.ensures.refused [
+      | inl e ↦ e
+      | inr h ↦ absurd (always_placed c.args.self c.args.n plain path h.1)
+    ] in
+    search rules

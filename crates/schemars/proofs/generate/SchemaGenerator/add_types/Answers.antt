@@ -1,0 +1,13 @@
+use Rattle.std.proofs.Common.{◌≡◌, length, take, sym, subst, rules}
+use Rattle.schemars.specs.Settings.{state_of}
+use Rattle.schemars.specs.State.{HasOwnDefinitions}
+use Rattle.schemars.proofs.Calls.{more_types_own}
+use Rattle.schemars.proofs.generate.SchemaGenerator.add_types.Goals as goal
+
+pub returns-clause-own : goal.returns-clause-own
+returns-clause-own c =
+    λ own.
+    let s = state_of c.self.inside.settings c.self.inside.types c.self.inside.work in
+    let before : HasOwnDefinitions s = subst HasOwnDefinitions (sym c.self.view_is) own in
+    let same : take (length s.rows) c.args.types ≡ s.rows = search rules in
+    more_types_own s c.args.types same before

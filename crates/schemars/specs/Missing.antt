@@ -1,0 +1,30 @@
+-- How far the making of documents still has to go.
+use Rattle.std.specs.Prelude.{◌<◌, ◌≤◌, ℕ, zero, suc, ◌+◌, List, length, Bool, false, is_some, if◌then◌else◌}
+use Rattle.std.specs.Option.{option_map_or}
+use Rattle.serde_json.specs.Find.{get_member}
+use Rattle.schemars_types.specs.Rows.{Row}
+use Rattle.schemars_types.specs.Edges.{is_inline_at, height}
+use Rattle.schemars.specs.declared.contract.Contract.{Contract}
+use Rattle.schemars.specs.Naming.{name_of}
+use Rattle.schemars.specs.Work.{Work}
+
+-- row n has a name, and a definition under it
+abbrev pub is_made : Contract → Work → ℕ → Bool
+is_made contract w n = option_map_or (λ name. is_some (get_member name w.definitions)) (name_of n contract w.names) false
+
+-- how many of the first rows are not
+abbrev pub missing_below : Contract → Work → ℕ → ℕ
+missing_below contract w zero = 0
+missing_below contract w (suc n) = (if is_made contract w n then 0 else 1) + missing_below contract w n
+
+unfoldable pub missing : List Row → Contract → Work → ℕ
+missing rows contract w = missing_below contract w (length rows)
+
+-- how many documents stand within one another where row n is a part; a row that is referred to adds none
+abbrev pub depth_in_place : List Row → ℕ → ℕ
+depth_in_place rows n = if is_inline_at rows n then suc (height rows n) else 0
+
+-- row m may be a part of row n's document
+pub record StandsIn (rows : List Row) (n m : ℕ) : Type 0 where
+  pub is_known : m < length rows
+  pub is_lower : depth_in_place rows m ≤ height rows n
