@@ -2,6 +2,8 @@
 #![tactic(auto)]
 
 mod fault;
+#[cfg(test)]
+mod generator_tests;
 mod input;
 #[cfg(test)]
 mod input_tests;

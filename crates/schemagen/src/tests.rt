@@ -337,6 +337,31 @@ fn writes_a_newtype_over_a_struct(rt: HostRuntime) -> Result<(), Fail> {
     Ok(())
 }
 
+// A chain of newtypes over a truth value, whose last link is the root.
+fn chain(alloc: Global, links: usize) -> Result<String, Fail> {
+    let mut text = String::from_str(
+        alloc,
+        r#"{"types":[{"id":"0","name":"boolean","inline":true,"shape":"bool"}"#,
+    )?;
+    for i in 0..links {
+        let link = format!(in alloc;
+            r#",{{"id":"link {i}","name":"L","inline":true,"shape":{{"newtype":{i}}}}}"#
+        )?;
+        text.push_str(link.as_str())?;
+    }
+    let end = format!(in alloc; r#"],"root":{links}}}"#)?;
+    text.push_str(end.as_str())?;
+    Ok(text)
+}
+
+#[test]
+fn writes_a_long_chain(rt: HostRuntime) -> Result<(), Fail> {
+    let input = chain(rt.alloc(), 300)?;
+    let members = r#""title":"L","type":"boolean""#;
+    assert_members(&rt, rt.alloc(), input.as_str(), members)?;
+    Ok(())
+}
+
 #[test]
 fn writes_for_values_that_are_written(rt: HostRuntime) -> Result<(), Fail> {
     let bytes = r#"{"types":[{"id":"b","name":"Bytes","inline":true,"shape":"bytes"}],"root":0}"#;

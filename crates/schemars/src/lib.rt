@@ -14,8 +14,6 @@ mod names;
 #[cfg(test)]
 mod names_tests;
 #[cfg(test)]
-mod reference_tests;
-#[cfg(test)]
 mod tests;
 mod work;
 

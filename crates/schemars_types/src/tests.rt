@@ -7,10 +7,22 @@ use std::test::Fail;
 fn assert_row(rt: &impl Abort, types: &Types, n: TypeNo, id: &str, name: &str) {
     assert_eq!(rt; types.id(n), Some(id));
     assert_eq!(rt; types.name(n), Some(name));
-    assert!(rt;
-        types.entry(n).is_some_and(|entry| entry.inline),
-        "{id} is written in place"
-    );
+    assert!(rt; is_inline(types, n), "{id} is written in place");
+}
+
+fn is_inline(types: &Types, n: TypeNo) -> bool {
+    match types.entry(n) {
+        Some(entry) => entry.inline,
+        None => false,
+    }
+}
+
+// The code of the refusal, and 0 where there is none.
+fn code_of(answer: Result<(), TypesError>) -> u32 {
+    match answer {
+        Ok(()) => 0,
+        Err(e) => e.code(),
+    }
 }
 
 fn assert_refused(rt: &impl Abort, answer: Result<TypeNo, TypesError>, code: u32) {
@@ -22,6 +34,21 @@ fn assert_refused(rt: &impl Abort, answer: Result<TypeNo, TypesError>, code: u32
 
 fn text(alloc: Global, s: &str) -> Result<String, AllocError> {
     String::from_str(alloc, s)
+}
+
+fn assert_integers(
+    rt: &impl Abort,
+    alloc: Global,
+    types: &mut Types,
+    kind: IntKind,
+    texts: [&str; 3],
+) -> Result<(), Fail> {
+    let [format, id, name] = texts;
+    let int = types.int(alloc, kind)?;
+    assert_row(rt, types, int, format, format);
+    let non_zero = types.non_zero(alloc, kind)?;
+    assert_row(rt, types, non_zero, id, name);
+    Ok(())
 }
 
 #[test]
@@ -61,64 +88,65 @@ fn integer_rows(rt: HostRuntime) -> Result<(), Fail> {
             "std::num::NonZeroUsize",
         ),
     ] {
-        let int = types.int(rt.alloc(), kind)?;
-        assert_row(&rt, &types, int, format, format);
-        let non_zero = types.non_zero(rt.alloc(), kind)?;
-        assert_row(&rt, &types, non_zero, id, name);
+        assert_integers(&rt, rt.alloc(), &mut types, kind, [format, id, name])?;
     }
     assert_eq!(rt; types.len(), 24);
     Ok(())
 }
 
+fn assert_plain_rows(rt: &impl Abort, alloc: Global, types: &mut Types) -> Result<(), Fail> {
+    let null = types.null(alloc)?;
+    assert_row(rt, types, null, "null", "null");
+    let truth = types.bool(alloc)?;
+    assert_row(rt, types, truth, "boolean", "boolean");
+    let number = types.number(alloc)?;
+    assert_row(rt, types, number, "Number", "Number");
+    let character = types.char(alloc)?;
+    assert_row(rt, types, character, "char", "Character");
+    let any = types.any(alloc)?;
+    assert_row(rt, types, any, "AnyValue", "AnyValue");
+    let id = text(alloc, "jiff::Date")?;
+    let name = text(alloc, "Date")?;
+    let date = types.formatted(alloc, id, name, text(alloc, "date")?)?;
+    assert_row(rt, types, date, "jiff::Date", "Date");
+    Ok(())
+}
+
+fn assert_rows_of_rows(rt: &impl Abort, alloc: Global, types: &mut Types) -> Result<(), Fail> {
+    let string = types.text(alloc)?;
+    assert_row(rt, types, string, "string", "string");
+    let option = types.option(alloc, string)?;
+    assert_row(rt, types, option, "Option<string>", "Nullable_string");
+    let list = types.seq(alloc, option)?;
+    let (id, name) = ("[Option<string>]", "Array_of_Nullable_string");
+    assert_row(rt, types, list, id, name);
+    assert_eq!(rt; types.text(alloc)?, string, "a row is there once");
+    assert_eq!(rt; types.find("Option<string>"), Some(option));
+    Ok(())
+}
+
 #[test]
 fn other_rows(rt: HostRuntime) -> Result<(), Fail> {
-    let alloc = rt.alloc();
-    let mut types = Types::new(alloc);
+    let mut types = Types::new(rt.alloc());
     assert!(rt; types.is_empty());
+    assert_plain_rows(&rt, rt.alloc(), &mut types)?;
+    assert_rows_of_rows(&rt, rt.alloc(), &mut types)?;
+    assert_eq!(rt; types.len(), 9);
+    Ok(())
+}
 
-    let null = types.null(alloc)?;
-    assert_row(&rt, &types, null, "null", "null");
-    let truth = types.bool(alloc)?;
-    assert_row(&rt, &types, truth, "boolean", "boolean");
-    let number = types.number(alloc)?;
-    assert_row(&rt, &types, number, "Number", "Number");
-    let character = types.char(alloc)?;
-    assert_row(&rt, &types, character, "char", "Character");
-    let any = types.any(alloc)?;
-    assert_row(&rt, &types, any, "AnyValue", "AnyValue");
-    let date = types.formatted(
-        alloc,
-        text(alloc, "jiff::Date")?,
-        text(alloc, "Date")?,
-        text(alloc, "date")?,
-    )?;
-    assert_row(&rt, &types, date, "jiff::Date", "Date");
-
-    let string = types.text(alloc)?;
-    assert_row(&rt, &types, string, "string", "string");
-    let option = types.option(alloc, string)?;
-    assert_row(&rt, &types, option, "Option<string>", "Nullable_string");
-    let list = types.seq(alloc, option)?;
-    assert_row(
-        &rt,
-        &types,
-        list,
-        "[Option<string>]",
-        "Array_of_Nullable_string",
-    );
-
+#[test]
+fn referred_rows(rt: HostRuntime) -> Result<(), Fail> {
+    let mut types = Types::new(rt.alloc());
     for (n, id, name) in [
-        (types.bytes(alloc)?, "bytes::Bytes", "Bytes"),
-        (types.schema(alloc)?, "schemars::Schema", "Schema"),
+        (types.bytes(rt.alloc())?, "bytes::Bytes", "Bytes"),
+        (types.schema(rt.alloc())?, "schemars::Schema", "Schema"),
     ] {
         assert_eq!(rt; types.id(n), Some(id));
         assert_eq!(rt; types.name(n), Some(name));
-        assert!(rt; types.entry(n).is_some_and(|entry| !entry.inline));
+        assert!(rt; !is_inline(&types, n));
     }
-
-    assert_eq!(rt; types.text(alloc)?, string, "a row is there once");
-    assert_eq!(rt; types.find("Option<string>"), Some(option));
-    assert_eq!(rt; types.len(), 11);
+    assert_eq!(rt; types.len(), 2);
     Ok(())
 }
 
@@ -174,28 +202,25 @@ fn entry(alloc: Global, shape: Shape) -> TypeEntry {
 fn entries_defined_twice(rt: HostRuntime) -> Result<(), Fail> {
     let alloc = rt.alloc();
     let mut types = Types::new(alloc);
-    for (id, note, code) in [("whole", "1", None), ("decimal", "0.5", Some(6))] {
-        let n = types.reserve(text(alloc, id)?, text(alloc, id)?)?;
-        types.define(n, noted(alloc, note)?)?;
-        assert_eq!(rt;
-            types.define(n, noted(alloc, note)?).err().map(|e| e.code()),
-            code
-        );
-        assert_eq!(rt;
-            types
-                .define(n, entry(alloc, Shape::Any))
-                .err()
-                .map(|e| e.code()),
-            Some(6)
-        );
-        assert_eq!(rt;
-            types
-                .define(n, entry(alloc, Shape::Seq(2)))
-                .err()
-                .map(|e| e.code()),
-            Some(8)
-        );
+    for (id, note, code) in [("whole", "1", 0), ("decimal", "0.5", 6)] {
+        assert_defined_twice(&rt, alloc, &mut types, id, note, code)?;
     }
+    Ok(())
+}
+
+fn assert_defined_twice(
+    rt: &impl Abort,
+    alloc: Global,
+    types: &mut Types,
+    id: &str,
+    note: &str,
+    code: u32,
+) -> Result<(), Fail> {
+    let n = new_row(alloc, types, id)?;
+    types.define(n, noted(alloc, note)?)?;
+    assert_eq!(rt; code_of(types.define(n, noted(alloc, note)?)), code);
+    assert_eq!(rt; code_of(types.define(n, entry(alloc, Shape::Any))), 6);
+    assert_eq!(rt; code_of(types.define(n, entry(alloc, Shape::Seq(2)))), 8);
     Ok(())
 }
 
@@ -217,20 +242,18 @@ fn structs_defined_twice(rt: HostRuntime) -> Result<(), Fail> {
     let text = types.text(alloc)?;
     let row = new_row(alloc, &mut types, "Pair")?;
     types.define(row, pair(alloc, "left", "right", text)?)?;
-    types.define(row, pair(alloc, "left", "right", text)?)?;
-    for other in [
-        pair(alloc, "right", "left", text)?,
-        pair(alloc, "left", "right", row)?,
-        entry(alloc, Shape::Newtype(text)),
+    for (first, second, ty, code) in [
+        ("left", "right", text, 0),
+        ("right", "left", text, 6),
+        ("left", "right", row, 6),
+        ("left", "right", 2, 8),
     ] {
-        assert_eq!(rt; types.define(row, other).err().map(|e| e.code()), Some(6));
+        let other = pair(alloc, first, second, ty)?;
+        assert_eq!(rt; code_of(types.define(row, other)), code);
     }
     assert_eq!(rt;
-        types
-            .define(row, pair(alloc, "left", "right", 2)?)
-            .err()
-            .map(|e| e.code()),
-        Some(8)
+        code_of(types.define(row, entry(alloc, Shape::Newtype(text)))),
+        6
     );
     Ok(())
 }
@@ -284,24 +307,28 @@ fn assert_fault(rt: &impl Abort, alloc: Global, types: &Types, code: u32, row: T
     }
 }
 
+// Adds a chain of newtypes over a truth value.
+fn add_chain(alloc: Global, types: &mut Types, links: usize) -> Result<(), Fail> {
+    let mut last = types.bool(alloc)?;
+    for i in 0..links {
+        let id = format!(in alloc; "Link{i}")?;
+        let link = new_row(alloc, types, id.as_str())?;
+        types.define(link, in_place(alloc, Shape::Newtype(last)))?;
+        last = link;
+    }
+    Ok(())
+}
+
+// A list that holds itself is referred to by name.
 #[test]
 fn accepted_tables(rt: HostRuntime) -> Result<(), Fail> {
     let alloc = rt.alloc();
     let mut types = Types::new(alloc);
     types.check(alloc)?;
-
-    // A list that holds itself is referred to by name.
     let list = new_row(alloc, &mut types, "List")?;
     types.define(list, pair(alloc, "first", "next", list)?)?;
     types.check(alloc)?;
-
-    let mut last = types.bool(alloc)?;
-    for i in 0..300 {
-        let id = format!(in alloc; "Link{i}")?;
-        let link = new_row(alloc, &mut types, id.as_str())?;
-        types.define(link, in_place(alloc, Shape::Newtype(last)))?;
-        last = link;
-    }
+    add_chain(alloc, &mut types, 300)?;
     types.check(alloc)?;
     Ok(())
 }
@@ -405,42 +432,56 @@ fn two_rows(alloc: Global, name: &str, note: &str) -> Result<Types, Fail> {
     Ok(types)
 }
 
+// The table with one row more.
+fn longer(alloc: Global, types: &Types) -> Result<Types, Fail> {
+    let mut longer = types.clone()?;
+    let _ = longer.bool(alloc)?;
+    Ok(longer)
+}
+
 #[test]
 fn tables_begin_with_their_first_rows(rt: HostRuntime) -> Result<(), Fail> {
-    let alloc = rt.alloc();
-    let types = two_rows(alloc, "Row", "1")?;
-    let mut longer = types.clone()?;
-    assert!(rt; longer.begins_with(&types));
-    let _ = longer.bool(alloc)?;
+    let types = two_rows(rt.alloc(), "Row", "1")?;
+    let longer = longer(rt.alloc(), &types)?;
+    assert!(rt; types.begins_with(&types));
     assert!(rt; longer.begins_with(&types));
     assert!(rt; !types.begins_with(&longer));
     Ok(())
 }
 
+// Whether the table begins with that of a row with this name and note.
+fn begins(alloc: Global, types: &Types, name: &str, note: &str) -> Result<bool, Fail> {
+    let first = two_rows(alloc, name, note)?;
+    Ok(types.begins_with(&first))
+}
+
 // A decimal equals nothing.
 #[test]
 fn tables_begin_with_no_other_rows(rt: HostRuntime) -> Result<(), Fail> {
-    let alloc = rt.alloc();
-    let types = two_rows(alloc, "Row", "1")?;
+    let types = two_rows(rt.alloc(), "Row", "1")?;
     for (name, note, same) in [
         ("Row", "1", true),
         ("Other", "1", false),
         ("Row", "2", false),
         ("Row", "1.5", false),
     ] {
-        let other = two_rows(alloc, name, note)?;
-        assert_eq!(rt; types.begins_with(&other), same, "{name}, {note}");
+        let answer = begins(rt.alloc(), &types, name, note)?;
+        assert_eq!(rt; answer, same, "{name}, {note}");
     }
     Ok(())
 }
 
+// The table with its last row defined.
+fn defined(alloc: Global, types: &Types) -> Result<Types, Fail> {
+    let mut defined = types.clone()?;
+    defined.define(1, entry(alloc, Shape::Any))?;
+    Ok(defined)
+}
+
 #[test]
 fn undefined_rows_begin_no_table(rt: HostRuntime) -> Result<(), Fail> {
-    let alloc = rt.alloc();
-    let mut types = Types::new(alloc);
-    let row = new_row(alloc, &mut types, "row")?;
-    let mut defined = types.clone()?;
-    defined.define(row, entry(alloc, Shape::Any))?;
+    let types = two_rows(rt.alloc(), "Row", "1")?;
+    let defined = defined(rt.alloc(), &types)?;
     assert!(rt; !defined.begins_with(&types));
     assert!(rt; !types.begins_with(&defined));
     Ok(())
