@@ -81,6 +81,10 @@ shape_without_float shape.bytes h = tt
 shape_without_float shape.schema_itself h = tt
 shape_without_float (shape.option n) h = tt
 shape_without_float (shape.seq n) h = tt
+shape_without_float (shape.set n) h = tt
+shape_without_float (shape.array n len) h = tt
+shape_without_float (shape.up_to n cap) h = tt
+shape_without_float (shape.tuple ns) h = tt
 shape_without_float (shape.newtype n) h = tt
 
 -- ---- names of fields
@@ -116,6 +120,10 @@ plain_shape shape.bytes h differ = tt
 plain_shape shape.schema_itself h differ = tt
 plain_shape (shape.option n) h differ = tt
 plain_shape (shape.seq n) h differ = tt
+plain_shape (shape.set n) h differ = tt
+plain_shape (shape.array n len) h differ = tt
+plain_shape (shape.up_to n cap) h differ = tt
+plain_shape (shape.tuple ns) h differ = tt
 plain_shape (shape.newtype n) h differ = tt
 
 -- ---- the table

@@ -8,7 +8,7 @@ use Rattle.schemars_schema.specs.Json.{Text}
 use Rattle.schemars_schema.specs.OrderedText.{is_listed}
 use Rattle.schemars_types.specs.declared.shape.IntKind.{IntKind}
 use Rattle.schemars_types.specs.declared.shape.IntKind.TheVariants.{I8, I16, I32, I64, I128, Isize, U8, U16, U32, U64, U128, Usize}
-use Rattle.schemars_types.specs.Shape.{Required, Field, Shape, Entry, null as null_shape, bool, int, non_zero, number as number_shape, text, char, formatted, any, bytes, schema_itself, option, seq, struct, newtype, numbers_of}
+use Rattle.schemars_types.specs.Shape.{Required, Field, Shape, Entry, null as null_shape, bool, int, non_zero, number as number_shape, text, char, formatted, any, bytes, schema_itself, option, seq, set, array as array_shape, up_to, tuple, struct, newtype, numbers_of}
 use Rattle.schemars_types.specs.Rows.{Row, with_entry}
 
 -- ---- the members of an object
@@ -106,13 +106,43 @@ shape_named t =
     else (if bytes_eq t (codes "text") then Some text else (if bytes_eq t (codes "char") then Some char else (if bytes_eq t (codes "any") then Some any
     else (if bytes_eq t (codes "bytes") then Some bytes else (if bytes_eq t (codes "schema") then Some schema_itself else None)))))))
 
--- and those that are said by an object with this one member
-abbrev pub shape_under : Text → Data → Option Shape
-shape_under name d =
+abbrev pub numbers_in : Items → Option (List ℕ)
+numbers_in no_items = Some []
+numbers_in (item d ds) = option_and_then (λ n. option_map (λ ns. n ∷ ns) (numbers_in ds)) (number_in d)
+
+abbrev pub tuple_in : Data → Option Shape
+tuple_in d = option_map tuple (option_and_then numbers_in (as_array d))
+
+-- the row of a list's items, and their number under this name
+abbrev pub counted_in : Text → Data → Option (ℕ × ℕ)
+counted_in count d =
+    if has_only (codes "of" ∷ count ∷ []) d
+    then option_and_then (λ n. option_map (λ k. (n, k)) (needed number_in count d)) (needed number_in (codes "of") d)
+    else None
+
+abbrev pub array_in : Data → Option Shape
+array_in d = option_map (λ p. array_shape p.0 p.1) (counted_in (codes "len") d)
+
+abbrev pub up_to_in : Data → Option Shape
+up_to_in d = option_map (λ p. up_to p.0 p.1) (counted_in (codes "cap") d)
+
+-- lists, by the kind that this name tells
+abbrev pub list_under : Text → Data → Option Shape
+list_under name d =
+    if bytes_eq name (codes "seq") then option_map seq (number_in d) else (if bytes_eq name (codes "set") then option_map set (number_in d)
+    else (if bytes_eq name (codes "array") then array_in d else (if bytes_eq name (codes "up_to") then up_to_in d
+    else (if bytes_eq name (codes "tuple") then tuple_in d else None))))
+
+-- other shapes without fields
+abbrev pub plain_under : Text → Data → Option Shape
+plain_under name d =
     if bytes_eq name (codes "int") then option_map int (kind_in d) else (if bytes_eq name (codes "nonzero") then option_map non_zero (kind_in d)
     else (if bytes_eq name (codes "format") then option_map formatted (as_str d) else (if bytes_eq name (codes "option") then option_map option (number_in d)
-    else (if bytes_eq name (codes "seq") then option_map seq (number_in d) else (if bytes_eq name (codes "newtype") then option_map newtype (number_in d)
-    else (if bytes_eq name (codes "struct") then struct_in d else None))))))
+    else (if bytes_eq name (codes "newtype") then option_map newtype (number_in d) else list_under name d))))
+
+-- and those that are said by an object with this one member
+abbrev pub shape_under : Text → Data → Option Shape
+shape_under name d = if bytes_eq name (codes "struct") then struct_in d else plain_under name d
 
 abbrev pub shape_in : Data → Option Shape
 shape_in null = None

@@ -4,7 +4,7 @@ ghost use Rattle.std.specs.List.{list_all};
 ghost use Rattle.serde_json.specs.View.{view, items_view, members_view};
 ghost use Rattle.schemars_types.specs.Shape.{shape_of, field_of, fields_view, required_of, entry_of, formatted, struct};
 ghost use Rattle.schemars_schema.specs.OrderedText.{is_listed};
-ghost use Rattle.schemagen.specs.Input.{has_only, lone_in, number_in, notes_in, kind_named, kind_in, required, required_each, required_in, field_in, fields_in, list_in, struct_in};
+ghost use Rattle.schemagen.specs.Input.{has_only, lone_in, number_in, notes_in, kind_named, kind_in, required, required_each, required_in, field_in, fields_in, list_in, struct_in, counted_in, array_in, up_to_in, numbers_in, tuple_in, list_under, plain_under};
 ghost use Rattle.schemagen.specs.Input.{shape_named, shape_under, shape_in, entry_in, optional, needed, heading_in, unentered, are_none, are_fields_bare, is_bare, input_of};
 ghost use Rattle.schemagen.specs.Reading.{as_input, headings_in, reserved_after, fitting_after};
 ghost use Rattle.serde_json.specs.Find.{as_bool, as_str, as_array};
@@ -287,23 +287,96 @@ fn struct_in(alloc: Global, value: &Value) -> Result<Shape, InputError>
     Ok(Shape::Struct(Fields { list, closed }))
 }
 
+// The row of a list's items, and their number under this name.
+fn counted_in(value: &Value, count: &str) -> Option<(TypeNo, u64)>
+    ensures { result ≡ counted_in count.now (view value.now) }
+{
+    if !has_only(value, &["of", count]) {
+        return None;
+    }
+    let n = number_of(value, "of")?;
+    let count = value.get(count)?.as_u64()?;
+    Some((n, count))
+}
+
+fn array_in(value: &Value) -> Option<Shape>
+    ensures { option_map shape_of result ≡ array_in (view value.now) }
+{
+    let (n, len) = counted_in(value, "len")?;
+    Some(Shape::Array(n, len))
+}
+
+fn up_to_in(value: &Value) -> Option<Shape>
+    ensures { option_map shape_of result ≡ up_to_in (view value.now) }
+{
+    let (n, cap) = counted_in(value, "cap")?;
+    Some(Shape::UpTo(n, cap))
+}
+
+fn numbers_in(alloc: Global, values: &[Value]) -> Result<Option<Vec<TypeNo>>, AllocError>
+    ensures { IfOk result (λ r. option_map (λ v. v.items) r ≡ numbers_in (items_view values.now)) }
+{
+    let mut numbers = Vec::new(alloc);
+    for value in values {
+        let Some(n) = number_in(value) else {
+            return Ok(None);
+        };
+        numbers.push(n)?;
+    }
+    Ok(Some(numbers))
+}
+
+fn tuple_in(alloc: Global, value: &Value) -> Result<Option<Shape>, AllocError>
+    ensures { IfOk result (λ s. option_map shape_of s ≡ tuple_in (view value.now)) }
+{
+    let Some(values) = value.as_array() else {
+        return Ok(None);
+    };
+    let numbers = numbers_in(alloc, values)?;
+    Ok(numbers.map(Shape::Tuple))
+}
+
 // The shape that an object with this one member says.
 fn shape_under(alloc: Global, name: &str, value: &Value) -> Result<Shape, InputError>
     ensures ok { IfOk result (λ s. shape_under name.now (view value.now) ≡ Some (shape_of s)) }
     ensures bad { IfErr result
         (λ e. e ≡ InputError.BadTable → shape_under name.now (view value.now) ≡ None) }
 {
-    let shape = match name {
+    match name {
+        "struct" => struct_in(alloc, value),
+        _ => match plain_under(alloc, name, value)? {
+            Some(shape) => Ok(shape),
+            None => Err(InputError::BadTable),
+        },
+    }
+}
+
+// A shape without fields.
+fn plain_under(alloc: Global, name: &str, value: &Value) -> Result<Option<Shape>, AllocError>
+    ensures { IfOk result (λ s. option_map shape_of s ≡ plain_under name.now (view value.now)) }
+{
+    Ok(match name {
         "int" => kind_in(value).map(Shape::Int),
         "nonzero" => kind_in(value).map(Shape::NonZero),
         "format" => format_in(alloc, value)?,
         "option" => number_in(value).map(Shape::Option),
-        "seq" => number_in(value).map(Shape::Seq),
         "newtype" => number_in(value).map(Shape::Newtype),
-        "struct" => Some(struct_in(alloc, value)?),
+        _ => list_under(alloc, name, value)?,
+    })
+}
+
+// A list, of the kind that this name tells.
+fn list_under(alloc: Global, name: &str, value: &Value) -> Result<Option<Shape>, AllocError>
+    ensures { IfOk result (λ s. option_map shape_of s ≡ list_under name.now (view value.now)) }
+{
+    Ok(match name {
+        "seq" => number_in(value).map(Shape::Seq),
+        "set" => number_in(value).map(Shape::Set),
+        "array" => array_in(value),
+        "up_to" => up_to_in(value),
+        "tuple" => tuple_in(alloc, value)?,
         _ => None,
-    };
-    shape.ok_or(InputError::BadTable)
+    })
 }
 
 fn format_in(alloc: Global, value: &Value) -> Result<Option<Shape>, AllocError>

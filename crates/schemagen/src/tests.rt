@@ -236,6 +236,36 @@ fn writes_options_and_lists(rt: HostRuntime) -> Result<(), Fail> {
     Ok(())
 }
 
+#[test]
+fn writes_lists_of_each_kind(rt: HostRuntime) -> Result<(), Fail> {
+    for (shape, rest) in [
+        (
+            r#"{"set":0}"#,
+            r#","type":"array","items":{"type":"boolean"},"uniqueItems":true"#,
+        ),
+        (
+            r#"{"array":{"of":0,"len":2}}"#,
+            r#","type":"array","items":{"type":"boolean"},"maxItems":2,"minItems":2"#,
+        ),
+        (
+            r#"{"array":{"of":0,"len":0}}"#,
+            r#","type":"array","maxItems":0"#,
+        ),
+        (
+            r#"{"up_to":{"of":0,"cap":8}}"#,
+            r#","type":"array","items":{"type":"boolean"},"maxItems":8"#,
+        ),
+        (
+            r#"{"tuple":[0,1]}"#,
+            r#","type":"array","maxItems":2,"minItems":2,"prefixItems":[{"type":"boolean"},{"type":"null"}]"#,
+        ),
+        (r#"{"tuple":[]}"#, r#","type":"array","maxItems":0"#),
+    ] {
+        assert_document(&rt, rt.alloc(), ["\"bool\"", "\"null\"", shape], rest)?;
+    }
+    Ok(())
+}
+
 fn assert_line(
     rt: &impl Abort,
     alloc: Global,
@@ -518,7 +548,17 @@ fn refuses_bad_shapes(rt: HostRuntime) -> Result<(), Fail> {
         r#"{"seq":-1}"#,
         r#"{"seq":3}"#,
         r#"{"seq":"0"}"#,
-        r#"{"set":0}"#,
+        r#"{"set":"0"}"#,
+        r#"{"list":0}"#,
+        r#"{"array":0}"#,
+        r#"{"array":{"of":0}}"#,
+        r#"{"array":{"of":0,"len":-1}}"#,
+        r#"{"array":{"of":0,"len":1,"cap":1}}"#,
+        r#"{"array":{"of":3,"len":0}}"#,
+        r#"{"up_to":{"of":0,"len":1}}"#,
+        r#"{"tuple":0}"#,
+        r#"{"tuple":[0,3]}"#,
+        r#"{"tuple":["0"]}"#,
         r#"{"struct":[]}"#,
         r#"{"struct":{"fields":[],"flatten":0}}"#,
     ] {

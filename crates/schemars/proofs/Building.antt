@@ -1,16 +1,18 @@
 -- How the document of a row is built from those of its parts.
-use Rattle.std.proofs.Common.{◌≡◌, ℕ, suc, List, [], ◌∷◌, ◌++◌, Bool, Option, Some, refl, sym, ◌∙◌, subst, arith}
+use Rattle.std.proofs.Common.{◌≡◌, ℕ, zero, suc, List, [], ◌∷◌, ◌++◌, Bool, false, Option, Some, None, unwrap_or, refl, ap, sym, ◌∙◌, subst, arith}
+use Rattle.std.specs.Prelude.{◌==◌, if◌then◌else◌}
+use Rattle.std.proofs.lemmas.Bool.Decides.{nat_tests}
 use Rattle.serde_json.specs.Data.{Data, Members, no_members, put}
 use Rattle.schemars_schema.specs.Json.{Text}
 use Rattle.schemars_schema.specs.SchemaData.{put_all}
 use Rattle.schemars_rewrite.specs.AllowNull.{allow_null}
 use Rattle.schemars_types.specs.Shape as shape
-use Rattle.schemars_types.specs.Shape.{Shape, Field, Entry, shape_of, required_of}
+use Rattle.schemars_types.specs.Shape.{Shape, Field, Entry, numbers_of}
 use Rattle.schemars_types.specs.Rows.{Row, entry_at}
 use Rattle.schemars_types.specs.Edges.{height}
 use Rattle.schemars_types.specs.Meaning.{Contract}
 use Rattle.schemars.specs.Naming.{contract_of}
-use Rattle.schemars.specs.Documents.{IsDocument, IsOwnDocument, IsWritten, AreWritten, Describes, NoPart, annotated, seq_document, field_keywords}
+use Rattle.schemars.specs.Documents.{IsDocument, IsOwnDocument, IsWritten, AreWritten, Describes, NoPart, annotated, item_in, list_document_for, tuple_document, ArePartsWritten, field_keywords}
 use Rattle.schemars.specs.Headline.{IsSubschema}
 use Rattle.schemars.specs.Missing.{StandsIn, depth_in_place}
 use Rattle.schemars.specs.Properties.{ArePropertiesOf}
@@ -35,12 +37,39 @@ written-wider plan free old new step n m t is =
 
 -- ---- one shape
 
+no_number : (k : ℕ) → (suc k == 0) ≡ false
+no_number k = grind (arith, nat_tests)
+
+item_of_array : (n len : ℕ) → item_in (shape.array n (suc len)) ≡ Some n
+item_of_array n len = ap (λ b. if b then None else Some n) (no_number len)
+
+some_is : (m n : ℕ) → Some m ≡ Some n → m ≡ n
+some_is m n h = ap (λ o. unwrap_or o 0) h
+
+-- the item's row is the only number of a list
+pub item_number : (kind : Shape) (m : ℕ) → item_in kind ≡ Some m → numbers_of kind ≡ m ∷ []
+item_number (shape.seq n) m is = ap (λ k. k ∷ []) (some_is n m is)
+item_number (shape.set n) m is = ap (λ k. k ∷ []) (some_is n m is)
+item_number (shape.array n zero) m is = cc
+item_number (shape.array n (suc len)) m is = ap (λ k. k ∷ []) (some_is n m (sym (item_of_array n len) ∙ is))
+item_number (shape.up_to n most) m is = ap (λ k. k ∷ []) (some_is n m is)
+item_number kind m is = cc
+
 module _ (W : ℕ → Data → Type 0) (contract : Contract) where
   pub option_document : (m : ℕ) (kind : Shape) (t s : Data) → kind ≡ shape.option m → W m t → s ≡ allow_null t → IsDocument W contract kind s
   option_document m kind t s is h e = let P : Shape → Type 0 = λ k. IsDocument W contract k s in subst P (sym is) (t, h, e)
 
-  pub seq_document-of : (m : ℕ) (kind : Shape) (t s : Data) → kind ≡ shape.seq m → W m t → s ≡ seq_document t → IsDocument W contract kind s
-  seq_document-of m kind t s is h e = let P : Shape → Type 0 = λ k. IsDocument W contract k s in subst P (sym is) (t, h, e)
+  -- the document of a list that may have items
+  pub list_document-of : (kind : Shape) (m : ℕ) (t s : Data) → item_in kind ≡ Some m → W m t → s ≡ list_document_for kind t → IsDocument W contract kind s
+  list_document-of (shape.seq n) m t s is h e = let P : ℕ → Type 0 = λ k. W k t in (t, subst P (sym (some_is n m is)) h, e)
+  list_document-of (shape.set n) m t s is h e = let P : ℕ → Type 0 = λ k. W k t in (t, subst P (sym (some_is n m is)) h, e)
+  list_document-of (shape.array n zero) m t s is h e = cc
+  list_document-of (shape.array n (suc len)) m t s is h e = let P : ℕ → Type 0 = λ k. W k t in (t, subst P (sym (some_is n m (sym (item_of_array n len) ∙ is))) h, e)
+  list_document-of (shape.up_to n most) m t s is h e = let P : ℕ → Type 0 = λ k. W k t in (t, subst P (sym (some_is n m is)) h, e)
+  list_document-of kind m t s is h e = cc
+
+  pub tuple_document-of : (ns : List ℕ) (kind : Shape) (ts : List Data) (s : Data) → kind ≡ shape.tuple ns → ArePartsWritten W ns ts → s ≡ tuple_document ts → IsDocument W contract kind s
+  tuple_document-of ns kind ts s is h e = let P : Shape → Type 0 = λ k. IsDocument W contract k s in subst P (sym is) (ts, h, e)
 
   pub newtype_document : (m : ℕ) (kind : Shape) (s : Data) → kind ≡ shape.newtype m → W m s → IsDocument W contract kind s
   newtype_document m kind s is h = let P : Shape → Type 0 = λ k. IsDocument W contract k s in subst P (sym is) h
@@ -54,6 +83,13 @@ unfolding Describes
 own_document-of rows contract R depth n e bare s at is same =
     let P : Option Entry → Type 0 = λ o. IsOwnDocument (IsWritten R (Describes rows contract R depth)) contract o s in
     subst P (sym at) (bare, is, same)
+
+-- ---- parts in order
+
+pub parts_joined : (W V : ℕ → Data → Type 0) → ((j : ℕ) (t : Data) → W j t → V j t) → (ns : List ℕ) (ts : List Data) (n : ℕ) (t : Data) → ArePartsWritten W ns ts → V n t → ArePartsWritten V (ns ++ n ∷ []) (ts ++ t ∷ [])
+parts_joined W V more [] ts n t h w = rw h (w, refl)
+parts_joined W V more (m ∷ ms) [] n t h w = absurd h
+parts_joined W V more (m ∷ ms) (u ∷ us) n t h w = (more m u h.0, parts_joined W V more ms us n t h.1 w)
 
 -- ---- structs
 

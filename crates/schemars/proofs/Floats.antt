@@ -17,7 +17,7 @@ use Rattle.schemars_types.specs.Shape as shape
 use Rattle.schemars_types.specs.Shape.{Shape, Entry, Field}
 use Rattle.schemars_types.specs.Rows.{Row, entry_at}
 use Rattle.schemars_types.specs.Meaning.{Contract, Deserialize, Serialize}
-use Rattle.schemars.specs.Documents.{IsDocument, IsOwnDocument, Describes, annotated, with_title, with_meta_schema, root_document, int_document, non_zero_document, Keyword, bytes_document, map_document, field_keywords, AreWritten, IsWritten}
+use Rattle.schemars.specs.Documents.{IsDocument, IsOwnDocument, Describes, annotated, with_title, with_meta_schema, root_document, int_document, non_zero_document, Keyword, bytes_document, map_document, field_keywords, AreWritten, ArePartsWritten, items_from, tuple_document, IsWritten}
 use Rattle.schemars.specs.PlainTable.{FieldsHaveNoFloat, ShapeHasNoFloat, EntryHasNoFloat, HasNoFloat}
 use Rattle.schemars_schema.specs.Edits.{without, replaced}
 use Rattle.schemars_schema.specs.Placing.{placed, placed_at, tokens_of}
@@ -166,6 +166,15 @@ bytes_whole : (contract : Contract) → IsWhole (bytes_document contract)
 bytes_whole Deserialize = refl
 bytes_whole Serialize = refl
 
+parts_whole : (W : ℕ → Data → Type 0) → ((j : ℕ) (t : Data) → W j t → IsWhole t) → (ns : List ℕ) (ts : List Data) → ArePartsWritten W ns ts → items_have_float (items_from ts) ≡ false
+parts_whole W whole [] ts h = rw h refl
+parts_whole W whole (n ∷ ns) [] h = absurd h
+parts_whole W whole (n ∷ ns) (t ∷ ts) h = rw (whole n t h.0, parts_whole W whole ns ts h.1) refl
+
+tuple_whole : (ts : List Data) → items_have_float (items_from ts) ≡ false → IsWhole (tuple_document ts)
+tuple_whole [] h = refl
+tuple_whole (t ∷ ts) h = rw h refl
+
 shape_whole : (W : ℕ → Data → Type 0) (contract : Contract) → ((j : ℕ) (t : Data) → W j t → IsWhole t) → (kind : Shape) → ShapeHasNoFloat kind → (s : Data) → IsDocument W contract kind s → IsWhole s
 shape_whole W contract whole shape.null n s is = rw is refl
 shape_whole W contract whole shape.bool n s is = rw is refl
@@ -180,6 +189,11 @@ shape_whole W contract whole shape.bytes n s is = rw is (bytes_whole contract)
 shape_whole W contract whole shape.schema_itself n s is = rw is refl
 shape_whole W contract whole (shape.option j) n s is = rw is.2 (whole_allow_null is.0 (whole j is.0 is.1))
 shape_whole W contract whole (shape.seq j) n s is = rw is.2 (or-false (has_float is.0) ∙ whole j is.0 is.1)
+shape_whole W contract whole (shape.set j) n s is = rw is.2 (or-false (has_float is.0) ∙ whole j is.0 is.1)
+shape_whole W contract whole (shape.array j zero) n s is = rw is refl
+shape_whole W contract whole (shape.array j (suc len)) n s is = rw is.2 (or-false (has_float is.0) ∙ whole j is.0 is.1)
+shape_whole W contract whole (shape.up_to j cap) n s is = rw is.2 (or-false (has_float is.0) ∙ whole j is.0 is.1)
+shape_whole W contract whole (shape.tuple ns) n s is = rw is.2 (tuple_whole is.0 (parts_whole W whole ns is.0 is.1))
 shape_whole W contract whole (shape.struct xs closed) n s is =
     rw is.2 (whole_map (field_keywords xs is.0) _ closed (whole_entries (field_keywords xs is.0) no_members (fields_whole W whole xs is.0 n is.1) refl))
 shape_whole W contract whole (shape.newtype j) n s is = whole j s is

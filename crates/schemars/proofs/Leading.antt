@@ -53,6 +53,10 @@ same_number shape.any j same = absurd same
 same_number shape.bytes j same = absurd same
 same_number shape.schema_itself j same = absurd same
 same_number (shape.seq i) j same = absurd same
+same_number (shape.set i) j same = absurd same
+same_number (shape.array i len) j same = absurd same
+same_number (shape.up_to i cap) j same = absurd same
+same_number (shape.tuple ns) j same = absurd same
 same_number (shape.struct xs closed) j same = absurd same
 
 rank_below : (rows : List Row) → IsChecked rows → (n : ℕ) (e : Entry) (j : ℕ) → entry_at rows n ≡ Some e → IsSame e.shape j → rank rows j < rank rows n

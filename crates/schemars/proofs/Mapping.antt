@@ -19,7 +19,7 @@ use Rattle.schemars_types.specs.Shape.{Shape, Field, Entry, numbers_of}
 use Rattle.schemars_types.specs.Rows.{Row, entry_at}
 use Rattle.schemars_types.specs.Meaning.{Contract}
 use Rattle.schemars.specs.Properties.{ArePropertiesOf}
-use Rattle.schemars.specs.Documents.{Keyword, IsDocument, IsOwnDocument, IsWritten, AreWritten, Describes, field_keywords, required_names, struct_document, map_document, map_of}
+use Rattle.schemars.specs.Documents.{Keyword, IsDocument, IsOwnDocument, IsWritten, AreWritten, ArePartsWritten, Describes, field_keywords, required_names, struct_document, map_document, map_of}
 
 -- ---- other ways to write parts
 
@@ -27,6 +27,11 @@ pub fields_map : (W V : ℕ → Data → Type 0) → ((j : ℕ) (t : Data) → W
 fields_map W V all [] ts h = h
 fields_map W V all (x ∷ xs) [] h = h
 fields_map W V all (x ∷ xs) (t ∷ ts) h = (all x.ty t h.0, fields_map W V all xs ts h.1)
+
+pub parts_map : (W V : ℕ → Data → Type 0) → ((j : ℕ) (t : Data) → W j t → V j t) → (ns : List ℕ) (ts : List Data) → ArePartsWritten W ns ts → ArePartsWritten V ns ts
+parts_map W V all [] ts h = h
+parts_map W V all (n ∷ ns) [] h = h
+parts_map W V all (n ∷ ns) (t ∷ ts) h = (all n t h.0, parts_map W V all ns ts h.1)
 
 pub shape_map : (W V : ℕ → Data → Type 0) (contract : Contract) → ((j : ℕ) (t : Data) → W j t → V j t) → (kind : Shape) (s : Data) → IsDocument W contract kind s → IsDocument V contract kind s
 shape_map W V contract all shape.null s is = is
@@ -42,6 +47,11 @@ shape_map W V contract all shape.bytes s is = is
 shape_map W V contract all shape.schema_itself s is = is
 shape_map W V contract all (shape.option n) s is = (is.0, all n is.0 is.1, is.2)
 shape_map W V contract all (shape.seq n) s is = (is.0, all n is.0 is.1, is.2)
+shape_map W V contract all (shape.set n) s is = (is.0, all n is.0 is.1, is.2)
+shape_map W V contract all (shape.array n zero) s is = is
+shape_map W V contract all (shape.array n (suc len)) s is = (is.0, all n is.0 is.1, is.2)
+shape_map W V contract all (shape.up_to n cap) s is = (is.0, all n is.0 is.1, is.2)
+shape_map W V contract all (shape.tuple ns) s is = (is.0, parts_map W V all ns is.0 is.1, is.2)
 shape_map W V contract all (shape.struct xs closed) s is = (is.0, fields_map W V all xs is.0 is.1, is.2)
 shape_map W V contract all (shape.newtype n) s is = all n s is
 

@@ -1,5 +1,5 @@
 -- In a table in order, a document of a row accepts just the values that belong to it.
-use Rattle.std.proofs.Common.{◌≡◌, ◌⊎◌, ℕ, ◌<◌, inl, inr, List, [], ◌∷◌, Bool, true, false, refl}
+use Rattle.std.proofs.Common.{◌≡◌, ◌⊎◌, ℕ, zero, suc, ◌<◌, inl, inr, List, [], ◌∷◌, Bool, true, false, refl}
 use Rattle.serde_json.specs.Data.{Data, depth}
 use Rattle.schemars_schema.specs.Verdict.{verdict}
 use Rattle.schemars_schema.specs.Json.{Text, IsJson}
@@ -12,11 +12,11 @@ use Rattle.schemars_types.specs.Shape.{Shape, Entry, numbers_of}
 use Rattle.schemars_types.specs.Meaning.{Contract, Deserialize, Serialize, has_shape}
 use Rattle.schemars.specs.Documents.{IsDocument}
 use Rattle.schemars.specs.PlainTable.{IsPlainShape}
-use Rattle.schemars.proofs.Shapes.{bytes_say, schema_says, null_says, bool_says, number_says, text_says, formatted_says, char_says, any_says, seq_says, int_says, non_zero_says}
+use Rattle.schemars.proofs.Shapes.{bytes_say, schema_says, null_says, bool_says, number_says, text_says, formatted_says, char_says, any_says, seq_says, set_says, array_says, up_to_says, tuple_says, int_says, non_zero_says}
 use Rattle.schemars.proofs.Structs.{struct_says}
 use Rattle.schemars_types.specs.declared.shape.IntKind.{IntKind}
 use Rattle.schemars_types.specs.declared.shape.IntKind.TheVariants.{I8, I16, I32, I64, I128, Isize, U8, U16, U32, U64, U128, Usize}
-use Rattle.schemars.specs.Documents.{Keyword, int_document, non_zero_document, bytes_document, map_document}
+use Rattle.schemars.specs.Documents.{Keyword, int_document, non_zero_document, bytes_document, map_document, tuple_document}
 use Rattle.std.specs.Prelude.{codes}
 
 -- ---- null can be added to each document
@@ -63,6 +63,10 @@ map_nullable (e ∷ es) [] true = inr (record { type_form = refl; no_const = ref
 map_nullable (e ∷ es) (n ∷ ns) false = inr (record { type_form = refl; no_const = refl; no_enum = refl; not_form = inl refl })
 map_nullable (e ∷ es) (n ∷ ns) true = inr (record { type_form = refl; no_const = refl; no_enum = refl; not_form = inl refl })
 
+tuple_nullable : (ts : List Data) → IsNullable (tuple_document ts)
+tuple_nullable [] = inr (record { type_form = refl; no_const = refl; no_enum = refl; not_form = inl refl })
+tuple_nullable (t ∷ ts) = inr (record { type_form = refl; no_const = refl; no_enum = refl; not_form = inl refl })
+
 module _ (W : ℕ → Data → Type 0) (contract : Contract) (ready : (j : ℕ) (t : Data) → W j t → IsNullable t) where
   pub shape_nullable : (kind : Shape) (s : Data) → IsDocument W contract kind s → IsNullable s
   shape_nullable shape.null s is = rw is (inr (record { type_form = refl; no_const = refl; no_enum = refl; not_form = inl refl }))
@@ -80,6 +84,11 @@ module _ (W : ℕ → Data → Type 0) (contract : Contract) (ready : (j : ℕ) 
   shape_nullable (shape.struct xs closed) s is = rw is.2 (map_nullable _ _ closed)
   shape_nullable (shape.newtype n) s is = ready n s is
   shape_nullable (shape.seq n) s is = rw is.2 (inr (record { type_form = refl; no_const = refl; no_enum = refl; not_form = inl refl }))
+  shape_nullable (shape.set n) s is = rw is.2 (inr (record { type_form = refl; no_const = refl; no_enum = refl; not_form = inl refl }))
+  shape_nullable (shape.array n zero) s is = rw is (inr (record { type_form = refl; no_const = refl; no_enum = refl; not_form = inl refl }))
+  shape_nullable (shape.array n (suc len)) s is = rw is.2 (inr (record { type_form = refl; no_const = refl; no_enum = refl; not_form = inl refl }))
+  shape_nullable (shape.up_to n cap) s is = rw is.2 (inr (record { type_form = refl; no_const = refl; no_enum = refl; not_form = inl refl }))
+  shape_nullable (shape.tuple ns) s is = rw is.2 (tuple_nullable is.0)
 
 -- ---- one shape
 
@@ -98,6 +107,10 @@ IsSame shape.bytes j = ⊥
 IsSame shape.schema_itself j = ⊥
 IsSame (shape.option n) j = j ≡ n
 IsSame (shape.seq n) j = ⊥
+IsSame (shape.set n) j = ⊥
+IsSame (shape.array n len) j = ⊥
+IsSame (shape.up_to n cap) j = ⊥
+IsSame (shape.tuple ns) j = ⊥
 IsSame (shape.struct xs closed) j = ⊥
 IsSame (shape.newtype n) j = j ≡ n
 
@@ -129,6 +142,10 @@ module _ (patterns : Patterns) (f : Text → Judge) (contract : Contract) (W : �
   shape_says shape.schema_itself s p is v json agree = rw is (schema_says patterns f contract M v)
   shape_says (shape.option j) s p is v json agree = rw is.2 (allow_null-says patterns f is.0 (ready j is.0 is.1) v (M j v) (agree j is.0 v is.1 json (inr (refl, refl))))
   shape_says (shape.seq j) s p is v json agree = rw is.2 (seq_says patterns f contract M j is.0 (schemas j is.0 is.1) v json (λ w js less. agree j is.0 w is.1 js (inl less)))
+  shape_says (shape.set j) s p is v json agree = rw is.2 (set_says patterns f contract M j is.0 (schemas j is.0 is.1) v json (λ w js less. agree j is.0 w is.1 js (inl less)))
+  shape_says (shape.array j len) s p is v json agree = array_says patterns f contract M W schemas j len s is v json (λ t w a js less. agree j t w a js (inl less))
+  shape_says (shape.up_to j cap) s p is v json agree = rw is.2 (up_to_says patterns f contract M j cap is.0 (schemas j is.0 is.1) v json (λ w js less. agree j is.0 w is.1 js (inl less)))
+  shape_says (shape.tuple ns) s p is v json agree = rw is.2 (tuple_says patterns f contract M W schemas ns is.0 is.1 v json (λ j t w a js less. agree j t w a js (inl less)))
   shape_says (shape.struct xs closed) s p is v json agree =
       rw is.2 (struct_says patterns f contract W M schemas xs is.0 closed p.0 p.1 is.1 v json (λ j t w a js less. agree j t w a js (inl less)))
   shape_says (shape.newtype j) s p is v json agree = agree j s v is json (inr (refl, refl))

@@ -15,7 +15,7 @@ use Rattle.schemars_types.specs.Shape as shape
 use Rattle.schemars_types.specs.Shape.{Shape, Entry}
 use Rattle.schemars_types.specs.Rows.{Row, entry_at}
 use Rattle.schemars_types.specs.Meaning.{Contract, least_of, greatest_of}
-use Rattle.schemars.specs.Documents.{Keyword, IsDocument, IsOwnDocument, IsWritten, Describes, annotated, with_title, with_meta_schema, root_document, int_keywords, int_document, non_zero_document, is_signed, map_document, properties_keyword, required_keyword, closed_keyword, typed, type_alone, char_document, formatted_document, bytes_document, schema_document, seq_document, field_keywords, required_names, reference}
+use Rattle.schemars.specs.Documents.{Keyword, IsDocument, IsOwnDocument, IsWritten, Describes, annotated, with_title, with_meta_schema, root_document, int_keywords, int_document, non_zero_document, is_signed, map_document, properties_keyword, required_keyword, closed_keyword, typed, type_alone, char_document, formatted_document, bytes_document, schema_document, seq_document, field_keywords, required_names, reference, set_document, array_document, up_to_document, empty_list_document, tuple_document}
 use Rattle.schemars.specs.PlainTable.{IsPlainEntry, IsPlainTable}
 use Rattle.schemars.proofs.Keys.{IsDefinitionsKey, IsOther, other_apart, annotation_other}
 
@@ -124,6 +124,10 @@ module _ (key : Text) (is_key : IsDefinitionsKey key) where
   lacks_bytes : (contract : Contract) → LacksIn (bytes_document contract)
   lacks_bytes contract = lacks_both (members_in (bytes_document contract)) refl refl
 
+  lacks_tuple : (ts : List Data) → LacksIn (tuple_document ts)
+  lacks_tuple [] = lacks_both (members_in empty_list_document) refl refl
+  lacks_tuple (t ∷ ts) = lacks_both (members_in (tuple_document (t ∷ ts))) refl refl
+
   shape_lacks : (W : ℕ → Data → Type 0) (contract : Contract) → ((j : ℕ) (t : Data) → W j t → LacksIn t) → (kind : Shape) (s : Data) → IsDocument W contract kind s → LacksIn s
   shape_lacks W contract all shape.null s is = rw is (lacks_both (members_in (type_alone (codes "null"))) refl refl)
   shape_lacks W contract all shape.bool s is = rw is (lacks_both (members_in (type_alone (codes "boolean"))) refl refl)
@@ -138,6 +142,11 @@ module _ (key : Text) (is_key : IsDefinitionsKey key) where
   shape_lacks W contract all shape.schema_itself s is = rw is (lacks_both (members_in schema_document) refl refl)
   shape_lacks W contract all (shape.option n) s is = rw is.2 (lacks_allow_null is.0 (all n is.0 is.1))
   shape_lacks W contract all (shape.seq n) s is = rw is.2 (lacks_both (members_in (seq_document is.0)) refl refl)
+  shape_lacks W contract all (shape.set n) s is = rw is.2 (lacks_both (members_in (set_document is.0)) refl refl)
+  shape_lacks W contract all (shape.array n zero) s is = rw is (lacks_both (members_in empty_list_document) refl refl)
+  shape_lacks W contract all (shape.array n (suc len)) s is = rw is.2 (lacks_both (members_in (array_document (suc len) is.0)) refl refl)
+  shape_lacks W contract all (shape.up_to n cap) s is = rw is.2 (lacks_both (members_in (up_to_document cap is.0)) refl refl)
+  shape_lacks W contract all (shape.tuple ns) s is = rw is.2 (lacks_tuple is.0)
   shape_lacks W contract all (shape.struct xs closed) s is = rw is.2 (lacks_map (field_keywords xs is.0) (required_names contract xs) closed)
   shape_lacks W contract all (shape.newtype n) s is = all n s is
 

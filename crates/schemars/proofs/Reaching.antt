@@ -1,5 +1,5 @@
 -- What a part of a call adds is reached from the references that it makes.
-use Rattle.std.proofs.Common.{◌≡◌, inl, inr, ◌<◌, ℕ, zero, suc, List, [], ◌∷◌, ◌++◌, length, map, take, Bool, true, false, Option, Some, None, Ordering, Less, Equal, Greater, nat_cmp, refl, sym, ap, ◌∙◌, arith, subst, Contains, get_or, true≢false}
+use Rattle.std.proofs.Common.{◌≡◌, inl, inr, ◌<◌, ℕ, zero, suc, List, [], ◌∷◌, ◌++◌, length, map, take, Bool, true, false, Option, Some, None, Ordering, Less, Equal, Greater, nat_cmp, refl, sym, ap, ◌∙◌, arith, subst, Contains, get_or, true≢false, append_assoc}
 use Rattle.std.specs.Prelude.{codes, bytes_eq, is_some, if◌then◌else◌}
 use Rattle.std.specs.Ordering.{match_ordering}
 use Rattle.std.specs.Cmp.Lexicographic.{slice_cmp}
@@ -9,16 +9,19 @@ use Rattle.std.proofs.lemmas.List.Elements.{Contains-append_left, Contains-appen
 use Rattle.serde_json.specs.Data.{Data, null, boolean, number, string, array, object, Items, no_items, item, Members, no_members, member, put}
 use Rattle.serde_json.specs.Find.{get_member}
 use Rattle.serde_json.proofs.Views.{get_member-put_other}
+use Rattle.serde_json.specs.declared.value.Value.{Value}
+use Rattle.serde_json.specs.View.{view, items_view}
 use Rattle.schemars_schema.specs.Json.{Text}
 use Rattle.schemars_schema.specs.SchemaData.{put_members, members_in, put_all}
 use Rattle.schemars_schema.specs.Annotations.{AreNotes}
 use Rattle.schemars_schema.specs.Edits.{replaced}
-use Rattle.schemars_schema.specs.References.{found_in, found_in_members, found_in_keywords, references}
+use Rattle.schemars_schema.specs.References.{found_in, found_in_members, found_in_items, found_in_keywords, references}
 use Rattle.schemars_schema.proofs.Contents.{found_under, found_under-annotation}
 use Rattle.schemars_rewrite.specs.AllowNull.{is_combined, or_null, allow_null, type_with_null, null_in_type}
 use Rattle.schemars_types.specs.declared.shape.Field as src
-use Rattle.schemars_types.specs.Shape.{Field, field_of}
-use Rattle.schemars.specs.Documents.{seq_document, map_of, annotated, with_title, with_meta_schema, root_document, field_keywords, reference}
+use Rattle.schemars_types.specs.Shape as shape
+use Rattle.schemars_types.specs.Shape.{Shape, Field, field_of}
+use Rattle.schemars.specs.Documents.{list_document_for, items_from, tuple_document, map_of, annotated, with_title, with_meta_schema, root_document, field_keywords, reference}
 use Rattle.schemars.specs.PlainTable.{IsNoName, AreDistinct, AreNoted}
 use Rattle.schemars.specs.Properties.{ArePropertiesOf}
 use Rattle.schemars.specs.Reached.{IsReached, by_reference, by_definition, AreReached}
@@ -125,9 +128,37 @@ among_allow_null (number n) = λ x h. absurd (omega (arith, h.1))
 among_allow_null (string t) = λ x h. absurd (omega (arith, h.1))
 among_allow_null (array ds) = λ x h. absurd (omega (arith, h.1))
 
-pub among_seq : (t : Data) → Among (references t) (references (seq_document t))
+pub among_list : (kind : Shape) (t : Data) → Among (references t) (references (list_document_for kind t))
 unfolding found_in
-among_seq t = λ x h. among_left (references t ++ (found_in t).in_list) [] x (among_left (references t) (found_in t).in_list x h)
+among_list (shape.set n) t = λ x h. among_left (references t ++ (found_in t).in_list) [] x (among_left (references t) (found_in t).in_list x h)
+among_list (shape.array n len) t = λ x h. among_left (references t ++ (found_in t).in_list) [] x (among_left (references t) (found_in t).in_list x h)
+among_list (shape.up_to n most) t = λ x h. among_left (references t ++ (found_in t).in_list) [] x (among_left (references t) (found_in t).in_list x h)
+among_list kind t = λ x h. among_left (references t ++ (found_in t).in_list) [] x (among_left (references t) (found_in t).in_list x h)
+
+items_from-view : (vs : List Value) → items_from (map view vs) ≡ items_view vs
+items_from-view [] = refl
+items_from-view (v ∷ vs) = ap (item (view v)) (items_from-view vs)
+
+among_parts : (ts : List Data) → Among (found_in_items (items_from ts)) (references (tuple_document ts))
+unfolding found_in
+among_parts [] = λ x h. absurd (omega (arith, h.1))
+among_parts (t ∷ ts) = among_left (found_in_items (items_from (t ∷ ts))) []
+
+pub among_tuple : (vs : List Value) → Among (found_in_items (items_view vs)) (references (tuple_document (map view vs)))
+among_tuple vs = let P : Items → Type 0 = λ is. Among (found_in_items is) (references (tuple_document (map view vs))) in subst P (items_from-view vs) (among_parts (map view vs))
+
+items_split : (vs : List Value) (v : Value) → found_in_items (items_view (vs ++ v ∷ [])) ≡ found_in_items (items_view vs) ++ (references (view v) ++ [])
+unfolding found_in
+items_split [] v = refl
+items_split (u ∷ vs) v = ap (λ xs. references (view u) ++ xs) (items_split vs v) ∙ sym (append_assoc (references (view u)) (found_in_items (items_view vs)) (references (view v) ++ []))
+
+pub items-kept : (vs : List Value) (v : Value) → Among (found_in_items (items_view vs)) (found_in_items (items_view (vs ++ v ∷ [])))
+items-kept vs v = let P : List Data → Type 0 = λ xs. Among (found_in_items (items_view vs)) xs in subst P (sym (items_split vs v)) (among_left (found_in_items (items_view vs)) (references (view v) ++ []))
+
+pub items-has : (vs : List Value) (v : Value) → Among (references (view v)) (found_in_items (items_view (vs ++ v ∷ [])))
+items-has vs v =
+    let P : List Data → Type 0 = λ xs. Among (references (view v)) xs in
+    subst P (sym (items_split vs v)) (λ x h. Contains-append_right (found_in_items (items_view vs)) (references (view v) ++ []) x (among_left (references (view v)) [] x h))
 
 pub among_map : (ms : Members) (items : Items) (closed : Bool) → Among (found_in_members ms) (references (map_of ms items closed))
 unfolding found_in

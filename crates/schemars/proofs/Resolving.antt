@@ -10,7 +10,7 @@ use Rattle.schemars_schema.specs.Json.{Text}
 use Rattle.schemars_schema.specs.SchemaData.{put_members, IsSchema, members_in, put_all}
 use Rattle.schemars_schema.specs.Annotations.{AreNotes}
 use Rattle.schemars_schema.specs.Lookup.{resolved}
-use Rattle.schemars_schema.specs.References.{found_in, found_in_members, found_in_keywords, references, resolves, all_resolve}
+use Rattle.schemars_schema.specs.References.{found_in, found_in_members, found_in_items, found_in_keywords, references, resolves, all_resolve}
 use Rattle.schemars_schema.proofs.Contents.{found_under, found_under-annotation}
 use Rattle.schemars_rewrite.specs.AllowNull.{is_combined, or_null, allow_null, type_with_null, null_in_type}
 use Rattle.schemars_types.specs.declared.shape.IntKind.{IntKind}
@@ -19,7 +19,7 @@ use Rattle.schemars_types.specs.Shape as shape
 use Rattle.schemars_types.specs.Shape.{Shape, Field, Entry}
 use Rattle.schemars_types.specs.Rows.{Row, entry_at}
 use Rattle.schemars_types.specs.Meaning.{Contract, Deserialize, Serialize}
-use Rattle.schemars.specs.Documents.{Keyword, IsDocument, IsOwnDocument, IsWritten, AreWritten, Describes, reference, with_title, with_meta_schema, root_document, annotated, int_document, non_zero_document, bytes_document, map_document, field_keywords}
+use Rattle.schemars.specs.Documents.{Keyword, IsDocument, IsOwnDocument, IsWritten, AreWritten, ArePartsWritten, items_from, tuple_document, Describes, reference, with_title, with_meta_schema, root_document, annotated, int_document, non_zero_document, bytes_document, map_document, field_keywords}
 use Rattle.schemars.specs.PlainTable.{AreNoted, IsPlainShape, IsPlainEntry, IsPlainTable}
 use Rattle.schemars.proofs.Keys.{AllMembers, IsDefinitionsKey}
 
@@ -190,6 +190,17 @@ module _ (document : Data) where
   fields_resolved W all (x ∷ xs) [] n h = tt
   fields_resolved W all (x ∷ xs) (t ∷ ts) n h = ((resolved_annotated x.notes t n.0 (all x.ty t h.0)).1, fields_resolved W all xs ts n.1 h.1)
 
+  parts_resolved : (W : ℕ → Data → Type 0) → ((j : ℕ) (t : Data) → W j t → IsResolved t) → (ns : List ℕ) (ts : List Data) → ArePartsWritten W ns ts → Resolve (found_in_items (items_from ts))
+  unfolding found_in
+  parts_resolved W all [] ts h = rw h refl
+  parts_resolved W all (n ∷ ns) [] h = absurd h
+  parts_resolved W all (n ∷ ns) (t ∷ ts) h = resolve-append (references t) (found_in_items (items_from ts)) (all n t h.0).1 (parts_resolved W all ns ts h.1)
+
+  resolved_tuple : (ts : List Data) → Resolve (found_in_items (items_from ts)) → IsResolved (tuple_document ts)
+  unfolding found_in
+  resolved_tuple [] h = (tt, refl)
+  resolved_tuple (t ∷ ts) h = (tt, resolve-append (found_in_items (items_from (t ∷ ts))) [] h refl)
+
   shape_resolved : (W : ℕ → Data → Type 0) (contract : Contract) → ((j : ℕ) (t : Data) → W j t → IsResolved t) → (kind : Shape) → IsPlainShape kind → (s : Data) → IsDocument W contract kind s → IsResolved s
   unfolding found_in
   shape_resolved W contract all shape.null p s is = rw is (tt, refl)
@@ -207,6 +218,17 @@ module _ (document : Data) where
   shape_resolved W contract all (shape.seq n) p s is =
       let h = all n is.0 is.1 in
       rw is.2 (tt, rw (in_list_of_schema is.0 h.0) (resolve-append (references is.0 ++ []) [] (resolve-append (references is.0) [] h.1 refl) refl))
+  shape_resolved W contract all (shape.set n) p s is =
+      let h = all n is.0 is.1 in
+      rw is.2 (tt, rw (in_list_of_schema is.0 h.0) (resolve-append (references is.0 ++ []) [] (resolve-append (references is.0) [] h.1 refl) refl))
+  shape_resolved W contract all (shape.array n zero) p s is = rw is (tt, refl)
+  shape_resolved W contract all (shape.array n (suc len)) p s is =
+      let h = all n is.0 is.1 in
+      rw is.2 (tt, rw (in_list_of_schema is.0 h.0) (resolve-append (references is.0 ++ []) [] (resolve-append (references is.0) [] h.1 refl) refl))
+  shape_resolved W contract all (shape.up_to n cap) p s is =
+      let h = all n is.0 is.1 in
+      rw is.2 (tt, rw (in_list_of_schema is.0 h.0) (resolve-append (references is.0 ++ []) [] (resolve-append (references is.0) [] h.1 refl) refl))
+  shape_resolved W contract all (shape.tuple ns) p s is = rw is.2 (resolved_tuple is.0 (parts_resolved W all ns is.0 is.1))
   shape_resolved W contract all (shape.struct xs closed) p s is =
       rw is.2 (resolved_map (field_keywords xs is.0) _ closed (resolved_entries (field_keywords xs is.0) no_members (fields_resolved W all xs is.0 p.1 is.1) refl))
   shape_resolved W contract all (shape.newtype n) p s is = all n s is

@@ -1,13 +1,14 @@
 -- What the document of each shape says under 2020-12.
-use Rattle.std.proofs.Common.{◌≡◌, ℕ, zero, ◌<◌, ◌≤◌, [], ◌∷◌, Option, Some, None, Bool, true, false, refl, sym, ap, ◌∙◌, arith}
+use Rattle.std.proofs.Common.{◌≡◌, ℕ, zero, suc, ◌<◌, ◌≤◌, List, [], ◌∷◌, length, map, Option, Some, None, Bool, true, false, refl, sym, ap, ◌∙◌, arith}
 use Rattle.std.specs.Prelude.{codes, ℤ, pos, negsuc, int_le, is_some, ◌||◌, ◌&&◌, ◌==◌, not, nat_le, ◌++◌}
 use Rattle.std.proofs.lemmas.Bool.Decides.{nat_tests}
 use Rattle.serde_json.specs.Data.{Data, null, boolean, number, unsigned, negative, float, string, array, object, Items, no_items, item, depth, items_depth}
 use Rattle.serde_json.specs.Find.{as_integer, of_integer, as_array}
-use Rattle.schemars_schema.specs.Verdict.{Verdict, Yes, both, verdict, opposite}
-use Rattle.schemars_schema.specs.Json.{Text, IsJson, AreJson, json_eq}
+use Rattle.serde_json.specs.Events.{items_len}
+use Rattle.schemars_schema.specs.Verdict.{Verdict, Yes, No, Open, both, verdict, opposite}
+use Rattle.schemars_schema.specs.Json.{Text, IsJson, AreJson, json_eq, are_distinct}
 use Rattle.schemars_schema.specs.SchemaData.{IsSchema, object_of}
-use Rattle.schemars_schema.specs.Acceptance.{Patterns, Judge, Context, judge, read_data, all_keywords, each_past, where_some, code_points, whole_number}
+use Rattle.schemars_schema.specs.Acceptance.{Patterns, Judge, Context, judge, read_data, read_items, by_position, all_keywords, each_past, where_some, code_points, whole_number}
 use Rattle.schemars_schema.proofs.Verdicts.{both-yes, both-verdict}
 use Rattle.schemars_schema.proofs.Objects.{schema-judge}
 use Rattle.schemars_rewrite.specs.NullLaw.{context2020_12, zero_schema}
@@ -15,8 +16,8 @@ use Rattle.schemars_types.specs.declared.shape.IntKind.{IntKind}
 use Rattle.schemars_types.specs.declared.shape.IntKind.TheVariants.{I8, I16, I32, I64, I128, Isize, U8, U16, U32, U64, U128, Usize}
 use Rattle.schemars_types.specs.IntKind.{format_of}
 use Rattle.schemars_types.specs.Shape as shape
-use Rattle.schemars_types.specs.Meaning.{Contract, Deserialize, Serialize, is_byte, is_byte_text, has_shape, every_item, holds, least_of, greatest_of, is_at_least, is_at_most, is_zero}
-use Rattle.schemars.specs.Documents.{type_alone, int_keywords, int_document, non_zero_document, char_document, formatted_document, seq_document, bytes_document, schema_document}
+use Rattle.schemars_types.specs.Meaning.{Contract, Deserialize, Serialize, is_byte, is_byte_text, has_shape, every_item, each_of, holds, least_of, greatest_of, is_at_least, is_at_most, is_zero}
+use Rattle.schemars.specs.Documents.{type_alone, int_keywords, int_document, non_zero_document, char_document, formatted_document, seq_document, set_document, array_document, up_to_document, empty_list_document, tuple_document, items_from, ArePartsWritten, IsArrayDocument, bytes_document, schema_document}
 
 module _ (patterns : Patterns) (f : Text → Judge) (contract : Contract) (M : ℕ → Data → Bool) where
   abbrev c : Context
@@ -100,6 +101,155 @@ module _ (patterns : Patterns) (f : Text → Judge) (contract : Contract) (M : �
   seq_says n t is (string s) json h = refl
   seq_says n t is (array vs) json h = rw (schema-judge c t is, both-yes) (each_item n t vs json (λ w is less. h w is (omega arith)))
   seq_says n t is (object ms) json h = refl
+
+  abbrev AgreesOn : ℕ → Data → Data → Type 0
+  AgreesOn n t v = (w : Data) → IsJson w → depth w < depth v → (judge c t).fits w ≡ verdict (M n w)
+
+  pub set_says : (n : ℕ) (t : Data) → IsSchema t → (v : Data) → IsJson v → AgreesOn n t v → Says (set_document t) (shape.set n) v
+  unfolding read_data all_keywords
+  set_says n t is null json h = refl
+  set_says n t is (boolean b) json h = refl
+  set_says n t is (number k) json h = refl
+  set_says n t is (string s) json h = refl
+  set_says n t is (array vs) json h = rw (schema-judge c t is, both-yes, each_item n t vs json (λ w is less. h w is (omega arith))) (both-verdict (are_distinct vs) (every_item (M n) vs))
+  set_says n t is (object ms) json h = refl
+
+  pub up_to_says : (n cap : ℕ) (t : Data) → IsSchema t → (v : Data) → IsJson v → AgreesOn n t v → Says (up_to_document cap t) (shape.up_to n cap) v
+  unfolding read_data all_keywords
+  up_to_says n cap t is null json h = refl
+  up_to_says n cap t is (boolean b) json h = refl
+  up_to_says n cap t is (number k) json h = refl
+  up_to_says n cap t is (string s) json h = refl
+  up_to_says n cap t is (array vs) json h = rw (schema-judge c t is, both-yes, each_item n t vs json (λ w is less. h w is (omega arith))) (both-verdict (nat_le (items_len vs) cap) (every_item (M n) vs))
+  up_to_says n cap t is (object ms) json h = refl
+
+  just_so_many : (len k : ℕ) → nat_le len k && nat_le k len ≡ (k == len)
+  just_so_many len k = grind (arith, nat_tests)
+
+  three_verdicts : (x y z : Bool) → both (verdict x) (both (verdict y) (verdict z)) ≡ verdict ((x && y) && z)
+  three_verdicts true y z = both-verdict y z
+  three_verdicts false true true = refl
+  three_verdicts false true false = refl
+  three_verdicts false false true = refl
+  three_verdicts false false false = refl
+
+  some_items_say : (n len : ℕ) (t : Data) → IsSchema t → (v : Data) → IsJson v → AgreesOn n t v → Says (array_document len t) (shape.array n len) v
+  unfolding read_data all_keywords
+  some_items_say n len t is null json h = refl
+  some_items_say n len t is (boolean b) json h = refl
+  some_items_say n len t is (number k) json h = refl
+  some_items_say n len t is (string s) json h = refl
+  some_items_say n len t is (array vs) json h =
+      rw (schema-judge c t is, both-yes, each_item n t vs json (λ w is less. h w is (omega arith)))
+      (three_verdicts (nat_le len (items_len vs)) (nat_le (items_len vs) len) (every_item (M n) vs) ∙ ap (λ b. verdict (b && every_item (M n) vs)) (just_so_many len (items_len vs)))
+  some_items_say n len t is (object ms) json h = refl
+
+  past_none : (k : ℕ) → nat_le (suc k) 0 ≡ false
+  past_none k = grind (arith, nat_tests)
+
+  from_none : (k : ℕ) → nat_le 0 k ≡ true
+  from_none k = grind (arith, nat_tests)
+
+  some_not_none : (k : ℕ) → (suc k == 0) ≡ false
+  some_not_none k = grind (arith, nat_tests)
+
+  one_more : (j k : ℕ) → nat_le (suc j) (suc k) ≡ nat_le j k
+  one_more j k = grind (arith, nat_tests)
+
+  none_of : (n : ℕ) (vs : Items) → both (verdict (nat_le (items_len vs) 0)) Yes ≡ verdict ((items_len vs == 0) && every_item (M n) vs)
+  none_of n no_items = refl
+  none_of n (item v vs) = rw (past_none (items_len vs), some_not_none (items_len vs)) refl
+
+  no_items_say : (n : ℕ) (v : Data) → Says empty_list_document (shape.array n 0) v
+  unfolding read_data all_keywords
+  no_items_say n null = refl
+  no_items_say n (boolean b) = refl
+  no_items_say n (number k) = refl
+  no_items_say n (string s) = refl
+  no_items_say n (array vs) = none_of n vs
+  no_items_say n (object ms) = refl
+
+  -- ---- lists by position
+
+  both_first : (p x y : Verdict) → both p (both x y) ≡ both x (both p y)
+  both_first Yes x y = refl
+  both_first p Yes y = refl
+  both_first No No Yes = refl
+  both_first No No No = refl
+  both_first No No Open = refl
+  both_first No Open Yes = refl
+  both_first No Open No = refl
+  both_first No Open Open = refl
+  both_first Open x y = go x y
+    where
+      go : (x y : Verdict) → both Open (both x y) ≡ both x (both Open y)
+      go Yes y = refl
+      go No y = refl
+      go Open y = refl
+
+  module _ (W : ℕ → Data → Type 0) (schemas : (j : ℕ) (t : Data) → W j t → IsSchema t) where
+    parts_read : (ns : List ℕ) (ts : List Data) → ArePartsWritten W ns ts → read_items c (items_from ts) ≡ Some (map (judge c) ts)
+    unfolding read_data
+    parts_read [] ts h = rw h refl
+    parts_read (n ∷ ns) [] h = absurd h
+    parts_read (n ∷ ns) (t ∷ ts) h = rw (schema-judge c t (schemas n t h.0), parts_read ns ts h.1) refl
+
+    abbrev says_count : List Data → Items → Verdict → Verdict
+    says_count ts vs rest = both (verdict (nat_le (length ts) (items_len vs))) (both (verdict (nat_le (items_len vs) (length ts))) rest)
+
+    in_place : (ns : List ℕ) (ts : List Data) (vs : Items) → ArePartsWritten W ns ts → AreJson vs
+        → ((j : ℕ) (t w : Data) → W j t → IsJson w → depth w ≤ items_depth vs → (judge c t).fits w ≡ verdict (M j w))
+        → says_count ts vs (by_position (map (judge c) ts) vs) ≡ verdict (each_of M ns vs)
+    in_place [] ts vs h are agree = rw h (none_left vs)
+      where
+        none_left : (vs : Items) → says_count [] vs Yes ≡ verdict (each_of M [] vs)
+        none_left no_items = refl
+        none_left (item v vs) = rw (from_none (suc (items_len vs)), past_none (items_len vs)) refl
+    in_place (n ∷ ns) [] vs h are agree = absurd h
+    in_place (n ∷ ns) (t ∷ ts) no_items h are agree = rw (past_none (length ts), from_none (suc (length ts))) refl
+    in_place (n ∷ ns) (t ∷ ts) (item v vs) h are agree =
+        rw (
+          one_more (length ts) (items_len vs),
+          one_more (items_len vs) (length ts),
+          both_apart (verdict (nat_le (length ts) (items_len vs))) (verdict (nat_le (items_len vs) (length ts))) ((judge c t).fits v) (by_position (map (judge c) ts) vs),
+          agree n t v h.0 are.0 (omega arith),
+          in_place ns ts vs h.1 are.1 (λ j t w a is less. agree j t w a is (omega arith)),
+        ) (both-verdict (M n v) (each_of M ns vs))
+      where
+        both_apart : (p q x y : Verdict) → both p (both q (both x y)) ≡ both x (both p (both q y))
+        both_apart p q x y = ap (both p) (both_first q x y) ∙ both_first p x (both q y)
+
+    abbrev AgreesInside : Data → Type 0
+    AgreesInside v = (j : ℕ) (t w : Data) → W j t → IsJson w → depth w < depth v → (judge c t).fits w ≡ verdict (M j w)
+
+    no_parts_say : (ns : List ℕ) → ArePartsWritten W ns [] → (v : Data) → Says empty_list_document (shape.tuple ns) v
+    unfolding read_data all_keywords
+    no_parts_say [] h null = refl
+    no_parts_say [] h (boolean b) = refl
+    no_parts_say [] h (number k) = refl
+    no_parts_say [] h (string s) = refl
+    no_parts_say [] h (array no_items) = refl
+    no_parts_say [] h (array (item v vs)) = rw (past_none (items_len vs)) refl
+    no_parts_say [] h (object ms) = refl
+    no_parts_say (n ∷ ns) h v = absurd h
+
+    some_parts_say : (ns : List ℕ) (t : Data) (ts : List Data) → ArePartsWritten W ns (t ∷ ts) → (v : Data) → IsJson v → AgreesInside v → Says (tuple_document (t ∷ ts)) (shape.tuple ns) v
+    unfolding read_data all_keywords
+    some_parts_say ns t ts h null json agree = refl
+    some_parts_say ns t ts h (boolean b) json agree = refl
+    some_parts_say ns t ts h (number k) json agree = refl
+    some_parts_say ns t ts h (string s) json agree = refl
+    some_parts_say ns t ts h (array vs) json agree = rw (parts_read ns (t ∷ ts) h, both-yes (by_position (judge c t ∷ map (judge c) ts) vs), both-yes (by_position (judge c t ∷ map (judge c) ts) vs)) (in_place ns (t ∷ ts) vs h json (λ j u w a is less. agree j u w a is (omega arith)))
+    some_parts_say ns t ts h (object ms) json agree = refl
+
+    pub tuple_says : (ns : List ℕ) (ts : List Data) → ArePartsWritten W ns ts → (v : Data) → IsJson v → AgreesInside v → Says (tuple_document ts) (shape.tuple ns) v
+    tuple_says ns [] h v json agree = no_parts_say ns h v
+    tuple_says ns (t ∷ ts) h v json agree = some_parts_say ns t ts h v json agree
+
+    pub array_says : (n len : ℕ) (s : Data) → IsArrayDocument (W n) len s → (v : Data) → IsJson v → ((t w : Data) → W n t → IsJson w → depth w < depth v → (judge c t).fits w ≡ verdict (M n w))
+        → Says s (shape.array n len) v
+    array_says n zero s is v json agree = rw is (no_items_say n v)
+    array_says n (suc k) s is v json agree = rw is.2 (some_items_say n (suc k) is.0 (schemas n is.0 is.1) v json (λ w j less. agree is.0 w is.1 j less))
 
   -- ---- integers
 

@@ -36,6 +36,10 @@ IsPlainShape shape.bytes = Unit {0}
 IsPlainShape shape.schema_itself = Unit {0}
 IsPlainShape (shape.option n) = Unit {0}
 IsPlainShape (shape.seq n) = Unit {0}
+IsPlainShape (shape.set n) = Unit {0}
+IsPlainShape (shape.array n len) = Unit {0}
+IsPlainShape (shape.up_to n cap) = Unit {0}
+IsPlainShape (shape.tuple ns) = Unit {0}
 IsPlainShape (shape.struct xs closed) = AreDistinct xs × AreNoted xs
 IsPlainShape (shape.newtype n) = Unit {0}
 
@@ -67,6 +71,10 @@ ShapeHasNoFloat shape.bytes = Unit {0}
 ShapeHasNoFloat shape.schema_itself = Unit {0}
 ShapeHasNoFloat (shape.option n) = Unit {0}
 ShapeHasNoFloat (shape.seq n) = Unit {0}
+ShapeHasNoFloat (shape.set n) = Unit {0}
+ShapeHasNoFloat (shape.array n len) = Unit {0}
+ShapeHasNoFloat (shape.up_to n cap) = Unit {0}
+ShapeHasNoFloat (shape.tuple ns) = Unit {0}
 ShapeHasNoFloat (shape.struct xs closed) = FieldsHaveNoFloat xs
 ShapeHasNoFloat (shape.newtype n) = Unit {0}
 

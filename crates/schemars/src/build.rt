@@ -1,12 +1,12 @@
 //! The documents of rows, with parts in place or by reference.
 ghost use Rattle.std.specs.Prelude.{Some, codes, ◌≡◌, ◌<◌, ◌≤◌, ◌∷◌, not, suc, [], length, map, IfOk, OnOk, All, string_bytes};
 ghost use Rattle.serde_json.specs.Data.{string};
-ghost use Rattle.serde_json.specs.View.{members_view};
-ghost use Rattle.schemars_schema.specs.References.{references, found_in_members};
+ghost use Rattle.serde_json.specs.View.{view, items_view, members_view};
+ghost use Rattle.schemars_schema.specs.References.{references, found_in_members, found_in_items};
 ghost use Rattle.schemars_types.specs.Edges.{height};
 ghost use Rattle.schemars_types.specs.Faults.{IsChecked};
 ghost use Rattle.schemars_types.specs.Shape.{shape_of, field_of, numbers_of};
-ghost use Rattle.schemars.specs.Documents.{IsDocument, IsWritten, Describes, HasNoParts, NoPart, reference};
+ghost use Rattle.schemars.specs.Documents.{IsDocument, IsWritten, ArePartsWritten, Describes, HasNoParts, NoPart, item_in, reference};
 ghost use Rattle.schemars.specs.Headline.{IsSubschema};
 ghost use Rattle.schemars.specs.Missing.{missing, StandsIn};
 ghost use Rattle.schemars.specs.Naming.{contract_of, name_of};
@@ -18,8 +18,8 @@ ghost use Rattle.schemars.specs.Work.{IsKey, Refers, Step, undone, reference_to}
 
 use crate::contract::Contract;
 use crate::documents::{
-    annotate, bytes_document, char_document, formatted_document, map_document, required_names,
-    schema_document, seq_document, type_alone,
+    annotate, bytes_document, char_document, empty_list_document, formatted_document,
+    list_document, map_document, required_names, schema_document, tuple_document, type_alone,
 };
 use crate::integers::{int_document, non_zero_document};
 use crate::work::Work;
@@ -168,9 +168,9 @@ fn document(
             allow_null(alloc, &mut schema)?;
             Ok(schema)
         }
-        Shape::Seq(item) => {
-            let items = subschema(alloc, plan, work, in_definition, *item)?;
-            let schema = seq_document(alloc, items)?;
+        Shape::Tuple(parts) => {
+            let items = parts_in_order(alloc, plan, work, in_definition, n, parts)?;
+            let schema = tuple_document(alloc, items)?;
             Ok(schema)
         }
         Shape::Struct(fields) => {
@@ -183,10 +183,59 @@ fn document(
             let schema = subschema(alloc, plan, work, in_definition, *inner)?;
             Ok(schema)
         }
-        _ => {
-            let schema = document_without_parts(alloc, plan.contract, shape)?;
-            Ok(schema)
-        }
+        _ => match item_of(shape) {
+            Some(item) => {
+                let items = subschema(alloc, plan, work, in_definition, item)?;
+                let schema = list_document(alloc, shape, items)?;
+                Ok(schema)
+            }
+            None => {
+                let schema = document_without_parts(alloc, plan.contract, shape)?;
+                Ok(schema)
+            }
+        },
+    }
+}
+
+// The schemas of the parts, in order.
+#[cycle(build)]
+fn parts_in_order(
+    alloc: Global,
+    plan: &Plan<'_>,
+    work: &mut Work,
+    in_definition: bool,
+    n: TypeNo,
+    parts: &[TypeNo],
+) -> Result<Vec<Value>, AllocError>
+    requires checked { IsChecked (plan_of plan.now).rows }
+    requires stand { All (StandsIn (plan_of plan.now).rows n) parts.now }
+    ensures undone { undone work.new ≡ undone work.old }
+    ensures step { OnOk result (Step (plan_of plan.now) work.old work.new) }
+    ensures fewer { OnOk result (missing (plan_of plan.now).rows plan.now.contract work.new
+        ≤ missing (plan_of plan.now).rows plan.now.contract work.old) }
+    ensures written { IfOk result (λ v. ArePartsWritten (IsWritten (Refers (plan_of plan.now) (not in_definition) work.new)
+        (Describes (plan_of plan.now).rows (contract_of plan.now.contract) (Refers (plan_of plan.now) (not in_definition) work.new)
+        (height (plan_of plan.now).rows n))) parts.now (map view v.items)) }
+    ensures reached { IfOk result (λ v. IsPlainTable (plan_of plan.now).rows
+        → AreReached (plan_of plan.now).path work.old.definitions work.new.definitions (found_in_items (items_view v.items))) }
+{
+    let _ = n;
+    let mut items = Vec::new(alloc);
+    for part in parts {
+        let schema = subschema(alloc, plan, work, in_definition, *part)?;
+        items.push(schema.to_value())?;
+    }
+    Ok(items)
+}
+
+// The row whose values a list of this shape has, where it may have any.
+fn item_of(shape: &Shape) -> Option<TypeNo>
+    ensures { result ≡ item_in (shape_of shape.now) }
+{
+    match shape {
+        Shape::Seq(item) | Shape::Set(item) | Shape::UpTo(item, _) => Some(*item),
+        Shape::Array(item, len) if *len != 0 => Some(*item),
+        _ => None,
     }
 }
 
@@ -253,7 +302,9 @@ fn document_without_parts(
         }
         Shape::SchemaItself => schema_document(alloc),
         Shape::Option(_some) => unreachable!(),
-        Shape::Seq(_item) => unreachable!(),
+        Shape::Array(_item, _len) => empty_list_document(alloc),
+        Shape::Seq(_item) | Shape::Set(_item) | Shape::UpTo(_item, _) => unreachable!(),
+        Shape::Tuple(_parts) => unreachable!(),
         Shape::Struct(_fields) => unreachable!(),
         Shape::Newtype(_inner) => unreachable!(),
     }

@@ -4,17 +4,17 @@ ghost use Rattle.serde_json.specs.Data.{string, array, object, no_items, item, n
 ghost use Rattle.std.specs.Prelude.{map};
 ghost use Rattle.serde_json.specs.View.{items_view};
 ghost use Rattle.schemars_rewrite.specs.NullLaw.{text_items};
-ghost use Rattle.schemars_types.specs.Shape.{field_of, required_of};
+ghost use Rattle.schemars_types.specs.Shape.{shape_of, field_of, required_of};
 ghost use Rattle.schemars_types.specs.Meaning.{is_required};
 ghost use Rattle.schemars.specs.Naming.{contract_of};
 ghost use Rattle.schemars.specs.Documents.{byte_document, bytes_document, schema_document, map_of, keyword_of_members, keyword_of_items, required_names};
 ghost use Rattle.serde_json.specs.View.{view, members_view};
 ghost use Rattle.schemars_schema.specs.SchemaData.{IsSchema, members_in, inserted, put_all, put_members};
-ghost use Rattle.schemars.specs.Documents.{typed, type_alone, char_document, formatted_document, seq_document, annotated, with_title, with_meta_schema, root_document};
+ghost use Rattle.schemars.specs.Documents.{typed, type_alone, char_document, formatted_document, list_document_for, empty_list_document, tuple_document, annotated, with_title, with_meta_schema, root_document};
 
 use crate::contract::Contract;
 use schemars_schema::Schema;
-use schemars_types::{Field, Required};
+use schemars_types::{Field, Required, Shape};
 use serde_json::{Map, Value};
 use std::alloc::{AllocError, Global};
 
@@ -49,12 +49,54 @@ pub(crate) fn formatted_document(alloc: Global, format: &str) -> Result<Schema, 
     Ok(Schema::from(members))
 }
 
-/// A list of these items.
-pub(crate) fn seq_document(alloc: Global, items: Schema) -> Result<Schema, AllocError>
-    ensures { IfOk result (λ s. s ≡ seq_document items) }
+/// A list of these items, of the shape's count, and distinct where the shape is a set.
+pub(crate) fn list_document(
+    alloc: Global,
+    shape: &Shape,
+    items: Schema,
+) -> Result<Schema, AllocError>
+    ensures { IfOk result (λ s. s ≡ list_document_for (shape_of shape.now) items) }
 {
     let mut members = typed(alloc, "array")?;
     serde_json::put(&mut members, alloc, "items", items.to_value())?;
+    match shape {
+        Shape::Set(_) => {
+            serde_json::put(&mut members, alloc, "uniqueItems", Value::Bool(true))?;
+        }
+        Shape::Array(_, len) => {
+            serde_json::put(&mut members, alloc, "minItems", Value::from(*len))?;
+            serde_json::put(&mut members, alloc, "maxItems", Value::from(*len))?;
+        }
+        Shape::UpTo(_, cap) => {
+            serde_json::put(&mut members, alloc, "maxItems", Value::from(*cap))?;
+        }
+        _ => (),
+    }
+    Ok(Schema::from(members))
+}
+
+/// A list of no items.
+pub(crate) fn empty_list_document(alloc: Global) -> Result<Schema, AllocError>
+    ensures { IfOk result (λ s. s ≡ empty_list_document) }
+{
+    let mut members = typed(alloc, "array")?;
+    serde_json::put(&mut members, alloc, "maxItems", Value::from(0u64))?;
+    Ok(Schema::from(members))
+}
+
+/// A list of just these items, each in its place.
+pub(crate) fn tuple_document(alloc: Global, items: Vec<Value>) -> Result<Schema, AllocError>
+    ensures { IfOk result (λ s. s ≡ tuple_document (map view items.items)) }
+{
+    if items.is_empty() {
+        let schema = empty_list_document(alloc)?;
+        return Ok(schema);
+    }
+    let count = items.len() as u64;
+    let mut members = typed(alloc, "array")?;
+    serde_json::put(&mut members, alloc, "prefixItems", Value::Array(items))?;
+    serde_json::put(&mut members, alloc, "minItems", Value::from(count))?;
+    serde_json::put(&mut members, alloc, "maxItems", Value::from(count))?;
     Ok(Schema::from(members))
 }
 

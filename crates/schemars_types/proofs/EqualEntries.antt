@@ -1,5 +1,5 @@
 -- Equal entries are the same entry.
-use Rattle.std.proofs.Common.{◌≡◌, ◌==◌, ◌&&◌, Bool, true, false, not, if◌then◌else◌, List, [], ◌∷◌, Option, Some, None, refl, ap, sym, ◌∙◌, true≢false}
+use Rattle.std.proofs.Common.{◌≡◌, ◌==◌, ◌&&◌, ℕ, Bool, true, false, not, if◌then◌else◌, List, [], ◌∷◌, Option, Some, None, refl, ap, sym, ◌∙◌, true≢false}
 use Rattle.std.specs.Option.{option_eq}
 use Rattle.std.specs.Cmp.{signed_Decides}
 use Rattle.std.specs.Str.{bytes_eq}
@@ -10,7 +10,7 @@ use Rattle.schemars_schema.specs.Json.{num_eq, json_eq, items_eq, members_eq}
 use Rattle.schemars_types.specs.declared.shape.IntKind.{IntKind}
 use Rattle.schemars_types.specs.IntKind.{kind_eq, kind_number, kind_at, kind_at-kind_number}
 use Rattle.schemars_types.specs.Shape.{Required, Field, Shape, Entry}
-use Rattle.schemars_types.specs.ShapeParts.{Parts, parts_of, parts_eq, shape_from, shape_from-parts_of, bool_eq, required_eq, field_eq, list_eq, fields_eq, shape_eq, entry_eq}
+use Rattle.schemars_types.specs.ShapeParts.{Parts, parts_of, parts_eq, shape_from, shape_from-parts_of, bool_eq, required_eq, field_eq, list_eq, fields_eq, pair_eq, number_eq, numbers_eq, shape_eq, entry_eq}
 
 and_left : (a b : Bool) → (a && b) ≡ true → a ≡ true
 and_left true b h = refl
@@ -86,20 +86,30 @@ same_option test same None None h = refl
 same_option test same (Some a) (Some b) h = ap Some (same a b h)
 same_option test same x y h = cc
 
-same_parts : (p q : Parts) → parts_eq p q ≡ true → p ≡ q
-same_parts (k, (i, (f, (n, fs)))) (l, (j, (g, (m, gs)))) h =
-    let fourth : Bool = option_eq (λ a b. a == b) n m && option_eq fields_eq fs gs in
-    let third : Bool = option_eq bytes_eq f g && fourth in
-    let second : Bool = option_eq kind_eq i j && third in
-    let after_kind : second ≡ true = and_right (k == l) second h in
-    let after_int : third ≡ true = and_right (option_eq kind_eq i j) third after_kind in
-    let after_format : fourth ≡ true = and_right (option_eq bytes_eq f g) fourth after_int in
-    let kinds : k ≡ l = (Decides-eqb k l).0 (and_left (k == l) second h) in
-    let ints : i ≡ j = same_option kind_eq same_kind i j (and_left (option_eq kind_eq i j) third after_kind) in
-    let formats : f ≡ g = same_option bytes_eq (λ a b. (bytes_eq-Decides a b).0) f g (and_left (option_eq bytes_eq f g) fourth after_int) in
-    let rows : n ≡ m = same_option (λ a b. a == b) (λ a b. (Decides-eqb a b).0) n m (and_left (option_eq (λ a b. a == b) n m) (option_eq fields_eq fs gs) after_format) in
-    let fields : fs ≡ gs = same_option fields_eq same_fields fs gs (and_right (option_eq (λ a b. a == b) n m) (option_eq fields_eq fs gs) after_format) in
-    λ t. (kinds t, (ints t, (formats t, (rows t, fields t))))
+same_number : (m n : ℕ) → number_eq m n ≡ true → m ≡ n
+same_number m n h = (Decides-eqb m n).0 h
+
+same_numbers : (ms ns : List ℕ) → numbers_eq ms ns ≡ true → ms ≡ ns
+same_numbers [] [] h = refl
+same_numbers (m ∷ ms) (n ∷ ns) h = λ i. same_number m n (and_left (m == n) (numbers_eq ms ns) h) i ∷ same_numbers ms ns (and_right (m == n) (numbers_eq ms ns) h) i
+same_numbers ms ns h = cc
+
+-- a test that equal values alone pass
+abbrev Decided : {A : Type 0} → (A → A → Bool) → Type 0
+Decided {A} test = (a b : A) → test a b ≡ true → a ≡ b
+
+same_pair : {A B : Type 0} (first : A → A → Bool) (second : B → B → Bool) → Decided first → Decided second → Decided (pair_eq first second)
+same_pair first second one two p q h = λ i. (one p.0 q.0 (and_left (first p.0 q.0) (second p.1 q.1) h) i, two p.1 q.1 (and_right (first p.0 q.0) (second p.1 q.1) h) i)
+
+same_format : Decided (option_eq bytes_eq)
+same_format = same_option bytes_eq (λ a b. (bytes_eq-Decides a b).0)
+
+same_row : Decided (option_eq number_eq)
+same_row = same_option number_eq same_number
+
+same_parts : Decided parts_eq
+same_parts =
+    same_pair _ _ same_number (same_pair _ _ (same_option kind_eq same_kind) (same_pair _ _ same_format (same_pair _ _ same_row (same_pair _ _ same_row (same_pair _ _ (same_option numbers_eq same_numbers) (same_option fields_eq same_fields))))))
 
 same_shape : (s t : Shape) → shape_eq s t ≡ true → s ≡ t
 same_shape s t h = sym (shape_from-parts_of s) ∙ ap shape_from (same_parts (parts_of s) (parts_of t) h) ∙ shape_from-parts_of t

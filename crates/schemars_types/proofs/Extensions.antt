@@ -13,8 +13,8 @@ use Rattle.serde_json.specs.Written.{has_float, items_have_float, members_have_f
 use Rattle.schemars_schema.specs.Json.{num_eq, json_eq, items_eq, members_eq}
 use Rattle.schemars_types.specs.declared.shape.IntKind.{IntKind}
 use Rattle.schemars_types.specs.IntKind.{kind_eq, kind_number}
-use Rattle.schemars_types.specs.Shape.{Required, Field, Shape, Entry, null, bool, int, non_zero, number, text, char, formatted, any, bytes, schema_itself, option, seq, struct, newtype}
-use Rattle.schemars_types.specs.ShapeParts.{bool_eq, required_eq, field_eq, list_eq, shape_eq, entry_eq}
+use Rattle.schemars_types.specs.Shape.{Required, Field, Shape, Entry, null, bool, int, non_zero, number, text, char, formatted, any, bytes, schema_itself, option, seq, set, array as array_shape, up_to, tuple, struct, newtype}
+use Rattle.schemars_types.specs.ShapeParts.{bool_eq, required_eq, field_eq, numbers_eq, list_eq, shape_eq, entry_eq}
 use Rattle.schemars_types.specs.Rows.{Row, entry_at}
 use Rattle.schemars_types.specs.Extends.{row_eq, begins_with, fields_have_float, shape_has_float, entry_has_float, rows_have_float}
 use Rattle.schemars_types.proofs.EqualEntries.{same_entry}
@@ -90,6 +90,10 @@ list_eq-refl (f ∷ fs) h = let parts = neither (members_have_float f.notes) (fi
 kind_eq-refl : (k : IntKind) → kind_eq k k ≡ true
 kind_eq-refl k = (Decides-eqb (kind_number k) (kind_number k)).1 refl
 
+numbers_eq-refl : (ns : List ℕ) → numbers_eq ns ns ≡ true
+numbers_eq-refl [] = refl
+numbers_eq-refl (n ∷ ns) = rw ((Decides-eqb n n).1 refl, numbers_eq-refl ns) refl
+
 shape_eq-refl : (s : Shape) → shape_has_float s ≡ false → shape_eq s s ≡ true
 shape_eq-refl null h = refl
 shape_eq-refl bool h = refl
@@ -104,6 +108,10 @@ shape_eq-refl bytes h = refl
 shape_eq-refl schema_itself h = refl
 shape_eq-refl (option n) h = rw ((Decides-eqb n n).1 refl) refl
 shape_eq-refl (seq n) h = rw ((Decides-eqb n n).1 refl) refl
+shape_eq-refl (set n) h = rw ((Decides-eqb n n).1 refl) refl
+shape_eq-refl (array_shape n len) h = rw ((Decides-eqb n n).1 refl, (Decides-eqb len len).1 refl) refl
+shape_eq-refl (up_to n cap) h = rw ((Decides-eqb n n).1 refl, (Decides-eqb cap cap).1 refl) refl
+shape_eq-refl (tuple ns) h = rw (numbers_eq-refl ns) refl
 shape_eq-refl (struct list closed) h = rw (bool_eq-refl closed, list_eq-refl list h) refl
 shape_eq-refl (newtype n) h = rw ((Decides-eqb n n).1 refl) refl
 

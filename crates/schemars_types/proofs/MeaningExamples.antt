@@ -3,7 +3,7 @@ use Rattle.std.proofs.Common.{◌≡◌, ℕ, List, [], ◌∷◌, Some, Bool, t
 use Rattle.std.specs.Prelude.{codes, negsuc}
 use Prim.Native.String.{String}
 use Rattle.serde_json.specs.Data.{Data, null, boolean, number, unsigned, negative, string, array, object, item, no_items, no_members}
-use Rattle.schemars_schema.specs.Json.{Text}
+use Rattle.schemars_schema.specs.Json.{Text, json_eq}
 use Rattle.schemars_schema.specs.SchemaData.{object_of}
 use Rattle.schemars_types.specs.declared.shape.IntKind.TheVariants.{I8, U8, U128, I64}
 use Rattle.schemars_types.specs.Shape as shape
@@ -92,6 +92,26 @@ lists = (refl, refl)
 empty_lists : TellsApart Deserialize (shape.seq 0) (array no_items) (object no_members)
 unfolding TellsApart has table belongs_within
 empty_lists = (refl, refl)
+
+sets : TellsApart Deserialize (shape.set 0) (pair (whole 0) (whole 1)) (pair (whole 1) (whole 1))
+unfolding TellsApart has table belongs_within whole pair json_eq
+sets = (refl, refl)
+
+arrays : TellsApart Deserialize (shape.array 0 2) (pair (whole 0) (whole 0)) (array no_items)
+unfolding TellsApart has table belongs_within whole pair
+arrays = (refl, refl)
+
+short_lists : TellsApart Deserialize (shape.up_to 0 1) (array no_items) (pair (whole 0) (whole 0))
+unfolding TellsApart has table belongs_within whole pair
+short_lists = (refl, refl)
+
+tuples : TellsApart Deserialize (shape.tuple (0 ∷ 0 ∷ [])) (pair (whole 0) (whole 255)) (pair (whole 0) null)
+unfolding TellsApart has table belongs_within whole pair
+tuples = (refl, refl)
+
+empty_tuples : TellsApart Deserialize (shape.tuple []) (array no_items) (pair (whole 0) (whole 0))
+unfolding TellsApart has table belongs_within whole pair
+empty_tuples = (refl, refl)
 
 -- a row that is not there has no value
 unknown_rows : (belongs (table shape.any) Deserialize [] 2 null ≡ false) × (has Deserialize (shape.option 2) (whole 1) ≡ false)

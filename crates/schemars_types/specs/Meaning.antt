@@ -1,13 +1,14 @@
 -- Which JSON values belong to a type of a table.
-use Rattle.std.specs.Prelude.{ℕ, zero, suc, ◌+◌, ◌*◌, ◌&&◌, ◌||◌, ◌==◌, ℤ, pos, negsuc, List, length, find, Bool, true, false, not, int_le, Option, Some, None, is_some, bytes_eq}
+use Rattle.std.specs.Prelude.{ℕ, zero, suc, ◌+◌, ◌*◌, ◌&&◌, ◌||◌, ◌==◌, ℤ, pos, negsuc, List, [], ◌∷◌, length, find, Bool, true, false, not, int_le, nat_le, Option, Some, None, is_some, bytes_eq}
 use Rattle.std.specs.List.{list_all}
 use Rattle.std.specs.Option.{option_map_or}
 use Rattle.serde_json.specs.Data.{Data, Items, no_items, item, Members, no_members, member, depth}
 use Rattle.serde_json.specs.Find.{as_bool, as_number, as_str, as_array, as_object, get_member}
-use Rattle.schemars_schema.specs.Json.{Text}
+use Rattle.serde_json.specs.Events.{items_len}
+use Rattle.schemars_schema.specs.Json.{Text, are_distinct}
 use Rattle.schemars_schema.specs.SchemaData.{is_schema}
 use Rattle.schemars_schema.specs.Acceptance.{Patterns, is_null, whole_number, code_points}
-use Rattle.schemars_types.specs.Shape.{Required, Field, Shape, null, bool, int, non_zero, number, text, char, formatted, any, bytes, schema_itself, option, seq, struct, newtype}
+use Rattle.schemars_types.specs.Shape.{Required, Field, Shape, null, bool, int, non_zero, number, text, char, formatted, any, bytes, schema_itself, option, seq, set, array as array_shape, up_to, tuple, struct, newtype}
 use Rattle.schemars_types.specs.Rows.{Row, entry_at}
 use Rattle.schemars_types.specs.declared.shape.IntKind.{IntKind}
 use Rattle.schemars_types.specs.declared.shape.IntKind.TheVariants.{I8, I16, I32, I64, I128, Isize, U8, U16, U32, U64, U128, Usize}
@@ -70,6 +71,13 @@ abbrev pub every_item : (Data → Bool) → Items → Bool
 every_item p no_items = true
 every_item p (item v vs) = p v && every_item p vs
 
+-- just as many items as parts, each of the part in its place
+abbrev pub each_of : (ℕ → Data → Bool) → List ℕ → Items → Bool
+each_of part [] no_items = true
+each_of part [] (item v vs) = false
+each_of part (n ∷ ns) no_items = false
+each_of part (n ∷ ns) (item v vs) = part n v && each_of part ns vs
+
 abbrev pub every_member : (Text → Data → Bool) → Members → Bool
 every_member p no_members = true
 every_member p (member k v ms) = p k v && every_member p ms
@@ -110,6 +118,10 @@ has_shape contract patterns part bytes v = holds (as_array v) (every_item is_byt
 has_shape contract patterns part schema_itself v = is_schema v
 has_shape contract patterns part (option n) v = is_null v || part n v
 has_shape contract patterns part (seq n) v = holds (as_array v) (every_item (part n))
+has_shape contract patterns part (set n) v = holds (as_array v) (λ vs. are_distinct vs && every_item (part n) vs)
+has_shape contract patterns part (array_shape n len) v = holds (as_array v) (λ vs. (items_len vs == len) && every_item (part n) vs)
+has_shape contract patterns part (up_to n cap) v = holds (as_array v) (λ vs. nat_le (items_len vs) cap && every_item (part n) vs)
+has_shape contract patterns part (tuple ns) v = holds (as_array v) (each_of part ns)
 has_shape contract patterns part (struct list closed) v = holds (as_object v) (λ ms. every_member (member_fits part list closed) ms && has_required contract list ms)
 has_shape contract patterns part (newtype n) v = part n v
 

@@ -1,5 +1,6 @@
 -- The ids and names of types that are made of others.
-use Rattle.std.specs.Prelude.{◌++◌, codes}
+use Rattle.std.specs.Prelude.{ℕ, ◌==◌, if◌then◌else◌, ◌++◌, List, [], ◌∷◌, codes}
+use Rattle.std.specs.Fmt.{decimal}
 use Rattle.schemars_schema.specs.Json.{Text}
 use Rattle.schemars_types.specs.declared.shape.IntKind.{IntKind}
 use Rattle.schemars_types.specs.IntKind.{non_zero_name}
@@ -18,3 +19,35 @@ seq_id id = codes "[" ++ (id ++ codes "]")
 
 abbrev pub seq_name : Text → Text
 seq_name name = codes "Array_of_" ++ name
+
+abbrev pub set_id : Text → Text
+set_id id = codes "Set<" ++ (id ++ codes ">")
+
+abbrev pub set_name : Text → Text
+set_name name = codes "Set_of_" ++ name
+
+-- lists of no items are one type, whatever the items would be
+abbrev pub array_id : Text → ℕ → Text
+array_id id len = if len == 0 then codes "[]" else codes "[" ++ (decimal len ++ (codes "; " ++ (id ++ codes "]")))
+
+abbrev pub array_name : Text → ℕ → Text
+array_name name len = if len == 0 then codes "EmptyArray" else codes "Array_size_" ++ (decimal len ++ (codes "_of_" ++ name))
+
+abbrev pub up_to_id : Text → ℕ → Text
+up_to_id id cap = codes "[" ++ (id ++ (codes "; up to " ++ (decimal cap ++ codes "]")))
+
+abbrev pub up_to_name : Text → ℕ → Text
+up_to_name name cap = codes "Array_up_to_size_" ++ (decimal cap ++ (codes "_of_" ++ name))
+
+-- each text with another in front
+abbrev pub led_by : Text → List Text → Text
+led_by front [] = []
+led_by front (t ∷ ts) = front ++ (t ++ led_by front ts)
+
+abbrev pub tuple_id : List Text → Text
+tuple_id [] = codes "[]"
+tuple_id (t ∷ ts) = codes "(" ++ (t ++ (led_by (codes ",") ts ++ codes ")"))
+
+abbrev pub tuple_name : List Text → Text
+tuple_name [] = codes "EmptyArray"
+tuple_name (t ∷ ts) = codes "Tuple_of_" ++ (t ++ led_by (codes "_and_") ts)

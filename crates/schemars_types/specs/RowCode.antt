@@ -23,7 +23,7 @@ field_code =
     (λ _. refl)
 
 abbrev pub parts_code : Coded Parts
-parts_code = coded× coded_ℕ (coded× (coded_option kind_code) (coded× (coded_option text_code) (coded× (coded_option coded_ℕ) (coded_option (coded× (coded_list field_code) coded_bool)))))
+parts_code = coded× coded_ℕ (coded× (coded_option kind_code) (coded× (coded_option text_code) (coded× (coded_option coded_ℕ) (coded× (coded_option coded_ℕ) (coded× (coded_option (coded_list coded_ℕ)) (coded_option (coded× (coded_list field_code) coded_bool)))))))
 
 abbrev pub shape_code : Coded Shape
 shape_code = code_by Parts parts_code parts_of shape_from shape_from-parts_of

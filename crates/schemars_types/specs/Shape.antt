@@ -1,5 +1,5 @@
 -- What an entry of a table says: a row's shape, whether it is written in place, and its notes.
-use Rattle.std.specs.Prelude.{ℕ, List, [], ◌∷◌, map, Bool, true, string_bytes}
+use Rattle.std.specs.Prelude.{ℕ, ◌==◌, if◌then◌else◌, List, [], ◌∷◌, map, Bool, true, string_bytes}
 use Rattle.serde_json.specs.Data.{Members, no_members}
 use Rattle.serde_json.specs.View.{members_view}
 use Rattle.schemars_schema.specs.Json.{Text}
@@ -22,7 +22,7 @@ pub record Field : Type 0 where
   pub required : Required
   pub notes : Members
 
--- Numbers are those of rows. A struct has fields, in order, and may be closed to other keys.
+-- Numbers are those of rows. An array has just so many items, and `up_to` has so many at most. A struct has fields, in order, and may be closed to other keys.
 pub data Shape : Type 0 where
   null : Shape
   bool : Shape
@@ -37,6 +37,10 @@ pub data Shape : Type 0 where
   schema_itself : Shape
   option : ℕ → Shape
   seq : ℕ → Shape
+  set : ℕ → Shape
+  array : ℕ → ℕ → Shape
+  up_to : ℕ → ℕ → Shape
+  tuple : List ℕ → Shape
   struct : List Field → Bool → Shape
   newtype : ℕ → Shape
 
@@ -69,11 +73,19 @@ shape_of src.Bytes = bytes
 shape_of src.SchemaItself = schema_itself
 shape_of (src.Option n) = option n
 shape_of (src.Seq n) = seq n
+shape_of (src.Set n) = set n
+shape_of (src.Array n len) = array n len
+shape_of (src.UpTo n cap) = up_to n cap
+shape_of (src.Tuple parts) = tuple parts.items
 shape_of (src.Struct fields) = struct (fields_view fields).0 (fields_view fields).1
 shape_of (src.Newtype n) = newtype n
 
 abbrev pub entry_of : src-entry.TypeEntry → Entry
 entry_of e = record { inline = e.inline; notes = members_view e.notes.entries; shape = shape_of e.shape }
+
+-- an array of no items is the empty tuple
+abbrev pub array_of : ℕ → ℕ → Shape
+array_of n len = if len == 0 then tuple [] else array n len
 
 abbrev pub without_notes : Bool → Shape → Entry
 without_notes inline s = record { inline = inline; notes = no_members; shape = s }
@@ -86,6 +98,10 @@ in_place s = without_notes true s
 abbrev pub numbers_of : Shape → List ℕ
 numbers_of (option n) = n ∷ []
 numbers_of (seq n) = n ∷ []
+numbers_of (set n) = n ∷ []
+numbers_of (array n len) = n ∷ []
+numbers_of (up_to n cap) = n ∷ []
+numbers_of (tuple ns) = ns
 numbers_of (struct list closed) = map (λ f. f.ty) list
 numbers_of (newtype n) = n ∷ []
 numbers_of _ = []

@@ -38,6 +38,10 @@ impl Clone for Shape {
             Shape::SchemaItself => Shape::SchemaItself,
             Shape::Option(n) => Shape::Option(*n),
             Shape::Seq(n) => Shape::Seq(*n),
+            Shape::Set(n) => Shape::Set(*n),
+            Shape::Array(n, len) => Shape::Array(*n, *len),
+            Shape::UpTo(n, cap) => Shape::UpTo(*n, *cap),
+            Shape::Tuple(parts) => Shape::Tuple(parts.clone()?),
             Shape::Struct(fields) => Shape::Struct(fields.clone()?),
             Shape::Newtype(n) => Shape::Newtype(*n),
         })

@@ -1,7 +1,7 @@
 ghost use Rattle.std.specs.Prelude.{◌≡◌, false, codes, None, IfOk, OnErr, IfErr, string_bytes};
 ghost use Rattle.schemars_types.specs.IntKind.{format_of, non_zero_name};
-ghost use Rattle.schemars_types.specs.Names.{non_zero_id, option_id, option_name, seq_id, seq_name};
-ghost use Rattle.schemars_types.specs.Shape.{Shape as shape, shape_of, in_place, without_notes};
+ghost use Rattle.schemars_types.specs.Names.{non_zero_id, option_id, option_name, seq_id, seq_name, set_id, set_name, array_id, array_name, up_to_id, up_to_name};
+ghost use Rattle.schemars_types.specs.Shape.{Shape as shape, shape_of, in_place, array_of, without_notes};
 ghost use Rattle.schemars_types.specs.Rows.{id_at, name_at, unknown_in};
 ghost use Rattle.schemars_types.specs.Refusals.{Registers, Refuses};
 
@@ -174,6 +174,59 @@ impl Types {
         let id = format!(in alloc; "[{id}]")?;
         let name = format!(in alloc; "Array_of_{name}")?;
         self.register_row(alloc, id, name, true, Shape::Seq(n))
+    }
+
+    /// The type of lists of values of row `n`, no two of them equal.
+    pub fn set(&mut self, alloc: Global, n: TypeNo) -> Result<TypeNo, TypesError>
+        ensures ok { IfOk result (Registers (set_id (id_at self.old n)) (set_name (name_at self.old n))
+            (in_place (shape.set n)) self.old self.new) }
+        ensures err { OnErr result (self.new ≡ self.old) }
+        ensures refused { IfErr result
+            (Refuses (set_id (id_at self.old n)) (in_place (shape.set n)) self.old) }
+    {
+        let (Some(id), Some(name)) = (self.id(n), self.name(n)) else {
+            return Err(TypesError::UnknownType(n));
+        };
+        let id = format!(in alloc; "Set<{id}>")?;
+        let name = format!(in alloc; "Set_of_{name}")?;
+        self.register_row(alloc, id, name, true, Shape::Set(n))
+    }
+
+    /// The type of lists of just `len` values of row `n`. Where `len` is 0 it is that of empty lists,
+    /// whatever `n` is.
+    pub fn array(&mut self, alloc: Global, n: TypeNo, len: u64) -> Result<TypeNo, TypesError>
+        ensures ok { IfOk result (Registers (array_id (id_at self.old n) len)
+            (array_name (name_at self.old n) len) (in_place (array_of n len)) self.old self.new) }
+        ensures err { OnErr result (self.new ≡ self.old) }
+        ensures refused { IfErr result
+            (Refuses (array_id (id_at self.old n) len) (in_place (array_of n len)) self.old) }
+    {
+        if len == 0 {
+            let empty = Shape::Tuple(Vec::new(alloc));
+            return self.register_named(alloc, "[]", "EmptyArray", true, empty);
+        }
+        let (Some(id), Some(name)) = (self.id(n), self.name(n)) else {
+            return Err(TypesError::UnknownType(n));
+        };
+        let id = format!(in alloc; "[{len}; {id}]")?;
+        let name = format!(in alloc; "Array_size_{len}_of_{name}")?;
+        self.register_row(alloc, id, name, true, Shape::Array(n, len))
+    }
+
+    /// The type of lists of at most `cap` values of row `n`.
+    pub fn up_to(&mut self, alloc: Global, n: TypeNo, cap: u64) -> Result<TypeNo, TypesError>
+        ensures ok { IfOk result (Registers (up_to_id (id_at self.old n) cap)
+            (up_to_name (name_at self.old n) cap) (in_place (shape.up_to n cap)) self.old self.new) }
+        ensures err { OnErr result (self.new ≡ self.old) }
+        ensures refused { IfErr result
+            (Refuses (up_to_id (id_at self.old n) cap) (in_place (shape.up_to n cap)) self.old) }
+    {
+        let (Some(id), Some(name)) = (self.id(n), self.name(n)) else {
+            return Err(TypesError::UnknownType(n));
+        };
+        let id = format!(in alloc; "[{id}; up to {cap}]")?;
+        let name = format!(in alloc; "Array_up_to_size_{cap}_of_{name}")?;
+        self.register_row(alloc, id, name, true, Shape::UpTo(n, cap))
     }
 
     // Reserves and defines a row. Its shape refers to rows of the table alone, so a new row is never

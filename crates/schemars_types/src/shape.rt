@@ -5,7 +5,7 @@ ghost use Rattle.schemars_types.specs.IntKind.{format_of, kind_eq, non_zero_name
 ghost use Rattle.schemars_types.specs.Shape.{shape_of, field_of, fields_view, entry_of, numbers_of, without_notes};
 ghost use Rattle.schemars_types.specs.Edges.{same_value_numbers, names_of};
 ghost use Rattle.schemars_types.specs.Repeated.{IsRepeated};
-ghost use Rattle.schemars_types.specs.ShapeParts.{kind_of, int_kind_in, format_in, part_of, fields_in, parts_of, holdings_eq, shape_eq, fields_eq, list_eq, field_eq, entry_eq};
+ghost use Rattle.schemars_types.specs.ShapeParts.{kind_of, int_kind_in, format_in, part_of, count_in, numbers_in, fields_in, parts_of, holdings_eq, shape_eq, number_eq, numbers_eq, fields_eq, list_eq, field_eq, entry_eq};
 
 use schemars_schema::json_eq_members;
 use serde_json::{Map, Value};
@@ -103,6 +103,14 @@ pub enum Shape {
     Option(TypeNo),
     /// a list of values of this row
     Seq(TypeNo),
+    /// a list of values of this row, no two of them equal
+    Set(TypeNo),
+    /// a list of just so many values of this row
+    Array(TypeNo, u64),
+    /// a list of at most so many values of this row
+    UpTo(TypeNo, u64),
+    /// a list of one value of each row, in this order
+    Tuple(Vec<TypeNo>),
     /// a map with these fields
     Struct(Fields),
     /// a value of this row
@@ -140,9 +148,12 @@ impl Shape {
         ensures { result ≡ find (λ n. nat_le len n) (numbers_of (shape_of self.now)) }
     {
         match self {
-            Shape::Option(n) | Shape::Seq(n) | Shape::Newtype(n) if len <= *n => Some(*n),
+            Shape::Tuple(parts) => first_unknown(parts, len),
             Shape::Struct(fields) => fields.first_unknown(len),
-            _ => None,
+            _ => match self.part() {
+                Some(n) if len <= n => Some(n),
+                _ => None,
+            },
         }
     }
 
@@ -151,9 +162,12 @@ impl Shape {
         ensures { IfOk result (λ v. v.items ≡ numbers_of (shape_of self.now)) }
     {
         match self {
-            Shape::Option(n) | Shape::Seq(n) | Shape::Newtype(n) => Ok(vec![in alloc; *n]?),
+            Shape::Tuple(parts) => parts.clone(),
             Shape::Struct(fields) => fields.numbers(alloc),
-            _ => Ok(Vec::new(alloc)),
+            _ => match self.part() {
+                Some(n) => Ok(vec![in alloc; n]?),
+                None => Ok(Vec::new(alloc)),
+            },
         }
     }
 
@@ -196,8 +210,12 @@ impl Shape {
             Shape::SchemaItself => 10,
             Shape::Option(_) => 11,
             Shape::Seq(_) => 12,
-            Shape::Struct(_) => 13,
-            Shape::Newtype(_) => 14,
+            Shape::Set(_) => 13,
+            Shape::Array(_, _) => 14,
+            Shape::UpTo(_, _) => 15,
+            Shape::Tuple(_) => 16,
+            Shape::Struct(_) => 17,
+            Shape::Newtype(_) => 18,
         }
     }
 
@@ -224,7 +242,28 @@ impl Shape {
         ensures { result ≡ part_of (shape_of self.now) }
     {
         match self {
-            Shape::Option(n) | Shape::Seq(n) | Shape::Newtype(n) => Some(*n),
+            Shape::Option(n) | Shape::Seq(n) | Shape::Set(n) | Shape::Newtype(n) => Some(*n),
+            Shape::Array(n, _) | Shape::UpTo(n, _) => Some(*n),
+            _ => None,
+        }
+    }
+
+    // The number of items that it has, or has at most.
+    fn count(&self) -> Option<u64>
+        ensures { result ≡ count_in (shape_of self.now) }
+    {
+        match self {
+            Shape::Array(_, count) | Shape::UpTo(_, count) => Some(*count),
+            _ => None,
+        }
+    }
+
+    // The rows that stand side by side in it.
+    fn side_by_side(&self) -> Option<&[TypeNo]>
+        ensures { option_map (λ s. s.now) result ≡ numbers_in (shape_of self.now) }
+    {
+        match self {
+            Shape::Tuple(parts) => Some(parts.as_slice()),
             _ => None,
         }
     }
@@ -251,6 +290,8 @@ impl Shape {
         self.has_int_kind(other.int_kind())
             && self.has_format(other.format())
             && self.has_part(other.part())
+            && self.has_count(other.count())
+            && self.has_side_by_side(other.side_by_side())
             && self.has_fields(other.fields())
     }
 
@@ -268,9 +309,26 @@ impl Shape {
     }
 
     fn has_part(&self, part: Option<TypeNo>) -> bool
-        ensures { result ≡ option_eq (λ m n. m == n) (part_of (shape_of self.now)) part }
+        ensures { result ≡ option_eq number_eq (part_of (shape_of self.now)) part }
     {
         self.part() == part
+    }
+
+    fn has_count(&self, count: Option<u64>) -> bool
+        ensures { result ≡ option_eq number_eq (count_in (shape_of self.now)) count }
+    {
+        self.count() == count
+    }
+
+    fn has_side_by_side(&self, numbers: Option<&[TypeNo]>) -> bool
+        ensures { result ≡ option_eq numbers_eq (numbers_in (shape_of self.now))
+            (option_map (λ s. s.now) numbers.entry) }
+    {
+        match (self.side_by_side(), numbers) {
+            (Some(own), Some(others)) => numbers_equal(own, others),
+            (None, None) => true,
+            _ => false,
+        }
     }
 
     fn has_fields(&self, fields: Option<&Fields>) -> bool
@@ -283,6 +341,17 @@ impl Shape {
             _ => false,
         }
     }
+}
+
+fn first_unknown(numbers: &[TypeNo], len: usize) -> Option<TypeNo>
+    ensures { result ≡ find (λ n. nat_le len n) numbers.now }
+{
+    for n in numbers {
+        if len <= *n {
+            return Some(*n);
+        }
+    }
+    None
 }
 
 impl Fields {
@@ -325,6 +394,12 @@ impl Fields {
     {
         self.closed == other.closed && lists_equal(&self.list, &other.list)
     }
+}
+
+fn numbers_equal(a: &[TypeNo], b: &[TypeNo]) -> bool
+    ensures { result ≡ numbers_eq a.now b.now }
+{
+    a == b
 }
 
 fn lists_equal(a: &[Field], b: &[Field]) -> bool

@@ -120,6 +120,8 @@ fn assert_rows_of_rows(rt: &impl Abort, alloc: Global, types: &mut Types) -> Res
     let list = types.seq(alloc, option)?;
     let (id, name) = ("[Option<string>]", "Array_of_Nullable_string");
     assert_row(rt, types, list, id, name);
+    let set = types.set(alloc, string)?;
+    assert_row(rt, types, set, "Set<string>", "Set_of_string");
     assert_eq!(rt; types.text(alloc)?, string, "a row is there once");
     assert_eq!(rt; types.find("Option<string>"), Some(option));
     Ok(())
@@ -131,7 +133,27 @@ fn other_rows(rt: HostRuntime) -> Result<(), Fail> {
     assert!(rt; types.is_empty());
     assert_plain_rows(&rt, rt.alloc(), &mut types)?;
     assert_rows_of_rows(&rt, rt.alloc(), &mut types)?;
-    assert_eq!(rt; types.len(), 9);
+    assert_eq!(rt; types.len(), 10);
+    Ok(())
+}
+
+fn assert_counted_rows(rt: &impl Abort, alloc: Global, types: &mut Types) -> Result<(), Fail> {
+    let string = types.text(alloc)?;
+    let pair = types.array(alloc, string, 2)?;
+    assert_row(rt, types, pair, "[2; string]", "Array_size_2_of_string");
+    let short = types.up_to(alloc, string, 8)?;
+    let (id, name) = ("[string; up to 8]", "Array_up_to_size_8_of_string");
+    assert_row(rt, types, short, id, name);
+    let empty = types.array(alloc, string, 0)?;
+    assert_row(rt, types, empty, "[]", "EmptyArray");
+    Ok(())
+}
+
+#[test]
+fn counted_rows(rt: HostRuntime) -> Result<(), Fail> {
+    let mut types = Types::new(rt.alloc());
+    assert_counted_rows(&rt, rt.alloc(), &mut types)?;
+    assert_eq!(rt; types.len(), 4);
     Ok(())
 }
 

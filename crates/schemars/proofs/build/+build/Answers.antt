@@ -1,15 +1,16 @@
-use Rattle.std.proofs.Common.{◌≡◌, ◌<◌, ◌≤◌, ◌+◌, ◌++◌, ◌∷◌, [], List, Option, false, length, map, take, true, Some, None, refl, ap, sym, ◌∙◌, subst, arith, rules, string_bytes, All, not, is_some}
+use Rattle.std.proofs.Common.{◌≡◌, ◌<◌, ◌≤◌, ◌+◌, ◌++◌, ◌∷◌, [], ℕ, List, Option, false, length, map, take, true, Some, None, refl, ap, sym, ◌∙◌, subst, arith, rules, string_bytes, All, get_or, not, is_some}
 use Rattle.std.proofs.lemmas.List.{map-append, take_more}
 use Rattle.serde_json.specs.Data.{Data, Members, boolean, string, put}
-use Rattle.serde_json.specs.View.{members_view}
+use Rattle.serde_json.specs.View.{view, items_view, members_view}
+use Rattle.serde_json.specs.declared.value.Value.{Value}
 use Rattle.serde_json.proofs.Views.{get_member-put}
 use Rattle.schemars_schema.specs.Annotations.{AreNotes}
-use Rattle.schemars_schema.specs.References.{references, found_in_members}
+use Rattle.schemars_schema.specs.References.{references, found_in_members, found_in_items}
 use Rattle.schemars_rewrite.specs.NullLaw.{text_items}
 use Rattle.schemars_types.specs.declared.shape.Field as src
 use Rattle.schemars_types.specs.Shape.{Shape, Entry, struct, shape_of, field_of, entry_of, numbers_of}
 use Rattle.schemars_types.specs.Edges.{height}
-use Rattle.schemars.specs.Documents.{annotated, required_names}
+use Rattle.schemars.specs.Documents.{annotated, required_names, ArePartsWritten}
 use Rattle.schemars.specs.Missing.{StandsIn, missing}
 use Rattle.schemars.specs.Naming.{contract_of}
 use Rattle.schemars.specs.PlainTable.{IsNoName, AreDistinct, AreNoted, IsPlainShape, IsPlainEntry}
@@ -17,7 +18,7 @@ use Rattle.schemars.specs.Plans.{plan_of}
 use Rattle.schemars.specs.Properties.{ArePropertiesOf}
 use Rattle.schemars.specs.Reached.{AreReached}
 use Rattle.schemars.specs.Work.{Work, Refers, Step, undone}
-use Rattle.schemars.proofs.Building.{Written, part, written-wider, option_document, seq_document-of, newtype_document, own_document-of, properties_joined}
+use Rattle.schemars.proofs.Building.{Written, part, written-wider, option_document, list_document-of, item_number, parts_joined, newtype_document, own_document-of, properties_joined}
 use Rattle.schemars.proofs.Descending.{stands, stands_one, stands_field, left_of_subschema, left_of_own_document, left_of_document, left_of_properties, left_of_define, to_part, to_define, to_definition}
 use Rattle.schemars.proofs.Mapping.{struct_document-of}
 use Rattle.std.proofs.Common.{inl, inr}
@@ -27,7 +28,7 @@ use Rattle.schemars.specs.Documents.{reference}
 use Rattle.schemars.specs.Naming.{name_of}
 use Rattle.schemars.specs.Work.{reference_to}
 use Rattle.schemars.proofs.Given.{gives-keeps}
-use Rattle.schemars.proofs.Reaching.{members-kept, members-has, among_annotated, among_allow_null, among_seq, among_map, reference_among, reached_more, reached_trans, reached_defines, new_name, noted_at, new_property}
+use Rattle.schemars.proofs.Reaching.{items-kept, items-has, members-kept, members-has, among_annotated, among_allow_null, among_list, among_tuple, among_map, reference_among, reached_more, reached_trans, reached_defines, new_name, noted_at, new_property}
 use Rattle.schemars.proofs.Steps.{begun_with, finished_with, begun-fewer, undone-begun, undone-finished, begun-contains, finished-found, key-found, step_trans, step_meet, step_names, step_defines, step_wider, missing-wider}
 use Rattle.schemars.proofs.build.+build.Goals as goal
 
@@ -36,13 +37,6 @@ document-subschema-requires t c =
     let plan = plan_of c.args.plan.now in
     let one : StandsIn plan.rows c.args.n c.in-Option.some = stands_one plan.rows c.args.n c.in-Option.some _ (ap (λ s. numbers_of (shape_of s)) c.in-Option.is) c.requires.stand in
     let less : left_of_subschema plan c.args.work.now c.in-Option.some < left_of_document plan c.args.work.now c.args.n = to_part plan c.args.work.now c.args.work.now c.args.n c.in-Option.some 3 one (omega arith) (omega arith) in
-    (search rules, (c.requires.checked, one.is_known))
-
-pub document-subschema-requires-in-Seq : goal.document-subschema-requires-in-Seq
-document-subschema-requires-in-Seq t c =
-    let plan = plan_of c.args.plan.now in
-    let one : StandsIn plan.rows c.args.n c.in-Seq.item = stands_one plan.rows c.args.n c.in-Seq.item _ (ap (λ s. numbers_of (shape_of s)) c.in-Seq.is) c.requires.stand in
-    let less : left_of_subschema plan c.args.work.now c.in-Seq.item < left_of_document plan c.args.work.now c.args.n = to_part plan c.args.work.now c.args.work.now c.args.n c.in-Seq.item 3 one (omega arith) (omega arith) in
     (search rules, (c.requires.checked, one.is_known))
 
 pub document-subschema-requires-in-Newtype : goal.document-subschema-requires-in-Newtype
@@ -61,23 +55,14 @@ document-returns-in_ok-allow_null-in-Option-clause-describes t c =
     option_document (Written plan free now c.args.n) (contract_of plan.contract) c.in-Option.some _ c.in_ok-schema-in-Option.schema c.allow_null.new.schema (ap shape_of c.in-Option.is)
     (part plan free now c.args.n c.in-Option.some c.in_ok-schema-in-Option.schema one c.in_ok-schema-in-Option.ensures.written) c.in_ok-allow_null-in-Option.ensures.becomes
 
-pub document-returns-in_ok-schema-in-Seq-clause-describes : goal.document-returns-in_ok-schema-in-Seq-clause-describes
-document-returns-in_ok-schema-in-Seq-clause-describes t c =
-    let plan = plan_of c.args.plan.now in
-    let free = not c.args.in_definition in
-    let now = c.subschema-in-Seq.new.work in
-    let one : StandsIn plan.rows c.args.n c.in-Seq.item = stands_one plan.rows c.args.n c.in-Seq.item _ (ap (λ s. numbers_of (shape_of s)) c.in-Seq.is) c.requires.stand in
-    seq_document-of (Written plan free now c.args.n) (contract_of plan.contract) c.in-Seq.item _ c.in_ok-items-in-Seq.items c.in_ok-schema-in-Seq.schema (ap shape_of c.in-Seq.is)
-    (part plan free now c.args.n c.in-Seq.item c.in_ok-items-in-Seq.items one c.in_ok-items-in-Seq.ensures.written) c.in_ok-schema-in-Seq.ensures
-
 pub document-returns-in_ok-schema-in-Struct-clause-describes : goal.document-returns-in_ok-schema-in-Struct-clause-describes
 document-returns-in_ok-schema-in-Struct-clause-describes t c =
     let plan = plan_of c.args.plan.now in
     let W = Written plan (not c.args.in_definition) c.properties.new.work c.args.n in
     let contract = contract_of plan.contract in
     let fields = c.in-Struct.fields in
-    let first : c.deref.result.now ≡ fields.list.items = c.deref.ensures.value in
-    let second : c.deref-in-Struct.result.now ≡ fields.list.items = c.deref-in-Struct.ensures.value in
+    let first : c.deref-in-Struct.result.now ≡ fields.list.items = c.deref-in-Struct.ensures.value in
+    let second : c.deref-in-Struct-2.result.now ≡ fields.list.items = c.deref-in-Struct-2.ensures.value in
     let P : List src.Field → Type 0 = λ fs. ArePropertiesOf W (map field_of fs) (members_view c.in_ok-properties-in-Struct.properties.entries) in
     struct_document-of W contract _ (map field_of fields.list.items) fields.closed _ _ _ (ap shape_of c.in-Struct.is) (subst P first c.in_ok-properties-in-Struct.ensures.written)
     (c.in_ok-required-in-Struct.ensures ∙ ap (λ fs. text_items (required_names contract (map field_of fs))) second) c.in_ok-schema-in-Struct.ensures
@@ -264,15 +249,10 @@ document-returns-in_ok-allow_null-in-Option-clause-reached t c = λ plain kind.
     let P : Data → Type 0 = λ s. AreReached (plan_of c.args.plan.now).path c.args.work.now.definitions c.subschema.new.work.definitions (references s) in
     subst P (sym c.in_ok-allow_null-in-Option.ensures.becomes) (reached_more (plan_of c.args.plan.now).path c.args.work.now.definitions c.subschema.new.work.definitions _ _ (among_allow_null c.in_ok-schema-in-Option.schema) (c.in_ok-schema-in-Option.ensures.reached plain))
 
-pub document-returns-in_ok-schema-in-Seq-clause-reached : goal.document-returns-in_ok-schema-in-Seq-clause-reached
-document-returns-in_ok-schema-in-Seq-clause-reached t c = λ plain kind.
-    let P : Data → Type 0 = λ s. AreReached (plan_of c.args.plan.now).path c.args.work.now.definitions c.subschema-in-Seq.new.work.definitions (references s) in
-    subst P (sym c.in_ok-schema-in-Seq.ensures) (reached_more (plan_of c.args.plan.now).path c.args.work.now.definitions c.subschema-in-Seq.new.work.definitions _ _ (among_seq c.in_ok-items-in-Seq.items) (c.in_ok-items-in-Seq.ensures.reached plain))
-
 pub document-returns-in_ok-schema-in-Struct-clause-reached : goal.document-returns-in_ok-schema-in-Struct-clause-reached
 document-returns-in_ok-schema-in-Struct-clause-reached t c = λ plain kind.
     let fields = c.in-Struct.fields in
-    let first : c.deref.result.now ≡ fields.list.items = c.deref.ensures.value in
+    let first : c.deref-in-Struct.result.now ≡ fields.list.items = c.deref-in-Struct.ensures.value in
     let P : Data → Type 0 = λ s. AreReached (plan_of c.args.plan.now).path c.args.work.now.definitions c.properties.new.work.definitions (references s) in
     let Q : Shape → Type 0 = λ k. IsPlainShape k in
     let D : List src.Field → Type 0 = λ fs. AreDistinct (map field_of fs) in
@@ -315,3 +295,65 @@ subschema-returns-clause-reached t c = λ plain.
     let P : Work → Type 0 = λ w. AreReached plan.path w.definitions now.definitions (string (reference_to plan.path k) ∷ []) in
     let Q : Data → Type 0 = λ s. AreReached plan.path old.definitions now.definitions (references s) in
     subst Q (sym same) (reached_more plan.path old.definitions now.definitions _ _ (reference_among (reference_to plan.path k)) (subst P given (c.in_ok-define.ensures.reached plain)))
+
+pub document-subschema-requires-in-Some : goal.document-subschema-requires-in-Some
+document-subschema-requires-in-Some t c =
+    let plan = plan_of c.args.plan.now in
+    let one : StandsIn plan.rows c.args.n c.in-Some.item = stands_one plan.rows c.args.n c.in-Some.item _ (item_number (shape_of c.args.shape.now) c.in-Some.item (sym c.in-Some.ensures)) c.requires.stand in
+    let less : left_of_subschema plan c.args.work.now c.in-Some.item < left_of_document plan c.args.work.now c.args.n = to_part plan c.args.work.now c.args.work.now c.args.n c.in-Some.item 3 one (omega arith) (omega arith) in
+    (search rules, (c.requires.checked, one.is_known))
+
+pub document-returns-in_ok-schema-in-Some-clause-describes : goal.document-returns-in_ok-schema-in-Some-clause-describes
+document-returns-in_ok-schema-in-Some-clause-describes t c =
+    let plan = plan_of c.args.plan.now in
+    let free = not c.args.in_definition in
+    let now = c.subschema-in-Some.new.work in
+    let one : StandsIn plan.rows c.args.n c.in-Some.item = stands_one plan.rows c.args.n c.in-Some.item _ (item_number (shape_of c.args.shape.now) c.in-Some.item (sym c.in-Some.ensures)) c.requires.stand in
+    list_document-of (Written plan free now c.args.n) (contract_of plan.contract) (shape_of c.args.shape.now) c.in-Some.item c.in_ok-items-in-Some.items c.in_ok-schema-in-Some.schema (sym c.in-Some.ensures)
+    (part plan free now c.args.n c.in-Some.item c.in_ok-items-in-Some.items one c.in_ok-items-in-Some.ensures.written) c.in_ok-schema-in-Some.ensures
+
+pub document-returns-in_ok-schema-in-Some-clause-reached : goal.document-returns-in_ok-schema-in-Some-clause-reached
+document-returns-in_ok-schema-in-Some-clause-reached t c = λ plain kind.
+    let P : Data → Type 0 = λ s. AreReached (plan_of c.args.plan.now).path c.args.work.now.definitions c.subschema-in-Some.new.work.definitions (references s) in
+    subst P (sym c.in_ok-schema-in-Some.ensures)
+    (reached_more (plan_of c.args.plan.now).path c.args.work.now.definitions c.subschema-in-Some.new.work.definitions _ _ (among_list (shape_of c.args.shape.now) c.in_ok-items-in-Some.items) (c.in_ok-items-in-Some.ensures.reached plain))
+
+pub document-returns-in_ok-schema-in-Tuple-clause-reached : goal.document-returns-in_ok-schema-in-Tuple-clause-reached
+document-returns-in_ok-schema-in-Tuple-clause-reached t c = λ plain kind.
+    let P : Data → Type 0 = λ s. AreReached (plan_of c.args.plan.now).path c.args.work.now.definitions c.parts_in_order.new.work.definitions (references s) in
+    subst P (sym c.in_ok-schema-in-Tuple.ensures)
+    (reached_more (plan_of c.args.plan.now).path c.args.work.now.definitions c.parts_in_order.new.work.definitions _ _ (among_tuple c.in_ok-items-in-Tuple.items.items) (c.in_ok-items-in-Tuple.ensures.reached plain))
+
+pub parts_in_order-loop-part-preserved : goal.parts_in_order-loop-part-preserved
+parts_in_order-loop-part-preserved t c =
+    let plan = plan_of c.args.plan.now in
+    let free = not c.args.in_definition in
+    let start = c.args.work.now in
+    let old = c.loop-part.work in
+    let now = c.subschema.new.work in
+    let i = c.loop-part.part-index in
+    let m : ℕ = get_or c.args.parts.now i 0 in
+    let done = c.loop-part.items.items in
+    let schema = c.in_ok-schema.schema in
+    let less : i < length c.args.parts.now = omega arith in
+    let one : StandsIn plan.rows c.args.n m = c.requires.stand i 0 less in
+    let grown : take (i + 1) c.args.parts.now ≡ take i c.args.parts.now ++ m ∷ [] = take_more c.args.parts.now i 0 less in
+    let all : map view c.push.new.self.items ≡ map view done ++ schema ∷ [] =
+    ap (map view) c.in_ok-push.ensures.items ∙ map-append view done (c.to_value.result ∷ []) ∙ ap (λ d. map view done ++ d ∷ []) c.to_value.ensures.value in
+    let joined : ArePartsWritten (Written plan free now c.args.n) (take i c.args.parts.now ++ m ∷ []) (map view done ++ schema ∷ []) =
+    parts_joined (Written plan free old c.args.n) (Written plan free now c.args.n) (written-wider plan free old now c.in_ok-schema.ensures.step c.args.n) (take i c.args.parts.now) (map view done) m schema
+    c.loop-part.invariant.written (part plan free now c.args.n m schema one c.in_ok-schema.ensures.written) in
+    let P : List ℕ → Type 0 = λ ns. ArePartsWritten (Written plan free now c.args.n) ns (map view done ++ schema ∷ []) in
+    let Q : List Data → Type 0 = λ ts. ArePartsWritten (Written plan free now c.args.n) (take (i + 1) c.args.parts.now) ts in
+    record {
+      undone = c.in_ok-schema.ensures.undone ∙ c.loop-part.invariant.undone;
+      step = step_trans plan start old now c.loop-part.invariant.step c.in_ok-schema.ensures.step;
+      fewer = omega (arith, c.in_ok-schema.ensures.fewer, c.loop-part.invariant.fewer);
+      written = subst Q (sym all) (subst P (sym grown) joined);
+      reached = λ plain.
+          let R : List Value → Type 0 = λ vs. AreReached plan.path start.definitions now.definitions (found_in_items (items_view vs)) in
+          let S : Data → Type 0 = λ d. AreReached plan.path old.definitions now.definitions (references d) in
+          subst R (sym c.in_ok-push.ensures.items)
+          (reached_trans plan.path start.definitions old.definitions now.definitions (found_in_items (items_view done)) (references (view c.to_value.result)) (found_in_items (items_view (done ++ c.to_value.result ∷ [])))
+          c.in_ok-schema.ensures.step.stays (items-kept done c.to_value.result) (items-has done c.to_value.result) (c.loop-part.invariant.reached plain) (subst S (sym c.to_value.ensures.value) (c.in_ok-schema.ensures.reached plain)));
+    }

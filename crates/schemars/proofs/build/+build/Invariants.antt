@@ -1,9 +1,9 @@
 use Rattle.std.proofs.Common.{◌≡◌, ◌≤◌, map, take, not}
-use Rattle.serde_json.specs.View.{members_view}
-use Rattle.schemars_schema.specs.References.{found_in_members}
+use Rattle.serde_json.specs.View.{view, items_view, members_view}
+use Rattle.schemars_schema.specs.References.{found_in_members, found_in_items}
 use Rattle.schemars_types.specs.Edges.{height}
 use Rattle.schemars_types.specs.Shape.{field_of}
-use Rattle.schemars.specs.Documents.{IsWritten, Describes}
+use Rattle.schemars.specs.Documents.{IsWritten, ArePartsWritten, Describes}
 use Rattle.schemars.specs.Missing.{missing}
 use Rattle.schemars.specs.Naming.{contract_of}
 use Rattle.schemars.specs.PlainTable.{IsPlainTable, AreDistinct, AreNoted}
@@ -26,8 +26,21 @@ decreases-own_document l = left_of_own_document (plan_of l.plan.now) l.work.now 
 abbrev pub decreases-properties : goal.decreases-properties
 decreases-properties l = left_of_properties (plan_of l.plan.now) l.work.now l.n
 
+abbrev pub decreases-parts_in_order : goal.decreases-parts_in_order
+decreases-parts_in_order l = left_of_properties (plan_of l.plan.now) l.work.now l.n
+
 abbrev pub decreases-subschema : goal.decreases-subschema
 decreases-subschema l = left_of_subschema (plan_of l.plan.now) l.work.now l.n
+
+abbrev pub invariant-parts_in_order-loop-part : goal.invariant-parts_in_order-loop-part
+invariant-parts_in_order-loop-part l = record {
+  undone : undone l.work ≡ undone l.fn.work;
+  step : Step (plan_of l.plan) l.fn.work l.work;
+  fewer : missing (plan_of l.plan).rows l.plan.contract l.work ≤ missing (plan_of l.plan).rows l.plan.contract l.fn.work;
+  written : ArePartsWritten (IsWritten (Refers (plan_of l.plan) (not l.in_definition) l.work)
+      (Describes (plan_of l.plan).rows (contract_of l.plan.contract) (Refers (plan_of l.plan) (not l.in_definition) l.work) (height (plan_of l.plan).rows l.n))) (take l.part-index l.parts) (map view l.items.items);
+  reached : IsPlainTable (plan_of l.plan).rows → AreReached (plan_of l.plan).path l.fn.work.definitions l.work.definitions (found_in_items (items_view l.items.items));
+}
 
 abbrev pub invariant-properties-loop-field : goal.invariant-properties-loop-field
 invariant-properties-loop-field l = record {
