@@ -12,7 +12,7 @@ use Rattle.schemars_types.specs.Rows.{Row, entry_at}
 use Rattle.schemars_types.specs.Edges.{height}
 use Rattle.schemars_types.specs.Meaning.{Contract}
 use Rattle.schemars.specs.Naming.{contract_of}
-use Rattle.schemars.specs.Documents.{IsDocument, IsOwnDocument, IsWritten, AreWritten, Describes, NoPart, annotated, item_in, list_document_for, tuple_document, ArePartsWritten, field_keywords}
+use Rattle.schemars.specs.Documents.{IsDocument, IsOwnDocument, IsWritten, AreWritten, Describes, NoPart, annotated, item_in, list_document_for, ArePartsWritten, field_keywords}
 use Rattle.schemars.specs.Headline.{IsSubschema}
 use Rattle.schemars.specs.Missing.{StandsIn, depth_in_place}
 use Rattle.schemars.specs.Properties.{ArePropertiesOf}
@@ -67,9 +67,6 @@ module _ (W : ℕ → Data → Type 0) (contract : Contract) where
   list_document-of (shape.array n (suc len)) m t s is h e = let P : ℕ → Type 0 = λ k. W k t in (t, subst P (sym (some_is n m (sym (item_of_array n len) ∙ is))) h, e)
   list_document-of (shape.up_to n most) m t s is h e = let P : ℕ → Type 0 = λ k. W k t in (t, subst P (sym (some_is n m is)) h, e)
   list_document-of kind m t s is h e = cc
-
-  pub tuple_document-of : (ns : List ℕ) (kind : Shape) (ts : List Data) (s : Data) → kind ≡ shape.tuple ns → ArePartsWritten W ns ts → s ≡ tuple_document ts → IsDocument W contract kind s
-  tuple_document-of ns kind ts s is h e = let P : Shape → Type 0 = λ k. IsDocument W contract k s in subst P (sym is) (ts, h, e)
 
   pub newtype_document : (m : ℕ) (kind : Shape) (s : Data) → kind ≡ shape.newtype m → W m s → IsDocument W contract kind s
   newtype_document m kind s is h = let P : Shape → Type 0 = λ k. IsDocument W contract k s in subst P (sym is) h

@@ -126,12 +126,12 @@ module _ (patterns : Patterns) (f : Text → Judge) (contract : Contract) (M : �
   just_so_many : (len k : ℕ) → nat_le len k && nat_le k len ≡ (k == len)
   just_so_many len k = grind (arith, nat_tests)
 
-  three_verdicts : (x y z : Bool) → both (verdict x) (both (verdict y) (verdict z)) ≡ verdict ((x && y) && z)
-  three_verdicts true y z = both-verdict y z
-  three_verdicts false true true = refl
-  three_verdicts false true false = refl
-  three_verdicts false false true = refl
-  three_verdicts false false false = refl
+  three : (x y z : Bool) → both (verdict x) (both (verdict y) (verdict z)) ≡ verdict ((x && y) && z)
+  three true y z = both-verdict y z
+  three false true true = refl
+  three false true false = refl
+  three false false true = refl
+  three false false false = refl
 
   some_items_say : (n len : ℕ) (t : Data) → IsSchema t → (v : Data) → IsJson v → AgreesOn n t v → Says (array_document len t) (shape.array n len) v
   unfolding read_data all_keywords
@@ -141,7 +141,7 @@ module _ (patterns : Patterns) (f : Text → Judge) (contract : Contract) (M : �
   some_items_say n len t is (string s) json h = refl
   some_items_say n len t is (array vs) json h =
       rw (schema-judge c t is, both-yes, each_item n t vs json (λ w is less. h w is (omega arith)))
-      (three_verdicts (nat_le len (items_len vs)) (nat_le (items_len vs) len) (every_item (M n) vs) ∙ ap (λ b. verdict (b && every_item (M n) vs)) (just_so_many len (items_len vs)))
+      (three (nat_le len (items_len vs)) (nat_le (items_len vs) len) (every_item (M n) vs) ∙ ap (λ b. verdict (b && every_item (M n) vs)) (just_so_many len (items_len vs)))
   some_items_say n len t is (object ms) json h = refl
 
   past_none : (k : ℕ) → nat_le (suc k) 0 ≡ false
@@ -323,13 +323,6 @@ module _ (patterns : Patterns) (f : Text → Judge) (contract : Contract) (M : �
   opposite_alone : (b : Bool) → both (opposite (both (verdict b) Yes)) Yes ≡ verdict (not b)
   opposite_alone true = refl
   opposite_alone false = refl
-
-  three : (x y z : Bool) → both (verdict x) (both (verdict y) (verdict z)) ≡ verdict ((x && y) && z)
-  three true y z = both-verdict y z
-  three false true true = refl
-  three false true false = refl
-  three false false true = refl
-  three false false false = refl
 
   three_with_not : (x y b : Bool) → both (verdict x) (both (verdict y) (both (opposite (both (verdict b) Yes)) Yes)) ≡ verdict ((x && y) && not b)
   three_with_not x y b = rw (opposite_alone b) (three x y (not b))
