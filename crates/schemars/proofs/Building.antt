@@ -71,9 +71,6 @@ module _ (W : ℕ → Data → Type 0) (contract : Contract) where
   pub newtype_document : (m : ℕ) (kind : Shape) (s : Data) → kind ≡ shape.newtype m → W m s → IsDocument W contract kind s
   newtype_document m kind s is h = let P : Shape → Type 0 = λ k. IsDocument W contract k s in subst P (sym is) h
 
-  pub document_without_parts : (kind : Shape) (s : Data) → IsDocument NoPart contract kind s → IsDocument W contract kind s
-  document_without_parts kind s is = shape_map NoPart W contract (λ j t none. absurd none) kind s is
-
 pub own_document-of : (rows : List Row) (contract : Contract) (R : ℕ → Text → Type 0) (depth n : ℕ) (e : Entry) (bare s : Data) → entry_at rows n ≡ Some e
     → IsDocument (IsWritten R (Describes rows contract R depth)) contract e.shape bare → s ≡ annotated e.notes bare → Describes rows contract R (suc depth) n s
 unfolding Describes

@@ -1,5 +1,5 @@
 -- The ids and names of types that are made of others.
-use Rattle.std.specs.Prelude.{ℕ, ◌==◌, if◌then◌else◌, ◌++◌, List, [], ◌∷◌, codes}
+use Rattle.std.specs.Prelude.{ℕ, ◌==◌, if◌then◌else◌, ◌++◌, codes}
 use Rattle.std.specs.Fmt.{decimal}
 use Rattle.schemars_schema.specs.Json.{Text}
 use Rattle.schemars_types.specs.declared.shape.IntKind.{IntKind}
@@ -38,16 +38,3 @@ up_to_id id cap = codes "[" ++ (id ++ (codes "; up to " ++ (decimal cap ++ codes
 
 abbrev pub up_to_name : Text → ℕ → Text
 up_to_name name cap = codes "Array_up_to_size_" ++ (decimal cap ++ (codes "_of_" ++ name))
-
--- each text with another in front
-abbrev pub led_by : Text → List Text → Text
-led_by front [] = []
-led_by front (t ∷ ts) = front ++ (t ++ led_by front ts)
-
-abbrev pub tuple_id : List Text → Text
-tuple_id [] = codes "[]"
-tuple_id (t ∷ ts) = codes "(" ++ (t ++ (led_by (codes ",") ts ++ codes ")"))
-
-abbrev pub tuple_name : List Text → Text
-tuple_name [] = codes "EmptyArray"
-tuple_name (t ∷ ts) = codes "Tuple_of_" ++ (t ++ led_by (codes "_and_") ts)
