@@ -2,7 +2,7 @@
 use Rattle.std.proofs.Common.{◌≡◌, ◌⊎◌, inl, inr, ℕ, List, [], ◌∷◌, ◌++◌, append-nil, subst, Option, Some, None, Result, Ok, Err, IfErr, length, get_or, ◌&&◌, true, String, Global, string_bytes, codes, sym, ap, ◌∙◌, arith}
 use Rattle.std.specs.Str.{bytes_eq}
 use Rattle.std.proofs.lemmas.Slice.Eq.{bytes_eq-Decides}
-use Rattle.schemars.specs.declared.contract.Contract.TheVariants.{Deserialize, Serialize}
+use Rattle.schemars_documents.specs.declared.contract.Contract.TheVariants.{Deserialize, Serialize}
 use Rattle.std.specs.Result.{IsErrAnd}
 use Rattle.schemars_types.specs.Rows.{Row}
 use Rattle.schemars_types.specs.Faults.{IsAccepted}

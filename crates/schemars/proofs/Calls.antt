@@ -14,16 +14,17 @@ use Rattle.schemars_types.specs.Rows.{Row, entry_at, name_at}
 use Rattle.schemars_types.specs.Edges.{is_inline_at, height, rank}
 use Rattle.schemars_types.specs.Faults.{IsChecked}
 use Rattle.schemars_types.specs.Meaning.{Contract}
-use Rattle.schemars.specs.Naming.{name_of, contract_of, IsOneToOne}
-use Rattle.schemars.specs.Documents.{IsOwnDocument, IsWritten, Describes, reference, root_document}
+use Rattle.schemars_documents.specs.ContractOf.{contract_of}
+use Rattle.schemars_naming.specs.Naming.{name_of, IsOneToOne}
+use Rattle.schemars_documents.specs.Documents.{IsOwnDocument, IsWritten, Describes, reference, root_document}
 use Rattle.schemars.specs.Keys.{HasKeysOnce}
-use Rattle.schemars.specs.PlainTable.{IsPlainTable, HasNoFloat}
-use Rattle.schemars.specs.Work.{Plan, Work, IsKey, Refers, IsDefinition, AreDefinitions, Step, reference_to}
+use Rattle.schemars_documents.specs.PlainTable.{IsPlainTable, HasNoFloat}
+use Rattle.schemars_naming.specs.Work.{Plan, Work, IsKey, Refers, IsDefinition, AreDefinitions, Step, reference_to}
 use Rattle.schemars.specs.State.{State, plan_of, work_of, after_root, HasOwnDefinitions}
 use Rattle.schemars.specs.Headline.{Headline, IsDraftPath, IsRootOf, IsTitledRoot, IsSubschema, with_definitions}
 use Rattle.schemars.specs.Missing.{depth_in_place}
 use Rattle.schemars.specs.Refusals.{CannotPlace}
-use Rattle.schemars.proofs.Mapping.{own_map, written_map, describes-wider}
+use Rattle.schemars_documents.proofs.Mapping.{own_map, written_map, describes-wider}
 use Rattle.schemars.proofs.Steps.{step_wider, definition-wider}
 use Rattle.schemars.proofs.Floats.{described_whole, root_whole, definitions_whole, whole_with_definitions}
 use Rattle.schemars.proofs.Roots.{root_placed, root_call_means}

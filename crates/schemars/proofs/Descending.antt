@@ -10,7 +10,7 @@ use Rattle.schemars_types.specs.Rows.{Row, entry_at}
 use Rattle.schemars_types.specs.Edges.{numbers_at, is_inline_at, height}
 use Rattle.schemars_types.specs.Faults.{IsChecked}
 use Rattle.schemars.specs.Missing.{missing, depth_in_place, StandsIn}
-use Rattle.schemars.specs.Work.{Plan, Work}
+use Rattle.schemars_naming.specs.Work.{Plan, Work}
 
 abbrev pub width : List Row → ℕ
 width rows = 4 * length rows + 5

@@ -17,12 +17,12 @@ use Rattle.schemars_types.specs.Shape as shape
 use Rattle.schemars_types.specs.Shape.{Shape, Entry, Field}
 use Rattle.schemars_types.specs.Rows.{Row, entry_at}
 use Rattle.schemars_types.specs.Meaning.{Contract, Deserialize, Serialize}
-use Rattle.schemars.specs.Documents.{IsDocument, IsOwnDocument, Describes, annotated, with_title, with_meta_schema, root_document, int_document, non_zero_document, Keyword, bytes_document, map_document, field_keywords, AreWritten, ArePartsWritten, items_from, tuple_document, IsWritten}
-use Rattle.schemars.specs.PlainTable.{FieldsHaveNoFloat, ShapeHasNoFloat, EntryHasNoFloat, HasNoFloat}
+use Rattle.schemars_documents.specs.Documents.{IsDocument, IsOwnDocument, Describes, annotated, with_title, with_meta_schema, root_document, int_document, non_zero_document, Keyword, bytes_document, map_document, field_keywords, AreWritten, ArePartsWritten, items_from, tuple_document, IsWritten}
+use Rattle.schemars_documents.specs.PlainTable.{FieldsHaveNoFloat, ShapeHasNoFloat, EntryHasNoFloat, HasNoFloat}
 use Rattle.schemars_schema.specs.Edits.{without, replaced}
 use Rattle.schemars_schema.specs.Placing.{placed, placed_at, tokens_of}
-use Rattle.schemars.specs.Naming.{contract_of}
-use Rattle.schemars.specs.Work.{Plan, Work, Refers, AreDefinitions}
+use Rattle.schemars_documents.specs.ContractOf.{contract_of}
+use Rattle.schemars_naming.specs.Work.{Plan, Work, Refers, AreDefinitions}
 use Rattle.schemars.specs.Headline.{with_definitions}
 use Rattle.schemars.specs.Keys.{HasKeysOnce}
 use Rattle.schemars.proofs.Keys.{AllMembers, all_members}

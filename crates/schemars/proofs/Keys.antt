@@ -17,7 +17,7 @@ use Rattle.schemars_schema.specs.OrderedText.{is_listed}
 use Rattle.schemars_schema.specs.Annotations.{is_annotation}
 use Rattle.schemars_schema.proofs.Objects.{annotation-not_listed}
 use Rattle.schemars.specs.Keys.{HasKeysOnce}
-use Rattle.schemars.specs.Work.{IsKey}
+use Rattle.schemars_naming.specs.Work.{IsKey}
 
 -- ---- which keys there are
 

@@ -17,15 +17,16 @@ use Rattle.schemars_types.specs.Shape.{Shape, Entry, numbers_of}
 use Rattle.schemars_types.specs.Rows.{Row, entry_at}
 use Rattle.schemars_types.specs.Edges.{numbers_at, same_value_numbers, same_value_numbers_at, rank}
 use Rattle.schemars_types.specs.Faults.{IsChecked}
-use Rattle.schemars.specs.Documents.{IsWritten, Describes}
-use Rattle.schemars.specs.PlainTable.{IsPlainTable}
-use Rattle.schemars.specs.Naming.{Naming, IsOneToOne, name_of, contract_of}
-use Rattle.schemars.specs.Work.{Plan, Work, IsKey, Refers, AreDefinitions, reference_to}
+use Rattle.schemars_documents.specs.Documents.{IsWritten, Describes}
+use Rattle.schemars_documents.specs.PlainTable.{IsPlainTable}
+use Rattle.schemars_documents.specs.ContractOf.{contract_of}
+use Rattle.schemars_naming.specs.Naming.{Naming, IsOneToOne, name_of}
+use Rattle.schemars_naming.specs.Work.{Plan, Work, IsKey, Refers, AreDefinitions, reference_to}
 use Rattle.schemars.specs.Headline.{AcceptsItsValues}
 use Rattle.schemars.proofs.Keys.{key_here, key_later, key_cases}
-use Rattle.schemars.proofs.Mapping.{describes-wider, written_map}
-use Rattle.schemars.proofs.Meanings.{IsSame}
-use Rattle.schemars.proofs.Following.{References, InList, Setting, written_says, described_schema}
+use Rattle.schemars_documents.proofs.Mapping.{describes-wider, written_map}
+use Rattle.schemars_documents.proofs.Meanings.{IsSame}
+use Rattle.schemars_documents.proofs.Following.{References, InList, Setting, written_says, described_schema}
 
 -- ---- ranks
 

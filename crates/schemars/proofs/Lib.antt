@@ -1,11 +1,5 @@
-pub mod Shapes
-pub mod Notes
-pub mod Maps
-pub mod Structs
-pub mod Meanings
 pub mod Keys
 pub mod OwnKeys
-pub mod Following
 pub mod Resolving
 pub mod Floats
 pub mod Leading
@@ -14,11 +8,6 @@ pub mod Roots
 pub mod Calls
 pub mod Endless
 pub mod Paths
-pub mod Annotating
-pub mod Mapping
-pub mod Members
-pub mod Given
-pub mod NamingLemmas
 pub mod Steps
 pub mod Reaching
 pub mod Descending

@@ -15,8 +15,8 @@ use Rattle.schemars_types.specs.Shape as shape
 use Rattle.schemars_types.specs.Shape.{Shape, Entry}
 use Rattle.schemars_types.specs.Rows.{Row, entry_at}
 use Rattle.schemars_types.specs.Meaning.{Contract, least_of, greatest_of}
-use Rattle.schemars.specs.Documents.{Keyword, IsDocument, IsOwnDocument, IsWritten, Describes, annotated, with_title, with_meta_schema, root_document, int_keywords, int_document, non_zero_document, is_signed, map_document, properties_keyword, required_keyword, closed_keyword, typed, type_alone, char_document, formatted_document, bytes_document, schema_document, seq_document, field_keywords, required_names, reference, set_document, array_document, up_to_document, empty_list_document, tuple_document}
-use Rattle.schemars.specs.PlainTable.{IsPlainEntry, IsPlainTable}
+use Rattle.schemars_documents.specs.Documents.{Keyword, IsDocument, IsOwnDocument, IsWritten, Describes, annotated, with_title, with_meta_schema, root_document, int_keywords, int_document, non_zero_document, is_signed, map_document, properties_keyword, required_keyword, closed_keyword, typed, type_alone, char_document, formatted_document, bytes_document, schema_document, seq_document, field_keywords, required_names, reference, set_document, array_document, up_to_document, empty_list_document, tuple_document}
+use Rattle.schemars_documents.specs.PlainTable.{IsPlainEntry, IsPlainTable}
 use Rattle.schemars.proofs.Keys.{IsDefinitionsKey, IsOther, other_apart, annotation_other}
 
 -- ---- keywords

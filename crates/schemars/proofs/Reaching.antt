@@ -21,12 +21,12 @@ use Rattle.schemars_rewrite.specs.AllowNull.{is_combined, or_null, allow_null, t
 use Rattle.schemars_types.specs.declared.shape.Field as src
 use Rattle.schemars_types.specs.Shape as shape
 use Rattle.schemars_types.specs.Shape.{Shape, Field, field_of}
-use Rattle.schemars.specs.Documents.{list_document_for, items_from, tuple_document, map_of, annotated, with_title, with_meta_schema, root_document, field_keywords, reference}
-use Rattle.schemars.specs.PlainTable.{IsNoName, AreDistinct, AreNoted}
-use Rattle.schemars.specs.Properties.{ArePropertiesOf}
+use Rattle.schemars_documents.specs.Documents.{list_document_for, items_from, tuple_document, map_of, annotated, with_title, with_meta_schema, root_document, field_keywords, reference}
+use Rattle.schemars_documents.specs.PlainTable.{IsNoName, AreDistinct, AreNoted}
+use Rattle.schemars_documents.specs.Properties.{ArePropertiesOf}
 use Rattle.schemars.specs.Reached.{IsReached, by_reference, by_definition, AreReached}
-use Rattle.schemars.specs.Work.{reference_to}
-use Rattle.schemars.proofs.Members.{get_member-replaced, get_member-replaced_other}
+use Rattle.schemars_naming.specs.Work.{reference_to}
+use Rattle.schemars_naming.proofs.Members.{get_member-replaced, get_member-replaced_other}
 use Rattle.schemars.proofs.Steps.{same_key}
 
 -- ---- references among others

@@ -19,8 +19,8 @@ use Rattle.schemars_types.specs.Shape as shape
 use Rattle.schemars_types.specs.Shape.{Shape, Field, Entry}
 use Rattle.schemars_types.specs.Rows.{Row, entry_at}
 use Rattle.schemars_types.specs.Meaning.{Contract, Deserialize, Serialize}
-use Rattle.schemars.specs.Documents.{Keyword, IsDocument, IsOwnDocument, IsWritten, AreWritten, ArePartsWritten, items_from, tuple_document, Describes, reference, with_title, with_meta_schema, root_document, annotated, int_document, non_zero_document, bytes_document, map_document, field_keywords}
-use Rattle.schemars.specs.PlainTable.{AreNoted, IsPlainShape, IsPlainEntry, IsPlainTable}
+use Rattle.schemars_documents.specs.Documents.{Keyword, IsDocument, IsOwnDocument, IsWritten, AreWritten, ArePartsWritten, items_from, tuple_document, Describes, reference, with_title, with_meta_schema, root_document, annotated, int_document, non_zero_document, bytes_document, map_document, field_keywords}
+use Rattle.schemars_documents.specs.PlainTable.{AreNoted, IsPlainShape, IsPlainEntry, IsPlainTable}
 use Rattle.schemars.proofs.Keys.{AllMembers, IsDefinitionsKey}
 
 module _ (document : Data) where

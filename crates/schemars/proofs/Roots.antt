@@ -13,18 +13,19 @@ use Rattle.schemars_rewrite.specs.NullLaw.{context2020_12}
 use Rattle.schemars_types.specs.Rows.{name_at}
 use Rattle.schemars_types.specs.Edges.{height}
 use Rattle.schemars_types.specs.Faults.{IsChecked}
-use Rattle.schemars.specs.Documents.{IsWritten, Describes, root_document}
-use Rattle.schemars.specs.PlainTable.{IsPlainTable}
-use Rattle.schemars.specs.Naming.{IsOneToOne, contract_of}
-use Rattle.schemars.specs.Work.{Plan, Work, Refers, AreDefinitions}
+use Rattle.schemars_documents.specs.Documents.{IsWritten, Describes, root_document}
+use Rattle.schemars_documents.specs.PlainTable.{IsPlainTable}
+use Rattle.schemars_documents.specs.ContractOf.{contract_of}
+use Rattle.schemars_naming.specs.Naming.{IsOneToOne}
+use Rattle.schemars_naming.specs.Work.{Plan, Work, Refers, AreDefinitions}
 use Rattle.schemars.specs.State.{State, plan_of, work_of, HasOwnDefinitions}
 use Rattle.schemars.specs.Headline.{IsRootOf, MeansItsTypeIn, Headline, SubschemaHeadline, IsDraftPath, with_definitions}
-use Rattle.schemars.proofs.Notes.{judge-root}
+use Rattle.schemars_documents.proofs.Notes.{judge-root}
 use Rattle.schemars.specs.Keys.{HasKeysOnce}
 use Rattle.schemars.proofs.Keys.{all_members, IsDefinitionsKey}
 use Rattle.schemars.proofs.OwnKeys.{no_definitions_in}
-use Rattle.schemars.proofs.Mapping.{describes-wider, written_map}
-use Rattle.schemars.proofs.Following.{described_schema}
+use Rattle.schemars_documents.proofs.Mapping.{describes-wider, written_map}
+use Rattle.schemars_documents.proofs.Following.{described_schema}
 use Rattle.schemars.proofs.Resolving.{Resolve, AllResolve, described_resolved, written_resolved, root_resolved, placed_resolved}
 use Rattle.schemars.proofs.Leading.{HoldsDefinitions, IsItsRoot, free_refers, refers_resolve, written_accepts}
 use Rattle.schemars.proofs.Placed.{IsPlaced, stands_key, holds_put, holds_nothing, placing, placed_in, held}

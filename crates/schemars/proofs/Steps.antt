@@ -13,14 +13,15 @@ use Rattle.serde_json.proofs.Views.{get_member-put, get_member-put_other}
 use Rattle.schemars_schema.specs.Json.{Text}
 use Rattle.schemars_schema.specs.Edits.{replaced}
 use Rattle.schemars_types.specs.Rows.{Row}
-use Rattle.schemars.specs.declared.contract.Contract.{Contract}
-use Rattle.schemars.specs.Naming.{Naming, name_of, contract_of}
-use Rattle.schemars.specs.Documents.{Describes}
+use Rattle.schemars_documents.specs.declared.contract.Contract.{Contract}
+use Rattle.schemars_documents.specs.ContractOf.{contract_of}
+use Rattle.schemars_naming.specs.Naming.{Naming, name_of}
+use Rattle.schemars_documents.specs.Documents.{Describes}
 use Rattle.schemars.specs.Missing.{is_made, missing_below, missing}
-use Rattle.schemars.specs.Work.{Plan, Work, IsKey, Refers, IsDefinition, GivesNames, Step, undone}
-use Rattle.schemars.proofs.Given.{gives-none, gives-trans, gives-keeps}
-use Rattle.schemars.proofs.Mapping.{describes-wider}
-use Rattle.schemars.proofs.Members.{without_all-put, without_all-replaced, get_member-replaced, get_member-replaced_other}
+use Rattle.schemars_naming.specs.Work.{Plan, Work, IsKey, Refers, IsDefinition, GivesNames, Step, undone}
+use Rattle.schemars_naming.proofs.Given.{gives-none, gives-trans, gives-keeps}
+use Rattle.schemars_documents.proofs.Mapping.{describes-wider}
+use Rattle.schemars_naming.proofs.Members.{without_all-put, without_all-replaced, get_member-replaced, get_member-replaced_other}
 
 -- ---- more names and more keys
 

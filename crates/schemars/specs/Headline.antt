@@ -10,10 +10,10 @@ use Rattle.schemars_schema.specs.Placing.{placed_at}
 use Rattle.schemars_types.specs.Rows.{Row, name_at}
 use Rattle.schemars_types.specs.Edges.{height}
 use Rattle.schemars_types.specs.Meaning.{Contract, belongs}
-use Rattle.schemars.specs.PlainTable.{IsPlainTable}
-use Rattle.schemars.specs.Naming.{contract_of}
-use Rattle.schemars.specs.Documents.{Describes, IsWritten, root_document}
-use Rattle.schemars.specs.Work.{Plan, Work, Refers, Step}
+use Rattle.schemars_documents.specs.PlainTable.{IsPlainTable}
+use Rattle.schemars_documents.specs.ContractOf.{contract_of}
+use Rattle.schemars_documents.specs.Documents.{Describes, IsWritten, root_document}
+use Rattle.schemars_naming.specs.Work.{Plan, Work, Refers, Step}
 use Rattle.schemars.specs.Reached.{AreReached}
 use Rattle.schemars.specs.Missing.{depth_in_place}
 use Rattle.schemars.specs.State.{State, plan_of, work_of}

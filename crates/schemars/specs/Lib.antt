@@ -1,16 +1,8 @@
-pub mod Documents
-pub mod Naming
-pub mod Owners
-pub mod NamingCode
-pub mod Work
 pub mod Reached
-pub mod WorkCode
 pub mod Missing
 pub mod Keys
 pub mod State
-pub mod PlainTable
 pub mod Headline
 pub mod Refusals
-pub mod Properties
 pub mod Plans
 pub mod Settings

@@ -4,9 +4,9 @@ use Rattle.std.specs.Option.{option_map_or}
 use Rattle.serde_json.specs.Find.{get_member}
 use Rattle.schemars_types.specs.Rows.{Row}
 use Rattle.schemars_types.specs.Edges.{is_inline_at, height}
-use Rattle.schemars.specs.declared.contract.Contract.{Contract}
-use Rattle.schemars.specs.Naming.{name_of}
-use Rattle.schemars.specs.Work.{Work}
+use Rattle.schemars_documents.specs.declared.contract.Contract.{Contract}
+use Rattle.schemars_naming.specs.Naming.{name_of}
+use Rattle.schemars_naming.specs.Work.{Work}
 
 -- row n has a name, and a definition under it
 abbrev pub is_made : Contract → Work → ℕ → Bool

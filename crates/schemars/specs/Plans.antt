@@ -1,6 +1,6 @@
 -- Plans as the program holds them.
 use Rattle.schemars.specs.declared.build.Plan as src
-use Rattle.schemars.specs.Work.{Plan}
+use Rattle.schemars_naming.specs.Work.{Plan}
 
 abbrev pub plan_of : src.Plan → Plan
 plan_of p = record { rows = p.types.now; contract = p.contract; path = p.path.now; root = p.root }

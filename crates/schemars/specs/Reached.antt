@@ -4,7 +4,7 @@ use Rattle.serde_json.specs.Data.{Data, string, Members}
 use Rattle.serde_json.specs.Find.{get_member}
 use Rattle.schemars_schema.specs.Json.{Text}
 use Rattle.schemars_schema.specs.References.{references}
-use Rattle.schemars.specs.Work.{reference_to}
+use Rattle.schemars_naming.specs.Work.{reference_to}
 
 -- a definition is reached where one of these references, or one inside a reached definition, names it
 pub data IsReached (path : Text) (definitions : Members) (from : List Data) : Text → Type 0 where

@@ -8,9 +8,9 @@ use Rattle.schemars_types.specs.Edges.{height}
 use Rattle.schemars_types.specs.Faults.{Refusal}
 use Rattle.schemars.specs.declared.error.GenerateError.{GenerateError}
 use Rattle.schemars.specs.declared.error.GenerateError.TheVariants.{OutOfMemory, UndefinedType, RepeatedName, DirectCycle, EmptyCycle, AlreadyDefined, NotAnExtension, UnknownType, DefinitionsPath}
-use Rattle.schemars.specs.Naming.{contract_of}
-use Rattle.schemars.specs.Documents.{Describes, root_document}
-use Rattle.schemars.specs.Work.{Work, Refers, Step}
+use Rattle.schemars_documents.specs.ContractOf.{contract_of}
+use Rattle.schemars_documents.specs.Documents.{Describes, root_document}
+use Rattle.schemars_naming.specs.Work.{Work, Refers, Step}
 use Rattle.schemars.specs.State.{State, plan_of, work_of}
 use Rattle.schemars.specs.Headline.{with_definitions}
 

@@ -3,7 +3,7 @@ use Rattle.std.specs.Prelude.{List, option_map}
 use Rattle.std.specs.Cow.{cow_str_bytes}
 use Rattle.schemars_types.specs.Rows.{Row}
 use Rattle.schemars.specs.State.{State, Settings}
-use Rattle.schemars.specs.Work.{Work}
+use Rattle.schemars_naming.specs.Work.{Work}
 use Rattle.schemars.specs.declared.generate.SchemaSettings as src
 
 abbrev pub settings_of : src.SchemaSettings → Settings

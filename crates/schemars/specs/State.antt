@@ -6,11 +6,11 @@ use Rattle.schemars_schema.specs.Json.{Text}
 use Rattle.schemars_schema.specs.DataCode.{text_code, members_code}
 use Rattle.schemars_types.specs.Rows.{Row}
 use Rattle.schemars_types.specs.RowCode.{rows_code}
-use Rattle.schemars.specs.declared.contract.Contract.{Contract}
-use Rattle.schemars.specs.declared.contract.Contract.TheVariants.{Deserialize}
-use Rattle.schemars.specs.Naming.{Naming}
-use Rattle.schemars.specs.NamingCode.{naming_code, contract_code}
-use Rattle.schemars.specs.Work.{Plan, Work, AreDefinitions}
+use Rattle.schemars_documents.specs.declared.contract.Contract.{Contract}
+use Rattle.schemars_documents.specs.declared.contract.Contract.TheVariants.{Deserialize}
+use Rattle.schemars_naming.specs.Naming.{Naming}
+use Rattle.schemars_naming.specs.NamingCode.{naming_code, contract_code}
+use Rattle.schemars_naming.specs.Work.{Plan, Work, AreDefinitions}
 
 pub record Settings : Type 0 where
   pub definitions_path : Text

@@ -6,23 +6,24 @@ ghost use Rattle.schemars_schema.specs.References.{references, found_in_members,
 ghost use Rattle.schemars_types.specs.Edges.{height};
 ghost use Rattle.schemars_types.specs.Faults.{IsChecked};
 ghost use Rattle.schemars_types.specs.Shape.{shape_of, field_of, numbers_of};
-ghost use Rattle.schemars.specs.Documents.{IsDocument, IsWritten, ArePartsWritten, Describes, HasNoParts, NoPart, item_in, reference};
+ghost use Rattle.schemars_documents.specs.Documents.{IsDocument, IsWritten, ArePartsWritten, Describes, HasNoParts, NoPart, item_in, reference};
 ghost use Rattle.schemars.specs.Headline.{IsSubschema};
 ghost use Rattle.schemars.specs.Missing.{missing, StandsIn};
-ghost use Rattle.schemars.specs.Naming.{contract_of, name_of};
-ghost use Rattle.schemars.specs.PlainTable.{IsPlainTable, IsPlainShape, AreDistinct, AreNoted};
+ghost use Rattle.schemars_documents.specs.ContractOf.{contract_of};
+ghost use Rattle.schemars_naming.specs.Naming.{name_of};
+ghost use Rattle.schemars_documents.specs.PlainTable.{IsPlainTable, IsPlainShape, AreDistinct, AreNoted};
 ghost use Rattle.schemars.specs.Plans.{plan_of};
-ghost use Rattle.schemars.specs.Properties.{ArePropertiesOf};
+ghost use Rattle.schemars_documents.specs.Properties.{ArePropertiesOf};
 ghost use Rattle.schemars.specs.Reached.{AreReached};
-ghost use Rattle.schemars.specs.Work.{IsKey, Refers, Step, undone, reference_to};
+ghost use Rattle.schemars_naming.specs.Work.{IsKey, Refers, Step, undone, reference_to};
 
-use crate::contract::Contract;
-use crate::documents::{
+use schemars_documents::Contract;
+use schemars_documents::documents::{
     annotate, bytes_document, char_document, empty_list_document, formatted_document,
     list_document, map_document, required_names, schema_document, tuple_document, type_alone,
 };
-use crate::integers::{int_document, non_zero_document};
-use crate::work::Work;
+use schemars_documents::integers::{int_document, non_zero_document};
+use schemars_naming::work::Work;
 use schemars_rewrite::builders::allow_null;
 use schemars_schema::Schema;
 use schemars_schema::encoding::encode_ref_name;

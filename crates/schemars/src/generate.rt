@@ -9,23 +9,24 @@ ghost use Rattle.schemars_schema.specs.References.{references};
 ghost use Rattle.schemars_types.specs.Edges.{is_inline_at};
 ghost use Rattle.schemars_types.specs.Extends.{begins_with};
 ghost use Rattle.schemars_types.specs.Faults.{IsAccepted, IsChecked};
-ghost use Rattle.schemars.specs.Documents.{reference};
+ghost use Rattle.schemars_documents.specs.Documents.{reference};
 ghost use Rattle.schemars.specs.Headline.{Headline, SubschemaHeadline, IsRootOf, IsTitledRoot, IsSubschema, IsDraftPath, with_definitions};
-ghost use Rattle.schemars.specs.Naming.{IsOneToOne, name_of, contract_of};
-ghost use Rattle.schemars.specs.PlainTable.{IsPlainTable, HasNoFloat};
+ghost use Rattle.schemars_documents.specs.ContractOf.{contract_of};
+ghost use Rattle.schemars_naming.specs.Naming.{IsOneToOne, name_of};
+ghost use Rattle.schemars_documents.specs.PlainTable.{IsPlainTable, HasNoFloat};
 ghost use Rattle.schemars.specs.Reached.{AreReached};
 ghost use Rattle.schemars.specs.Refusals.{HasFault, CannotPlace};
 ghost use Rattle.schemars.specs.Keys.{HasKeysOnce};
 ghost use Rattle.schemars.specs.Settings.{settings_of, state_of};
 ghost use Rattle.schemars.specs.State.{State, settings2020_12, plan_of, plan_of as state_plan, work_of, after_root, stripped, without_hash, without_slash, HasOwnDefinitions};
-ghost use Rattle.schemars.specs.Work as specs;
-ghost use Rattle.schemars.specs.Work.{Step, IsKey, reference_to, undone};
+ghost use Rattle.schemars_naming.specs.Work as specs;
+ghost use Rattle.schemars_naming.specs.Work.{Step, IsKey, reference_to, undone};
 
 use crate::build::{Plan, own_document, subschema};
-pub use crate::contract::Contract;
-use crate::documents::make_root;
+pub use schemars_documents::Contract;
+use schemars_documents::documents::make_root;
 use crate::error::GenerateError;
-use crate::work::Work;
+use schemars_naming::work::Work;
 use schemars_schema::Schema;
 use schemars_schema::consts::meta_schemas;
 use schemars_types::{TypeNo, Types};
@@ -46,7 +47,7 @@ pub struct SchemaSettings {
 }
 
 impl SchemaSettings {
-    ghost use Rattle.schemars.specs.declared.contract.Contract.TheVariants as contract;
+    ghost use Rattle.schemars_documents.specs.declared.contract.Contract.TheVariants as contract;
     ghost use Rattle.schemars.specs.Settings.{settings_of};
 
     /// The settings of JSON Schema 2020-12.
@@ -101,7 +102,7 @@ impl Model for SchemaGenerator {
 
     ghost use Rattle.schemars.specs.Settings.{settings_of};
     ghost use Rattle.schemars_types.specs.Faults.{IsChecked};
-    ghost use Rattle.schemars.specs.Naming.{IsOneToOne};
+    ghost use Rattle.schemars_naming.specs.Naming.{IsOneToOne};
 
     ghost view = { λ g. record { settings = settings_of g.settings; rows = g.types; names = g.work.names; definitions = g.work.definitions } };
 

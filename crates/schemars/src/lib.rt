@@ -5,20 +5,11 @@
 #![tactic(auto)]
 
 mod build;
-mod contract;
-mod documents;
 mod error;
 pub mod generate;
-mod integers;
-mod names;
-#[cfg(test)]
-mod names_tests;
-#[cfg(test)]
-mod tests;
-mod work;
 
-pub use contract::Contract;
 pub use error::GenerateError;
 pub use generate::{SchemaGenerator, SchemaSettings};
+pub use schemars_documents::Contract;
 pub use schemars_schema::{Schema, consts};
 pub use schemars_types as types;

@@ -10,24 +10,24 @@ use Rattle.schemars_rewrite.specs.NullLaw.{text_items}
 use Rattle.schemars_types.specs.declared.shape.Field as src
 use Rattle.schemars_types.specs.Shape.{Shape, Entry, struct, shape_of, field_of, entry_of, numbers_of}
 use Rattle.schemars_types.specs.Edges.{height}
-use Rattle.schemars.specs.Documents.{annotated, required_names, ArePartsWritten}
+use Rattle.schemars_documents.specs.Documents.{annotated, required_names, ArePartsWritten}
 use Rattle.schemars.specs.Missing.{StandsIn, missing}
-use Rattle.schemars.specs.Naming.{contract_of}
-use Rattle.schemars.specs.PlainTable.{IsNoName, AreDistinct, AreNoted, IsPlainShape, IsPlainEntry}
+use Rattle.schemars_documents.specs.ContractOf.{contract_of}
+use Rattle.schemars_documents.specs.PlainTable.{IsNoName, AreDistinct, AreNoted, IsPlainShape, IsPlainEntry}
 use Rattle.schemars.specs.Plans.{plan_of}
-use Rattle.schemars.specs.Properties.{ArePropertiesOf}
+use Rattle.schemars_documents.specs.Properties.{ArePropertiesOf}
 use Rattle.schemars.specs.Reached.{AreReached}
-use Rattle.schemars.specs.Work.{Work, Refers, Step, undone}
+use Rattle.schemars_naming.specs.Work.{Work, Refers, Step, undone}
 use Rattle.schemars.proofs.Building.{Written, part, written-wider, option_document, list_document-of, item_number, parts_joined, newtype_document, own_document-of, properties_joined}
 use Rattle.schemars.proofs.Descending.{stands, stands_one, stands_field, left_of_subschema, left_of_own_document, left_of_document, left_of_properties, left_of_define, to_part, to_define, to_definition}
-use Rattle.schemars.proofs.Mapping.{struct_document-of}
+use Rattle.schemars_documents.proofs.Mapping.{struct_document-of}
 use Rattle.std.proofs.Common.{inl, inr}
 use Rattle.std.proofs.lemmas.Str.{IsUtf8-string_bytes}
 use Rattle.serde_json.specs.Find.{get_member}
-use Rattle.schemars.specs.Documents.{reference}
-use Rattle.schemars.specs.Naming.{name_of}
-use Rattle.schemars.specs.Work.{reference_to}
-use Rattle.schemars.proofs.Given.{gives-keeps}
+use Rattle.schemars_documents.specs.Documents.{reference}
+use Rattle.schemars_naming.specs.Naming.{name_of}
+use Rattle.schemars_naming.specs.Work.{reference_to}
+use Rattle.schemars_naming.proofs.Given.{gives-keeps}
 use Rattle.schemars.proofs.Reaching.{items-kept, items-has, members-kept, members-has, among_annotated, among_allow_null, among_list, among_tuple, among_map, reference_among, reached_more, reached_trans, reached_defines, new_name, noted_at, new_property}
 use Rattle.schemars.proofs.Steps.{begun_with, finished_with, begun-fewer, undone-begun, undone-finished, begun-contains, finished-found, key-found, step_trans, step_meet, step_names, step_defines, step_wider, missing-wider}
 use Rattle.schemars.proofs.build.+build.Goals as goal

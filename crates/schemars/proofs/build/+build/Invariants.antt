@@ -3,14 +3,14 @@ use Rattle.serde_json.specs.View.{view, items_view, members_view}
 use Rattle.schemars_schema.specs.References.{found_in_members, found_in_items}
 use Rattle.schemars_types.specs.Edges.{height}
 use Rattle.schemars_types.specs.Shape.{field_of}
-use Rattle.schemars.specs.Documents.{IsWritten, ArePartsWritten, Describes}
+use Rattle.schemars_documents.specs.Documents.{IsWritten, ArePartsWritten, Describes}
 use Rattle.schemars.specs.Missing.{missing}
-use Rattle.schemars.specs.Naming.{contract_of}
-use Rattle.schemars.specs.PlainTable.{IsPlainTable, AreDistinct, AreNoted}
+use Rattle.schemars_documents.specs.ContractOf.{contract_of}
+use Rattle.schemars_documents.specs.PlainTable.{IsPlainTable, AreDistinct, AreNoted}
 use Rattle.schemars.specs.Plans.{plan_of}
-use Rattle.schemars.specs.Properties.{ArePropertiesOf}
+use Rattle.schemars_documents.specs.Properties.{ArePropertiesOf}
 use Rattle.schemars.specs.Reached.{AreReached}
-use Rattle.schemars.specs.Work.{Refers, Step, undone}
+use Rattle.schemars_naming.specs.Work.{Refers, Step, undone}
 use Rattle.schemars.proofs.Descending.{left_of_define, left_of_subschema, left_of_own_document, left_of_document, left_of_properties}
 use Rattle.schemars.proofs.build.+build.Given as goal
 

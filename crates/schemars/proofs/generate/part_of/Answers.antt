@@ -3,7 +3,7 @@ use Rattle.schemars_schema.specs.Json.{Text}
 use Rattle.schemars.specs.Headline.{IsSubschema}
 use Rattle.schemars.specs.Settings.{state_of}
 use Rattle.schemars.specs.State.{plan_of, work_of}
-use Rattle.schemars.specs.Work.{Work, Step}
+use Rattle.schemars_naming.specs.Work.{Work, Step}
 use Rattle.schemars.proofs.Calls.{part_kept, step_kept}
 use Rattle.schemars.proofs.generate.part_of.Goals as goal
 

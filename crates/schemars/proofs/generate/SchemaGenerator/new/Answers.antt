@@ -1,9 +1,9 @@
 use Rattle.std.proofs.Common.{◌≡◌, sym, subst, refl}
 use Rattle.schemars_types.specs.Faults.{IsChecked}
-use Rattle.schemars.specs.Naming.{IsOneToOne}
+use Rattle.schemars_naming.specs.Naming.{IsOneToOne}
 use Rattle.schemars.specs.Settings.{state_of}
 use Rattle.schemars.specs.State.{work_of}
-use Rattle.schemars.specs.Work.{Work}
+use Rattle.schemars_naming.specs.Work.{Work}
 use Rattle.schemars.proofs.Calls.{checked_nothing, one_to_one-none}
 use Rattle.schemars.proofs.generate.SchemaGenerator.new.Goals as goal
 

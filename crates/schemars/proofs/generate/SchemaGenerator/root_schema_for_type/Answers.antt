@@ -1,11 +1,11 @@
 use Rattle.std.proofs.Common.{◌≡◌, inl, inr, sym, subst, rules, false, None}
 use Rattle.serde_json.specs.Written.{has_float}
 use Rattle.schemars.specs.Headline.{Headline, IsDraftPath}
-use Rattle.schemars.specs.Naming.{contract_of}
-use Rattle.schemars.specs.PlainTable.{IsPlainTable, HasNoFloat}
+use Rattle.schemars_documents.specs.ContractOf.{contract_of}
+use Rattle.schemars_documents.specs.PlainTable.{IsPlainTable, HasNoFloat}
 use Rattle.schemars.specs.Settings.{state_of}
 use Rattle.schemars.specs.State.{State, plan_of, HasOwnDefinitions}
-use Rattle.schemars.specs.Work.{Work}
+use Rattle.schemars_naming.specs.Work.{Work}
 use Rattle.schemars.specs.declared.error.GenerateError.TheVariants.{OutOfMemory}
 use Rattle.schemars.proofs.Calls.{root_means, root_is_whole, after_root_own, always_placed}
 use Rattle.schemars.proofs.generate.SchemaGenerator.root_schema_for_type.Goals as goal

@@ -1,15 +1,15 @@
 use Rattle.std.proofs.Common.{◌≡◌, List, ℕ, None, Some, false, refl, sym, subst}
 use Rattle.schemars_schema.specs.References.{references}
 use Rattle.schemars_types.specs.Edges.{is_inline_at}
-use Rattle.schemars.specs.Documents.{reference}
+use Rattle.schemars_documents.specs.Documents.{reference}
 use Rattle.schemars.specs.Headline.{IsSubschema}
 use Rattle.schemars.specs.Missing.{depth_in_place}
-use Rattle.schemars.specs.Naming.{name_of}
-use Rattle.schemars.specs.PlainTable.{IsPlainTable}
+use Rattle.schemars_naming.specs.Naming.{name_of}
+use Rattle.schemars_documents.specs.PlainTable.{IsPlainTable}
 use Rattle.schemars.specs.Reached.{AreReached}
 use Rattle.schemars.specs.Settings.{state_of}
 use Rattle.schemars.specs.State.{State, plan_of, work_of, HasOwnDefinitions}
-use Rattle.schemars.specs.Work.{Work, Step, IsKey, reference_to}
+use Rattle.schemars_naming.specs.Work.{Work, Step, IsKey, reference_to}
 use Rattle.schemars.proofs.Calls.{part_own, reference_of_part}
 use Rattle.schemars.proofs.Roots.{subschema_headline}
 use Rattle.schemars.proofs.generate.SchemaGenerator.subschema_for_type.Goals as goal

@@ -1,7 +1,0 @@
--- The candidates before are used.
-use Rattle.std.proofs.Common.{◌≡◌, ◌<◌, ℕ, true}
-use Rattle.schemars.specs.Naming.{is_used, candidate}
-use Rattle.schemars.proofs.names.Names.first_unused.Given as goal
-
-abbrev pub invariant-loop-tries : goal.invariant-loop-tries
-invariant-loop-tries l = (j : ℕ) → j < l.tries → is_used (candidate l.base j) l.self ≡ true

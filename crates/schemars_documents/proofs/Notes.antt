@@ -1,0 +1,85 @@
+-- Notes say nothing of a value, and leave a schema one to which null can be added.
+use Rattle.std.proofs.Common.{◌≡◌, inl, inr, Option, Some, None, Bool, true, false, refl, sym, ap, ◌∙◌, true≢false}
+use Rattle.std.specs.Prelude.{codes, is_some, if◌then◌else◌}
+use Rattle.serde_json.specs.Data.{Data, null, boolean, number, string, array, object, Members, no_members, member, put}
+use Rattle.serde_json.specs.Find.{get_member}
+use Rattle.serde_json.proofs.Views.{get_member-put_other}
+use Rattle.schemars_schema.specs.Json.{Text}
+use Rattle.schemars_schema.specs.SchemaData.{put_members, IsSchema, members_in}
+use Rattle.schemars_schema.specs.Acceptance.{Context, Patterns, Judge, judge, read_data, all_keywords}
+use Rattle.schemars_schema.specs.Annotations.{is_annotation, AreNotes}
+use Rattle.schemars_schema.proofs.Objects.{judge-put, annotation-silent}
+use Rattle.schemars_rewrite.specs.NullLaw.{IsNullable, context2020_12}
+use Rattle.schemars_documents.specs.Documents.{annotated, with_title, with_meta_schema, root_document}
+
+module _ (patterns : Patterns) (f : Text → Judge) where
+  abbrev c : Context
+  c = context2020_12 patterns f
+
+  judge-put_members : (notes ms : Members) → AreNotes notes → judge c (object (put_members notes ms)) ≡ judge c (object ms)
+  judge-put_members no_members ms h = refl
+  judge-put_members (member k d notes) ms h = judge-put_members notes (put k d ms) h.1 ∙ judge-put c k d ms (annotation-silent k h.0)
+
+  -- a truth value and the object that it becomes say the same
+  judge-members_in : (s : Data) → IsSchema s → judge c (object (members_in s)) ≡ judge c s
+  unfolding read_data all_keywords
+  judge-members_in (boolean true) is = refl
+  judge-members_in (boolean false) is = refl
+  judge-members_in (object ms) is = refl
+  judge-members_in null is = absurd is
+  judge-members_in (number n) is = absurd is
+  judge-members_in (string s) is = absurd is
+  judge-members_in (array ds) is = absurd is
+
+  pub judge-annotated : (notes : Members) (s : Data) → AreNotes notes → IsSchema s → judge c (annotated notes s) ≡ judge c s
+  judge-annotated no_members s h is = refl
+  judge-annotated (member k d notes) s h is = judge-put_members (member k d notes) (members_in s) h ∙ judge-members_in s is
+
+  judge-with_title : (name : Text) (ms : Members) → judge c (object (with_title name ms)) ≡ judge c (object ms)
+  judge-with_title name ms = go (is_some (get_member (codes "title") ms))
+    where
+      go : (b : Bool) → judge c (object (if b then ms else put (codes "title") (string name) ms)) ≡ judge c (object ms)
+      go true = refl
+      go false = judge-put c (codes "title") (string name) ms refl
+
+  judge-with_meta_schema : (uri : Option Text) (ms : Members) → judge c (object (with_meta_schema uri ms)) ≡ judge c (object ms)
+  judge-with_meta_schema None ms = refl
+  judge-with_meta_schema (Some uri) ms = judge-put c (codes "$schema") (string uri) ms refl
+
+  pub judge-root : (name : Text) (uri : Option Text) (s : Data) → IsSchema s → judge c (root_document name uri s) ≡ judge c s
+  judge-root name uri s is = judge-with_meta_schema uri _ ∙ (judge-with_title name (members_in s) ∙ judge-members_in s is)
+
+-- ---- null can be allowed beside notes
+
+put_members-other : (l : Text) (notes ms : Members) → is_annotation l ≡ false → AreNotes notes → get_member l (put_members notes ms) ≡ get_member l ms
+put_members-other l no_members ms e h = refl
+put_members-other l (member k d notes) ms e h =
+    put_members-other l notes (put k d ms) e h.1 ∙ get_member-put_other l k d ms (λ same. true≢false (sym h.0 ∙ (ap is_annotation (sym same) ∙ e)))
+
+nullable-agree : (ms ns : Members) → ((l : Text) → is_annotation l ≡ false → get_member l ms ≡ get_member l ns) → IsNullable (object ns) → IsNullable (object ms)
+nullable-agree ms ns e (inl h) =
+    inl (rw (e (codes "if") refl, e (codes "allOf") refl, e (codes "anyOf") refl, e (codes "oneOf") refl, e (codes "$ref") refl, e (codes "not") refl) h)
+nullable-agree ms ns e (inr p) = inr (record {
+  type_form = rw (e (codes "type") refl) p.type_form;
+  no_const = e (codes "const") refl ∙ p.no_const;
+  no_enum = e (codes "enum") refl ∙ p.no_enum;
+  not_form = rw (e (codes "not") refl) p.not_form;
+})
+
+nullable-members_in : (s : Data) → IsNullable s → IsNullable (object (members_in s))
+nullable-members_in (boolean true) r = inr (record { type_form = tt; no_const = refl; no_enum = refl; not_form = inl refl })
+nullable-members_in (boolean false) r = inl refl
+nullable-members_in (object ms) r = r
+nullable-members_in null r = absurd r
+nullable-members_in (number n) r = absurd r
+nullable-members_in (string s) r = absurd r
+nullable-members_in (array ds) r = absurd r
+
+pub nullable-annotated : (notes : Members) (s : Data) → AreNotes notes → IsNullable s → IsNullable (annotated notes s)
+nullable-annotated no_members s h r = r
+nullable-annotated (member k d notes) s h r =
+    nullable-agree (put_members (member k d notes) (members_in s)) (members_in s) (λ l e. put_members-other l (member k d notes) (members_in s) e h) (nullable-members_in s r)
+
+pub annotated-schema : (notes : Members) (s : Data) → IsSchema s → IsSchema (annotated notes s)
+annotated-schema no_members s is = is
+annotated-schema (member k d notes) s is = tt

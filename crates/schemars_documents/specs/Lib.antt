@@ -1,0 +1,4 @@
+pub mod ContractOf
+pub mod Documents
+pub mod Properties
+pub mod PlainTable

@@ -1,0 +1,33 @@
+ghost use Rattle.std.specs.Prelude.{◌≡◌};
+ghost use Rattle.schemars_documents.specs.ContractOf.{is_same_contract};
+
+/// Which values a document is about: a type may be written in another form than it is read.
+#[derive(Clone, Copy, PartialEq, Eq, PartialOrd, Ord, Hash, Debug)]
+pub enum Contract {
+    /// The values that are read.
+    Deserialize,
+    /// The values that are written.
+    Serialize,
+}
+
+impl Contract {
+    /// Whether it is about the values that are read.
+    pub fn is_deserialize(&self) -> bool
+        ensures { result ≡ is_same_contract self.now Contract.Deserialize }
+    {
+        match self {
+            Contract::Deserialize => true,
+            Contract::Serialize => false,
+        }
+    }
+
+    /// Whether it is about the values that are written.
+    pub fn is_serialize(&self) -> bool
+        ensures { result ≡ is_same_contract self.now Contract.Serialize }
+    {
+        match self {
+            Contract::Deserialize => false,
+            Contract::Serialize => true,
+        }
+    }
+}

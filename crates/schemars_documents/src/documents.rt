@@ -1,0 +1,285 @@
+//! The documents of shapes, from finished subschemas.
+ghost use Rattle.std.specs.Prelude.{◌≡◌, ◌∷◌, [], None, Some, IfOk, OnOk, OnErr, codes, option_map};
+ghost use Rattle.serde_json.specs.Data.{string, array, object, no_items, item, no_members, put};
+ghost use Rattle.std.specs.Prelude.{map};
+ghost use Rattle.serde_json.specs.View.{items_view};
+ghost use Rattle.schemars_rewrite.specs.NullLaw.{text_items};
+ghost use Rattle.schemars_types.specs.Shape.{shape_of, field_of, required_of};
+ghost use Rattle.schemars_types.specs.Meaning.{is_required};
+ghost use Rattle.schemars_documents.specs.ContractOf.{contract_of};
+ghost use Rattle.schemars_documents.specs.Documents.{byte_document, bytes_document, schema_document, map_of, keyword_of_members, keyword_of_items, required_names};
+ghost use Rattle.serde_json.specs.View.{view, members_view};
+ghost use Rattle.schemars_schema.specs.SchemaData.{IsSchema, members_in, inserted, put_all, put_members};
+ghost use Rattle.schemars_documents.specs.Documents.{typed, type_alone, char_document, formatted_document, list_document_for, empty_list_document, tuple_document, annotated, with_title, with_meta_schema, root_document};
+
+use crate::contract::Contract;
+use schemars_schema::Schema;
+use schemars_types::{Field, Required, Shape};
+use serde_json::{Map, Value};
+use std::alloc::{AllocError, Global};
+
+/// The schema of all values of one JSON type.
+pub fn type_alone(alloc: Global, name: &str) -> Result<Schema, AllocError>
+    ensures { IfOk result (λ s. s ≡ type_alone name.now) }
+{
+    Ok(Schema::from(typed(alloc, name)?))
+}
+
+/// A text of one code point.
+pub fn char_document(alloc: Global) -> Result<Schema, AllocError>
+    ensures { IfOk result (λ s. s ≡ char_document) }
+{
+    let mut members = typed(alloc, "string")?;
+    serde_json::put(&mut members, alloc, "minLength", Value::from(1u64))?;
+    serde_json::put(&mut members, alloc, "maxLength", Value::from(1u64))?;
+    Ok(Schema::from(members))
+}
+
+/// A text of this format.
+pub fn formatted_document(alloc: Global, format: &str) -> Result<Schema, AllocError>
+    ensures { IfOk result (λ s. s ≡ formatted_document format.now) }
+{
+    let mut members = typed(alloc, "string")?;
+    serde_json::put(
+        &mut members,
+        alloc,
+        "format",
+        Value::try_from_str(alloc, format)?,
+    )?;
+    Ok(Schema::from(members))
+}
+
+/// A list of these items, of the shape's count, and distinct where the shape is a set.
+pub fn list_document(alloc: Global, shape: &Shape, items: Schema) -> Result<Schema, AllocError>
+    ensures { IfOk result (λ s. s ≡ list_document_for (shape_of shape.now) items) }
+{
+    let mut members = typed(alloc, "array")?;
+    serde_json::put(&mut members, alloc, "items", items.to_value())?;
+    match shape {
+        Shape::Set(_) => {
+            serde_json::put(&mut members, alloc, "uniqueItems", Value::Bool(true))?;
+        }
+        Shape::Array(_, len) => {
+            serde_json::put(&mut members, alloc, "minItems", Value::from(*len))?;
+            serde_json::put(&mut members, alloc, "maxItems", Value::from(*len))?;
+        }
+        Shape::UpTo(_, cap) => {
+            serde_json::put(&mut members, alloc, "maxItems", Value::from(*cap))?;
+        }
+        _ => (),
+    }
+    Ok(Schema::from(members))
+}
+
+/// A list of no items.
+pub fn empty_list_document(alloc: Global) -> Result<Schema, AllocError>
+    ensures { IfOk result (λ s. s ≡ empty_list_document) }
+{
+    let mut members = typed(alloc, "array")?;
+    serde_json::put(&mut members, alloc, "maxItems", Value::from(0u64))?;
+    Ok(Schema::from(members))
+}
+
+/// A list of just these items, each in its place.
+pub fn tuple_document(alloc: Global, items: Vec<Value>) -> Result<Schema, AllocError>
+    ensures { IfOk result (λ s. s ≡ tuple_document (map view items.items)) }
+{
+    if items.is_empty() {
+        let schema = empty_list_document(alloc)?;
+        return Ok(schema);
+    }
+    let count = items.len() as u64;
+    let mut members = typed(alloc, "array")?;
+    serde_json::put(&mut members, alloc, "prefixItems", Value::Array(items))?;
+    serde_json::put(&mut members, alloc, "minItems", Value::from(count))?;
+    serde_json::put(&mut members, alloc, "maxItems", Value::from(count))?;
+    Ok(Schema::from(members))
+}
+
+/// A map with these properties.
+pub fn map_document(
+    alloc: Global,
+    properties: Map<String, Value>,
+    required: Vec<Value>,
+    closed: bool,
+) -> Result<Schema, AllocError>
+    ensures { IfOk result (λ s. s ≡ map_of (members_view properties.entries)
+        (items_view required.items) closed) }
+{
+    let mut members = typed(alloc, "object")?;
+    put_members(&mut members, alloc, properties)?;
+    put_required(&mut members, alloc, required)?;
+    if closed {
+        serde_json::put(
+            &mut members,
+            alloc,
+            "additionalProperties",
+            Value::Bool(false),
+        )?;
+    }
+    Ok(Schema::from(members))
+}
+
+fn put_members(
+    members: &mut Map<String, Value>,
+    alloc: Global,
+    properties: Map<String, Value>,
+) -> Result<(), AllocError>
+    ensures { OnOk result (members_view members.new.entries
+        ≡ put_all (keyword_of_members (codes "properties") (members_view properties.entries))
+        (members_view members.old.entries)) }
+{
+    if properties.is_empty() {
+        return Ok(());
+    }
+    serde_json::put(members, alloc, "properties", Value::Object(properties))?;
+    Ok(())
+}
+
+fn put_required(
+    members: &mut Map<String, Value>,
+    alloc: Global,
+    required: Vec<Value>,
+) -> Result<(), AllocError>
+    ensures { OnOk result (members_view members.new.entries
+        ≡ put_all (keyword_of_items (codes "required") (items_view required.items))
+        (members_view members.old.entries)) }
+{
+    if required.is_empty() {
+        return Ok(());
+    }
+    serde_json::put(members, alloc, "required", Value::Array(required))?;
+    Ok(())
+}
+
+/// Bytes: a list of them, or, where they are read, a text.
+pub fn bytes_document(alloc: Global, contract: Contract, byte: Schema) -> Result<Schema, AllocError>
+    ensures { IfOk result (λ s. byte ≡ byte_document → s ≡ bytes_document (contract_of contract)) }
+{
+    let mut members = match contract {
+        Contract::Deserialize => one_of_two(alloc, "array", "string")?,
+        Contract::Serialize => typed(alloc, "array")?,
+    };
+    serde_json::put(&mut members, alloc, "items", byte.to_value())?;
+    Ok(Schema::from(members))
+}
+
+/// A schema: a map or a truth value.
+pub fn schema_document(alloc: Global) -> Result<Schema, AllocError>
+    ensures { IfOk result (λ s. s ≡ schema_document) }
+{
+    Ok(Schema::from(one_of_two(alloc, "object", "boolean")?))
+}
+
+fn one_of_two(alloc: Global, first: &str, second: &str) -> Result<Map<String, Value>, AllocError>
+    ensures { IfOk result (λ m. members_view m.entries ≡ put_all ((
+      codes "type",
+      array (item (string first.now) (item (string second.now) no_items)),
+    ) ∷ []) no_members) }
+{
+    let first = Value::try_from_str(alloc, first)?;
+    let second = Value::try_from_str(alloc, second)?;
+    let mut members = Map::new(alloc);
+    serde_json::put(
+        &mut members,
+        alloc,
+        "type",
+        Value::Array(vec![in alloc; first, second]?),
+    )?;
+    Ok(members)
+}
+
+/// The names of the fields that have to be there.
+pub fn required_names(
+    alloc: Global,
+    contract: Contract,
+    fields: &[Field],
+) -> Result<Vec<Value>, AllocError>
+    ensures { IfOk result (λ v. items_view v.items
+        ≡ text_items (required_names (contract_of contract) (map field_of fields.now))) }
+{
+    let mut names = Vec::new(alloc);
+    for field in fields {
+        if is_required(contract, field.required) {
+            let name = Value::try_from_str(alloc, field.name.as_str())?;
+            serde_json::push(&mut names, name)?;
+        }
+    }
+    Ok(names)
+}
+
+fn is_required(contract: Contract, required: Required) -> bool
+    ensures { result ≡ is_required (contract_of contract) (required_of required) }
+{
+    match contract {
+        Contract::Deserialize => required.deserialize,
+        Contract::Serialize => required.serialize,
+    }
+}
+
+fn typed(alloc: Global, name: &str) -> Result<Map<String, Value>, AllocError>
+    ensures { IfOk result (λ m. members_view m.entries ≡ put_all (typed name.now ∷ []) no_members) }
+{
+    let mut members = Map::new(alloc);
+    serde_json::put(
+        &mut members,
+        alloc,
+        "type",
+        Value::try_from_str(alloc, name)?,
+    )?;
+    Ok(members)
+}
+
+/// The schema with these notes, which take the place of members of their names.
+pub fn annotate(
+    alloc: Global,
+    schema: &mut Schema,
+    notes: &Map<String, Value>,
+) -> Result<(), AllocError>
+    ensures { OnOk result (schema.new ≡ annotated (members_view notes.now.entries) schema.old) }
+{
+    if notes.is_empty() {
+        return Ok(());
+    }
+    make_object(alloc, schema)?;
+    for (key, note) in notes.iter() {
+        let _ = schema.insert(alloc, key.clone()?, note.clone()?)?;
+    }
+    Ok(())
+}
+
+fn make_object(alloc: Global, schema: &mut Schema) -> Result<(), AllocError>
+    ensures { OnOk result (schema.new ≡ object (members_in schema.old)) }
+{
+    let _ = schema.ensure_object(alloc)?;
+    Ok(())
+}
+
+/// Makes a document a root document: an object, with the type's name as its title where it has
+/// none, and the meta-schema where there is one.
+pub fn make_root(
+    alloc: Global,
+    schema: &mut Schema,
+    name: &str,
+    meta_schema: Option<&str>,
+) -> Result<(), AllocError>
+    ensures { OnOk result (schema.new
+        ≡ root_document name.now (option_map (λ s. s.now) meta_schema.entry) schema.old) }
+{
+    make_object(alloc, schema)?;
+    if schema.get("title").is_none() {
+        set(alloc, schema, "title", name)?;
+    }
+    if let Some(uri) = meta_schema {
+        set(alloc, schema, "$schema", uri)?;
+    }
+    Ok(())
+}
+
+fn set(alloc: Global, schema: &mut Schema, key: &str, text: &str) -> Result<(), AllocError>
+    ensures { OnOk result (schema.new ≡ inserted key.now (string text.now) schema.old) }
+{
+    let key = String::from_str(alloc, key)?;
+    let _ = schema.insert(alloc, key, Value::try_from_str(alloc, text)?)?;
+    Ok(())
+}

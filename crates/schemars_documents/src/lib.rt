@@ -1,0 +1,8 @@
+//! The documents of shapes, from finished subschemas, and what they say.
+#![tactic(auto)]
+
+mod contract;
+pub mod documents;
+pub mod integers;
+
+pub use contract::Contract;

@@ -1,0 +1,3 @@
+pub mod NamingLemmas
+pub mod Given
+pub mod Members

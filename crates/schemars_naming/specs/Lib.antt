@@ -1,0 +1,5 @@
+pub mod Naming
+pub mod NamingCode
+pub mod Owners
+pub mod Work
+pub mod WorkCode
