@@ -23,9 +23,9 @@ ghost use Rattle.schemars_naming.specs.Work as specs;
 ghost use Rattle.schemars_naming.specs.Work.{Step, IsKey, reference_to, undone};
 
 use crate::build::{Plan, own_document, subschema};
+use crate::error::GenerateError;
 pub use schemars_documents::Contract;
 use schemars_documents::documents::make_root;
-use crate::error::GenerateError;
 use schemars_naming::work::Work;
 use schemars_schema::Schema;
 use schemars_schema::consts::meta_schemas;
