@@ -11,8 +11,6 @@ mod placing;
 mod pointer;
 mod schema;
 mod serialized;
-#[cfg(test)]
-mod tests;
 
 pub use equality::{json_eq, json_eq_members};
 pub use error::NotASchema;
