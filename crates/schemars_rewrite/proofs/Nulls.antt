@@ -1,27 +1,33 @@
 -- What a schema says of null and of other values once null is allowed.
 use Rattle.std.proofs.Common.{◌≡◌, ◌⊎◌, inl, inr, List, [], ◌∷◌, ◌++◌, Option, Some, None, Bool, true, false, refl, sym, ap, ◌∙◌, true≢false}
-use Rattle.std.specs.Prelude.{codes, bytes_eq, ◌||◌, ◌&&◌, if◌then◌else◌, is_some, option_and_then, option_map}
-use Rattle.serde_json.specs.Data.{Data, null, boolean, number, string, array, object, Items, no_items, item, Members, no_members, member, put}
-use Rattle.serde_json.specs.Find.{get_member, as_str}
+use Rattle.std.specs.Prelude.{codes, bytes_eq, ◌||◌, ◌&&◌, if◌then◌else◌, is_some}
+use Rattle.serde_json.specs.Data.{Data, null, boolean, number, string, array, object, Items, no_items, item, Members, no_members, member}
+use Rattle.serde_json.specs.Find.{get_member}
 use Rattle.serde_json.specs.View.{view, items_view, members_view}
 use Rattle.serde_json.specs.declared.value.Value.{Value}
 use Rattle.std.specs.Prelude.{IsTrue, length}
-use Rattle.std.proofs.Common.{arith}
+use Rattle.std.proofs.Common.{arith, suc}
+use Rattle.std.specs.Prelude.{map}
+use Rattle.std.specs.Cmp.Lexicographic.{slice_cmp}
+use Rattle.std.specs.Ordering.{match_ordering}
+use Rattle.std.proofs.Common.{Ordering, Less, Equal, Greater, nat_cmp, is_eq}
+use Rattle.std.proofs.lemmas.Bool.{eqb-true}
+use Rattle.std.proofs.lemmas.Map.Text.{is_eq-slice_cmp}
 use Rattle.serde_json.specs.Find.{as_object, as_bool}
+use Rattle.serde_json.specs.Events.{members_len}
 use Rattle.schemars_schema.specs.SchemaData.{members_in}
 use Rattle.schemars_rewrite.specs.AllowNull.{accepts_everything}
 use Rattle.serde_json.proofs.Views.{Entry, get_member-put, get_member-put_other}
 use Rattle.std.proofs.lemmas.Slice.Eq.{bytes_eq-Decides}
-use Rattle.schemars_schema.specs.Verdict.{Verdict, Yes, both, verdict, opposite}
+use Rattle.schemars_schema.specs.Verdict.{Verdict, Yes, No, Open, both, verdict, opposite, none_of, any_of}
 use Rattle.schemars_schema.specs.Json.{Text, json_eq}
-use Rattle.schemars_schema.specs.SchemaData.{IsSchema, object_of}
+use Rattle.schemars_schema.specs.SchemaData.{IsSchema}
 use Rattle.schemars_schema.specs.OrderedText.{is_listed}
-use Rattle.schemars_schema.specs.Acceptance.{Patterns, Judge, Context, Reading, Raw, judge, read_data, all_keywords, where_some, type_says, texts_in, types_in, type_names, are_type_names, is_of_type, is_of_some_type, is_null, items_say, when}
-use Rattle.schemars_schema.specs.Annotations.{keyword_names}
+use Rattle.schemars_schema.specs.Acceptance.{Patterns, Judge, Context, Raw, judge, read_data, read_items, all_keywords, where_some, type_says, texts_in, type_names, are_type_names, is_of_type, is_of_some_type, is_null, each_says, both_some, nothing}
 use Rattle.schemars_schema.proofs.Verdicts.{both-yes, either-verdict}
-use Rattle.schemars_schema.proofs.Objects.{schema-judge, judge-object, says, says-agree, IsKeyword}
-use Rattle.schemars_rewrite.specs.AllowNull.{null_schema, is_combined, holds_text, with_item, type_with_null, null_in_type, or_null, allow_null}
-use Rattle.schemars_rewrite.specs.NullLaw.{text_items, HasTypeForm, zero_schema, RefusesByType, IsNullable, context2020_12, AcceptsNullToo}
+use Rattle.schemars_schema.proofs.Objects.{schema-judge, judge-object, says, says-agree}
+use Rattle.schemars_rewrite.specs.AllowNull.{null_schema, is_combined, is_null_choice, offers_null, holds_text, with_item, type_with_null, null_in_type, or_null, allow_null}
+use Rattle.schemars_rewrite.specs.NullLaw.{text_items, HasTypeForm, zero_schema, AcceptsNull, SomeAcceptsNull, OffersNull, IsChoice, RefusesByType, IsNullable, context2020_12, AcceptsNullToo}
 
 -- ---- truth values
 
@@ -185,6 +191,72 @@ alone_parts ms h =
     let g = or-parts _ _ e.1 in
     (none_of_some _ b.0, none_of_some _ d.0, none_of_some _ e.0, none_of_some _ g.0)
 
+-- ---- a choice that stays
+
+and-parts : (a b : Bool) → a && b ≡ true → (a ≡ true) × (b ≡ true)
+and-parts true b h = (refl, h)
+and-parts false b h = absurd (true≢false (sym h))
+
+same_key : (k l : Text) (d e : Data) → get_member k (member l d no_members) ≡ Some e → (k ≡ l) × (d ≡ e)
+same_key k l d e h = go (slice_cmp nat_cmp k l) (bytes_eq k l) refl (is_eq-slice_cmp k l) h
+  where
+    go : (o : Ordering) (b : Bool) → bytes_eq k l ≡ b → is_eq o ≡ b → match_ordering o None (Some d) None ≡ Some e → (k ≡ l) × (d ≡ e)
+    go Equal true same is at = ((bytes_eq-Decides k l).0 same, cc)
+    go Equal false same is at = absurd (true≢false is)
+    go Less b same is at = cc
+    go Greater b same is at = cc
+
+-- the one member is a list under `anyOf`
+only_choice : (ms : Members) → is_null_choice (object ms) ≡ true → OffersNull (get_member (codes "anyOf") ms)
+    → (ds : Items) × (ms ≡ member (codes "anyOf") (array ds) no_members) × SomeAcceptsNull ds
+only_choice no_members stays h = absurd h
+only_choice (member l d (member k e ms)) stays h =
+    let one : suc (suc (members_len ms)) ≡ 1 = eqb-true _ _ (and-parts _ _ stays).0 in
+    absurd (omega (arith, one))
+only_choice (member l d no_members) stays h = go (get_member (codes "anyOf") (member l d no_members)) refl h
+  where
+    go : (o : Option Data) → get_member (codes "anyOf") (member l d no_members) ≡ o → OffersNull o
+        → (ds : Items) × (member l d no_members ≡ member (codes "anyOf") (array ds) no_members) × SomeAcceptsNull ds
+    go None is h = absurd h
+    go (Some (array ds)) is h =
+        let same = same_key (codes "anyOf") l d (array ds) is in
+        (ds, rw (← same.0, same.1) refl, h)
+    go (Some null) is h = absurd h
+    go (Some (boolean b)) is h = absurd h
+    go (Some (number n)) is h = absurd h
+    go (Some (string s)) is h = absurd h
+    go (Some (object ms)) is h = absurd h
+
+alone-not_choice : (ms : Members) → is_combined (object ms) ≡ false → is_null_choice (object ms) ≡ true → ⊥
+alone-not_choice ms alone stays =
+    let none : get_member (codes "anyOf") ms ≡ None = (alone_parts ms alone).1 in
+    true≢false (sym ((and-parts _ _ stays).1) ∙ ap offers_null none)
+
+abbrev judge_in : Option Judge → Judge
+judge_in o = elim o [ None ↦ nothing | Some s ↦ s ]
+
+some_inj : {A : Type 0} {a b : A} → Some a ≡ Some b → a ≡ b
+some_inj h = cc
+
+-- with a `Yes` among them, verdicts are not all `No`
+refused : (y : Verdict) → both No y ≡ Yes → ⊥
+refused Yes h = cc
+refused No h = cc
+refused Open h = cc
+
+refused_later : (x y : Verdict) → (y ≡ Yes → ⊥) → both x y ≡ Yes → ⊥
+refused_later Yes y later h = later h
+refused_later Open y later h = cc
+refused_later No Yes later h = cc
+refused_later No No later h = cc
+refused_later No Open later h = cc
+
+accepted : (x : Verdict) (b : Bool) → (x ≡ Yes → ⊥) → opposite x ≡ verdict b → b ≡ true
+accepted x true some h = refl
+accepted Yes false some h = absurd (some refl)
+accepted No false some h = cc
+accepted Open false some h = cc
+
 module _ (patterns : Patterns) (f : Text → Judge) where
   abbrev c : Context
   c = context2020_12 patterns f
@@ -214,6 +286,41 @@ module _ (patterns : Patterns) (f : Text → Judge) where
   unfolding read_data all_keywords
   or_null-says t is v b e = rw (schema-judge c t is, both-yes, e, of_null v) (either-verdict b (is_null v) ∙ ap verdict (or-swap b (is_null v)))
 
+  some_listed : (ds : Items) → SomeAcceptsNull ds → (ss : List Judge) → read_items c ds ≡ Some ss → none_of (map (λ s. s.fits null) ss) ≡ Yes → ⊥
+  unfolding read_data
+  some_listed no_items some ss is = absurd some
+  some_listed (item d ds) some ss is = go (λ more rest later. some_listed ds more rest later) (read_data c d).schema (read_items c ds) refl refl is
+    where
+      go : (SomeAcceptsNull ds → (rest : List Judge) → read_items c ds ≡ Some rest → none_of (map (λ s. s.fits null) rest) ≡ Yes → ⊥)
+          → (s : Option Judge) (o : Option (List Judge)) → (read_data c d).schema ≡ s → read_items c ds ≡ o → both_some (λ s ss. s ∷ ss) s o ≡ Some ss → none_of (map (λ s. s.fits null) ss) ≡ Yes → ⊥
+      go below None o first later at = cc
+      go below (Some s) None first later at = cc
+      go below (Some s) (Some rest) first later at = rw (← (some_inj at)) (here some)
+        where
+          here : AcceptsNull d ⊎ SomeAcceptsNull ds → both (opposite (s.fits null)) (none_of (map (λ s. s.fits null) rest)) ≡ Yes → ⊥
+          here (inl accepts) = let fits : s.fits null ≡ Yes = sym (ap (λ o. (judge_in o).fits null) first) ∙ accepts patterns f in rw fits (refused (none_of (map (λ s. s.fits null) rest)))
+          here (inr more) = refused_later (opposite (s.fits null)) (none_of (map (λ s. s.fits null) rest)) (below more rest later)
+
+  always : (b : Bool) → Yes ≡ verdict b → b ≡ true
+  always true h = refl
+  always false h = cc
+
+  choice_accepts : (ds : Items) → SomeAcceptsNull ds → (b : Bool) → (judge c (object (member (codes "anyOf") (array ds) no_members))).fits null ≡ verdict b → b ≡ true
+  unfolding read_data all_keywords
+  choice_accepts ds some b e = go (read_items c ds) refl (sym (both-yes (each_says any_of (Some (record { schema = None; listed = read_items c ds; named = None })) null)) ∙ e)
+    where
+      go : (o : Option (List Judge)) → read_items c ds ≡ o → each_says any_of (Some (record { schema = None; listed = o; named = None })) null ≡ verdict b → b ≡ true
+      go None is h = always b h
+      go (Some ss) is h = accepted (none_of (map (λ s. s.fits null) ss)) b (some_listed ds some ss is) h
+
+  choice_says : (ms : Members) → IsChoice ms → is_null_choice (object ms) ≡ true → (v : Data) (n b : Bool) → is_null v ≡ n → (judge c (object ms)).fits v ≡ verdict b
+      → (judge c (object ms)).fits v ≡ verdict (n || b)
+  choice_says ms p stays v false b is e = e
+  choice_says ms p stays v true b is e =
+      let only = only_choice ms stays (p.offers stays) in
+      let at_null : (judge c (object (member (codes "anyOf") (array only.0) no_members))).fits null ≡ verdict b = ap (λ ns. (judge c (object ns)).fits null) (sym only.1) ∙ (ap (judge c (object ms)).fits (sym (is_null_value v is)) ∙ e) in
+      e ∙ ap verdict (choice_accepts only.0 only.2 b at_null)
+
   plain_says : (ms : Members) → is_combined (object ms) ≡ false → RefusesByType ms → (v : Data) (n b : Bool) → is_null v ≡ n → (judge c (object ms)).fits v ≡ verdict b
       → (judge c (object (with_null ms))).fits v ≡ verdict (n || b)
   plain_says ms alone p v true b is e =
@@ -232,13 +339,15 @@ module _ (patterns : Patterns) (f : Text → Judge) where
   allow_null-says (boolean true) r v false e = cc
   allow_null-says (boolean false) r v true e = cc
   allow_null-says (boolean false) r v false e = of_null v ∙ ap verdict (sym (or-false (is_null v)))
-  allow_null-says (object ms) r v b e = go (is_combined (object ms)) refl r
+  allow_null-says (object ms) r v b e = go (is_null_choice (object ms)) (is_combined (object ms)) refl refl r
     where
-      go : (o : Bool) → is_combined (object ms) ≡ o → (o ≡ true) ⊎ RefusesByType ms
-          → (judge c (if o then or_null (object ms) else object (with_null ms))).fits v ≡ verdict (is_null v || b)
-      go true is h = or_null-says (object ms) tt v b e
-      go false is (inl h) = absurd (true≢false (sym h))
-      go false is (inr p) = plain_says ms is p v (is_null v) b refl e
+      go : (s o : Bool) → is_null_choice (object ms) ≡ s → is_combined (object ms) ≡ o → IsChoice ms ⊎ RefusesByType ms
+          → (judge c (if s then object ms else if o then or_null (object ms) else object (with_null ms))).fits v ≡ verdict (is_null v || b)
+      go true o stays is (inl p) = choice_says ms p stays v (is_null v) b refl e
+      go true o stays is (inr p) = absurd (alone-not_choice ms p.alone stays)
+      go false true stays is h = or_null-says (object ms) tt v b e
+      go false false stays is (inl p) = absurd (true≢false (sym p.combined ∙ is))
+      go false false stays is (inr p) = plain_says ms is p v (is_null v) b refl e
   allow_null-says null r v b e = absurd r
   allow_null-says (number n) r v b e = absurd r
   allow_null-says (string s) r v b e = absurd r
@@ -269,6 +378,7 @@ at_other ms k e = null_in_type-other k (get_member (codes "type") ms) ms e
 
 refuses_by_type-with_null : (ms : Members) → RefusesByType ms → RefusesByType (with_null ms)
 refuses_by_type-with_null ms p = record {
+  alone = rw (at_other ms (codes "if") refl, at_other ms (codes "allOf") refl, at_other ms (codes "anyOf") refl, at_other ms (codes "oneOf") refl, at_other ms (codes "$ref") refl, at_other ms (codes "not") refl) p.alone;
   type_form = rw (null_in_type-type (get_member (codes "type") ms) ms refl) (type_plus-form _ p.type_form);
   no_const = at_other ms (codes "const") refl ∙ p.no_const;
   no_enum = at_other ms (codes "enum") refl ∙ p.no_enum;
@@ -277,13 +387,14 @@ refuses_by_type-with_null ms p = record {
 
 pub nullable-allow_null : (t : Data) → IsNullable t → IsNullable (allow_null t)
 nullable-allow_null (boolean true) r = tt
-nullable-allow_null (boolean false) r = inr (record { type_form = refl; no_const = refl; no_enum = refl; not_form = inl refl })
-nullable-allow_null (object ms) r = go (is_combined (object ms)) r
+nullable-allow_null (boolean false) r = inr (record { alone = refl; type_form = refl; no_const = refl; no_enum = refl; not_form = inl refl })
+nullable-allow_null (object ms) r = go (is_null_choice (object ms)) (is_combined (object ms)) refl r
   where
-    go : (o : Bool) → (o ≡ true) ⊎ RefusesByType ms → IsNullable (if o then or_null (object ms) else object (with_null ms))
-    go true h = inl refl
-    go false (inl h) = absurd (true≢false (sym h))
-    go false (inr p) = inr (refuses_by_type-with_null ms p)
+    go : (s o : Bool) → is_combined (object ms) ≡ o → IsChoice ms ⊎ RefusesByType ms → IsNullable (if s then object ms else if o then or_null (object ms) else object (with_null ms))
+    go true o is h = h
+    go false true is h = inl (record { combined = refl; offers = λ stays. inr (inl (λ patterns follow. of_null patterns follow null)) })
+    go false false is (inl p) = absurd (true≢false (sym p.combined ∙ is))
+    go false false is (inr p) = inr (refuses_by_type-with_null ms p)
 nullable-allow_null null r = absurd r
 nullable-allow_null (number n) r = absurd r
 nullable-allow_null (string s) r = absurd r

@@ -3,7 +3,8 @@ ghost use Rattle.serde_json.specs.Data.{string, array, object, no_items, item, p
 ghost use Rattle.serde_json.specs.Find.{get, get_member, as_object, as_str};
 ghost use Rattle.serde_json.specs.View.{view, items_view};
 ghost use Rattle.schemars_schema.specs.SchemaData.{members_in};
-ghost use Rattle.schemars_rewrite.specs.AllowNull.{allow_null, null_schema, is_combined, accepts_everything, is_text, holds_text, with_item, type_with_null, null_in_type, or_null};
+ghost use Rattle.schemars_schema.specs.Acceptance.{is_null};
+ghost use Rattle.schemars_rewrite.specs.AllowNull.{allow_null, null_schema, is_null_schema, holds_null, holds_null_schema, const_admits_null, enum_admits_null, offers_null, has_one_member, is_null_choice, is_combined, accepts_everything, is_text, holds_text, with_item, type_with_null, null_in_type, or_null};
 ghost use Rattle.schemars_rewrite.specs.NullLaw.{IsNullable, AcceptsNullToo};
 ghost use Rattle.std.specs.Prelude.{None};
 ghost use Rattle.serde_json.specs.Find.{as_bool};
@@ -15,9 +16,10 @@ use std::mem;
 
 /// Lets a schema accept null too.
 ///
-/// `true` stays, and `false` becomes the schema of null. An object that combines schemas, refers to
-/// one, or has a `not` that refuses everything becomes `anyOf` of itself and the schema of null. Any
-/// other object gets `null` at the end of its `type`.
+/// `true` stays, and `false` becomes the schema of null. So does an object with `anyOf` alone stay, one
+/// of whose schemas is that of null. Another object that combines schemas, refers to one, or has a
+/// `not` that refuses everything becomes `anyOf` of itself and the schema of null. Any other object
+/// gets `null` at the end of its `type`.
 pub fn allow_null(alloc: Global, schema: &mut Schema) -> Result<(), AllocError>
     ensures becomes { OnOk result (schema.new ≡ allow_null schema.old) }
     ensures law { OnOk result (IsNullable schema.old → AcceptsNullToo schema.old schema.new) }
@@ -44,6 +46,9 @@ fn allow_null_in_object(alloc: Global, schema: &mut Schema) -> Result<(), AllocE
     if schema.as_object().is_none() {
         return Ok(());
     }
+    if is_null_choice(schema) {
+        return Ok(());
+    }
     if is_combined(schema) {
         let combined = mem::replace(schema, Schema::from(true));
         *schema = or_null(alloc, combined)?;
@@ -64,6 +69,85 @@ fn null_schema(alloc: Global) -> Result<Schema, AllocError>
         Value::try_from_str(alloc, "null")?,
     )?;
     Ok(Schema::from(members))
+}
+
+// Whether a schema is `anyOf` alone, and one of its schemas is that of null.
+fn is_null_choice(schema: &Schema) -> bool
+    ensures { result ≡ is_null_choice schema.now }
+{
+    has_one_member(schema) && schema.get("anyOf").is_some_and(offers_null)
+}
+
+fn has_one_member(schema: &Schema) -> bool
+    ensures { result ≡ has_one_member schema.now }
+{
+    match schema.as_object() {
+        Some(members) => members.len() == 1,
+        None => false,
+    }
+}
+
+fn offers_null(choices: &Value) -> bool
+    ensures { result ≡ offers_null (Some (view choices.now)) }
+{
+    match choices {
+        Value::Array(schemas) => holds_null_schema(schemas),
+        _ => false,
+    }
+}
+
+fn holds_null_schema(schemas: &[Value]) -> bool
+    ensures { result ≡ holds_null_schema (items_view schemas.now) }
+{
+    for schema in schemas {
+        if is_null_schema(schema) {
+            return true;
+        }
+    }
+    false
+}
+
+// Whether the type is `null`, which `const` and `enum` admit.
+fn is_null_schema(schema: &Value) -> bool
+    ensures { result ≡ is_null_schema (view schema.now) }
+{
+    let has_null_type = schema.get("type").is_some_and(|name| is_text(name, "null"));
+    has_null_type && const_admits_null(schema.get("const")) && enum_admits_null(schema.get("enum"))
+}
+
+fn const_admits_null(constant: Option<&Value>) -> bool
+    ensures { result ≡ const_admits_null (option_map (λ v. view v.now) constant.entry) }
+{
+    match constant {
+        Some(value) => is_null(value),
+        None => true,
+    }
+}
+
+fn enum_admits_null(values: Option<&Value>) -> bool
+    ensures { result ≡ enum_admits_null (option_map (λ v. view v.now) values.entry) }
+{
+    match values {
+        Some(Value::Array(values)) => holds_null(values),
+        _ => true,
+    }
+}
+
+fn holds_null(values: &[Value]) -> bool
+    ensures { result ≡ holds_null (items_view values.now) }
+{
+    for value in values {
+        if is_null(value) {
+            return true;
+        }
+    }
+    false
+}
+
+fn is_null(value: &Value) -> bool
+    ensures { result ≡ is_null (view value.now) }
+{
+    matches!(value, Value::Null)
 }
 
 // Whether a schema may refuse null by more than its own type.
