@@ -5,6 +5,7 @@ use Rattle.serde_json.specs.Events.{members_len}
 use Rattle.serde_json.specs.Find.{get, get_member, as_object, as_str}
 use Rattle.schemars_schema.specs.Json.{Text}
 use Rattle.schemars_schema.specs.SchemaData.{object_of}
+use Rattle.schemars_schema.specs.Edits.{without}
 use Rattle.schemars_schema.specs.Acceptance.{is_null}
 
 -- the schema of null alone
@@ -102,6 +103,35 @@ abbrev pub null_in_type : Option Data → Members → Members
 null_in_type None ms = ms
 null_in_type (Some type) ms = put (codes "type") (type_with_null type) ms
 
+-- ---- null in a `const` or an `enum`
+
+-- a list of values with null at its end, unless it has null
+abbrev pub enum_with_null : Data → Data
+enum_with_null null = null
+enum_with_null (boolean b) = boolean b
+enum_with_null (number n) = number n
+enum_with_null (string t) = string t
+enum_with_null (array ds) = if holds_null ds then array ds else array (with_item ds null)
+enum_with_null (object ms) = object ms
+
+abbrev pub null_in_enum : Option Data → Members → Members
+null_in_enum None ms = ms
+null_in_enum (Some values) ms = put (codes "enum") (enum_with_null values) ms
+
+-- this value or null, in place of this value alone
+abbrev pub const_or_null : Data → Members → Members
+const_or_null c ms = put (codes "enum") (array (item c (item null no_items))) (without (codes "const") ms)
+
+-- null stays; where no `const` stands, `enum` is asked
+abbrev pub null_in_const : Option Data → Members → Members
+null_in_const None ms = null_in_enum (get_member (codes "enum") ms) ms
+null_in_const (Some c) ms = if is_null c then ms else const_or_null c ms
+
+abbrev pub null_in_values : Members → Members
+null_in_values ms = null_in_const (get_member (codes "const") ms) ms
+
+-- ---- the whole
+
 -- this schema or null
 abbrev pub or_null : Data → Data
 or_null schema = object_of ((codes "anyOf", array (item schema (item null_schema no_items))) ∷ [])
@@ -116,4 +146,4 @@ allow_null (array ds) = array ds
 allow_null (object ms) =
     if is_null_choice (object ms) then object ms
     else if is_combined (object ms) then or_null (object ms)
-    else object (null_in_type (get_member (codes "type") ms) ms)
+    else object (null_in_values (null_in_type (get_member (codes "type") ms) ms))

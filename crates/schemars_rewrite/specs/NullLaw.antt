@@ -52,12 +52,11 @@ pub record IsChoice (ms : Members) : Type 0 where
   pub combined : is_combined (object ms) ≡ true
   pub offers : is_null_choice (object ms) ≡ true → OffersNull (get_member (codes "anyOf") ms)
 
--- such an object refuses null by its type alone
-pub record RefusesByType (ms : Members) : Type 0 where
+-- an object that refuses null by its type and its `enum` alone
+pub record IsPlain (ms : Members) : Type 0 where
   pub alone : is_combined (object ms) ≡ false
   pub type_form : HasTypeForm (get_member (codes "type") ms)
   pub no_const : get_member (codes "const") ms ≡ None
-  pub no_enum : get_member (codes "enum") ms ≡ None
   pub not_form : (get_member (codes "not") ms ≡ None) ⊎ (get_member (codes "not") ms ≡ Some zero_schema)
 
 -- the schemas of the shapes so far
@@ -67,7 +66,7 @@ IsNullable (boolean b) = Unit {0}
 IsNullable (number n) = ⊥
 IsNullable (string s) = ⊥
 IsNullable (array ds) = ⊥
-IsNullable (object ms) = IsChoice ms ⊎ RefusesByType ms
+IsNullable (object ms) = IsChoice ms ⊎ IsPlain ms
 
 -- under 2020-12, wherever references lead and whatever patterns match, the new schema accepts what the old one does, and null
 abbrev pub AcceptsNullToo : Data → Data → Type 0

@@ -1,10 +1,10 @@
 ghost use Rattle.std.specs.Prelude.{◌≡◌, ◌∷◌, [], IfOk, OnOk, Some, codes, option_map, string_bytes};
-ghost use Rattle.serde_json.specs.Data.{string, array, object, no_items, item, put};
+ghost use Rattle.serde_json.specs.Data.{Data, string, array, object, no_items, item, put};
 ghost use Rattle.serde_json.specs.Find.{get, get_member, as_object, as_str};
 ghost use Rattle.serde_json.specs.View.{view, items_view};
 ghost use Rattle.schemars_schema.specs.SchemaData.{members_in};
 ghost use Rattle.schemars_schema.specs.Acceptance.{is_null};
-ghost use Rattle.schemars_rewrite.specs.AllowNull.{allow_null, null_schema, is_null_schema, holds_null, holds_null_schema, const_admits_null, enum_admits_null, offers_null, has_one_member, is_null_choice, is_combined, accepts_everything, is_text, holds_text, with_item, type_with_null, null_in_type, or_null};
+ghost use Rattle.schemars_rewrite.specs.AllowNull.{allow_null, null_schema, is_null_schema, holds_null, holds_null_schema, const_admits_null, enum_admits_null, offers_null, has_one_member, is_null_choice, is_combined, accepts_everything, is_text, holds_text, with_item, type_with_null, null_in_type, enum_with_null, null_in_enum, const_or_null, null_in_values, or_null};
 ghost use Rattle.schemars_rewrite.specs.NullLaw.{IsNullable, AcceptsNullToo};
 ghost use Rattle.std.specs.Prelude.{None};
 ghost use Rattle.serde_json.specs.Find.{as_bool};
@@ -19,7 +19,8 @@ use std::mem;
 /// `true` stays, and `false` becomes the schema of null. So does an object with `anyOf` alone stay, one
 /// of whose schemas is that of null. Another object that combines schemas, refers to one, or has a
 /// `not` that refuses everything becomes `anyOf` of itself and the schema of null. Any other object
-/// gets `null` at the end of its `type`.
+/// gets `null` at the end of its `type`, and null at the end of its `enum`; a `const` other than null
+/// becomes an `enum` of its value and null.
 pub fn allow_null(alloc: Global, schema: &mut Schema) -> Result<(), AllocError>
     ensures becomes { OnOk result (schema.new ≡ allow_null schema.old) }
     ensures law { OnOk result (IsNullable schema.old → AcceptsNullToo schema.old schema.new) }
@@ -54,7 +55,8 @@ fn allow_null_in_object(alloc: Global, schema: &mut Schema) -> Result<(), AllocE
         *schema = or_null(alloc, combined)?;
         return Ok(());
     }
-    null_in_type(alloc, schema)
+    null_in_type(alloc, schema)?;
+    null_in_values(alloc, schema)
 }
 
 // The schema of null alone.
@@ -249,4 +251,66 @@ fn is_text(value: &Value, text: &str) -> bool
         Some(found) => found == text,
         None => false,
     }
+}
+
+// Lets `const` and `enum` admit null.
+fn null_in_values(alloc: Global, schema: &mut Schema) -> Result<(), AllocError>
+    requires { schema.old ≡ object (members_in schema.old) }
+    ensures { OnOk result (schema.new ≡ object (null_in_values (members_in schema.old))) }
+{
+    match schema.get("const") {
+        Some(Value::Null) => Ok(()),
+        Some(_) => const_or_null(alloc, schema),
+        None => null_in_enum(alloc, schema),
+    }
+}
+
+// Makes a `const` an `enum` of its value and null.
+fn const_or_null(alloc: Global, schema: &mut Schema) -> Result<(), AllocError>
+    requires { schema.old ≡ object (members_in schema.old) }
+    ensures { OnOk result ((c : Data) → get (codes "const") schema.old ≡ Some c
+        → schema.new ≡ object (const_or_null c (members_in schema.old))) }
+{
+    let Some(constant) = schema.remove("const") else {
+        return Ok(());
+    };
+    let values = vec![in alloc; constant, Value::Null]?;
+    let key = String::from_str(alloc, "enum")?;
+    let _ = schema.insert(alloc, key, Value::Array(values))?;
+    Ok(())
+}
+
+fn null_in_enum(alloc: Global, schema: &mut Schema) -> Result<(), AllocError>
+    requires { schema.old ≡ object (members_in schema.old) }
+    ensures { OnOk result (schema.new ≡ object (null_in_enum
+        (get (codes "enum") schema.old) (members_in schema.old))) }
+{
+    let Some(values) = schema.get("enum") else {
+        return Ok(());
+    };
+    let with_null = enum_with_null(values.clone()?)?;
+    let key = String::from_str(alloc, "enum")?;
+    let _ = schema.insert(alloc, key, with_null)?;
+    Ok(())
+}
+
+// A list of values with null at its end, unless it has null.
+fn enum_with_null(values: Value) -> Result<Value, AllocError>
+    ensures { IfOk result (λ v. view v ≡ enum_with_null (view values)) }
+{
+    match values {
+        Value::Array(values) => values_with_null(values),
+        unchanged => Ok(unchanged),
+    }
+}
+
+fn values_with_null(values: Vec<Value>) -> Result<Value, AllocError>
+    ensures { IfOk result (λ v. view v ≡ enum_with_null (array (items_view values.items))) }
+{
+    if holds_null(&values) {
+        return Ok(Value::Array(values));
+    }
+    let mut values = values;
+    serde_json::push(&mut values, Value::Null)?;
+    Ok(Value::Array(values))
 }
