@@ -299,6 +299,18 @@ same_key k l d e h = go (slice_cmp nat_cmp k l) (bytes_eq k l) refl (is_eq-slice
     go Less b same is at = cc
     go Greater b same is at = cc
 
+-- such a choice has no other key
+pub choice_key : (ms : Members) → is_null_choice (object ms) ≡ true → (k : Text) (e : Data) → get_member k ms ≡ Some e → k ≡ codes "anyOf"
+choice_key no_members stays k e h = cc
+choice_key (member l d (member j x ms)) stays k e h =
+    let one : suc (suc (members_len ms)) ≡ 1 = eqb-true _ _ (and-parts _ _ stays).0 in
+    absurd (omega (arith, one))
+choice_key (member l d no_members) stays k e h = go (get_member (codes "anyOf") (member l d no_members)) refl (and-parts _ _ stays).1
+  where
+    go : (o : Option Data) → get_member (codes "anyOf") (member l d no_members) ≡ o → offers_null o ≡ true → k ≡ codes "anyOf"
+    go None is h = absurd (true≢false (sym h))
+    go (Some x) is offers = (same_key k l d e h).0 ∙ sym (same_key (codes "anyOf") l d x is).0
+
 -- the one member is a list under `anyOf`
 only_choice : (ms : Members) → is_null_choice (object ms) ≡ true → OffersNull (get_member (codes "anyOf") ms)
     → (ds : Items) × (ms ≡ member (codes "anyOf") (array ds) no_members) × SomeAcceptsNull ds
