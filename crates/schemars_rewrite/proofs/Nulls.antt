@@ -21,9 +21,9 @@ use Rattle.schemars_rewrite.specs.AllowNull.{accepts_everything}
 use Rattle.serde_json.proofs.Views.{Entry, get_member-put, get_member-put_other}
 use Rattle.std.proofs.lemmas.Slice.Eq.{bytes_eq-Decides}
 use Rattle.schemars_schema.specs.Verdict.{Verdict, Yes, No, Open, both, verdict, opposite, none_of, any_of}
-use Rattle.schemars_schema.specs.Json.{Text, json_eq, is_among}
+use Rattle.schemars_json.specs.Json.{Text, json_eq, is_among}
 use Rattle.schemars_schema.specs.SchemaData.{IsSchema}
-use Rattle.schemars_schema.specs.OrderedText.{is_listed}
+use Rattle.schemars_json.specs.OrderedText.{is_listed}
 use Rattle.schemars_schema.specs.Acceptance.{Patterns, Judge, Context, Raw, judge, read_data, read_items, all_keywords, where_some, type_says, enum_says, texts_in, type_names, are_type_names, is_of_type, is_of_some_type, is_null, each_says, both_some, nothing}
 use Rattle.schemars_schema.proofs.Verdicts.{both-yes, either-verdict}
 use Rattle.schemars_schema.proofs.Objects.{schema-judge, judge-object, says, says-agree}

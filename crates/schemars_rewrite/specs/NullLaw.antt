@@ -3,9 +3,9 @@ use Rattle.std.specs.Prelude.{◌≡◌, ◌⊎◌, ◌||◌, List, [], ◌∷�
 use Rattle.serde_json.specs.Data.{Data, null, boolean, number, unsigned, string, array, object, Items, no_items, item, Members}
 use Rattle.serde_json.specs.Find.{get_member}
 use Rattle.schemars_schema.specs.Verdict.{Yes, verdict}
-use Rattle.schemars_schema.specs.Json.{Text}
+use Rattle.schemars_json.specs.Json.{Text}
 use Rattle.schemars_schema.specs.SchemaData.{object_of}
-use Rattle.schemars_schema.specs.OrderedText.{is_listed}
+use Rattle.schemars_json.specs.OrderedText.{is_listed}
 use Rattle.schemars_schema.specs.Acceptance.{Patterns, Judge, Context, draft2020_12, judge, type_names, are_type_names, is_null}
 use Rattle.schemars_rewrite.specs.AllowNull.{is_combined, is_null_choice}
 
