@@ -305,7 +305,7 @@ choice_key no_members stays k e h = cc
 choice_key (member l d (member j x ms)) stays k e h =
     let one : suc (suc (members_len ms)) ≡ 1 = eqb-true _ _ (and-parts _ _ stays).0 in
     absurd (omega (arith, one))
-choice_key (member l d no_members) stays k e h = go (get_member (codes "anyOf") (member l d no_members)) refl (and-parts _ _ stays).1
+choice_key (member l d no_members) stays k e h = go (get_member (codes "anyOf") (member l d no_members)) refl stays
   where
     go : (o : Option Data) → get_member (codes "anyOf") (member l d no_members) ≡ o → offers_null o ≡ true → k ≡ codes "anyOf"
     go None is h = absurd (true≢false (sym h))
