@@ -1,27 +1,34 @@
 -- What a schema says of null and of other values once null is allowed.
 use Rattle.std.proofs.Common.{◌≡◌, ◌⊎◌, inl, inr, List, [], ◌∷◌, ◌++◌, Option, Some, None, Bool, true, false, refl, sym, ap, ◌∙◌, true≢false}
-use Rattle.std.specs.Prelude.{codes, bytes_eq, ◌||◌, ◌&&◌, if◌then◌else◌, is_some, option_and_then, option_map}
+use Rattle.std.specs.Prelude.{codes, bytes_eq, ◌||◌, ◌&&◌, if◌then◌else◌, is_some}
 use Rattle.serde_json.specs.Data.{Data, null, boolean, number, string, array, object, Items, no_items, item, Members, no_members, member, put}
-use Rattle.serde_json.specs.Find.{get_member, as_str}
+use Rattle.serde_json.specs.Find.{get_member}
 use Rattle.serde_json.specs.View.{view, items_view, members_view}
 use Rattle.serde_json.specs.declared.value.Value.{Value}
 use Rattle.std.specs.Prelude.{IsTrue, length}
-use Rattle.std.proofs.Common.{arith}
+use Rattle.std.proofs.Common.{arith, suc}
+use Rattle.std.specs.Prelude.{map}
+use Rattle.std.specs.Cmp.Lexicographic.{slice_cmp}
+use Rattle.std.specs.Ordering.{match_ordering}
+use Rattle.std.proofs.Common.{Ordering, Less, Equal, Greater, nat_cmp, is_eq}
+use Rattle.std.proofs.lemmas.Bool.{eqb-true}
+use Rattle.std.proofs.Math.Bool.{or_assoc}
+use Rattle.std.proofs.lemmas.Map.Text.{is_eq-slice_cmp}
 use Rattle.serde_json.specs.Find.{as_object, as_bool}
+use Rattle.serde_json.specs.Events.{members_len}
 use Rattle.schemars_schema.specs.SchemaData.{members_in}
 use Rattle.schemars_rewrite.specs.AllowNull.{accepts_everything}
 use Rattle.serde_json.proofs.Views.{Entry, get_member-put, get_member-put_other}
 use Rattle.std.proofs.lemmas.Slice.Eq.{bytes_eq-Decides}
-use Rattle.schemars_schema.specs.Verdict.{Verdict, Yes, both, verdict, opposite}
-use Rattle.schemars_schema.specs.Json.{Text, json_eq}
-use Rattle.schemars_schema.specs.SchemaData.{IsSchema, object_of}
-use Rattle.schemars_schema.specs.OrderedText.{is_listed}
-use Rattle.schemars_schema.specs.Acceptance.{Patterns, Judge, Context, Reading, Raw, judge, read_data, all_keywords, where_some, type_says, texts_in, types_in, type_names, are_type_names, is_of_type, is_of_some_type, is_null, items_say, when}
-use Rattle.schemars_schema.specs.Annotations.{keyword_names}
+use Rattle.schemars_schema.specs.Verdict.{Verdict, Yes, No, Open, both, verdict, opposite, none_of, any_of}
+use Rattle.schemars_json.specs.Json.{Text, json_eq, is_among}
+use Rattle.schemars_schema.specs.SchemaData.{IsSchema}
+use Rattle.schemars_json.specs.OrderedText.{is_listed}
+use Rattle.schemars_schema.specs.Acceptance.{Patterns, Judge, Context, Raw, judge, read_data, read_items, all_keywords, where_some, type_says, enum_says, texts_in, type_names, are_type_names, is_of_type, is_of_some_type, is_null, each_says, both_some, nothing}
 use Rattle.schemars_schema.proofs.Verdicts.{both-yes, either-verdict}
-use Rattle.schemars_schema.proofs.Objects.{schema-judge, judge-object, says, says-agree, IsKeyword}
-use Rattle.schemars_rewrite.specs.AllowNull.{null_schema, is_combined, holds_text, with_item, type_with_null, null_in_type, or_null, allow_null}
-use Rattle.schemars_rewrite.specs.NullLaw.{text_items, HasTypeForm, zero_schema, RefusesByType, IsNullable, context2020_12, AcceptsNullToo}
+use Rattle.schemars_schema.proofs.Objects.{schema-judge, judge-object, says, says-agree}
+use Rattle.schemars_rewrite.specs.AllowNull.{null_schema, is_combined, is_null_choice, offers_null, holds_text, holds_null, with_item, type_with_null, null_in_type, enum_with_null, null_in_enum, null_in_const, null_in_values, or_null, allow_null}
+use Rattle.schemars_rewrite.specs.NullLaw.{text_items, HasTypeForm, zero_schema, AcceptsNull, SomeAcceptsNull, OffersNull, IsChoice, IsPlain, IsNullable, context2020_12, AcceptsNullToo}
 
 -- ---- truth values
 
@@ -129,30 +136,122 @@ type_null (Some (boolean b)) h = absurd h
 type_null (Some (number n)) h = absurd h
 type_null (Some (object ms)) h = absurd h
 
+-- ---- the values with null
+
+json_eq-null : (v : Data) → json_eq v null ≡ is_null v
+unfolding json_eq
+json_eq-null null = refl
+json_eq-null (boolean b) = refl
+json_eq-null (number n) = refl
+json_eq-null (string s) = refl
+json_eq-null (array vs) = refl
+json_eq-null (object ms) = refl
+
+null-json_eq : (v : Data) → json_eq null v ≡ is_null v
+unfolding json_eq
+null-json_eq null = refl
+null-json_eq (boolean b) = refl
+null-json_eq (number n) = refl
+null-json_eq (string s) = refl
+null-json_eq (array vs) = refl
+null-json_eq (object ms) = refl
+
+is_among-with_null : (ds : Items) (v : Data) → is_among (with_item ds null) v ≡ is_among ds v || is_null v
+is_among-with_null no_items v = rw null-json_eq (or-false (is_null v))
+is_among-with_null (item d ds) v = rw (is_among-with_null ds v) (sym (or_assoc (json_eq d v) (is_among ds v) (is_null v)))
+
+is_among-null : (ds : Items) → is_among ds null ≡ holds_null ds
+is_among-null no_items = refl
+is_among-null (item d ds) = rw (json_eq-null d, is_among-null ds) refl
+
+enum_plus : Option Data → Option Data
+enum_plus None = None
+enum_plus (Some d) = Some (enum_with_null d)
+
+enum_other : (d : Option Data) (v : Data) → is_null v ≡ false → enum_says (enum_plus d) v ≡ enum_says d v
+unfolding enum_plus
+enum_other None v other = refl
+enum_other (Some (array ds)) v other = go (holds_null ds)
+  where
+    go : (b : Bool) → enum_says (Some (if b then array ds else array (with_item ds null))) v ≡ enum_says (Some (array ds)) v
+    go true = refl
+    go false = ap verdict (is_among-with_null ds v ∙ rw other (or-false (is_among ds v)))
+enum_other (Some null) v other = refl
+enum_other (Some (boolean b)) v other = refl
+enum_other (Some (number n)) v other = refl
+enum_other (Some (string s)) v other = refl
+enum_other (Some (object ms)) v other = refl
+
+enum_null : (d : Option Data) → enum_says (enum_plus d) null ≡ Yes
+unfolding enum_plus
+enum_null None = refl
+enum_null (Some (array ds)) = go (holds_null ds) refl
+  where
+    go : (b : Bool) → holds_null ds ≡ b → enum_says (Some (if b then array ds else array (with_item ds null))) null ≡ Yes
+    go true e = ap verdict (is_among-null ds ∙ e)
+    go false e = ap verdict (is_among-with_null ds null ∙ or-true (is_among ds null))
+enum_null (Some null) = refl
+enum_null (Some (boolean b)) = refl
+enum_null (Some (number n)) = refl
+enum_null (Some (string s)) = refl
+enum_null (Some (object ms)) = refl
+
 -- ---- an object that is not combined
 
+abbrev with_null_type : Members → Members
+with_null_type ms = null_in_type (get_member (codes "type") ms) ms
+
 abbrev with_null : Members → Members
-with_null ms = null_in_type (get_member (codes "type") ms) ms
+with_null ms = null_in_values (with_null_type ms)
+
+put_other : (k l : Text) (d : Data) (ms : Members) → bytes_eq k l ≡ false → get_member k (put l d ms) ≡ get_member k ms
+put_other k l d ms e = get_member-put_other k l d ms (λ same. true≢false (sym ((bytes_eq-Decides k l).1 same) ∙ e))
 
 null_in_type-other : (k : Text) (d : Option Data) (ms : Members) → bytes_eq k (codes "type") ≡ false → get_member k (null_in_type d ms) ≡ get_member k ms
 null_in_type-other k None ms e = refl
-null_in_type-other k (Some d) ms e = get_member-put_other k (codes "type") _ ms (λ same. true≢false (sym ((bytes_eq-Decides k (codes "type")).1 same) ∙ e))
+null_in_type-other k (Some d) ms e = put_other k (codes "type") (type_with_null d) ms e
 
 null_in_type-type : (d : Option Data) (ms : Members) → get_member (codes "type") ms ≡ d → get_member (codes "type") (null_in_type d ms) ≡ type_plus d
 unfolding type_plus
 null_in_type-type None ms e = e
 null_in_type-type (Some d) ms e = get_member-put (codes "type") _ ms
 
--- the look-ups with another type
-abbrev with_type : Option Data → Raw → Raw
-with_type d g k = if bytes_eq k (codes "type") then d else g k
+null_in_enum-other : (k : Text) (d : Option Data) (ms : Members) → bytes_eq k (codes "enum") ≡ false → get_member k (null_in_enum d ms) ≡ get_member k ms
+null_in_enum-other k None ms e = refl
+null_in_enum-other k (Some d) ms e = put_other k (codes "enum") (enum_with_null d) ms e
 
-with_null-agree : (ms : Members) (k : Text) → get_member k (with_null ms) ≡ with_type (type_plus (get_member (codes "type") ms)) (λ l. get_member l ms) k
-with_null-agree ms k = go (bytes_eq k (codes "type")) refl
+null_in_enum-enum : (d : Option Data) (ms : Members) → get_member (codes "enum") ms ≡ d → get_member (codes "enum") (null_in_enum d ms) ≡ enum_plus d
+unfolding enum_plus
+null_in_enum-enum None ms e = e
+null_in_enum-enum (Some d) ms e = get_member-put (codes "enum") _ ms
+
+at_type : (ms : Members) (k : Text) → bytes_eq k (codes "type") ≡ false → get_member k (with_null_type ms) ≡ get_member k ms
+at_type ms k e = null_in_type-other k (get_member (codes "type") ms) ms e
+
+-- where no `const` stands, the type and the values are changed alone
+without_const : (ms : Members) → get_member (codes "const") ms ≡ None → with_null ms ≡ null_in_enum (get_member (codes "enum") ms) (with_null_type ms)
+without_const ms none =
+    ap (λ o. null_in_const o (with_null_type ms)) (at_type ms (codes "const") refl ∙ none)
+    ∙ ap (λ o. null_in_enum o (with_null_type ms)) (at_type ms (codes "enum") refl)
+
+-- the look-ups with another type and other values
+abbrev with_both : Option Data → Option Data → Raw → Raw
+with_both type values g k = if bytes_eq k (codes "type") then type else (if bytes_eq k (codes "enum") then values else g k)
+
+with_null-agree : (ms : Members) → get_member (codes "const") ms ≡ None → (k : Text)
+    → get_member k (with_null ms) ≡ with_both (type_plus (get_member (codes "type") ms)) (enum_plus (get_member (codes "enum") ms)) (λ l. get_member l ms) k
+with_null-agree ms none k = ap (get_member k) (without_const ms none) ∙ go (bytes_eq k (codes "type")) (bytes_eq k (codes "enum")) refl refl
   where
-    go : (b : Bool) → bytes_eq k (codes "type") ≡ b → get_member k (with_null ms) ≡ (if b then type_plus (get_member (codes "type") ms) else get_member k ms)
-    go true e = rw ((bytes_eq-Decides k (codes "type")).0 e) (null_in_type-type (get_member (codes "type") ms) ms refl)
-    go false e = null_in_type-other k (get_member (codes "type") ms) ms e
+    values : Option Data
+    values = get_member (codes "enum") ms
+
+    go : (b d : Bool) → bytes_eq k (codes "type") ≡ b → bytes_eq k (codes "enum") ≡ d
+        → get_member k (null_in_enum values (with_null_type ms)) ≡ (if b then type_plus (get_member (codes "type") ms) else (if d then enum_plus values else get_member k ms))
+    go true d e f =
+        rw ((bytes_eq-Decides k (codes "type")).0 e)
+        (null_in_enum-other (codes "type") values (with_null_type ms) refl ∙ null_in_type-type (get_member (codes "type") ms) ms refl)
+    go false true e f = rw ((bytes_eq-Decides k (codes "enum")).0 f) (null_in_enum-enum values (with_null_type ms) (at_type ms (codes "enum") refl))
+    go false false e f = null_in_enum-other k values (with_null_type ms) f ∙ at_type ms k e
 
 silent : {A : Type 0} (o : Option A) → where_some o (λ x. Yes) ≡ Yes
 silent None = refl
@@ -185,21 +284,102 @@ alone_parts ms h =
     let g = or-parts _ _ e.1 in
     (none_of_some _ b.0, none_of_some _ d.0, none_of_some _ e.0, none_of_some _ g.0)
 
+-- ---- a choice that stays
+
+and-parts : (a b : Bool) → a && b ≡ true → (a ≡ true) × (b ≡ true)
+and-parts true b h = (refl, h)
+and-parts false b h = absurd (true≢false (sym h))
+
+same_key : (k l : Text) (d e : Data) → get_member k (member l d no_members) ≡ Some e → (k ≡ l) × (d ≡ e)
+same_key k l d e h = go (slice_cmp nat_cmp k l) (bytes_eq k l) refl (is_eq-slice_cmp k l) h
+  where
+    go : (o : Ordering) (b : Bool) → bytes_eq k l ≡ b → is_eq o ≡ b → match_ordering o None (Some d) None ≡ Some e → (k ≡ l) × (d ≡ e)
+    go Equal true same is at = ((bytes_eq-Decides k l).0 same, cc)
+    go Equal false same is at = absurd (true≢false is)
+    go Less b same is at = cc
+    go Greater b same is at = cc
+
+-- such a choice has no other key
+pub choice_key : (ms : Members) → is_null_choice (object ms) ≡ true → (k : Text) (e : Data) → get_member k ms ≡ Some e → k ≡ codes "anyOf"
+choice_key no_members stays k e h = cc
+choice_key (member l d (member j x ms)) stays k e h =
+    let one : suc (suc (members_len ms)) ≡ 1 = eqb-true _ _ (and-parts _ _ stays).0 in
+    absurd (omega (arith, one))
+choice_key (member l d no_members) stays k e h = go (get_member (codes "anyOf") (member l d no_members)) refl stays
+  where
+    go : (o : Option Data) → get_member (codes "anyOf") (member l d no_members) ≡ o → offers_null o ≡ true → k ≡ codes "anyOf"
+    go None is h = absurd (true≢false (sym h))
+    go (Some x) is offers = (same_key k l d e h).0 ∙ sym (same_key (codes "anyOf") l d x is).0
+
+-- the one member is a list under `anyOf`
+only_choice : (ms : Members) → is_null_choice (object ms) ≡ true → OffersNull (get_member (codes "anyOf") ms)
+    → (ds : Items) × (ms ≡ member (codes "anyOf") (array ds) no_members) × SomeAcceptsNull ds
+only_choice no_members stays h = absurd h
+only_choice (member l d (member k e ms)) stays h =
+    let one : suc (suc (members_len ms)) ≡ 1 = eqb-true _ _ (and-parts _ _ stays).0 in
+    absurd (omega (arith, one))
+only_choice (member l d no_members) stays h = go (get_member (codes "anyOf") (member l d no_members)) refl h
+  where
+    go : (o : Option Data) → get_member (codes "anyOf") (member l d no_members) ≡ o → OffersNull o
+        → (ds : Items) × (member l d no_members ≡ member (codes "anyOf") (array ds) no_members) × SomeAcceptsNull ds
+    go None is h = absurd h
+    go (Some (array ds)) is h =
+        let same = same_key (codes "anyOf") l d (array ds) is in
+        (ds, rw (← same.0, same.1) refl, h)
+    go (Some null) is h = absurd h
+    go (Some (boolean b)) is h = absurd h
+    go (Some (number n)) is h = absurd h
+    go (Some (string s)) is h = absurd h
+    go (Some (object ms)) is h = absurd h
+
+alone-not_choice : (ms : Members) → is_combined (object ms) ≡ false → is_null_choice (object ms) ≡ true → ⊥
+alone-not_choice ms alone stays =
+    let none : get_member (codes "anyOf") ms ≡ None = (alone_parts ms alone).1 in
+    true≢false (sym ((and-parts _ _ stays).1) ∙ ap offers_null none)
+
+abbrev judge_in : Option Judge → Judge
+judge_in o = elim o [ None ↦ nothing | Some s ↦ s ]
+
+some_inj : {A : Type 0} {a b : A} → Some a ≡ Some b → a ≡ b
+some_inj h = cc
+
+-- with a `Yes` among them, verdicts are not all `No`
+refused : (y : Verdict) → both No y ≡ Yes → ⊥
+refused Yes h = cc
+refused No h = cc
+refused Open h = cc
+
+refused_later : (x y : Verdict) → (y ≡ Yes → ⊥) → both x y ≡ Yes → ⊥
+refused_later Yes y later h = later h
+refused_later Open y later h = cc
+refused_later No Yes later h = cc
+refused_later No No later h = cc
+refused_later No Open later h = cc
+
+accepted : (x : Verdict) (b : Bool) → (x ≡ Yes → ⊥) → opposite x ≡ verdict b → b ≡ true
+accepted x true some h = refl
+accepted Yes false some h = absurd (some refl)
+accepted No false some h = cc
+accepted Open false some h = cc
+
 module _ (patterns : Patterns) (f : Text → Judge) where
   abbrev c : Context
   c = context2020_12 patterns f
 
-  other_says : (g : Raw) → HasTypeForm (g (codes "type")) → (v : Data) → is_null v ≡ false → (says c (with_type (type_plus (g (codes "type"))) g)).fits v ≡ (says c g).fits v
-  unfolding says all_keywords
-  other_says g h v other = rw (type_other (g (codes "type")) h v other)
+  abbrev nulled : Raw → Raw
+  nulled g = with_both (type_plus (g (codes "type"))) (enum_plus (g (codes "enum"))) g
 
-  null_says : (g : Raw) → HasTypeForm (g (codes "type")) → (g (codes "const") ≡ None) → (g (codes "enum") ≡ None) → ((g (codes "not") ≡ None) ⊎ (g (codes "not") ≡ Some zero_schema))
-      → (g (codes "allOf") ≡ None) → (g (codes "anyOf") ≡ None) → (g (codes "oneOf") ≡ None) → (g (codes "$ref") ≡ None) → (says c (with_type (type_plus (g (codes "type"))) g)).fits null ≡ Yes
+  other_says : (g : Raw) → HasTypeForm (g (codes "type")) → (v : Data) → is_null v ≡ false → (says c (nulled g)).fits v ≡ (says c g).fits v
+  unfolding says all_keywords
+  other_says g h v other = rw (type_other (g (codes "type")) h v other, enum_other (g (codes "enum")) v other)
+
+  null_says : (g : Raw) → HasTypeForm (g (codes "type")) → (g (codes "const") ≡ None) → ((g (codes "not") ≡ None) ⊎ (g (codes "not") ≡ Some zero_schema))
+      → (g (codes "allOf") ≡ None) → (g (codes "anyOf") ≡ None) → (g (codes "oneOf") ≡ None) → (g (codes "$ref") ≡ None) → (says c (nulled g)).fits null ≡ Yes
   unfolding says all_keywords read_data json_eq
-  null_says g h no_const no_enum (inl no_not) no_all no_any no_one no_ref =
-      rw (type_null (g (codes "type")) h, no_const, no_enum, no_not, no_all, no_any, no_one, no_ref) (simp silent)
-  null_says g h no_const no_enum (inr not_zero) no_all no_any no_one no_ref =
-      rw (type_null (g (codes "type")) h, no_const, no_enum, not_zero, no_all, no_any, no_one, no_ref) (simp silent)
+  null_says g h no_const (inl no_not) no_all no_any no_one no_ref =
+      rw (type_null (g (codes "type")) h, enum_null (g (codes "enum")), no_const, no_not, no_all, no_any, no_one, no_ref) (simp silent)
+  null_says g h no_const (inr not_zero) no_all no_any no_one no_ref =
+      rw (type_null (g (codes "type")) h, enum_null (g (codes "enum")), no_const, not_zero, no_all, no_any, no_one, no_ref) (simp silent)
 
   of_null : (v : Data) → (judge c null_schema).fits v ≡ verdict (is_null v)
   unfolding read_data all_keywords
@@ -214,16 +394,51 @@ module _ (patterns : Patterns) (f : Text → Judge) where
   unfolding read_data all_keywords
   or_null-says t is v b e = rw (schema-judge c t is, both-yes, e, of_null v) (either-verdict b (is_null v) ∙ ap verdict (or-swap b (is_null v)))
 
-  plain_says : (ms : Members) → is_combined (object ms) ≡ false → RefusesByType ms → (v : Data) (n b : Bool) → is_null v ≡ n → (judge c (object ms)).fits v ≡ verdict b
+  some_listed : (ds : Items) → SomeAcceptsNull ds → (ss : List Judge) → read_items c ds ≡ Some ss → none_of (map (λ s. s.fits null) ss) ≡ Yes → ⊥
+  unfolding read_data
+  some_listed no_items some ss is = absurd some
+  some_listed (item d ds) some ss is = go (λ more rest later. some_listed ds more rest later) (read_data c d).schema (read_items c ds) refl refl is
+    where
+      go : (SomeAcceptsNull ds → (rest : List Judge) → read_items c ds ≡ Some rest → none_of (map (λ s. s.fits null) rest) ≡ Yes → ⊥)
+          → (s : Option Judge) (o : Option (List Judge)) → (read_data c d).schema ≡ s → read_items c ds ≡ o → both_some (λ s ss. s ∷ ss) s o ≡ Some ss → none_of (map (λ s. s.fits null) ss) ≡ Yes → ⊥
+      go below None o first later at = cc
+      go below (Some s) None first later at = cc
+      go below (Some s) (Some rest) first later at = rw (← (some_inj at)) (here some)
+        where
+          here : AcceptsNull d ⊎ SomeAcceptsNull ds → both (opposite (s.fits null)) (none_of (map (λ s. s.fits null) rest)) ≡ Yes → ⊥
+          here (inl accepts) = let fits : s.fits null ≡ Yes = sym (ap (λ o. (judge_in o).fits null) first) ∙ accepts patterns f in rw fits (refused (none_of (map (λ s. s.fits null) rest)))
+          here (inr more) = refused_later (opposite (s.fits null)) (none_of (map (λ s. s.fits null) rest)) (below more rest later)
+
+  always : (b : Bool) → Yes ≡ verdict b → b ≡ true
+  always true h = refl
+  always false h = cc
+
+  choice_accepts : (ds : Items) → SomeAcceptsNull ds → (b : Bool) → (judge c (object (member (codes "anyOf") (array ds) no_members))).fits null ≡ verdict b → b ≡ true
+  unfolding read_data all_keywords
+  choice_accepts ds some b e = go (read_items c ds) refl (sym (both-yes (each_says any_of (Some (record { schema = None; listed = read_items c ds; named = None })) null)) ∙ e)
+    where
+      go : (o : Option (List Judge)) → read_items c ds ≡ o → each_says any_of (Some (record { schema = None; listed = o; named = None })) null ≡ verdict b → b ≡ true
+      go None is h = always b h
+      go (Some ss) is h = accepted (none_of (map (λ s. s.fits null) ss)) b (some_listed ds some ss is) h
+
+  choice_says : (ms : Members) → IsChoice ms → is_null_choice (object ms) ≡ true → (v : Data) (n b : Bool) → is_null v ≡ n → (judge c (object ms)).fits v ≡ verdict b
+      → (judge c (object ms)).fits v ≡ verdict (n || b)
+  choice_says ms p stays v false b is e = e
+  choice_says ms p stays v true b is e =
+      let only = only_choice ms stays (p.offers stays) in
+      let at_null : (judge c (object (member (codes "anyOf") (array only.0) no_members))).fits null ≡ verdict b = ap (λ ns. (judge c (object ns)).fits null) (sym only.1) ∙ (ap (judge c (object ms)).fits (sym (is_null_value v is)) ∙ e) in
+      e ∙ ap verdict (choice_accepts only.0 only.2 b at_null)
+
+  plain_says : (ms : Members) → is_combined (object ms) ≡ false → IsPlain ms → (v : Data) (n b : Bool) → is_null v ≡ n → (judge c (object ms)).fits v ≡ verdict b
       → (judge c (object (with_null ms))).fits v ≡ verdict (n || b)
   plain_says ms alone p v true b is e =
       let g : Raw = λ k. get_member k ms in
       let parts = alone_parts ms alone in
-      rw (is_null_value v is) (ap (λ j. j.fits null) (judge-object c (with_null ms) ∙ says-agree c _ _ (λ k key. with_null-agree ms k))
-      ∙ null_says g p.type_form p.no_const p.no_enum p.not_form parts.0 parts.1 parts.2 parts.3)
+      rw (is_null_value v is) (ap (λ j. j.fits null) (judge-object c (with_null ms) ∙ says-agree c _ _ (λ k key. with_null-agree ms p.no_const k))
+      ∙ null_says g p.type_form p.no_const p.not_form parts.0 parts.1 parts.2 parts.3)
   plain_says ms alone p v false b is e =
       let g : Raw = λ k. get_member k ms in
-      ap (λ j. j.fits v) (judge-object c (with_null ms) ∙ says-agree c _ _ (λ k key. with_null-agree ms k))
+      ap (λ j. j.fits v) (judge-object c (with_null ms) ∙ says-agree c _ _ (λ k key. with_null-agree ms p.no_const k))
       ∙ (other_says g p.type_form v is ∙ (sym (ap (λ j. j.fits v) (judge-object c ms)) ∙ e))
 
   pub allow_null-says : (t : Data) → IsNullable t → (v : Data) (b : Bool) → (judge c t).fits v ≡ verdict b → (judge c (allow_null t)).fits v ≡ verdict (is_null v || b)
@@ -232,13 +447,15 @@ module _ (patterns : Patterns) (f : Text → Judge) where
   allow_null-says (boolean true) r v false e = cc
   allow_null-says (boolean false) r v true e = cc
   allow_null-says (boolean false) r v false e = of_null v ∙ ap verdict (sym (or-false (is_null v)))
-  allow_null-says (object ms) r v b e = go (is_combined (object ms)) refl r
+  allow_null-says (object ms) r v b e = go (is_null_choice (object ms)) (is_combined (object ms)) refl refl r
     where
-      go : (o : Bool) → is_combined (object ms) ≡ o → (o ≡ true) ⊎ RefusesByType ms
-          → (judge c (if o then or_null (object ms) else object (with_null ms))).fits v ≡ verdict (is_null v || b)
-      go true is h = or_null-says (object ms) tt v b e
-      go false is (inl h) = absurd (true≢false (sym h))
-      go false is (inr p) = plain_says ms is p v (is_null v) b refl e
+      go : (s o : Bool) → is_null_choice (object ms) ≡ s → is_combined (object ms) ≡ o → IsChoice ms ⊎ IsPlain ms
+          → (judge c (if s then object ms else if o then or_null (object ms) else object (with_null ms))).fits v ≡ verdict (is_null v || b)
+      go true o stays is (inl p) = choice_says ms p stays v (is_null v) b refl e
+      go true o stays is (inr p) = absurd (alone-not_choice ms p.alone stays)
+      go false true stays is h = or_null-says (object ms) tt v b e
+      go false false stays is (inl p) = absurd (true≢false (sym p.combined ∙ is))
+      go false false stays is (inr p) = plain_says ms is p v (is_null v) b refl e
   allow_null-says null r v b e = absurd r
   allow_null-says (number n) r v b e = absurd r
   allow_null-says (string s) r v b e = absurd r
@@ -264,26 +481,29 @@ type_plus-form (Some (boolean b)) h = absurd h
 type_plus-form (Some (number n)) h = absurd h
 type_plus-form (Some (object ms)) h = absurd h
 
-at_other : (ms : Members) (k : Text) → bytes_eq k (codes "type") ≡ false → get_member k (with_null ms) ≡ get_member k ms
-at_other ms k e = null_in_type-other k (get_member (codes "type") ms) ms e
+at_other : (ms : Members) → get_member (codes "const") ms ≡ None → (k : Text) → bytes_eq k (codes "type") ≡ false → bytes_eq k (codes "enum") ≡ false → get_member k (with_null ms) ≡ get_member k ms
+at_other ms none k e f = with_null-agree ms none k ∙ rw (e, f) refl
 
-refuses_by_type-with_null : (ms : Members) → RefusesByType ms → RefusesByType (with_null ms)
-refuses_by_type-with_null ms p = record {
-  type_form = rw (null_in_type-type (get_member (codes "type") ms) ms refl) (type_plus-form _ p.type_form);
-  no_const = at_other ms (codes "const") refl ∙ p.no_const;
-  no_enum = at_other ms (codes "enum") refl ∙ p.no_enum;
-  not_form = rw (at_other ms (codes "not") refl) p.not_form;
-}
+plain-with_null : (ms : Members) → IsPlain ms → IsPlain (with_null ms)
+plain-with_null ms p =
+    let at : (k : Text) → bytes_eq k (codes "type") ≡ false → bytes_eq k (codes "enum") ≡ false → get_member k (with_null ms) ≡ get_member k ms = at_other ms p.no_const in
+    record {
+      alone = rw (at (codes "if") refl refl, at (codes "allOf") refl refl, at (codes "anyOf") refl refl, at (codes "oneOf") refl refl, at (codes "$ref") refl refl, at (codes "not") refl refl) p.alone;
+      type_form = rw (with_null-agree ms p.no_const (codes "type")) (type_plus-form _ p.type_form);
+      no_const = at (codes "const") refl refl ∙ p.no_const;
+      not_form = rw (at (codes "not") refl refl) p.not_form;
+    }
 
 pub nullable-allow_null : (t : Data) → IsNullable t → IsNullable (allow_null t)
 nullable-allow_null (boolean true) r = tt
-nullable-allow_null (boolean false) r = inr (record { type_form = refl; no_const = refl; no_enum = refl; not_form = inl refl })
-nullable-allow_null (object ms) r = go (is_combined (object ms)) r
+nullable-allow_null (boolean false) r = inr (record { alone = refl; type_form = refl; no_const = refl; not_form = inl refl })
+nullable-allow_null (object ms) r = go (is_null_choice (object ms)) (is_combined (object ms)) refl r
   where
-    go : (o : Bool) → (o ≡ true) ⊎ RefusesByType ms → IsNullable (if o then or_null (object ms) else object (with_null ms))
-    go true h = inl refl
-    go false (inl h) = absurd (true≢false (sym h))
-    go false (inr p) = inr (refuses_by_type-with_null ms p)
+    go : (s o : Bool) → is_combined (object ms) ≡ o → IsChoice ms ⊎ IsPlain ms → IsNullable (if s then object ms else if o then or_null (object ms) else object (with_null ms))
+    go true o is h = h
+    go false true is h = inl (record { combined = refl; offers = λ stays. inr (inl (λ patterns follow. of_null patterns follow null)) })
+    go false false is (inl p) = absurd (true≢false (sym p.combined ∙ is))
+    go false false is (inr p) = inr (plain-with_null ms p)
 nullable-allow_null null r = absurd r
 nullable-allow_null (number n) r = absurd r
 nullable-allow_null (string s) r = absurd r

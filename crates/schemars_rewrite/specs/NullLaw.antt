@@ -2,12 +2,12 @@
 use Rattle.std.specs.Prelude.{◌≡◌, ◌⊎◌, ◌||◌, List, [], ◌∷◌, Bool, true, false, Option, Some, None, codes}
 use Rattle.serde_json.specs.Data.{Data, null, boolean, number, unsigned, string, array, object, Items, no_items, item, Members}
 use Rattle.serde_json.specs.Find.{get_member}
-use Rattle.schemars_schema.specs.Verdict.{verdict}
-use Rattle.schemars_schema.specs.Json.{Text}
+use Rattle.schemars_schema.specs.Verdict.{Yes, verdict}
+use Rattle.schemars_json.specs.Json.{Text}
 use Rattle.schemars_schema.specs.SchemaData.{object_of}
-use Rattle.schemars_schema.specs.OrderedText.{is_listed}
+use Rattle.schemars_json.specs.OrderedText.{is_listed}
 use Rattle.schemars_schema.specs.Acceptance.{Patterns, Judge, Context, draft2020_12, judge, type_names, are_type_names, is_null}
-use Rattle.schemars_rewrite.specs.AllowNull.{is_combined, allow_null}
+use Rattle.schemars_rewrite.specs.AllowNull.{is_combined, is_null_choice}
 
 abbrev pub text_items : List Text → Items
 text_items [] = no_items
@@ -27,11 +27,36 @@ HasTypeForm (Some (object ms)) = ⊥
 abbrev pub zero_schema : Data
 zero_schema = object_of ((codes "const", number (unsigned 0)) ∷ [])
 
--- such an object refuses null by its type alone
-pub record RefusesByType (ms : Members) : Type 0 where
+abbrev pub context2020_12 : Patterns → (Text → Judge) → Context
+context2020_12 patterns follow = record { dialect = draft2020_12; patterns = patterns; follow = follow }
+
+-- under 2020-12, wherever references lead and whatever patterns match
+abbrev pub AcceptsNull : Data → Type 0
+AcceptsNull d = (patterns : Patterns) (follow : Text → Judge) → (judge (context2020_12 patterns follow) d).fits null ≡ Yes
+
+abbrev pub SomeAcceptsNull : Items → Type 0
+SomeAcceptsNull no_items = ⊥
+SomeAcceptsNull (item d ds) = AcceptsNull d ⊎ SomeAcceptsNull ds
+
+abbrev pub OffersNull : Option Data → Type 0
+OffersNull None = ⊥
+OffersNull (Some null) = ⊥
+OffersNull (Some (boolean b)) = ⊥
+OffersNull (Some (number n)) = ⊥
+OffersNull (Some (string s)) = ⊥
+OffersNull (Some (array ds)) = SomeAcceptsNull ds
+OffersNull (Some (object ms)) = ⊥
+
+-- an object that combines schemas; where it stays, since it has a schema of null type among its schemas, one of them does accept null
+pub record IsChoice (ms : Members) : Type 0 where
+  pub combined : is_combined (object ms) ≡ true
+  pub offers : is_null_choice (object ms) ≡ true → OffersNull (get_member (codes "anyOf") ms)
+
+-- an object that refuses null by its type and its `enum` alone
+pub record IsPlain (ms : Members) : Type 0 where
+  pub alone : is_combined (object ms) ≡ false
   pub type_form : HasTypeForm (get_member (codes "type") ms)
   pub no_const : get_member (codes "const") ms ≡ None
-  pub no_enum : get_member (codes "enum") ms ≡ None
   pub not_form : (get_member (codes "not") ms ≡ None) ⊎ (get_member (codes "not") ms ≡ Some zero_schema)
 
 -- the schemas of the shapes so far
@@ -41,10 +66,7 @@ IsNullable (boolean b) = Unit {0}
 IsNullable (number n) = ⊥
 IsNullable (string s) = ⊥
 IsNullable (array ds) = ⊥
-IsNullable (object ms) = (is_combined (object ms) ≡ true) ⊎ RefusesByType ms
-
-abbrev pub context2020_12 : Patterns → (Text → Judge) → Context
-context2020_12 patterns follow = record { dialect = draft2020_12; patterns = patterns; follow = follow }
+IsNullable (object ms) = IsChoice ms ⊎ IsPlain ms
 
 -- under 2020-12, wherever references lead and whatever patterns match, the new schema accepts what the old one does, and null
 abbrev pub AcceptsNullToo : Data → Data → Type 0

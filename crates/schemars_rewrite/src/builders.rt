@@ -1,9 +1,10 @@
 ghost use Rattle.std.specs.Prelude.{◌≡◌, ◌∷◌, [], IfOk, OnOk, Some, codes, option_map, string_bytes};
-ghost use Rattle.serde_json.specs.Data.{string, array, object, no_items, item, put};
+ghost use Rattle.serde_json.specs.Data.{Data, string, array, object, no_items, item, put};
 ghost use Rattle.serde_json.specs.Find.{get, get_member, as_object, as_str};
 ghost use Rattle.serde_json.specs.View.{view, items_view};
 ghost use Rattle.schemars_schema.specs.SchemaData.{members_in};
-ghost use Rattle.schemars_rewrite.specs.AllowNull.{allow_null, null_schema, is_combined, accepts_everything, is_text, holds_text, with_item, type_with_null, null_in_type, or_null};
+ghost use Rattle.schemars_schema.specs.Acceptance.{is_null};
+ghost use Rattle.schemars_rewrite.specs.AllowNull.{allow_null, null_schema, is_null_schema, holds_null, holds_null_schema, const_admits_null, enum_admits_null, offers_null, has_one_member, is_null_choice, is_combined, accepts_everything, is_text, holds_text, with_item, type_with_null, null_in_type, enum_with_null, null_in_enum, const_or_null, null_in_values, or_null};
 ghost use Rattle.schemars_rewrite.specs.NullLaw.{IsNullable, AcceptsNullToo};
 ghost use Rattle.std.specs.Prelude.{None};
 ghost use Rattle.serde_json.specs.Find.{as_bool};
@@ -15,9 +16,11 @@ use std::mem;
 
 /// Lets a schema accept null too.
 ///
-/// `true` stays, and `false` becomes the schema of null. An object that combines schemas, refers to
-/// one, or has a `not` that refuses everything becomes `anyOf` of itself and the schema of null. Any
-/// other object gets `null` at the end of its `type`.
+/// `true` stays, and `false` becomes the schema of null. So does an object with `anyOf` alone stay, one
+/// of whose schemas is that of null. Another object that combines schemas, refers to one, or has a
+/// `not` that refuses everything becomes `anyOf` of itself and the schema of null. Any other object
+/// gets `null` at the end of its `type`, and null at the end of its `enum`; a `const` other than null
+/// becomes an `enum` of its value and null.
 pub fn allow_null(alloc: Global, schema: &mut Schema) -> Result<(), AllocError>
     ensures becomes { OnOk result (schema.new ≡ allow_null schema.old) }
     ensures law { OnOk result (IsNullable schema.old → AcceptsNullToo schema.old schema.new) }
@@ -44,12 +47,16 @@ fn allow_null_in_object(alloc: Global, schema: &mut Schema) -> Result<(), AllocE
     if schema.as_object().is_none() {
         return Ok(());
     }
+    if is_null_choice(schema) {
+        return Ok(());
+    }
     if is_combined(schema) {
         let combined = mem::replace(schema, Schema::from(true));
         *schema = or_null(alloc, combined)?;
         return Ok(());
     }
-    null_in_type(alloc, schema)
+    null_in_type(alloc, schema)?;
+    null_in_values(alloc, schema)
 }
 
 // The schema of null alone.
@@ -64,6 +71,85 @@ fn null_schema(alloc: Global) -> Result<Schema, AllocError>
         Value::try_from_str(alloc, "null")?,
     )?;
     Ok(Schema::from(members))
+}
+
+// Whether a schema is `anyOf` alone, and one of its schemas is that of null.
+fn is_null_choice(schema: &Schema) -> bool
+    ensures { result ≡ is_null_choice schema.now }
+{
+    has_one_member(schema) && schema.get("anyOf").is_some_and(offers_null)
+}
+
+fn has_one_member(schema: &Schema) -> bool
+    ensures { result ≡ has_one_member schema.now }
+{
+    match schema.as_object() {
+        Some(members) => members.len() == 1,
+        None => false,
+    }
+}
+
+fn offers_null(choices: &Value) -> bool
+    ensures { result ≡ offers_null (Some (view choices.now)) }
+{
+    match choices {
+        Value::Array(schemas) => holds_null_schema(schemas),
+        _ => false,
+    }
+}
+
+fn holds_null_schema(schemas: &[Value]) -> bool
+    ensures { result ≡ holds_null_schema (items_view schemas.now) }
+{
+    for schema in schemas {
+        if is_null_schema(schema) {
+            return true;
+        }
+    }
+    false
+}
+
+// Whether the type is `null`, which `const` and `enum` admit.
+fn is_null_schema(schema: &Value) -> bool
+    ensures { result ≡ is_null_schema (view schema.now) }
+{
+    let has_null_type = schema.get("type").is_some_and(|name| is_text(name, "null"));
+    has_null_type && const_admits_null(schema.get("const")) && enum_admits_null(schema.get("enum"))
+}
+
+fn const_admits_null(constant: Option<&Value>) -> bool
+    ensures { result ≡ const_admits_null (option_map (λ v. view v.now) constant.entry) }
+{
+    match constant {
+        Some(value) => is_null(value),
+        None => true,
+    }
+}
+
+fn enum_admits_null(values: Option<&Value>) -> bool
+    ensures { result ≡ enum_admits_null (option_map (λ v. view v.now) values.entry) }
+{
+    match values {
+        Some(Value::Array(values)) => holds_null(values),
+        _ => true,
+    }
+}
+
+fn holds_null(values: &[Value]) -> bool
+    ensures { result ≡ holds_null (items_view values.now) }
+{
+    for value in values {
+        if is_null(value) {
+            return true;
+        }
+    }
+    false
+}
+
+fn is_null(value: &Value) -> bool
+    ensures { result ≡ is_null (view value.now) }
+{
+    matches!(value, Value::Null)
 }
 
 // Whether a schema may refuse null by more than its own type.
@@ -165,4 +251,66 @@ fn is_text(value: &Value, text: &str) -> bool
         Some(found) => found == text,
         None => false,
     }
+}
+
+// Lets `const` and `enum` admit null.
+fn null_in_values(alloc: Global, schema: &mut Schema) -> Result<(), AllocError>
+    requires { schema.old ≡ object (members_in schema.old) }
+    ensures { OnOk result (schema.new ≡ object (null_in_values (members_in schema.old))) }
+{
+    match schema.get("const") {
+        Some(Value::Null) => Ok(()),
+        Some(_) => const_or_null(alloc, schema),
+        None => null_in_enum(alloc, schema),
+    }
+}
+
+// Makes a `const` an `enum` of its value and null.
+fn const_or_null(alloc: Global, schema: &mut Schema) -> Result<(), AllocError>
+    requires { schema.old ≡ object (members_in schema.old) }
+    ensures { OnOk result ((c : Data) → get (codes "const") schema.old ≡ Some c
+        → schema.new ≡ object (const_or_null c (members_in schema.old))) }
+{
+    let Some(constant) = schema.remove("const") else {
+        return Ok(());
+    };
+    let values = vec![in alloc; constant, Value::Null]?;
+    let key = String::from_str(alloc, "enum")?;
+    let _ = schema.insert(alloc, key, Value::Array(values))?;
+    Ok(())
+}
+
+fn null_in_enum(alloc: Global, schema: &mut Schema) -> Result<(), AllocError>
+    requires { schema.old ≡ object (members_in schema.old) }
+    ensures { OnOk result (schema.new ≡ object (null_in_enum
+        (get (codes "enum") schema.old) (members_in schema.old))) }
+{
+    let Some(values) = schema.get("enum") else {
+        return Ok(());
+    };
+    let with_null = enum_with_null(values.clone()?)?;
+    let key = String::from_str(alloc, "enum")?;
+    let _ = schema.insert(alloc, key, with_null)?;
+    Ok(())
+}
+
+// A list of values with null at its end, unless it has null.
+fn enum_with_null(values: Value) -> Result<Value, AllocError>
+    ensures { IfOk result (λ v. view v ≡ enum_with_null (view values)) }
+{
+    match values {
+        Value::Array(values) => values_with_null(values),
+        unchanged => Ok(unchanged),
+    }
+}
+
+fn values_with_null(values: Vec<Value>) -> Result<Value, AllocError>
+    ensures { IfOk result (λ v. view v ≡ enum_with_null (array (items_view values.items))) }
+{
+    if holds_null(&values) {
+        return Ok(Value::Array(values));
+    }
+    let mut values = values;
+    serde_json::push(&mut values, Value::Null)?;
+    Ok(Value::Array(values))
 }

@@ -2,5 +2,3 @@
 #![tactic(auto)]
 
 pub mod builders;
-#[cfg(test)]
-mod tests;

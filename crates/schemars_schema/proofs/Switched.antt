@@ -4,7 +4,7 @@ use Rattle.serde_json.specs.Data.{Data, null, boolean, number, string, array, ob
 use Rattle.schemars_schema.specs.SchemaData.{IsSchema, members_in}
 use Rattle.schemars_schema.specs.Verdict.{Yes}
 use Rattle.schemars_schema.specs.Acceptance.{Dialect, Patterns, accepts, read_data, all_keywords, items_say, const_says, unevaluated_properties_say}
-use Rattle.schemars_schema.specs.Json.{Text}
+use Rattle.schemars_json.specs.Json.{Text}
 
 items_none : (reads : Bool) (v : Data) → items_say reads None None None v ≡ Yes
 items_none true v = refl

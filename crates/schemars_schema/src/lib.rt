@@ -2,18 +2,13 @@
 #![tactic(auto)]
 
 pub mod consts;
-pub mod encoding;
-mod equality;
 mod error;
 mod ordered;
-mod output;
 mod placing;
 mod pointer;
 mod schema;
 mod serialized;
-#[cfg(test)]
-mod tests;
 
-pub use equality::{json_eq, json_eq_members};
 pub use error::NotASchema;
 pub use schema::Schema;
+pub use schemars_json::{encoding, json_eq, json_eq_members};

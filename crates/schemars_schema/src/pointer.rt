@@ -5,8 +5,8 @@ ghost use Rattle.serde_json.specs.Find.{unescape};
 ghost use Rattle.serde_json.specs.View.{view};
 ghost use Rattle.schemars_schema.specs.Lookup.{pointed_in, pointed_inside, pointer_text, IsFirstToken};
 
-use crate::encoding::percent_decode;
 use crate::schema::Schema;
+use schemars_json::encoding::percent_decode;
 use serde_json::Value;
 use std::alloc::{AllocError, Global};
 use std::borrow::CowStr;

@@ -1,5 +1,5 @@
-use Rattle.std.proofs.Common.{◌≡◌, ◌++◌, ◌∷◌, [], false, ap, ◌∙◌, codes, rules}
-use Rattle.serde_json.specs.Data.{array, string}
+use Rattle.std.proofs.Common.{◌≡◌, false, ap, ◌∙◌, codes, rules}
+use Rattle.serde_json.specs.Data.{array}
 use Rattle.serde_json.specs.View.{items_view, view}
 use Rattle.serde_json.proofs.Views.{view-Array}
 use Rattle.schemars_rewrite.specs.AllowNull.{holds_text, with_item}
