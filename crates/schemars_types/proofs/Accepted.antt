@@ -10,16 +10,16 @@ use Rattle.std.proofs.lemmas.Option.{slice_get_within, slice_get_past, slice_get
 use Rattle.std.proofs.lemmas.Slice.Eq.{bytes_eq-Decides}
 use Rattle.schemars_schema.specs.Json.{Text}
 use Rattle.schemars_types.specs.Rows.{Row, entry_at}
-use Rattle.schemars_types.specs.Walks.{Leads, OnCycle, IsFree, IsLeast}
+use Rattle.schemars_cycles.specs.Walks.{Leads, OnCycle, IsFree, IsLeast}
 use Rattle.schemars_types.specs.Edges.{RefersWithin, DirectEdge, SameValueEdge, direct_targets, same_value_targets, is_inline_at, numbers_at, same_value_numbers_at, height, rank, names_at}
 use Rattle.schemars_types.specs.EdgeKind.{targets_along}
-use Rattle.schemars_types.specs.Repeated.{IsRepeated}
+use Rattle.schemars_shapes.specs.Repeated.{IsRepeated}
 use Rattle.schemars_types.specs.Faults.{IsUndefined, HasRepeated, OnDirectCycle, OnEmptyCycle, IsAccepted, IsChecked}
 use Rattle.schemars_types.specs.declared.check.EdgeKind.TheVariants.{Direct, SameValue}
-use Rattle.schemars_types.proofs.FieldLemmas.{Contains-from_any}
-use Rattle.schemars_types.proofs.GraphLemmas.{walk_along}
+use Rattle.schemars_shapes.proofs.FieldLemmas.{Contains-from_any}
+use Rattle.schemars_cycles.proofs.GraphLemmas.{walk_along}
 use Rattle.schemars_types.proofs.EdgeLemmas.{Contains-filter, Contains-filtered, ends_within, below-nat_lt, nat_lt-below}
-use Rattle.schemars_types.proofs.Heights.{IsWithin, longest-bound, longest-below, longest_falls}
+use Rattle.schemars_cycles.proofs.Heights.{IsWithin, longest-bound, longest-below, longest_falls}
 
 -- ---- names
 

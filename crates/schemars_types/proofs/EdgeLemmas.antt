@@ -2,13 +2,13 @@
 use Rattle.std.proofs.Common.{◌≡◌, ◌<◌, ◌∙◌, ◌⊎◌, inl, inr, ℕ, zero, suc, List, [], ◌∷◌, Bool, true, false, Option, Some, None, length, filter, cond, Contains, nat_lt, MatchOption, refl, sym, ap, subst, arith, true≢false}
 use Rattle.std.proofs.lemmas.Bool.Decides.{Decides-ltb}
 use Rattle.schemars_types.specs.Rows.{Row}
-use Rattle.schemars_types.specs.Walks.{Leads, OnCycle, IsFree, IsLeast}
-use Rattle.schemars_types.specs.Search.{Graph, targets_in, IsClosed, HasTargets}
+use Rattle.schemars_cycles.specs.Walks.{Leads, OnCycle, IsFree, IsLeast}
+use Rattle.schemars_cycles.specs.Search.{Graph, targets_in, IsClosed, HasTargets}
 use Rattle.schemars_types.specs.Edges.{numbers_at, is_inline_at, same_value_numbers_at}
 use Rattle.schemars_types.specs.EdgeKind.{targets_along}
 use Rattle.schemars_types.specs.declared.check.EdgeKind.{EdgeKind}
 use Rattle.schemars_types.specs.declared.check.EdgeKind.TheVariants.{Direct, SameValue}
-use Rattle.schemars_types.proofs.GraphLemmas.{Contains-later, targets_in-within, walk_along}
+use Rattle.schemars_cycles.proofs.GraphLemmas.{Contains-later, targets_in-within, walk_along}
 
 Contains-cons : (x m : ℕ) (xs : List ℕ) → Contains (x ∷ xs) m → (x ≡ m) ⊎ Contains xs m
 Contains-cons x m xs (zero, below, is) = inl is

@@ -5,9 +5,9 @@ use Prim.Native.String.{String}
 use Rattle.serde_json.specs.Data.{Data, null, boolean, number, unsigned, negative, string, array, object, item, no_items, no_members}
 use Rattle.schemars_schema.specs.Json.{Text, json_eq}
 use Rattle.schemars_schema.specs.SchemaData.{object_of}
-use Rattle.schemars_types.specs.declared.shape.IntKind.TheVariants.{I8, U8, U128, I64}
-use Rattle.schemars_types.specs.Shape as shape
-use Rattle.schemars_types.specs.Shape.{Shape, Field, Required, in_place}
+use Rattle.schemars_shapes.specs.declared.shape.IntKind.TheVariants.{I8, U8, U128, I64}
+use Rattle.schemars_shapes.specs.Shape as shape
+use Rattle.schemars_shapes.specs.Shape.{Shape, Field, Required, in_place}
 use Rattle.schemars_types.specs.Rows.{Row}
 use Rattle.schemars_types.specs.Meaning.{Contract, Deserialize, Serialize, belongs, belongs_within}
 

@@ -6,7 +6,7 @@ use Rattle.std.specs.Str.{bytes_eq}
 use Rattle.schemars_schema.specs.Json.{Text}
 use Rattle.schemars_types.specs.declared.error.TypesError.{TypesError}
 use Rattle.schemars_types.specs.declared.error.TypesError.TheVariants.{AlreadyDefined}
-use Rattle.schemars_types.specs.Shape.{Shape, Entry, numbers_of}
+use Rattle.schemars_shapes.specs.Shape.{Shape, Entry, numbers_of}
 use Rattle.schemars_types.specs.Rows.{Row, place_of, entry_at, reserved, unknown_in, holds_another}
 use Rattle.schemars_types.specs.Refusals.{Refuses, refusal_of}
 use Rattle.schemars_types.proofs.TableLemmas.{place_of-reserved, reserved-absent}

@@ -11,8 +11,8 @@ use Rattle.std.proofs.lemmas.Slice.Eq.{bytes_eq-Decides}
 use Rattle.indexmap.specs.IndexMap.{insert_entry, set_value_at}
 use Rattle.schemars_schema.specs.Json.{Text}
 use Rattle.schemars_types.specs.declared.table.Slot.{Slot}
-use Rattle.schemars_types.specs.declared.shape.TypeEntry.{TypeEntry}
-use Rattle.schemars_types.specs.Shape.{Entry, entry_of}
+use Rattle.schemars_shapes.specs.declared.shape.TypeEntry.{TypeEntry}
+use Rattle.schemars_shapes.specs.Shape.{Entry, entry_of}
 use Rattle.schemars_types.specs.Rows.{Row, place_of, entry_at, reserved, defined}
 use Rattle.schemars_types.specs.Slots.{row_of}
 

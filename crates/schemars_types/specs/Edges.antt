@@ -1,10 +1,10 @@
 -- The edges of a table, as pairs of rows: a row refers to another.
-use Rattle.std.specs.Prelude.{◌≡◌, ◌<◌, ℕ, List, [], ◌∷◌, length, map, filter, Contains, Bool, true, false, nat_lt}
+use Rattle.std.specs.Prelude.{◌≡◌, ◌<◌, ℕ, List, [], length, filter, Contains, Bool, true, false, nat_lt}
 use Rattle.std.specs.Option.{option_map_or}
 use Rattle.schemars_schema.specs.Json.{Text}
-use Rattle.schemars_types.specs.Shape.{Shape, option, struct, newtype, numbers_of}
+use Rattle.schemars_shapes.specs.Shape.{numbers_of, same_value_numbers, names_of}
 use Rattle.schemars_types.specs.Rows.{Row, entry_at}
-use Rattle.schemars_types.specs.Walks.{longest}
+use Rattle.schemars_cycles.specs.Walks.{longest}
 
 -- the numbers in row n's entry; none where it has no entry
 abbrev pub numbers_at : List Row → ℕ → List ℕ
@@ -17,12 +17,7 @@ pub record RefersWithin (rows : List Row) : Type 0 where
 abbrev pub is_inline_at : List Row → ℕ → Bool
 is_inline_at rows n = option_map_or (λ e. e.inline) (entry_at rows n) false
 
--- the rows whose values a shape has itself
-abbrev pub same_value_numbers : Shape → List ℕ
-same_value_numbers (option n) = n ∷ []
-same_value_numbers (newtype n) = n ∷ []
-same_value_numbers _ = []
-
+-- the rows whose values row n has itself
 abbrev pub same_value_numbers_at : List Row → ℕ → List ℕ
 same_value_numbers_at rows n = option_map_or (λ e. same_value_numbers e.shape) (entry_at rows n) []
 
@@ -49,10 +44,6 @@ height rows n = longest (direct_targets rows) (length rows) n
 unfoldable pub rank : List Row → ℕ → ℕ
 rank rows n = longest (same_value_targets rows) (length rows) n
 
--- the names in a shape's list of fields, in order
-abbrev pub names_of : Shape → List Text
-names_of (struct list closed) = map (λ f. f.name) list
-names_of _ = []
-
+-- the names in row n's list of fields, in order
 abbrev pub names_at : List Row → ℕ → List Text
 names_at rows n = option_map_or (λ e. names_of e.shape) (entry_at rows n) []

@@ -1,9 +1,8 @@
 -- Whether a table begins with the rows of another, and tables without decimals in their notes.
 use Rattle.std.specs.Prelude.{List, [], ◌∷◌, Bool, true, false, ◌&&◌, ◌||◌, bytes_eq}
 use Rattle.std.specs.Option.{option_eq, option_map_or}
-use Rattle.serde_json.specs.Written.{members_have_float}
-use Rattle.schemars_types.specs.Shape.{Shape, Field, Entry, struct}
-use Rattle.schemars_types.specs.ShapeParts.{entry_eq}
+use Rattle.schemars_shapes.specs.Decimals.{entry_has_float}
+use Rattle.schemars_shapes.specs.ShapeParts.{entry_eq}
 use Rattle.schemars_types.specs.Rows.{Row}
 
 -- the same id and name, and equal entries, or none
@@ -17,17 +16,6 @@ begins_with [] (f ∷ first) = false
 begins_with (r ∷ rows) (f ∷ first) = row_eq r f && begins_with rows first
 
 -- ---- decimals
-
-abbrev pub fields_have_float : List Field → Bool
-fields_have_float [] = false
-fields_have_float (f ∷ fs) = members_have_float f.notes || fields_have_float fs
-
-abbrev pub shape_has_float : Shape → Bool
-shape_has_float (struct list closed) = fields_have_float list
-shape_has_float _ = false
-
-abbrev pub entry_has_float : Entry → Bool
-entry_has_float e = members_have_float e.notes || shape_has_float e.shape
 
 -- a number that is no 64-bit whole number stands in the notes of a row
 abbrev pub rows_have_float : List Row → Bool

@@ -3,8 +3,8 @@ use Rattle.std.specs.Prelude.{◌≡◌, ◌<◌, ◌≤◌, ℕ, List, length, 
 use Rattle.std.specs.List.{IsDistinct}
 use Rattle.schemars_schema.specs.Json.{Text}
 use Rattle.schemars_types.specs.Rows.{Row, entry_at}
-use Rattle.schemars_types.specs.Walks.{OnCycle, IsFree, IsLeast}
-use Rattle.schemars_types.specs.Repeated.{IsRepeated}
+use Rattle.schemars_cycles.specs.Walks.{OnCycle, IsFree, IsLeast}
+use Rattle.schemars_shapes.specs.Repeated.{IsRepeated}
 use Rattle.schemars_types.specs.Edges.{RefersWithin, DirectEdge, SameValueEdge, height, rank, names_at}
 use Rattle.schemars_types.specs.declared.error.TypesError.{TypesError}
 use Rattle.schemars_types.specs.declared.error.TypesError.TheVariants.{UndefinedType, RepeatedName, DirectCycle, EmptyCycle}

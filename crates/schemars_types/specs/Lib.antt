@@ -1,16 +1,10 @@
-pub mod IntKind
-pub mod Shape
-pub mod ShapeParts
 pub mod Rows
 pub mod RowCode
 pub mod Slots
 pub mod Refusals
 pub mod Names
 pub mod Meaning
-pub mod Walks
-pub mod Search
 pub mod Edges
 pub mod EdgeKind
-pub mod Repeated
 pub mod Faults
 pub mod Extends

@@ -2,8 +2,8 @@
 use Rattle.std.specs.Prelude.{ℕ, ◌==◌, if◌then◌else◌, ◌++◌, codes}
 use Rattle.std.specs.Fmt.{decimal}
 use Rattle.schemars_schema.specs.Json.{Text}
-use Rattle.schemars_types.specs.declared.shape.IntKind.{IntKind}
-use Rattle.schemars_types.specs.IntKind.{non_zero_name}
+use Rattle.schemars_shapes.specs.declared.shape.IntKind.{IntKind}
+use Rattle.schemars_shapes.specs.IntKind.{non_zero_name}
 
 abbrev pub non_zero_id : IntKind → Text
 non_zero_id k = codes "std::num::" ++ non_zero_name k

@@ -3,8 +3,8 @@ use Rattle.std.specs.Prelude.{ℕ, zero, suc, ◌++◌, List, [], ◌∷◌, Boo
 use Rattle.std.specs.List.{position_from}
 use Rattle.std.specs.Option.{option_map_or}
 use Rattle.schemars_schema.specs.Json.{Text}
-use Rattle.schemars_types.specs.Shape.{Shape, Entry, numbers_of}
-use Rattle.schemars_types.specs.ShapeParts.{entry_eq}
+use Rattle.schemars_shapes.specs.Shape.{Shape, Entry, numbers_of}
+use Rattle.schemars_shapes.specs.ShapeParts.{entry_eq}
 
 pub record Row : Type 0 where
   pub id : Text

@@ -2,7 +2,7 @@
 use Rattle.std.specs.Prelude.{◌≡◌, String, string_bytes, option_map}
 use Rattle.std.specs.declared.alloc.Global.{Global}
 use Rattle.schemars_types.specs.declared.table.Slot.{Slot}
-use Rattle.schemars_types.specs.Shape.{entry_of}
+use Rattle.schemars_shapes.specs.Shape.{entry_of}
 use Rattle.schemars_types.specs.Rows.{Row}
 
 abbrev pub row_of : String Global × Slot → Row

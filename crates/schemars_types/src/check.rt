@@ -1,16 +1,16 @@
 //! The faults of a table.
 ghost use Rattle.std.specs.Prelude.{◌≡◌, ◌<◌, ◌⊎◌, ℕ, length, map, filter, None, IfOk, OnOk, IfErr, MatchOption, nat_lt, string_bytes, bytes_eq};
 ghost use Rattle.std.specs.List.{IsDistinct};
-ghost use Rattle.schemars_types.specs.Walks.{Leads, OnCycle, IsFree, IsLeast};
-ghost use Rattle.schemars_types.specs.Search.{HasTargets};
+ghost use Rattle.schemars_cycles.specs.Walks.{Leads, OnCycle, IsFree, IsLeast};
+ghost use Rattle.schemars_cycles.specs.Search.{HasTargets};
 ghost use Rattle.schemars_types.specs.Edges.{RefersWithin, is_inline_at, names_at};
 ghost use Rattle.schemars_types.specs.EdgeKind.{numbers_along, leads_to, targets_along};
-ghost use Rattle.schemars_types.specs.Repeated.{IsRepeated};
+ghost use Rattle.schemars_shapes.specs.Repeated.{IsRepeated};
 ghost use Rattle.schemars_types.specs.Faults.{IsUndefined, IsAccepted, IsChecked, Refusal};
 
-use crate::cycles::least_on_cycle;
+use schemars_cycles::least_on_cycle;
 use crate::error::TypesError;
-use crate::shape::TypeNo;
+use schemars_shapes::TypeNo;
 use crate::table::Types;
 use std::alloc::{AllocError, Global};
 

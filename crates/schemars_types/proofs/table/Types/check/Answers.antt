@@ -1,8 +1,8 @@
 use Rattle.std.proofs.Common.{inr, string_bytes}
 use Rattle.std.proofs.lemmas.Option.{MatchOption-at_some, MatchOption-at_none}
-use Rattle.schemars_types.specs.Walks.{IsLeast}
+use Rattle.schemars_cycles.specs.Walks.{IsLeast}
 use Rattle.schemars_types.specs.Edges.{names_at}
-use Rattle.schemars_types.specs.Repeated.{IsRepeated}
+use Rattle.schemars_shapes.specs.Repeated.{IsRepeated}
 use Rattle.schemars_types.specs.Faults.{HasRepeated, OnDirectCycle, OnEmptyCycle}
 use Rattle.schemars_types.proofs.Accepted.{none_repeated, least_repeated, direct_cycles, empty_cycles, checked}
 use Rattle.schemars_types.proofs.table.Types.check.Goals as goal

@@ -1,6 +1,6 @@
 use Rattle.std.proofs.Common.{MatchOption, sym, subst}
-use Rattle.schemars_types.specs.Search.{Graph, IsClosed, targets_in}
-use Rattle.schemars_types.specs.Walks.{Leads, OnCycle, IsFree, IsLeast}
+use Rattle.schemars_cycles.specs.Search.{Graph, IsClosed, targets_in}
+use Rattle.schemars_cycles.specs.Walks.{Leads, OnCycle, IsFree, IsLeast}
 use Rattle.schemars_types.proofs.EdgeLemmas.{graph_closed, cycles_alike}
 use Rattle.schemars_types.proofs.table.Types.first_on_cycle.Goals as goal
 

@@ -1,5 +1,5 @@
 -- The rows before have their targets.
-use Rattle.schemars_types.specs.Search.{HasTargets}
+use Rattle.schemars_cycles.specs.Search.{HasTargets}
 use Rattle.schemars_types.specs.EdgeKind.{targets_along}
 use Rattle.schemars_types.proofs.table.Types.graph.Given as goal
 

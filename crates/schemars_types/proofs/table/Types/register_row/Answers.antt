@@ -1,6 +1,6 @@
 use Rattle.std.proofs.Common.{◌≡◌, None, Some, string_bytes, ap, ◌∙◌, sym}
 use Rattle.std.proofs.lemmas.Result.{err_from_is_err_and}
-use Rattle.schemars_types.specs.Shape.{Entry, shape_of, without_notes}
+use Rattle.schemars_shapes.specs.Shape.{Entry, shape_of, without_notes}
 use Rattle.schemars_types.specs.Rows.{place_of, reserved, defined}
 use Rattle.schemars_types.specs.Refusals.{Refuses, refusal_of}
 use Rattle.schemars_types.proofs.TableLemmas.{place_of-defined}

@@ -1,7 +1,7 @@
 use Rattle.std.proofs.Common.{◌≡◌, Some, map, slice_get, ap, ◌∙◌, sym, subst, rules}
 use Rattle.std.specs.Map.{values_of}
 use Rattle.indexmap.specs.IndexMap.{set_value_at}
-use Rattle.schemars_types.specs.Shape.{entry_of}
+use Rattle.schemars_shapes.specs.Shape.{entry_of}
 use Rattle.schemars_types.specs.Rows.{defined}
 use Rattle.schemars_types.specs.Edges.{RefersWithin}
 use Rattle.schemars_types.specs.Slots.{row_of}

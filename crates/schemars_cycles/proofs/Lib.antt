@@ -1,0 +1,3 @@
+pub mod GraphLemmas
+pub mod Reaching
+pub mod Heights

@@ -1,0 +1,4 @@
+pub mod FieldLemmas
+pub mod EqualEntries
+pub mod SelfEqual
+pub mod Copies

@@ -1,0 +1,90 @@
+-- An entry without decimals equals itself.
+use Rattle.std.proofs.Common.{ℕ, ◌≡◌, ◌||◌, Bool, true, false, List, [], ◌∷◌, refl, true≢false}
+use Rattle.std.specs.Cmp.{signed_Decides}
+use Rattle.std.specs.Str.{bytes_eq}
+use Rattle.std.proofs.lemmas.Bool.Decides.{Decides-eqb}
+use Rattle.std.proofs.lemmas.Slice.Eq.{bytes_eq-Decides}
+use Rattle.serde_json.specs.Data.{Num, unsigned, negative, float, Data, null, boolean, number, string, array, object, Items, no_items, item, Members, no_members, member}
+use Rattle.serde_json.specs.Find.{is_float}
+use Rattle.serde_json.specs.Written.{has_float, items_have_float, members_have_float}
+use Rattle.schemars_schema.specs.Json.{num_eq, json_eq, items_eq, members_eq}
+use Rattle.schemars_shapes.specs.declared.shape.IntKind.{IntKind}
+use Rattle.schemars_shapes.specs.IntKind.{kind_eq, kind_number}
+use Rattle.schemars_shapes.specs.Shape.{Required, Field, Shape, Entry, null, bool, int, non_zero, number, text, char, formatted, any, bytes, schema_itself, option, seq, set, array as array_shape, up_to, tuple, struct, newtype}
+use Rattle.schemars_shapes.specs.ShapeParts.{bool_eq, required_eq, field_eq, numbers_eq, list_eq, shape_eq, entry_eq}
+use Rattle.schemars_shapes.specs.Decimals.{fields_have_float, shape_has_float, entry_has_float}
+
+pub neither : (a b : Bool) → a || b ≡ false → (a ≡ false) × (b ≡ false)
+neither true b h = absurd (true≢false h)
+neither false b h = (refl, h)
+
+bool_eq-refl : (a : Bool) → bool_eq a a ≡ true
+bool_eq-refl true = refl
+bool_eq-refl false = refl
+
+num_eq-refl : (n : Num) → is_float n ≡ false → num_eq n n ≡ true
+num_eq-refl (unsigned n) h = (Decides-eqb n n).1 refl
+num_eq-refl (negative z) h = (signed_Decides z z).1 refl
+num_eq-refl (float x) h = absurd (true≢false h)
+
+mutual
+  unfolding json_eq items_eq members_eq
+
+  json_eq-refl : (d : Data) → has_float d ≡ false → json_eq d d ≡ true
+  json_eq-refl null h = refl
+  json_eq-refl (boolean b) h = bool_eq-refl b
+  json_eq-refl (number n) h = num_eq-refl n h
+  json_eq-refl (string s) h = (bytes_eq-Decides s s).1 refl
+  json_eq-refl (array ds) h = items_eq-refl ds h
+  json_eq-refl (object ms) h = members_eq-refl ms h
+
+  items_eq-refl : (ds : Items) → items_have_float ds ≡ false → items_eq ds ds ≡ true
+  items_eq-refl no_items h = refl
+  items_eq-refl (item d ds) h = let parts = neither (has_float d) (items_have_float ds) h in rw (json_eq-refl d parts.0, items_eq-refl ds parts.1) refl
+
+  members_eq-refl : (ms : Members) → members_have_float ms ≡ false → members_eq ms ms ≡ true
+  members_eq-refl no_members h = refl
+  members_eq-refl (member k d ms) h =
+      let parts = neither (has_float d) (members_have_float ms) h in rw ((bytes_eq-Decides k k).1 refl, json_eq-refl d parts.0, members_eq-refl ms parts.1) refl
+
+required_eq-refl : (r : Required) → required_eq r r ≡ true
+required_eq-refl r = rw (bool_eq-refl r.deserialize, bool_eq-refl r.serialize) refl
+
+field_eq-refl : (f : Field) → members_have_float f.notes ≡ false → field_eq f f ≡ true
+field_eq-refl f h = rw ((bytes_eq-Decides f.name f.name).1 refl, (Decides-eqb f.ty f.ty).1 refl, bool_eq-refl f.required.deserialize, bool_eq-refl f.required.serialize, members_eq-refl f.notes h) refl
+
+list_eq-refl : (fs : List Field) → fields_have_float fs ≡ false → list_eq fs fs ≡ true
+list_eq-refl [] h = refl
+list_eq-refl (f ∷ fs) h = let parts = neither (members_have_float f.notes) (fields_have_float fs) h in rw (field_eq-refl f parts.0, list_eq-refl fs parts.1) refl
+
+kind_eq-refl : (k : IntKind) → kind_eq k k ≡ true
+kind_eq-refl k = (Decides-eqb (kind_number k) (kind_number k)).1 refl
+
+numbers_eq-refl : (ns : List ℕ) → numbers_eq ns ns ≡ true
+numbers_eq-refl [] = refl
+numbers_eq-refl (n ∷ ns) = rw ((Decides-eqb n n).1 refl, numbers_eq-refl ns) refl
+
+shape_eq-refl : (s : Shape) → shape_has_float s ≡ false → shape_eq s s ≡ true
+shape_eq-refl null h = refl
+shape_eq-refl bool h = refl
+shape_eq-refl (int k) h = rw (kind_eq-refl k) refl
+shape_eq-refl (non_zero k) h = rw (kind_eq-refl k) refl
+shape_eq-refl number h = refl
+shape_eq-refl text h = refl
+shape_eq-refl char h = refl
+shape_eq-refl (formatted s) h = rw ((bytes_eq-Decides s s).1 refl) refl
+shape_eq-refl any h = refl
+shape_eq-refl bytes h = refl
+shape_eq-refl schema_itself h = refl
+shape_eq-refl (option n) h = rw ((Decides-eqb n n).1 refl) refl
+shape_eq-refl (seq n) h = rw ((Decides-eqb n n).1 refl) refl
+shape_eq-refl (set n) h = rw ((Decides-eqb n n).1 refl) refl
+shape_eq-refl (array_shape n len) h = rw ((Decides-eqb n n).1 refl, (Decides-eqb len len).1 refl) refl
+shape_eq-refl (up_to n cap) h = rw ((Decides-eqb n n).1 refl, (Decides-eqb cap cap).1 refl) refl
+shape_eq-refl (tuple ns) h = rw (numbers_eq-refl ns) refl
+shape_eq-refl (struct list closed) h = rw (bool_eq-refl closed, list_eq-refl list h) refl
+shape_eq-refl (newtype n) h = rw ((Decides-eqb n n).1 refl) refl
+
+pub entry_eq-refl : (e : Entry) → entry_has_float e ≡ false → entry_eq e e ≡ true
+entry_eq-refl e h =
+    let parts = neither (members_have_float e.notes) (shape_has_float e.shape) h in rw (bool_eq-refl e.inline, shape_eq-refl e.shape parts.1, members_eq-refl e.notes parts.0) refl

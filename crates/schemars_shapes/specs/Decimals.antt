@@ -1,0 +1,15 @@
+-- Entries without decimals in their notes: numbers that are no 64-bit whole numbers.
+use Rattle.std.specs.Prelude.{List, [], ◌∷◌, Bool, false, ◌||◌}
+use Rattle.serde_json.specs.Written.{members_have_float}
+use Rattle.schemars_shapes.specs.Shape.{Shape, Field, Entry, struct}
+
+abbrev pub fields_have_float : List Field → Bool
+fields_have_float [] = false
+fields_have_float (f ∷ fs) = members_have_float f.notes || fields_have_float fs
+
+abbrev pub shape_has_float : Shape → Bool
+shape_has_float (struct list closed) = fields_have_float list
+shape_has_float _ = false
+
+abbrev pub entry_has_float : Entry → Bool
+entry_has_float e = members_have_float e.notes || shape_has_float e.shape

@@ -1,0 +1,118 @@
+-- What an entry of a table says: a row's shape, whether it is written in place, and its notes.
+use Rattle.std.specs.Prelude.{ℕ, ◌==◌, if◌then◌else◌, List, [], ◌∷◌, map, Bool, true, string_bytes}
+use Rattle.serde_json.specs.Data.{Members, no_members}
+use Rattle.serde_json.specs.View.{members_view}
+use Rattle.schemars_schema.specs.Json.{Text}
+use Rattle.schemars_shapes.specs.declared.shape.IntKind.{IntKind}
+use Rattle.schemars_shapes.specs.declared.shape.Required as src-required
+use Rattle.schemars_shapes.specs.declared.shape.Field as src-field
+use Rattle.schemars_shapes.specs.declared.shape.Fields as src-fields
+use Rattle.schemars_shapes.specs.declared.shape.TypeEntry as src-entry
+use Rattle.schemars_shapes.specs.declared.shape.Shape as src-shape
+use Rattle.schemars_shapes.specs.declared.shape.Shape.TheVariants as src
+
+-- whether a member has to be there, in values that are read and in those that are written
+pub record Required : Type 0 where
+  pub deserialize : Bool
+  pub serialize : Bool
+
+pub record Field : Type 0 where
+  pub name : Text
+  pub ty : ℕ
+  pub required : Required
+  pub notes : Members
+
+-- Numbers are those of rows. An array has just so many items, and `up_to` has so many at most. A struct has fields, in order, and may be closed to other keys.
+pub data Shape : Type 0 where
+  null : Shape
+  bool : Shape
+  int : IntKind → Shape
+  non_zero : IntKind → Shape
+  number : Shape
+  text : Shape
+  char : Shape
+  formatted : Text → Shape
+  any : Shape
+  bytes : Shape
+  schema_itself : Shape
+  option : ℕ → Shape
+  seq : ℕ → Shape
+  set : ℕ → Shape
+  array : ℕ → ℕ → Shape
+  up_to : ℕ → ℕ → Shape
+  tuple : List ℕ → Shape
+  struct : List Field → Bool → Shape
+  newtype : ℕ → Shape
+
+pub record Entry : Type 0 where
+  pub inline : Bool
+  pub notes : Members
+  pub shape : Shape
+
+abbrev pub required_of : src-required.Required → Required
+required_of r = record { deserialize = r.deserialize; serialize = r.serialize }
+
+abbrev pub field_of : src-field.Field → Field
+field_of f = record { name = string_bytes f.name; ty = f.ty; required = required_of f.required; notes = members_view f.notes.entries }
+
+-- the fields, and whether other keys are excluded
+abbrev pub fields_view : src-fields.Fields → List Field × Bool
+fields_view fields = (map field_of fields.list.items, fields.closed)
+
+abbrev pub shape_of : src-shape.Shape → Shape
+shape_of src.Null = null
+shape_of src.Bool = bool
+shape_of (src.Int k) = int k
+shape_of (src.NonZero k) = non_zero k
+shape_of src.Number = number
+shape_of src.Text = text
+shape_of src.Char = char
+shape_of (src.Formatted s) = formatted (string_bytes s)
+shape_of src.Any = any
+shape_of src.Bytes = bytes
+shape_of src.SchemaItself = schema_itself
+shape_of (src.Option n) = option n
+shape_of (src.Seq n) = seq n
+shape_of (src.Set n) = set n
+shape_of (src.Array n len) = array n len
+shape_of (src.UpTo n cap) = up_to n cap
+shape_of (src.Tuple parts) = tuple parts.items
+shape_of (src.Struct fields) = struct (fields_view fields).0 (fields_view fields).1
+shape_of (src.Newtype n) = newtype n
+
+abbrev pub entry_of : src-entry.TypeEntry → Entry
+entry_of e = record { inline = e.inline; notes = members_view e.notes.entries; shape = shape_of e.shape }
+
+-- an array of no items is the empty tuple
+abbrev pub array_of : ℕ → ℕ → Shape
+array_of n len = if len == 0 then tuple [] else array n len
+
+abbrev pub without_notes : Bool → Shape → Entry
+without_notes inline s = record { inline = inline; notes = no_members; shape = s }
+
+-- written in place, without notes
+abbrev pub in_place : Shape → Entry
+in_place s = without_notes true s
+
+-- the rows that a shape refers to, as they are written
+abbrev pub numbers_of : Shape → List ℕ
+numbers_of (option n) = n ∷ []
+numbers_of (seq n) = n ∷ []
+numbers_of (set n) = n ∷ []
+numbers_of (array n len) = n ∷ []
+numbers_of (up_to n cap) = n ∷ []
+numbers_of (tuple ns) = ns
+numbers_of (struct list closed) = map (λ f. f.ty) list
+numbers_of (newtype n) = n ∷ []
+numbers_of _ = []
+
+-- the rows whose values a shape has itself
+abbrev pub same_value_numbers : Shape → List ℕ
+same_value_numbers (option n) = n ∷ []
+same_value_numbers (newtype n) = n ∷ []
+same_value_numbers _ = []
+
+-- the names in a shape's list of fields, in order
+abbrev pub names_of : Shape → List Text
+names_of (struct list closed) = map (λ f. f.name) list
+names_of _ = []

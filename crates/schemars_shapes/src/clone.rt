@@ -1,0 +1,79 @@
+//! Copies that say the same as what they are made of.
+use crate::shape::{Field, Fields, Shape, TypeEntry};
+use std::alloc::AllocError;
+
+impl Clone for TypeEntry {
+    ghost use Rattle.std.specs.Prelude.{◌≡◌};
+    ghost use Rattle.schemars_shapes.specs.Shape.{entry_of};
+
+    ghost is_clone = { λ e f. entry_of f ≡ entry_of e };
+
+    fn clone(&self) -> Result<TypeEntry, AllocError> {
+        Ok(TypeEntry {
+            inline: self.inline,
+            notes: self.notes.clone()?,
+            shape: self.shape.clone()?,
+        })
+    }
+}
+
+impl Clone for Shape {
+    ghost use Rattle.std.specs.Prelude.{◌≡◌};
+    ghost use Rattle.schemars_shapes.specs.Shape.{shape_of};
+
+    ghost is_clone = { λ s t. shape_of t ≡ shape_of s };
+
+    fn clone(&self) -> Result<Shape, AllocError> {
+        Ok(match self {
+            Shape::Null => Shape::Null,
+            Shape::Bool => Shape::Bool,
+            Shape::Int(kind) => Shape::Int(*kind),
+            Shape::NonZero(kind) => Shape::NonZero(*kind),
+            Shape::Number => Shape::Number,
+            Shape::Text => Shape::Text,
+            Shape::Char => Shape::Char,
+            Shape::Formatted(format) => Shape::Formatted(format.clone()?),
+            Shape::Any => Shape::Any,
+            Shape::Bytes => Shape::Bytes,
+            Shape::SchemaItself => Shape::SchemaItself,
+            Shape::Option(n) => Shape::Option(*n),
+            Shape::Seq(n) => Shape::Seq(*n),
+            Shape::Set(n) => Shape::Set(*n),
+            Shape::Array(n, len) => Shape::Array(*n, *len),
+            Shape::UpTo(n, cap) => Shape::UpTo(*n, *cap),
+            Shape::Tuple(parts) => Shape::Tuple(parts.clone()?),
+            Shape::Struct(fields) => Shape::Struct(fields.clone()?),
+            Shape::Newtype(n) => Shape::Newtype(*n),
+        })
+    }
+}
+
+impl Clone for Fields {
+    ghost use Rattle.std.specs.Prelude.{◌≡◌};
+    ghost use Rattle.schemars_shapes.specs.Shape.{fields_view};
+
+    ghost is_clone = { λ f g. fields_view g ≡ fields_view f };
+
+    fn clone(&self) -> Result<Fields, AllocError> {
+        Ok(Fields {
+            list: self.list.clone()?,
+            closed: self.closed,
+        })
+    }
+}
+
+impl Clone for Field {
+    ghost use Rattle.std.specs.Prelude.{◌≡◌};
+    ghost use Rattle.schemars_shapes.specs.Shape.{field_of};
+
+    ghost is_clone = { λ f g. field_of g ≡ field_of f };
+
+    fn clone(&self) -> Result<Field, AllocError> {
+        Ok(Field {
+            name: self.name.clone()?,
+            ty: self.ty,
+            required: self.required,
+            notes: self.notes.clone()?,
+        })
+    }
+}

@@ -1,7 +1,0 @@
-use Rattle.schemars_types.proofs.Copies.{map-field_of-copied}
-use Rattle.schemars_types.proofs.clone.FieldsClone.clone.Goals as goal
-
-pub returns : goal.returns
-returns c =
-    let list = map-field_of-copied c.args.self.now.list.items c.in_ok-clone.field-0.items c.in_ok-clone.ensures.cases.0 in
-    record { cases = λ i. (list i, c.args.self.now.closed) }
