@@ -1,20 +1,9 @@
 //! Reads a table of types from standard input, and writes the JSON Schema of its root.
 #![tactic(auto)]
 
-mod fault;
-#[cfg(test)]
-mod generator_tests;
-mod input;
-#[cfg(test)]
-mod input_tests;
-mod run;
-mod streams;
-#[cfg(test)]
-mod tests;
-
-use crate::fault::{Fault, OUT_OF_MEMORY};
-use crate::run::run;
-use crate::streams::{SinkOf, SourceOf};
+use schemagen_run::fault::{Fault, OUT_OF_MEMORY};
+use schemagen_run::run::run;
+use schemagen_run::streams::{SinkOf, SourceOf};
 use std::alloc::{Alloc, Global};
 use std::env::Env;
 use std::io::{ErrorKind, Input, Print};

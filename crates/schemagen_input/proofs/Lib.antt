@@ -1,0 +1,3 @@
+-- The lemmas of the proofs.
+pub mod Reading
+mod Examples

@@ -1,0 +1,31 @@
+-- How a table is read: the headings of all rows first, and then their entries.
+use Rattle.std.specs.Prelude.{ℕ, List, [], ◌∷◌, ◌++◌, Option, Some, None, option_map, option_and_then, if◌then◌else◌}
+use Rattle.serde_json.specs.Data.{Items, no_items, item}
+use Rattle.schemars_types.specs.Rows.{Row}
+use Rattle.schemars_types.specs.declared.error.TypesError.{TypesError}
+use Rattle.schemars_types.specs.declared.error.TypesError.TheVariants as types
+use Rattle.schemagen_input.specs.declared.input.InputError.{InputError}
+use Rattle.schemagen_input.specs.declared.input.InputError.TheVariants.{OutOfMemory, BadTable}
+use Rattle.schemagen_input.specs.Input.{heading_in, rows_in, all_differ, ids_of, all_fit}
+
+-- the refusal of a table's call as one of the whole input
+abbrev pub as_input : TypesError → InputError
+as_input types.OutOfMemory = OutOfMemory
+as_input (types.UndefinedType n) = BadTable
+as_input (types.RepeatedName n name) = BadTable
+as_input (types.DirectCycle n) = BadTable
+as_input (types.EmptyCycle n) = BadTable
+as_input (types.AlreadyDefined n) = BadTable
+as_input (types.UnknownType n) = BadTable
+
+abbrev pub headings_in : Items → Option (List Row)
+headings_in no_items = Some []
+headings_in (item d ds) = option_and_then (λ r. option_map (λ rs. r ∷ rs) (headings_in ds)) (heading_in d)
+
+-- the rows whose ids differ, where these come after the rows so far
+abbrev pub reserved_after : List Row → Items → Option (List Row)
+reserved_after done ds = option_and_then (λ rs. if all_differ (ids_of (done ++ rs)) then Some (done ++ rs) else None) (headings_in ds)
+
+-- the rows that fit into a table of so many, where these come after the rows so far
+abbrev pub fitting_after : ℕ → List Row → Items → Option (List Row)
+fitting_after count done ds = option_and_then (λ rs. if all_fit count (done ++ rs) then Some (done ++ rs) else None) (rows_in ds)

@@ -1,0 +1,533 @@
+//! The table that a JSON value says.
+ghost use Rattle.std.specs.Prelude.{◌≡◌, ◌&&◌, ◌∷◌, [], false, true, None, Some, IfOk, IfErr, option_map, string_bytes, length, map, codes};
+ghost use Rattle.std.specs.List.{list_all};
+ghost use Rattle.serde_json.specs.View.{view, items_view, members_view};
+ghost use Rattle.schemars_types.specs.Shape.{shape_of, field_of, fields_view, required_of, entry_of, formatted, struct};
+ghost use Rattle.schemars_schema.specs.OrderedText.{is_listed};
+ghost use Rattle.schemagen_input.specs.Input.{has_only, lone_in, number_in, notes_in, kind_named, kind_in, required, required_each, required_in, field_in, fields_in, list_in, struct_in, counted_in, array_in, up_to_in, numbers_in, tuple_in, list_under, plain_under};
+ghost use Rattle.schemagen_input.specs.Input.{shape_named, shape_under, shape_in, entry_in, optional, needed, heading_in, unentered, are_none, are_fields_bare, is_bare, input_of};
+ghost use Rattle.schemagen_input.specs.Reading.{as_input, headings_in, reserved_after, fitting_after};
+ghost use Rattle.serde_json.specs.Find.{as_bool, as_str, as_array};
+
+use schemars_types::{
+    Field, Fields, IntKind, Required, Shape, TypeEntry, TypeNo, Types, TypesError,
+};
+use serde_json::{Map, Value};
+use std::alloc::{AllocError, AllocFailed, Global};
+
+/// Why a value is no input.
+#[derive(Clone, Copy, Debug, PartialEq, Eq)]
+pub enum InputError {
+    /// Memory ran out.
+    OutOfMemory,
+    /// The value is no table with a root.
+    BadTable,
+}
+
+impl From<AllocError> for InputError {
+    ghost use Rattle.schemagen_input.specs.declared.input.InputError.TheVariants.{OutOfMemory};
+
+    ghost from_gives = { λ _ e. e ≡ OutOfMemory };
+
+    fn from(_e: AllocError) -> InputError {
+        InputError::OutOfMemory
+    }
+}
+
+impl<T: Drop> From<AllocFailed<T>> for InputError {
+    ghost use Rattle.schemagen_input.specs.declared.input.InputError.TheVariants.{OutOfMemory};
+
+    ghost from_gives = { λ _ e. e ≡ OutOfMemory };
+
+    fn from(_e: AllocFailed<T>) -> InputError {
+        InputError::OutOfMemory
+    }
+}
+
+impl From<TypesError> for InputError {
+    ghost from_gives = { λ e r. r ≡ as_input e };
+
+    fn from(e: TypesError) -> InputError {
+        match e {
+            TypesError::OutOfMemory => InputError::OutOfMemory,
+            _ => InputError::BadTable,
+        }
+    }
+}
+
+fn is_listed(name: &str, names: &[&str]) -> bool
+    ensures { result ≡ is_listed name.now (map (λ n. n.now) names.now) }
+{
+    for listed in names {
+        if name == *listed {
+            return true;
+        }
+    }
+    false
+}
+
+// Whether the value is an object whose members all have one of these names.
+fn has_only(value: &Value, names: &[&str]) -> bool
+    ensures { result ≡ has_only (map (λ n. n.now) names.now) (view value.now) }
+{
+    let Some(members) = value.as_object() else {
+        return false;
+    };
+    for (name, _) in members.iter() {
+        if !is_listed(name.as_str(), names) {
+            return false;
+        }
+    }
+    true
+}
+
+// The member of an object that has no other.
+fn lone_member(members: &Map<String, Value>) -> Option<(&String, &Value)>
+    ensures { option_map (λ m. (string_bytes m.0.now, view m.1.now)) result
+        ≡ lone_in (members_view members.now.entries) }
+{
+    let mut entries = members.iter();
+    match (entries.next(), entries.next()) {
+        (Some(member), None) => Some(member),
+        _ => None,
+    }
+}
+
+fn number_in(value: &Value) -> Option<TypeNo>
+    ensures { result ≡ number_in (view value.now) }
+{
+    let number = value.as_u64()?;
+    Some(number as usize)
+}
+
+fn kind_named(name: &str) -> Option<IntKind>
+    ensures { result ≡ kind_named name.now }
+{
+    match name {
+        "i8" => Some(IntKind::I8),
+        "i16" => Some(IntKind::I16),
+        "i32" => Some(IntKind::I32),
+        "i64" => Some(IntKind::I64),
+        "i128" => Some(IntKind::I128),
+        "isize" => Some(IntKind::Isize),
+        "u8" => Some(IntKind::U8),
+        "u16" => Some(IntKind::U16),
+        "u32" => Some(IntKind::U32),
+        "u64" => Some(IntKind::U64),
+        "u128" => Some(IntKind::U128),
+        "usize" => Some(IntKind::Usize),
+        _ => None,
+    }
+}
+
+fn kind_in(value: &Value) -> Option<IntKind>
+    ensures { result ≡ kind_in (view value.now) }
+{
+    kind_named(value.as_str()?)
+}
+
+fn shape_named(name: &str) -> Option<Shape>
+    ensures { option_map shape_of result ≡ shape_named name.now }
+{
+    match name {
+        "null" => Some(Shape::Null),
+        "bool" => Some(Shape::Bool),
+        "number" => Some(Shape::Number),
+        "text" => Some(Shape::Text),
+        "char" => Some(Shape::Char),
+        "any" => Some(Shape::Any),
+        "bytes" => Some(Shape::Bytes),
+        "schema" => Some(Shape::SchemaItself),
+        _ => None,
+    }
+}
+
+// The text of a member that has to be there.
+fn text_in<'v>(value: &'v Value, name: &str) -> Option<&'v str>
+    ensures { option_map (λ t. t.now) result ≡ needed as_str name.now (view value.now) }
+{
+    value.get(name)?.as_str()
+}
+
+// The number of a member that has to be there.
+fn number_of(value: &Value, name: &str) -> Option<TypeNo>
+    ensures { result ≡ needed number_in name.now (view value.now) }
+{
+    number_in(value.get(name)?)
+}
+
+// The truth value of a member; one that is missing is false.
+fn flag_in(value: &Value, name: &str) -> Option<bool>
+    ensures { result ≡ optional false as_bool name.now (view value.now) }
+{
+    match value.get(name) {
+        None => Some(false),
+        Some(flag) => flag.as_bool(),
+    }
+}
+
+fn notes_in(alloc: Global, value: &Value) -> Result<Map<String, Value>, InputError>
+    ensures ok { IfOk result (λ m. notes_in (view value.now) ≡ Some (members_view m.entries)) }
+    ensures bad { IfErr result (λ e. e ≡ InputError.BadTable → notes_in (view value.now) ≡ None) }
+{
+    let Some(notes) = value.get("notes") else {
+        return Ok(Map::new(alloc));
+    };
+    match notes.clone()? {
+        Value::Object(members) => Ok(members),
+        _ => Err(InputError::BadTable),
+    }
+}
+
+// Whether a member has to be there, said for values that are read and for those that are written.
+fn required_each(value: &Value) -> Option<Required>
+    ensures { option_map required_of result ≡ required_each (view value.now) }
+{
+    if !has_only(value, &["deserialize", "serialize"]) {
+        return None;
+    }
+    let deserialize = value.get("deserialize")?.as_bool()?;
+    let serialize = value.get("serialize")?.as_bool()?;
+    Some(Required {
+        deserialize,
+        serialize,
+    })
+}
+
+fn required_in(value: &Value) -> Option<Required>
+    ensures { option_map required_of result ≡ required_in (view value.now) }
+{
+    match value.as_bool() {
+        Some(both) => Some(Required {
+            deserialize: both,
+            serialize: both,
+        }),
+        None => required_each(value),
+    }
+}
+
+// What a field says under `required`; where that is missing, it has to be there.
+fn need_in(value: &Value) -> Option<Required>
+    ensures { option_map required_of result
+        ≡ optional (required true true) required_in (codes "required") (view value.now) }
+{
+    match value.get("required") {
+        None => Some(Required {
+            deserialize: true,
+            serialize: true,
+        }),
+        Some(need) => required_in(need),
+    }
+}
+
+const FIELD_NAMES: [&str; 4] = ["name", "type", "required", "notes"];
+
+fn field_in(alloc: Global, value: &Value) -> Result<Field, InputError>
+    ensures ok { IfOk result (λ f. field_in (view value.now) ≡ Some (field_of f)) }
+    ensures bad { IfErr result (λ e. e ≡ InputError.BadTable → field_in (view value.now) ≡ None) }
+{
+    if !has_only(value, &FIELD_NAMES) {
+        return Err(InputError::BadTable);
+    }
+    let (Some(name), Some(ty), Some(required)) = (
+        text_in(value, "name"),
+        number_of(value, "type"),
+        need_in(value),
+    ) else {
+        return Err(InputError::BadTable);
+    };
+    let notes = notes_in(alloc, value)?;
+    let name = String::from_str(alloc, name)?;
+    Ok(Field {
+        name,
+        ty,
+        required,
+        notes,
+    })
+}
+
+fn fields_in(alloc: Global, values: &[Value]) -> Result<Vec<Field>, InputError>
+    ensures ok { IfOk result (λ v. fields_in (items_view values.now) ≡ Some (map field_of v.items)) }
+    ensures bad { IfErr result
+        (λ e. e ≡ InputError.BadTable → fields_in (items_view values.now) ≡ None) }
+{
+    let mut fields = Vec::new(alloc);
+    for value in values {
+        let field = field_in(alloc, value)?;
+        fields.push(field)?;
+    }
+    Ok(fields)
+}
+
+// The fields of a struct; there are none where they are missing.
+fn list_in(alloc: Global, value: &Value) -> Result<Vec<Field>, InputError>
+    ensures ok { IfOk result (λ v. list_in (view value.now) ≡ Some (map field_of v.items)) }
+    ensures bad { IfErr result (λ e. e ≡ InputError.BadTable → list_in (view value.now) ≡ None) }
+{
+    let Some(list) = value.get("fields") else {
+        return Ok(Vec::new(alloc));
+    };
+    match list.as_array() {
+        Some(values) => fields_in(alloc, values),
+        None => Err(InputError::BadTable),
+    }
+}
+
+fn struct_in(alloc: Global, value: &Value) -> Result<Shape, InputError>
+    ensures ok { IfOk result (λ s. struct_in (view value.now) ≡ Some (shape_of s)) }
+    ensures bad { IfErr result (λ e. e ≡ InputError.BadTable → struct_in (view value.now) ≡ None) }
+{
+    if !has_only(value, &["fields", "closed"]) {
+        return Err(InputError::BadTable);
+    }
+    let Some(closed) = flag_in(value, "closed") else {
+        return Err(InputError::BadTable);
+    };
+    let list = list_in(alloc, value)?;
+    Ok(Shape::Struct(Fields { list, closed }))
+}
+
+// The row of a list's items, and their number under this name.
+fn counted_in(value: &Value, count: &str) -> Option<(TypeNo, u64)>
+    ensures { result ≡ counted_in count.now (view value.now) }
+{
+    if !has_only(value, &["of", count]) {
+        return None;
+    }
+    let n = number_of(value, "of")?;
+    let count = value.get(count)?.as_u64()?;
+    Some((n, count))
+}
+
+fn array_in(value: &Value) -> Option<Shape>
+    ensures { option_map shape_of result ≡ array_in (view value.now) }
+{
+    let (n, len) = counted_in(value, "len")?;
+    Some(Shape::Array(n, len))
+}
+
+fn up_to_in(value: &Value) -> Option<Shape>
+    ensures { option_map shape_of result ≡ up_to_in (view value.now) }
+{
+    let (n, cap) = counted_in(value, "cap")?;
+    Some(Shape::UpTo(n, cap))
+}
+
+fn numbers_in(alloc: Global, values: &[Value]) -> Result<Option<Vec<TypeNo>>, AllocError>
+    ensures { IfOk result (λ r. option_map (λ v. v.items) r ≡ numbers_in (items_view values.now)) }
+{
+    let mut numbers = Vec::new(alloc);
+    for value in values {
+        let Some(n) = number_in(value) else {
+            return Ok(None);
+        };
+        numbers.push(n)?;
+    }
+    Ok(Some(numbers))
+}
+
+fn tuple_in(alloc: Global, value: &Value) -> Result<Option<Shape>, AllocError>
+    ensures { IfOk result (λ s. option_map shape_of s ≡ tuple_in (view value.now)) }
+{
+    let Some(values) = value.as_array() else {
+        return Ok(None);
+    };
+    let numbers = numbers_in(alloc, values)?;
+    Ok(numbers.map(Shape::Tuple))
+}
+
+// The shape that an object with this one member says.
+fn shape_under(alloc: Global, name: &str, value: &Value) -> Result<Shape, InputError>
+    ensures ok { IfOk result (λ s. shape_under name.now (view value.now) ≡ Some (shape_of s)) }
+    ensures bad { IfErr result
+        (λ e. e ≡ InputError.BadTable → shape_under name.now (view value.now) ≡ None) }
+{
+    match name {
+        "struct" => struct_in(alloc, value),
+        _ => match plain_under(alloc, name, value)? {
+            Some(shape) => Ok(shape),
+            None => Err(InputError::BadTable),
+        },
+    }
+}
+
+// A shape without fields.
+fn plain_under(alloc: Global, name: &str, value: &Value) -> Result<Option<Shape>, AllocError>
+    ensures { IfOk result (λ s. option_map shape_of s ≡ plain_under name.now (view value.now)) }
+{
+    Ok(match name {
+        "int" => kind_in(value).map(Shape::Int),
+        "nonzero" => kind_in(value).map(Shape::NonZero),
+        "format" => format_in(alloc, value)?,
+        "option" => number_in(value).map(Shape::Option),
+        "newtype" => number_in(value).map(Shape::Newtype),
+        _ => list_under(alloc, name, value)?,
+    })
+}
+
+// A list, of the kind that this name tells.
+fn list_under(alloc: Global, name: &str, value: &Value) -> Result<Option<Shape>, AllocError>
+    ensures { IfOk result (λ s. option_map shape_of s ≡ list_under name.now (view value.now)) }
+{
+    Ok(match name {
+        "seq" => number_in(value).map(Shape::Seq),
+        "set" => number_in(value).map(Shape::Set),
+        "array" => array_in(value),
+        "up_to" => up_to_in(value),
+        "tuple" => tuple_in(alloc, value)?,
+        _ => None,
+    })
+}
+
+fn format_in(alloc: Global, value: &Value) -> Result<Option<Shape>, AllocError>
+    ensures { IfOk result (λ s. option_map shape_of s
+        ≡ option_map formatted (as_str (view value.now))) }
+{
+    let Some(format) = value.as_str() else {
+        return Ok(None);
+    };
+    Ok(Some(Shape::Formatted(String::from_str(alloc, format)?)))
+}
+
+fn shape_in(alloc: Global, value: &Value) -> Result<Shape, InputError>
+    ensures ok { IfOk result (λ s. shape_in (view value.now) ≡ Some (shape_of s)) }
+    ensures bad { IfErr result (λ e. e ≡ InputError.BadTable → shape_in (view value.now) ≡ None) }
+{
+    match value {
+        Value::String(name) => shape_named(name.as_str()).ok_or(InputError::BadTable),
+        Value::Object(members) => {
+            let Some((name, part)) = lone_member(members) else {
+                return Err(InputError::BadTable);
+            };
+            shape_under(alloc, name.as_str(), part)
+        }
+        _ => Err(InputError::BadTable),
+    }
+}
+
+fn entry_in(alloc: Global, value: &Value) -> Result<TypeEntry, InputError>
+    ensures ok { IfOk result (λ e. entry_in (view value.now) ≡ Some (entry_of e)) }
+    ensures bad { IfErr result (λ e. e ≡ InputError.BadTable → entry_in (view value.now) ≡ None) }
+{
+    let (Some(inline), Some(shape)) = (flag_in(value, "inline"), value.get("shape")) else {
+        return Err(InputError::BadTable);
+    };
+    let notes = notes_in(alloc, value)?;
+    let shape = shape_in(alloc, shape)?;
+    Ok(TypeEntry {
+        inline,
+        notes,
+        shape,
+    })
+}
+
+const ROW_NAMES: [&str; 5] = ["id", "name", "inline", "notes", "shape"];
+
+// The id and the name of a row.
+fn heading_in(value: &Value) -> Option<(&str, &str)>
+    ensures { option_map (λ h. unentered h.0.now h.1.now) result ≡ heading_in (view value.now) }
+{
+    if !has_only(value, &ROW_NAMES) {
+        return None;
+    }
+    let id = text_in(value, "id")?;
+    let name = text_in(value, "name")?;
+    Some((id, name))
+}
+
+// Whether no field has notes.
+fn are_bare(fields: &[Field]) -> bool
+    ensures { result ≡ list_all (λ f. are_none f.notes) (map field_of fields.now) }
+{
+    for field in fields {
+        if !field.notes.is_empty() {
+            return false;
+        }
+    }
+    true
+}
+
+fn are_fields_bare(shape: &Shape) -> bool
+    ensures { result ≡ are_fields_bare (shape_of shape.now) }
+{
+    match shape {
+        Shape::Struct(fields) => are_bare(&fields.list),
+        _ => true,
+    }
+}
+
+// Whether neither the row nor a field of it has notes.
+fn is_bare(entry: &TypeEntry) -> bool
+    ensures { result ≡ is_bare (entry_of entry.now) }
+{
+    entry.notes.is_empty() && are_fields_bare(&entry.shape)
+}
+
+// A table with the ids and the names of these rows.
+fn reserve_rows(alloc: Global, rows: &[Value]) -> Result<Types, InputError>
+    ensures ok { IfOk result (λ t. reserved_after [] (items_view rows.now) ≡ Some t) }
+    ensures bad { IfErr result (λ e. e ≡ InputError.BadTable
+        → reserved_after [] (items_view rows.now) ≡ None) }
+{
+    let mut types = Types::new(alloc);
+    for row in rows {
+        let Some((id, name)) = heading_in(row) else {
+            return Err(InputError::BadTable);
+        };
+        if types.find(id).is_some() {
+            return Err(InputError::BadTable);
+        }
+        let id = String::from_str(alloc, id)?;
+        let name = String::from_str(alloc, name)?;
+        types.reserve(id, name)?;
+    }
+    Ok(types)
+}
+
+// Gives the rows of the table their entries. A table takes no number that is no row's.
+fn define_rows(alloc: Global, mut types: Types, rows: &[Value]) -> Result<Types, InputError>
+    requires { headings_in (items_view rows.now) ≡ Some types }
+    ensures ok { IfOk result (λ t. fitting_after (length types) [] (items_view rows.now) ≡ Some t) }
+    ensures bad { IfErr result (λ e. e ≡ InputError.BadTable
+        → fitting_after (length types) [] (items_view rows.now) ≡ None) }
+{
+    for (n, row) in rows.iter().enumerate() {
+        let entry = entry_in(alloc, row)?;
+        if !is_bare(&entry) {
+            return Err(InputError::BadTable);
+        }
+        types.define(n, entry)?;
+    }
+    Ok(types)
+}
+
+fn items_in<'v>(value: &'v Value, name: &str) -> Option<&'v Vec<Value>>
+    ensures { option_map (λ v. items_view v.now.items) result
+        ≡ needed as_array name.now (view value.now) }
+{
+    value.get(name)?.as_array()
+}
+
+/// The table that a value says, and its root.
+///
+/// The value is an object with the members `types`, a list of rows, and `root`, the number of one
+/// of them. A row has the members `id`, `name` and `shape`, and may have `inline` and `notes`. No
+/// two rows have one id, and each number in a shape is a row's: the row's own, or one before or
+/// behind it. No row and no field has notes.
+pub fn read_input(alloc: Global, value: &Value) -> Result<(Types, TypeNo), InputError>
+    ensures ok { IfOk result (λ t. input_of (view value.now) ≡ Some (t.0, t.1)) }
+    ensures bad { IfErr result (λ e. e ≡ InputError.BadTable → input_of (view value.now) ≡ None) }
+{
+    if !has_only(value, &["types", "root"]) {
+        return Err(InputError::BadTable);
+    }
+    let (Some(rows), Some(root)) = (items_in(value, "types"), number_of(value, "root")) else {
+        return Err(InputError::BadTable);
+    };
+    let types = reserve_rows(alloc, rows)?;
+    let types = define_rows(alloc, types, rows)?;
+    if root >= types.len() {
+        return Err(InputError::BadTable);
+    }
+    Ok((types, root))
+}

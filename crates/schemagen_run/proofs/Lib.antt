@@ -1,0 +1,3 @@
+-- The lemmas of the proofs.
+pub mod Tables
+pub mod Runs

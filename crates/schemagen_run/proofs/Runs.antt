@@ -1,0 +1,95 @@
+-- Which words a run knows, and what it refuses.
+use Rattle.std.proofs.Common.{◌≡◌, ◌⊎◌, inl, inr, ℕ, List, [], ◌∷◌, ◌++◌, append-nil, subst, Option, Some, None, Result, Ok, Err, IfErr, length, get_or, ◌&&◌, true, String, Global, string_bytes, codes, sym, ap, ◌∙◌, arith}
+use Rattle.std.specs.Str.{bytes_eq}
+use Rattle.std.proofs.lemmas.Slice.Eq.{bytes_eq-Decides}
+use Rattle.schemars_documents.specs.declared.contract.Contract.TheVariants.{Deserialize, Serialize}
+use Rattle.std.specs.Result.{IsErrAnd}
+use Rattle.schemars_types.specs.Rows.{Row}
+use Rattle.schemars_types.specs.Faults.{IsAccepted}
+use Rattle.schemagen_run.specs.declared.fault.Fault.{Fault}
+use Rattle.schemagen_run.specs.declared.fault.Fault.TheVariants.{Refused}
+use Rattle.schemagen_run.specs.declared.fault.TheConstants.{OUT_OF_MEMORY, NOT_JSON, BAD_TABLE}
+use Rattle.schemagen_run.specs.Fault.{IsReadFault, IsTableFault, IsOutside}
+use Rattle.schemagen_input.specs.Input.{input_of}
+use Rattle.schemagen_run.specs.Run.{AskFor, GivesAll, IsNoJson, IsBadTable, IsTableText, IsAcceptedText, IsFaultyTable, Tells}
+use Rattle.schemagen_run.proofs.Tables.{both}
+
+is_word : (a u : String Global) (t : List ℕ) → a ≡ u → bytes_eq (string_bytes a) t ≡ true → string_bytes u ≡ t
+is_word a u t same is = ap string_bytes (sym same) ∙ (bytes_eq-Decides (string_bytes a) t).0 is
+
+pub two_words : (words : List (String Global)) (a b : String Global) → length words ≡ 2 → a ≡ get_or words 0 a → b ≡ get_or words 1 b
+    → bytes_eq (string_bytes a) (codes "types") && bytes_eq (string_bytes b) (codes "2020-12") ≡ true → AskFor words Deserialize
+two_words [] a b two first second types = absurd (omega arith)
+two_words (u ∷ []) a b two first second types = absurd (omega arith)
+two_words (u ∷ v ∷ w ∷ ws) a b two first second types = absurd (omega arith)
+two_words (u ∷ v ∷ []) a b two first second types =
+    let parts = both (bytes_eq (string_bytes a) (codes "types")) (bytes_eq (string_bytes b) (codes "2020-12")) types in
+    rw (is_word a u (codes "types") first parts.0, is_word b v (codes "2020-12") second parts.1)
+
+pub three_words : (words : List (String Global)) (a b c : String Global) → length words ≡ 3 → a ≡ get_or words 0 a → b ≡ get_or words 1 b → c ≡ get_or words 2 c
+    → bytes_eq (string_bytes a) (codes "types") && bytes_eq (string_bytes b) (codes "2020-12") ≡ true → bytes_eq (string_bytes c) (codes "--serialize") ≡ true → AskFor words Serialize
+three_words [] a b c three first second third types flag = absurd (omega arith)
+three_words (u ∷ []) a b c three first second third types flag = absurd (omega arith)
+three_words (u ∷ v ∷ []) a b c three first second third types flag = absurd (omega arith)
+three_words (u ∷ v ∷ w ∷ x ∷ ws) a b c three first second third types flag = absurd (omega arith)
+three_words (u ∷ v ∷ w ∷ []) a b c three first second third types flag =
+    let parts = both (bytes_eq (string_bytes a) (codes "types")) (bytes_eq (string_bytes b) (codes "2020-12")) types in
+    rw (is_word a u (codes "types") first parts.0, is_word b v (codes "2020-12") second parts.1, is_word c w (codes "--serialize") third flag)
+
+-- ---- tables without faults
+
+-- what is known to be left is what the source gives
+pub gave : {Q : List ℕ → Type 0} (bytes : List ℕ) (old new : Option (List ℕ)) → old ≡ Some bytes → GivesAll old new Q → Q bytes
+gave bytes None new is given = cc
+gave bytes (Some xs) None is (bs, consumed, end, q) = absurd consumed
+gave {Q} bytes (Some xs) (Some ys) is (bs, consumed, end, q) =
+    let same : xs ≡ bytes = cc in
+    subst Q (sym (append-nil bs) ∙ ap (λ (l : List ℕ). bs ++ l) (sym end) ∙ sym consumed ∙ same) q
+
+no_json : (bytes : List ℕ) → IsNoJson bytes → IsAcceptedText bytes → ⊥
+no_json bytes (inl none) (rows, (root, (d, (utf8, is), said), accepted)) = none utf8
+no_json bytes (inr none) (rows, (root, (d, (utf8, is), said), accepted)) = cc
+
+no_table : (bytes : List ℕ) → IsBadTable bytes → IsAcceptedText bytes → ⊥
+no_table bytes (d, (utf8, is), none) (rows, (root, (e, (text, also), said), accepted)) =
+    let same : d ≡ e = cc in
+    let none_said : input_of e ≡ None = ap input_of (sym same) ∙ none in
+    cc
+
+-- what they are refused for while they are read
+pub read_outside : (bytes : List ℕ) (old new : Option (List ℕ)) (e : Fault) → old ≡ Some bytes → IsAcceptedText bytes → IsReadFault e
+    → (e ≡ Refused NOT_JSON → GivesAll old new IsNoJson) → (e ≡ Refused BAD_TABLE → GivesAll old new IsBadTable) → IsOutside e
+read_outside bytes old new e known text (inl memory) not_json bad_table = inl memory
+read_outside bytes old new e known text (inr (inl failed)) not_json bad_table = inr (inl failed)
+read_outside bytes old new e known text (inr (inr (inl is))) not_json bad_table = absurd (no_json bytes (gave bytes old new known (not_json is)) text)
+read_outside bytes old new e known text (inr (inr (inr is))) not_json bad_table = absurd (no_table bytes (gave bytes old new known (bad_table is)) text)
+
+-- the table that was read is the one without faults
+pub read_is_accepted : (bytes : List ℕ) (rows : List Row) (root : ℕ) → IsTableText rows root bytes → IsAcceptedText bytes → IsAccepted rows
+read_is_accepted bytes rows root (d, (utf8, is), said) (others, (other, (e, (text, also), told), accepted)) =
+    let same : d ≡ e = cc in
+    let tables : others ≡ rows = pair_same (sym said ∙ ap input_of same ∙ told) in
+    subst IsAccepted tables accepted
+  where
+    pair_same : {p q : List Row × ℕ} → Some p ≡ Some q → q.0 ≡ p.0
+    pair_same h = cc
+
+-- ---- tables with a fault
+
+memory_is_not_of_table : (e : Fault) → e ≡ Refused OUT_OF_MEMORY → IsTableFault e → ⊥
+memory_is_not_of_table e memory (inl is) = cc
+memory_is_not_of_table e memory (inr (inl is)) = cc
+memory_is_not_of_table e memory (inr (inr (inl is))) = cc
+memory_is_not_of_table e memory (inr (inr (inr is))) = cc
+
+-- a refusal of the table that was read
+pub read_is_faulty : (rows : List Row) (root : ℕ) (old new : Option (List ℕ)) (e : Fault) → GivesAll old new (IsTableText rows root) → (e ≡ Refused OUT_OF_MEMORY) ⊎ Tells rows e
+    → IsTableFault e → GivesAll old new (IsFaultyTable e)
+read_is_faulty rows root old new e given (inl memory) fault = absurd (memory_is_not_of_table e memory fault)
+read_is_faulty rows root old new e (bytes, consumed, end, text) (inr told) fault = (bytes, consumed, end, (rows, (root, text, told)))
+
+-- the same refusal is passed on
+pub refused_alike : (old new : Option (List ℕ)) (result : Result (Unit {0}) Fault) (e : Fault) → IsErrAnd result (λ f. f ≡ e) → (IsTableFault e → GivesAll old new (IsFaultyTable e))
+    → IfErr result (λ f. IsTableFault f → GivesAll old new (IsFaultyTable f))
+refused_alike old new (Ok done) e same faulty = tt
+refused_alike old new (Err f) e same faulty = subst (λ (x : Fault). IsTableFault x → GivesAll old new (IsFaultyTable x)) (sym same) faulty

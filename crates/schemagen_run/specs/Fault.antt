@@ -1,0 +1,24 @@
+-- The faults that a run may end in, and the exit status that stands for each.
+use Rattle.std.specs.Prelude.{◌≡◌, ◌⊎◌, ℕ}
+use Rattle.schemagen_run.specs.declared.fault.Fault.{Fault}
+use Rattle.schemagen_run.specs.declared.fault.Fault.TheVariants.{Usage, Refused}
+use Rattle.schemagen_run.specs.declared.fault.TheConstants.{OUT_OF_MEMORY, UNDEFINED_TYPE, REPEATED_NAME, DIRECT_CYCLE, EMPTY_CYCLE, NOT_JSON, BAD_TABLE, READ, WRITE}
+
+abbrev pub status_of : Fault → ℕ
+status_of Usage = 2
+status_of (Refused code) = 1
+
+-- while the table is read
+abbrev pub IsReadFault : Fault → Type 0
+IsReadFault e = (e ≡ Refused OUT_OF_MEMORY) ⊎ (e ≡ Refused READ) ⊎ (e ≡ Refused NOT_JSON) ⊎ (e ≡ Refused BAD_TABLE)
+
+-- of a table that was read
+abbrev pub IsTableFault : Fault → Type 0
+IsTableFault e = (e ≡ Refused UNDEFINED_TYPE) ⊎ (e ≡ Refused REPEATED_NAME) ⊎ (e ≡ Refused DIRECT_CYCLE) ⊎ (e ≡ Refused EMPTY_CYCLE)
+
+-- for want of memory, or of the source or the sink
+abbrev pub IsOutside : Fault → Type 0
+IsOutside e = (e ≡ Refused OUT_OF_MEMORY) ⊎ (e ≡ Refused READ) ⊎ (e ≡ Refused WRITE)
+
+abbrev pub IsFault : Fault → Type 0
+IsFault e = (e ≡ Usage) ⊎ IsReadFault e ⊎ IsTableFault e ⊎ (e ≡ Refused WRITE)

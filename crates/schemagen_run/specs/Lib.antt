@@ -1,0 +1,4 @@
+-- The definitions that contracts cite.
+pub mod Streams
+pub mod Fault
+pub mod Run

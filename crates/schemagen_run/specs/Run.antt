@@ -1,0 +1,99 @@
+-- What a run of the program promises.
+use Rattle.std.specs.Prelude.{◌≡◌, ◌⊎◌, ℕ, List, [], ◌∷◌, ◌++◌, Option, Some, None, codes, map, string_bytes, String, IsUtf8}
+use Rattle.std.specs.declared.alloc.Global.{Global}
+use Rattle.std.specs.Io.KnownBytes.{Consumes, IsAtEnd}
+use Rattle.serde_json.specs.Data.{Data, no_members}
+use Rattle.serde_json.specs.Read.{read}
+use Rattle.schemars_schema.specs.Json.{Text}
+use Rattle.schemars_schema.specs.OrderedText.{ordered_text}
+use Rattle.schemars_types.specs.Rows.{Row}
+use Rattle.schemars_types.specs.Faults.{IsAccepted}
+use Rattle.schemars_documents.specs.declared.contract.Contract.{Contract}
+use Rattle.schemars_documents.specs.declared.contract.Contract.TheVariants.{Deserialize, Serialize}
+use Rattle.schemars.specs.declared.error.GenerateError.{GenerateError}
+use Rattle.schemars.specs.Headline.{MeansItsType, IsRootOf}
+use Rattle.schemars_documents.specs.ContractOf.{contract_of}
+use Rattle.schemars.specs.Refusals.{code_of, HasFault}
+use Rattle.schemars.specs.State.{Settings, State, settings2020_12}
+<<<<<<< HEAD:crates/schemagen/specs/Run.antt
+use Rattle.schemars_naming.specs.Work.{Work}
+use Rattle.schemagen.specs.declared.fault.Fault.{Fault}
+use Rattle.schemagen.specs.declared.fault.Fault.TheVariants.{Refused}
+use Rattle.schemagen.specs.Input.{input_of}
+=======
+use Rattle.schemars.specs.Work.{Work}
+use Rattle.schemagen_run.specs.declared.fault.Fault.{Fault}
+use Rattle.schemagen_run.specs.declared.fault.Fault.TheVariants.{Refused}
+use Rattle.schemagen_input.specs.Input.{input_of}
+>>>>>>> helper-c:crates/schemagen_run/specs/Run.antt
+
+-- the words for documents of values that are read, and with the flag of those that are written
+abbrev pub words_for : Contract → List Text
+words_for Deserialize = codes "types" ∷ codes "2020-12" ∷ []
+words_for Serialize = codes "types" ∷ codes "2020-12" ∷ codes "--serialize" ∷ []
+
+abbrev pub AskFor : List (String Global) → Contract → Type 0
+AskFor words contract = map string_bytes words ≡ words_for contract
+
+-- the words that the program knows
+abbrev pub AreKnown : List (String Global) → Type 0
+AreKnown words = (contract : Contract) × AskFor words contract
+
+-- the source has given all that it had left, and these bytes are so
+abbrev pub GivesAll : Option (List ℕ) → Option (List ℕ) → (List ℕ → Type 0) → Type 0
+GivesAll old new Q = (bytes : List ℕ) × Consumes old new bytes × IsAtEnd new × Q bytes
+
+-- the bytes are the JSON text of this value
+abbrev pub IsTextOf : Data → List ℕ → Type 0
+IsTextOf d bytes = IsUtf8 bytes × (read bytes ≡ Some d)
+
+abbrev pub IsNoJson : List ℕ → Type 0
+IsNoJson bytes = ¬ (IsUtf8 bytes) ⊎ (read bytes ≡ None)
+
+-- JSON, but no table with a root
+abbrev pub IsBadTable : List ℕ → Type 0
+IsBadTable bytes = (d : Data) × IsTextOf d bytes × (input_of d ≡ None)
+
+-- the JSON text of a table with this root
+abbrev pub IsTableText : List Row → ℕ → List ℕ → Type 0
+IsTableText rows root bytes = (d : Data) × IsTextOf d bytes × (input_of d ≡ Some (rows, root))
+
+-- the JSON text of a table without faults
+abbrev pub IsAcceptedText : List ℕ → Type 0
+IsAcceptedText bytes = (rows : List Row) × ((root : ℕ) × IsTableText rows root bytes × IsAccepted rows)
+
+-- the refusal tells the fault of this table
+abbrev pub Tells : List Row → Fault → Type 0
+Tells rows fault = (e : GenerateError) × HasFault rows e × (fault ≡ Refused (code_of e))
+
+-- the JSON text of a table with the fault that the refusal tells
+abbrev pub IsFaultyTable : Fault → List ℕ → Type 0
+IsFaultyTable fault bytes = (rows : List Row) × ((root : ℕ) × IsTableText rows root bytes × Tells rows fault)
+
+-- ---- documents
+
+abbrev pub settings_for : Contract → Settings
+settings_for contract = record settings2020_12 { contract = contract }
+
+-- a generator over the table that has made nothing yet
+abbrev pub fresh : Contract → List Row → State
+fresh contract rows = record { settings = settings_for contract; rows = rows; names = []; definitions = no_members }
+
+-- the root document of this row: it is made by the rules, and accepts just the values of the type
+abbrev pub IsDocumentOf : Contract → List Row → ℕ → Data → Type 0
+IsDocumentOf contract rows root document =
+    ((w : Work) × IsRootOf (fresh contract rows) root w document) × MeansItsType rows (contract_of contract) (codes "/$defs") root document
+
+-- a document's text, and a newline
+abbrev pub line_of : Data → Text
+line_of document = ordered_text document ++ 10 ∷ []
+
+-- the line of a root document of this row
+abbrev pub IsLineOf : Contract → List Row → ℕ → Text → Type 0
+IsLineOf contract rows root line = (document : Data) × IsDocumentOf contract rows root document × (line ≡ line_of document)
+
+-- the bytes are the text of a table without faults, and Q holds of the line of its root that the words ask for
+abbrev pub IsLineFor : List (String Global) → List ℕ → (Text → Type 0) → Type 0
+IsLineFor words bytes Q =
+    (contract : Contract) × ((rows : List Row) × ((root : ℕ) × ((line : Text)
+    × AskFor words contract × IsTableText rows root bytes × IsAccepted rows × IsLineOf contract rows root line × Q line)))

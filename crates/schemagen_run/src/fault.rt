@@ -1,0 +1,121 @@
+use schemars::GenerateError;
+use std::alloc::AllocError;
+use std::fmt;
+
+/// Memory ran out.
+pub const OUT_OF_MEMORY: u32 = 1;
+
+/// A row was reserved and never defined.
+pub const UNDEFINED_TYPE: u32 = 2;
+
+/// A row's list of fields has a name twice.
+pub const REPEATED_NAME: u32 = 3;
+
+/// A row is on a cycle of rows that are written in place.
+pub const DIRECT_CYCLE: u32 = 4;
+
+/// A row is on a cycle of rows that have the values of the next.
+pub const EMPTY_CYCLE: u32 = 5;
+
+/// Another entry stands in a row.
+pub const ALREADY_DEFINED: u32 = 6;
+
+/// A table does not begin with the rows of another.
+pub const NOT_AN_EXTENSION: u32 = 7;
+
+/// A table has no row of a number.
+pub const UNKNOWN_TYPE: u32 = 8;
+
+/// Definitions can't be placed where they are to stand.
+pub const DEFINITIONS_PATH: u32 = 9;
+
+/// What was read is no JSON.
+pub const NOT_JSON: u32 = 20;
+
+/// What was read is no table with a root.
+pub const BAD_TABLE: u32 = 21;
+
+/// The source has failed.
+pub const READ: u32 = 23;
+
+/// The sink has failed.
+pub const WRITE: u32 = 24;
+
+/// Why a run wrote no document.
+#[derive(Clone, Copy, Debug, PartialEq, Eq)]
+pub enum Fault {
+    /// The words are none that the program knows.
+    Usage,
+    /// The run was refused, by the number of the refusal.
+    Refused(u32),
+}
+
+impl Fault {
+    ghost use Rattle.std.specs.Prelude.{◌≡◌};
+    ghost use Rattle.schemagen_run.specs.Fault.{status_of};
+
+    /// The exit status of the program.
+    pub fn status(self) -> u8
+        ensures { result ≡ status_of self }
+    {
+        match self {
+            Fault::Usage => 2,
+            Fault::Refused(_) => 1,
+        }
+    }
+}
+
+impl From<AllocError> for Fault {
+    ghost use Rattle.std.specs.Prelude.{◌≡◌};
+    ghost use Rattle.schemagen_run.specs.declared.fault.Fault.TheVariants.{Refused};
+    ghost use Rattle.schemagen_run.specs.declared.fault.TheConstants.{OUT_OF_MEMORY};
+
+    ghost from_gives = { λ _ e. e ≡ Refused OUT_OF_MEMORY };
+
+    fn from(_e: AllocError) -> Fault {
+        Fault::Refused(OUT_OF_MEMORY)
+    }
+}
+
+impl From<GenerateError> for Fault {
+    ghost use Rattle.std.specs.Prelude.{◌≡◌};
+    ghost use Rattle.schemagen_run.specs.declared.fault.Fault.TheVariants.{Refused};
+    ghost use Rattle.schemars.specs.Refusals.{code_of};
+
+    ghost from_gives = { λ e f. f ≡ Refused (code_of e) };
+
+    fn from(e: GenerateError) -> Fault {
+        Fault::Refused(e.code())
+    }
+}
+
+fn name_of(code: u32) -> &'static str {
+    match code {
+        OUT_OF_MEMORY => "OutOfMemory",
+        UNDEFINED_TYPE => "UndefinedType",
+        REPEATED_NAME => "RepeatedName",
+        DIRECT_CYCLE => "DirectCycle",
+        EMPTY_CYCLE => "EmptyCycle",
+        ALREADY_DEFINED => "AlreadyDefined",
+        NOT_AN_EXTENSION => "NotAnExtension",
+        UNKNOWN_TYPE => "UnknownType",
+        DEFINITIONS_PATH => "DefinitionsPath",
+        NOT_JSON => "NotJson",
+        BAD_TABLE => "BadTable",
+        READ => "Read",
+        WRITE => "Write",
+        _ => "Refused",
+    }
+}
+
+impl fmt::Display for Fault {
+    fn fmt<W: fmt::Write>(&self, f: &mut fmt::Formatter<W>) -> fmt::Result {
+        match self {
+            Fault::Usage => write!(
+                f,
+                "usage: schemagen types DIALECT [--inline] [--serialize] | schemagen sample DIALECT"
+            ),
+            Fault::Refused(code) => write!(f, "schemagen: {code} {}", name_of(*code)),
+        }
+    }
+}

@@ -1,0 +1,6 @@
+//! A run of the program: from words and bytes to the line of a root document.
+#![tactic(auto)]
+
+pub mod fault;
+pub mod run;
+pub mod streams;

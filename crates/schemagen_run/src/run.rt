@@ -1,0 +1,164 @@
+//! A run of the program over its words, a source and a sink.
+ghost use Rattle.std.specs.Prelude.{◌≡◌, ◌≢◌, ◌⊎◌, ◌↔◌, ℕ, List, Some, false, true, Err, IsTrue, IfOk, IfErr, OnOk, MatchOption, string_bytes, bytes_eq, codes, ◌&&◌};
+ghost use Rattle.std.specs.Io.KnownBytes.{Appends};
+ghost use Rattle.serde_json.specs.View.{view};
+ghost use Rattle.schemars_types.specs.Faults.{IsAccepted};
+ghost use Rattle.schemars.specs.Settings.{settings_of};
+ghost use Rattle.schemagen_run.specs.Streams.{AppendsBeginning};
+ghost use Rattle.schemagen_input.specs.Input.{is_table};
+ghost use Rattle.schemagen_run.specs.Run.{AskFor, AreKnown, GivesAll, IsTextOf, IsNoJson, IsBadTable, IsTableText, IsAcceptedText, IsFaultyTable, Tells, settings_for, IsLineOf, IsLineFor};
+ghost use Rattle.schemagen_run.specs.Fault.{IsReadFault, IsTableFault, IsOutside, IsFault};
+
+use crate::fault::{BAD_TABLE, Fault, NOT_JSON, OUT_OF_MEMORY, READ, WRITE};
+use crate::streams::{Failed, ReadError, Sink, Source, read_all, write_all};
+use schemagen_input::{InputError, read_input};
+use schemars::{Contract, SchemaGenerator, SchemaSettings};
+use schemars_types::{TypeNo, Types};
+use serde_json::Value;
+use std::alloc::Global;
+
+/// Reads a table of types from the source, and writes the root document of its root to the sink:
+/// in ordered text, with a newline at its end.
+///
+/// The words are those after the program's name: `types`, the dialect `2020-12`, and `--serialize`
+/// where the document is to be for the values that are written. Other words are refused first, with
+/// nothing read. Then a run is refused where the source fails, where the bytes are no JSON, where
+/// the value is no table with a root, where the table has a fault, and where the sink fails, in
+/// this order. It may also be refused for want of memory.
+///
+/// A run that is refused has written nothing, unless the sink has failed: that has taken a
+/// beginning of the text.
+pub fn run<S: Source, K: Sink>(
+    alloc: Global,
+    words: &[String],
+    source: &mut S,
+    sink: &mut K,
+) -> Result<(), Fault>
+    ensures usage { (result ≡ Err Fault.Usage) ↔ ¬ (AreKnown words.now) }
+    ensures known { result ≢ Err Fault.Usage → AreKnown words.now }
+    ensures unread { result ≡ Err Fault.Usage → source.new ≡ source.old }
+
+    ensures read { AreKnown words.now
+        → ((result ≡ Err (Fault.Refused READ)) ↔ IsTrue (S.has_failed source.new)) }
+    ensures not_json { result ≡ Err (Fault.Refused NOT_JSON)
+        → GivesAll (S.left source.old) (S.left source.new) IsNoJson }
+    ensures bad_table { result ≡ Err (Fault.Refused BAD_TABLE)
+        → GivesAll (S.left source.old) (S.left source.new) IsBadTable }
+    ensures faulty { IfErr result (λ e. IsTableFault e
+        → GivesAll (S.left source.old) (S.left source.new) (IsFaultyTable e)) }
+    ensures write { result ≡ Err (Fault.Refused WRITE)
+        → GivesAll (S.left source.old) (S.left source.new) (λ bytes. IsLineFor words.now bytes
+        (AppendsBeginning (K.bytes sink.old) (K.bytes sink.new))) }
+    ensures done { OnOk result
+        (GivesAll (S.left source.old) (S.left source.new) (λ bytes. IsLineFor words.now bytes
+        (Appends (K.bytes sink.old) (K.bytes sink.new)))) }
+
+    ensures failed { result ≡ Err (Fault.Refused WRITE) → IsTrue (K.has_failed sink.new) }
+    ensures sound { OnOk result (K.has_failed sink.new ≡ false) }
+    ensures unwritten { IfErr result
+        (λ e. e ≢ Fault.Refused WRITE → sink.new ≡ sink.old) }
+    ensures faults { IfErr result IsFault }
+    ensures accepted { AreKnown words.now → (bytes : List ℕ) → S.left source.old ≡ Some bytes
+        → IsAcceptedText bytes → IfErr result IsOutside }
+{
+    let Some(contract) = contract_in(words) else {
+        return Err(Fault::Usage);
+    };
+    let (types, root) = read_table(alloc, source)?;
+    let line = line_for(alloc, contract, types, root)?;
+    match write_all(sink, line.as_bytes()) {
+        Ok(()) => Ok(()),
+        Err(Failed) => Err(Fault::Refused(WRITE)),
+    }
+}
+
+fn is_types(command: &str, dialect: &str) -> bool
+    ensures { result ≡ bytes_eq command.now (codes "types") && bytes_eq dialect.now (codes "2020-12") }
+{
+    command == "types" && dialect == "2020-12"
+}
+
+// Whose values the words ask for.
+fn contract_in(words: &[String]) -> Option<Contract>
+    ensures { MatchOption result (¬ (AreKnown words.now)) (λ c. AskFor words.now c) }
+{
+    match words {
+        [command, dialect] if is_types(command.as_str(), dialect.as_str()) => {
+            Some(Contract::Deserialize)
+        }
+        [command, dialect, flag]
+            if is_types(command.as_str(), dialect.as_str()) && flag.as_str() == "--serialize" => {
+            Some(Contract::Serialize)
+        }
+        _ => None,
+    }
+}
+
+// The table that the source's bytes are, and its root.
+fn read_table<S: Source>(alloc: Global, source: &mut S) -> Result<(Types, TypeNo), Fault>
+    ensures ok { IfOk result
+        (λ t. GivesAll (S.left source.old) (S.left source.new) (IsTableText t.0 t.1)) }
+    ensures table { IfOk result (λ t. is_table t.0 t.1 ≡ true) }
+    ensures read { (result ≡ Err (Fault.Refused READ)) ↔ IsTrue (S.has_failed source.new) }
+    ensures not_json { result ≡ Err (Fault.Refused NOT_JSON)
+        → GivesAll (S.left source.old) (S.left source.new) IsNoJson }
+    ensures bad_table { result ≡ Err (Fault.Refused BAD_TABLE)
+        → GivesAll (S.left source.old) (S.left source.new) IsBadTable }
+    ensures faults { IfErr result IsReadFault }
+{
+    let bytes = match read_all(alloc, source) {
+        Ok(bytes) => bytes,
+        Err(ReadError::OutOfMemory) => return Err(Fault::Refused(OUT_OF_MEMORY)),
+        Err(ReadError::Failed) => return Err(Fault::Refused(READ)),
+    };
+    let value = value_of(alloc, &bytes)?;
+    match read_input(alloc, &value) {
+        Ok(input) => Ok(input),
+        Err(InputError::OutOfMemory) => Err(Fault::Refused(OUT_OF_MEMORY)),
+        Err(InputError::BadTable) => Err(Fault::Refused(BAD_TABLE)),
+    }
+}
+
+// The value that is written in the bytes.
+fn value_of(alloc: Global, bytes: &[u8]) -> Result<Value, Fault>
+    ensures ok { IfOk result (λ v. IsTextOf (view v) bytes.now) }
+    ensures not_json { result ≡ Err (Fault.Refused NOT_JSON) → IsNoJson bytes.now }
+    ensures faults { IfErr result
+        (λ e. (e ≡ Fault.Refused OUT_OF_MEMORY) ⊎ (e ≡ Fault.Refused NOT_JSON)) }
+{
+    let Ok(text) = std::str::from_utf8(bytes) else {
+        return Err(Fault::Refused(NOT_JSON));
+    };
+    match Value::from_str(alloc, text) {
+        Ok(value) => Ok(value),
+        Err(error) if error.is_memory() => Err(Fault::Refused(OUT_OF_MEMORY)),
+        Err(_) => Err(Fault::Refused(NOT_JSON)),
+    }
+}
+
+fn settings_for(alloc: Global, contract: Contract) -> SchemaSettings
+    ensures { settings_of result ≡ settings_for contract }
+{
+    let settings = SchemaSettings::draft2020_12(alloc);
+    match contract {
+        Contract::Deserialize => settings,
+        Contract::Serialize => settings.for_serialize(),
+    }
+}
+
+// The line of the root document of this row.
+fn line_for(alloc: Global, contract: Contract, types: Types, root: TypeNo) -> Result<String, Fault>
+    requires { is_table types root ≡ true }
+    ensures ok { IfOk result (λ s. IsLineOf contract types root (string_bytes s)) }
+    ensures accepted { OnOk result (IsAccepted types) }
+    ensures refused { IfErr result (λ e. (e ≡ Fault.Refused OUT_OF_MEMORY) ⊎ Tells types e) }
+    ensures faults { IfErr result (λ e. (e ≡ Fault.Refused OUT_OF_MEMORY) ⊎ IsTableFault e) }
+    ensures only_memory { IsAccepted types → IfErr result (λ e. e ≡ Fault.Refused OUT_OF_MEMORY) }
+{
+    let settings = settings_for(alloc, contract);
+    let generator = SchemaGenerator::with_types(alloc, settings, types)?;
+    let schema = generator.into_root_schema_for_type(alloc, root)?;
+    let mut line = schema.to_ordered_string(alloc)?;
+    line.push_str("\n")?;
+    Ok(line)
+}
