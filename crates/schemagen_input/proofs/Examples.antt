@@ -2,10 +2,10 @@
 use Rattle.std.proofs.Common.{◌≡◌, ℕ, List, [], ◌∷◌, true, false, Option, Some, None, option_and_then, codes, refl}
 use Rattle.serde_json.specs.Read.{read}
 use Rattle.serde_json.proofs.OnLiterals.{serde_json_on_literals}
-use Rattle.schemars_schema.specs.Json.{Text}
+use Rattle.schemars_json.specs.Json.{Text}
 use Rattle.serde_json.specs.Data.{no_members}
-use Rattle.schemars_types.specs.declared.shape.IntKind.TheVariants.{U8, I32, I128}
-use Rattle.schemars_types.specs.Shape.{Shape, Field, Required, without_notes, in_place, int, non_zero, formatted, char, option, seq, struct}
+use Rattle.schemars_shapes.specs.declared.shape.IntKind.TheVariants.{U8, I32, I128}
+use Rattle.schemars_shapes.specs.Shape.{Shape, Field, Required, without_notes, in_place, int, non_zero, formatted, char, option, seq, struct}
 use Rattle.schemars_types.specs.Rows.{Row}
 use Rattle.schemagen_input.specs.Input.{input_of, required}
 

@@ -13,9 +13,9 @@ use Rattle.serde_json.specs.Find.{as_str, as_array, get}
 use Rattle.serde_json.specs.View.{view, items_view, members_view}
 use Rattle.std.specs.declared.alloc.Global.{Global}
 use Rattle.serde_json.specs.declared.value.Value.{Value}
-use Rattle.schemars_schema.specs.Json.{Text}
-use Rattle.schemars_types.specs.declared.shape.Field as src-field
-use Rattle.schemars_types.specs.Shape.{Entry, field_of, numbers_of}
+use Rattle.schemars_json.specs.Json.{Text}
+use Rattle.schemars_shapes.specs.declared.shape.Field as src-field
+use Rattle.schemars_shapes.specs.Shape.{Entry, field_of, numbers_of}
 use Rattle.schemars_types.specs.Rows.{Row, place_of, with_entry, defined, reserved, unknown_in, holds_another}
 use Rattle.schemars_types.specs.Refusals.{refusal_of}
 use Rattle.schemars_types.specs.declared.error.TypesError.{TypesError}

@@ -4,11 +4,11 @@ use Rattle.std.specs.List.{list_all, list_any}
 use Rattle.std.specs.Option.{option_map_or}
 use Rattle.serde_json.specs.Data.{Data, null, boolean, number, string, array, object, Items, no_items, item, Members, no_members, member}
 use Rattle.serde_json.specs.Find.{get, as_bool, as_number, as_str, as_array, as_object, as_u64}
-use Rattle.schemars_schema.specs.Json.{Text}
-use Rattle.schemars_schema.specs.OrderedText.{is_listed}
-use Rattle.schemars_types.specs.declared.shape.IntKind.{IntKind}
-use Rattle.schemars_types.specs.declared.shape.IntKind.TheVariants.{I8, I16, I32, I64, I128, Isize, U8, U16, U32, U64, U128, Usize}
-use Rattle.schemars_types.specs.Shape.{Required, Field, Shape, Entry, null as null_shape, bool, int, non_zero, number as number_shape, text, char, formatted, any, bytes, schema_itself, option, seq, set, array as array_shape, up_to, tuple, struct, newtype, numbers_of}
+use Rattle.schemars_json.specs.Json.{Text}
+use Rattle.schemars_json.specs.OrderedText.{is_listed}
+use Rattle.schemars_shapes.specs.declared.shape.IntKind.{IntKind}
+use Rattle.schemars_shapes.specs.declared.shape.IntKind.TheVariants.{I8, I16, I32, I64, I128, Isize, U8, U16, U32, U64, U128, Usize}
+use Rattle.schemars_shapes.specs.Shape.{Required, Field, Shape, Entry, null as null_shape, bool, int, non_zero, number as number_shape, text, char, formatted, any, bytes, schema_itself, option, seq, set, array as array_shape, up_to, tuple, struct, newtype, numbers_of}
 use Rattle.schemars_types.specs.Rows.{Row, with_entry}
 
 -- ---- the members of an object

@@ -8,28 +8,21 @@ use borrow.Author.Tests.{ltb-true}
 use Rattle.serde_json.specs.Data.{Data, Members, no_members, member}
 use Rattle.serde_json.specs.Find.{as_array}
 use Rattle.serde_json.specs.Written.{has_float, members_have_float}
-use Rattle.schemars_schema.specs.Json.{Text}
-use Rattle.schemars_schema.specs.OrderedText.{ordered_text}
+use Rattle.schemars_json.specs.Json.{Text}
+use Rattle.schemars_json.specs.OrderedText.{ordered_text}
 use Rattle.schemars_schema.specs.Annotations.{AreNotes}
-use Rattle.schemars_types.specs.Shape as shape
-use Rattle.schemars_types.specs.Shape.{Field, Entry, Shape, numbers_of}
+use Rattle.schemars_shapes.specs.Shape as shape
+use Rattle.schemars_shapes.specs.Shape.{Field, Entry, Shape, numbers_of, names_of}
 use Rattle.schemars_types.specs.Rows.{Row, entry_at}
-use Rattle.schemars_types.specs.Edges.{names_of}
 use Rattle.schemars_types.specs.Faults.{IsChecked}
 use Rattle.schemars_documents.specs.declared.contract.Contract.{Contract}
 use Rattle.schemars.specs.Headline.{Headline, IsRootOf, IsDraftPath}
 use Rattle.schemars_documents.specs.ContractOf.{contract_of}
 use Rattle.schemars_documents.specs.PlainTable.{IsNoName, AreDistinct, AreNoted, IsPlainShape, IsPlainEntry, IsPlainTable, FieldsHaveNoFloat, ShapeHasNoFloat, EntryHasNoFloat, HasNoFloat}
 use Rattle.schemars.specs.State.{Settings, State, plan_of, HasOwnDefinitions}
-<<<<<<< HEAD:crates/schemagen/proofs/Tables.antt
 use Rattle.schemars_naming.specs.Work.{Work}
-use Rattle.schemagen.specs.Input.{input_of, has_only, needed, number_in, rows_in, all_differ, ids_of, are_none, are_fields_bare, is_bare, refers_within, fits, all_fit, is_table}
-use Rattle.schemagen.specs.Run.{settings_for, fresh, IsLineOf}
-=======
-use Rattle.schemars.specs.Work.{Work}
 use Rattle.schemagen_input.specs.Input.{input_of, has_only, needed, number_in, rows_in, all_differ, ids_of, are_none, are_fields_bare, is_bare, refers_within, fits, all_fit, is_table}
 use Rattle.schemagen_run.specs.Run.{settings_for, fresh, IsLineOf}
->>>>>>> helper-c:crates/schemagen_run/proofs/Tables.antt
 
 pub both : (a b : Bool) → a && b ≡ true → (a ≡ true) × (b ≡ true)
 both true b e = (refl, e)

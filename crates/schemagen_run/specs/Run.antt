@@ -4,8 +4,8 @@ use Rattle.std.specs.declared.alloc.Global.{Global}
 use Rattle.std.specs.Io.KnownBytes.{Consumes, IsAtEnd}
 use Rattle.serde_json.specs.Data.{Data, no_members}
 use Rattle.serde_json.specs.Read.{read}
-use Rattle.schemars_schema.specs.Json.{Text}
-use Rattle.schemars_schema.specs.OrderedText.{ordered_text}
+use Rattle.schemars_json.specs.Json.{Text}
+use Rattle.schemars_json.specs.OrderedText.{ordered_text}
 use Rattle.schemars_types.specs.Rows.{Row}
 use Rattle.schemars_types.specs.Faults.{IsAccepted}
 use Rattle.schemars_documents.specs.declared.contract.Contract.{Contract}
@@ -15,17 +15,10 @@ use Rattle.schemars.specs.Headline.{MeansItsType, IsRootOf}
 use Rattle.schemars_documents.specs.ContractOf.{contract_of}
 use Rattle.schemars.specs.Refusals.{code_of, HasFault}
 use Rattle.schemars.specs.State.{Settings, State, settings2020_12}
-<<<<<<< HEAD:crates/schemagen/specs/Run.antt
 use Rattle.schemars_naming.specs.Work.{Work}
-use Rattle.schemagen.specs.declared.fault.Fault.{Fault}
-use Rattle.schemagen.specs.declared.fault.Fault.TheVariants.{Refused}
-use Rattle.schemagen.specs.Input.{input_of}
-=======
-use Rattle.schemars.specs.Work.{Work}
 use Rattle.schemagen_run.specs.declared.fault.Fault.{Fault}
 use Rattle.schemagen_run.specs.declared.fault.Fault.TheVariants.{Refused}
 use Rattle.schemagen_input.specs.Input.{input_of}
->>>>>>> helper-c:crates/schemagen_run/specs/Run.antt
 
 -- the words for documents of values that are read, and with the flag of those that are written
 abbrev pub words_for : Contract → List Text

@@ -3,11 +3,11 @@ use Rattle.std.proofs.Common.{◌≡◌, ℕ, zero, suc, List, [], ◌∷◌, �
 use Rattle.std.specs.Prelude.{◌==◌, if◌then◌else◌}
 use Rattle.std.proofs.lemmas.Bool.Decides.{nat_tests}
 use Rattle.serde_json.specs.Data.{Data, Members, no_members, put}
-use Rattle.schemars_schema.specs.Json.{Text}
+use Rattle.schemars_json.specs.Json.{Text}
 use Rattle.schemars_schema.specs.SchemaData.{put_all}
 use Rattle.schemars_rewrite.specs.AllowNull.{allow_null}
-use Rattle.schemars_types.specs.Shape as shape
-use Rattle.schemars_types.specs.Shape.{Shape, Field, Entry, numbers_of}
+use Rattle.schemars_shapes.specs.Shape as shape
+use Rattle.schemars_shapes.specs.Shape.{Shape, Field, Entry, numbers_of}
 use Rattle.schemars_types.specs.Rows.{Row, entry_at}
 use Rattle.schemars_types.specs.Edges.{height}
 use Rattle.schemars_types.specs.Meaning.{Contract}

@@ -8,8 +8,8 @@ use Rattle.serde_json.specs.Written.{has_float}
 use Rattle.serde_json.specs.View.{members_view}
 use Rattle.serde_json.proofs.Views.{Entry as Entries}
 use Rattle.schemars_schema.specs.Placing.{placed_at}
-use Rattle.schemars_schema.specs.Json.{Text}
-use Rattle.schemars_types.specs.Shape.{Entry}
+use Rattle.schemars_json.specs.Json.{Text}
+use Rattle.schemars_shapes.specs.Shape.{Entry}
 use Rattle.schemars_types.specs.Rows.{Row, entry_at, name_at}
 use Rattle.schemars_types.specs.Edges.{is_inline_at, height, rank}
 use Rattle.schemars_types.specs.Faults.{IsChecked}

@@ -6,16 +6,17 @@ use Rattle.std.proofs.Math.Nat.{mul-le-mul_left}
 use Rattle.serde_json.specs.Data.{Data, null, boolean, number, string, array, object, Members, no_members, member, depth}
 use Rattle.serde_json.specs.Find.{get_member}
 use Rattle.serde_json.specs.Events.{members_len}
-use Rattle.schemars_schema.specs.Json.{Text}
+use Rattle.schemars_json.specs.Json.{Text}
 use Rattle.schemars_schema.specs.SchemaData.{IsSchema, is_schema}
-use Rattle.schemars_schema.specs.Lookup.{lookup, resolved}
+use Rattle.schemars_json.specs.Encoding.{lookup}
+use Rattle.schemars_schema.specs.Lookup.{resolved}
 use Rattle.schemars_schema.specs.Acceptance.{Patterns, Judge, judge, count_of_definitions}
-use Rattle.schemars_schema.proofs.Encodings.{lookup-encoded, lookup-ascii}
+use Rattle.schemars_json.proofs.Encodings.{lookup-encoded, lookup-ascii}
 use Rattle.schemars_rewrite.specs.NullLaw.{context2020_12}
-use Rattle.schemars_types.specs.Shape as shape
-use Rattle.schemars_types.specs.Shape.{Shape, Entry, numbers_of}
+use Rattle.schemars_shapes.specs.Shape as shape
+use Rattle.schemars_shapes.specs.Shape.{Shape, Entry, numbers_of, same_value_numbers}
 use Rattle.schemars_types.specs.Rows.{Row, entry_at}
-use Rattle.schemars_types.specs.Edges.{numbers_at, same_value_numbers, same_value_numbers_at, rank}
+use Rattle.schemars_types.specs.Edges.{numbers_at, same_value_numbers_at, rank}
 use Rattle.schemars_types.specs.Faults.{IsChecked}
 use Rattle.schemars_documents.specs.Documents.{IsWritten, Describes}
 use Rattle.schemars_documents.specs.PlainTable.{IsPlainTable}

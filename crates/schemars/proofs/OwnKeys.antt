@@ -4,15 +4,15 @@ use Rattle.std.specs.Prelude.{codes, is_some, if◌then◌else◌}
 use Rattle.serde_json.specs.Data.{Data, null, boolean, number, string, array, object, Members, no_members, member, put}
 use Rattle.serde_json.specs.Find.{get_member}
 use Rattle.serde_json.proofs.Views.{get_member-put_other}
-use Rattle.schemars_schema.specs.Json.{Text}
+use Rattle.schemars_json.specs.Json.{Text}
 use Rattle.schemars_schema.specs.SchemaData.{members_in, object_of, put_all, put_members}
 use Rattle.schemars_schema.specs.Annotations.{AreNotes}
 use Rattle.schemars_rewrite.specs.AllowNull.{null_schema, is_combined, or_null, allow_null, type_with_null, null_in_type}
 use Rattle.schemars_rewrite.specs.NullLaw.{zero_schema}
-use Rattle.schemars_types.specs.declared.shape.IntKind.{IntKind}
-use Rattle.schemars_types.specs.IntKind.{format_of}
-use Rattle.schemars_types.specs.Shape as shape
-use Rattle.schemars_types.specs.Shape.{Shape, Entry}
+use Rattle.schemars_shapes.specs.declared.shape.IntKind.{IntKind}
+use Rattle.schemars_shapes.specs.IntKind.{format_of}
+use Rattle.schemars_shapes.specs.Shape as shape
+use Rattle.schemars_shapes.specs.Shape.{Shape, Entry}
 use Rattle.schemars_types.specs.Rows.{Row, entry_at}
 use Rattle.schemars_types.specs.Meaning.{Contract, least_of, greatest_of}
 use Rattle.schemars_documents.specs.Documents.{Keyword, IsDocument, IsOwnDocument, IsWritten, Describes, annotated, with_title, with_meta_schema, root_document, int_keywords, int_document, non_zero_document, is_signed, map_document, properties_keyword, required_keyword, closed_keyword, typed, type_alone, char_document, formatted_document, bytes_document, schema_document, seq_document, field_keywords, required_names, reference, set_document, array_document, up_to_document, empty_list_document, tuple_document}

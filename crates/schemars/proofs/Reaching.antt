@@ -11,16 +11,16 @@ use Rattle.serde_json.specs.Find.{get_member}
 use Rattle.serde_json.proofs.Views.{get_member-put_other}
 use Rattle.serde_json.specs.declared.value.Value.{Value}
 use Rattle.serde_json.specs.View.{view, items_view}
-use Rattle.schemars_schema.specs.Json.{Text}
+use Rattle.schemars_json.specs.Json.{Text}
 use Rattle.schemars_schema.specs.SchemaData.{put_members, members_in, put_all}
 use Rattle.schemars_schema.specs.Annotations.{AreNotes}
 use Rattle.schemars_schema.specs.Edits.{replaced}
 use Rattle.schemars_schema.specs.References.{found_in, found_in_members, found_in_items, found_in_keywords, references}
 use Rattle.schemars_schema.proofs.Contents.{found_under, found_under-annotation}
 use Rattle.schemars_rewrite.specs.AllowNull.{is_combined, or_null, allow_null, type_with_null, null_in_type}
-use Rattle.schemars_types.specs.declared.shape.Field as src
-use Rattle.schemars_types.specs.Shape as shape
-use Rattle.schemars_types.specs.Shape.{Shape, Field, field_of}
+use Rattle.schemars_shapes.specs.declared.shape.Field as src
+use Rattle.schemars_shapes.specs.Shape as shape
+use Rattle.schemars_shapes.specs.Shape.{Shape, Field, field_of}
 use Rattle.schemars_documents.specs.Documents.{list_document_for, items_from, tuple_document, map_of, annotated, with_title, with_meta_schema, root_document, field_keywords, reference}
 use Rattle.schemars_documents.specs.PlainTable.{IsNoName, AreDistinct, AreNoted}
 use Rattle.schemars_documents.specs.Properties.{ArePropertiesOf}

@@ -3,7 +3,7 @@ use Rattle.std.proofs.Common.{◌≡◌, inl, inr, ℕ, suc, Option, Some, None,
 use Rattle.std.specs.Prelude.{is_some}
 use Rattle.serde_json.specs.Data.{Data, object, Members}
 use Rattle.serde_json.specs.Find.{get_member}
-use Rattle.schemars_schema.specs.Json.{Text}
+use Rattle.schemars_json.specs.Json.{Text}
 use Rattle.schemars_schema.specs.SchemaData.{IsSchema, members_in}
 use Rattle.schemars_schema.specs.Lookup.{resolved}
 use Rattle.schemars_schema.specs.References.{references}

@@ -3,7 +3,7 @@ use Rattle.std.specs.Prelude.{◌≡◌, ◌≤◌, ◌⊎◌, ℕ, suc, List, B
 use Rattle.serde_json.specs.Data.{Data, object, Members, no_members, member}
 use Rattle.serde_json.specs.Find.{get_member}
 use Rattle.schemars_schema.specs.Verdict.{verdict}
-use Rattle.schemars_schema.specs.Json.{Text, IsJson}
+use Rattle.schemars_json.specs.Json.{Text, IsJson}
 use Rattle.schemars_schema.specs.Acceptance.{Patterns, draft2020_12, accepts, bound}
 use Rattle.schemars_schema.specs.References.{ReferencesResolve, all_resolve, references}
 use Rattle.schemars_schema.specs.Placing.{placed_at}

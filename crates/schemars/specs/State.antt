@@ -2,7 +2,7 @@
 use Rattle.std.specs.Prelude.{ℕ, ◌==◌, List, [], ◌∷◌, false, Option, Some, None, codes, refl, length, if◌then◌else◌}
 use Rattle.std.specs.Coded.{Coded, code_by, coded×, coded_option}
 use Rattle.serde_json.specs.Data.{Members}
-use Rattle.schemars_schema.specs.Json.{Text}
+use Rattle.schemars_json.specs.Json.{Text}
 use Rattle.schemars_schema.specs.DataCode.{text_code, members_code}
 use Rattle.schemars_types.specs.Rows.{Row}
 use Rattle.schemars_types.specs.RowCode.{rows_code}

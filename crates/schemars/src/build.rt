@@ -5,7 +5,7 @@ ghost use Rattle.serde_json.specs.View.{view, items_view, members_view};
 ghost use Rattle.schemars_schema.specs.References.{references, found_in_members, found_in_items};
 ghost use Rattle.schemars_types.specs.Edges.{height};
 ghost use Rattle.schemars_types.specs.Faults.{IsChecked};
-ghost use Rattle.schemars_types.specs.Shape.{shape_of, field_of, numbers_of};
+ghost use Rattle.schemars_shapes.specs.Shape.{shape_of, field_of, numbers_of};
 ghost use Rattle.schemars_documents.specs.Documents.{IsDocument, IsWritten, ArePartsWritten, Describes, HasNoParts, NoPart, item_in, reference};
 ghost use Rattle.schemars.specs.Headline.{IsSubschema};
 ghost use Rattle.schemars.specs.Missing.{missing, StandsIn};

@@ -5,14 +5,14 @@ use Rattle.std.proofs.Math.Nat.{mul-le-mul_right}
 use Rattle.std.proofs.lemmas.Bool.Decides.{nat_tests}
 use Rattle.serde_json.specs.Data.{Data, depth}
 use Rattle.schemars_schema.specs.Verdict.{verdict}
-use Rattle.schemars_schema.specs.Json.{Text, IsJson}
+use Rattle.schemars_json.specs.Json.{Text, IsJson}
 use Rattle.schemars_schema.specs.SchemaData.{IsSchema}
 use Rattle.schemars_schema.specs.Lookup.{resolved}
 use Rattle.schemars_schema.specs.Acceptance.{Patterns, Judge, draft2020_12, judge, read_data, all_keywords, follow}
 use Rattle.schemars_schema.proofs.Verdicts.{both-yes}
 use Rattle.schemars_rewrite.specs.NullLaw.{IsNullable, context2020_12}
 use Rattle.schemars_rewrite.proofs.Nulls.{nullable-schema}
-use Rattle.schemars_types.specs.Shape.{Entry}
+use Rattle.schemars_shapes.specs.Shape.{Entry}
 use Rattle.schemars_types.specs.Rows.{Row, entry_at}
 use Rattle.schemars_types.specs.Meaning.{Contract, has_shape, belongs_within}
 use Rattle.schemars_documents.specs.Documents.{IsOwnDocument, IsWritten, Describes, reference}

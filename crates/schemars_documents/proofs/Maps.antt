@@ -7,7 +7,7 @@ use Rattle.std.proofs.lemmas.Map.Text.{is_eq-slice_cmp}
 use Rattle.serde_json.specs.Data.{Data, null, boolean, number, string, array, object, Members, no_members, member, put}
 use Rattle.serde_json.specs.Find.{get_member}
 use Rattle.schemars_schema.specs.Verdict.{Verdict, Yes, No, both, verdict}
-use Rattle.schemars_schema.specs.Json.{Text}
+use Rattle.schemars_json.specs.Json.{Text}
 use Rattle.schemars_schema.specs.SchemaData.{IsSchema, object_of, put_all}
 use Rattle.schemars_schema.specs.Acceptance.{Patterns, Judge, Context, Reading, judge, read_data, read_members, all_keywords, all_named, schema_named, each_member, where_some, have_all, texts_in, type_says, required_says, properties_say, additional_properties_say, is_covered}
 use Rattle.schemars_schema.proofs.Verdicts.{both-yes}

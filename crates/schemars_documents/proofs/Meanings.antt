@@ -2,20 +2,20 @@
 use Rattle.std.proofs.Common.{◌≡◌, ◌⊎◌, ℕ, zero, suc, ◌<◌, inl, inr, List, [], ◌∷◌, Bool, true, false, refl}
 use Rattle.serde_json.specs.Data.{Data, depth}
 use Rattle.schemars_schema.specs.Verdict.{verdict}
-use Rattle.schemars_schema.specs.Json.{Text, IsJson}
+use Rattle.schemars_json.specs.Json.{Text, IsJson}
 use Rattle.schemars_schema.specs.SchemaData.{IsSchema}
 use Rattle.schemars_schema.specs.Acceptance.{Patterns, Judge, Context, judge}
 use Rattle.schemars_rewrite.specs.NullLaw.{IsNullable, context2020_12}
 use Rattle.schemars_rewrite.proofs.Nulls.{nullable-schema, nullable-allow_null, allow_null-says}
-use Rattle.schemars_types.specs.Shape as shape
-use Rattle.schemars_types.specs.Shape.{Shape, Entry, numbers_of}
+use Rattle.schemars_shapes.specs.Shape as shape
+use Rattle.schemars_shapes.specs.Shape.{Shape, Entry, numbers_of}
 use Rattle.schemars_types.specs.Meaning.{Contract, Deserialize, Serialize, has_shape}
 use Rattle.schemars_documents.specs.Documents.{IsDocument}
 use Rattle.schemars_documents.specs.PlainTable.{IsPlainShape}
 use Rattle.schemars_documents.proofs.Shapes.{bytes_say, schema_says, null_says, bool_says, number_says, text_says, formatted_says, char_says, any_says, seq_says, set_says, array_says, up_to_says, tuple_says, int_says, non_zero_says}
 use Rattle.schemars_documents.proofs.Structs.{struct_says}
-use Rattle.schemars_types.specs.declared.shape.IntKind.{IntKind}
-use Rattle.schemars_types.specs.declared.shape.IntKind.TheVariants.{I8, I16, I32, I64, I128, Isize, U8, U16, U32, U64, U128, Usize}
+use Rattle.schemars_shapes.specs.declared.shape.IntKind.{IntKind}
+use Rattle.schemars_shapes.specs.declared.shape.IntKind.TheVariants.{I8, I16, I32, I64, I128, Isize, U8, U16, U32, U64, U128, Usize}
 use Rattle.schemars_documents.specs.Documents.{Keyword, int_document, non_zero_document, bytes_document, map_document, tuple_document}
 use Rattle.std.specs.Prelude.{codes}
 

@@ -6,16 +6,16 @@ use Rattle.serde_json.specs.Data.{Data, null, boolean, number, unsigned, negativ
 use Rattle.serde_json.specs.Find.{as_integer, of_integer, as_array}
 use Rattle.serde_json.specs.Events.{items_len}
 use Rattle.schemars_schema.specs.Verdict.{Verdict, Yes, No, Open, both, verdict, opposite}
-use Rattle.schemars_schema.specs.Json.{Text, IsJson, AreJson, json_eq, are_distinct}
+use Rattle.schemars_json.specs.Json.{Text, IsJson, AreJson, json_eq, are_distinct}
 use Rattle.schemars_schema.specs.SchemaData.{IsSchema, object_of}
 use Rattle.schemars_schema.specs.Acceptance.{Patterns, Judge, Context, judge, read_data, read_items, by_position, all_keywords, each_past, where_some, code_points, whole_number}
 use Rattle.schemars_schema.proofs.Verdicts.{both-yes, both-verdict}
 use Rattle.schemars_schema.proofs.Objects.{schema-judge}
 use Rattle.schemars_rewrite.specs.NullLaw.{context2020_12, zero_schema}
-use Rattle.schemars_types.specs.declared.shape.IntKind.{IntKind}
-use Rattle.schemars_types.specs.declared.shape.IntKind.TheVariants.{I8, I16, I32, I64, I128, Isize, U8, U16, U32, U64, U128, Usize}
-use Rattle.schemars_types.specs.IntKind.{format_of}
-use Rattle.schemars_types.specs.Shape as shape
+use Rattle.schemars_shapes.specs.declared.shape.IntKind.{IntKind}
+use Rattle.schemars_shapes.specs.declared.shape.IntKind.TheVariants.{I8, I16, I32, I64, I128, Isize, U8, U16, U32, U64, U128, Usize}
+use Rattle.schemars_shapes.specs.IntKind.{format_of}
+use Rattle.schemars_shapes.specs.Shape as shape
 use Rattle.schemars_types.specs.Meaning.{Contract, Deserialize, Serialize, is_byte, is_byte_text, has_shape, every_item, each_of, holds, least_of, greatest_of, is_at_least, is_at_most, is_zero}
 use Rattle.schemars_documents.specs.Documents.{type_alone, int_keywords, int_document, non_zero_document, char_document, formatted_document, seq_document, set_document, array_document, up_to_document, empty_list_document, tuple_document, items_from, ArePartsWritten, IsArrayDocument, bytes_document, schema_document}
 

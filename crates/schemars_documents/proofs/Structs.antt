@@ -7,13 +7,13 @@ use Rattle.serde_json.specs.Data.{Data, null, boolean, number, string, array, ob
 use Rattle.serde_json.specs.Find.{get_member, as_object}
 use Rattle.serde_json.proofs.Views.{get_member-put, get_member-put_other}
 use Rattle.schemars_schema.specs.Verdict.{Verdict, Yes, No, Open, both, verdict}
-use Rattle.schemars_schema.specs.Json.{Text, IsJson, AreJsonMembers}
+use Rattle.schemars_json.specs.Json.{Text, IsJson, AreJsonMembers}
 use Rattle.schemars_schema.specs.SchemaData.{IsSchema, put_all}
 use Rattle.schemars_schema.specs.Acceptance.{Patterns, Judge, Context, judge, each_member, where_some, have_all, schema_named}
 use Rattle.schemars_schema.specs.Annotations.{AreNotes}
 use Rattle.schemars_schema.proofs.Verdicts.{both-yes, both-verdict}
 use Rattle.schemars_rewrite.specs.NullLaw.{context2020_12}
-use Rattle.schemars_types.specs.Shape.{Field}
+use Rattle.schemars_shapes.specs.Shape.{Field}
 use Rattle.schemars_types.specs.Meaning.{Contract, is_required, field_named, member_fits, every_member, has_required, holds}
 use Rattle.schemars_documents.specs.PlainTable.{IsNoName, AreDistinct, AreNoted}
 use Rattle.schemars_documents.specs.Documents.{annotated, field_keywords, required_names, struct_document, AreWritten}

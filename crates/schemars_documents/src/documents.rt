@@ -4,7 +4,7 @@ ghost use Rattle.serde_json.specs.Data.{string, array, object, no_items, item, n
 ghost use Rattle.std.specs.Prelude.{map};
 ghost use Rattle.serde_json.specs.View.{items_view};
 ghost use Rattle.schemars_rewrite.specs.NullLaw.{text_items};
-ghost use Rattle.schemars_types.specs.Shape.{shape_of, field_of, required_of};
+ghost use Rattle.schemars_shapes.specs.Shape.{shape_of, field_of, required_of};
 ghost use Rattle.schemars_types.specs.Meaning.{is_required};
 ghost use Rattle.schemars_documents.specs.ContractOf.{contract_of};
 ghost use Rattle.schemars_documents.specs.Documents.{byte_document, bytes_document, schema_document, map_of, keyword_of_members, keyword_of_items, required_names};

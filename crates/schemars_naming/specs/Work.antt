@@ -3,9 +3,9 @@ use Rattle.std.specs.Prelude.{◌≡◌, ◌⊎◌, ◌++◌, ◌||◌, ℕ, Lis
 use Rattle.std.specs.Str.{IsUtf8}
 use Rattle.serde_json.specs.Data.{Data, Members}
 use Rattle.serde_json.specs.Find.{get_member}
-use Rattle.schemars_schema.specs.Json.{Text}
+use Rattle.schemars_json.specs.Json.{Text}
 use Rattle.schemars_schema.specs.Edits.{without}
-use Rattle.schemars_schema.specs.Encoding.{encoded}
+use Rattle.schemars_json.specs.Encoding.{encoded}
 use Rattle.schemars_types.specs.Rows.{Row, name_at}
 use Rattle.schemars_documents.specs.declared.contract.Contract.{Contract}
 use Rattle.schemars_documents.specs.ContractOf.{contract_of}

@@ -2,7 +2,7 @@
 use Rattle.std.specs.Prelude.{ℕ, Bool, List, refl}
 use Rattle.std.specs.Coded.{Coded, code_by, coded×, coded_ℕ, coded_bool, coded_list}
 use Rattle.serde_json.specs.Data.{Members}
-use Rattle.schemars_schema.specs.Json.{Text}
+use Rattle.schemars_json.specs.Json.{Text}
 use Rattle.schemars_schema.specs.DataCode.{text_code, members_code}
 use Rattle.schemars_naming.specs.Naming.{Naming}
 use Rattle.schemars_naming.specs.NamingCode.{naming_code}

@@ -7,7 +7,7 @@ use Rattle.std.proofs.lemmas.Slice.Eq.{bytes_eq-Decides}
 use Rattle.serde_json.specs.Data.{Num, unsigned, negative, float, Data, null, boolean, number, string, array, object, Items, no_items, item, Members, no_members, member}
 use Rattle.serde_json.specs.Find.{is_float}
 use Rattle.serde_json.specs.Written.{has_float, items_have_float, members_have_float}
-use Rattle.schemars_schema.specs.Json.{num_eq, json_eq, items_eq, members_eq}
+use Rattle.schemars_json.specs.Json.{num_eq, json_eq, items_eq, members_eq}
 use Rattle.schemars_shapes.specs.declared.shape.IntKind.{IntKind}
 use Rattle.schemars_shapes.specs.IntKind.{kind_eq, kind_number}
 use Rattle.schemars_shapes.specs.Shape.{Required, Field, Shape, Entry, null, bool, int, non_zero, number, text, char, formatted, any, bytes, schema_itself, option, seq, set, array as array_shape, up_to, tuple, struct, newtype}

@@ -1,6 +1,6 @@
 -- The kinds of integers: when two are the same, and the names of their types.
 use Rattle.std.specs.Prelude.{◌≡◌, ℕ, ◌==◌, Bool, codes, refl, if◌then◌else◌}
-use Rattle.schemars_schema.specs.Json.{Text}
+use Rattle.schemars_json.specs.Json.{Text}
 use Rattle.schemars_shapes.specs.declared.shape.IntKind.{IntKind}
 use Rattle.schemars_shapes.specs.declared.shape.IntKind.TheVariants.{I8, I16, I32, I64, I128, Isize, U8, U16, U32, U64, U128, Usize}
 

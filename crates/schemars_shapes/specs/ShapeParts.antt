@@ -1,7 +1,7 @@
 -- A shape by what it holds, and when two shapes are equal.
 use Rattle.std.specs.Prelude.{◌≡◌, ℕ, ◌==◌, ◌&&◌, List, [], ◌∷◌, Bool, true, false, not, Option, Some, None, unwrap_or, refl, if◌then◌else◌, bytes_eq}
 use Rattle.std.specs.Option.{option_eq}
-use Rattle.schemars_schema.specs.Json.{Text, members_eq}
+use Rattle.schemars_json.specs.Json.{Text, members_eq}
 use Rattle.schemars_shapes.specs.declared.shape.IntKind.{IntKind}
 use Rattle.schemars_shapes.specs.declared.shape.IntKind.TheVariants.{I8}
 use Rattle.schemars_shapes.specs.IntKind.{kind_eq}

@@ -9,7 +9,7 @@ use Rattle.std.proofs.lemmas.Bool.Decides.{same_from_decides, Decides-like}
 use Rattle.std.proofs.lemmas.Iterator.Adapters.{position_from-zero}
 use Rattle.std.proofs.lemmas.Slice.Eq.{bytes_eq-Decides}
 use Rattle.indexmap.specs.IndexMap.{insert_entry, set_value_at}
-use Rattle.schemars_schema.specs.Json.{Text}
+use Rattle.schemars_json.specs.Json.{Text}
 use Rattle.schemars_types.specs.declared.table.Slot.{Slot}
 use Rattle.schemars_shapes.specs.declared.shape.TypeEntry.{TypeEntry}
 use Rattle.schemars_shapes.specs.Shape.{Entry, entry_of}

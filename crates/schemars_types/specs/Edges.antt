@@ -1,7 +1,7 @@
 -- The edges of a table, as pairs of rows: a row refers to another.
 use Rattle.std.specs.Prelude.{◌≡◌, ◌<◌, ℕ, List, [], length, filter, Contains, Bool, true, false, nat_lt}
 use Rattle.std.specs.Option.{option_map_or}
-use Rattle.schemars_schema.specs.Json.{Text}
+use Rattle.schemars_json.specs.Json.{Text}
 use Rattle.schemars_shapes.specs.Shape.{numbers_of, same_value_numbers, names_of}
 use Rattle.schemars_types.specs.Rows.{Row, entry_at}
 use Rattle.schemars_cycles.specs.Walks.{longest}

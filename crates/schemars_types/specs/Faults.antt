@@ -1,7 +1,7 @@
 -- The faults of a table, which of them is told, and what a table without any offers.
 use Rattle.std.specs.Prelude.{◌≡◌, ◌<◌, ◌≤◌, ℕ, List, length, None, IsSome, bytes_eq, string_bytes}
 use Rattle.std.specs.List.{IsDistinct}
-use Rattle.schemars_schema.specs.Json.{Text}
+use Rattle.schemars_json.specs.Json.{Text}
 use Rattle.schemars_types.specs.Rows.{Row, entry_at}
 use Rattle.schemars_cycles.specs.Walks.{OnCycle, IsFree, IsLeast}
 use Rattle.schemars_shapes.specs.Repeated.{IsRepeated}

@@ -1,7 +1,7 @@
 -- How the logic stores rows, so that a table may have them as its model.
 use Rattle.std.specs.Prelude.{List, Option, refl}
 use Rattle.std.specs.Coded.{Coded, code_by, coded×, coded_list, coded_option}
-use Rattle.schemars_schema.specs.Json.{Text}
+use Rattle.schemars_json.specs.Json.{Text}
 use Rattle.schemars_schema.specs.DataCode.{text_code}
 use Rattle.schemars_shapes.specs.Shape.{Entry}
 use Rattle.schemars_shapes.specs.EntryCode.{entry_code}

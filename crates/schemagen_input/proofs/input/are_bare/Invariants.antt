@@ -1,7 +1,7 @@
 -- No field so far has notes.
 use Rattle.std.proofs.Common.{◌≡◌, drop, map}
 use Rattle.std.specs.List.{list_all}
-use Rattle.schemars_types.specs.Shape.{field_of}
+use Rattle.schemars_shapes.specs.Shape.{field_of}
 use Rattle.schemagen_input.specs.Input.{are_none}
 use Rattle.schemagen_input.proofs.input.are_bare.Given as goal
 

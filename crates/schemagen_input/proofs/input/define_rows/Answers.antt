@@ -1,6 +1,6 @@
 -- A row takes its entry, unless it has notes or the table refuses it.
 use Rattle.std.proofs.Common.{◌≡◌, [], length, false, true, None, sym, rules}
-use Rattle.schemars_types.specs.Shape.{entry_of}
+use Rattle.schemars_shapes.specs.Shape.{entry_of}
 use Rattle.serde_json.specs.View.{items_view}
 use Rattle.schemagen_input.specs.Input.{is_bare}
 use Rattle.schemagen_input.specs.Reading.{fitting_after}

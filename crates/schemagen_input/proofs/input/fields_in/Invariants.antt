@@ -1,7 +1,7 @@
 -- The fields so far, and then those that the rest says.
 use Rattle.std.proofs.Common.{◌≡◌, ◌++◌, drop, map, option_map}
 use Rattle.serde_json.specs.View.{items_view}
-use Rattle.schemars_types.specs.Shape.{field_of}
+use Rattle.schemars_shapes.specs.Shape.{field_of}
 use Rattle.schemagen_input.specs.Input.{fields_in}
 use Rattle.schemagen_input.proofs.input.fields_in.Given as goal
 

@@ -1,6 +1,6 @@
 -- None of the names so far is this one.
 use Rattle.std.proofs.Common.{◌≡◌, drop, map}
-use Rattle.schemars_schema.specs.OrderedText.{is_listed}
+use Rattle.schemars_json.specs.OrderedText.{is_listed}
 use Rattle.schemagen_input.proofs.input.is_listed.Given as goal
 
 abbrev pub invariant-loop-listed : goal.invariant-loop-listed

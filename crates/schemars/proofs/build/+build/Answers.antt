@@ -7,8 +7,8 @@ use Rattle.serde_json.proofs.Views.{get_member-put}
 use Rattle.schemars_schema.specs.Annotations.{AreNotes}
 use Rattle.schemars_schema.specs.References.{references, found_in_members, found_in_items}
 use Rattle.schemars_rewrite.specs.NullLaw.{text_items}
-use Rattle.schemars_types.specs.declared.shape.Field as src
-use Rattle.schemars_types.specs.Shape.{Shape, Entry, struct, shape_of, field_of, entry_of, numbers_of}
+use Rattle.schemars_shapes.specs.declared.shape.Field as src
+use Rattle.schemars_shapes.specs.Shape.{Shape, Entry, struct, shape_of, field_of, entry_of, numbers_of}
 use Rattle.schemars_types.specs.Edges.{height}
 use Rattle.schemars_documents.specs.Documents.{annotated, required_names, ArePartsWritten}
 use Rattle.schemars.specs.Missing.{StandsIn, missing}

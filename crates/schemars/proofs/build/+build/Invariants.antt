@@ -2,7 +2,7 @@ use Rattle.std.proofs.Common.{◌≡◌, ◌≤◌, map, take, not}
 use Rattle.serde_json.specs.View.{view, items_view, members_view}
 use Rattle.schemars_schema.specs.References.{found_in_members, found_in_items}
 use Rattle.schemars_types.specs.Edges.{height}
-use Rattle.schemars_types.specs.Shape.{field_of}
+use Rattle.schemars_shapes.specs.Shape.{field_of}
 use Rattle.schemars_documents.specs.Documents.{IsWritten, ArePartsWritten, Describes}
 use Rattle.schemars.specs.Missing.{missing}
 use Rattle.schemars_documents.specs.ContractOf.{contract_of}

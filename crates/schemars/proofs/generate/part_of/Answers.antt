@@ -1,5 +1,5 @@
 use Rattle.std.proofs.Common.{◌≡◌, None, false, refl, sym, subst, rules}
-use Rattle.schemars_schema.specs.Json.{Text}
+use Rattle.schemars_json.specs.Json.{Text}
 use Rattle.schemars.specs.Headline.{IsSubschema}
 use Rattle.schemars.specs.Settings.{state_of}
 use Rattle.schemars.specs.State.{plan_of, work_of}

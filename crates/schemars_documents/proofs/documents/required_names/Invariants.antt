@@ -1,7 +1,7 @@
 use Rattle.std.proofs.Common.{◌≡◌, ◌++◌, map, drop}
 use Rattle.serde_json.specs.Data.{string}
 use Rattle.serde_json.specs.View.{view}
-use Rattle.schemars_types.specs.Shape.{field_of}
+use Rattle.schemars_shapes.specs.Shape.{field_of}
 use Rattle.schemars_documents.specs.ContractOf.{contract_of}
 use Rattle.schemars_documents.specs.Documents.{required_names}
 use Rattle.schemars_documents.proofs.documents.required_names.Given as goal
