@@ -9,7 +9,8 @@ use Rattle.serde_json.specs.Written.{has_float, items_have_float, members_have_f
 use Rattle.schemars_json.specs.Json.{Text}
 use Rattle.schemars_schema.specs.SchemaData.{put_members, members_in, put_all}
 use Rattle.schemars_schema.proofs.Contents.{members_have_float-put}
-use Rattle.schemars_rewrite.specs.AllowNull.{is_combined, or_null, allow_null, type_with_null, null_in_type, with_item, holds_text}
+use Rattle.schemars_rewrite.specs.AllowNull.{is_null_choice, is_combined, or_null, allow_null, type_with_null, null_in_type, with_item, holds_text, holds_null, enum_with_null, null_in_enum, const_or_null, null_in_const, null_in_values}
+use Rattle.schemars_schema.specs.Acceptance.{is_null}
 use Rattle.schemars_rewrite.specs.NullLaw.{text_items}
 use Rattle.schemars_shapes.specs.declared.shape.IntKind.{IntKind}
 use Rattle.schemars_shapes.specs.declared.shape.IntKind.TheVariants.{I8, I16, I32, I64, I128, Isize, U8, U16, U32, U64, U128, Usize}
@@ -53,9 +54,20 @@ whole_annotated : (notes : Members) (s : Data) → members_have_float notes ≡ 
 whole_annotated no_members s h e = e
 whole_annotated (member k d notes) s h e = whole_put_members (member k d notes) (members_in s) h (whole_members_in s e)
 
-whole_with_item : (ds : Items) (t : Text) → items_have_float ds ≡ false → items_have_float (with_item ds (string t)) ≡ false
-whole_with_item no_items t h = refl
-whole_with_item (item d ds) t h = let parts = either_false (has_float d) (items_have_float ds) h in rw parts.0 (whole_with_item ds t parts.1)
+pub whole_without : (k : Text) (ms : Members) → members_have_float ms ≡ false → members_have_float (without k ms) ≡ false
+whole_without k no_members h = refl
+whole_without k (member l e ms) h = go (bytes_eq k l) (whole_without k ms parts.1)
+  where
+    parts : (has_float e ≡ false) × (members_have_float ms ≡ false)
+    parts = either_false (has_float e) (members_have_float ms) h
+
+    go : (b : Bool) → members_have_float (without k ms) ≡ false → members_have_float (if b then ms else member l e (without k ms)) ≡ false
+    go true later = parts.1
+    go false later = rw (parts.0) later
+
+whole_with_item : (ds : Items) (e : Data) → IsWhole e → items_have_float ds ≡ false → items_have_float (with_item ds e) ≡ false
+whole_with_item no_items e whole h = rw whole refl
+whole_with_item (item d ds) e whole h = let parts = either_false (has_float d) (items_have_float ds) h in rw parts.0 (whole_with_item ds e whole parts.1)
 
 whole_type : (d : Data) → IsWhole d → IsWhole (type_with_null d)
 whole_type (string t) h = go (bytes_eq t (codes "null"))
@@ -67,7 +79,7 @@ whole_type (array ds) h = go (holds_text (codes "null") ds)
   where
     go : (b : Bool) → IsWhole (if b then array ds else array (with_item ds (string (codes "null"))))
     go true = h
-    go false = whole_with_item ds (codes "null") h
+    go false = whole_with_item ds (string (codes "null")) refl h
 whole_type null h = h
 whole_type (boolean b) h = h
 whole_type (number n) h = h
@@ -90,14 +102,48 @@ whole_null_in_type : (o : Option Data) (ms : Members) → ((d : Data) → o ≡ 
 whole_null_in_type None ms h e = e
 whole_null_in_type (Some d) ms h e = members_have_float-put (codes "type") (type_with_null d) ms (whole_type d (h d refl)) e
 
+whole_enum : (d : Data) → IsWhole d → IsWhole (enum_with_null d)
+whole_enum (array ds) h = go (holds_null ds)
+  where
+    go : (b : Bool) → IsWhole (if b then array ds else array (with_item ds null))
+    go true = h
+    go false = whole_with_item ds null refl h
+whole_enum null h = h
+whole_enum (boolean b) h = h
+whole_enum (number n) h = h
+whole_enum (string t) h = h
+whole_enum (object ms) h = h
+
+whole_null_in_enum : (o : Option Data) (ms : Members) → ((d : Data) → o ≡ Some d → IsWhole d) → members_have_float ms ≡ false → members_have_float (null_in_enum o ms) ≡ false
+whole_null_in_enum None ms h e = e
+whole_null_in_enum (Some d) ms h e = members_have_float-put (codes "enum") (enum_with_null d) ms (whole_enum d (h d refl)) e
+
+whole_null_in_const : (o : Option Data) (ms : Members) → ((d : Data) → o ≡ Some d → IsWhole d) → members_have_float ms ≡ false → members_have_float (null_in_const o ms) ≡ false
+whole_null_in_const None ms h e = whole_null_in_enum (get_member (codes "enum") ms) ms (whole_member (codes "enum") ms e) e
+whole_null_in_const (Some c) ms h e = go (is_null c)
+  where
+    both : IsWhole (array (item c (item null no_items)))
+    both = rw (h c refl) refl
+
+    go : (b : Bool) → members_have_float (if b then ms else const_or_null c ms) ≡ false
+    go true = e
+    go false = members_have_float-put (codes "enum") (array (item c (item null no_items))) (without (codes "const") ms) both (whole_without (codes "const") ms e)
+
 whole_allow_null : (s : Data) → IsWhole s → IsWhole (allow_null s)
 whole_allow_null (boolean true) h = refl
 whole_allow_null (boolean false) h = refl
-whole_allow_null (object ms) h = go (is_combined (object ms))
+whole_allow_null (object ms) h = go (is_null_choice (object ms)) (is_combined (object ms))
   where
-    go : (b : Bool) → IsWhole (if b then or_null (object ms) else object (null_in_type (get_member (codes "type") ms) ms))
-    go true = rw h
-    go false = whole_null_in_type (get_member (codes "type") ms) ms (whole_member (codes "type") ms h) h
+    typed : Members
+    typed = null_in_type (get_member (codes "type") ms) ms
+
+    whole : members_have_float typed ≡ false
+    whole = whole_null_in_type (get_member (codes "type") ms) ms (whole_member (codes "type") ms h) h
+
+    go : (stays b : Bool) → IsWhole (if stays then object ms else if b then or_null (object ms) else object (null_in_values (null_in_type (get_member (codes "type") ms) ms)))
+    go true b = h
+    go false true = rw h
+    go false false = whole_null_in_const (get_member (codes "const") typed) typed (whole_member (codes "const") typed whole) whole
 whole_allow_null null h = h
 whole_allow_null (number n) h = h
 whole_allow_null (string t) h = h
@@ -245,17 +291,6 @@ definitions_whole plan w none definitions once =
     found_whole w.definitions once (λ k d found.
     let definition = definitions k d found in
     described_whole plan.rows (contract_of plan.contract) (Refers plan false w) none definition.depth definition.row d definition.describes)
-
-pub whole_without : (k : Text) (ms : Members) → members_have_float ms ≡ false → members_have_float (without k ms) ≡ false
-whole_without k no_members h = refl
-whole_without k (member l e ms) h = go (bytes_eq k l) (whole_without k ms parts.1)
-  where
-    parts : (has_float e ≡ false) × (members_have_float ms ≡ false)
-    parts = either_false (has_float e) (members_have_float ms) h
-
-    go : (b : Bool) → members_have_float (without k ms) ≡ false → members_have_float (if b then ms else member l e (without k ms)) ≡ false
-    go true later = parts.1
-    go false later = rw (parts.0) later
 
 pub whole_replaced : (k : Text) (d : Data) (ms : Members) → has_float d ≡ false → members_have_float ms ≡ false → members_have_float (replaced k d ms) ≡ false
 whole_replaced k d no_members new h = refl

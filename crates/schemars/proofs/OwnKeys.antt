@@ -1,13 +1,19 @@
 -- The document of a row has no definitions of its own.
 use Rattle.std.proofs.Common.{◌≡◌, ℕ, zero, suc, ℤ, List, [], ◌∷◌, ◌++◌, Option, Some, None, Bool, true, false, refl, ◌∙◌, pos, inl, inr}
 use Rattle.std.specs.Prelude.{codes, is_some, if◌then◌else◌}
-use Rattle.serde_json.specs.Data.{Data, null, boolean, number, string, array, object, Members, no_members, member, put}
+use Rattle.serde_json.specs.Data.{Data, null, boolean, number, string, array, object, no_items, item, Members, no_members, member, put}
 use Rattle.serde_json.specs.Find.{get_member}
 use Rattle.serde_json.proofs.Views.{get_member-put_other}
+use Rattle.std.proofs.Common.{Ordering, Less, Equal, Greater, nat_cmp}
+use Rattle.std.specs.Prelude.{bytes_eq}
+use Rattle.std.specs.Ordering.{match_ordering}
+use Rattle.std.specs.Cmp.Lexicographic.{slice_cmp}
 use Rattle.schemars_json.specs.Json.{Text}
+use Rattle.schemars_schema.specs.Edits.{without}
+use Rattle.schemars_schema.specs.Acceptance.{is_null}
 use Rattle.schemars_schema.specs.SchemaData.{members_in, object_of, put_all, put_members}
 use Rattle.schemars_schema.specs.Annotations.{AreNotes}
-use Rattle.schemars_rewrite.specs.AllowNull.{null_schema, is_combined, or_null, allow_null, type_with_null, null_in_type}
+use Rattle.schemars_rewrite.specs.AllowNull.{null_schema, is_null_choice, is_combined, or_null, allow_null, type_with_null, null_in_type, enum_with_null, null_in_enum, const_or_null, null_in_const, null_in_values}
 use Rattle.schemars_rewrite.specs.NullLaw.{zero_schema}
 use Rattle.schemars_shapes.specs.declared.shape.IntKind.{IntKind}
 use Rattle.schemars_shapes.specs.IntKind.{format_of}
@@ -108,14 +114,49 @@ module _ (key : Text) (is_key : IsDefinitionsKey key) where
   lacks_null_in_type None ms h = h
   lacks_null_in_type (Some d) ms h = lacks-put (codes "type") (type_with_null d) ms refl h
 
+  lacks_without : (k : Text) (ms : Members) → Lacks ms → Lacks (without k ms)
+  lacks_without k no_members h = h
+  lacks_without k (member l e ms) h = go (bytes_eq k l) (lacks_without k ms (first (slice_cmp nat_cmp key l) h))
+    where
+      first : (o : Ordering) → match_ordering o (get_member key ms) (Some e) (get_member key ms) ≡ None → Lacks ms
+      first Less h = h
+      first Equal h = cc
+      first Greater h = h
+
+      again : (o : Ordering) → match_ordering o (get_member key ms) (Some e) (get_member key ms) ≡ None → Lacks (without k ms)
+          → match_ordering o (get_member key (without k ms)) (Some e) (get_member key (without k ms)) ≡ None
+      again Less h later = later
+      again Equal h later = cc
+      again Greater h later = later
+
+      go : (b : Bool) → Lacks (without k ms) → Lacks (if b then ms else member l e (without k ms))
+      go true later = first (slice_cmp nat_cmp key l) h
+      go false later = again (slice_cmp nat_cmp key l) h later
+
+  lacks_null_in_enum : (o : Option Data) (ms : Members) → Lacks ms → Lacks (null_in_enum o ms)
+  lacks_null_in_enum None ms h = h
+  lacks_null_in_enum (Some d) ms h = lacks-put (codes "enum") (enum_with_null d) ms refl h
+
+  lacks_null_in_const : (o : Option Data) (ms : Members) → Lacks ms → Lacks (null_in_const o ms)
+  lacks_null_in_const None ms h = lacks_null_in_enum (get_member (codes "enum") ms) ms h
+  lacks_null_in_const (Some c) ms h = go (is_null c)
+    where
+      go : (b : Bool) → Lacks (if b then ms else const_or_null c ms)
+      go true = h
+      go false = lacks-put (codes "enum") (array (item c (item null no_items))) (without (codes "const") ms) refl (lacks_without (codes "const") ms h)
+
   lacks_allow_null : (s : Data) → LacksIn s → LacksIn (allow_null s)
   lacks_allow_null (boolean true) h = refl
   lacks_allow_null (boolean false) h = lacks_both (members_in null_schema) refl refl
-  lacks_allow_null (object ms) h = go (is_combined (object ms))
+  lacks_allow_null (object ms) h = go (is_null_choice (object ms)) (is_combined (object ms))
     where
-      go : (b : Bool) → LacksIn (if b then or_null (object ms) else object (null_in_type (get_member (codes "type") ms) ms))
-      go true = lacks_both (members_in (or_null (object ms))) refl refl
-      go false = lacks_null_in_type (get_member (codes "type") ms) ms h
+      typed_members : Members
+      typed_members = null_in_type (get_member (codes "type") ms) ms
+
+      go : (stays b : Bool) → LacksIn (if stays then object ms else if b then or_null (object ms) else object (null_in_values (null_in_type (get_member (codes "type") ms) ms)))
+      go true b = h
+      go false true = lacks_both (members_in (or_null (object ms))) refl refl
+      go false false = lacks_null_in_const (get_member (codes "const") typed_members) typed_members (lacks_null_in_type (get_member (codes "type") ms) ms h)
   lacks_allow_null null h = refl
   lacks_allow_null (number n) h = refl
   lacks_allow_null (string t) h = refl

@@ -14,10 +14,11 @@ use Rattle.serde_json.specs.View.{view, items_view}
 use Rattle.schemars_json.specs.Json.{Text}
 use Rattle.schemars_schema.specs.SchemaData.{put_members, members_in, put_all}
 use Rattle.schemars_schema.specs.Annotations.{AreNotes}
-use Rattle.schemars_schema.specs.Edits.{replaced}
+use Rattle.schemars_schema.specs.Edits.{replaced, without}
+use Rattle.schemars_schema.specs.Acceptance.{is_null}
 use Rattle.schemars_schema.specs.References.{found_in, found_in_members, found_in_items, found_in_keywords, references}
 use Rattle.schemars_schema.proofs.Contents.{found_under, found_under-annotation}
-use Rattle.schemars_rewrite.specs.AllowNull.{is_combined, or_null, allow_null, type_with_null, null_in_type}
+use Rattle.schemars_rewrite.specs.AllowNull.{is_null_choice, is_combined, or_null, allow_null, type_with_null, null_in_type, enum_with_null, null_in_enum, const_or_null, null_in_const, null_in_values}
 use Rattle.schemars_shapes.specs.declared.shape.Field as src
 use Rattle.schemars_shapes.specs.Shape as shape
 use Rattle.schemars_shapes.specs.Shape.{Shape, Field, field_of}
@@ -110,17 +111,48 @@ among_null_in_type : (o : Option Data) (ms : Members) → Among (found_in_keywor
 among_null_in_type None ms = λ x h. h
 among_null_in_type (Some d) ms = keywords-kept (codes "type") (type_with_null d) ms (λ e. refl)
 
+-- what stands under the key has no reference
+keywords-without : (k : Text) (ms : Members) → ((e : Data) → found_under k e ≡ []) → Among (found_in_keywords ms) (found_in_keywords (without k ms))
+unfolding found_in
+keywords-without k no_members none = λ x h. h
+keywords-without k (member l e ms) none = go (bytes_eq k l) refl (keywords-without k ms none)
+  where
+    go : (b : Bool) → bytes_eq k l ≡ b → Among (found_in_keywords ms) (found_in_keywords (without k ms))
+        → Among (found_in_keywords (member l e ms)) (found_in_keywords (if b then ms else member l e (without k ms)))
+    go true is later =
+        let nothing : found_under l e ≡ [] = ap (λ x. found_under x e) (sym ((bytes_eq-Decides k l).0 is)) ∙ none e in
+        let P : List Data → Type 0 = λ xs. Among (xs ++ found_in_keywords ms) (found_in_keywords ms) in
+        subst P (sym nothing) (λ x h. h)
+    go false is later = among_append (found_under l e) (found_in_keywords ms) (found_under l e) (found_in_keywords (without k ms)) (λ x h. h) later
+
+among_null_in_enum : (o : Option Data) (ms : Members) → Among (found_in_keywords ms) (found_in_keywords (null_in_enum o ms))
+among_null_in_enum None ms = λ x h. h
+among_null_in_enum (Some d) ms = keywords-kept (codes "enum") (enum_with_null d) ms (λ e. refl)
+
+among_null_in_const : (o : Option Data) (ms : Members) → Among (found_in_keywords ms) (found_in_keywords (null_in_const o ms))
+among_null_in_const None ms = among_null_in_enum (get_member (codes "enum") ms) ms
+among_null_in_const (Some c) ms = go (is_null c)
+  where
+    go : (b : Bool) → Among (found_in_keywords ms) (found_in_keywords (if b then ms else const_or_null c ms))
+    go true = λ x h. h
+    go false = λ x h.
+        keywords-kept (codes "enum") (array (item c (item null no_items))) (without (codes "const") ms) (λ e. refl) x (keywords-without (codes "const") ms (λ e. refl) x h)
+
 among_or_null : (s : Data) → Among (references s) (references (or_null s))
 unfolding found_in
 among_or_null s = λ x h. among_left (references s ++ []) [] x (among_left (references s) [] x h)
 
 pub among_allow_null : (s : Data) → Among (references s) (references (allow_null s))
 unfolding found_in
-among_allow_null (object ms) = go (is_combined (object ms))
+among_allow_null (object ms) = go (is_null_choice (object ms)) (is_combined (object ms))
   where
-    go : (b : Bool) → Among (references (object ms)) (references (if b then or_null (object ms) else object (null_in_type (get_member (codes "type") ms) ms)))
-    go true = among_or_null (object ms)
-    go false = among_null_in_type (get_member (codes "type") ms) ms
+    typed : Members
+    typed = null_in_type (get_member (codes "type") ms) ms
+
+    go : (stays b : Bool) → Among (references (object ms)) (references (if stays then object ms else if b then or_null (object ms) else object (null_in_values (null_in_type (get_member (codes "type") ms) ms))))
+    go true b = λ x h. h
+    go false true = among_or_null (object ms)
+    go false false = λ x h. among_null_in_const (get_member (codes "const") typed) typed x (among_null_in_type (get_member (codes "type") ms) ms x h)
 among_allow_null (boolean true) = λ x h. absurd (omega (arith, h.1))
 among_allow_null (boolean false) = λ x h. absurd (omega (arith, h.1))
 among_allow_null null = λ x h. absurd (omega (arith, h.1))

@@ -1,18 +1,20 @@
 -- Every reference of a document resolves, where those of its parts do.
 use Rattle.std.proofs.Common.{◌≡◌, inl, inr, ℕ, zero, suc, List, [], ◌∷◌, ◌++◌, Option, Some, None, Bool, true, false, Ordering, Less, Equal, Greater, nat_cmp, refl, sym, ap, ◌∙◌, true≢false}
-use Rattle.std.specs.Prelude.{codes, is_some, if◌then◌else◌, ◌&&◌}
+use Rattle.std.specs.Prelude.{codes, bytes_eq, is_some, if◌then◌else◌, ◌&&◌}
 use Rattle.std.specs.Ordering.{match_ordering}
 use Rattle.std.specs.Cmp.Lexicographic.{slice_cmp}
 use Rattle.std.proofs.lemmas.Map.Lookups.{exact_bytes}
-use Rattle.serde_json.specs.Data.{Data, null, boolean, number, string, array, object, Members, no_members, member, put}
+use Rattle.serde_json.specs.Data.{Data, null, boolean, number, string, array, object, no_items, item, Members, no_members, member, put}
 use Rattle.serde_json.specs.Find.{get_member}
 use Rattle.schemars_json.specs.Json.{Text}
 use Rattle.schemars_schema.specs.SchemaData.{put_members, IsSchema, members_in, put_all}
 use Rattle.schemars_schema.specs.Annotations.{AreNotes}
+use Rattle.schemars_schema.specs.Edits.{without}
+use Rattle.schemars_schema.specs.Acceptance.{is_null}
 use Rattle.schemars_schema.specs.Lookup.{resolved}
 use Rattle.schemars_schema.specs.References.{found_in, found_in_members, found_in_items, found_in_keywords, references, resolves, all_resolve}
 use Rattle.schemars_schema.proofs.Contents.{found_under, found_under-annotation}
-use Rattle.schemars_rewrite.specs.AllowNull.{is_combined, or_null, allow_null, type_with_null, null_in_type}
+use Rattle.schemars_rewrite.specs.AllowNull.{is_null_choice, is_combined, or_null, allow_null, type_with_null, null_in_type, enum_with_null, null_in_enum, const_or_null, null_in_const, null_in_values}
 use Rattle.schemars_shapes.specs.declared.shape.IntKind.{IntKind}
 use Rattle.schemars_shapes.specs.declared.shape.IntKind.TheVariants.{I8, I16, I32, I64, I128, Isize, U8, U16, U32, U64, U128, Usize}
 use Rattle.schemars_shapes.specs.Shape as shape
@@ -102,6 +104,30 @@ module _ (document : Data) where
   resolved_null_in_type None ms e = e
   resolved_null_in_type (Some d) ms e = keywords-put (codes "type") (type_with_null d) ms refl e
 
+  resolved_without : (k : Text) (ms : Members) → Resolve (found_in_keywords ms) → Resolve (found_in_keywords (without k ms))
+  unfolding found_in
+  resolved_without k no_members h = h
+  resolved_without k (member l e ms) h = go (bytes_eq k l) (resolved_without k ms parts.1)
+    where
+      parts : Resolve (found_under l e) × Resolve (found_in_keywords ms)
+      parts = resolve-parts (found_under l e) (found_in_keywords ms) h
+
+      go : (b : Bool) → Resolve (found_in_keywords (without k ms)) → Resolve (found_in_keywords (if b then ms else member l e (without k ms)))
+      go true later = parts.1
+      go false later = resolve-append (found_under l e) (found_in_keywords (without k ms)) parts.0 later
+
+  resolved_null_in_enum : (o : Option Data) (ms : Members) → Resolve (found_in_keywords ms) → Resolve (found_in_keywords (null_in_enum o ms))
+  resolved_null_in_enum None ms e = e
+  resolved_null_in_enum (Some d) ms e = keywords-put (codes "enum") (enum_with_null d) ms refl e
+
+  resolved_null_in_const : (o : Option Data) (ms : Members) → Resolve (found_in_keywords ms) → Resolve (found_in_keywords (null_in_const o ms))
+  resolved_null_in_const None ms e = resolved_null_in_enum (get_member (codes "enum") ms) ms e
+  resolved_null_in_const (Some c) ms e = go (is_null c)
+    where
+      go : (b : Bool) → Resolve (found_in_keywords (if b then ms else const_or_null c ms))
+      go true = e
+      go false = keywords-put (codes "enum") (array (item c (item null no_items))) (without (codes "const") ms) refl (resolved_without (codes "const") ms e)
+
   resolved_or_null : (s : Data) → IsResolved s → IsResolved (or_null s)
   unfolding found_in
   resolved_or_null s h = (tt, resolve-append (references s ++ []) [] (resolve-append (references s) [] h.1 refl) refl)
@@ -110,11 +136,16 @@ module _ (document : Data) where
   unfolding found_in
   resolved_allow_null (boolean true) h = h
   resolved_allow_null (boolean false) h = (tt, refl)
-  resolved_allow_null (object ms) h = go (is_combined (object ms))
+  resolved_allow_null (object ms) h = go (is_null_choice (object ms)) (is_combined (object ms))
     where
-      go : (b : Bool) → IsResolved (if b then or_null (object ms) else object (null_in_type (get_member (codes "type") ms) ms))
-      go true = resolved_or_null (object ms) h
-      go false = resolved_object (null_in_type (get_member (codes "type") ms) ms) (resolved_null_in_type (get_member (codes "type") ms) ms h.1)
+      typed : Members
+      typed = null_in_type (get_member (codes "type") ms) ms
+
+      go : (stays b : Bool) → IsResolved (if stays then object ms else if b then or_null (object ms) else object (null_in_values (null_in_type (get_member (codes "type") ms) ms)))
+      go true b = h
+      go false true = resolved_or_null (object ms) h
+      go false false =
+          resolved_object (null_in_values typed) (resolved_null_in_const (get_member (codes "const") typed) typed (resolved_null_in_type (get_member (codes "type") ms) ms h.1))
   resolved_allow_null null h = absurd h.0
   resolved_allow_null (number n) h = absurd h.0
   resolved_allow_null (string t) h = absurd h.0

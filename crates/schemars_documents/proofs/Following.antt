@@ -1,5 +1,5 @@
 -- A document accepts just what belongs to its row, through references and rows that lead back to themselves.
-use Rattle.std.proofs.Common.{◌≡◌, ◌⊎◌, inl, inr, ℕ, zero, suc, ◌+◌, ◌*◌, ◌<◌, ◌≤◌, List, [], ◌∷◌, Option, Some, None, Bool, true, false, refl, ap, ◌∙◌, arith, add-one}
+use Rattle.std.proofs.Common.{◌≡◌, ◌⊎◌, inl, inr, ℕ, zero, suc, ◌+◌, ◌*◌, ◌<◌, ◌≤◌, List, [], ◌∷◌, Option, Some, None, Bool, true, false, refl, sym, ap, ◌∙◌, arith, add-one, true≢false}
 use Rattle.std.specs.Prelude.{nat_lt, if◌then◌else◌, length}
 use Rattle.std.proofs.Math.Nat.{mul-le-mul_right}
 use Rattle.std.proofs.lemmas.Bool.Decides.{nat_tests}
@@ -81,7 +81,7 @@ module _ (rows : List Row) (contract : Contract) (Refers : ℕ → Text → Type
   In d = IsWritten Refers (Describes rows contract Refers d)
 
   reference_nullable : (r : Text) → IsNullable (reference r)
-  reference_nullable r = inl refl
+  reference_nullable r = inl (record { combined = refl; offers = λ stays. absurd (true≢false (sym stays)) })
 
   own_nullable : (d : ℕ) → ((j : ℕ) (t : Data) → In d j t → IsNullable t) → (o : Option Entry) → IsPlainEntry o → (t : Data) → IsOwnDocument (In d) contract o t → IsNullable t
   own_nullable d ready None noted t is = absurd is

@@ -3,13 +3,15 @@ use Rattle.std.proofs.Common.{◌≡◌, inl, inr, Option, Some, None, Bool, tru
 use Rattle.std.specs.Prelude.{codes, is_some, if◌then◌else◌}
 use Rattle.serde_json.specs.Data.{Data, null, boolean, number, string, array, object, Members, no_members, member, put}
 use Rattle.serde_json.specs.Find.{get_member}
-use Rattle.serde_json.proofs.Views.{get_member-put_other}
+use Rattle.serde_json.proofs.Views.{get_member-put, get_member-put_other}
 use Rattle.schemars_json.specs.Json.{Text}
 use Rattle.schemars_schema.specs.SchemaData.{put_members, IsSchema, members_in}
 use Rattle.schemars_schema.specs.Acceptance.{Context, Patterns, Judge, judge, read_data, all_keywords}
 use Rattle.schemars_schema.specs.Annotations.{is_annotation, AreNotes}
 use Rattle.schemars_schema.proofs.Objects.{judge-put, annotation-silent}
+use Rattle.schemars_rewrite.specs.AllowNull.{is_null_choice}
 use Rattle.schemars_rewrite.specs.NullLaw.{IsNullable, context2020_12}
+use Rattle.schemars_rewrite.proofs.Nulls.{choice_key}
 use Rattle.schemars_documents.specs.Documents.{annotated, with_title, with_meta_schema, root_document}
 
 module _ (patterns : Patterns) (f : Text → Judge) where
@@ -56,19 +58,32 @@ put_members-other l no_members ms e h = refl
 put_members-other l (member k d notes) ms e h =
     put_members-other l notes (put k d ms) e h.1 ∙ get_member-put_other l k d ms (λ same. true≢false (sym h.0 ∙ (ap is_annotation (sym same) ∙ e)))
 
-nullable-agree : (ms ns : Members) → ((l : Text) → is_annotation l ≡ false → get_member l ms ≡ get_member l ns) → IsNullable (object ns) → IsNullable (object ms)
-nullable-agree ms ns e (inl h) =
-    inl (rw (e (codes "if") refl, e (codes "allOf") refl, e (codes "anyOf") refl, e (codes "oneOf") refl, e (codes "$ref") refl, e (codes "not") refl) h)
-nullable-agree ms ns e (inr p) = inr (record {
+-- a note stands there, so that no keyword stands alone
+abbrev HasNote : Members → Type 0
+HasNote ms = (k : Text) × (d : Data) × (is_annotation k ≡ true) × (get_member k ms ≡ Some d)
+
+put_members-noted : (notes ms : Members) → AreNotes notes → HasNote ms → HasNote (put_members notes ms)
+put_members-noted no_members ms h noted = noted
+put_members-noted (member k d notes) ms h noted = put_members-noted notes (put k d ms) h.1 (k, d, h.0, get_member-put k d ms)
+
+noted-not_choice : (ms : Members) → HasNote ms → is_null_choice (object ms) ≡ true → ⊥
+noted-not_choice ms noted stays = true≢false (sym noted.2 ∙ ap is_annotation (choice_key ms stays noted.0 noted.1 noted.3))
+
+nullable-agree : (ms ns : Members) → HasNote ms → ((l : Text) → is_annotation l ≡ false → get_member l ms ≡ get_member l ns) → IsNullable (object ns) → IsNullable (object ms)
+nullable-agree ms ns noted e (inl p) = inl (record {
+  combined = rw (e (codes "if") refl, e (codes "allOf") refl, e (codes "anyOf") refl, e (codes "oneOf") refl, e (codes "$ref") refl, e (codes "not") refl) p.combined;
+  offers = λ stays. absurd (noted-not_choice ms noted stays);
+})
+nullable-agree ms ns noted e (inr p) = inr (record {
+  alone = rw (e (codes "if") refl, e (codes "allOf") refl, e (codes "anyOf") refl, e (codes "oneOf") refl, e (codes "$ref") refl, e (codes "not") refl) p.alone;
   type_form = rw (e (codes "type") refl) p.type_form;
   no_const = e (codes "const") refl ∙ p.no_const;
-  no_enum = e (codes "enum") refl ∙ p.no_enum;
   not_form = rw (e (codes "not") refl) p.not_form;
 })
 
 nullable-members_in : (s : Data) → IsNullable s → IsNullable (object (members_in s))
-nullable-members_in (boolean true) r = inr (record { type_form = tt; no_const = refl; no_enum = refl; not_form = inl refl })
-nullable-members_in (boolean false) r = inl refl
+nullable-members_in (boolean true) r = inr (record { alone = refl; type_form = tt; no_const = refl; not_form = inl refl })
+nullable-members_in (boolean false) r = inl (record { combined = refl; offers = λ stays. absurd (true≢false (sym stays)) })
 nullable-members_in (object ms) r = r
 nullable-members_in null r = absurd r
 nullable-members_in (number n) r = absurd r
@@ -78,7 +93,8 @@ nullable-members_in (array ds) r = absurd r
 pub nullable-annotated : (notes : Members) (s : Data) → AreNotes notes → IsNullable s → IsNullable (annotated notes s)
 nullable-annotated no_members s h r = r
 nullable-annotated (member k d notes) s h r =
-    nullable-agree (put_members (member k d notes) (members_in s)) (members_in s) (λ l e. put_members-other l (member k d notes) (members_in s) e h) (nullable-members_in s r)
+    let noted : HasNote (put_members (member k d notes) (members_in s)) = put_members-noted notes (put k d (members_in s)) h.1 (k, d, h.0, get_member-put k d (members_in s)) in
+    nullable-agree (put_members (member k d notes) (members_in s)) (members_in s) noted (λ l e. put_members-other l (member k d notes) (members_in s) e h) (nullable-members_in s r)
 
 pub annotated-schema : (notes : Members) (s : Data) → IsSchema s → IsSchema (annotated notes s)
 annotated-schema no_members s is = is
