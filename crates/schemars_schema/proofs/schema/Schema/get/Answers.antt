@@ -1,0 +1,5 @@
+use Rattle.std.proofs.Common.{rules}
+use Rattle.schemars_schema.proofs.schema.Schema.get.Goals as goal
+
+pub returns : goal.returns
+returns c = search rules
