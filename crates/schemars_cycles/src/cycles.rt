@@ -10,10 +10,7 @@ use std::alloc::{AllocError, Global};
 ///
 /// It takes one step for each number and each edge where no walk closes. Otherwise each number is
 /// tried in turn, at that cost each.
-pub fn least_on_cycle(
-    alloc: Global,
-    graph: &[Vec<usize>],
-) -> Result<Option<usize>, AllocError>
+pub fn least_on_cycle(alloc: Global, graph: &[Vec<usize>]) -> Result<Option<usize>, AllocError>
     requires { IsClosed graph.now }
     ensures { IfOk result (λ r. MatchOption r (IsFree (OnCycle (Leads (targets_in graph.now))))
         (IsLeast (OnCycle (Leads (targets_in graph.now))))) }

@@ -10,7 +10,7 @@ use Rattle.schemars_json.specs.Json.{num_eq, json_eq, items_eq, members_eq}
 use Rattle.schemars_shapes.specs.declared.shape.IntKind.{IntKind}
 use Rattle.schemars_shapes.specs.IntKind.{kind_eq, kind_number, kind_at, kind_at-kind_number}
 use Rattle.schemars_shapes.specs.Shape.{Required, Field, Shape, Entry}
-use Rattle.schemars_shapes.specs.ShapeParts.{Parts, parts_of, parts_eq, shape_from, shape_from-parts_of, bool_eq, required_eq, field_eq, list_eq, fields_eq, pair_eq, number_eq, numbers_eq, shape_eq, entry_eq}
+use Rattle.schemars_shapes.specs.ShapeParts.{parts_of, parts_eq, shape_from, shape_from-parts_of, bool_eq, required_eq, field_eq, list_eq, fields_eq, pair_eq, number_eq, numbers_eq, shape_eq, entry_eq}
 
 and_left : (a b : Bool) → (a && b) ≡ true → a ≡ true
 and_left true b h = refl

@@ -62,8 +62,8 @@ met_none fs met empty = record { differ = tt; same = λ q. rw empty refl }
 name_more : (fs : List src-field.Field) (i : ℕ) (d : src-field.Field) → i < length fs → map name_in (take (i + 1) fs) ≡ map name_in (take i fs) ++ name_in (get_or fs i d) ∷ []
 name_more fs i d below = map_more name_in fs i d below
 
-flipped : (a b : Text) → bytes_eq a b ≡ bytes_eq b a
-flipped a b = nat_list_eq_equiv.symm a b
+pub bytes_eq_comm : (a b : Text) → bytes_eq a b ≡ bytes_eq b a
+bytes_eq_comm a b = nat_list_eq_equiv.symm a b
 
 pub met_more : (fs : List src-field.Field) (i : ℕ) (d : src-field.Field) (name : Bor (List ℕ)) (old new : BTreeSet (Bor (List ℕ))) → i < length fs → name.now ≡ name_in (get_or fs i d) → AreMet fs i old
     → contains (λ x y. slice_cmp nat_cmp x.now y.now) old name ≡ false → Updates (λ x y. slice_cmp nat_cmp x.now y.now) old new name true → AreMet fs (i + 1) new
@@ -73,7 +73,7 @@ met_more fs i d name old new below is h absent updates =
     record {
       differ = subst (λ (ns : List Text). IsDistinct bytes_eq ns) (sym grown) (IsDistinct-push nat_list_eq_equiv before name.now h.differ (sym (h.same name) ∙ absent));
       same = λ q.
-          updates.0 q ∙ either (is_eq (slice_cmp nat_cmp name.now q.now)) (bytes_eq q.now name.now) (contains (λ x y. slice_cmp nat_cmp x.now y.now) old q) (is_eq-slice_cmp name.now q.now ∙ flipped name.now q.now)
+          updates.0 q ∙ either (is_eq (slice_cmp nat_cmp name.now q.now)) (bytes_eq q.now name.now) (contains (λ x y. slice_cmp nat_cmp x.now y.now) old q) (is_eq-slice_cmp name.now q.now ∙ bytes_eq_comm name.now q.now)
           ∙ ap (λ b. b || bytes_eq q.now name.now) (h.same q) ∙ sym (list_any-push (bytes_eq q.now) before name.now) ∙ ap (list_any (bytes_eq q.now)) (sym grown);
     }
   where

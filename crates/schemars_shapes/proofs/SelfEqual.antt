@@ -1,7 +1,6 @@
 -- An entry without decimals equals itself.
 use Rattle.std.proofs.Common.{ℕ, ◌≡◌, ◌||◌, Bool, true, false, List, [], ◌∷◌, refl, true≢false}
 use Rattle.std.specs.Cmp.{signed_Decides}
-use Rattle.std.specs.Str.{bytes_eq}
 use Rattle.std.proofs.lemmas.Bool.Decides.{Decides-eqb}
 use Rattle.std.proofs.lemmas.Slice.Eq.{bytes_eq-Decides}
 use Rattle.serde_json.specs.Data.{Num, unsigned, negative, float, Data, null, boolean, number, string, array, object, Items, no_items, item, Members, no_members, member}
@@ -10,8 +9,8 @@ use Rattle.serde_json.specs.Written.{has_float, items_have_float, members_have_f
 use Rattle.schemars_json.specs.Json.{num_eq, json_eq, items_eq, members_eq}
 use Rattle.schemars_shapes.specs.declared.shape.IntKind.{IntKind}
 use Rattle.schemars_shapes.specs.IntKind.{kind_eq, kind_number}
-use Rattle.schemars_shapes.specs.Shape.{Required, Field, Shape, Entry, null, bool, int, non_zero, number, text, char, formatted, any, bytes, schema_itself, option, seq, set, array as array_shape, up_to, tuple, struct, newtype}
-use Rattle.schemars_shapes.specs.ShapeParts.{bool_eq, required_eq, field_eq, numbers_eq, list_eq, shape_eq, entry_eq}
+use Rattle.schemars_shapes.specs.Shape.{Field, Shape, Entry, null, bool, int, non_zero, number, text, char, formatted, any, bytes, schema_itself, option, seq, set, array as array_shape, up_to, tuple, struct, newtype}
+use Rattle.schemars_shapes.specs.ShapeParts.{bool_eq, field_eq, numbers_eq, list_eq, shape_eq, entry_eq}
 use Rattle.schemars_shapes.specs.Decimals.{fields_have_float, shape_has_float, entry_has_float}
 
 pub neither : (a b : Bool) → a || b ≡ false → (a ≡ false) × (b ≡ false)
@@ -46,9 +45,6 @@ mutual
   members_eq-refl no_members h = refl
   members_eq-refl (member k d ms) h =
       let parts = neither (has_float d) (members_have_float ms) h in rw ((bytes_eq-Decides k k).1 refl, json_eq-refl d parts.0, members_eq-refl ms parts.1) refl
-
-required_eq-refl : (r : Required) → required_eq r r ≡ true
-required_eq-refl r = rw (bool_eq-refl r.deserialize, bool_eq-refl r.serialize) refl
 
 field_eq-refl : (f : Field) → members_have_float f.notes ≡ false → field_eq f f ≡ true
 field_eq-refl f h = rw ((bytes_eq-Decides f.name f.name).1 refl, (Decides-eqb f.ty f.ty).1 refl, bool_eq-refl f.required.deserialize, bool_eq-refl f.required.serialize, members_eq-refl f.notes h) refl

@@ -25,8 +25,10 @@ kind_eq a b = kind_number a == kind_number b
 -- the kind at a place, and `Usize` past the end
 abbrev pub kind_at : ℕ → IntKind
 kind_at n =
-    if n == 0 then I8 else (if n == 1 then I16 else (if n == 2 then I32 else (if n == 3 then I64 else (if n == 4 then I128 else (if n == 5 then Isize
-    else (if n == 6 then U8 else (if n == 7 then U16 else (if n == 8 then U32 else (if n == 9 then U64 else (if n == 10 then U128 else Usize))))))))))
+    if n == 0 then I8 else (if n == 1 then I16 else (if n == 2 then I32
+    else (if n == 3 then I64 else (if n == 4 then I128 else (if n == 5 then Isize
+    else (if n == 6 then U8 else (if n == 7 then U16 else (if n == 8 then U32
+    else (if n == 9 then U64 else (if n == 10 then U128 else Usize))))))))))
 
 pub kind_at-kind_number : (k : IntKind) → kind_at (kind_number k) ≡ k
 kind_at-kind_number I8 = refl

@@ -22,7 +22,8 @@ pub record Field : Type 0 where
   pub required : Required
   pub notes : Members
 
--- Numbers are those of rows. An array has just so many items, and `up_to` has so many at most. A struct has fields, in order, and may be closed to other keys.
+-- Numbers are those of rows. An array has just so many items, and `up_to` has so many at most. A struct has fields, in order, and may
+-- be closed to other keys.
 pub data Shape : Type 0 where
   null : Shape
   bool : Shape

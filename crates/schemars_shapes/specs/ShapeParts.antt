@@ -82,10 +82,12 @@ shape_from p =
     let count = unwrap_or p.1.1.1.1.0 0 in
     let numbers = unwrap_or p.1.1.1.1.1.0 [] in
     let fields = unwrap_or p.1.1.1.1.1.1 ([], false) in
-    if kind == 0 then null else (if kind == 1 then bool else (if kind == 2 then int int_kind else (if kind == 3 then non_zero int_kind else (if kind == 4 then number else (if kind == 5 then text
-    else (if kind == 6 then char else (if kind == 7 then formatted format else (if kind == 8 then any else (if kind == 9 then bytes else (if kind == 10 then schema_itself
-    else (if kind == 11 then option part else (if kind == 12 then seq part else (if kind == 13 then set part else (if kind == 14 then array part count else (if kind == 15 then up_to part count
-    else (if kind == 16 then tuple numbers else (if kind == 17 then struct fields.0 fields.1 else newtype part)))))))))))))))))
+    if kind == 0 then null else (if kind == 1 then bool else (if kind == 2 then int int_kind else (if kind == 3 then non_zero int_kind
+    else (if kind == 4 then number else (if kind == 5 then text else (if kind == 6 then char else (if kind == 7 then formatted format
+    else (if kind == 8 then any else (if kind == 9 then bytes else (if kind == 10 then schema_itself else (if kind == 11 then option part
+    else (if kind == 12 then seq part else (if kind == 13 then set part else (if kind == 14 then array part count
+    else (if kind == 15 then up_to part count else (if kind == 16 then tuple numbers
+    else (if kind == 17 then struct fields.0 fields.1 else newtype part)))))))))))))))))
 
 pub shape_from-parts_of : (s : Shape) → shape_from (parts_of s) ≡ s
 shape_from-parts_of null = refl
@@ -141,7 +143,9 @@ abbrev pub number_eq : ℕ → ℕ → Bool
 number_eq m n = m == n
 
 abbrev pub holdings_eq : Holdings → Holdings → Bool
-holdings_eq = pair_eq (option_eq kind_eq) (pair_eq (option_eq bytes_eq) (pair_eq (option_eq number_eq) (pair_eq (option_eq number_eq) (pair_eq (option_eq numbers_eq) (option_eq fields_eq)))))
+holdings_eq =
+    pair_eq (option_eq kind_eq) (pair_eq (option_eq bytes_eq)
+    (pair_eq (option_eq number_eq) (pair_eq (option_eq number_eq) (pair_eq (option_eq numbers_eq) (option_eq fields_eq)))))
 
 abbrev pub parts_eq : Parts → Parts → Bool
 parts_eq = pair_eq number_eq holdings_eq

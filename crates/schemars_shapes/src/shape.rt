@@ -438,6 +438,7 @@ pub struct TypeEntry {
 }
 
 impl TypeEntry {
+    /// The entry of this shape that has no notes.
     pub fn without_notes(alloc: Global, inline: bool, shape: Shape) -> TypeEntry
         ensures { entry_of result ≡ without_notes inline (shape_of shape) }
     {

@@ -1,14 +1,13 @@
 -- Which tables begin with which.
-use Rattle.std.proofs.Common.{ℕ, suc, ◌≡◌, ◌&&◌, Bool, true, false, List, [], ◌∷◌, length, take, Option, Some, None, refl, ap, sym, arith, true≢false}
+use Rattle.std.proofs.Common.{◌≡◌, ◌&&◌, true, false, List, [], ◌∷◌, length, take, Option, Some, None, refl, ap, sym, true≢false}
 use Rattle.std.specs.Option.{option_eq, option_map_or}
 use Rattle.std.specs.Str.{bytes_eq}
 use Rattle.std.proofs.lemmas.Bool.{and_parts}
-use Rattle.std.proofs.lemmas.List.{take_all}
 use Rattle.std.proofs.lemmas.Slice.Eq.{bytes_eq-Decides}
 use Rattle.schemars_shapes.specs.Shape.{Entry}
 use Rattle.schemars_shapes.specs.ShapeParts.{entry_eq}
 use Rattle.schemars_shapes.specs.Decimals.{entry_has_float}
-use Rattle.schemars_types.specs.Rows.{Row, entry_at}
+use Rattle.schemars_types.specs.Rows.{Row}
 use Rattle.schemars_types.specs.Extends.{row_eq, begins_with, rows_have_float}
 use Rattle.schemars_shapes.proofs.EqualEntries.{same_entry}
 use Rattle.schemars_shapes.proofs.SelfEqual.{neither, entry_eq-refl}
@@ -54,11 +53,3 @@ begins-first (r ∷ rows) (f ∷ first) plain is =
     let head : r ≡ f = cc in
     let tail : take (length first) rows ≡ first = cc in
     rw (head, row_eq-refl f parts.0, begins-first rows first parts.1 tail) refl
-
-pub begins-itself : (rows : List Row) → rows_have_float rows ≡ false → begins_with rows rows ≡ true
-begins-itself rows plain = begins-first rows rows plain (take_all (length rows) rows (omega arith))
-
--- rows without decimals, by their numbers
-pub plain_rows : (rows : List Row) → ((n : ℕ) → option_map_or entry_has_float (entry_at rows n) false ≡ false) → rows_have_float rows ≡ false
-plain_rows [] h = refl
-plain_rows (r ∷ rows) h = rw (h 0, plain_rows rows (λ n. h (suc n))) refl

@@ -5,19 +5,20 @@ use Rattle.std.specs.List.{position_from}
 use Rattle.std.specs.Map.{keys_of, values_of}
 use Rattle.std.specs.Str.{bytes_eq}
 use Rattle.std.specs.String.{string_eq}
-use Rattle.std.proofs.lemmas.Bool.Decides.{same_from_decides, Decides-like}
 use Rattle.std.proofs.lemmas.Iterator.Adapters.{position_from-zero}
 use Rattle.std.proofs.lemmas.Slice.Eq.{bytes_eq-Decides}
 use Rattle.indexmap.specs.IndexMap.{insert_entry, set_value_at}
+<<<<<<< HEAD
 use Rattle.schemars_json.specs.Json.{Text}
+=======
+use Rattle.schemars_schema.specs.Json.{Text}
+use Rattle.schemars_shapes.proofs.FieldLemmas.{bytes_eq_comm}
+>>>>>>> helper-b
 use Rattle.schemars_types.specs.declared.table.Slot.{Slot}
 use Rattle.schemars_shapes.specs.declared.shape.TypeEntry.{TypeEntry}
 use Rattle.schemars_shapes.specs.Shape.{Entry, entry_of}
 use Rattle.schemars_types.specs.Rows.{Row, place_of, entry_at, reserved, defined}
 use Rattle.schemars_types.specs.Slots.{row_of}
-
-bytes_eq_comm : (a b : Text) → bytes_eq a b ≡ bytes_eq b a
-bytes_eq_comm a b = same_from_decides _ _ (bytes_eq-Decides a b) (Decides-like (bytes_eq b a) sym sym (bytes_eq-Decides b a))
 
 place_from : (id : Text) (slots : List (String Global × Slot)) (i : ℕ) → position_from (λ k. bytes_eq id (string_bytes k)) i (keys_of slots) ≡ position_from (λ r. bytes_eq r.id id) i (map row_of slots)
 place_from id [] i = refl

@@ -33,12 +33,15 @@ pub record IsAccepted (rows : List Row) : Type 0 where
 -- The fault that is told: no fault of an earlier kind stands, and none of its kind at a lower row.
 abbrev pub Refusal : List Row → TypesError → Type 0
 Refusal rows (UndefinedType n) = IsLeast (IsUndefined rows) n
-Refusal rows (RepeatedName n name) = IsFree (IsUndefined rows) × IsLeast (HasRepeated rows) n × IsRepeated (names_at rows n) (string_bytes name)
+Refusal rows (RepeatedName n name) =
+    IsFree (IsUndefined rows) × IsLeast (HasRepeated rows) n × IsRepeated (names_at rows n) (string_bytes name)
 Refusal rows (DirectCycle n) = IsFree (IsUndefined rows) × IsFree (HasRepeated rows) × IsLeast (OnDirectCycle rows) n
-Refusal rows (EmptyCycle n) = IsFree (IsUndefined rows) × IsFree (HasRepeated rows) × IsFree (OnDirectCycle rows) × IsLeast (OnEmptyCycle rows) n
+Refusal rows (EmptyCycle n) =
+    IsFree (IsUndefined rows) × IsFree (HasRepeated rows) × IsFree (OnDirectCycle rows) × IsLeast (OnEmptyCycle rows) n
 Refusal rows _ = ⊥
 
--- What follows for a table without faults: every row has its entry, whose numbers are those of rows, no name stands twice in a list of fields, and heights and ranks, which have a bound, fall along the edges.
+-- What follows for a table without faults: every row has its entry, whose numbers are those of rows, no name stands twice in a list of
+-- fields, and heights and ranks, which have a bound, fall along the edges.
 pub record IsChecked (rows : List Row) : Type 0 where
   pub within : RefersWithin rows
   pub defined : (n : ℕ) → n < length rows → IsSome (entry_at rows n)

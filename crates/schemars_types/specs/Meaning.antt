@@ -122,14 +122,18 @@ has_shape contract patterns part (set n) v = holds (as_array v) (λ vs. are_dist
 has_shape contract patterns part (array_shape n len) v = holds (as_array v) (λ vs. (items_len vs == len) && every_item (part n) vs)
 has_shape contract patterns part (up_to n cap) v = holds (as_array v) (λ vs. nat_le (items_len vs) cap && every_item (part n) vs)
 has_shape contract patterns part (tuple ns) v = holds (as_array v) (each_of part ns)
-has_shape contract patterns part (struct list closed) v = holds (as_object v) (λ ms. every_member (member_fits part list closed) ms && has_required contract list ms)
+has_shape contract patterns part (struct list closed) v =
+    holds (as_object v) (λ ms. every_member (member_fits part list closed) ms && has_required contract list ms)
 has_shape contract patterns part (newtype n) v = part n v
 
 -- row n has the value; a row is asked at most `steps` deep
 unfoldable pub belongs_within : List Row → Contract → Patterns → ℕ → ℕ → Data → Bool
 belongs_within rows contract patterns zero n v = false
 belongs_within rows contract patterns (suc steps) n v =
-    elim (entry_at rows n) [ None ↦ false | Some entry ↦ has_shape contract patterns (belongs_within rows contract patterns steps) entry.shape v ]
+    elim (entry_at rows n) [
+      | None ↦ false
+      | Some entry ↦ has_shape contract patterns (belongs_within rows contract patterns steps) entry.shape v
+    ]
 
 -- the meaning of row n: at each depth of the value every row is asked once at most
 abbrev pub belongs : List Row → Contract → Patterns → ℕ → Data → Bool

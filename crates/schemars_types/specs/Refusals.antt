@@ -22,7 +22,9 @@ first_unknown rows n s = if nat_le (length rows) n then Some n else unknown_in r
 
 -- why row n may not have this entry: a number is unknown, or else another entry is there
 abbrev pub refusal_of : List Row → ℕ → Entry → Option TypesError
-refusal_of rows n e = option_map_or (λ m. Some (UnknownType m)) (first_unknown rows n e.shape) (if holds_another rows n e then Some (AlreadyDefined n) else None)
+refusal_of rows n e =
+    option_map_or (λ m. Some (UnknownType m)) (first_unknown rows n e.shape)
+    (if holds_another rows n e then Some (AlreadyDefined n) else None)
 
 -- The row with this id has number n and this entry. It keeps its name, or has this one where its id is new.
 pub record Registers (id name : Text) (e : Entry) (old new : List Row) (n : ℕ) : Type 0 where

@@ -8,7 +8,9 @@ use Rattle.schemars_shapes.specs.EntryCode.{entry_code}
 use Rattle.schemars_types.specs.Rows.{Row}
 
 abbrev pub row_code : Coded Row
-row_code = code_by (Text × (Text × Option Entry)) (coded× text_code (coded× text_code (coded_option entry_code))) (λ r. (r.id, (r.name, r.entry))) (λ p. record { id = p.0; name = p.1.0; entry = p.1.1 }) (λ _. refl)
+row_code =
+    code_by (Text × (Text × Option Entry)) (coded× text_code (coded× text_code (coded_option entry_code))) (λ r. (r.id, (r.name, r.entry)))
+    (λ p. record { id = p.0; name = p.1.0; entry = p.1.1 }) (λ _. refl)
 
 abbrev pub rows_code : Coded (List Row)
 rows_code = coded_list row_code

@@ -8,10 +8,10 @@ ghost use Rattle.schemars_types.specs.EdgeKind.{numbers_along, leads_to, targets
 ghost use Rattle.schemars_shapes.specs.Repeated.{IsRepeated};
 ghost use Rattle.schemars_types.specs.Faults.{IsUndefined, IsAccepted, IsChecked, Refusal};
 
-use schemars_cycles::least_on_cycle;
 use crate::error::TypesError;
-use schemars_shapes::TypeNo;
 use crate::table::Types;
+use schemars_cycles::least_on_cycle;
+use schemars_shapes::TypeNo;
 use std::alloc::{AllocError, Global};
 
 /// Which edges are followed from row to row.

@@ -6,15 +6,16 @@ ghost use Rattle.schemars_types.specs.Rows.{id_at, name_at, unknown_in};
 ghost use Rattle.schemars_types.specs.Refusals.{Registers, Refuses};
 
 use crate::error::TypesError;
-use schemars_shapes::{IntKind, Shape, TypeEntry, TypeNo};
 use crate::table::Types;
+use schemars_shapes::{IntKind, Shape, TypeEntry, TypeNo};
 use std::alloc::Global;
 
 /// Rows of common types.
 ///
 /// Each call answers the number of the type's row, which has no notes. It adds the row unless it is
-/// there. Rows are written in place but for those of bytes and of schemas. `AlreadyDefined` says that another entry stands under the id, and
-/// `UnknownType` that `n` is no row's number. After a refusal the table is as before.
+/// there. Rows are written in place but for those of bytes and of schemas. `AlreadyDefined` says that
+/// another entry stands under the id, and `UnknownType` that `n` is no row's number. After a refusal
+/// the table is as before.
 impl Types {
     /// The type of null.
     pub fn null(&mut self, alloc: Global) -> Result<TypeNo, TypesError>

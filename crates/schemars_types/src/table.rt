@@ -10,8 +10,8 @@ ghost use Rattle.std.specs.Option.{option_eq};
 ghost use Rattle.std.specs.Result.{result_err};
 
 use crate::error::TypesError;
-use schemars_shapes::{Shape, TypeEntry, TypeNo};
 use indexmap::IndexMap;
+use schemars_shapes::{Shape, TypeEntry, TypeNo};
 use std::alloc::{AllocError, Global};
 use std::marker::Model;
 

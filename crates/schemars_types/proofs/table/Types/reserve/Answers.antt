@@ -22,3 +22,6 @@ pub returns-clause-number : goal.returns-clause-number
 returns-clause-number c =
     let none : place_of (string_bytes c.args.id) c.args.self.now ≡ None = search rules in
     ap (place_of (string_bytes c.args.id)) (returns-clause-ok c) ∙ place_of-reserved (string_bytes c.args.id) (string_bytes c.args.name) c.args.self.now none ∙ ap Some (sym c.len-n.ensures.len)
+
+pub returns-in-Some-clause-number : goal.returns-in-Some-clause-number
+returns-in-Some-clause-number c = search rules
