@@ -48,3 +48,9 @@ returns-in_err-line-clause-accepted g c = λ _ bytes known text.
     let given = gave bytes _ _ known c.in_ok-types.ensures.ok in
     let memory : c.in_err-line.field-0.0 ≡ Refused OUT_OF_MEMORY = c.in_err-line.ensures.only_memory (read_is_accepted bytes _ _ given text) in
     search rules
+
+pub returns-clause-done : goal.returns-clause-done
+returns-clause-done g c = search rules
+
+pub returns-clause-sound : goal.returns-clause-sound
+returns-clause-sound g c = search rules

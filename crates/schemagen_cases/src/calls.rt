@@ -1,0 +1,149 @@
+//! What calls of the libraries answer, as text.
+use crate::schemas;
+use schemars_schema::encoding::{encode_ref_name, percent_decode};
+use schemars_schema::{NotASchema, Schema, json_eq, json_eq_members};
+use serde_json::Value;
+use std::alloc::{AllocError, AllocFailed, Global};
+use std::borrow::CowStr;
+
+/// Why there is no answer.
+#[derive(Clone, Copy)]
+pub enum NoAnswer {
+    /// Memory ran out.
+    OutOfMemory,
+    /// No call has this name.
+    NoCall,
+    /// The call takes no such input.
+    BadInput,
+}
+
+impl From<AllocError> for NoAnswer {
+    fn from(_e: AllocError) -> NoAnswer {
+        NoAnswer::OutOfMemory
+    }
+}
+
+impl<T: Drop> From<AllocFailed<T>> for NoAnswer {
+    fn from(_e: AllocFailed<T>) -> NoAnswer {
+        NoAnswer::OutOfMemory
+    }
+}
+
+impl From<serde_json::Error> for NoAnswer {
+    fn from(e: serde_json::Error) -> NoAnswer {
+        if e.is_memory() {
+            NoAnswer::OutOfMemory
+        } else {
+            NoAnswer::BadInput
+        }
+    }
+}
+
+/// What the call answers that the first word names. The rest of the words is its argument, and the
+/// input its value, or a list of its values.
+pub fn answer(alloc: Global, words: &str, input: &str) -> Result<String, AllocError> {
+    let (call, argument) = words.split_once(' ').unwrap_or((words, ""));
+    match answer_to(alloc, call, argument, input) {
+        Ok(answer) => Ok(answer),
+        Err(NoAnswer::OutOfMemory) => Err(AllocError),
+        Err(NoAnswer::NoCall) => String::from_str(alloc, "no call"),
+        Err(NoAnswer::BadInput) => String::from_str(alloc, "bad input"),
+    }
+}
+
+fn answer_to(alloc: Global, call: &str, argument: &str, input: &str) -> Result<String, NoAnswer> {
+    if call == "deserialize" {
+        let schema: Schema = serde_json::from_str(alloc, input)?;
+        return Ok(schema.to_ordered_string(alloc)?);
+    }
+    let value = Value::from_str(alloc, input)?;
+    match call {
+        "try_from" => try_from(alloc, value),
+        "from_value" => from_value(alloc, value),
+        "is_schema" => Ok(text_of_bool(alloc, Schema::is_schema(&value))?),
+        "json_eq" => equal(alloc, &value),
+        "json_eq_members" => members_equal(alloc, &value),
+        "encode_ref_name" => encoded(alloc, &value),
+        "percent_decode" => decoded(alloc, &value),
+        "new_ref" => reference(alloc, &value),
+        _ => schemas::answer(alloc, call, argument, value),
+    }
+}
+
+/// A truth value's text.
+pub fn text_of_bool(alloc: Global, value: bool) -> Result<String, AllocError> {
+    String::from_str(alloc, if value { "true" } else { "false" })
+}
+
+/// The two values of a list.
+pub fn pair_in(value: &Value) -> Result<(&Value, &Value), NoAnswer> {
+    match value.as_array().map(|items| items.as_slice()) {
+        Some([first, second]) => Ok((first, second)),
+        _ => Err(NoAnswer::BadInput),
+    }
+}
+
+fn try_from(alloc: Global, value: Value) -> Result<String, NoAnswer> {
+    match Schema::try_from(value) {
+        Ok(schema) => Ok(schema.to_ordered_string(alloc)?),
+        Err(refused) => refusal(alloc, &refused),
+    }
+}
+
+// The refusal's number and name, and the value that it hands back.
+fn refusal(alloc: Global, refused: &NotASchema) -> Result<String, NoAnswer> {
+    let NotASchema(value) = refused;
+    let value = value.to_string(alloc)?;
+    Ok(format!(in alloc; "{} {refused} {value}", refused.code())?)
+}
+
+fn from_value(alloc: Global, value: Value) -> Result<String, NoAnswer> {
+    let schema: Schema = serde_json::from_value(alloc, value)?;
+    Ok(schema.to_ordered_string(alloc)?)
+}
+
+fn equal(alloc: Global, value: &Value) -> Result<String, NoAnswer> {
+    let (left, right) = pair_in(value)?;
+    Ok(text_of_bool(alloc, json_eq(left, right))?)
+}
+
+fn members_equal(alloc: Global, value: &Value) -> Result<String, NoAnswer> {
+    match pair_in(value)? {
+        (Value::Object(left), Value::Object(right)) => {
+            Ok(text_of_bool(alloc, json_eq_members(left, right))?)
+        }
+        _ => Err(NoAnswer::BadInput),
+    }
+}
+
+fn text_in(value: &Value) -> Result<&str, NoAnswer> {
+    value.as_str().ok_or(NoAnswer::BadInput)
+}
+
+// Whether a text is borrowed, and the text in quotes.
+fn text_of_cow(alloc: Global, text: CowStr<'_>) -> Result<String, NoAnswer> {
+    let kind = match &text {
+        CowStr::Borrowed(_) => "borrowed",
+        CowStr::Owned(_) => "owned",
+    };
+    let quoted = Value::try_from_str(alloc, text.as_str())?.to_string(alloc)?;
+    Ok(format!(in alloc; "{kind} {quoted}")?)
+}
+
+fn encoded(alloc: Global, value: &Value) -> Result<String, NoAnswer> {
+    let token = encode_ref_name(alloc, text_in(value)?)?;
+    text_of_cow(alloc, token)
+}
+
+fn decoded(alloc: Global, value: &Value) -> Result<String, NoAnswer> {
+    match percent_decode(alloc, text_in(value)?)? {
+        Some(text) => text_of_cow(alloc, text),
+        None => Ok(String::from_str(alloc, "none")?),
+    }
+}
+
+fn reference(alloc: Global, value: &Value) -> Result<String, NoAnswer> {
+    let reference = String::from_str(alloc, text_in(value)?)?;
+    let schema = Schema::new_ref(alloc, reference)?;
+    Ok(schema.to_ordered_string(alloc)?)
+}

@@ -1,0 +1,32 @@
+//! Works the cases in the files beside it, and tells how many of each file are wrong.
+//!
+//! A case is a line of four parts with a tab between them: a name, the words, the input and the
+//! answer that is wanted. A wrong case stands on a line of its own. A further case is a line in a
+//! file, and nothing to prove.
+#![tactic(auto)]
+
+mod calls;
+mod cases;
+mod edits;
+mod runs;
+mod schemas;
+
+use crate::cases::{Asked, Tally, work_cases};
+use std::{fs, io};
+
+// The files, and whom their cases ask.
+const FILES: [(&str, Asked); 4] = [
+    ("rows.tsv", Asked::Program),
+    ("structs.tsv", Asked::Program),
+    ("damaged.tsv", Asked::Program),
+    ("calls.tsv", Asked::Libraries),
+];
+
+fn main(rt: HostRuntime) -> io::Result<()> {
+    for (name, asked) in FILES {
+        let text = fs::read_to_string(&rt, name)?;
+        let Tally { cases, wrong } = work_cases(&rt, asked, text.as_str())?;
+        println!(rt; "{name}: {cases} cases, {wrong} wrong")?;
+    }
+    Ok(())
+}

@@ -1,0 +1,9 @@
+-- A new sink has not failed, and has the writer's bytes.
+use Rattle.std.proofs.Common.{rules}
+use Rattle.schemagen_run.proofs.streams.SinkOf.new.Goals as goal
+
+pub returns-clause-bytes : goal.returns-clause-bytes
+returns-clause-bytes g c = search rules
+
+pub returns-clause-sound : goal.returns-clause-sound
+returns-clause-sound g c = search rules

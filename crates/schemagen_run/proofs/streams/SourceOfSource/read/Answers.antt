@@ -1,0 +1,6 @@
+-- The reader's bytes are the source's.
+use Rattle.std.proofs.Common.{rules}
+use Rattle.schemagen_run.proofs.streams.SourceOfSource.read.Goals as goal
+
+pub returns-in-Ok-clause-bytes : goal.returns-in-Ok-clause-bytes
+returns-in-Ok-clause-bytes g c = search rules
