@@ -8,12 +8,8 @@ use Rattle.std.specs.String.{string_eq}
 use Rattle.std.proofs.lemmas.Iterator.Adapters.{position_from-zero}
 use Rattle.std.proofs.lemmas.Slice.Eq.{bytes_eq-Decides}
 use Rattle.indexmap.specs.IndexMap.{insert_entry, set_value_at}
-<<<<<<< HEAD
 use Rattle.schemars_json.specs.Json.{Text}
-=======
-use Rattle.schemars_schema.specs.Json.{Text}
 use Rattle.schemars_shapes.proofs.FieldLemmas.{bytes_eq_comm}
->>>>>>> helper-b
 use Rattle.schemars_types.specs.declared.table.Slot.{Slot}
 use Rattle.schemars_shapes.specs.declared.shape.TypeEntry.{TypeEntry}
 use Rattle.schemars_shapes.specs.Shape.{Entry, entry_of}
