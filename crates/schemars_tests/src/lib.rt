@@ -16,6 +16,8 @@ mod generator;
 #[cfg(test)]
 mod inputs;
 #[cfg(test)]
+mod names;
+#[cfg(test)]
 mod registered;
 #[cfg(test)]
 mod schema;
