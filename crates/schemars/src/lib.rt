@@ -11,5 +11,6 @@ pub mod generate;
 pub use error::GenerateError;
 pub use generate::{SchemaGenerator, SchemaSettings};
 pub use schemars_documents::Contract;
-pub use schemars_schema::{Schema, consts};
+pub use schemars_rewrite::builders;
+pub use schemars_schema::{NotASchema, Schema, consts, encoding, json_eq, schema};
 pub use schemars_types as types;

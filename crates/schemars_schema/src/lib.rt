@@ -6,7 +6,7 @@ mod error;
 mod ordered;
 mod placing;
 mod pointer;
-mod schema;
+pub mod schema;
 mod serialized;
 
 pub use error::NotASchema;

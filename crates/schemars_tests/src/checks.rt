@@ -1,6 +1,7 @@
 //! What is found in tables.
-use crate::expect::{entry, expect, new_row, table_of};
-use schemars::types::{Shape, Types, TypesError};
+use crate::entries::pair;
+use crate::expect::{expect, new_row, table_of};
+use schemars::types::{Types, TypesError};
 use std::alloc::Global;
 use std::process::Abort;
 use std::test::Fail;
@@ -51,12 +52,12 @@ fn tables_are_checked(rt: HostRuntime) -> Result<(), Fail> {
     Ok(())
 }
 
-// An empty table is accepted, and the lowest row that is not defined is found.
+// An empty table is accepted. A row that is not defined is found before a name that stands twice.
 fn expect_undefined(alloc: Global, types: &mut Types) -> Result<(), Fail> {
     types.check(alloc)?;
-    let list = new_row(alloc, types, "List")?;
+    let pairs = new_row(alloc, types, "Pair")?;
     let missing = new_row(alloc, types, "Missing")?;
-    types.define(list, entry(alloc, false, Shape::Seq(missing)))?;
+    types.define(pairs, pair(alloc, "x", "x", missing)?)?;
     match types.check(alloc) {
         Err(TypesError::UndefinedType(n)) => expect(n == missing, "another row"),
         _ => Err("the row is defined".into()),

@@ -81,7 +81,8 @@ fn field(alloc: Global, name: &str, ty: TypeNo) -> Result<Field, AllocError> {
     })
 }
 
-fn pair(alloc: Global, first: &str, second: &str, ty: TypeNo) -> Result<TypeEntry, AllocError> {
+/// An entry of a struct with two fields.
+pub fn pair(alloc: Global, first: &str, second: &str, ty: TypeNo) -> Result<TypeEntry, AllocError> {
     let mut list = Vec::new(alloc);
     list.push(field(alloc, first, ty)?)?;
     list.push(field(alloc, second, ty)?)?;
