@@ -131,7 +131,7 @@ is_true (Some (string s)) = false
 is_true (Some (array ds)) = false
 is_true (Some (object ms)) = false
 
--- where `nullable` is read, no type is null, and `nullable: true` lets null pass
+-- where `nullable` is read, no type is null: a `type` that holds `null` says nothing there, and `nullable: true` lets null pass
 abbrev pub type_fits : Bool → Option Data → List Text → Data → Bool
 type_fits false nullable ts v = is_of_some_type ts v
 type_fits true nullable ts v = is_listed (codes "null") ts || (is_of_some_type ts v || (is_true nullable && is_null v))
