@@ -44,12 +44,7 @@ fn name(
     names.give(alloc, n, contract, base)
 }
 
-fn assert_name(
-    rt: &impl Abort,
-    alloc: Global,
-    names: &mut Names,
-    line: &str,
-) -> Result<(), Fail> {
+fn assert_name(rt: &impl Abort, alloc: Global, names: &mut Names, line: &str) -> Result<(), Fail> {
     let parts: Vec<&str> = line.split('|').collect(alloc)?;
     let [row, contract, base, expected] = parts.as_slice() else {
         return Err("a line has four parts".into());
@@ -57,7 +52,11 @@ fn assert_name(
     let row: TypeNo = row.parse()?;
     let given = name(names, alloc, row, contract_of(*contract), *base)?;
     assert_eq!(rt; given.as_str(), *expected, "{line}");
-    assert_eq!(rt; names.get(row, contract_of(*contract)), Some(*expected), "{line}");
+    assert_eq!(rt;
+        names.get(row, contract_of(*contract)),
+        Some(*expected),
+        "{line}"
+    );
     Ok(())
 }
 
