@@ -82,7 +82,12 @@ fn field(alloc: Global, name: &str, ty: TypeNo) -> Result<Field, AllocError> {
 }
 
 /// An entry of a struct with two fields.
-pub fn pair(alloc: Global, first: &str, second: &str, ty: TypeNo) -> Result<TypeEntry, AllocError> {
+pub(crate) fn pair(
+    alloc: Global,
+    first: &str,
+    second: &str,
+    ty: TypeNo,
+) -> Result<TypeEntry, AllocError> {
     let mut list = Vec::new(alloc);
     list.push(field(alloc, first, ty)?)?;
     list.push(field(alloc, second, ty)?)?;

@@ -8,12 +8,12 @@ use std::alloc::{AllocError, Global};
 use std::test::Fail;
 
 /// Fails with these words where it does not hold.
-pub fn expect(holds: bool, what: &'static str) -> Result<(), Fail> {
+pub(crate) fn expect(holds: bool, what: &'static str) -> Result<(), Fail> {
     if holds { Ok(()) } else { Err(what.into()) }
 }
 
 /// The value is that of the text.
-pub fn expect_value(alloc: Global, value: Option<&Value>, text: &str) -> Result<(), Fail> {
+pub(crate) fn expect_value(alloc: Global, value: Option<&Value>, text: &str) -> Result<(), Fail> {
     let wanted = Value::from_str(alloc, text)?;
     match value {
         Some(value) => expect(json_eq(value, &wanted), "another value"),
@@ -22,23 +22,23 @@ pub fn expect_value(alloc: Global, value: Option<&Value>, text: &str) -> Result<
 }
 
 /// A text of its own.
-pub fn owned(alloc: Global, text: &str) -> Result<String, AllocError> {
+pub(crate) fn owned(alloc: Global, text: &str) -> Result<String, AllocError> {
     String::from_str(alloc, text)
 }
 
 /// The schema of a text.
-pub fn schema_of(alloc: Global, text: &str) -> Result<Schema, Fail> {
+pub(crate) fn schema_of(alloc: Global, text: &str) -> Result<Schema, Fail> {
     Ok(Schema::try_from(Value::from_str(alloc, text)?)?)
 }
 
 /// The table of a text, and its root.
-pub fn table_of(alloc: Global, text: &str) -> Result<(Types, TypeNo), Fail> {
+pub(crate) fn table_of(alloc: Global, text: &str) -> Result<(Types, TypeNo), Fail> {
     let value = Value::from_str(alloc, text)?;
     Ok(read_input(alloc, &value).ok().ok_or("no table")?)
 }
 
 /// An entry without notes.
-pub fn entry(alloc: Global, inline: bool, shape: Shape) -> TypeEntry {
+pub(crate) fn entry(alloc: Global, inline: bool, shape: Shape) -> TypeEntry {
     TypeEntry {
         inline,
         notes: Map::new(alloc),
@@ -47,7 +47,7 @@ pub fn entry(alloc: Global, inline: bool, shape: Shape) -> TypeEntry {
 }
 
 /// Reserves a row with the same id and name.
-pub fn new_row(alloc: Global, types: &mut Types, id: &str) -> Result<TypeNo, Fail> {
+pub(crate) fn new_row(alloc: Global, types: &mut Types, id: &str) -> Result<TypeNo, Fail> {
     let name = owned(alloc, id)?;
     let id = owned(alloc, id)?;
     Ok(types.reserve(id, name)?)
