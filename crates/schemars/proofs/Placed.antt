@@ -33,9 +33,14 @@ unfolding walk unescape
 pointer_key path key (inl is) ms = rw (is.0, is.1)
 pointer_key path key (inr is) ms = rw (is.0, is.1)
 
-lookup_path : (path key : Text) → StandsAt path key → (document : Data) → lookup (35 ∷ path) document ≡ pointer path document
-lookup_path path key (inl is) document = rw (is.0) (lookup-ascii (codes "/$defs") document refl refl)
-lookup_path path key (inr is) document = rw (is.0) (lookup-ascii (codes "/definitions") document refl refl)
+lookup_path : (path : Text) (document : Data) → IsKnownPath path → lookup (35 ∷ path) document ≡ pointer path document
+lookup_path path document (inl (inl is)) = rw is (lookup-ascii (codes "/$defs") document refl refl)
+lookup_path path document (inl (inr is)) = rw is (lookup-ascii (codes "/definitions") document refl refl)
+lookup_path path document (inr is) = rw is (lookup-ascii (codes "/components/schemas") document refl refl)
+
+stands_known : (path key : Text) → StandsAt path key → IsKnownPath path
+stands_known path key (inl is) = inl (inl is.0)
+stands_known path key (inr is) = inl (inr is.0)
 
 -- definitions to which a path leads are found, and counted
 holds_there : (path : Text) (definitions : Members) (document : Data) → lookup (35 ∷ path) document ≡ pointer path document → pointer path document ≡ Some (object definitions)
@@ -45,7 +50,7 @@ holds_there path definitions document same found = holds_at path definitions doc
 pub holds_put : (path key : Text) → StandsAt path key → (definitions ms : Members) → HoldsDefinitions path definitions (object (put key (object definitions) ms))
 holds_put path key at definitions ms =
     let document : Data = object (put key (object definitions) ms) in
-    holds_there path definitions document (lookup_path path key at document) (pointer_key path key at (put key (object definitions) ms) ∙ get_member-put key (object definitions) ms)
+    holds_there path definitions document (lookup_path path document (stands_known path key at)) (pointer_key path key at (put key (object definitions) ms) ∙ get_member-put key (object definitions) ms)
 
 -- where there are no definitions, none is looked for
 pub holds_nothing : (path : Text) (document : Data) → HoldsDefinitions path no_members document
@@ -82,32 +87,10 @@ placed_in path definitions ms document draft none made =
     let P : Data → Type 0 = λ d. IsPlaced path definitions (object ms) d in
     subst P same there.2
 
--- ---- alone in a document
-
-abbrev pub components_document : Members → Data
-components_document definitions = object (member (codes "components") (object (member (codes "schemas") (object definitions) no_members)) no_members)
-
-components_found : (definitions : Members) → pointer (codes "/components/schemas") (components_document definitions) ≡ Some (object definitions)
-unfolding walk unescape
-components_found definitions = refl
-
-components_placed : (definitions : Members) → placed_at (codes "/components/schemas") definitions (object no_members) ≡ Some (components_document definitions)
-unfolding unescape
-components_placed definitions = refl
-
-pub holds_components : (definitions : Members) → HoldsDefinitions (codes "/components/schemas") definitions (components_document definitions)
-holds_components definitions =
-    let document = components_document definitions in
-    holds_there (codes "/components/schemas") definitions document (lookup-ascii (codes "/components/schemas") document refl refl) (components_found definitions)
+-- ---- found in a document
 
 pub held : (path : Text) (definitions : Members) (document : Data) → IsKnownPath path → IsHolding path definitions document → HoldsDefinitions path definitions document
-held path definitions document (inl draft) made =
-    let at = draft_key path draft in
-    let is : Some (object (put at.0 (object definitions) no_members)) ≡ Some document = sym (placing_in path at.0 at.1 definitions no_members refl) ∙ made in
-    let same : object (put at.0 (object definitions) no_members) ≡ document = cc in
-    rw (← same) (holds_put path at.0 at.1 definitions no_members)
-held path definitions document (inr is) made =
-    let found : placed_at (codes "/components/schemas") definitions (object no_members) ≡ Some document = ap (λ p. placed_at p definitions (object no_members)) (sym is) ∙ made in
-    let both : Some (components_document definitions) ≡ Some document = sym (components_placed definitions) ∙ found in
-    let same : components_document definitions ≡ document = cc in
-    rw (is, ← same) (holds_components definitions)
+held path definitions document known (inl none) =
+    let P : Members → Type 0 = λ ms. HoldsDefinitions path ms document in
+    subst P (sym none) (holds_nothing path document)
+held path definitions document known (inr found) = holds_there path definitions document (lookup_path path document known) found

@@ -1,7 +1,7 @@
 -- What a generated document promises: it accepts just the values that belong to its type.
 use Rattle.std.specs.Prelude.{◌≡◌, ◌≤◌, ◌⊎◌, ℕ, suc, List, Bool, true, Option, Some, None, codes}
 use Rattle.serde_json.specs.Data.{Data, object, Members, no_members, member}
-use Rattle.serde_json.specs.Find.{get_member}
+use Rattle.serde_json.specs.Find.{get_member, pointer}
 use Rattle.schemars_schema.specs.Verdict.{verdict}
 use Rattle.schemars_json.specs.Json.{Text, IsJson}
 use Rattle.schemars_schema.specs.Acceptance.{Patterns, draft2020_12, accepts, bound}
@@ -63,9 +63,9 @@ pub record IsRootOf (old : State) (n : ℕ) (work : Work) (document : Data) : Ty
 
 -- ---- subschemas
 
--- the document that holds these definitions at the path
+-- a document in which these definitions are found at the path, or any, where there are none
 abbrev pub IsHolding : Text → Members → Data → Type 0
-IsHolding path definitions document = placed_at path definitions (object no_members) ≡ Some document
+IsHolding path definitions document = (definitions ≡ no_members) ⊎ (pointer path document ≡ Some (object definitions))
 
 -- a subschema of row n, and the definitions that it leads to
 pub record MeansItsTypeIn (rows : List Row) (contract : Contract) (path : Text) (n : ℕ) (definitions : Members) (document schema : Data) : Type 0 where
