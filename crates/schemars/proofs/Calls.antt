@@ -1,5 +1,5 @@
 -- What a call makes of what a generator holds.
-use Rattle.std.proofs.Common.{◌≡◌, inl, inr, ℕ, zero, suc, List, [], ◌∷◌, take, length, Bool, true, false, Option, Some, None, refl, sym, ap, ◌∙◌, arith, subst, true≢false}
+use Rattle.std.proofs.Common.{◌≡◌, ◌<◌, inl, inr, ℕ, zero, suc, List, [], ◌∷◌, take, length, Bool, true, false, Option, Some, None, refl, sym, ap, ◌∙◌, arith, subst, true≢false}
 use Rattle.std.specs.Prelude.{if◌then◌else◌}
 use Rattle.std.specs.List.{IsDistinct}
 use Rattle.serde_json.specs.Data.{Data, Members}
@@ -19,7 +19,7 @@ use Rattle.schemars_naming.specs.Naming.{name_of, IsOneToOne}
 use Rattle.schemars_documents.specs.Documents.{IsOwnDocument, IsWritten, Describes, reference, root_document}
 use Rattle.schemars.specs.Keys.{HasKeysOnce}
 use Rattle.schemars_documents.specs.PlainTable.{IsPlainTable, HasNoFloat}
-use Rattle.schemars_naming.specs.Work.{Plan, Work, IsKey, Refers, IsDefinition, AreDefinitions, Step, reference_to}
+use Rattle.schemars_naming.specs.Work.{Plan, Work, IsKey, StandsApart, Refers, IsDefinition, AreDefinitions, Step, reference_to}
 use Rattle.schemars.specs.State.{State, plan_of, work_of, after_root, HasOwnDefinitions}
 use Rattle.schemars.specs.Headline.{Headline, IsDraftPath, IsRootOf, IsTitledRoot, IsSubschema, with_definitions}
 use Rattle.schemars.specs.Missing.{depth_in_place}
@@ -118,6 +118,19 @@ entry-in_more first k rows same n e is = go k rows n (ap (λ rs. entry_at rs n) 
     go (suc k) (r ∷ rows) zero h = h
     go (suc k) (r ∷ rows) (suc n) h = go k rows n h
 
+apart_in_more : (first : List Row) (k : ℕ) (rows : List Row) → take k rows ≡ first → (n : ℕ) → StandsApart first n → StandsApart rows n
+apart_in_more first k rows same n h = go k rows n (let P : List Row → Type 0 = λ rs. StandsApart rs n in subst P (sym same) h)
+  where
+    go : (k : ℕ) (rows : List Row) (n : ℕ) → StandsApart (take k rows) n → StandsApart rows n
+    go zero rows n h = absurd (let never : n < 0 = h.0 in omega (arith, never))
+    go (suc k) [] n h = absurd (let never : n < 0 = h.0 in omega (arith, never))
+    go (suc k) (r ∷ rows) zero h = (omega arith, h.1)
+    go (suc k) (r ∷ rows) (suc n) h =
+        let here : suc n < suc (length (take k rows)) = h.0 in
+        let later = go k rows n (omega (arith, here), h.1) in
+        let there : n < length rows = later.0 in
+        (omega (arith, there), later.1)
+
 pub more_types_own : (s : State) (rows : List Row) → take (length s.rows) rows ≡ s.rows → HasOwnDefinitions s → HasOwnDefinitions (record s { rows = rows })
 more_types_own s rows same own k d found =
     let h = own k d found in
@@ -127,8 +140,13 @@ more_types_own s rows same own k d found =
       is_named = h.is_named;
       is_text = h.is_text;
       depth = h.depth;
-      describes = describes-more s.rows rows (contract_of s.settings.contract) (Refers (plan_of s None) false (work_of s)) (entry-in_more s.rows (length s.rows) rows same) h.depth h.row d h.describes;
+      describes = describes-wider rows (contract_of s.settings.contract) (Refers (plan_of s None) false (work_of s)) (Refers (plan_of (record s { rows = rows }) None) false (work_of s)) to_more h.depth h.depth (omega arith) h.row d
+      (describes-more s.rows rows (contract_of s.settings.contract) (Refers (plan_of s None) false (work_of s)) (entry-in_more s.rows (length s.rows) rows same) h.depth h.row d h.describes);
     }
+  where
+    to_more : (n : ℕ) (r : Text) → Refers (plan_of s None) false (work_of s) n r → Refers (plan_of (record s { rows = rows }) None) false (work_of s) n r
+    to_more n r (inl h) = cc
+    to_more n r (inr h) = inr (h.0, h.1, h.2, h.3, apart_in_more s.rows (length s.rows) rows same n h.4)
 
 -- ---- root documents
 

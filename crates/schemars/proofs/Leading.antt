@@ -175,7 +175,7 @@ bound_enough a len defs counted n few less h = grind (arith, mul-le-mul_left)
 
 -- with `#` free there are more references
 pub free_refers : (plan : Plan) (w : Work) (free : Bool) (j : ℕ) (r : Text) → Refers plan free w j r → Refers plan true w j r
-free_refers plan w free j r (inl h) = inl (h.0, refl, h.2)
+free_refers plan w free j r (inl h) = inl (h.0, refl, h.2, h.3)
 free_refers plan w free j r (inr h) = inr h
 
 module _ (plan : Plan) (w : Work) (document : Data) (checked : IsChecked plan.rows) (plain : IsPlainTable plan.rows) (one : IsOneToOne w.names) (definitions : AreDefinitions plan w)
@@ -196,14 +196,22 @@ module _ (plan : Plan) (w : Work) (document : Data) (checked : IsChecked plan.ro
   refers_listed : (j : ℕ) (r : Text) → Refers plan true w j r → InList refs j r
   unfolding refs to_definitions
   refers_listed j r (inl h) = rw (h.2) (listed_root plan.root (references_of plan w.names w.definitions row_named) j h.0)
-  refers_listed j r (inr h) = listed_later plan.root (references_of plan w.names w.definitions row_named) j r (named_in plan w.names one w.definitions row_named j r h)
+  refers_listed j r (inr h) = listed_later plan.root (references_of plan w.names w.definitions row_named) j r (named_in plan w.names one w.definitions row_named j r (h.0, h.1, h.2, h.3))
 
-  listed_refers : (j : ℕ) (r : Text) → InList refs j r → Refers plan true w j r
+  -- the root by `#`, or a row by the name of its definition
+  abbrev Leads : ℕ → Text → Type 0
+  Leads j r = ((plan.root ≡ Some j) × (r ≡ codes "#")) ⊎ NamedReference plan w.names w.definitions j r
+
+  listed_leads : (j : ℕ) (r : Text) → InList refs j r → Leads j r
   unfolding refs to_definitions
-  listed_refers j r h = elim (listed_cases plan.root (references_of plan w.names w.definitions row_named) j r h) [
-    | inl root ↦ inl (root.0, refl, root.1)
+  listed_leads j r h = elim (listed_cases plan.root (references_of plan w.names w.definitions row_named) j r h) [
+    | inl root ↦ inl root
     | inr named ↦ inr (named_from plan w.names w.definitions row_named j r named)
   ]
+
+  refers_leads : (j : ℕ) (r : Text) → Refers plan true w j r → Leads j r
+  refers_leads j r (inl h) = inl (h.0, h.2)
+  refers_leads j r (inr h) = inr (h.0, h.1, h.2, h.3)
 
   abbrev D : ℕ → ℕ → Data → Type 0
   D = Describes plan.rows (contract_of plan.contract) (Refers plan true w)
@@ -231,12 +239,12 @@ module _ (plan : Plan) (w : Work) (document : Data) (checked : IsChecked plan.ro
         describes,
       )
 
-  leads_to : (j : ℕ) (r : Text) → Refers plan true w j r → LeadsTo j r
-  leads_to j r (inl h) = rw (h.2) (leads_root j h.0)
+  leads_to : (j : ℕ) (r : Text) → Leads j r → LeadsTo j r
+  leads_to j r (inl h) = rw (h.1) (leads_root j h.0)
   leads_to j r (inr h) = rw (h.3) (leads_named j h.0 h.2.0 h.1 h.2.1)
 
   pub refers_resolve : (j : ℕ) (r : Text) → Refers plan true w j r → is_some (resolved document r) ≡ true
-  refers_resolve j r h = let to = leads_to j r h in rw (to.3)
+  refers_resolve j r h = let to = leads_to j r (refers_leads j r h) in rw (to.3)
 
   setting : Patterns → Setting
   setting patterns = record {
@@ -246,7 +254,7 @@ module _ (plan : Plan) (w : Work) (document : Data) (checked : IsChecked plan.ro
     document = document;
     refs = refs;
     resolves = λ j r is.
-        let to = leads_to j r (listed_refers j r is) in
+        let to = leads_to j r (listed_leads j r is) in
         (to.0, to.1, to.2, to.3, to.4 patterns, describes-wider plan.rows (contract_of plan.contract) (Refers plan true w) (InList refs) refers_listed to.2 to.2 (omega arith) j to.1 to.5);
     plain = plain;
     rank = rank plan.rows;

@@ -1,5 +1,5 @@
 -- What documents are made into: names for rows, and definitions under these names.
-use Rattle.std.specs.Prelude.{◌≡◌, ◌⊎◌, ◌++◌, ◌||◌, ℕ, List, [], ◌∷◌, take, Bool, true, false, Option, Some, None, codes, Contains}
+use Rattle.std.specs.Prelude.{◌≡◌, ◌<◌, length, ◌⊎◌, ◌++◌, ◌||◌, ℕ, List, [], ◌∷◌, take, Bool, true, false, Option, Some, None, codes, Contains}
 use Rattle.std.specs.Str.{IsUtf8}
 use Rattle.serde_json.specs.Data.{Data, Members}
 use Rattle.serde_json.specs.Find.{get_member}
@@ -7,6 +7,7 @@ use Rattle.schemars_json.specs.Json.{Text}
 use Rattle.schemars_schema.specs.Edits.{without}
 use Rattle.schemars_json.specs.Encoding.{encoded}
 use Rattle.schemars_types.specs.Rows.{Row, name_at}
+use Rattle.schemars_types.specs.Edges.{is_inline_at}
 use Rattle.schemars_documents.specs.declared.contract.Contract.{Contract}
 use Rattle.schemars_documents.specs.ContractOf.{contract_of}
 use Rattle.schemars_naming.specs.Naming.{Named, Naming, name_of, IsFirstUnused}
@@ -37,11 +38,15 @@ IsKey k ms = (d : Data) × (get_member k ms ≡ Some d)
 abbrev pub reference_to : Text → Text → Text
 reference_to path name = 35 ∷ (path ++ 47 ∷ encoded name)
 
--- the root is referred to by `#`, where that is free or has been met; another row by the name under which its definition stands
+-- row n stands in the table, and is not written in place
+abbrev pub StandsApart : List Row → ℕ → Type 0
+StandsApart rows n = (n < length rows) × (is_inline_at rows n ≡ false)
+
+-- a row that is not written in place: the root by `#`, where that is free or has been met; another by the name under which its definition stands
 abbrev pub Refers : Plan → Bool → Work → ℕ → Text → Type 0
 Refers plan free w n r =
-    ((plan.root ≡ Some n) × (free || w.meets_root ≡ true) × (r ≡ codes "#"))
-    ⊎ ((name : Text) × (name_of n plan.contract w.names ≡ Some name) × IsKey name w.definitions × (r ≡ reference_to plan.path name))
+    ((plan.root ≡ Some n) × (free || w.meets_root ≡ true) × (r ≡ codes "#") × StandsApart plan.rows n)
+    ⊎ ((name : Text) × (name_of n plan.contract w.names ≡ Some name) × IsKey name w.definitions × (r ≡ reference_to plan.path name) × StandsApart plan.rows n)
 
 -- ---- definitions
 

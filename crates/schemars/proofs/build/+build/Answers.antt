@@ -9,7 +9,7 @@ use Rattle.schemars_schema.specs.References.{references, found_in_members, found
 use Rattle.schemars_rewrite.specs.NullLaw.{text_items}
 use Rattle.schemars_shapes.specs.declared.shape.Field as src
 use Rattle.schemars_shapes.specs.Shape.{Shape, Entry, struct, shape_of, field_of, entry_of, numbers_of}
-use Rattle.schemars_types.specs.Edges.{height}
+use Rattle.schemars_types.specs.Edges.{is_inline_at, height}
 use Rattle.schemars_documents.specs.Documents.{annotated, required_names, ArePartsWritten}
 use Rattle.schemars.specs.Missing.{StandsIn, missing}
 use Rattle.schemars_documents.specs.ContractOf.{contract_of}
@@ -236,7 +236,8 @@ subschema-returns-clause-written t c =
     let now = c.define.new.work in
     let named : name_of c.args.n plan.contract now.names ≡ Some k = gives-keeps plan.rows c.name_for.new.self.names now.names c.args.n plan.contract k c.in_ok-define.ensures.step.names c.in_ok-name.ensures.named in
     let same : c.in_ok-reference.reference ≡ reference (reference_to plan.path k) = search rules in
-    inl (reference_to plan.path k, inr (k, named, c.in_ok-define.ensures.defined, refl), same)
+    let apart : is_inline_at plan.rows c.args.n ≡ false = search rules in
+    inl (reference_to plan.path k, inr (k, named, c.in_ok-define.ensures.defined, refl, (c.requires.known, apart)), same)
 
 pub define-returns-then-has_definition-clause-defined : goal.define-returns-then-has_definition-clause-defined
 define-returns-then-has_definition-clause-defined t c =
