@@ -141,7 +141,7 @@ more_types_own s rows same own k d found =
       is_text = h.is_text;
       depth = h.depth;
       describes = describes-wider rows (contract_of s.settings.contract) (Refers (plan_of s None) false (work_of s)) (Refers (plan_of (record s { rows = rows }) None) false (work_of s)) to_more h.depth h.depth (omega arith) h.row d
-      (describes-more s.rows rows (contract_of s.settings.contract) (Refers (plan_of s None) false (work_of s)) (entry-in_more s.rows (length s.rows) rows same) h.depth h.row d h.describes);
+          (describes-more s.rows rows (contract_of s.settings.contract) (Refers (plan_of s None) false (work_of s)) (entry-in_more s.rows (length s.rows) rows same) h.depth h.row d h.describes);
     }
   where
     to_more : (n : ℕ) (r : Text) → Refers (plan_of s None) false (work_of s) n r → Refers (plan_of (record s { rows = rows }) None) false (work_of s) n r
