@@ -21,11 +21,12 @@ use Rattle.schemars.specs.Keys.{HasKeysOnce}
 use Rattle.schemars_documents.specs.PlainTable.{IsPlainTable, HasNoFloat}
 use Rattle.schemars_naming.specs.Work.{Plan, Work, IsKey, StandsApart, Refers, IsDefinition, AreDefinitions, Step, reference_to}
 use Rattle.schemars.specs.State.{State, plan_of, work_of, after_root, HasOwnDefinitions}
-use Rattle.schemars.specs.Headline.{Headline, IsDraftPath, IsRootOf, IsTitledRoot, IsSubschema, with_definitions}
-use Rattle.schemars.specs.Missing.{depth_in_place}
+use Rattle.schemars.specs.Headline.{Headline, IsDraftPath, IsRootOf, IsTitledRoot, with_definitions}
+use Rattle.schemars_build.specs.Parts.{IsSubschema}
+use Rattle.schemars_build.specs.Missing.{depth_in_place}
 use Rattle.schemars.specs.Refusals.{CannotPlace}
 use Rattle.schemars_documents.proofs.Mapping.{own_map, written_map, describes-wider}
-use Rattle.schemars.proofs.Steps.{step_wider, definition-wider}
+use Rattle.schemars_build.proofs.Steps.{step_wider, definition-wider}
 use Rattle.schemars.proofs.Floats.{described_whole, root_whole, definitions_whole, whole_with_definitions}
 use Rattle.schemars.proofs.Roots.{root_placed, root_call_means}
 

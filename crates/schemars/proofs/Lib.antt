@@ -8,7 +8,3 @@ pub mod Roots
 pub mod Calls
 pub mod Endless
 pub mod Paths
-pub mod Steps
-pub mod Reaching
-pub mod Descending
-pub mod Building

@@ -1,5 +1,5 @@
 -- What a generated document promises: it accepts just the values that belong to its type.
-use Rattle.std.specs.Prelude.{◌≡◌, ◌≤◌, ◌⊎◌, ℕ, suc, List, Bool, true, Option, Some, None, codes}
+use Rattle.std.specs.Prelude.{◌≡◌, ◌≤◌, ◌⊎◌, ℕ, suc, List, true, Option, Some, None, codes}
 use Rattle.serde_json.specs.Data.{Data, object, Members, no_members, member}
 use Rattle.serde_json.specs.Find.{get_member, pointer}
 use Rattle.schemars_schema.specs.Verdict.{verdict}
@@ -12,10 +12,9 @@ use Rattle.schemars_types.specs.Edges.{height}
 use Rattle.schemars_types.specs.Meaning.{Contract, belongs}
 use Rattle.schemars_documents.specs.PlainTable.{IsPlainTable}
 use Rattle.schemars_documents.specs.ContractOf.{contract_of}
-use Rattle.schemars_documents.specs.Documents.{Describes, IsWritten, root_document}
-use Rattle.schemars_naming.specs.Work.{Plan, Work, Refers, Step}
-use Rattle.schemars.specs.Reached.{AreReached}
-use Rattle.schemars.specs.Missing.{depth_in_place}
+use Rattle.schemars_documents.specs.Documents.{Describes, root_document}
+use Rattle.schemars_naming.specs.Work.{Work, Refers, Step}
+use Rattle.schemars_build.specs.Reached.{AreReached}
 use Rattle.schemars.specs.State.{State, plan_of, work_of}
 
 -- under every reading of patterns, from the bound on, the schema in this document accepts a JSON value exactly when it belongs to the row, and never leaves it open
@@ -78,8 +77,3 @@ abbrev pub SubschemaHeadline : State → ℕ → Data → Type 0
 SubschemaHeadline s n schema =
     IsPlainTable s.rows → IsKnownPath (plan_of s None).path → (document : Data) → IsHolding (plan_of s None).path s.definitions document
     → MeansItsTypeIn s.rows (contract_of s.settings.contract) (plan_of s None).path n s.definitions document schema
-
--- a part of a document of row n
-abbrev pub IsSubschema : Plan → Bool → Work → ℕ → Data → Type 0
-IsSubschema plan free w n s =
-    IsWritten (Refers plan free w) (Describes plan.rows (contract_of plan.contract) (Refers plan free w) (depth_in_place plan.rows n)) n s

@@ -10,11 +10,12 @@ ghost use Rattle.schemars_types.specs.Edges.{is_inline_at};
 ghost use Rattle.schemars_types.specs.Extends.{begins_with};
 ghost use Rattle.schemars_types.specs.Faults.{IsAccepted, IsChecked};
 ghost use Rattle.schemars_documents.specs.Documents.{reference};
-ghost use Rattle.schemars.specs.Headline.{Headline, SubschemaHeadline, IsRootOf, IsTitledRoot, IsSubschema, IsDraftPath, with_definitions};
+ghost use Rattle.schemars.specs.Headline.{Headline, SubschemaHeadline, IsRootOf, IsTitledRoot, IsDraftPath, with_definitions};
+ghost use Rattle.schemars_build.specs.Parts.{IsSubschema};
 ghost use Rattle.schemars_documents.specs.ContractOf.{contract_of};
 ghost use Rattle.schemars_naming.specs.Naming.{IsOneToOne, name_of};
 ghost use Rattle.schemars_documents.specs.PlainTable.{IsPlainTable, HasNoFloat};
-ghost use Rattle.schemars.specs.Reached.{AreReached};
+ghost use Rattle.schemars_build.specs.Reached.{AreReached};
 ghost use Rattle.schemars.specs.Refusals.{HasFault, CannotPlace};
 ghost use Rattle.schemars.specs.Keys.{HasKeysOnce};
 ghost use Rattle.schemars.specs.Settings.{settings_of, state_of};
@@ -22,8 +23,8 @@ ghost use Rattle.schemars.specs.State.{State, settings2020_12, plan_of, plan_of 
 ghost use Rattle.schemars_naming.specs.Work as specs;
 ghost use Rattle.schemars_naming.specs.Work.{Step, IsKey, reference_to, undone};
 
-use crate::build::{Plan, own_document, subschema};
 use crate::error::GenerateError;
+use schemars_build::build::{Plan, own_document, subschema};
 pub use schemars_documents::Contract;
 use schemars_documents::documents::make_root;
 use schemars_naming::work::Work;

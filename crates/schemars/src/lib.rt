@@ -4,7 +4,6 @@
 //! those: that is the contract of `SchemaGenerator::root_schema_for_type`.
 #![tactic(auto)]
 
-mod build;
 mod error;
 pub mod generate;
 

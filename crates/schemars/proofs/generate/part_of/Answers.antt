@@ -1,6 +1,6 @@
 use Rattle.std.proofs.Common.{◌≡◌, None, false, refl, sym, subst, rules}
 use Rattle.schemars_json.specs.Json.{Text}
-use Rattle.schemars.specs.Headline.{IsSubschema}
+use Rattle.schemars_build.specs.Parts.{IsSubschema}
 use Rattle.schemars.specs.Settings.{state_of}
 use Rattle.schemars.specs.State.{plan_of, work_of}
 use Rattle.schemars_naming.specs.Work.{Work, Step}

@@ -2,11 +2,11 @@ use Rattle.std.proofs.Common.{◌≡◌, List, ℕ, None, Some, false, refl, sym
 use Rattle.schemars_schema.specs.References.{references}
 use Rattle.schemars_types.specs.Edges.{is_inline_at}
 use Rattle.schemars_documents.specs.Documents.{reference}
-use Rattle.schemars.specs.Headline.{IsSubschema}
-use Rattle.schemars.specs.Missing.{depth_in_place}
+use Rattle.schemars_build.specs.Parts.{IsSubschema}
+use Rattle.schemars_build.specs.Missing.{depth_in_place}
 use Rattle.schemars_naming.specs.Naming.{name_of}
 use Rattle.schemars_documents.specs.PlainTable.{IsPlainTable}
-use Rattle.schemars.specs.Reached.{AreReached}
+use Rattle.schemars_build.specs.Reached.{AreReached}
 use Rattle.schemars.specs.Settings.{state_of}
 use Rattle.schemars.specs.State.{State, plan_of, work_of, HasOwnDefinitions}
 use Rattle.schemars_naming.specs.Work.{Work, Step, IsKey, reference_to}

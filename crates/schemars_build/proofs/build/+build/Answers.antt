@@ -11,15 +11,15 @@ use Rattle.schemars_shapes.specs.declared.shape.Field as src
 use Rattle.schemars_shapes.specs.Shape.{Shape, Entry, struct, shape_of, field_of, entry_of, numbers_of}
 use Rattle.schemars_types.specs.Edges.{is_inline_at, height}
 use Rattle.schemars_documents.specs.Documents.{annotated, required_names, ArePartsWritten}
-use Rattle.schemars.specs.Missing.{StandsIn, missing}
+use Rattle.schemars_build.specs.Missing.{StandsIn, missing}
 use Rattle.schemars_documents.specs.ContractOf.{contract_of}
 use Rattle.schemars_documents.specs.PlainTable.{IsNoName, AreDistinct, AreNoted, IsPlainShape, IsPlainEntry}
-use Rattle.schemars.specs.Plans.{plan_of}
+use Rattle.schemars_build.specs.Plans.{plan_of}
 use Rattle.schemars_documents.specs.Properties.{ArePropertiesOf}
-use Rattle.schemars.specs.Reached.{AreReached}
+use Rattle.schemars_build.specs.Reached.{AreReached}
 use Rattle.schemars_naming.specs.Work.{Work, Refers, Step, undone}
-use Rattle.schemars.proofs.Building.{Written, part, written-wider, option_document, list_document-of, item_number, parts_joined, newtype_document, own_document-of, properties_joined}
-use Rattle.schemars.proofs.Descending.{stands, stands_one, stands_field, left_of_subschema, left_of_own_document, left_of_document, left_of_properties, left_of_define, to_part, to_define, to_definition}
+use Rattle.schemars_build.proofs.Building.{Written, part, written-wider, option_document, list_document-of, item_number, parts_joined, newtype_document, own_document-of, properties_joined}
+use Rattle.schemars_build.proofs.Descending.{stands, stands_one, stands_field, left_of_subschema, left_of_own_document, left_of_document, left_of_properties, left_of_define, to_part, to_define, to_definition}
 use Rattle.schemars_documents.proofs.Mapping.{struct_document-of}
 use Rattle.std.proofs.Common.{inl, inr}
 use Rattle.std.proofs.lemmas.Str.{IsUtf8-string_bytes}
@@ -28,9 +28,9 @@ use Rattle.schemars_documents.specs.Documents.{reference}
 use Rattle.schemars_naming.specs.Naming.{name_of}
 use Rattle.schemars_naming.specs.Work.{reference_to}
 use Rattle.schemars_naming.proofs.Given.{gives-keeps}
-use Rattle.schemars.proofs.Reaching.{items-kept, items-has, members-kept, members-has, among_annotated, among_allow_null, among_list, among_tuple, among_map, reference_among, reached_more, reached_trans, reached_defines, new_name, noted_at, new_property}
-use Rattle.schemars.proofs.Steps.{begun_with, finished_with, begun-fewer, undone-begun, undone-finished, begun-contains, finished-found, key-found, step_trans, step_meet, step_names, step_defines, step_wider, missing-wider}
-use Rattle.schemars.proofs.build.+build.Goals as goal
+use Rattle.schemars_build.proofs.Reaching.{items-kept, items-has, members-kept, members-has, among_annotated, among_allow_null, among_list, among_tuple, among_map, reference_among, reached_more, reached_trans, reached_defines, new_name, noted_at, new_property}
+use Rattle.schemars_build.proofs.Steps.{begun_with, finished_with, begun-fewer, undone-begun, undone-finished, begun-contains, finished-found, key-found, step_trans, step_meet, step_names, step_defines, step_wider, missing-wider}
+use Rattle.schemars_build.proofs.build.+build.Goals as goal
 
 pub document-subschema-requires : goal.document-subschema-requires
 document-subschema-requires t c =

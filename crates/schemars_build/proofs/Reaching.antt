@@ -25,10 +25,10 @@ use Rattle.schemars_shapes.specs.Shape.{Shape, Field, field_of}
 use Rattle.schemars_documents.specs.Documents.{list_document_for, items_from, tuple_document, map_of, annotated, with_title, with_meta_schema, root_document, field_keywords, reference}
 use Rattle.schemars_documents.specs.PlainTable.{IsNoName, AreDistinct, AreNoted}
 use Rattle.schemars_documents.specs.Properties.{ArePropertiesOf}
-use Rattle.schemars.specs.Reached.{IsReached, by_reference, by_definition, AreReached}
+use Rattle.schemars_build.specs.Reached.{IsReached, by_reference, by_definition, AreReached}
 use Rattle.schemars_naming.specs.Work.{reference_to}
 use Rattle.schemars_naming.proofs.Members.{get_member-replaced, get_member-replaced_other}
-use Rattle.schemars.proofs.Steps.{same_key}
+use Rattle.schemars_build.proofs.Steps.{same_key}
 
 -- ---- references among others
 

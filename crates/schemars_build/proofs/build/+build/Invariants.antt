@@ -4,15 +4,15 @@ use Rattle.schemars_schema.specs.References.{found_in_members, found_in_items}
 use Rattle.schemars_types.specs.Edges.{height}
 use Rattle.schemars_shapes.specs.Shape.{field_of}
 use Rattle.schemars_documents.specs.Documents.{IsWritten, ArePartsWritten, Describes}
-use Rattle.schemars.specs.Missing.{missing}
+use Rattle.schemars_build.specs.Missing.{missing}
 use Rattle.schemars_documents.specs.ContractOf.{contract_of}
 use Rattle.schemars_documents.specs.PlainTable.{IsPlainTable, AreDistinct, AreNoted}
-use Rattle.schemars.specs.Plans.{plan_of}
+use Rattle.schemars_build.specs.Plans.{plan_of}
 use Rattle.schemars_documents.specs.Properties.{ArePropertiesOf}
-use Rattle.schemars.specs.Reached.{AreReached}
+use Rattle.schemars_build.specs.Reached.{AreReached}
 use Rattle.schemars_naming.specs.Work.{Refers, Step, undone}
-use Rattle.schemars.proofs.Descending.{left_of_define, left_of_subschema, left_of_own_document, left_of_document, left_of_properties}
-use Rattle.schemars.proofs.build.+build.Given as goal
+use Rattle.schemars_build.proofs.Descending.{left_of_define, left_of_subschema, left_of_own_document, left_of_document, left_of_properties}
+use Rattle.schemars_build.proofs.build.+build.Given as goal
 
 abbrev pub decreases-define : goal.decreases-define
 decreases-define l = left_of_define (plan_of l.plan.now) l.work.now

@@ -1,5 +1,5 @@
 -- Plans as the program holds them.
-use Rattle.schemars.specs.declared.build.Plan as src
+use Rattle.schemars_build.specs.declared.build.Plan as src
 use Rattle.schemars_naming.specs.Work.{Plan}
 
 abbrev pub plan_of : src.Plan → Plan

@@ -9,7 +9,7 @@ use Rattle.schemars_shapes.specs.Shape.{Entry, numbers_of, field_of}
 use Rattle.schemars_types.specs.Rows.{Row, entry_at}
 use Rattle.schemars_types.specs.Edges.{numbers_at, is_inline_at, height}
 use Rattle.schemars_types.specs.Faults.{IsChecked}
-use Rattle.schemars.specs.Missing.{missing, depth_in_place, StandsIn}
+use Rattle.schemars_build.specs.Missing.{missing, depth_in_place, StandsIn}
 use Rattle.schemars_naming.specs.Work.{Plan, Work}
 
 abbrev pub width : List Row → ℕ

@@ -7,14 +7,14 @@ ghost use Rattle.schemars_types.specs.Edges.{height};
 ghost use Rattle.schemars_types.specs.Faults.{IsChecked};
 ghost use Rattle.schemars_shapes.specs.Shape.{shape_of, field_of, numbers_of};
 ghost use Rattle.schemars_documents.specs.Documents.{IsDocument, IsWritten, ArePartsWritten, Describes, HasNoParts, NoPart, item_in, reference};
-ghost use Rattle.schemars.specs.Headline.{IsSubschema};
-ghost use Rattle.schemars.specs.Missing.{missing, StandsIn};
+ghost use Rattle.schemars_build.specs.Parts.{IsSubschema};
+ghost use Rattle.schemars_build.specs.Missing.{missing, StandsIn};
 ghost use Rattle.schemars_documents.specs.ContractOf.{contract_of};
 ghost use Rattle.schemars_naming.specs.Naming.{name_of};
 ghost use Rattle.schemars_documents.specs.PlainTable.{IsPlainTable, IsPlainShape, AreDistinct, AreNoted};
-ghost use Rattle.schemars.specs.Plans.{plan_of};
+ghost use Rattle.schemars_build.specs.Plans.{plan_of};
 ghost use Rattle.schemars_documents.specs.Properties.{ArePropertiesOf};
-ghost use Rattle.schemars.specs.Reached.{AreReached};
+ghost use Rattle.schemars_build.specs.Reached.{AreReached};
 ghost use Rattle.schemars_naming.specs.Work.{IsKey, Refers, Step, undone, reference_to};
 
 use schemars_documents::Contract;
@@ -33,19 +33,19 @@ use std::alloc::{AllocError, Global};
 
 /// What stays the same while documents are made.
 #[derive(Clone, Copy)]
-pub(crate) struct Plan<'t> {
-    pub(crate) types: &'t Types,
-    pub(crate) contract: Contract,
+pub struct Plan<'t> {
+    pub types: &'t Types,
+    pub contract: Contract,
     /// where the definitions stand
-    pub(crate) path: &'t str,
+    pub path: &'t str,
     /// the row whose root document is made
-    pub(crate) root: Option<TypeNo>,
+    pub root: Option<TypeNo>,
 }
 
 /// The schema of row `n` as a part: its document in place, or a reference to its definition, which
 /// is made unless it is there.
 #[cycle(build)]
-pub(crate) fn subschema(
+pub fn subschema(
     alloc: Global,
     plan: &Plan<'_>,
     work: &mut Work,
@@ -114,7 +114,7 @@ fn define(
 
 /// The document of row `n`, with its notes.
 #[cycle(build)]
-pub(crate) fn own_document(
+pub fn own_document(
     alloc: Global,
     plan: &Plan<'_>,
     work: &mut Work,

@@ -1,0 +1,4 @@
+pub mod Steps
+pub mod Reaching
+pub mod Descending
+pub mod Building

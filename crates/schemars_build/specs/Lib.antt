@@ -1,0 +1,4 @@
+pub mod Reached
+pub mod Missing
+pub mod Plans
+pub mod Parts
