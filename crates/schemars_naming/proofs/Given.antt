@@ -1,6 +1,6 @@
 -- Names that are given stay, and are found.
 use Rattle.std.proofs.Common.{◌≡◌, ℕ, List, [], ◌∷◌, ◌++◌, Bool, true, false, Some, None, refl, sym, ap, ◌∙◌, arith, subst, find, option_map, append-nil, append_assoc}
-use Rattle.std.specs.Prelude.{◌==◌, cond}
+use Rattle.std.specs.Prelude.{◌==◌, ◌&&◌, cond}
 use Rattle.std.proofs.lemmas.Bool.Decides.{nat_tests}
 use Rattle.schemars_json.specs.Json.{Text}
 use Rattle.schemars_types.specs.Rows.{Row}
@@ -34,6 +34,27 @@ name_of-given n c (x ∷ old) name h = go (is_of n c x) h (name_of-given n c old
         → option_map (λ y. y.name) (cond b (Some x) (find (is_of n c) (old ++ (record { row = n; contract = c; name = name }) ∷ []))) ≡ Some name
     go true h rest = cc
     go false h rest = rest h
+
+same_contract-equal : (c d : Contract) → is_same_contract c d ≡ true → c ≡ d
+same_contract-equal Deserialize Deserialize h = refl
+same_contract-equal Serialize Serialize h = refl
+same_contract-equal Deserialize Serialize h = cc
+same_contract-equal Serialize Deserialize h = cc
+
+-- no other row gets a name
+pub name_of-given_alone : (m : ℕ) (c : Contract) (old : Naming) (x : Named) (name : Text) → name_of m c old ≡ None → name_of m c (old ++ x ∷ []) ≡ Some name → (m ≡ x.row) × (c ≡ x.contract)
+name_of-given_alone m c [] x name none some = go (x.row == m) (is_same_contract x.contract c) refl refl some
+  where
+    go : (a b : Bool) → (x.row == m) ≡ a → is_same_contract x.contract c ≡ b → option_map (λ y. y.name) (cond (a && b) (Some x) None) ≡ Some name → (m ≡ x.row) × (c ≡ x.contract)
+    go true true i j h = (grind (arith, nat_tests), sym (same_contract-equal x.contract c j))
+    go true false i j h = cc
+    go false b i j h = cc
+name_of-given_alone m c (y ∷ old) x name none some = go (is_of m c y) none some (name_of-given_alone m c old x name)
+  where
+    go : (b : Bool) → option_map (λ z. z.name) (cond b (Some y) (find (is_of m c) old)) ≡ None → option_map (λ z. z.name) (cond b (Some y) (find (is_of m c) (old ++ x ∷ []))) ≡ Some name
+        → (name_of m c old ≡ None → name_of m c (old ++ x ∷ []) ≡ Some name → (m ≡ x.row) × (c ≡ x.contract)) → (m ≡ x.row) × (c ≡ x.contract)
+    go true none some rest = cc
+    go false none some rest = rest none some
 
 -- ---- one after another
 

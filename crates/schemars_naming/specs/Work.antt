@@ -1,5 +1,5 @@
 -- What documents are made into: names for rows, and definitions under these names.
-use Rattle.std.specs.Prelude.{◌≡◌, ◌<◌, length, ◌⊎◌, ◌++◌, ◌||◌, ℕ, List, [], ◌∷◌, take, Bool, true, false, Option, Some, None, codes, Contains}
+use Rattle.std.specs.Prelude.{◌≡◌, ◌≢◌, ◌<◌, length, ◌⊎◌, ◌++◌, ◌||◌, ℕ, List, [], ◌∷◌, take, Bool, true, false, Option, Some, None, codes, Contains}
 use Rattle.std.specs.Str.{IsUtf8}
 use Rattle.serde_json.specs.Data.{Data, Members}
 use Rattle.serde_json.specs.Find.{get_member}
@@ -42,11 +42,12 @@ reference_to path name = 35 ∷ (path ++ 47 ∷ encoded name)
 abbrev pub StandsApart : List Row → ℕ → Type 0
 StandsApart rows n = (n < length rows) × (is_inline_at rows n ≡ false)
 
--- a row that is not written in place: the root by `#`, where that is free or has been met; another by the name under which its definition stands
+-- a row that is not written in place: the root by `#` alone, where that is free or has been met; another by the name under which its definition stands
 abbrev pub Refers : Plan → Bool → Work → ℕ → Text → Type 0
 Refers plan free w n r =
     ((plan.root ≡ Some n) × (free || w.meets_root ≡ true) × (r ≡ codes "#") × StandsApart plan.rows n)
-    ⊎ ((name : Text) × (name_of n plan.contract w.names ≡ Some name) × IsKey name w.definitions × (r ≡ reference_to plan.path name) × StandsApart plan.rows n)
+    ⊎ ((name : Text) × (name_of n plan.contract w.names ≡ Some name) × IsKey name w.definitions × (r ≡ reference_to plan.path name) × StandsApart plan.rows n
+    × (plan.root ≢ Some n))
 
 -- ---- definitions
 

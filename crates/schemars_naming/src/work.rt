@@ -1,5 +1,5 @@
 //! What documents are made into.
-ghost use Rattle.std.specs.Prelude.{true, false, map, ◌≡◌, ◌∷◌, ◌++◌, ◌||◌, [], None, Some, length, Contains, IfOk, OnOk, OnErr, option_map, is_some, string_bytes};
+ghost use Rattle.std.specs.Prelude.{ℕ, List, true, false, map, ◌≡◌, ◌∷◌, ◌++◌, ◌||◌, [], None, Some, length, Contains, IfOk, OnOk, OnErr, option_map, is_some, string_bytes};
 ghost use Rattle.serde_json.specs.Data.{boolean, put, no_members};
 ghost use Rattle.serde_json.specs.Find.{get_member, as_object};
 ghost use Rattle.schemars_schema.specs.SchemaData.{members_in};
@@ -7,6 +7,7 @@ ghost use Rattle.serde_json.specs.View.{members_view};
 ghost use Rattle.schemars_schema.specs.Edits.{replaced};
 ghost use Rattle.schemars_types.specs.Rows.{name_at};
 ghost use Rattle.schemars_naming.specs.Naming.{name_of, IsOneToOne};
+ghost use Rattle.schemars_documents.specs.declared.contract.Contract.{Contract};
 ghost use Rattle.schemars_naming.specs.Work.{GivesNames, undone, without_all};
 ghost use Rattle.std.specs.Borrow.{Lends, sem};
 ghost use Rattle.serde_json.specs.Rows.{map_row};
@@ -79,6 +80,8 @@ impl Work {
     ) -> Result<String, AllocError>
         ensures named { IfOk result (λ s. name_of n contract self.new.names ≡ Some (string_bytes s)) }
         ensures given { OnOk result (GivesNames types.now self.old.names self.new.names) }
+        ensures no_other { OnOk result ((m : ℕ) (c : Contract) (name : List ℕ) → name_of m c self.old.names ≡ None
+            → name_of m c self.new.names ≡ Some name → (m ≡ n) × (c ≡ contract)) }
         ensures rest { self.new ≡ record self.old { names = self.new.names } }
         ensures undone { undone self.new ≡ undone self.old }
     {
