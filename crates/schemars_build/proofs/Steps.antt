@@ -44,7 +44,7 @@ or_more false a b h e = h e
 
 pub refers-wider : (plan : Plan) (free : Bool) (old new : Work) → Wider plan.contract old new → (n : ℕ) (r : Text) → Refers plan free old n r → Refers plan free new n r
 refers-wider plan free old new w n r (inl h) = inl (h.0, or_more free old.meets_root new.meets_root w.meets h.1, h.2, h.3)
-refers-wider plan free old new w n r (inr h) = inr (h.0, w.names n h.0 h.1, w.keys h.0 h.2, h.3, h.4)
+refers-wider plan free old new w n r (inr h) = inr (h.0, w.names n h.0 h.1, w.keys h.0 h.2, h.3, h.4, h.5)
 
 pub definition-wider : (plan : Plan) (old new : Work) → Wider plan.contract old new → (k : Text) (d : Data) → IsDefinition plan old k d → IsDefinition plan new k d
 definition-wider plan old new w k d h = record {

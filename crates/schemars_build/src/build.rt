@@ -1,5 +1,5 @@
 //! The documents of rows, with parts in place or by reference.
-ghost use Rattle.std.specs.Prelude.{Some, codes, ◌≡◌, ◌<◌, ◌≤◌, ◌∷◌, not, suc, [], length, map, IfOk, OnOk, All, string_bytes};
+ghost use Rattle.std.specs.Prelude.{Some, false, codes, ◌≡◌, ◌<◌, ◌≤◌, ◌∷◌, not, suc, [], length, map, IfOk, OnOk, All, string_bytes};
 ghost use Rattle.serde_json.specs.Data.{string};
 ghost use Rattle.serde_json.specs.View.{view, items_view, members_view};
 ghost use Rattle.schemars_schema.specs.References.{references, found_in_members, found_in_items};
@@ -60,7 +60,7 @@ pub fn subschema(
         ≤ missing (plan_of plan.now).rows plan.now.contract work.old) }
     ensures written { IfOk result (IsSubschema (plan_of plan.now) (not in_definition) work.new n) }
     ensures reached { IfOk result (λ s. IsPlainTable (plan_of plan.now).rows
-        → AreReached (plan_of plan.now).path work.old.definitions work.new.definitions (references s)) }
+        → AreReached (plan_of plan.now) in_definition work.old work.new (references s)) }
 {
     let inline = match plan.types.entry(n) {
         Some(entry) => entry.inline,
@@ -99,8 +99,7 @@ fn define(
         ≤ missing (plan_of plan.now).rows plan.now.contract work.old) }
     ensures defined { OnOk result (IsKey (string_bytes name.now) work.new.definitions) }
     ensures reached { OnOk result (IsPlainTable (plan_of plan.now).rows
-        → AreReached (plan_of plan.now).path work.old.definitions work.new.definitions
-        (string (reference_to (plan_of plan.now).path (string_bytes name.now)) ∷ [])) }
+        → AreReached (plan_of plan.now) false work.old work.new (string (reference_to (plan_of plan.now).path (string_bytes name.now)) ∷ [])) }
 {
     let key = name.as_str();
     if work.has_definition(key) {
@@ -130,7 +129,7 @@ pub fn own_document(
     ensures describes { IfOk result (λ s. Describes (plan_of plan.now).rows (contract_of plan.now.contract)
         (Refers (plan_of plan.now) (not in_definition) work.new) (suc (height (plan_of plan.now).rows n)) n s) }
     ensures reached { IfOk result (λ s. IsPlainTable (plan_of plan.now).rows
-        → AreReached (plan_of plan.now).path work.old.definitions work.new.definitions (references s)) }
+        → AreReached (plan_of plan.now) in_definition work.old work.new (references s)) }
 {
     let entry = match plan.types.entry(n) {
         Some(entry) => entry,
@@ -160,7 +159,7 @@ fn document(
         (Describes (plan_of plan.now).rows (contract_of plan.now.contract) (Refers (plan_of plan.now) (not in_definition) work.new)
         (height (plan_of plan.now).rows n))) (contract_of plan.now.contract) (shape_of shape.now) s) }
     ensures reached { IfOk result (λ s. IsPlainTable (plan_of plan.now).rows → IsPlainShape (shape_of shape.now)
-        → AreReached (plan_of plan.now).path work.old.definitions work.new.definitions (references s)) }
+        → AreReached (plan_of plan.now) in_definition work.old work.new (references s)) }
 {
     let _ = n;
     match shape {
@@ -218,7 +217,7 @@ fn parts_in_order(
         (Describes (plan_of plan.now).rows (contract_of plan.now.contract) (Refers (plan_of plan.now) (not in_definition) work.new)
         (height (plan_of plan.now).rows n))) parts.now (map view v.items)) }
     ensures reached { IfOk result (λ v. IsPlainTable (plan_of plan.now).rows
-        → AreReached (plan_of plan.now).path work.old.definitions work.new.definitions (found_in_items (items_view v.items))) }
+        → AreReached (plan_of plan.now) in_definition work.old work.new (found_in_items (items_view v.items))) }
 {
     let _ = n;
     let mut items = Vec::new(alloc);
@@ -261,7 +260,7 @@ fn properties(
         (height (plan_of plan.now).rows n))) (map field_of fields.now) (members_view m.entries)) }
     ensures reached { IfOk result (λ m. IsPlainTable (plan_of plan.now).rows
         → AreDistinct (map field_of fields.now) → AreNoted (map field_of fields.now)
-        → AreReached (plan_of plan.now).path work.old.definitions work.new.definitions (found_in_members (members_view m.entries))) }
+        → AreReached (plan_of plan.now) in_definition work.old work.new (found_in_members (members_view m.entries))) }
 {
     let _ = n;
     let mut properties = Map::new(alloc);

@@ -1,4 +1,4 @@
-use Rattle.std.proofs.Common.{◌≡◌, ◌<◌, ◌≤◌, ◌+◌, ◌++◌, ◌∷◌, [], ℕ, List, Option, false, length, map, take, true, Some, None, refl, ap, sym, ◌∙◌, subst, arith, rules, string_bytes, All, get_or, not, is_some}
+use Rattle.std.proofs.Common.{◌≡◌, ◌≢◌, ◌<◌, ◌≤◌, ◌+◌, ◌++◌, ◌∷◌, [], ℕ, List, Option, false, length, map, take, true, Some, None, refl, ap, sym, ◌∙◌, subst, arith, rules, string_bytes, All, get_or, not, is_some}
 use Rattle.std.proofs.lemmas.List.{map-append, take_more}
 use Rattle.serde_json.specs.Data.{Data, Members, boolean, string, put}
 use Rattle.serde_json.specs.View.{view, items_view, members_view}
@@ -22,13 +22,14 @@ use Rattle.schemars_build.proofs.Building.{Written, part, written-wider, option_
 use Rattle.schemars_build.proofs.Descending.{stands, stands_one, stands_field, left_of_subschema, left_of_own_document, left_of_document, left_of_properties, left_of_define, to_part, to_define, to_definition}
 use Rattle.schemars_documents.proofs.Mapping.{struct_document-of}
 use Rattle.std.proofs.Common.{inl, inr}
+use Rattle.std.specs.Prelude.{◌||◌, codes}
 use Rattle.std.proofs.lemmas.Str.{IsUtf8-string_bytes}
 use Rattle.serde_json.specs.Find.{get_member}
 use Rattle.schemars_documents.specs.Documents.{reference}
 use Rattle.schemars_naming.specs.Naming.{name_of}
 use Rattle.schemars_naming.specs.Work.{reference_to}
 use Rattle.schemars_naming.proofs.Given.{gives-keeps}
-use Rattle.schemars_build.proofs.Reaching.{items-kept, items-has, members-kept, members-has, among_annotated, among_allow_null, among_list, among_tuple, among_map, reference_among, reached_more, reached_trans, reached_defines, new_name, noted_at, new_property}
+use Rattle.schemars_build.proofs.Reaching.{items-kept, items-has, members-kept, members-has, among_annotated, among_allow_null, among_list, among_tuple, among_map, reached_more, reached_trans, reached_defines, reached_by_name, reached_root, new_name, noted_at, new_property}
 use Rattle.schemars_build.proofs.Steps.{begun_with, finished_with, begun-fewer, undone-begun, undone-finished, begun-contains, finished-found, key-found, step_trans, step_meet, step_names, step_defines, step_wider, missing-wider}
 use Rattle.schemars_build.proofs.build.+build.Goals as goal
 
@@ -124,12 +125,12 @@ properties-loop-field-preserved t c =
           let name : IsNoName (string_bytes f.name) (map field_of (take i c.args.fields.now)) = subst (λ x. IsNoName (field_of x).name (map field_of (take i c.args.fields.now))) (sym c.field-item.is) (new_name c.args.fields.now i f less distinct) in
           let notes : AreNotes (field_of f).notes = subst (λ x. AreNotes (field_of x).notes) (sym c.field-item.is) (noted_at c.args.fields.now i f less noted) in
           let new : get_member (string_bytes f.name) before ≡ None = new_property (Written plan free old c.args.n) (string_bytes f.name) (map field_of (take i c.args.fields.now)) before c.loop-field.invariant.written name in
-          let made : AreReached plan.path old.definitions now.definitions (references (annotated (field_of f).notes c.in_ok-schema.schema)) =
-          reached_more plan.path old.definitions now.definitions _ _ (among_annotated (field_of f).notes c.in_ok-schema.schema notes) (c.in_ok-schema.ensures.reached plain) in
-          let P : Data → Type 0 = λ d. AreReached plan.path old.definitions now.definitions (references d) in
-          let Q : Members → Type 0 = λ ms. AreReached plan.path c.args.work.now.definitions now.definitions (found_in_members ms) in
+          let made : AreReached plan c.args.in_definition old now (references (annotated (field_of f).notes c.in_ok-schema.schema)) =
+          reached_more plan c.args.in_definition old now _ _ (among_annotated (field_of f).notes c.in_ok-schema.schema notes) (c.in_ok-schema.ensures.reached plain) in
+          let P : Data → Type 0 = λ d. AreReached plan c.args.in_definition old now (references d) in
+          let Q : Members → Type 0 = λ ms. AreReached plan c.args.in_definition c.args.work.now now (found_in_members ms) in
           subst Q (sym entries)
-          (reached_trans plan.path c.args.work.now.definitions old.definitions now.definitions (found_in_members before) (references c.annotate.new.schema) (found_in_members (put (string_bytes f.name) c.annotate.new.schema before)) c.in_ok-schema.ensures.step.stays
+          (reached_trans plan c.args.in_definition c.args.work.now old now (found_in_members before) (references c.annotate.new.schema) (found_in_members (put (string_bytes f.name) c.annotate.new.schema before)) c.loop-field.invariant.step c.in_ok-schema.ensures.step
           (members-kept (string_bytes f.name) c.annotate.new.schema before new) (members-has (string_bytes f.name) c.annotate.new.schema before) (c.loop-field.invariant.reached plain distinct noted) (subst P (sym c.in_ok-annotate.ensures) made));
     }
 
@@ -237,7 +238,8 @@ subschema-returns-clause-written t c =
     let named : name_of c.args.n plan.contract now.names ≡ Some k = gives-keeps plan.rows c.name_for.new.self.names now.names c.args.n plan.contract k c.in_ok-define.ensures.step.names c.in_ok-name.ensures.named in
     let same : c.in_ok-reference.reference ≡ reference (reference_to plan.path k) = search rules in
     let apart : is_inline_at plan.rows c.args.n ≡ false = search rules in
-    inl (reference_to plan.path k, inr (k, named, c.in_ok-define.ensures.defined, refl, (c.requires.known, apart)), same)
+    let other : plan.root ≢ Some c.args.n = search rules in
+    inl (reference_to plan.path k, inr (k, named, c.in_ok-define.ensures.defined, refl, (c.requires.known, apart), other), same)
 
 pub define-returns-then-has_definition-clause-defined : goal.define-returns-then-has_definition-clause-defined
 define-returns-then-has_definition-clause-defined t c =
@@ -247,28 +249,28 @@ define-returns-then-has_definition-clause-defined t c =
 
 pub document-returns-in_ok-allow_null-in-Option-clause-reached : goal.document-returns-in_ok-allow_null-in-Option-clause-reached
 document-returns-in_ok-allow_null-in-Option-clause-reached t c = λ plain kind.
-    let P : Data → Type 0 = λ s. AreReached (plan_of c.args.plan.now).path c.args.work.now.definitions c.subschema.new.work.definitions (references s) in
-    subst P (sym c.in_ok-allow_null-in-Option.ensures.becomes) (reached_more (plan_of c.args.plan.now).path c.args.work.now.definitions c.subschema.new.work.definitions _ _ (among_allow_null c.in_ok-schema-in-Option.schema) (c.in_ok-schema-in-Option.ensures.reached plain))
+    let P : Data → Type 0 = λ s. AreReached (plan_of c.args.plan.now) c.args.in_definition c.args.work.now c.subschema.new.work (references s) in
+    subst P (sym c.in_ok-allow_null-in-Option.ensures.becomes) (reached_more (plan_of c.args.plan.now) c.args.in_definition c.args.work.now c.subschema.new.work _ _ (among_allow_null c.in_ok-schema-in-Option.schema) (c.in_ok-schema-in-Option.ensures.reached plain))
 
 pub document-returns-in_ok-schema-in-Struct-clause-reached : goal.document-returns-in_ok-schema-in-Struct-clause-reached
 document-returns-in_ok-schema-in-Struct-clause-reached t c = λ plain kind.
     let fields = c.in-Struct.fields in
     let first : c.deref-in-Struct.result.now ≡ fields.list.items = c.deref-in-Struct.ensures.value in
-    let P : Data → Type 0 = λ s. AreReached (plan_of c.args.plan.now).path c.args.work.now.definitions c.properties.new.work.definitions (references s) in
+    let P : Data → Type 0 = λ s. AreReached (plan_of c.args.plan.now) c.args.in_definition c.args.work.now c.properties.new.work (references s) in
     let Q : Shape → Type 0 = λ k. IsPlainShape k in
     let D : List src.Field → Type 0 = λ fs. AreDistinct (map field_of fs) in
     let N : List src.Field → Type 0 = λ fs. AreNoted (map field_of fs) in
     let here : IsPlainShape (struct (map field_of fields.list.items) fields.closed) = subst Q (ap shape_of c.in-Struct.is) kind in
-    subst P (sym c.in_ok-schema-in-Struct.ensures) (reached_more (plan_of c.args.plan.now).path c.args.work.now.definitions c.properties.new.work.definitions _ _ (among_map (members_view c.in_ok-properties-in-Struct.properties.entries) _ fields.closed)
+    subst P (sym c.in_ok-schema-in-Struct.ensures) (reached_more (plan_of c.args.plan.now) c.args.in_definition c.args.work.now c.properties.new.work _ _ (among_map (members_view c.in_ok-properties-in-Struct.properties.entries) _ fields.closed)
     (c.in_ok-properties-in-Struct.ensures.reached plain (subst D (sym first) here.0) (subst N (sym first) here.1)))
 
 pub own_document-returns-clause-reached : goal.own_document-returns-clause-reached
 own_document-returns-clause-reached t c = λ plain.
     let e = entry_of c.in-Some.entry.now in
-    let P : Data → Type 0 = λ s. AreReached (plan_of c.args.plan.now).path c.args.work.now.definitions c.document.new.work.definitions (references s) in
+    let P : Data → Type 0 = λ s. AreReached (plan_of c.args.plan.now) c.args.in_definition c.args.work.now c.document.new.work (references s) in
     let Q : Option Entry → Type 0 = λ o. IsPlainEntry o in
     let here : IsPlainEntry (Some e) = subst Q (sym c.in-Some.ensures) (plain c.args.n) in
-    subst P (sym c.in_ok-annotate.ensures) (reached_more (plan_of c.args.plan.now).path c.args.work.now.definitions c.document.new.work.definitions _ _ (among_annotated e.notes c.in_ok-schema.schema here.0) (c.in_ok-schema.ensures.reached plain here.1))
+    subst P (sym c.in_ok-annotate.ensures) (reached_more (plan_of c.args.plan.now) c.args.in_definition c.args.work.now c.document.new.work _ _ (among_annotated e.notes c.in_ok-schema.schema here.0) (c.in_ok-schema.ensures.reached plain here.1))
 
 pub define-returns-clause-reached : goal.define-returns-clause-reached
 define-returns-clause-reached t c = λ plain.
@@ -280,22 +282,37 @@ define-returns-clause-reached t c = λ plain.
     let begun : c.begin.new.self ≡ begun_with old k = search rules in
     let finished : c.finish.new.self ≡ finished_with mid k d = search rules in
     let step : Step plan (begun_with old k) mid = subst (λ w. Step plan w mid) begun c.in_ok-definition.ensures.step in
-    let P : Work → Type 0 = λ w. AreReached plan.path w.definitions mid.definitions (references d) in
-    let Q : Work → Type 0 = λ w. AreReached plan.path old.definitions w.definitions (string (reference_to plan.path k) ∷ []) in
+    let none : get_member k old.definitions ≡ None = search rules in
+    let P : Work → Type 0 = λ w. AreReached plan true w mid (references d) in
+    let Q : Work → Type 0 = λ w. AreReached plan false old w (string (reference_to plan.path k) ∷ []) in
     subst Q (sym finished)
-    (reached_defines plan.path old.definitions mid.definitions k d (step.stays k (boolean false) (get_member-put k (boolean false) old.definitions)) (subst P begun (c.in_ok-definition.ensures.reached plain)))
+    (reached_defines plan old mid k d none (step.stays k (boolean false) (get_member-put k (boolean false) old.definitions)) (subst P begun (c.in_ok-definition.ensures.reached plain)))
 
 pub subschema-returns-clause-reached : goal.subschema-returns-clause-reached
 subschema-returns-clause-reached t c = λ plain.
     let plan = plan_of c.args.plan.now in
     let old = c.args.work.now in
     let k = string_bytes c.in_ok-name.name in
+    let mid = c.name_for.new.self in
     let now = c.define.new.work in
-    let given : c.name_for.new.self ≡ record old { names = c.name_for.new.self.names } = search rules in
+    let given : mid ≡ record old { names = mid.names } = search rules in
     let same : c.in_ok-reference.reference ≡ reference (reference_to plan.path k) = search rules in
-    let P : Work → Type 0 = λ w. AreReached plan.path w.definitions now.definitions (string (reference_to plan.path k) ∷ []) in
-    let Q : Data → Type 0 = λ s. AreReached plan.path old.definitions now.definitions (references s) in
-    subst Q (sym same) (reached_more plan.path old.definitions now.definitions _ _ (reference_among (reference_to plan.path k)) (subst P given (c.in_ok-define.ensures.reached plain)))
+    let named : name_of c.args.n plan.contract now.names ≡ Some k = gives-keeps plan.rows mid.names now.names c.args.n plan.contract k c.in_ok-define.ensures.step.names c.in_ok-name.ensures.named in
+    let P : Work → Type 0 = λ w. AreReached plan false w now (string (reference_to plan.path k) ∷ []) in
+    let Q : Data → Type 0 = λ s. AreReached plan c.args.in_definition old now (references s) in
+    subst Q (sym same)
+    (reached_by_name plan c.args.in_definition old mid.names now c.args.n k c.in_ok-name.ensures.no_other named c.in_ok-define.ensures.defined (subst P given (c.in_ok-define.ensures.reached plain)))
+
+pub subschema-returns-then-eq-clause-reached : goal.subschema-returns-then-eq-clause-reached
+subschema-returns-then-eq-clause-reached t c = λ plain.
+    let plan = plan_of c.args.plan.now in
+    let old = c.args.work.now in
+    let inside = c.args.in_definition in
+    let met : c.meet_root.new.self ≡ record old { meets_root = old.meets_root || inside } = c.meet_root.ensures in
+    let same : c.in_ok-root.root ≡ reference (codes "#") = search rules in
+    let P : Work → Type 0 = λ w. AreReached plan inside old w (references (reference (codes "#"))) in
+    let Q : Data → Type 0 = λ s. AreReached plan inside old c.meet_root.new.self (references s) in
+    subst Q (sym same) (subst P (sym met) (reached_root plan inside old))
 
 pub document-subschema-requires-in-Some : goal.document-subschema-requires-in-Some
 document-subschema-requires-in-Some t c =
@@ -315,15 +332,15 @@ document-returns-in_ok-schema-in-Some-clause-describes t c =
 
 pub document-returns-in_ok-schema-in-Some-clause-reached : goal.document-returns-in_ok-schema-in-Some-clause-reached
 document-returns-in_ok-schema-in-Some-clause-reached t c = λ plain kind.
-    let P : Data → Type 0 = λ s. AreReached (plan_of c.args.plan.now).path c.args.work.now.definitions c.subschema-in-Some.new.work.definitions (references s) in
+    let P : Data → Type 0 = λ s. AreReached (plan_of c.args.plan.now) c.args.in_definition c.args.work.now c.subschema-in-Some.new.work (references s) in
     subst P (sym c.in_ok-schema-in-Some.ensures)
-    (reached_more (plan_of c.args.plan.now).path c.args.work.now.definitions c.subschema-in-Some.new.work.definitions _ _ (among_list (shape_of c.args.shape.now) c.in_ok-items-in-Some.items) (c.in_ok-items-in-Some.ensures.reached plain))
+    (reached_more (plan_of c.args.plan.now) c.args.in_definition c.args.work.now c.subschema-in-Some.new.work _ _ (among_list (shape_of c.args.shape.now) c.in_ok-items-in-Some.items) (c.in_ok-items-in-Some.ensures.reached plain))
 
 pub document-returns-in_ok-schema-in-Tuple-clause-reached : goal.document-returns-in_ok-schema-in-Tuple-clause-reached
 document-returns-in_ok-schema-in-Tuple-clause-reached t c = λ plain kind.
-    let P : Data → Type 0 = λ s. AreReached (plan_of c.args.plan.now).path c.args.work.now.definitions c.parts_in_order.new.work.definitions (references s) in
+    let P : Data → Type 0 = λ s. AreReached (plan_of c.args.plan.now) c.args.in_definition c.args.work.now c.parts_in_order.new.work (references s) in
     subst P (sym c.in_ok-schema-in-Tuple.ensures)
-    (reached_more (plan_of c.args.plan.now).path c.args.work.now.definitions c.parts_in_order.new.work.definitions _ _ (among_tuple c.in_ok-items-in-Tuple.items.items) (c.in_ok-items-in-Tuple.ensures.reached plain))
+    (reached_more (plan_of c.args.plan.now) c.args.in_definition c.args.work.now c.parts_in_order.new.work _ _ (among_tuple c.in_ok-items-in-Tuple.items.items) (c.in_ok-items-in-Tuple.ensures.reached plain))
 
 pub parts_in_order-loop-part-preserved : goal.parts_in_order-loop-part-preserved
 parts_in_order-loop-part-preserved t c =
@@ -352,9 +369,9 @@ parts_in_order-loop-part-preserved t c =
       fewer = omega (arith, c.in_ok-schema.ensures.fewer, c.loop-part.invariant.fewer);
       written = subst Q (sym all) (subst P (sym grown) joined);
       reached = λ plain.
-          let R : List Value → Type 0 = λ vs. AreReached plan.path start.definitions now.definitions (found_in_items (items_view vs)) in
-          let S : Data → Type 0 = λ d. AreReached plan.path old.definitions now.definitions (references d) in
+          let R : List Value → Type 0 = λ vs. AreReached plan c.args.in_definition start now (found_in_items (items_view vs)) in
+          let S : Data → Type 0 = λ d. AreReached plan c.args.in_definition old now (references d) in
           subst R (sym c.in_ok-push.ensures.items)
-          (reached_trans plan.path start.definitions old.definitions now.definitions (found_in_items (items_view done)) (references (view c.to_value.result)) (found_in_items (items_view (done ++ c.to_value.result ∷ [])))
-          c.in_ok-schema.ensures.step.stays (items-kept done c.to_value.result) (items-has done c.to_value.result) (c.loop-part.invariant.reached plain) (subst S (sym c.to_value.ensures.value) (c.in_ok-schema.ensures.reached plain)));
+          (reached_trans plan c.args.in_definition start old now (found_in_items (items_view done)) (references (view c.to_value.result)) (found_in_items (items_view (done ++ c.to_value.result ∷ [])))
+          c.loop-part.invariant.step c.in_ok-schema.ensures.step (items-kept done c.to_value.result) (items-has done c.to_value.result) (c.loop-part.invariant.reached plain) (subst S (sym c.to_value.ensures.value) (c.in_ok-schema.ensures.reached plain)));
     }
