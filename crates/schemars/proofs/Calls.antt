@@ -1,5 +1,5 @@
 -- What a call makes of what a generator holds.
-use Rattle.std.proofs.Common.{◌≡◌, ◌<◌, inl, inr, ℕ, zero, suc, List, [], ◌∷◌, take, length, Bool, true, false, Option, Some, None, refl, sym, ap, ◌∙◌, arith, subst, true≢false}
+use Rattle.std.proofs.Common.{◌≡◌, ◌<◌, inl, inr, ℕ, zero, suc, List, [], ◌∷◌, take, length, Bool, true, false, Option, Some, None, refl, sym, ap, ◌∙◌, arith, subst, true≢false, Result, Ok, Err, IsErrAnd, IfErr}
 use Rattle.std.specs.Prelude.{if◌then◌else◌}
 use Rattle.std.specs.List.{IsDistinct}
 use Rattle.serde_json.specs.Data.{Data, Members}
@@ -19,14 +19,17 @@ use Rattle.schemars_naming.specs.Naming.{name_of, IsOneToOne}
 use Rattle.schemars_documents.specs.Documents.{IsOwnDocument, IsWritten, Describes, reference, root_document}
 use Rattle.schemars.specs.Keys.{HasKeysOnce}
 use Rattle.schemars_documents.specs.PlainTable.{IsPlainTable, HasNoFloat}
-use Rattle.schemars_naming.specs.Work.{Plan, Work, IsKey, StandsApart, Refers, IsDefinition, AreDefinitions, Step, reference_to}
+use Rattle.schemars_naming.specs.Work.{Plan, Work, IsKey, StandsApart, Refers, IsDefinition, Step, reference_to}
 use Rattle.schemars.specs.State.{State, plan_of, work_of, after_root, HasOwnDefinitions}
 use Rattle.schemars.specs.Headline.{Headline, IsDraftPath, IsRootOf, IsTitledRoot, with_definitions}
 use Rattle.schemars_build.specs.Parts.{IsSubschema}
 use Rattle.schemars_build.specs.Missing.{depth_in_place}
 use Rattle.schemars.specs.Refusals.{CannotPlace}
 use Rattle.schemars_documents.proofs.Mapping.{own_map, written_map, describes-wider}
-use Rattle.schemars_build.proofs.Steps.{step_wider, definition-wider}
+use Rattle.schemars_schema.specs.References.{references}
+use Rattle.schemars_build.specs.Reached.{AreReached}
+use Rattle.schemars_build.proofs.Steps.{Wider, step_wider, definition-wider}
+use Rattle.schemars.proofs.Leading.{Stands, AllStand, stands_now, stands_before}
 use Rattle.schemars.proofs.Floats.{described_whole, root_whole, definitions_whole, whole_with_definitions}
 use Rattle.schemars.proofs.Roots.{root_placed, root_call_means}
 
@@ -50,31 +53,42 @@ definition-moved plan other old new rows contract names refers k d h = record {
     ap-contract wide = let P : Contract → Type 0 = λ x. Describes plan.rows x (Refers other false new) h.depth h.row d in subst P (ap contract_of contract) wide
 
 -- what a root call has, of what was there and what it adds
-pub definitions_in : (s : State) (root : Option ℕ) (w : Work) → Step (plan_of s root) (work_of s) w → HasOwnDefinitions s → AreDefinitions (plan_of s root) w
+pub definitions_in : (s : State) (root : Option ℕ) (w : Work) → Step (plan_of s root) (work_of s) w → HasOwnDefinitions s → AllStand (plan_of s root) w
 definitions_in s root w step own k d found = go (get_member k s.definitions) refl
   where
-    to_root : (n : ℕ) (r : Text) → Refers (plan_of s None) false (work_of s) n r → Refers (plan_of s root) false (work_of s) n r
-    to_root n r (inl h) = cc
-    to_root n r (inr h) = inr h
-
-    go : (o : Option Data) → get_member k s.definitions ≡ o → IsDefinition (plan_of s root) w k d
-    go None is = step.adds k d is found
+    go : (o : Option Data) → get_member k s.definitions ≡ o → Stands (plan_of s root) w k d
+    go None is = stands_now (plan_of s root) w k d (step.adds k d is found)
     go (Some e) is =
         let kept : get_member k w.definitions ≡ Some e = step.stays k e is in
         let same : e ≡ d = cc in
-        let P : Data → Type 0 = λ x. IsDefinition (plan_of s root) w k x in
-        subst P same (definition-wider (plan_of s root) (work_of s) w (step_wider (plan_of s root) (work_of s) w step) k e
-        (definition-moved (plan_of s None) (plan_of s root) (work_of s) (work_of s) refl refl (λ n name e. e) to_root k e (own k e is)))
+        let P : Data → Type 0 = λ x. Stands (plan_of s root) w k x in
+        subst P same (stands_before (plan_of s root) w k e (definition-wider (plan_of s None) (work_of s) w (step_wider (plan_of s root) (work_of s) w step) k e (own k e is)))
 
 -- no definition refers to the root, so they can stay
-pub definitions_kept : (s : State) (root : Option ℕ) (w : Work) → w.meets_root ≡ false → AreDefinitions (plan_of s root) w → HasOwnDefinitions (record s { names = w.names; definitions = w.definitions })
-definitions_kept s root w none all k d found =
-    let new = record s { names = w.names; definitions = w.definitions } in
-    definition-moved (plan_of s root) (plan_of new None) w (work_of new) refl refl (λ n name e. e) from_root k d (all k d found)
+pub definitions_kept : (s : State) (root : Option ℕ) (w : Work) → w.meets_root ≡ false → Step (plan_of s root) (work_of s) w → HasOwnDefinitions s → HasOwnDefinitions (record s { names = w.names; definitions = w.definitions })
+definitions_kept s root w none step own k d found = go (get_member k s.definitions) refl
   where
-    from_root : (n : ℕ) (r : Text) → Refers (plan_of s root) false w n r → Refers (plan_of (record s { names = w.names; definitions = w.definitions }) None) false (work_of (record s { names = w.names; definitions = w.definitions })) n r
+    new : State
+    new = record s { names = w.names; definitions = w.definitions }
+
+    from_root : (n : ℕ) (r : Text) → Refers (plan_of s root) false w n r → Refers (plan_of new None) false (work_of new) n r
     from_root n r (inl h) = absurd (true≢false (sym h.1 ∙ none))
-    from_root n r (inr h) = inr h
+    from_root n r (inr h) = inr (h.0, h.1, h.2, h.3, h.4, λ e. cc)
+
+    wider : Wider s.settings.contract (work_of s) (work_of new)
+    wider = record {
+      names = (step_wider (plan_of s root) (work_of s) w step).names;
+      keys = (step_wider (plan_of s root) (work_of s) w step).keys;
+      meets = λ e. e;
+    }
+
+    go : (o : Option Data) → get_member k s.definitions ≡ o → IsDefinition (plan_of new None) (work_of new) k d
+    go None is = definition-moved (plan_of s root) (plan_of new None) w (work_of new) refl refl (λ n name e. e) from_root k d (step.adds k d is found)
+    go (Some e) is =
+        let kept : get_member k w.definitions ≡ Some e = step.stays k e is in
+        let same : e ≡ d = cc in
+        let P : Data → Type 0 = λ x. IsDefinition (plan_of new None) (work_of new) k x in
+        subst P same (definition-wider (plan_of s None) (work_of s) (work_of new) wider k e (own k e is))
 
 -- the old ones stay the generator's own as names join
 names_joined : (s : State) (w : Work) (root : Option ℕ) → Step (plan_of s root) (work_of s) w → HasOwnDefinitions s → HasOwnDefinitions (record s { names = w.names })
@@ -91,11 +105,11 @@ after_root_own s n w step own = go w.meets_root refl
   where
     go : (b : Bool) → w.meets_root ≡ b → HasOwnDefinitions (record s { names = w.names; definitions = if b then s.definitions else w.definitions })
     go true is = names_joined s w (Some n) step own
-    go false is = definitions_kept s (Some n) w is (definitions_in s (Some n) w step own)
+    go false is = definitions_kept s (Some n) w is step own
 
 pub part_own : (s new : State) → new ≡ record s { names = new.names; definitions = new.definitions } → Step (plan_of s None) (work_of s) (work_of new) → HasOwnDefinitions s → HasOwnDefinitions new
 part_own s new same step own =
-    subst HasOwnDefinitions (sym same) (definitions_kept s None (work_of new) refl (definitions_in s None (work_of new) step own))
+    subst HasOwnDefinitions (sym same) (definitions_kept s None (work_of new) refl step own)
 
 -- ---- a larger table
 
@@ -147,7 +161,7 @@ more_types_own s rows same own k d found =
   where
     to_more : (n : ℕ) (r : Text) → Refers (plan_of s None) false (work_of s) n r → Refers (plan_of (record s { rows = rows }) None) false (work_of s) n r
     to_more n r (inl h) = cc
-    to_more n r (inr h) = inr (h.0, h.1, h.2, h.3, apart_in_more s.rows (length s.rows) rows same n h.4)
+    to_more n r (inr h) = inr (h.0, h.1, h.2, h.3, apart_in_more s.rows (length s.rows) rows same n h.4, h.5)
 
 -- ---- root documents
 
@@ -164,7 +178,7 @@ root_is_whole s n w d root once none own =
 
 pub always_placed : (s : State) (n : ℕ) → IsPlainTable s.rows → IsDraftPath (plan_of s None).path → CannotPlace s n → ⊥
 always_placed s n plain path h =
-    let there = root_placed (plan_of s (Some n)) h.work n (name_at s.rows n) s.settings.meta_schema (suc (height s.rows n)) h.own plain h.describes path in
+    let there = root_placed (plan_of s (Some n)) h.work n (name_at s.rows n) s.settings.meta_schema (suc (height s.rows n)) h.own plain (Refers (plan_of s (Some n)) true h.work) h.describes path in
     let some = there.1 in
     let none = h.no_place in
     cc
@@ -212,6 +226,21 @@ step_kept s w h = record {
     moved j r (inl h) = cc
     moved j r (inr h) = inr h
 
+-- nor does what the call has begun and marked
+pub reached_kept : (plan : Plan) (inside : Bool) (s : State) (old w : Work) (from : List Data) → AreReached plan inside old w from → AreReached plan inside old (work_of (record s { names = w.names; definitions = w.definitions })) from
+reached_kept plan inside s old w from h = record {
+  definitions = h.definitions;
+  names = h.names;
+  root = λ meets. cc;
+}
+
+-- ---- refusals
+
+-- a refusal that is passed on tells what it told
+pub err_told : {X E : Type 0} (r : Result X E) (P Q : E → Type 0) → IsErrAnd r Q → ((e : E) → Q e → P e) → IfErr r P
+err_told (Ok x) P Q h all = tt
+err_told (Err e) P Q h all = all e h
+
 -- ---- placing
 
 pub some_definitions : (path : Text) (es : List Entries) (document : Data) → (length es ≡ 0 → ⊥) → with_definitions path (members_view es) document ≡ placed_at path (members_view es) document
@@ -235,7 +264,7 @@ checked_nothing = record {
 pub one_to_one-none : IsOneToOne []
 one_to_one-none = record { one_row = λ m n c d name a b. cc }
 
-pub cannot_place : (s : State) (n : ℕ) (old w : Work) (t : Data) (path : Text) (ms : Members) → old ≡ work_of s → Step (plan_of s (Some n)) old w → IsTitledRoot s n w t → path ≡ (plan_of s None).path → ms ≡ w.definitions
+pub cannot_place : (s : State) (n : ℕ) (old w : Work) (t : Data) (path : Text) (ms : Members) → old ≡ work_of s → Step (plan_of s (Some n)) old w → IsTitledRoot s old n w t → path ≡ (plan_of s None).path → ms ≡ w.definitions
     → with_definitions path ms t ≡ None → CannotPlace s n
 cannot_place s n old w t path ms between step titled same_path same none = record {
   work = w;
@@ -243,14 +272,15 @@ cannot_place s n old w t path ms between step titled same_path same none = recor
   own = titled.own;
   describes = titled.describes;
   no_place = sym (λ i. with_definitions (same_path i) (same i) (titled.is_root i)) ∙ none;
+  reached = λ plain. subst (λ x. AreReached (plan_of s (Some n)) false x w (references titled.own)) between (titled.reached plain);
 }
 
-pub root_of : (s : State) (n : ℕ) (old w : Work) (t d : Data) (path : Text) (ms : Members) → old ≡ work_of s → Step (plan_of s (Some n)) old w → IsTitledRoot s n w t → path ≡ (plan_of s None).path → ms ≡ w.definitions
+pub root_of : (s : State) (n : ℕ) (old w : Work) (t d : Data) (path : Text) (ms : Members) → old ≡ work_of s → Step (plan_of s (Some n)) old w → IsTitledRoot s old n w t → path ≡ (plan_of s None).path → ms ≡ w.definitions
     → with_definitions path ms t ≡ Some d → IsRootOf s n w d
 root_of s n old w t d path ms between step titled same_path same made = record {
   step = subst (λ x. Step (plan_of s (Some n)) x w) between step;
   own = titled.own;
   describes = titled.describes;
   is_root = sym (λ i. with_definitions (same_path i) (same i) (titled.is_root i)) ∙ made;
-  reached = titled.reached;
+  reached = λ plain. subst (λ x. AreReached (plan_of s (Some n)) false x w (references titled.own)) between (titled.reached plain);
 }

@@ -23,7 +23,8 @@ use Rattle.schemars_documents.specs.PlainTable.{FieldsHaveNoFloat, ShapeHasNoFlo
 use Rattle.schemars_schema.specs.Edits.{without, replaced}
 use Rattle.schemars_schema.specs.Placing.{placed, placed_at, tokens_of}
 use Rattle.schemars_documents.specs.ContractOf.{contract_of}
-use Rattle.schemars_naming.specs.Work.{Plan, Work, Refers, AreDefinitions}
+use Rattle.schemars_naming.specs.Work.{Plan, Work}
+use Rattle.schemars.proofs.Leading.{MayRefer, AllStand}
 use Rattle.schemars.specs.Headline.{with_definitions}
 use Rattle.schemars.specs.Keys.{HasKeysOnce}
 use Rattle.schemars.proofs.Keys.{AllMembers, all_members}
@@ -286,11 +287,11 @@ pub found_whole : (ms : Members) → HasKeysOnce ms → ((k : Text) (d : Data) �
 found_whole ms once h = members_whole ms (all_members IsWhole ms once h)
 
 -- so the definitions of a table's rows have none
-pub definitions_whole : (plan : Plan) (w : Work) → HasNoFloat plan.rows → AreDefinitions plan w → HasKeysOnce w.definitions → members_have_float w.definitions ≡ false
+pub definitions_whole : (plan : Plan) (w : Work) → HasNoFloat plan.rows → AllStand plan w → HasKeysOnce w.definitions → members_have_float w.definitions ≡ false
 definitions_whole plan w none definitions once =
     found_whole w.definitions once (λ k d found.
     let definition = definitions k d found in
-    described_whole plan.rows (contract_of plan.contract) (Refers plan false w) none definition.depth definition.row d definition.describes)
+    described_whole plan.rows (contract_of plan.contract) (MayRefer plan w) none definition.depth definition.row d definition.describes)
 
 pub whole_replaced : (k : Text) (d : Data) (ms : Members) → has_float d ≡ false → members_have_float ms ≡ false → members_have_float (replaced k d ms) ≡ false
 whole_replaced k d no_members new h = refl

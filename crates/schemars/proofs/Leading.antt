@@ -22,7 +22,7 @@ use Rattle.schemars_documents.specs.Documents.{IsWritten, Describes}
 use Rattle.schemars_documents.specs.PlainTable.{IsPlainTable}
 use Rattle.schemars_documents.specs.ContractOf.{contract_of}
 use Rattle.schemars_naming.specs.Naming.{Naming, IsOneToOne, name_of}
-use Rattle.schemars_naming.specs.Work.{Plan, Work, IsKey, Refers, AreDefinitions, reference_to}
+use Rattle.schemars_naming.specs.Work.{Plan, Work, IsKey, Refers, IsDefinition, reference_to}
 use Rattle.schemars.specs.Headline.{AcceptsItsValues}
 use Rattle.schemars.proofs.Keys.{key_here, key_later, key_cases}
 use Rattle.schemars_documents.proofs.Mapping.{describes-wider, written_map}
@@ -163,22 +163,62 @@ holds_at path definitions document found counts = record {
   counts = counts;
 }
 
--- the root is the document itself, or says the same
-abbrev pub IsItsRoot : Plan → Work → Data → Type 0
-IsItsRoot plan w document =
-    (n : ℕ) → plan.root ≡ Some n
-    → (own : Data) × (depth : ℕ) × ((patterns : Patterns) (f : Text → Judge) → judge (context2020_12 patterns f) document ≡ judge (context2020_12 patterns f) own) × IsSchema document
-    × Describes plan.rows (contract_of plan.contract) (Refers plan true w) depth n own
-
-bound_enough : (a len defs counted n : ℕ) → len ≤ defs + 1 → defs ≤ counted → (a + 1) * (counted + 2) ≤ n → (a + 1) * (len + 1) ≤ n
-bound_enough a len defs counted n few less h = grind (arith, mul-le-mul_left)
-
 -- with `#` free there are more references
 pub free_refers : (plan : Plan) (w : Work) (free : Bool) (j : ℕ) (r : Text) → Refers plan free w j r → Refers plan true w j r
 free_refers plan w free j r (inl h) = inl (h.0, refl, h.2, h.3)
 free_refers plan w free j r (inr h) = inr h
 
-module _ (plan : Plan) (w : Work) (document : Data) (checked : IsChecked plan.rows) (plain : IsPlainTable plan.rows) (one : IsOneToOne w.names) (definitions : AreDefinitions plan w)
+-- a call without a root, as earlier ones are to the definitions that they left
+abbrev pub rootless : Plan → Plan
+rootless plan = record plan { root = None }
+
+-- how a definition that stands may refer: as the running call does, or as an earlier one did, by the name of each row
+abbrev pub MayRefer : Plan → Work → ℕ → Text → Type 0
+MayRefer plan w n r = Refers plan true w n r ⊎ Refers (rootless plan) true w n r
+
+pub refers_may : (plan : Plan) (w : Work) (free : Bool) (j : ℕ) (r : Text) → Refers plan free w j r → MayRefer plan w j r
+refers_may plan w free j r h = inl (free_refers plan w free j r h)
+
+-- a definition that stands in the document of the running call
+pub record Stands (plan : Plan) (w : Work) (name : Text) (d : Data) : Type 0 where
+  pub row : ℕ
+  pub is_named : name_of row plan.contract w.names ≡ Some name
+  pub is_text : IsUtf8 name
+  pub depth : ℕ
+  pub describes : Describes plan.rows (contract_of plan.contract) (MayRefer plan w) depth row d
+
+abbrev pub AllStand : Plan → Work → Type 0
+AllStand plan w = (name : Text) (d : Data) → get_member name w.definitions ≡ Some d → Stands plan w name d
+
+pub stands_now : (plan : Plan) (w : Work) (name : Text) (d : Data) → IsDefinition plan w name d → Stands plan w name d
+stands_now plan w name d h = record {
+  row = h.row;
+  is_named = h.is_named;
+  is_text = h.is_text;
+  depth = h.depth;
+  describes = describes-wider plan.rows (contract_of plan.contract) (Refers plan false w) (MayRefer plan w) (refers_may plan w false) h.depth h.depth (omega arith) h.row d h.describes;
+}
+
+pub stands_before : (plan : Plan) (w : Work) (name : Text) (d : Data) → IsDefinition (rootless plan) w name d → Stands plan w name d
+stands_before plan w name d h = record {
+  row = h.row;
+  is_named = h.is_named;
+  is_text = h.is_text;
+  depth = h.depth;
+  describes = describes-wider plan.rows (contract_of plan.contract) (Refers (rootless plan) false w) (MayRefer plan w) (λ j r e. inr (free_refers (rootless plan) w false j r e)) h.depth h.depth (omega arith) h.row d h.describes;
+}
+
+-- the root is the document itself, or says the same
+abbrev pub IsItsRoot : Plan → Work → Data → Type 0
+IsItsRoot plan w document =
+    (n : ℕ) → plan.root ≡ Some n
+    → (own : Data) × (depth : ℕ) × ((patterns : Patterns) (f : Text → Judge) → judge (context2020_12 patterns f) document ≡ judge (context2020_12 patterns f) own) × IsSchema document
+    × Describes plan.rows (contract_of plan.contract) (MayRefer plan w) depth n own
+
+bound_enough : (a len defs counted n : ℕ) → len ≤ defs + 1 → defs ≤ counted → (a + 1) * (counted + 2) ≤ n → (a + 1) * (len + 1) ≤ n
+bound_enough a len defs counted n few less h = grind (arith, mul-le-mul_left)
+
+module _ (plan : Plan) (w : Work) (document : Data) (checked : IsChecked plan.rows) (plain : IsPlainTable plan.rows) (one : IsOneToOne w.names) (definitions : AllStand plan w)
     (holds : HoldsDefinitions plan.path w.definitions document) (is_root : IsItsRoot plan w document) where
   abbrev row_named : (k : Text) → IsKey k w.definitions → RowNamed plan w.names k
   row_named k is = let d = definitions k is.0 is.1 in (d.row, d.is_named)
@@ -193,10 +233,12 @@ module _ (plan : Plan) (w : Work) (document : Data) (checked : IsChecked plan.ro
   unfolding refs to_definitions
   refs_len = omega (arith, with_root_len plan.root (references_of plan w.names w.definitions row_named), references_len plan w.names w.definitions row_named)
 
-  refers_listed : (j : ℕ) (r : Text) → Refers plan true w j r → InList refs j r
+  refers_listed : (j : ℕ) (r : Text) → MayRefer plan w j r → InList refs j r
   unfolding refs to_definitions
-  refers_listed j r (inl h) = rw (h.2) (listed_root plan.root (references_of plan w.names w.definitions row_named) j h.0)
-  refers_listed j r (inr h) = listed_later plan.root (references_of plan w.names w.definitions row_named) j r (named_in plan w.names one w.definitions row_named j r (h.0, h.1, h.2, h.3))
+  refers_listed j r (inl (inl h)) = rw (h.2) (listed_root plan.root (references_of plan w.names w.definitions row_named) j h.0)
+  refers_listed j r (inl (inr h)) = listed_later plan.root (references_of plan w.names w.definitions row_named) j r (named_in plan w.names one w.definitions row_named j r (h.0, h.1, h.2, h.3))
+  refers_listed j r (inr (inl h)) = cc
+  refers_listed j r (inr (inr h)) = listed_later plan.root (references_of plan w.names w.definitions row_named) j r (named_in plan w.names one w.definitions row_named j r (h.0, h.1, h.2, h.3))
 
   -- the root by `#`, or a row by the name of its definition
   abbrev Leads : ℕ → Text → Type 0
@@ -209,12 +251,14 @@ module _ (plan : Plan) (w : Work) (document : Data) (checked : IsChecked plan.ro
     | inr named ↦ inr (named_from plan w.names w.definitions row_named j r named)
   ]
 
-  refers_leads : (j : ℕ) (r : Text) → Refers plan true w j r → Leads j r
-  refers_leads j r (inl h) = inl (h.0, h.2)
-  refers_leads j r (inr h) = inr (h.0, h.1, h.2, h.3)
+  refers_leads : (j : ℕ) (r : Text) → MayRefer plan w j r → Leads j r
+  refers_leads j r (inl (inl h)) = inl (h.0, h.2)
+  refers_leads j r (inl (inr h)) = inr (h.0, h.1, h.2, h.3)
+  refers_leads j r (inr (inl h)) = cc
+  refers_leads j r (inr (inr h)) = inr (h.0, h.1, h.2, h.3)
 
   abbrev D : ℕ → ℕ → Data → Type 0
-  D = Describes plan.rows (contract_of plan.contract) (Refers plan true w)
+  D = Describes plan.rows (contract_of plan.contract) (MayRefer plan w)
 
   -- found, and what it says the same as, which describes the row
   abbrev LeadsTo : ℕ → Text → Type 0
@@ -230,11 +274,11 @@ module _ (plan : Plan) (w : Work) (document : Data) (checked : IsChecked plan.ro
       let definition = definitions name d found in
       let same : definition.row ≡ j = (one.one_row definition.row j plan.contract plan.contract name definition.is_named named).0 in
       let P : ℕ → Type 0 = λ i. D definition.depth i d in
-      let describes : D definition.depth j d = subst P same (describes-wider plan.rows (contract_of plan.contract) (Refers plan false w) (Refers plan true w) (free_refers plan w false) definition.depth definition.depth (omega arith) definition.row d definition.describes) in (
+      let describes : D definition.depth j d = subst P same definition.describes in (
         d,
         d,
         definition.depth,
-        resolved_found document (reference_to plan.path name) d (holds.leads name d definition.is_text found) (described_schema plan.rows (contract_of plan.contract) (Refers plan true w) plain definition.depth j d describes),
+        resolved_found document (reference_to plan.path name) d (holds.leads name d definition.is_text found) (described_schema plan.rows (contract_of plan.contract) (MayRefer plan w) plain definition.depth j d describes),
         λ patterns f. refl,
         describes,
       )
@@ -243,7 +287,7 @@ module _ (plan : Plan) (w : Work) (document : Data) (checked : IsChecked plan.ro
   leads_to j r (inl h) = rw (h.1) (leads_root j h.0)
   leads_to j r (inr h) = rw (h.3) (leads_named j h.0 h.2.0 h.1 h.2.1)
 
-  pub refers_resolve : (j : ℕ) (r : Text) → Refers plan true w j r → is_some (resolved document r) ≡ true
+  pub refers_resolve : (j : ℕ) (r : Text) → MayRefer plan w j r → is_some (resolved document r) ≡ true
   refers_resolve j r h = let to = leads_to j r (refers_leads j r h) in rw (to.3)
 
   setting : Patterns → Setting
@@ -255,7 +299,7 @@ module _ (plan : Plan) (w : Work) (document : Data) (checked : IsChecked plan.ro
     refs = refs;
     resolves = λ j r is.
         let to = leads_to j r (listed_leads j r is) in
-        (to.0, to.1, to.2, to.3, to.4 patterns, describes-wider plan.rows (contract_of plan.contract) (Refers plan true w) (InList refs) refers_listed to.2 to.2 (omega arith) j to.1 to.5);
+        (to.0, to.1, to.2, to.3, to.4 patterns, describes-wider plan.rows (contract_of plan.contract) (MayRefer plan w) (InList refs) refers_listed to.2 to.2 (omega arith) j to.1 to.5);
     plain = plain;
     rank = rank plan.rows;
     ranks = length plan.rows;
@@ -264,8 +308,8 @@ module _ (plan : Plan) (w : Work) (document : Data) (checked : IsChecked plan.ro
   }
 
   -- what is written for a row accepts just its values
-  pub written_accepts : (d n : ℕ) (t : Data) → IsWritten (Refers plan true w) (D d) n t → AcceptsItsValues plan.rows (contract_of plan.contract) plan.path n document t
+  pub written_accepts : (d n : ℕ) (t : Data) → IsWritten (MayRefer plan w) (D d) n t → AcceptsItsValues plan.rows (contract_of plan.contract) plan.path n document t
   unfolding setting
   written_accepts d n t h patterns v json followed bounded =
-      let listed = written_map (Refers plan true w) (InList refs) (D d) (Describes plan.rows (contract_of plan.contract) (InList refs) d) refers_listed (describes-wider plan.rows (contract_of plan.contract) (Refers plan true w) (InList refs) refers_listed d d (omega arith)) n t h in
+      let listed = written_map (MayRefer plan w) (InList refs) (D d) (Describes plan.rows (contract_of plan.contract) (InList refs) d) refers_listed (describes-wider plan.rows (contract_of plan.contract) (MayRefer plan w) (InList refs) refers_listed d d (omega arith)) n t h in
       written_says (setting patterns) d n t listed v json followed ((depth v + 1) * length plan.rows) (bound_enough (depth v) (length refs) (members_len w.definitions) (count_of_definitions plan.path document) followed refs_len holds.counts bounded) (omega arith)

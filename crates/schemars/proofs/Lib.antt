@@ -5,6 +5,7 @@ pub mod Floats
 pub mod Leading
 pub mod Placed
 pub mod Roots
+pub mod NamedKeys
 pub mod Calls
 pub mod Endless
 pub mod Paths

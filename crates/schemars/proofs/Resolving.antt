@@ -1,4 +1,4 @@
--- Every reference of a document resolves, where those of its parts do.
+-- Every reference of a document passes a test, where those of its parts do: it resolves, or it names a key.
 use Rattle.std.proofs.Common.{◌≡◌, inl, inr, ℕ, zero, suc, List, [], ◌∷◌, ◌++◌, Option, Some, None, Bool, true, false, Ordering, Less, Equal, Greater, nat_cmp, refl, sym, ap, ◌∙◌, true≢false}
 use Rattle.std.specs.Prelude.{codes, bytes_eq, is_some, if◌then◌else◌, ◌&&◌}
 use Rattle.std.specs.Ordering.{match_ordering}
@@ -11,7 +11,6 @@ use Rattle.schemars_schema.specs.SchemaData.{put_members, IsSchema, members_in, 
 use Rattle.schemars_schema.specs.Annotations.{AreNotes}
 use Rattle.schemars_schema.specs.Edits.{without}
 use Rattle.schemars_schema.specs.Acceptance.{is_null}
-use Rattle.schemars_schema.specs.Lookup.{resolved}
 use Rattle.schemars_schema.specs.References.{found_in, found_in_members, found_in_items, found_in_keywords, references, resolves, all_resolve}
 use Rattle.schemars_schema.proofs.Contents.{found_under, found_under-annotation}
 use Rattle.schemars_rewrite.specs.AllowNull.{is_null_choice, is_combined, or_null, allow_null, type_with_null, null_in_type, enum_with_null, null_in_enum, const_or_null, null_in_const, null_in_values}
@@ -25,9 +24,18 @@ use Rattle.schemars_documents.specs.Documents.{Keyword, IsDocument, IsOwnDocumen
 use Rattle.schemars_documents.specs.PlainTable.{AreNoted, IsPlainShape, IsPlainEntry, IsPlainTable}
 use Rattle.schemars.proofs.Keys.{AllMembers, IsDefinitionsKey}
 
-module _ (document : Data) where
+-- all of these references pass a test
+abbrev pub all_pass : (Data → Bool) → List Data → Bool
+all_pass p [] = true
+all_pass p (x ∷ xs) = p x && all_pass p xs
+
+pub all_pass-resolve : (document : Data) (xs : List Data) → all_pass (resolves document) xs ≡ all_resolve document xs
+all_pass-resolve document [] = refl
+all_pass-resolve document (x ∷ xs) = ap (λ b. resolves document x && b) (all_pass-resolve document xs)
+
+module _ (test : Data → Bool) where
   abbrev pub Resolve : List Data → Type 0
-  Resolve xs = all_resolve document xs ≡ true
+  Resolve xs = all_pass test xs ≡ true
 
   and-parts : (a b : Bool) → a && b ≡ true → (a ≡ true) × (b ≡ true)
   and-parts true b h = (refl, h)
@@ -35,12 +43,12 @@ module _ (document : Data) where
 
   resolve-append : (xs ys : List Data) → Resolve xs → Resolve ys → Resolve (xs ++ ys)
   resolve-append [] ys h g = g
-  resolve-append (x ∷ xs) ys h g = let parts = and-parts (resolves document x) (all_resolve document xs) h in rw (parts.0, resolve-append xs ys parts.1 g)
+  resolve-append (x ∷ xs) ys h g = let parts = and-parts (test x) (all_pass test xs) h in rw (parts.0, resolve-append xs ys parts.1 g)
 
   resolve-parts : (xs ys : List Data) → Resolve (xs ++ ys) → Resolve xs × Resolve ys
   resolve-parts [] ys h = (refl, h)
   resolve-parts (x ∷ xs) ys h =
-      let parts = and-parts (resolves document x) (all_resolve document (xs ++ ys)) h in
+      let parts = and-parts (test x) (all_pass test (xs ++ ys)) h in
       let rest = resolve-parts xs ys parts.1 in
       (rw (parts.0, rest.0), rest.1)
 
@@ -57,7 +65,7 @@ module _ (document : Data) where
       go : (o : Ordering) → slice_cmp nat_cmp k l ≡ o → Resolve (found_in_keywords (put k d ms))
           → Resolve (found_in_keywords (match_ordering o (member k d (member l e ms)) (member l d ms) (member l e (put k d ms))))
       go Less is later = resolve-append (found_under k d) (found_in_keywords (member l e ms)) here all
-      go Equal is later = resolve-append (found_under l d) (found_in_keywords ms) (ap (λ x. all_resolve document (found_under x d)) (sym (exact_bytes k l is)) ∙ here) parts.1
+      go Equal is later = resolve-append (found_under l d) (found_in_keywords ms) (ap (λ x. all_pass test (found_under x d)) (sym (exact_bytes k l is)) ∙ here) parts.1
       go Greater is later = resolve-append (found_under l e) (found_in_keywords (put k d ms)) parts.0 later
 
   members-put : (k : Text) (d : Data) (ms : Members) → Resolve (references d) → Resolve (found_in_members ms) → Resolve (found_in_members (put k d ms))
@@ -94,7 +102,7 @@ module _ (document : Data) where
 
   resolved_put_members : (notes ms : Members) → AreNotes notes → Resolve (found_in_keywords ms) → Resolve (found_in_keywords (put_members notes ms))
   resolved_put_members no_members ms h e = e
-  resolved_put_members (member k d notes) ms h e = resolved_put_members notes (put k d ms) h.1 (keywords-put k d ms (ap (all_resolve document) (found_under-annotation k d h.0)) e)
+  resolved_put_members (member k d notes) ms h e = resolved_put_members notes (put k d ms) h.1 (keywords-put k d ms (ap (all_pass test) (found_under-annotation k d h.0)) e)
 
   pub resolved_annotated : (notes : Members) (s : Data) → AreNotes notes → IsResolved s → IsResolved (annotated notes s)
   resolved_annotated no_members s h e = e
@@ -269,8 +277,8 @@ module _ (document : Data) where
   own_resolved W contract all (Some e) noted s is = rw is.2 (resolved_annotated e.notes is.0 noted.0 (shape_resolved W contract all e.shape noted.1 is.0 is.1))
 
   module _ (rows : List Row) (contract : Contract) (Refers : ℕ → Text → Type 0) (plain : IsPlainTable rows)
-      (lead : (j : ℕ) (r : Text) → Refers j r → is_some (resolved document r) ≡ true) where
-    reference_resolved : (r : Text) → is_some (resolved document r) ≡ true → IsResolved (reference r)
+      (lead : (j : ℕ) (r : Text) → Refers j r → test (string r) ≡ true) where
+    reference_resolved : (r : Text) → test (string r) ≡ true → IsResolved (reference r)
     unfolding found_in
     reference_resolved r h = (tt, rw h)
 

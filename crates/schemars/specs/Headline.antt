@@ -1,5 +1,5 @@
 -- What a generated document promises: it accepts just the values that belong to its type.
-use Rattle.std.specs.Prelude.{◌≡◌, ◌≤◌, ◌⊎◌, ℕ, suc, List, true, Option, Some, None, codes}
+use Rattle.std.specs.Prelude.{◌≡◌, ◌≤◌, ◌⊎◌, ℕ, suc, List, true, false, Option, Some, None, codes}
 use Rattle.serde_json.specs.Data.{Data, object, Members, no_members, member}
 use Rattle.serde_json.specs.Find.{get_member, pointer}
 use Rattle.schemars_schema.specs.Verdict.{verdict}
@@ -45,20 +45,20 @@ abbrev pub with_definitions : Text → Members → Data → Option Data
 with_definitions path no_members document = Some document
 with_definitions path (member k d ms) document = placed_at path (member k d ms) document
 
--- the document of row n as a root document, without the definitions, where each new one is reached from it
-pub record IsTitledRoot (old : State) (n : ℕ) (work : Work) (document : Data) : Type 0 where
+-- the document of row n as a root document, without the definitions, where all that joined is reached from it
+pub record IsTitledRoot (old : State) (before : Work) (n : ℕ) (work : Work) (document : Data) : Type 0 where
   pub own : Data
   pub describes : Describes old.rows (contract_of old.settings.contract) (Refers (plan_of old (Some n)) true work) (suc (height old.rows n)) n own
   pub is_root : document ≡ root_document (name_at old.rows n) old.settings.meta_schema own
-  pub reached : IsPlainTable old.rows → AreReached (plan_of old (Some n)).path old.definitions work.definitions (references own)
+  pub reached : IsPlainTable old.rows → AreReached (plan_of old (Some n)) false before work (references own)
 
--- what a root call makes: the document of row n, made a root document, with the definitions, where each new one is reached from it
+-- what a root call makes: the document of row n, made a root document, with the definitions, where all that joined is reached from it
 pub record IsRootOf (old : State) (n : ℕ) (work : Work) (document : Data) : Type 0 where
   pub step : Step (plan_of old (Some n)) (work_of old) work
   pub own : Data
   pub describes : Describes old.rows (contract_of old.settings.contract) (Refers (plan_of old (Some n)) true work) (suc (height old.rows n)) n own
   pub is_root : with_definitions (plan_of old (Some n)).path work.definitions (root_document (name_at old.rows n) old.settings.meta_schema own) ≡ Some document
-  pub reached : IsPlainTable old.rows → AreReached (plan_of old (Some n)).path old.definitions work.definitions (references own)
+  pub reached : IsPlainTable old.rows → AreReached (plan_of old (Some n)) false (work_of old) work (references own)
 
 -- ---- subschemas
 

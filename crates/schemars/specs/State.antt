@@ -1,7 +1,9 @@
 -- What settings say, and what a generator holds, as callers see them.
-use Rattle.std.specs.Prelude.{ℕ, ◌==◌, List, [], ◌∷◌, false, Option, Some, None, codes, refl, length, if◌then◌else◌}
+use Rattle.std.specs.Prelude.{◌≡◌, Contains, ℕ, ◌==◌, List, [], ◌∷◌, false, Option, Some, None, codes, refl, length, if◌then◌else◌}
 use Rattle.std.specs.Coded.{Coded, code_by, coded×, coded_option}
-use Rattle.serde_json.specs.Data.{Members}
+use Rattle.serde_json.specs.Data.{Data, string, Members}
+use Rattle.serde_json.specs.Find.{get_member}
+use Rattle.schemars_schema.specs.References.{references}
 use Rattle.schemars_json.specs.Json.{Text}
 use Rattle.schemars_schema.specs.DataCode.{text_code, members_code}
 use Rattle.schemars_types.specs.Rows.{Row}
@@ -10,7 +12,7 @@ use Rattle.schemars_documents.specs.declared.contract.Contract.{Contract}
 use Rattle.schemars_documents.specs.declared.contract.Contract.TheVariants.{Deserialize}
 use Rattle.schemars_naming.specs.Naming.{Naming}
 use Rattle.schemars_naming.specs.NamingCode.{naming_code, contract_code}
-use Rattle.schemars_naming.specs.Work.{Plan, Work, AreDefinitions}
+use Rattle.schemars_naming.specs.Work.{Plan, Work, IsKey, AreDefinitions, reference_to}
 
 pub record Settings : Type 0 where
   pub definitions_path : Text
@@ -53,6 +55,12 @@ plan_of s root = record { rows = s.rows; contract = s.settings.contract; path = 
 -- each definition is the document of the row of its name, with references to other definitions alone: so it is where the caller changed none
 abbrev pub HasOwnDefinitions : State → Type 0
 HasOwnDefinitions s = AreDefinitions (plan_of s None) (work_of s)
+
+-- each reference in a definition names a key of the definitions
+abbrev pub ReferencesNameKeys : State → Type 0
+ReferencesNameKeys s =
+    (k : Text) (d r : Data) → get_member k s.definitions ≡ Some d → Contains (references d) r
+    → (name : Text) × IsKey name s.definitions × (r ≡ string (reference_to (plan_of s None).path name))
 
 -- what is there after a root call: where a new definition refers to the root document, which `#` means, none of the new ones stays
 abbrev pub after_root : State → Work → State

@@ -19,7 +19,7 @@ ghost use Rattle.schemars_build.specs.Reached.{AreReached};
 ghost use Rattle.schemars.specs.Refusals.{HasFault, CannotPlace};
 ghost use Rattle.schemars.specs.Keys.{HasKeysOnce};
 ghost use Rattle.schemars.specs.Settings.{settings_of, state_of};
-ghost use Rattle.schemars.specs.State.{State, settings2020_12, plan_of, plan_of as state_plan, work_of, after_root, stripped, without_hash, without_slash, HasOwnDefinitions};
+ghost use Rattle.schemars.specs.State.{State, settings2020_12, plan_of, plan_of as state_plan, work_of, after_root, stripped, without_hash, without_slash, HasOwnDefinitions, ReferencesNameKeys};
 ghost use Rattle.schemars_naming.specs.Work as specs;
 ghost use Rattle.schemars_naming.specs.Work.{Step, IsKey, reference_to, undone};
 
@@ -159,6 +159,7 @@ impl SchemaGenerator {
         ensures extends { OnOk result (begins_with types self.old.rows ≡ true) }
         ensures accepted { OnOk result (IsAccepted types) }
         ensures own { HasOwnDefinitions self.old → HasOwnDefinitions self.new }
+        ensures keys { HasOwnDefinitions self.old → IsPlainTable self.new.rows → ReferencesNameKeys self.new }
         ensures other { begins_with types self.old.rows ≡ false → result ≡ Err GenerateError.NotAnExtension }
         ensures refused { begins_with types self.old.rows ≡ true
             → IfErr result (λ e. (e ≡ GenerateError.OutOfMemory) ⊎ HasFault types e) }
@@ -222,6 +223,7 @@ impl SchemaGenerator {
         ensures taken { IfOk result (λ m. members_view m.entries ≡ self.old.definitions) }
         ensures rest { self.new ≡ record self.old { definitions = no_members } }
         ensures own { HasOwnDefinitions self.new }
+        ensures keys { ReferencesNameKeys self.new }
         ensures succeeds { IsOk result }
     {
         let _ = apply_transforms;
@@ -240,8 +242,9 @@ impl SchemaGenerator {
             × IsKey name self.new.definitions × (s ≡ reference (reference_to (plan_of self.old None).path name))) }
         ensures step { OnOk result (Step (plan_of self.old None) (work_of self.old) (work_of self.new)) }
         ensures reached { IfOk result (λ s. IsPlainTable self.old.rows
-            → AreReached (plan_of self.old None).path self.old.definitions self.new.definitions (references s)) }
+            → AreReached (plan_of self.old None) true (work_of self.old) (work_of self.new) (references s)) }
         ensures own { HasOwnDefinitions self.old → HasOwnDefinitions self.new }
+        ensures keys { HasOwnDefinitions self.old → IsPlainTable self.new.rows → ReferencesNameKeys self.new }
         ensures rest { self.new ≡ record self.old { names = self.new.names; definitions = self.new.definitions } }
         ensures unknown { (result ≡ Err (GenerateError.UnknownType n)) ↔ (length self.old.rows ≤ n) }
         ensures refused { IfErr result (λ e. (e ≡ GenerateError.OutOfMemory)
@@ -266,6 +269,7 @@ impl SchemaGenerator {
             → Headline self.old.rows (contract_of self.old.settings.contract) (plan_of self.old None).path n d) }
         ensures root { IfOk result (λ d. (w : specs.Work) × IsRootOf self.old n w d × (self.new ≡ after_root self.old w)) }
         ensures own { HasOwnDefinitions self.old → HasOwnDefinitions self.new }
+        ensures keys { HasOwnDefinitions self.old → IsPlainTable self.new.rows → ReferencesNameKeys self.new }
         ensures whole { IfOk result (λ d. HasNoFloat self.old.rows → HasOwnDefinitions self.old → has_float d ≡ false) }
         ensures unknown { (result ≡ Err (GenerateError.UnknownType n)) ↔ (length self.old.rows ≤ n) }
         ensures refused { IfErr result (λ e. (e ≡ GenerateError.OutOfMemory) ⊎ (e ≡ GenerateError.UnknownType n)
@@ -327,7 +331,7 @@ fn part_of(
     ensures step { OnOk result (Step (state_plan (state_of settings.now types.now work.old) None) work.old work.new) }
     ensures part { IfOk result (IsSubschema (state_plan (state_of settings.now types.now work.old) None) false work.new n) }
     ensures reached { IfOk result (λ s. IsPlainTable types.now
-        → AreReached (state_plan (state_of settings.now types.now work.old) None).path work.old.definitions work.new.definitions (references s)) }
+        → AreReached (state_plan (state_of settings.now types.now work.old) None) true work.old work.new (references s)) }
     ensures one_to_one { OnOk result (IsOneToOne work.new.names) }
     ensures err { OnErr result (work.new ≡ work.old) }
 {
@@ -444,7 +448,7 @@ fn titled_document(
     requires known { n < length types.now }
     ensures undone { undone work.new ≡ undone work.old }
     ensures step { OnOk result (Step (state_plan (state_of settings.now types.now work.old) (Some n)) work.old work.new) }
-    ensures titled { IfOk result (IsTitledRoot (state_of settings.now types.now work.old) n work.new) }
+    ensures titled { IfOk result (IsTitledRoot (state_of settings.now types.now work.old) work.old n work.new) }
 {
     let plan = Plan {
         types,

@@ -1,12 +1,13 @@
-use Rattle.std.proofs.Common.{◌≡◌, ◌⊎◌, inl, inr, None, subst, rules}
+use Rattle.std.proofs.Common.{◌≡◌, ◌⊎◌, inl, inr, None, sym, subst, rules}
 use Rattle.serde_json.specs.View.{members_view}
 use Rattle.schemars.specs.Headline.{IsRootOf}
 use Rattle.schemars.specs.Keys.{HasKeysOnce}
 use Rattle.schemars.specs.Refusals.{CannotPlace}
 use Rattle.schemars.specs.Settings.{state_of}
 use Rattle.schemars.specs.State.{State, plan_of}
+use Rattle.schemars.specs.declared.error.GenerateError.{GenerateError}
 use Rattle.schemars.specs.declared.error.GenerateError.TheVariants.{OutOfMemory, DefinitionsPath}
-use Rattle.schemars.proofs.Calls.{cannot_place, root_of}
+use Rattle.schemars.proofs.Calls.{cannot_place, root_of, err_told}
 use Rattle.schemars.proofs.generate.last_document.Goals as goal
 
 pub returns-in_err-document-clause-refused : goal.returns-in_err-document-clause-refused
@@ -15,12 +16,13 @@ returns-in_err-document-clause-refused c =
     let e = c.in_err-document.field-0.0 in
     let path : c.stripped-path.result.now ≡ (plan_of s None).path = search rules in
     let definitions : members_view c.take_definitions-definitions.result.entries ≡ c.titled_document.new.work.definitions = search rules in
-    let P : State → Type 0 = λ x. CannotPlace x c.args.n in
+    let Q : State → Type 0 = λ x. CannotPlace x c.args.n in
     let told : (e ≡ OutOfMemory) ⊎ ((e ≡ DefinitionsPath) × CannotPlace c.args.generator c.args.n) = elim c.in_err-document.ensures.refused [
       | inl same ↦ inl same
-      | inr h ↦ inr (h.0, subst P c.generator.view_is (cannot_place s c.args.n c.generator.inside.work c.titled_document.new.work c.in_ok-own.own _ _ c.generator.invariant.2 c.in_ok-own.ensures.step c.in_ok-own.ensures.titled path definitions h.1))
+      | inr h ↦ inr (h.0, subst Q c.generator.view_is (cannot_place s c.args.n c.generator.inside.work c.titled_document.new.work c.in_ok-own.own _ _ c.generator.invariant.2 c.in_ok-own.ensures.step c.in_ok-own.ensures.titled path definitions h.1))
     ] in
-    search rules
+    let P : GenerateError → Type 0 = λ x. (x ≡ OutOfMemory) ⊎ ((x ≡ DefinitionsPath) × CannotPlace c.args.generator c.args.n) in
+    err_told c.from_residual-in_err-document.result P _ c.from_residual-in_err-document.ensures.1 (λ x is. subst P (sym is) told)
 
 pub returns-clause-root : goal.returns-clause-root
 returns-clause-root c =

@@ -8,6 +8,7 @@ use Rattle.schemars.specs.State.{State, plan_of, HasOwnDefinitions}
 use Rattle.schemars_naming.specs.Work.{Work}
 use Rattle.schemars.specs.declared.error.GenerateError.TheVariants.{OutOfMemory}
 use Rattle.schemars.proofs.Calls.{root_means, root_is_whole, after_root_own, always_placed}
+use Rattle.schemars.proofs.NamedKeys.{references_name_keys}
 use Rattle.schemars.proofs.generate.SchemaGenerator.root_schema_for_type.Goals as goal
 
 pub returns-clause-headline : goal.returns-clause-headline
@@ -50,3 +51,16 @@ pub returns-in_err-document-clause-own : goal.returns-in_err-document-clause-own
 returns-in_err-document-clause-own c =
     let P : Work → Type 0 = λ w. HasOwnDefinitions (state_of c.self.inside.settings c.self.inside.types w) in
     λ own. subst P (sym c.in_err-document.ensures.err) (subst HasOwnDefinitions (sym c.self.view_is) own)
+
+pub returns-clause-keys : goal.returns-clause-keys
+returns-clause-keys c =
+    let new = state_of c.self.inside.settings c.self.inside.types c.root_document.new.work in
+    λ own plain. references_name_keys new (returns-clause-own c own) plain
+
+pub returns-in_err-document-clause-keys : goal.returns-in_err-document-clause-keys
+returns-in_err-document-clause-keys c =
+    let new = state_of c.self.inside.settings c.self.inside.types c.root_document.new.work in
+    λ own plain. references_name_keys new (returns-in_err-document-clause-own c own) plain
+
+pub returns-in_err-known-clause-keys : goal.returns-in_err-known-clause-keys
+returns-in_err-known-clause-keys c = λ own plain. references_name_keys c.args.self.now own plain

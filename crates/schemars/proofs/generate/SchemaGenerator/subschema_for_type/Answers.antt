@@ -1,4 +1,4 @@
-use Rattle.std.proofs.Common.{◌≡◌, List, ℕ, None, Some, false, refl, sym, subst}
+use Rattle.std.proofs.Common.{◌≡◌, List, ℕ, None, Some, true, false, refl, sym, subst}
 use Rattle.schemars_schema.specs.References.{references}
 use Rattle.schemars_types.specs.Edges.{is_inline_at}
 use Rattle.schemars_documents.specs.Documents.{reference}
@@ -11,6 +11,7 @@ use Rattle.schemars.specs.Settings.{state_of}
 use Rattle.schemars.specs.State.{State, plan_of, work_of, HasOwnDefinitions}
 use Rattle.schemars_naming.specs.Work.{Work, Step, IsKey, reference_to}
 use Rattle.schemars.proofs.Calls.{part_own, reference_of_part}
+use Rattle.schemars.proofs.NamedKeys.{references_name_keys}
 use Rattle.schemars.proofs.Roots.{subschema_headline}
 use Rattle.schemars.proofs.generate.SchemaGenerator.subschema_for_type.Goals as goal
 
@@ -46,5 +47,23 @@ returns-clause-reference c =
 
 pub returns-clause-reached : goal.returns-clause-reached
 returns-clause-reached c =
-    let P : State → Type 0 = λ x. IsPlainTable x.rows → AreReached (plan_of x None).path x.definitions c.part_of.new.work.definitions (references c.in_ok-schema.schema) in
-    subst P c.self.view_is c.in_ok-schema.ensures.reached
+    let s = state_of c.self.inside.settings c.self.inside.types c.self.inside.work in
+    let new = state_of c.self.inside.settings c.self.inside.types c.part_of.new.work in
+    let schema = c.in_ok-schema.schema in
+    let P : Work → Type 0 = λ w. IsPlainTable s.rows → AreReached (plan_of s None) true w c.part_of.new.work (references schema) in
+    let Q : Work → Type 0 = λ w. IsPlainTable s.rows → AreReached (plan_of s None) true (work_of s) w (references schema) in
+    let R : State → Type 0 = λ x. IsPlainTable x.rows → AreReached (plan_of x None) true (work_of x) (work_of new) (references schema) in
+    subst R c.self.view_is (subst Q c.in_ok-schema.ensures.between (subst P c.self.invariant.2 c.in_ok-schema.ensures.reached))
+
+pub returns-clause-keys : goal.returns-clause-keys
+returns-clause-keys c =
+    let new = state_of c.self.inside.settings c.self.inside.types c.part_of.new.work in
+    λ own plain. references_name_keys new (returns-clause-own c own) plain
+
+pub returns-in_err-schema-clause-keys : goal.returns-in_err-schema-clause-keys
+returns-in_err-schema-clause-keys c =
+    let new = state_of c.self.inside.settings c.self.inside.types c.part_of.new.work in
+    λ own plain. references_name_keys new (returns-in_err-schema-clause-own c own) plain
+
+pub returns-in_err-known-clause-keys : goal.returns-in_err-known-clause-keys
+returns-in_err-known-clause-keys c = λ own plain. references_name_keys c.args.self.now own plain
