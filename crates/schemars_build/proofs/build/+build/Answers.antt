@@ -1,4 +1,5 @@
 use Rattle.std.proofs.Common.{◌≡◌, ◌≢◌, ◌<◌, ◌≤◌, ◌+◌, ◌++◌, ◌∷◌, [], ℕ, List, Option, false, length, map, take, true, Some, None, refl, ap, sym, ◌∙◌, subst, arith, rules, string_bytes, All, get_or, not, is_some}
+use Rattle.std.specs.Option.{option_map_or, option_eq}
 use Rattle.std.proofs.lemmas.List.{map-append, take_more}
 use Rattle.serde_json.specs.Data.{Data, Members, boolean, string, put}
 use Rattle.serde_json.specs.View.{view, items_view, members_view}
@@ -21,7 +22,8 @@ use Rattle.schemars_naming.specs.Work.{Work, Refers, Step, undone}
 use Rattle.schemars_build.proofs.Building.{Written, part, written-wider, option_document, list_document-of, item_number, parts_joined, newtype_document, own_document-of, properties_joined}
 use Rattle.schemars_build.proofs.Descending.{stands, stands_one, stands_field, left_of_subschema, left_of_own_document, left_of_document, left_of_properties, left_of_define, to_part, to_define, to_definition}
 use Rattle.schemars_documents.proofs.Mapping.{struct_document-of}
-use Rattle.std.proofs.Common.{inl, inr}
+use Rattle.std.proofs.Common.{inl, inr, eqb, true≢false}
+use Rattle.std.proofs.lemmas.Bool.Decides.{nat_tests}
 use Rattle.std.specs.Prelude.{◌||◌, codes}
 use Rattle.std.proofs.lemmas.Str.{IsUtf8-string_bytes}
 use Rattle.serde_json.specs.Find.{get_member}
@@ -161,14 +163,25 @@ define-returns-in_err-definition-clause-undone t c =
     let none : get_member k old.definitions ≡ None = search rules in
     c.in_err-definition.ensures.undone ∙ (ap undone begun ∙ undone-begun old k none)
 
+-- ---- what a definition is made of
+
+define_begun : (t : ℕ) (c : goal.define-After-finish t) → c.begin.new.self ≡ begun_with c.args.work.now (string_bytes c.args.name.now)
+define_begun t c = c.in_ok-begin.ensures.ok ∙ ap (begun_with c.args.work.now) c.as_str-key.ensures.value
+
+define_finished : (t : ℕ) (c : goal.define-After-finish t) → c.finish.new.self ≡ finished_with c.own_document.new.work (string_bytes c.args.name.now) c.in_ok-definition.definition
+define_finished t c = c.finish.ensures ∙ ap (λ k. finished_with c.own_document.new.work k c.in_ok-definition.definition) c.as_str-key.ensures.value
+
+define_absent : (t : ℕ) (c : goal.define-After-finish t) → get_member (string_bytes c.args.name.now) c.args.work.now.definitions ≡ None
+define_absent t c = search rules
+
 pub define-returns-clause-undone : goal.define-returns-clause-undone
 define-returns-clause-undone t c =
     let plan = plan_of c.args.plan.now in
     let old = c.args.work.now in
     let k = string_bytes c.args.name.now in
-    let begun : c.begin.new.self ≡ begun_with old k = search rules in
-    let none : get_member k old.definitions ≡ None = search rules in
-    let finished : c.finish.new.self ≡ finished_with c.own_document.new.work k c.in_ok-definition.definition = search rules in
+    let begun : c.begin.new.self ≡ begun_with old k = define_begun t c in
+    let none : get_member k old.definitions ≡ None = define_absent t c in
+    let finished : c.finish.new.self ≡ finished_with c.own_document.new.work k c.in_ok-definition.definition = define_finished t c in
     let step : Step plan (begun_with old k) c.own_document.new.work = subst (λ w. Step plan w c.own_document.new.work) begun c.in_ok-definition.ensures.step in
     ap undone finished ∙ (undone-finished c.own_document.new.work k c.in_ok-definition.definition (begun-contains plan old k _ step)
     ∙ (c.in_ok-definition.ensures.undone ∙ (ap undone begun ∙ undone-begun old k none)))
@@ -179,9 +192,9 @@ define-returns-clause-step t c =
     let old = c.args.work.now in
     let k = string_bytes c.args.name.now in
     let mid = c.own_document.new.work in
-    let begun : c.begin.new.self ≡ begun_with old k = search rules in
-    let none : get_member k old.definitions ≡ None = search rules in
-    let finished : c.finish.new.self ≡ finished_with mid k c.in_ok-definition.definition = search rules in
+    let begun : c.begin.new.self ≡ begun_with old k = define_begun t c in
+    let none : get_member k old.definitions ≡ None = define_absent t c in
+    let finished : c.finish.new.self ≡ finished_with mid k c.in_ok-definition.definition = define_finished t c in
     let step : Step plan (begun_with old k) mid = subst (λ w. Step plan w mid) begun c.in_ok-definition.ensures.step in
     subst (λ w. Step plan old w) (sym finished)
     (step_defines plan old mid c.args.n k c.in_ok-definition.definition _ none (IsUtf8-string_bytes c.args.name.now) step (gives-keeps plan.rows old.names mid.names c.args.n plan.contract k step.names c.requires.named)
@@ -200,8 +213,8 @@ define-returns-clause-defined t c =
     let old = c.args.work.now in
     let k = string_bytes c.args.name.now in
     let mid = c.own_document.new.work in
-    let begun : c.begin.new.self ≡ begun_with old k = search rules in
-    let finished : c.finish.new.self ≡ finished_with mid k c.in_ok-definition.definition = search rules in
+    let begun : c.begin.new.self ≡ begun_with old k = define_begun t c in
+    let finished : c.finish.new.self ≡ finished_with mid k c.in_ok-definition.definition = define_finished t c in
     let step : Step plan (begun_with old k) mid = subst (λ w. Step plan w mid) begun c.in_ok-definition.ensures.step in
     (c.in_ok-definition.definition, ap (λ w. get_member k w.definitions) finished ∙ finished-found plan old mid k c.in_ok-definition.definition step)
 
@@ -215,11 +228,28 @@ subschema-define-requires t c =
     to_define plan old c.name_for.new.self c.args.n (missing-wider plan.rows plan.contract old c.name_for.new.self (step_wider plan old c.name_for.new.self step)) in
     (search rules, (c.requires.checked, (c.requires.known, c.in_ok-name.ensures.named)))
 
+-- ---- what a reference is made of
+
+other_row : (o : Option ℕ) (n : ℕ) → false ≡ option_eq eqb o (Some n) → o ≢ Some n
+other_row None n h is = cc
+other_row (Some m) n h is =
+    let same : m ≡ n = cc in
+    let P : ℕ → Type 0 = λ k. false ≡ eqb k n in
+    let equal : false ≡ eqb n n = subst P same h in
+    let itself : eqb n n ≡ true = grind (arith, nat_tests) in
+    absurd (true≢false (sym itself ∙ sym equal))
+
+subschema_given : (t : ℕ) (c : goal.subschema-After-drop-name-2 t) → c.name_for.new.self ≡ record c.args.work.now { names = c.name_for.new.self.names }
+subschema_given t c = c.in_ok-name.ensures.rest
+
+subschema_reference : (t : ℕ) (c : goal.subschema-After-drop-name-2 t) → c.in_ok-reference.reference ≡ reference (reference_to c.args.plan.now.path.now (string_bytes c.in_ok-name.name))
+subschema_reference t c = c.in_ok-reference.ensures ∙ ap (λ k. reference (reference_to c.args.plan.now.path.now k)) c.as_str.ensures.value
+
 pub subschema-returns-clause-step : goal.subschema-returns-clause-step
 subschema-returns-clause-step t c =
     let plan = plan_of c.args.plan.now in
     let old = c.args.work.now in
-    let given : c.name_for.new.self ≡ record old { names = c.name_for.new.self.names } = search rules in
+    let given : c.name_for.new.self ≡ record old { names = c.name_for.new.self.names } = subschema_given t c in
     let step : Step plan old c.name_for.new.self = subst (λ w. Step plan old w) (sym given) (step_names plan old c.name_for.new.self.names c.in_ok-name.ensures.given) in
     step_trans plan old c.name_for.new.self c.define.new.work step c.in_ok-define.ensures.step
 
@@ -236,9 +266,9 @@ subschema-returns-clause-written t c =
     let k = string_bytes c.in_ok-name.name in
     let now = c.define.new.work in
     let named : name_of c.args.n plan.contract now.names ≡ Some k = gives-keeps plan.rows c.name_for.new.self.names now.names c.args.n plan.contract k c.in_ok-define.ensures.step.names c.in_ok-name.ensures.named in
-    let same : c.in_ok-reference.reference ≡ reference (reference_to plan.path k) = search rules in
-    let apart : is_inline_at plan.rows c.args.n ≡ false = search rules in
-    let other : plan.root ≢ Some c.args.n = search rules in
+    let same : c.in_ok-reference.reference ≡ reference (reference_to plan.path k) = subschema_reference t c in
+    let apart : is_inline_at plan.rows c.args.n ≡ false = ap (λ o. option_map_or (λ e. e.inline) o false) (sym c.in-Some.ensures) ∙ c.if-inline.false in
+    let other : plan.root ≢ Some c.args.n = other_row plan.root c.args.n c.if-eq.ensures in
     inl (reference_to plan.path k, inr (k, named, c.in_ok-define.ensures.defined, refl, (c.requires.known, apart), other), same)
 
 pub define-returns-then-has_definition-clause-defined : goal.define-returns-then-has_definition-clause-defined
@@ -279,10 +309,10 @@ define-returns-clause-reached t c = λ plain.
     let k = string_bytes c.args.name.now in
     let d = c.in_ok-definition.definition in
     let mid = c.own_document.new.work in
-    let begun : c.begin.new.self ≡ begun_with old k = search rules in
-    let finished : c.finish.new.self ≡ finished_with mid k d = search rules in
+    let begun : c.begin.new.self ≡ begun_with old k = define_begun t c in
+    let finished : c.finish.new.self ≡ finished_with mid k d = define_finished t c in
     let step : Step plan (begun_with old k) mid = subst (λ w. Step plan w mid) begun c.in_ok-definition.ensures.step in
-    let none : get_member k old.definitions ≡ None = search rules in
+    let none : get_member k old.definitions ≡ None = define_absent t c in
     let P : Work → Type 0 = λ w. AreReached plan true w mid (references d) in
     let Q : Work → Type 0 = λ w. AreReached plan false old w (string (reference_to plan.path k) ∷ []) in
     subst Q (sym finished)
@@ -295,8 +325,8 @@ subschema-returns-clause-reached t c = λ plain.
     let k = string_bytes c.in_ok-name.name in
     let mid = c.name_for.new.self in
     let now = c.define.new.work in
-    let given : mid ≡ record old { names = mid.names } = search rules in
-    let same : c.in_ok-reference.reference ≡ reference (reference_to plan.path k) = search rules in
+    let given : mid ≡ record old { names = mid.names } = subschema_given t c in
+    let same : c.in_ok-reference.reference ≡ reference (reference_to plan.path k) = subschema_reference t c in
     let named : name_of c.args.n plan.contract now.names ≡ Some k = gives-keeps plan.rows mid.names now.names c.args.n plan.contract k c.in_ok-define.ensures.step.names c.in_ok-name.ensures.named in
     let P : Work → Type 0 = λ w. AreReached plan false w now (string (reference_to plan.path k) ∷ []) in
     let Q : Data → Type 0 = λ s. AreReached plan c.args.in_definition old now (references s) in
