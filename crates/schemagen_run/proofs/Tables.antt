@@ -16,10 +16,10 @@ use Rattle.schemars_shapes.specs.Shape.{Field, Entry, Shape, numbers_of, names_o
 use Rattle.schemars_types.specs.Rows.{Row, entry_at}
 use Rattle.schemars_types.specs.Faults.{IsChecked}
 use Rattle.schemars_documents.specs.declared.contract.Contract.{Contract}
-use Rattle.schemars.specs.Headline.{Headline, IsRootOf, IsDraftPath}
+use Rattle.schemars_generate.specs.Headline.{Headline, IsRootOf, IsDraftPath}
 use Rattle.schemars_documents.specs.ContractOf.{contract_of}
 use Rattle.schemars_documents.specs.PlainTable.{IsNoName, AreDistinct, AreNoted, IsPlainShape, IsPlainEntry, IsPlainTable, FieldsHaveNoFloat, ShapeHasNoFloat, EntryHasNoFloat, HasNoFloat}
-use Rattle.schemars.specs.State.{Settings, State, plan_of, HasOwnDefinitions}
+use Rattle.schemars_generate.specs.State.{Settings, State, plan_of, HasOwnDefinitions}
 use Rattle.schemars_naming.specs.Work.{Work}
 use Rattle.schemagen_input.specs.Input.{input_of, has_only, needed, number_in, rows_in, all_differ, ids_of, are_none, are_fields_bare, is_bare, refers_within, fits, all_fit, is_table}
 use Rattle.schemagen_run.specs.Run.{settings_for, fresh, IsLineOf}

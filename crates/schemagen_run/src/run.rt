@@ -3,7 +3,7 @@ ghost use Rattle.std.specs.Prelude.{◌≡◌, ◌≢◌, ◌⊎◌, ◌↔◌, 
 ghost use Rattle.std.specs.Io.KnownBytes.{Appends};
 ghost use Rattle.serde_json.specs.View.{view};
 ghost use Rattle.schemars_types.specs.Faults.{IsAccepted};
-ghost use Rattle.schemars.specs.Settings.{settings_of};
+ghost use Rattle.schemars_generate.specs.Settings.{settings_of};
 ghost use Rattle.schemagen_run.specs.Streams.{AppendsBeginning};
 ghost use Rattle.schemagen_input.specs.Input.{is_table};
 ghost use Rattle.schemagen_run.specs.Run.{AskFor, AreKnown, GivesAll, IsTextOf, IsNoJson, IsBadTable, IsTableText, IsAcceptedText, IsFaultyTable, Tells, settings_for, IsLineOf, IsLineFor};

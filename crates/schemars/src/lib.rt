@@ -4,12 +4,9 @@
 //! those: that is the contract of `SchemaGenerator::root_schema_for_type`.
 #![tactic(auto)]
 
-mod error;
-pub mod generate;
-
-pub use error::GenerateError;
-pub use generate::{SchemaGenerator, SchemaSettings};
 pub use schemars_documents::Contract;
+pub use schemars_generate::generate;
+pub use schemars_generate::{GenerateError, SchemaGenerator, SchemaSettings};
 pub use schemars_rewrite::builders;
 pub use schemars_schema::{NotASchema, Schema, consts, encoding, json_eq, schema};
 pub use schemars_types as types;

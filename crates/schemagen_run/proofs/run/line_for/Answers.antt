@@ -1,6 +1,6 @@
 -- The table suits the generator, and its document has a text.
 use Rattle.std.proofs.Common.{◌≡◌, rules}
-use Rattle.schemars.specs.declared.error.GenerateError.TheVariants.{OutOfMemory}
+use Rattle.schemars_generate.specs.declared.error.GenerateError.TheVariants.{OutOfMemory}
 use Rattle.schemagen_run.proofs.Tables.{line_of_document, root_wants_only_memory, fresh_of}
 use Rattle.schemagen_run.proofs.run.line_for.Goals as goal
 

@@ -1,0 +1,286 @@
+-- What a call makes of what a generator holds.
+use Rattle.std.proofs.Common.{◌≡◌, ◌<◌, inl, inr, ℕ, zero, suc, List, [], ◌∷◌, take, length, Bool, true, false, Option, Some, None, refl, sym, ap, ◌∙◌, arith, subst, true≢false, Result, Ok, Err, IsErrAnd, IfErr}
+use Rattle.std.specs.Prelude.{if◌then◌else◌}
+use Rattle.std.specs.List.{IsDistinct}
+use Rattle.serde_json.specs.Data.{Data, Members}
+use Rattle.serde_json.specs.Find.{get_member}
+use Rattle.serde_json.specs.Written.{has_float}
+use Rattle.serde_json.specs.View.{members_view}
+use Rattle.serde_json.proofs.Views.{Entry as Entries}
+use Rattle.schemars_schema.specs.Placing.{placed_at}
+use Rattle.schemars_json.specs.Json.{Text}
+use Rattle.schemars_shapes.specs.Shape.{Entry}
+use Rattle.schemars_types.specs.Rows.{Row, entry_at, name_at}
+use Rattle.schemars_types.specs.Edges.{is_inline_at, height, rank}
+use Rattle.schemars_types.specs.Faults.{IsChecked}
+use Rattle.schemars_types.specs.Meaning.{Contract}
+use Rattle.schemars_documents.specs.ContractOf.{contract_of}
+use Rattle.schemars_naming.specs.Naming.{name_of, IsOneToOne}
+use Rattle.schemars_documents.specs.Documents.{IsOwnDocument, IsWritten, Describes, reference, root_document}
+use Rattle.schemars_generate.specs.Keys.{HasKeysOnce}
+use Rattle.schemars_documents.specs.PlainTable.{IsPlainTable, HasNoFloat}
+use Rattle.schemars_naming.specs.Work.{Plan, Work, IsKey, StandsApart, Refers, IsDefinition, Step, reference_to}
+use Rattle.schemars_generate.specs.State.{State, plan_of, work_of, after_root, HasOwnDefinitions}
+use Rattle.schemars_generate.specs.Headline.{Headline, IsDraftPath, IsRootOf, IsTitledRoot, with_definitions}
+use Rattle.schemars_build.specs.Parts.{IsSubschema}
+use Rattle.schemars_build.specs.Missing.{depth_in_place}
+use Rattle.schemars_generate.specs.Refusals.{CannotPlace}
+use Rattle.schemars_documents.proofs.Mapping.{own_map, written_map, describes-wider}
+use Rattle.schemars_schema.specs.References.{references}
+use Rattle.schemars_build.specs.Reached.{AreReached}
+use Rattle.schemars_build.proofs.Steps.{Wider, step_wider, definition-wider}
+use Rattle.schemars_generate.proofs.Leading.{Stands, AllStand, stands_now, stands_before}
+use Rattle.schemars_generate.proofs.Floats.{described_whole, root_whole, definitions_whole, whole_with_definitions}
+use Rattle.schemars_generate.proofs.Roots.{root_placed, root_call_means}
+
+-- ---- definitions between calls
+
+-- references that are known in another work too
+definition-moved : (plan other : Plan) (old new : Work) → plan.rows ≡ other.rows → plan.contract ≡ other.contract → ((n : ℕ) (name : Text) → name_of n plan.contract old.names ≡ Some name → name_of n other.contract new.names ≡ Some name)
+    → ((n : ℕ) (r : Text) → Refers plan false old n r → Refers other false new n r) → (k : Text) (d : Data) → IsDefinition plan old k d → IsDefinition other new k d
+definition-moved plan other old new rows contract names refers k d h = record {
+  row = h.row;
+  is_named = names h.row k h.is_named;
+  is_text = h.is_text;
+  depth = h.depth;
+  describes =
+      let wide = describes-wider plan.rows (contract_of plan.contract) (Refers plan false old) (Refers other false new) refers h.depth h.depth (omega arith) h.row d h.describes in
+      let P : List Row → Type 0 = λ rs. Describes rs (contract_of other.contract) (Refers other false new) h.depth h.row d in
+      subst P rows (ap-contract wide);
+}
+  where
+    ap-contract : Describes plan.rows (contract_of plan.contract) (Refers other false new) h.depth h.row d → Describes plan.rows (contract_of other.contract) (Refers other false new) h.depth h.row d
+    ap-contract wide = let P : Contract → Type 0 = λ x. Describes plan.rows x (Refers other false new) h.depth h.row d in subst P (ap contract_of contract) wide
+
+-- what a root call has, of what was there and what it adds
+pub definitions_in : (s : State) (root : Option ℕ) (w : Work) → Step (plan_of s root) (work_of s) w → HasOwnDefinitions s → AllStand (plan_of s root) w
+definitions_in s root w step own k d found = go (get_member k s.definitions) refl
+  where
+    go : (o : Option Data) → get_member k s.definitions ≡ o → Stands (plan_of s root) w k d
+    go None is = stands_now (plan_of s root) w k d (step.adds k d is found)
+    go (Some e) is =
+        let kept : get_member k w.definitions ≡ Some e = step.stays k e is in
+        let same : e ≡ d = cc in
+        let P : Data → Type 0 = λ x. Stands (plan_of s root) w k x in
+        subst P same (stands_before (plan_of s root) w k e (definition-wider (plan_of s None) (work_of s) w (step_wider (plan_of s root) (work_of s) w step) k e (own k e is)))
+
+-- no definition refers to the root, so they can stay
+pub definitions_kept : (s : State) (root : Option ℕ) (w : Work) → w.meets_root ≡ false → Step (plan_of s root) (work_of s) w → HasOwnDefinitions s → HasOwnDefinitions (record s { names = w.names; definitions = w.definitions })
+definitions_kept s root w none step own k d found = go (get_member k s.definitions) refl
+  where
+    new : State
+    new = record s { names = w.names; definitions = w.definitions }
+
+    from_root : (n : ℕ) (r : Text) → Refers (plan_of s root) false w n r → Refers (plan_of new None) false (work_of new) n r
+    from_root n r (inl h) = absurd (true≢false (sym h.1 ∙ none))
+    from_root n r (inr h) = inr (h.0, h.1, h.2, h.3, h.4, λ e. cc)
+
+    wider : Wider s.settings.contract (work_of s) (work_of new)
+    wider = record {
+      names = (step_wider (plan_of s root) (work_of s) w step).names;
+      keys = (step_wider (plan_of s root) (work_of s) w step).keys;
+      meets = λ e. e;
+    }
+
+    go : (o : Option Data) → get_member k s.definitions ≡ o → IsDefinition (plan_of new None) (work_of new) k d
+    go None is = definition-moved (plan_of s root) (plan_of new None) w (work_of new) refl refl (λ n name e. e) from_root k d (step.adds k d is found)
+    go (Some e) is =
+        let kept : get_member k w.definitions ≡ Some e = step.stays k e is in
+        let same : e ≡ d = cc in
+        let P : Data → Type 0 = λ x. IsDefinition (plan_of new None) (work_of new) k x in
+        subst P same (definition-wider (plan_of s None) (work_of s) (work_of new) wider k e (own k e is))
+
+-- the old ones stay the generator's own as names join
+names_joined : (s : State) (w : Work) (root : Option ℕ) → Step (plan_of s root) (work_of s) w → HasOwnDefinitions s → HasOwnDefinitions (record s { names = w.names })
+names_joined s w root step own k d found =
+    let new = record s { names = w.names } in
+    definition-wider (plan_of s None) (work_of s) (work_of new) (record {
+      names = λ n name e. (step_wider (plan_of s root) (work_of s) w step).names n name e;
+      keys = λ q is. is;
+      meets = λ e. e;
+    }) k d (own k d found)
+
+pub after_root_own : (s : State) (n : ℕ) (w : Work) → Step (plan_of s (Some n)) (work_of s) w → HasOwnDefinitions s → HasOwnDefinitions (after_root s w)
+after_root_own s n w step own = go w.meets_root refl
+  where
+    go : (b : Bool) → w.meets_root ≡ b → HasOwnDefinitions (record s { names = w.names; definitions = if b then s.definitions else w.definitions })
+    go true is = names_joined s w (Some n) step own
+    go false is = definitions_kept s (Some n) w is step own
+
+pub part_own : (s new : State) → new ≡ record s { names = new.names; definitions = new.definitions } → Step (plan_of s None) (work_of s) (work_of new) → HasOwnDefinitions s → HasOwnDefinitions new
+part_own s new same step own =
+    subst HasOwnDefinitions (sym same) (definitions_kept s None (work_of new) refl step own)
+
+-- ---- a larger table
+
+describes-more : (rows more : List Row) (contract : Contract) (R : ℕ → Text → Type 0) → ((n : ℕ) (e : Entry) → entry_at rows n ≡ Some e → entry_at more n ≡ Some e) → (depth n : ℕ) (s : Data) → Describes rows contract R depth n s → Describes more contract R depth n s
+unfolding Describes
+describes-more rows more contract R all zero n s h = absurd h
+describes-more rows more contract R all (suc depth) n s h = go (describes-more rows more contract R all depth) (entry_at rows n) refl h
+  where
+    go : ((j : ℕ) (t : Data) → Describes rows contract R depth j t → Describes more contract R depth j t) → (o : Option Entry) → entry_at rows n ≡ o → IsOwnDocument (IsWritten R (Describes rows contract R depth)) contract o s → IsOwnDocument (IsWritten R (Describes more contract R depth)) contract (entry_at more n) s
+    go deeper None is h = absurd h
+    go deeper (Some e) is h =
+        let P : Option Entry → Type 0 = λ o. IsOwnDocument (IsWritten R (Describes more contract R depth)) contract o s in
+        subst P (sym (all n e is)) (own_map (IsWritten R (Describes rows contract R depth)) (IsWritten R (Describes more contract R depth)) contract (written_map R R _ _ (λ j r e. e) deeper) (Some e) s h)
+
+entry-in_more : (first : List Row) (k : ℕ) (rows : List Row) → take k rows ≡ first → (n : ℕ) (e : Entry) → entry_at first n ≡ Some e → entry_at rows n ≡ Some e
+entry-in_more first k rows same n e is = go k rows n (ap (λ rs. entry_at rs n) same ∙ is)
+  where
+    go : (k : ℕ) (rows : List Row) (n : ℕ) → entry_at (take k rows) n ≡ Some e → entry_at rows n ≡ Some e
+    go zero rows n h = cc
+    go (suc k) [] n h = cc
+    go (suc k) (r ∷ rows) zero h = h
+    go (suc k) (r ∷ rows) (suc n) h = go k rows n h
+
+apart_in_more : (first : List Row) (k : ℕ) (rows : List Row) → take k rows ≡ first → (n : ℕ) → StandsApart first n → StandsApart rows n
+apart_in_more first k rows same n h = go k rows n (let P : List Row → Type 0 = λ rs. StandsApart rs n in subst P (sym same) h)
+  where
+    go : (k : ℕ) (rows : List Row) (n : ℕ) → StandsApart (take k rows) n → StandsApart rows n
+    go zero rows n h = absurd (let never : n < 0 = h.0 in omega (arith, never))
+    go (suc k) [] n h = absurd (let never : n < 0 = h.0 in omega (arith, never))
+    go (suc k) (r ∷ rows) zero h = (omega arith, h.1)
+    go (suc k) (r ∷ rows) (suc n) h =
+        let here : suc n < suc (length (take k rows)) = h.0 in
+        let later = go k rows n (omega (arith, here), h.1) in
+        let there : n < length rows = later.0 in
+        (omega (arith, there), later.1)
+
+pub more_types_own : (s : State) (rows : List Row) → take (length s.rows) rows ≡ s.rows → HasOwnDefinitions s → HasOwnDefinitions (record s { rows = rows })
+more_types_own s rows same own k d found =
+    let h = own k d found in
+    let new = record s { rows = rows } in
+    record {
+      row = h.row;
+      is_named = h.is_named;
+      is_text = h.is_text;
+      depth = h.depth;
+      describes = describes-wider rows (contract_of s.settings.contract) (Refers (plan_of s None) false (work_of s)) (Refers (plan_of (record s { rows = rows }) None) false (work_of s)) to_more h.depth h.depth (omega arith) h.row d
+          (describes-more s.rows rows (contract_of s.settings.contract) (Refers (plan_of s None) false (work_of s)) (entry-in_more s.rows (length s.rows) rows same) h.depth h.row d h.describes);
+    }
+  where
+    to_more : (n : ℕ) (r : Text) → Refers (plan_of s None) false (work_of s) n r → Refers (plan_of (record s { rows = rows }) None) false (work_of s) n r
+    to_more n r (inl h) = cc
+    to_more n r (inr h) = inr (h.0, h.1, h.2, h.3, apart_in_more s.rows (length s.rows) rows same n h.4, h.5)
+
+-- ---- root documents
+
+pub root_means : (s : State) (n : ℕ) (w : Work) (d : Data) → IsChecked s.rows → IsRootOf s n w d → HasKeysOnce w.definitions → IsOneToOne w.names → HasOwnDefinitions s → IsDraftPath (plan_of s None).path
+    → Headline s.rows (contract_of s.settings.contract) (plan_of s None).path n d
+root_means s n w d checked root once one own path = root_call_means s n w d root checked one once (definitions_in s (Some n) w root.step own) path
+
+pub root_is_whole : (s : State) (n : ℕ) (w : Work) (d : Data) → IsRootOf s n w d → HasKeysOnce w.definitions → HasNoFloat s.rows → HasOwnDefinitions s → has_float d ≡ false
+root_is_whole s n w d root once none own =
+    whole_with_definitions (plan_of s (Some n)).path w.definitions (root_document (name_at s.rows n) s.settings.meta_schema root.own) d
+    (definitions_whole (plan_of s (Some n)) w none (definitions_in s (Some n) w root.step own) once)
+    (root_whole (name_at s.rows n) s.settings.meta_schema root.own (described_whole s.rows (contract_of s.settings.contract) (Refers (plan_of s (Some n)) true w) none (suc (height s.rows n)) n root.own root.describes))
+    root.is_root
+
+pub always_placed : (s : State) (n : ℕ) → IsPlainTable s.rows → IsDraftPath (plan_of s None).path → CannotPlace s n → ⊥
+always_placed s n plain path h =
+    let there = root_placed (plan_of s (Some n)) h.work n (name_at s.rows n) s.settings.meta_schema (suc (height s.rows n)) h.own plain (Refers (plan_of s (Some n)) true h.work) h.describes path in
+    let some = there.1 in
+    let none = h.no_place in
+    cc
+
+-- ---- parts
+
+pub reference_of_part : (s : State) (n : ℕ) (d : Data) → IsSubschema (plan_of s None) false (work_of s) n d → is_inline_at s.rows n ≡ false
+    → (name : Text) × (name_of n s.settings.contract s.names ≡ Some name) × IsKey name s.definitions × (d ≡ reference (reference_to (plan_of s None).path name))
+unfolding Describes
+reference_of_part s n d (inl (r, inl h, same)) apart = cc
+reference_of_part s n d (inl (r, inr h, same)) apart = (h.0, h.1, h.2, same ∙ ap reference h.3)
+reference_of_part s n d (inr h) apart =
+    let none : depth_in_place s.rows n ≡ 0 = ap (λ b. if b then suc (height s.rows n) else 0) apart in
+    let P : ℕ → Type 0 = λ k. Describes s.rows (contract_of s.settings.contract) (Refers (plan_of s None) false (work_of s)) k n d in
+    let nothing : P 0 = subst P none h in
+    absurd nothing
+
+-- what the running call has marked doesn't matter without a root
+pub part_kept : (s new : State) (w : Work) (n : ℕ) (d : Data) → new ≡ record s { names = w.names; definitions = w.definitions } → IsSubschema (plan_of s None) false w n d → IsSubschema (plan_of new None) false (work_of new) n d
+part_kept s new w n d same h =
+    let P : State → Type 0 = λ x. IsSubschema (plan_of x None) false (work_of x) n d in
+    subst P (sym same) (written_map (Refers (plan_of s None) false w) (Refers (plan_of s None) false v) _ _ moved
+    (describes-wider s.rows (contract_of s.settings.contract) (Refers (plan_of s None) false w) (Refers (plan_of s None) false v) moved (depth_in_place s.rows n) (depth_in_place s.rows n) (omega arith)) n d h)
+  where
+    v : Work
+    v = work_of (record s { names = w.names; definitions = w.definitions })
+
+    moved : (j : ℕ) (r : Text) → Refers (plan_of s None) false w j r → Refers (plan_of s None) false v j r
+    moved j r (inl h) = cc
+    moved j r (inr h) = inr h
+
+pub step_kept : (s : State) (w : Work) → Step (plan_of s None) (work_of s) w → Step (plan_of s None) (work_of s) (work_of (record s { names = w.names; definitions = w.definitions }))
+step_kept s w h = record {
+  names = h.names;
+  stays = h.stays;
+  adds = λ k d none some. definition-moved (plan_of s None) (plan_of s None) w v refl refl (λ n name e. e) moved k d (h.adds k d none some);
+  still_begun = λ k is. is;
+  still_meets = λ e. e;
+}
+  where
+    v : Work
+    v = work_of (record s { names = w.names; definitions = w.definitions })
+
+    moved : (j : ℕ) (r : Text) → Refers (plan_of s None) false w j r → Refers (plan_of s None) false v j r
+    moved j r (inl h) = cc
+    moved j r (inr h) = inr h
+
+-- nor does what the call has begun and marked
+pub reached_kept : (plan : Plan) (inside : Bool) (s : State) (old w : Work) (from : List Data) → AreReached plan inside old w from → AreReached plan inside old (work_of (record s { names = w.names; definitions = w.definitions })) from
+reached_kept plan inside s old w from h = record {
+  definitions = h.definitions;
+  names = h.names;
+  root = λ meets. cc;
+}
+
+-- ---- refusals
+
+-- a refusal that is passed on tells what it told
+pub err_told : {X E : Type 0} (r : Result X E) (P Q : E → Type 0) → IsErrAnd r Q → ((e : E) → Q e → P e) → IfErr r P
+err_told (Ok x) P Q h all = tt
+err_told (Err e) P Q h all = all e h
+
+-- ---- placing
+
+pub some_definitions : (path : Text) (es : List Entries) (document : Data) → (length es ≡ 0 → ⊥) → with_definitions path (members_view es) document ≡ placed_at path (members_view es) document
+some_definitions path [] document some = absurd (some refl)
+some_definitions path (e ∷ es) document some = refl
+
+-- ---- nothing yet
+
+pub checked_nothing : IsChecked []
+unfolding height rank IsDistinct
+checked_nothing = record {
+  within = record { within = λ n m is. absurd (omega (arith, is.1)) };
+  defined = λ n less. absurd (omega arith);
+  names_differ = λ n. tt;
+  height_bound = λ n. omega arith;
+  height_falls = λ n m edge. absurd (omega (arith, edge.0.1));
+  rank_bound = λ n less. absurd (omega arith);
+  rank_falls = λ n m edge. absurd (omega (arith, edge.1));
+}
+
+pub one_to_one-none : IsOneToOne []
+one_to_one-none = record { one_row = λ m n c d name a b. cc }
+
+pub cannot_place : (s : State) (n : ℕ) (old w : Work) (t : Data) (path : Text) (ms : Members) → old ≡ work_of s → Step (plan_of s (Some n)) old w → IsTitledRoot s old n w t → path ≡ (plan_of s None).path → ms ≡ w.definitions
+    → with_definitions path ms t ≡ None → CannotPlace s n
+cannot_place s n old w t path ms between step titled same_path same none = record {
+  work = w;
+  step = subst (λ x. Step (plan_of s (Some n)) x w) between step;
+  own = titled.own;
+  describes = titled.describes;
+  no_place = sym (λ i. with_definitions (same_path i) (same i) (titled.is_root i)) ∙ none;
+  reached = λ plain. subst (λ x. AreReached (plan_of s (Some n)) false x w (references titled.own)) between (titled.reached plain);
+}
+
+pub root_of : (s : State) (n : ℕ) (old w : Work) (t d : Data) (path : Text) (ms : Members) → old ≡ work_of s → Step (plan_of s (Some n)) old w → IsTitledRoot s old n w t → path ≡ (plan_of s None).path → ms ≡ w.definitions
+    → with_definitions path ms t ≡ Some d → IsRootOf s n w d
+root_of s n old w t d path ms between step titled same_path same made = record {
+  step = subst (λ x. Step (plan_of s (Some n)) x w) between step;
+  own = titled.own;
+  describes = titled.describes;
+  is_root = sym (λ i. with_definitions (same_path i) (same i) (titled.is_root i)) ∙ made;
+  reached = λ plain. subst (λ x. AreReached (plan_of s (Some n)) false x w (references titled.own)) between (titled.reached plain);
+}

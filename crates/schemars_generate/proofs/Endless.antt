@@ -1,0 +1,105 @@
+-- A struct whose one field, which is required, is the struct itself: its table is accepted, and no value belongs to it.
+use Rattle.std.proofs.Common.{◌≡◌, ◌≤◌, ℕ, zero, suc, List, [], ◌∷◌, Bool, true, false, Option, Some, None, Ordering, Less, Equal, Greater, nat_cmp, refl, sym, ◌∙◌, arith}
+use Rattle.std.specs.Prelude.{codes, ◌&&◌, ◌||◌, not, is_some}
+use Rattle.std.specs.List.{IsDistinct}
+use Rattle.std.specs.Ordering.{match_ordering}
+use Rattle.std.specs.Cmp.Lexicographic.{slice_cmp}
+use Rattle.std.proofs.lemmas.Map.Lookups.{exact_bytes}
+use Rattle.serde_json.specs.Data.{Data, null, boolean, number, string, array, object, Members, no_members, member}
+use Rattle.serde_json.specs.Find.{get_member}
+use Rattle.schemars_schema.specs.Verdict.{No}
+use Rattle.schemars_json.specs.Json.{Text, IsJson}
+use Rattle.schemars_schema.specs.Acceptance.{Patterns, draft2020_12, accepts, bound}
+use Rattle.schemars_shapes.specs.Shape.{Field, struct}
+use Rattle.schemars_types.specs.Rows.{Row}
+use Rattle.schemars_cycles.specs.Walks.{Walk, one, then}
+use Rattle.schemars_types.specs.Edges.{DirectEdge, SameValueEdge, names_at}
+use Rattle.schemars_types.specs.Faults.{IsUndefined, HasRepeated, IsAccepted}
+use Rattle.schemars_types.specs.Meaning.{Contract, Deserialize, Serialize, belongs_within, every_member, member_fits, is_required}
+use Rattle.schemars_types.proofs.Accepted.{never_repeated}
+use Rattle.schemars_generate.specs.Headline.{MeansItsType}
+
+abbrev next : Field
+next = record { name = codes "n"; ty = 0; required = record { deserialize = true; serialize = true }; notes = no_members }
+
+abbrev pub endless : List Row
+endless = (record { id = codes "L"; name = codes "L"; entry = Some (record { inline = false; notes = no_members; shape = struct (next ∷ []) false }) }) ∷ []
+
+-- ---- it is accepted
+
+no_walk : (Edge : ℕ → ℕ → Type 0) → ((n m : ℕ) → ¬ Edge n m) → (n m : ℕ) → ¬ Walk Edge n m
+no_walk Edge none n m (one _ e) = none n m e
+no_walk Edge none n m (then k _ w e) = none k m e
+
+no_direct : (n m : ℕ) → ¬ DirectEdge endless n m
+no_direct n zero e = cc
+no_direct n (suc m) e = cc
+
+no_same_value : (n m : ℕ) → ¬ SameValueEdge endless n m
+no_same_value zero m e = absurd (omega (arith, e.0.1))
+no_same_value (suc n) m e = absurd (omega (arith, e.0.1))
+
+is_defined : (n : ℕ) → ¬ IsUndefined endless n
+is_defined zero u = cc
+is_defined (suc n) u = absurd (omega (arith, u.0))
+
+differ : (n : ℕ) → ¬ HasRepeated endless n
+unfolding IsDistinct
+differ zero h = never_repeated (names_at endless 0) h.0 (tt, tt) h.1
+differ (suc n) h = never_repeated (names_at endless (suc n)) h.0 tt h.1
+
+pub endless_accepted : IsAccepted endless
+endless_accepted = record {
+  defined = is_defined;
+  named = differ;
+  direct = λ n walk. no_walk (DirectEdge endless) no_direct n n walk;
+  empty = λ n walk. no_walk (SameValueEdge endless) no_same_value n n walk;
+}
+
+-- ---- and has no value
+
+misfit : (p : Text → Data → Bool) (k : Text) (d : Data) (ms : Members) → get_member k ms ≡ Some d → p k d ≡ false → every_member p ms ≡ false
+misfit p k d no_members is bad = cc
+misfit p k d (member l e ms) is bad = go (slice_cmp nat_cmp k l) refl is (misfit p k d ms)
+  where
+    either : (a b : Bool) → b ≡ false → a && b ≡ false
+    either true b h = h
+    either false b h = refl
+
+    first : (a b : Bool) → a ≡ false → a && b ≡ false
+    first true b h = cc
+    first false b h = refl
+
+    go : (o : Ordering) → slice_cmp nat_cmp k l ≡ o → match_ordering o (get_member k ms) (Some e) (get_member k ms) ≡ Some d → (get_member k ms ≡ Some d → p k d ≡ false → every_member p ms ≡ false) → p l e && every_member p ms ≡ false
+    go Less at is rest = either (p l e) (every_member p ms) (rest is bad)
+    go Equal at is rest =
+        let same_key : k ≡ l = exact_bytes k l at in
+        let same : e ≡ d = cc in
+        first (p l e) (every_member p ms) ((λ i. p (sym same_key i) (same i)) ∙ bad)
+    go Greater at is rest = either (p l e) (every_member p ms) (rest is bad)
+
+no_and : (a : Bool) → a && false ≡ false
+no_and true = refl
+no_and false = refl
+
+absent_or_misfit : (c : Contract) (part : ℕ → Data → Bool) → ((w : Data) → part 0 w ≡ false) → (ms : Members) (o : Option Data) → get_member (codes "n") ms ≡ o
+    → every_member (member_fits part (next ∷ []) false) ms && ((not (is_required c next.required) || is_some (get_member (codes "n") ms)) && true) ≡ false
+absent_or_misfit Deserialize part none ms None is = rw is (no_and (every_member (member_fits part (next ∷ []) false) ms))
+absent_or_misfit Serialize part none ms None is = rw is (no_and (every_member (member_fits part (next ∷ []) false) ms))
+absent_or_misfit c part none ms (Some w) is = rw (misfit (member_fits part (next ∷ []) false) (codes "n") w ms is (none w)) refl
+
+pub no_value : (contract : Contract) (patterns : Patterns) (steps n : ℕ) (v : Data) → belongs_within endless contract patterns steps n v ≡ false
+unfolding belongs_within
+no_value contract patterns zero n v = refl
+no_value contract patterns (suc steps) (suc n) v = refl
+no_value contract patterns (suc steps) zero null = refl
+no_value contract patterns (suc steps) zero (boolean b) = refl
+no_value contract patterns (suc steps) zero (number m) = refl
+no_value contract patterns (suc steps) zero (string s) = refl
+no_value contract patterns (suc steps) zero (array ds) = refl
+no_value contract patterns (suc steps) zero (object ms) = absent_or_misfit contract (belongs_within endless contract patterns steps) (λ w. no_value contract patterns steps 0 w) ms (get_member (codes "n") ms) refl
+
+-- so its document accepts nothing
+pub document_accepts_nothing : (contract : Contract) (path : Text) (document : Data) → MeansItsType endless contract path 0 document
+    → (patterns : Patterns) (v : Data) → IsJson v → (followed : ℕ) → bound path document v ≤ followed → accepts draft2020_12 document patterns followed document v ≡ No
+document_accepts_nothing contract path document h patterns v json followed enough = h.accepts_its_values patterns v json followed enough ∙ rw (no_value contract patterns _ 0 v) refl

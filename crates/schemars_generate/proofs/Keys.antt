@@ -1,0 +1,99 @@
+-- The keys of members, and those under which definitions stand.
+use Rattle.std.proofs.Common.{◌≡◌, ◌⊎◌, inl, inr, List, [], ◌∷◌, Some, None, true, false, Ordering, Less, Equal, Greater, nat_cmp, refl, sym, ap, ◌∙◌, true≢false, string_cmp, String, Global, string_bytes}
+use Rattle.std.specs.Prelude.{codes}
+use Rattle.std.specs.Ordering.{match_ordering}
+use Rattle.std.specs.Cmp.Lexicographic.{slice_cmp}
+use Rattle.std.specs.List.{AllByRecursion}
+use Rattle.std.specs.List.Sorted.{IsStrictlySortedBy}
+use Rattle.std.specs.Map.{keys_of}
+use Rattle.std.proofs.lemmas.Cmp.{nat_list_cmp_total, tied_itself}
+use Rattle.std.proofs.lemmas.Map.Lookups.{exact_bytes}
+use Rattle.serde_json.specs.Data.{Data, Members, no_members, member}
+use Rattle.serde_json.specs.Find.{get_member}
+use Rattle.serde_json.specs.View.{members_view}
+use Rattle.serde_json.proofs.Views.{Entry}
+use Rattle.schemars_json.specs.Json.{Text}
+use Rattle.schemars_json.specs.OrderedText.{is_listed}
+use Rattle.schemars_schema.specs.Annotations.{is_annotation}
+use Rattle.schemars_schema.proofs.Objects.{annotation-not_listed}
+use Rattle.schemars_generate.specs.Keys.{HasKeysOnce}
+use Rattle.schemars_naming.specs.Work.{IsKey}
+
+-- ---- which keys there are
+
+found_here : (k : Text) (d : Data) (ms : Members) → get_member k (member k d ms) ≡ Some d
+found_here k d ms = rw (tied_itself nat_list_cmp_total k)
+
+pub key_here : (k : Text) (d : Data) (ms : Members) → IsKey k (member k d ms)
+key_here k d ms = (d, found_here k d ms)
+
+pub key_later : (j k : Text) (d : Data) (ms : Members) → IsKey j ms → IsKey j (member k d ms)
+key_later j k d ms h = go (slice_cmp nat_cmp j k)
+  where
+    go : (o : Ordering) → (e : Data) × (match_ordering o (get_member j ms) (Some d) (get_member j ms) ≡ Some e)
+    go Less = h
+    go Equal = (d, refl)
+    go Greater = h
+
+pub key_cases : (j k : Text) (d : Data) (ms : Members) → IsKey j (member k d ms) → (j ≡ k) ⊎ IsKey j ms
+key_cases j k d ms h = go (slice_cmp nat_cmp j k) refl h.1
+  where
+    go : (o : Ordering) → slice_cmp nat_cmp j k ≡ o → match_ordering o (get_member j ms) (Some d) (get_member j ms) ≡ Some h.0 → (j ≡ k) ⊎ IsKey j ms
+    go Less is found = inr (h.0, found)
+    go Equal is found = inl (exact_bytes j k is)
+    go Greater is found = inr (h.0, found)
+
+-- ---- members with each key once
+
+abbrev pub AllMembers : (Data → Type 0) → Members → Type 0
+AllMembers P no_members = Unit {0}
+AllMembers P (member k d ms) = P d × AllMembers P ms
+
+found_later : (j k : Text) (d e : Data) (ms : Members) → get_member k ms ≡ None → get_member j ms ≡ Some e → get_member j (member k d ms) ≡ Some e
+found_later j k d e ms new found = go (slice_cmp nat_cmp j k) refl
+  where
+    go : (o : Ordering) → slice_cmp nat_cmp j k ≡ o → match_ordering o (get_member j ms) (Some d) (get_member j ms) ≡ Some e
+    go Less is = found
+    go Equal is = let same : j ≡ k = exact_bytes j k is in let none : get_member j ms ≡ None = rw same new in cc
+    go Greater is = found
+
+-- what holds of all that is found holds of all members
+pub all_members : (P : Data → Type 0) (ms : Members) → HasKeysOnce ms → ((k : Text) (d : Data) → get_member k ms ≡ Some d → P d) → AllMembers P ms
+all_members P no_members once all = tt
+all_members P (member k d ms) once all = (all k d (found_here k d ms), all_members P ms once.1 (λ j e found. all j e (found_later j k d e ms once.0 found)))
+
+-- and of all members, of what is found
+pub found_among : (P : Data → Type 0) (ms : Members) → AllMembers P ms → (k : Text) (d : Data) → get_member k ms ≡ Some d → P d
+found_among P no_members all k d found = cc
+found_among P (member l e ms) all k d found = go (slice_cmp nat_cmp k l) found (found_among P ms all.1 k d)
+  where
+    go : (o : Ordering) → match_ordering o (get_member k ms) (Some e) (get_member k ms) ≡ Some d → (get_member k ms ≡ Some d → P d) → P d
+    go Less found later = later found
+    go Equal found later = let same : e ≡ d = cc in rw (← same) (all.0)
+    go Greater found later = later found
+
+absent_above : (k : String Global) (es : List Entry) → AllByRecursion (λ l. string_cmp k l ≡ Less) (keys_of es) → get_member (string_bytes k) (members_view es) ≡ None
+absent_above k [] above = refl
+absent_above k (e ∷ es) above = let less : slice_cmp nat_cmp (string_bytes k) (string_bytes e.0) ≡ Less = above.0 in rw less (absent_above k es above.1)
+
+-- the entries of a map have each key once
+pub map_once : (es : List Entry) → IsStrictlySortedBy string_cmp (keys_of es) → HasKeysOnce (members_view es)
+unfolding IsStrictlySortedBy
+map_once [] sorted = tt
+map_once (e ∷ es) sorted = (absent_above e.0 es sorted.0, map_once es sorted.1)
+
+-- ---- where definitions stand in a root document
+
+abbrev pub IsDefinitionsKey : Text → Type 0
+IsDefinitionsKey key = (key ≡ codes "$defs") ⊎ (key ≡ codes "definitions")
+
+-- another key
+abbrev pub IsOther : Text → Type 0
+IsOther k = is_listed k (codes "$defs" ∷ codes "definitions" ∷ []) ≡ false
+
+pub other_apart : (key k : Text) → IsDefinitionsKey key → IsOther k → key ≡ k → ⊥
+other_apart key k (inl is) other same = true≢false (ap (λ x. is_listed x (codes "$defs" ∷ codes "definitions" ∷ [])) (sym is ∙ same) ∙ other)
+other_apart key k (inr is) other same = true≢false (ap (λ x. is_listed x (codes "$defs" ∷ codes "definitions" ∷ [])) (sym is ∙ same) ∙ other)
+
+pub annotation_other : (k : Text) → is_annotation k ≡ true → IsOther k
+annotation_other k note = annotation-not_listed k (codes "$defs" ∷ codes "definitions" ∷ []) refl note

@@ -1,0 +1,315 @@
+-- Where the references of a table's documents lead: to the root, or to the definition of their row.
+use Rattle.std.proofs.Common.{◌≡◌, ◌⊎◌, inl, inr, ℕ, zero, suc, ◌+◌, ◌*◌, ◌<◌, ◌≤◌, List, [], ◌∷◌, Option, Some, None, Bool, true, false, Contains, length, refl, sym, ap, ◌∙◌, arith, subst}
+use Rattle.std.specs.Prelude.{codes, is_some}
+use Rattle.std.specs.Str.{IsUtf8}
+use Rattle.std.proofs.Math.Nat.{mul-le-mul_left}
+use Rattle.serde_json.specs.Data.{Data, null, boolean, number, string, array, object, Members, no_members, member, depth}
+use Rattle.serde_json.specs.Find.{get_member}
+use Rattle.serde_json.specs.Events.{members_len}
+use Rattle.schemars_json.specs.Json.{Text}
+use Rattle.schemars_schema.specs.SchemaData.{IsSchema, is_schema}
+use Rattle.schemars_json.specs.Encoding.{lookup}
+use Rattle.schemars_schema.specs.Lookup.{resolved}
+use Rattle.schemars_schema.specs.Acceptance.{Patterns, Judge, judge, count_of_definitions}
+use Rattle.schemars_json.proofs.Encodings.{lookup-encoded, lookup-ascii}
+use Rattle.schemars_rewrite.specs.NullLaw.{context2020_12}
+use Rattle.schemars_shapes.specs.Shape as shape
+use Rattle.schemars_shapes.specs.Shape.{Shape, Entry, numbers_of, same_value_numbers}
+use Rattle.schemars_types.specs.Rows.{Row, entry_at}
+use Rattle.schemars_types.specs.Edges.{numbers_at, same_value_numbers_at, rank}
+use Rattle.schemars_types.specs.Faults.{IsChecked}
+use Rattle.schemars_documents.specs.Documents.{IsWritten, Describes}
+use Rattle.schemars_documents.specs.PlainTable.{IsPlainTable}
+use Rattle.schemars_documents.specs.ContractOf.{contract_of}
+use Rattle.schemars_naming.specs.Naming.{Naming, IsOneToOne, name_of}
+use Rattle.schemars_naming.specs.Work.{Plan, Work, IsKey, Refers, IsDefinition, reference_to}
+use Rattle.schemars_generate.specs.Headline.{AcceptsItsValues}
+use Rattle.schemars_generate.proofs.Keys.{key_here, key_later, key_cases}
+use Rattle.schemars_documents.proofs.Mapping.{describes-wider, written_map}
+use Rattle.schemars_documents.proofs.Meanings.{IsSame}
+use Rattle.schemars_documents.proofs.Following.{References, InList, Setting, written_says, described_schema}
+
+-- ---- ranks
+
+entry_low : (rows : List Row) (n : ℕ) (e : Entry) → entry_at rows n ≡ Some e → n < length rows
+entry_low [] n e at = cc
+entry_low (r ∷ rs) zero e at = omega arith
+entry_low (r ∷ rs) (suc n) e at = omega (arith, entry_low rs n e at)
+
+alone : (m j : ℕ) → j ≡ m → Contains (m ∷ []) j
+alone m j same = (0, omega arith, sym same)
+
+-- a part that has the row's own values is among its numbers
+same_number : (kind : Shape) (j : ℕ) → IsSame kind j → Contains (same_value_numbers kind) j × Contains (numbers_of kind) j
+same_number (shape.option i) j same = (alone i j same, alone i j same)
+same_number (shape.newtype i) j same = (alone i j same, alone i j same)
+same_number shape.null j same = absurd same
+same_number shape.bool j same = absurd same
+same_number (shape.int k) j same = absurd same
+same_number (shape.non_zero k) j same = absurd same
+same_number shape.number j same = absurd same
+same_number shape.text j same = absurd same
+same_number shape.char j same = absurd same
+same_number (shape.formatted f) j same = absurd same
+same_number shape.any j same = absurd same
+same_number shape.bytes j same = absurd same
+same_number shape.schema_itself j same = absurd same
+same_number (shape.seq i) j same = absurd same
+same_number (shape.set i) j same = absurd same
+same_number (shape.array i len) j same = absurd same
+same_number (shape.up_to i cap) j same = absurd same
+same_number (shape.tuple ns) j same = absurd same
+same_number (shape.struct xs closed) j same = absurd same
+
+rank_below : (rows : List Row) → IsChecked rows → (n : ℕ) (e : Entry) (j : ℕ) → entry_at rows n ≡ Some e → IsSame e.shape j → rank rows j < rank rows n
+rank_below rows checked n e j at same =
+    let among = same_number e.shape j same in
+    let edge : Contains (same_value_numbers_at rows n) j = rw at among.0 in
+    let within : Contains (numbers_at rows n) j = rw at among.1 in
+    checked.rank_falls n j (edge, checked.within.within n j within)
+
+-- ---- what a reference leads to
+
+is_schema-true : (d : Data) → IsSchema d → is_schema d ≡ true
+is_schema-true (boolean b) is = refl
+is_schema-true (object ms) is = refl
+is_schema-true null is = absurd is
+is_schema-true (number n) is = absurd is
+is_schema-true (string s) is = absurd is
+is_schema-true (array ds) is = absurd is
+
+resolved_found : (document : Data) (r : Text) (d : Data) → lookup r document ≡ Some d → IsSchema d → resolved document r ≡ Some d
+unfolding resolved
+resolved_found document r d found is = rw (found, is_schema-true d is)
+
+-- `#` leads to the whole
+lookup-whole : (document : Data) → lookup (codes "#") document ≡ Some document
+lookup-whole document = lookup-ascii [] document refl refl
+
+-- ---- the references to definitions, one for each
+
+module _ (plan : Plan) (names : Naming) where
+  abbrev RowNamed : Text → Type 0
+  RowNamed k = (row : ℕ) × (name_of row plan.contract names ≡ Some k)
+
+  references_of : (ms : Members) → ((k : Text) → IsKey k ms → RowNamed k) → References
+  references_of no_members row = []
+  references_of (member k d ms) row = ((row k (key_here k d ms)).0, reference_to plan.path k) ∷ references_of ms (λ j is. row j (key_later j k d ms is))
+
+  references_len : (ms : Members) (row : (k : Text) → IsKey k ms → RowNamed k) → length (references_of ms row) ≡ members_len ms
+  unfolding references_of
+  references_len no_members row = refl
+  references_len (member k d ms) row = ap suc (references_len ms (λ j is. row j (key_later j k d ms is)))
+
+  -- a row's reference by the name under which its definition stands
+  abbrev NamedReference : Members → ℕ → Text → Type 0
+  NamedReference ms j r = (name : Text) × (name_of j plan.contract names ≡ Some name) × IsKey name ms × (r ≡ reference_to plan.path name)
+
+  named_from : (ms : Members) (row : (k : Text) → IsKey k ms → RowNamed k) (j : ℕ) (r : Text) → InList (references_of ms row) j r → NamedReference ms j r
+  unfolding references_of
+  named_from no_members row j r h = absurd h
+  named_from (member k d ms) row j r (inl h) =
+      let P : ℕ → Type 0 = λ i. name_of i plan.contract names ≡ Some k in
+      (k, subst P h.0 (row k (key_here k d ms)).1, key_here k d ms, sym h.1)
+  named_from (member k d ms) row j r (inr h) = let n = named_from ms (λ i is. row i (key_later i k d ms is)) j r h in (n.0, n.1, key_later n.0 k d ms n.2, n.3)
+
+  named_in : IsOneToOne names → (ms : Members) (row : (k : Text) → IsKey k ms → RowNamed k) (j : ℕ) (r : Text) → NamedReference ms j r → InList (references_of ms row) j r
+  unfolding references_of
+  named_in one no_members row j r h = cc (h.2.1)
+  named_in one (member k d ms) row j r h = elim (key_cases h.0 k d ms h.2) [
+    | inl same ↦
+        let here = row k (key_here k d ms) in
+        inl ((one.one_row here.0 j plan.contract plan.contract k here.1 (h.1 ∙ ap Some same)).0, rw (h.3, same) refl)
+    | inr later ↦ inr (named_in one ms (λ i is. row i (key_later i k d ms is)) j r (h.0, h.1, later, h.3))
+  ]
+
+-- ---- all references
+
+with_root : Option ℕ → References → References
+with_root None refs = refs
+with_root (Some n) refs = (n, codes "#") ∷ refs
+
+with_root_len : (root : Option ℕ) (refs : References) → length (with_root root refs) ≤ length refs + 1
+unfolding with_root
+with_root_len None refs = omega arith
+with_root_len (Some n) refs = omega arith
+
+listed_root : (root : Option ℕ) (refs : References) (n : ℕ) → root ≡ Some n → InList (with_root root refs) n (codes "#")
+unfolding with_root
+listed_root None refs n is = cc
+listed_root (Some m) refs n is = let same : m ≡ n = cc in inl (same, refl)
+
+listed_later : (root : Option ℕ) (refs : References) (j : ℕ) (r : Text) → InList refs j r → InList (with_root root refs) j r
+unfolding with_root
+listed_later None refs j r h = h
+listed_later (Some n) refs j r h = inr h
+
+listed_cases : (root : Option ℕ) (refs : References) (j : ℕ) (r : Text) → InList (with_root root refs) j r → ((root ≡ Some j) × (r ≡ codes "#")) ⊎ InList refs j r
+unfolding with_root
+listed_cases None refs j r h = inr h
+listed_cases (Some n) refs j r (inl h) = inl (ap Some h.0, sym h.1)
+listed_cases (Some n) refs j r (inr h) = inr h
+
+-- the definitions are found by their references in this document, and the bound counts them
+pub record HoldsDefinitions (path : Text) (definitions : Members) (document : Data) : Type 0 where
+  pub leads : (name : Text) (d : Data) → IsUtf8 name → get_member name definitions ≡ Some d → lookup (reference_to path name) document ≡ Some d
+  pub counts : members_len definitions ≤ count_of_definitions path document
+
+-- so it is where they stand at the path
+pub holds_at : (path : Text) (definitions : Members) (document : Data) → lookup (35 ∷ path) document ≡ Some (object definitions) → members_len definitions ≤ count_of_definitions path document
+    → HoldsDefinitions path definitions document
+holds_at path definitions document found counts = record {
+  leads = λ name d text is. lookup-encoded (35 ∷ path) name document definitions text found ∙ is;
+  counts = counts;
+}
+
+-- with `#` free there are more references
+pub free_refers : (plan : Plan) (w : Work) (free : Bool) (j : ℕ) (r : Text) → Refers plan free w j r → Refers plan true w j r
+free_refers plan w free j r (inl h) = inl (h.0, refl, h.2, h.3)
+free_refers plan w free j r (inr h) = inr h
+
+-- a call without a root, as earlier ones are to the definitions that they left
+abbrev pub rootless : Plan → Plan
+rootless plan = record plan { root = None }
+
+-- how a definition that stands may refer: as the running call does, or as an earlier one did, by the name of each row
+abbrev pub MayRefer : Plan → Work → ℕ → Text → Type 0
+MayRefer plan w n r = Refers plan true w n r ⊎ Refers (rootless plan) true w n r
+
+pub refers_may : (plan : Plan) (w : Work) (free : Bool) (j : ℕ) (r : Text) → Refers plan free w j r → MayRefer plan w j r
+refers_may plan w free j r h = inl (free_refers plan w free j r h)
+
+-- a definition that stands in the document of the running call
+pub record Stands (plan : Plan) (w : Work) (name : Text) (d : Data) : Type 0 where
+  pub row : ℕ
+  pub is_named : name_of row plan.contract w.names ≡ Some name
+  pub is_text : IsUtf8 name
+  pub depth : ℕ
+  pub describes : Describes plan.rows (contract_of plan.contract) (MayRefer plan w) depth row d
+
+abbrev pub AllStand : Plan → Work → Type 0
+AllStand plan w = (name : Text) (d : Data) → get_member name w.definitions ≡ Some d → Stands plan w name d
+
+pub stands_now : (plan : Plan) (w : Work) (name : Text) (d : Data) → IsDefinition plan w name d → Stands plan w name d
+stands_now plan w name d h = record {
+  row = h.row;
+  is_named = h.is_named;
+  is_text = h.is_text;
+  depth = h.depth;
+  describes = describes-wider plan.rows (contract_of plan.contract) (Refers plan false w) (MayRefer plan w) (refers_may plan w false) h.depth h.depth (omega arith) h.row d h.describes;
+}
+
+pub stands_before : (plan : Plan) (w : Work) (name : Text) (d : Data) → IsDefinition (rootless plan) w name d → Stands plan w name d
+stands_before plan w name d h = record {
+  row = h.row;
+  is_named = h.is_named;
+  is_text = h.is_text;
+  depth = h.depth;
+  describes = describes-wider plan.rows (contract_of plan.contract) (Refers (rootless plan) false w) (MayRefer plan w) (λ j r e. inr (free_refers (rootless plan) w false j r e)) h.depth h.depth (omega arith) h.row d h.describes;
+}
+
+-- the root is the document itself, or says the same
+abbrev pub IsItsRoot : Plan → Work → Data → Type 0
+IsItsRoot plan w document =
+    (n : ℕ) → plan.root ≡ Some n
+    → (own : Data) × (depth : ℕ) × ((patterns : Patterns) (f : Text → Judge) → judge (context2020_12 patterns f) document ≡ judge (context2020_12 patterns f) own) × IsSchema document
+    × Describes plan.rows (contract_of plan.contract) (MayRefer plan w) depth n own
+
+bound_enough : (a len defs counted n : ℕ) → len ≤ defs + 1 → defs ≤ counted → (a + 1) * (counted + 2) ≤ n → (a + 1) * (len + 1) ≤ n
+bound_enough a len defs counted n few less h = grind (arith, mul-le-mul_left)
+
+module _ (plan : Plan) (w : Work) (document : Data) (checked : IsChecked plan.rows) (plain : IsPlainTable plan.rows) (one : IsOneToOne w.names) (definitions : AllStand plan w)
+    (holds : HoldsDefinitions plan.path w.definitions document) (is_root : IsItsRoot plan w document) where
+  abbrev row_named : (k : Text) → IsKey k w.definitions → RowNamed plan w.names k
+  row_named k is = let d = definitions k is.0 is.1 in (d.row, d.is_named)
+
+  to_definitions : References
+  to_definitions = references_of plan w.names w.definitions row_named
+
+  refs : References
+  refs = with_root plan.root to_definitions
+
+  refs_len : length refs ≤ members_len w.definitions + 1
+  unfolding refs to_definitions
+  refs_len = omega (arith, with_root_len plan.root (references_of plan w.names w.definitions row_named), references_len plan w.names w.definitions row_named)
+
+  refers_listed : (j : ℕ) (r : Text) → MayRefer plan w j r → InList refs j r
+  unfolding refs to_definitions
+  refers_listed j r (inl (inl h)) = rw (h.2) (listed_root plan.root (references_of plan w.names w.definitions row_named) j h.0)
+  refers_listed j r (inl (inr h)) = listed_later plan.root (references_of plan w.names w.definitions row_named) j r (named_in plan w.names one w.definitions row_named j r (h.0, h.1, h.2, h.3))
+  refers_listed j r (inr (inl h)) = cc
+  refers_listed j r (inr (inr h)) = listed_later plan.root (references_of plan w.names w.definitions row_named) j r (named_in plan w.names one w.definitions row_named j r (h.0, h.1, h.2, h.3))
+
+  -- the root by `#`, or a row by the name of its definition
+  abbrev Leads : ℕ → Text → Type 0
+  Leads j r = ((plan.root ≡ Some j) × (r ≡ codes "#")) ⊎ NamedReference plan w.names w.definitions j r
+
+  listed_leads : (j : ℕ) (r : Text) → InList refs j r → Leads j r
+  unfolding refs to_definitions
+  listed_leads j r h = elim (listed_cases plan.root (references_of plan w.names w.definitions row_named) j r h) [
+    | inl root ↦ inl root
+    | inr named ↦ inr (named_from plan w.names w.definitions row_named j r named)
+  ]
+
+  refers_leads : (j : ℕ) (r : Text) → MayRefer plan w j r → Leads j r
+  refers_leads j r (inl (inl h)) = inl (h.0, h.2)
+  refers_leads j r (inl (inr h)) = inr (h.0, h.1, h.2, h.3)
+  refers_leads j r (inr (inl h)) = cc
+  refers_leads j r (inr (inr h)) = inr (h.0, h.1, h.2, h.3)
+
+  abbrev D : ℕ → ℕ → Data → Type 0
+  D = Describes plan.rows (contract_of plan.contract) (MayRefer plan w)
+
+  -- found, and what it says the same as, which describes the row
+  abbrev LeadsTo : ℕ → Text → Type 0
+  LeadsTo j r =
+      (found : Data) × (s : Data) × (d : ℕ) × (resolved document r ≡ Some found) × ((patterns : Patterns) (f : Text → Judge) → judge (context2020_12 patterns f) found ≡ judge (context2020_12 patterns f) s)
+      × D d j s
+
+  leads_root : (j : ℕ) → plan.root ≡ Some j → LeadsTo j (codes "#")
+  leads_root j is = let root = is_root j is in (document, root.0, root.1, resolved_found document (codes "#") document (lookup-whole document) root.3, root.2, root.4)
+
+  leads_named : (j : ℕ) (name : Text) (d : Data) → name_of j plan.contract w.names ≡ Some name → get_member name w.definitions ≡ Some d → LeadsTo j (reference_to plan.path name)
+  leads_named j name d named found =
+      let definition = definitions name d found in
+      let same : definition.row ≡ j = (one.one_row definition.row j plan.contract plan.contract name definition.is_named named).0 in
+      let P : ℕ → Type 0 = λ i. D definition.depth i d in
+      let describes : D definition.depth j d = subst P same definition.describes in (
+        d,
+        d,
+        definition.depth,
+        resolved_found document (reference_to plan.path name) d (holds.leads name d definition.is_text found) (described_schema plan.rows (contract_of plan.contract) (MayRefer plan w) plain definition.depth j d describes),
+        λ patterns f. refl,
+        describes,
+      )
+
+  leads_to : (j : ℕ) (r : Text) → Leads j r → LeadsTo j r
+  leads_to j r (inl h) = rw (h.1) (leads_root j h.0)
+  leads_to j r (inr h) = rw (h.3) (leads_named j h.0 h.2.0 h.1 h.2.1)
+
+  pub refers_resolve : (j : ℕ) (r : Text) → MayRefer plan w j r → is_some (resolved document r) ≡ true
+  refers_resolve j r h = let to = leads_to j r (refers_leads j r h) in rw (to.3)
+
+  setting : Patterns → Setting
+  setting patterns = record {
+    rows = plan.rows;
+    contract = contract_of plan.contract;
+    patterns = patterns;
+    document = document;
+    refs = refs;
+    resolves = λ j r is.
+        let to = leads_to j r (listed_leads j r is) in
+        (to.0, to.1, to.2, to.3, to.4 patterns, describes-wider plan.rows (contract_of plan.contract) (MayRefer plan w) (InList refs) refers_listed to.2 to.2 (omega arith) j to.1 to.5);
+    plain = plain;
+    rank = rank plan.rows;
+    ranks = length plan.rows;
+    low_rank = λ n e at. checked.rank_bound n (entry_low plan.rows n e at);
+    ranked = rank_below plan.rows checked;
+  }
+
+  -- what is written for a row accepts just its values
+  pub written_accepts : (d n : ℕ) (t : Data) → IsWritten (MayRefer plan w) (D d) n t → AcceptsItsValues plan.rows (contract_of plan.contract) plan.path n document t
+  unfolding setting
+  written_accepts d n t h patterns v json followed bounded =
+      let listed = written_map (MayRefer plan w) (InList refs) (D d) (Describes plan.rows (contract_of plan.contract) (InList refs) d) refers_listed (describes-wider plan.rows (contract_of plan.contract) (MayRefer plan w) (InList refs) refers_listed d d (omega arith)) n t h in
+      written_says (setting patterns) d n t listed v json followed ((depth v + 1) * length plan.rows) (bound_enough (depth v) (length refs) (members_len w.definitions) (count_of_definitions plan.path document) followed refs_len holds.counts bounded) (omega arith)

@@ -1,0 +1,14 @@
+use Rattle.std.proofs.Common.{◌≡◌, sym, subst, refl}
+use Rattle.schemars_types.specs.Faults.{IsChecked}
+use Rattle.schemars_naming.specs.Naming.{IsOneToOne}
+use Rattle.schemars_generate.specs.Settings.{state_of}
+use Rattle.schemars_generate.specs.State.{work_of}
+use Rattle.schemars_naming.specs.Work.{Work}
+use Rattle.schemars_generate.proofs.Calls.{checked_nothing, one_to_one-none}
+use Rattle.schemars_generate.proofs.generate.SchemaGenerator.new.Goals as goal
+
+pub invariant_of-result : goal.invariant_of-result
+invariant_of-result c =
+    let P : Work → Type 0 = λ w. IsOneToOne w.names in
+    let Q : Work → Type 0 = λ w. w ≡ work_of (state_of c.args.settings c.new.result w) in
+    (subst IsChecked (sym c.new.ensures) checked_nothing, subst P (sym c.new-2.ensures) one_to_one-none, subst Q (sym c.new-2.ensures) refl)

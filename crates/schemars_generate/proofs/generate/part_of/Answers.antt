@@ -1,0 +1,42 @@
+use Rattle.std.proofs.Common.{◌≡◌, None, true, false, refl, sym, subst, rules}
+use Rattle.schemars_json.specs.Json.{Text}
+use Rattle.schemars_build.specs.Parts.{IsSubschema}
+use Rattle.schemars_generate.specs.Settings.{state_of}
+use Rattle.schemars_generate.specs.State.{plan_of, work_of}
+use Rattle.schemars_naming.specs.Work.{Work, Step}
+use Rattle.schemars_schema.specs.References.{references}
+use Rattle.schemars_build.specs.Reached.{AreReached}
+use Rattle.schemars_generate.proofs.Calls.{part_kept, step_kept, reached_kept}
+use Rattle.schemars_generate.proofs.generate.part_of.Goals as goal
+
+pub returns-in-Ok-clause-part : goal.returns-in-Ok-clause-part
+returns-in-Ok-clause-part c =
+    let s = state_of c.args.settings.now c.args.types.now c.args.work.now in
+    let w = c.subschema.new.work in
+    let path : c.stripped.result.now ≡ (plan_of s None).path = search rules in
+    let P : Text → Type 0 = λ p. IsSubschema (record { rows = s.rows; contract = s.settings.contract; path = p; root = None }) false w c.args.n c.in-Ok.schema in
+    let Q : Work → Type 0 = λ x. IsSubschema (plan_of s None) false x c.args.n c.in-Ok.schema in
+    subst Q (sym c.keep.ensures.kept) (part_kept s (record s { names = w.names; definitions = w.definitions }) w c.args.n c.in-Ok.schema refl (subst P path c.in-Ok.ensures.written))
+
+pub returns-in-Ok-clause-step : goal.returns-in-Ok-clause-step
+returns-in-Ok-clause-step c =
+    let s = state_of c.args.settings.now c.args.types.now c.args.work.now in
+    let w = c.subschema.new.work in
+    let path : c.stripped.result.now ≡ (plan_of s None).path = search rules in
+    let P : Text → Type 0 = λ p. Step (record { rows = s.rows; contract = s.settings.contract; path = p; root = None }) c.args.work.now w in
+    let Q : Work → Type 0 = λ x. Step (plan_of s None) x w in
+    let R : Work → Type 0 = λ x. Step (plan_of s None) c.args.work.now x in
+    let made : Step (plan_of s None) (work_of s) w = subst Q c.requires.between (subst P path c.in-Ok.ensures.step) in
+    let kept : Step (plan_of s None) (work_of s) (work_of (record s { names = w.names; definitions = w.definitions })) = step_kept s w made in
+    let S : Work → Type 0 = λ x. Step (plan_of s None) x (work_of (record s { names = w.names; definitions = w.definitions })) in
+    subst R (sym c.keep.ensures.kept) (subst S (sym c.requires.between) kept)
+
+pub returns-in-Ok-clause-reached : goal.returns-in-Ok-clause-reached
+returns-in-Ok-clause-reached c = λ plain.
+    let s = state_of c.args.settings.now c.args.types.now c.args.work.now in
+    let w = c.subschema.new.work in
+    let from = references c.in-Ok.schema in
+    let path : c.stripped.result.now ≡ (plan_of s None).path = search rules in
+    let P : Text → Type 0 = λ p. AreReached (record { rows = s.rows; contract = s.settings.contract; path = p; root = None }) true c.args.work.now w from in
+    let Q : Work → Type 0 = λ x. AreReached (plan_of s None) true c.args.work.now x from in
+    subst Q (sym c.keep.ensures.kept) (reached_kept (plan_of s None) true s c.args.work.now w from (subst P path (c.in-Ok.ensures.reached plain)))

@@ -1,0 +1,79 @@
+-- What a generated document promises: it accepts just the values that belong to its type.
+use Rattle.std.specs.Prelude.{◌≡◌, ◌≤◌, ◌⊎◌, ℕ, suc, List, true, false, Option, Some, None, codes}
+use Rattle.serde_json.specs.Data.{Data, object, Members, no_members, member}
+use Rattle.serde_json.specs.Find.{get_member, pointer}
+use Rattle.schemars_schema.specs.Verdict.{verdict}
+use Rattle.schemars_json.specs.Json.{Text, IsJson}
+use Rattle.schemars_schema.specs.Acceptance.{Patterns, draft2020_12, accepts, bound}
+use Rattle.schemars_schema.specs.References.{ReferencesResolve, all_resolve, references}
+use Rattle.schemars_schema.specs.Placing.{placed_at}
+use Rattle.schemars_types.specs.Rows.{Row, name_at}
+use Rattle.schemars_types.specs.Edges.{height}
+use Rattle.schemars_types.specs.Meaning.{Contract, belongs}
+use Rattle.schemars_documents.specs.PlainTable.{IsPlainTable}
+use Rattle.schemars_documents.specs.ContractOf.{contract_of}
+use Rattle.schemars_documents.specs.Documents.{Describes, root_document}
+use Rattle.schemars_naming.specs.Work.{Work, Refers, Step}
+use Rattle.schemars_build.specs.Reached.{AreReached}
+use Rattle.schemars_generate.specs.State.{State, plan_of, work_of}
+
+-- under every reading of patterns, from the bound on, the schema in this document accepts a JSON value exactly when it belongs to the row, and never leaves it open
+abbrev pub AcceptsItsValues : List Row → Contract → Text → ℕ → Data → Data → Type 0
+AcceptsItsValues rows contract path n document schema =
+    (patterns : Patterns) (v : Data) → IsJson v → (followed : ℕ) → bound path document v ≤ followed
+    → accepts draft2020_12 document patterns followed schema v ≡ verdict (belongs rows contract patterns n v)
+
+-- ---- root documents
+
+-- the headline, for a root document of row n whose definitions stand at the path
+pub record MeansItsType (rows : List Row) (contract : Contract) (path : Text) (n : ℕ) (document : Data) : Type 0 where
+  pub accepts_its_values : AcceptsItsValues rows contract path n document document
+  pub references_resolve : ReferencesResolve document
+
+abbrev pub Headline : List Row → Contract → Text → ℕ → Data → Type 0
+Headline rows contract path n document = IsPlainTable rows → MeansItsType rows contract path n document
+
+-- the paths of the drafts, and those of all dialects
+abbrev pub IsDraftPath : Text → Type 0
+IsDraftPath path = (path ≡ codes "/$defs") ⊎ (path ≡ codes "/definitions")
+
+abbrev pub IsKnownPath : Text → Type 0
+IsKnownPath path = IsDraftPath path ⊎ (path ≡ codes "/components/schemas")
+
+-- the document with the definitions at the path, if there are any
+abbrev pub with_definitions : Text → Members → Data → Option Data
+with_definitions path no_members document = Some document
+with_definitions path (member k d ms) document = placed_at path (member k d ms) document
+
+-- the document of row n as a root document, without the definitions, where all that joined is reached from it
+pub record IsTitledRoot (old : State) (before : Work) (n : ℕ) (work : Work) (document : Data) : Type 0 where
+  pub own : Data
+  pub describes : Describes old.rows (contract_of old.settings.contract) (Refers (plan_of old (Some n)) true work) (suc (height old.rows n)) n own
+  pub is_root : document ≡ root_document (name_at old.rows n) old.settings.meta_schema own
+  pub reached : IsPlainTable old.rows → AreReached (plan_of old (Some n)) false before work (references own)
+
+-- what a root call makes: the document of row n, made a root document, with the definitions, where all that joined is reached from it
+pub record IsRootOf (old : State) (n : ℕ) (work : Work) (document : Data) : Type 0 where
+  pub step : Step (plan_of old (Some n)) (work_of old) work
+  pub own : Data
+  pub describes : Describes old.rows (contract_of old.settings.contract) (Refers (plan_of old (Some n)) true work) (suc (height old.rows n)) n own
+  pub is_root : with_definitions (plan_of old (Some n)).path work.definitions (root_document (name_at old.rows n) old.settings.meta_schema own) ≡ Some document
+  pub reached : IsPlainTable old.rows → AreReached (plan_of old (Some n)) false (work_of old) work (references own)
+
+-- ---- subschemas
+
+-- a document in which these definitions are found at the path, or any, where there are none
+abbrev pub IsHolding : Text → Members → Data → Type 0
+IsHolding path definitions document = (definitions ≡ no_members) ⊎ (pointer path document ≡ Some (object definitions))
+
+-- a subschema of row n, and the definitions that it leads to
+pub record MeansItsTypeIn (rows : List Row) (contract : Contract) (path : Text) (n : ℕ) (definitions : Members) (document schema : Data) : Type 0 where
+  pub accepts_its_values : AcceptsItsValues rows contract path n document schema
+  pub references_resolve : all_resolve document (references schema) ≡ true
+  pub definitions_resolve : (name : Text) (d : Data) → get_member name definitions ≡ Some d → all_resolve document (references d) ≡ true
+
+-- in each document that holds the definitions at the path
+abbrev pub SubschemaHeadline : State → ℕ → Data → Type 0
+SubschemaHeadline s n schema =
+    IsPlainTable s.rows → IsKnownPath (plan_of s None).path → (document : Data) → IsHolding (plan_of s None).path s.definitions document
+    → MeansItsTypeIn s.rows (contract_of s.settings.contract) (plan_of s None).path n s.definitions document schema
