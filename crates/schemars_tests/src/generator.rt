@@ -107,7 +107,24 @@ const CALLS: [(&str, &str, &[Answer]); 6] = [
     ),
 ];
 
-// What a call gives: a schema, or the definitions as members of one.
+fn write_definition(
+    alloc: Global,
+    generator: &mut SchemaGenerator,
+    name: &str,
+) -> Result<Schema, GenerateError> {
+    let name = owned(alloc, name)?;
+    match generator.definitions_mut().insert(name, Value::Bool(true)) {
+        Ok(_) => Ok(Schema::from(true)),
+        Err(_) => Err(GenerateError::OutOfMemory),
+    }
+}
+
+fn path_of(alloc: Global, generator: &SchemaGenerator) -> Result<Schema, GenerateError> {
+    let path = owned(alloc, generator.settings().definitions_path.as_str())?;
+    Ok(Schema::new_ref(alloc, path)?)
+}
+
+// What a call gives: a schema, the definitions as members of one, or a truth value.
 fn answer(
     alloc: Global,
     generator: &mut SchemaGenerator,
@@ -127,6 +144,11 @@ fn answer(
             generator.add_types(alloc, Types::new(alloc))?;
             Ok(Schema::from(true))
         }
+        "write C" => write_definition(alloc, generator, "C"),
+        "path" => path_of(alloc, generator),
+        "no rows" => Ok(Schema::from(generator.types().is_empty())),
+        "reads" => Ok(Schema::from(generator.contract().is_deserialize())),
+        "writes" => Ok(Schema::from(generator.contract().is_serialize())),
         _ => Ok(Schema::from(generator.definitions().clone()?)),
     }
 }
@@ -151,6 +173,17 @@ fn assert_answers(
     Ok(())
 }
 
+// The one function that drops a generator: each drop costs many seconds of proof.
+fn assert_calls(
+    rt: &impl Abort,
+    alloc: Global,
+    generator: SchemaGenerator,
+    answers: &[Answer],
+) -> Result<(), AllocError> {
+    let mut generator = generator;
+    assert_answers(rt, alloc, &mut generator, answers)
+}
+
 fn generator_at(alloc: Global, path: &'static str, table: &str) -> Result<SchemaGenerator, Fail> {
     let types = table_of(alloc, table)?;
     let mut settings = SchemaSettings::draft2020_12(alloc);
@@ -161,52 +194,44 @@ fn generator_at(alloc: Global, path: &'static str, table: &str) -> Result<Schema
 #[test]
 fn generators_answer(rt: HostRuntime) -> Result<(), Fail> {
     for (path, table, answers) in CALLS {
-        let mut generator = generator_at(rt.alloc(), path, table)?;
-        assert_answers(&rt, rt.alloc(), &mut generator, answers)?;
+        let generator = generator_at(rt.alloc(), path, table)?;
+        assert_calls(&rt, rt.alloc(), generator, answers)?;
     }
     Ok(())
 }
 
-fn write_definition(alloc: Global, generator: &mut SchemaGenerator) -> Result<(), Fail> {
-    let name = owned(alloc, "C")?;
-    let _ = generator.definitions_mut().insert(name, Value::Bool(true))?;
-    Ok(())
-}
+const OF_SETTINGS: [Answer; 7] = [
+    ("path", 0, r#"{"$ref":"/$defs"}"#),
+    ("no rows", 0, "true"),
+    ("reads", 0, "true"),
+    ("writes", 0, "false"),
+    ("root", 0, "8 UnknownType"),
+    ("write C", 0, "true"),
+    ("definitions", 0, r#"{"C":true}"#),
+];
 
 // An empty table has no rows, and what is written into the definitions stays.
 #[test]
 fn settings_are_kept(rt: HostRuntime) -> Result<(), Fail> {
     let alloc = rt.alloc();
     let settings = SchemaSettings::draft2020_12(alloc);
-    let mut generator = SchemaGenerator::new(alloc, settings);
-    assert_eq!(rt; generator.settings().definitions_path.as_str(), "/$defs");
-    assert!(rt; generator.types().is_empty());
-    assert_answers(&rt, alloc, &mut generator, &[("root", 0, "8 UnknownType")])?;
-    write_definition(alloc, &mut generator)?;
-    assert_answers(
-        &rt,
-        alloc,
-        &mut generator,
-        &[("definitions", 0, "{\"C\":true}")],
-    )?;
+    let generator = SchemaGenerator::new(alloc, settings);
+    assert_calls(&rt, alloc, generator, &OF_SETTINGS)?;
     Ok(())
 }
 
-fn contract_of(alloc: Global, settings: SchemaSettings) -> Contract {
-    let generator = SchemaGenerator::new(alloc, settings);
-    generator.contract()
-}
-
 #[test]
-fn contracts_are_set(rt: HostRuntime) {
+fn contracts_are_set(rt: HostRuntime) -> Result<(), Fail> {
     let alloc = rt.alloc();
-    let read = contract_of(alloc, SchemaSettings::draft2020_12(alloc));
-    assert!(rt; read.is_deserialize() && !read.is_serialize());
-    let written = contract_of(alloc, SchemaSettings::draft2020_12(alloc).for_serialize());
-    assert!(rt; written.is_serialize() && !written.is_deserialize());
     let settings = SchemaSettings::draft2020_12(alloc).for_serialize();
-    let back = contract_of(alloc, settings.for_deserialize());
-    assert!(rt; back == read && read < written);
+    let written = [("reads", 0, "false"), ("writes", 0, "true")];
+    assert_calls(&rt, alloc, SchemaGenerator::new(alloc, settings), &written)?;
+    let settings = SchemaSettings::draft2020_12(alloc).for_serialize();
+    let read = [("reads", 0, "true"), ("writes", 0, "false")];
+    let back = settings.for_deserialize();
+    assert_calls(&rt, alloc, SchemaGenerator::new(alloc, back), &read)?;
+    assert!(rt; Contract::Deserialize < Contract::Serialize);
+    Ok(())
 }
 
 // A field of row `n` that has a description.
@@ -277,8 +302,8 @@ fn notes_are_written(rt: HostRuntime) -> Result<(), Fail> {
     add_noted(rt.alloc(), &mut types)?;
     let mut settings = SchemaSettings::draft2020_12(rt.alloc());
     settings.meta_schema = None;
-    let mut generator = SchemaGenerator::with_types(rt.alloc(), settings, types)?;
-    assert_answers(&rt, rt.alloc(), &mut generator, &NOTED)?;
+    let generator = SchemaGenerator::with_types(rt.alloc(), settings, types)?;
+    assert_calls(&rt, rt.alloc(), generator, &NOTED)?;
     Ok(())
 }
 

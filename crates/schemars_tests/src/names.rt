@@ -1,7 +1,9 @@
+use crate::expect::expect;
 use schemars::Contract;
 use schemars::types::TypeNo;
 use schemars_naming::names::Names;
 use std::alloc::Global;
+use std::test::Fail;
 
 const READ: Contract = Contract::Deserialize;
 
@@ -46,18 +48,29 @@ fn is_named(
     gives && names.get(n, contract) == Some(name)
 }
 
-#[test]
-fn names_are_numbered_and_taken_back(rt: HostRuntime) {
-    let mut names = Names::new(rt.alloc());
-    for (n, contract, base, name) in NAMES {
-        assert!(rt; is_named(rt.alloc(), &mut names, n, contract, base, name));
+fn expect_each(
+    alloc: Global,
+    names: &mut Names,
+    lines: &[(TypeNo, Contract, &'static str, &'static str)],
+) -> Result<(), Fail> {
+    for (n, contract, base, name) in lines {
+        expect(is_named(alloc, names, *n, *contract, *base, *name), *name)?;
     }
-    assert_eq!(rt; names.len(), 8);
-    assert_eq!(rt; names.get(4, READ), None);
+    Ok(())
+}
+
+fn expect_names(alloc: Global, names: &mut Names) -> Result<(), Fail> {
+    expect_each(alloc, names, &NAMES)?;
+    let eight = names.len() == 8 && names.get(4, READ).is_none();
+    expect(eight, "eight names")?;
     names.truncate(1);
-    assert_eq!(rt; names.len(), 1);
-    assert_eq!(rt; names.get(9, READ), None);
-    for (n, contract, base, name) in NAMES_AGAIN {
-        assert!(rt; is_named(rt.alloc(), &mut names, n, contract, base, name));
-    }
+    let one = names.len() == 1 && names.get(9, READ).is_none();
+    expect(one, "one name")?;
+    expect_each(alloc, names, &NAMES_AGAIN)
+}
+
+#[test]
+fn names_are_numbered_and_taken_back(rt: HostRuntime) -> Result<(), Fail> {
+    let mut names = Names::new(rt.alloc());
+    expect_names(rt.alloc(), &mut names)
 }

@@ -131,22 +131,20 @@ fn expect_kinds(alloc: Global, types: &mut Types) -> Result<(), Fail> {
 }
 
 fn expect_rows(alloc: Global, types: &mut Types) -> Result<(), Fail> {
+    expect(types.is_empty(), "no rows")?;
+    expect_kinds(alloc, types)?;
     for (call, argument, id, name) in ROWS {
         let of = types.find(argument).unwrap_or(0);
         let row = made(alloc, types, call, of)?;
         expect(is_row(types, row, id, name), id)?;
     }
-    Ok(())
+    expect(types.len() == 40, "forty rows")
 }
 
 #[test]
 fn rows_have_ids_and_names(rt: HostRuntime) -> Result<(), Fail> {
     let mut types = Types::new(rt.alloc());
-    assert!(rt; types.is_empty());
-    expect_kinds(rt.alloc(), &mut types)?;
-    expect_rows(rt.alloc(), &mut types)?;
-    assert_eq!(rt; types.len(), 40);
-    Ok(())
+    expect_rows(rt.alloc(), &mut types)
 }
 
 // A refused row changes nothing.
