@@ -1,5 +1,6 @@
 //! What calls of the libraries answer, as text.
 use crate::schemas;
+use schemagen_run::fault::Fault;
 use schemars_schema::encoding::{encode_ref_name, percent_decode};
 use schemars_schema::{NotASchema, Schema, json_eq, json_eq_members};
 use serde_json::Value;
@@ -66,6 +67,7 @@ fn answer_to(alloc: Global, call: &str, argument: &str, input: &str) -> Result<S
         "encode_ref_name" => encoded(alloc, &value),
         "percent_decode" => decoded(alloc, &value),
         "new_ref" => reference(alloc, &value),
+        "fault" => fault(alloc, &value),
         _ => schemas::answer(alloc, call, argument, value),
     }
 }
@@ -140,6 +142,15 @@ fn decoded(alloc: Global, value: &Value) -> Result<String, NoAnswer> {
         Some(text) => text_of_cow(alloc, text),
         None => Ok(String::from_str(alloc, "none")?),
     }
+}
+
+// The line and the status of the refusal of this number, and of wrong words where there is none.
+fn fault(alloc: Global, value: &Value) -> Result<String, NoAnswer> {
+    let fault = match value.as_u64() {
+        Some(code) => Fault::Refused(u32::try_from(code).unwrap_or(u32::MAX)),
+        None => Fault::Usage,
+    };
+    Ok(format!(in alloc; "{fault}, status {}", fault.status())?)
 }
 
 fn reference(alloc: Global, value: &Value) -> Result<String, NoAnswer> {

@@ -3,8 +3,9 @@ use crate::calls::{NoAnswer, pair_in};
 use crate::schemas::{schema_in, text_of};
 use schemars_rewrite::builders::allow_null;
 use schemars_schema::Schema;
-use serde_json::Value;
+use serde_json::{Map, Value};
 use std::alloc::Global;
+use std::mem;
 
 /// What a call answers to this schema.
 pub fn answer(
@@ -18,40 +19,58 @@ pub fn answer(
             allow_null(alloc, &mut schema)?;
             Ok(schema.to_ordered_string(alloc)?)
         }
+        "clone" => cloned(alloc, &mut schema, argument),
         "ensure_object" => {
             let members = schema.ensure_object(alloc)?;
-            Ok(serde_json::to_string(alloc, &*members)?)
+            insert_null(alloc, members, argument)?;
+            Ok(schema.to_ordered_string(alloc)?)
         }
-        "as_object_mut" => as_object_mut(alloc, &mut schema),
-        "get_mut" => get_mut(alloc, &mut schema, argument),
-        "pointer_mut" => pointer_mut(alloc, &mut schema, argument),
+        "as_object_mut" => as_object_mut(alloc, &mut schema, argument),
+        "get_mut" => {
+            let old = replaced(schema.get_mut(argument));
+            taken(alloc, old, &schema)
+        }
+        "pointer_mut" => {
+            let old = replaced(schema.pointer_mut(alloc, argument)?);
+            taken(alloc, old, &schema)
+        }
         "remove" => remove(alloc, &mut schema, argument),
         _ => Err(NoAnswer::NoCall),
     }
 }
 
-fn as_object_mut(alloc: Global, schema: &mut Schema) -> Result<String, NoAnswer> {
+// A copy of the schema, from which a member is then removed.
+fn cloned(alloc: Global, schema: &mut Schema, key: &str) -> Result<String, NoAnswer> {
+    let copy = schema.clone()?;
+    let _ = schema.remove(key);
+    Ok(copy.to_ordered_string(alloc)?)
+}
+
+fn insert_null(alloc: Global, members: &mut Map<String, Value>, key: &str) -> Result<(), NoAnswer> {
+    let key = String::from_str(alloc, key)?;
+    let _ = members.insert(key, Value::Null)?;
+    Ok(())
+}
+
+fn as_object_mut(alloc: Global, schema: &mut Schema, key: &str) -> Result<String, NoAnswer> {
     match schema.as_object_mut() {
-        Some(members) => Ok(serde_json::to_string(alloc, &*members)?),
+        Some(members) => {
+            insert_null(alloc, members, key)?;
+            Ok(schema.to_ordered_string(alloc)?)
+        }
         None => Ok(text_of(alloc, None)?),
     }
 }
 
-fn get_mut(alloc: Global, schema: &mut Schema, key: &str) -> Result<String, NoAnswer> {
-    match schema.get_mut(key) {
-        Some(value) => Ok(value.to_string(alloc)?),
-        None => Ok(text_of(alloc, None)?),
+// The value that stood in a place, where a truth value then stands.
+fn replaced(place: Option<&mut Value>) -> Option<Value> {
+    match place {
+        Some(value) => Some(mem::replace(value, Value::Bool(true))),
+        None => None,
     }
 }
 
-fn pointer_mut(alloc: Global, schema: &mut Schema, pointer: &str) -> Result<String, NoAnswer> {
-    match schema.pointer_mut(alloc, pointer)? {
-        Some(value) => Ok(value.to_string(alloc)?),
-        None => Ok(text_of(alloc, None)?),
-    }
-}
-
-// The value that a call took out, and the schema after it.
+// The value that a call took out or replaced, and the schema after it.
 fn taken(alloc: Global, old: Option<Value>, schema: &Schema) -> Result<String, NoAnswer> {
     let old = text_of(alloc, old.as_ref())?;
     let schema = schema.to_ordered_string(alloc)?;

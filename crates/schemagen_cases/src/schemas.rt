@@ -43,7 +43,6 @@ fn answer_of(
         "as_object" => as_object(alloc, &schema),
         "get" => Ok(text_of(alloc, schema.get(argument))?),
         "pointer" => pointer(alloc, &schema, argument),
-        "clone" => Ok(schema.clone()?.to_ordered_string(alloc)?),
         "to_value" => Ok(schema.to_value().to_string(alloc)?),
         _ => edits::answer(alloc, call, argument, schema),
     }

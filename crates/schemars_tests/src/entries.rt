@@ -1,29 +1,38 @@
 //! Rows that are reserved and defined, and tables that begin with others.
-use crate::expect::{entry, expect, new_row, owned, table_of};
-use schemars::types::{Field, Fields, Required, Shape, TypeEntry, TypeNo, Types, TypesError};
-use serde_json::{Map, Value};
-use std::alloc::{AllocError, Global};
+use crate::expect::{code_of, defined_as, expect, new_row, notes_of, table_of};
+use schemars::types::{Shape, TypeEntry, Types};
+use serde_json::Map;
+use std::alloc::Global;
 use std::test::Fail;
 
-fn expect_answer(answer: Result<(), TypesError>, code: u32) -> Result<(), Fail> {
-    let found = match answer {
-        Ok(()) => 0,
-        Err(error) => error.code(),
-    };
-    expect(found == code, "another answer")
+// An entry that is referred to by name.
+fn plain(alloc: Global, shape: Shape) -> TypeEntry {
+    TypeEntry {
+        inline: false,
+        notes: Map::new(alloc),
+        shape,
+    }
+}
+
+// An entry with these notes.
+fn noted(alloc: Global, notes: &str) -> Result<TypeEntry, Fail> {
+    Ok(TypeEntry {
+        inline: false,
+        notes: notes_of(alloc, notes)?,
+        shape: Shape::Any,
+    })
 }
 
 // A type that holds itself: the row is reserved before it is defined, and keeps its name.
 fn expect_reserved(alloc: Global, types: &mut Types) -> Result<(), Fail> {
-    let tree = new_row(alloc, types, "Tree")?;
+    let tree = new_row(alloc, types, "Tree", "Tree")?;
     expect(types.entry(tree).is_none(), "no entry")?;
     let trees = types.seq(alloc, tree)?;
-    types.define(tree, entry(alloc, false, Shape::Option(trees)))?;
+    types.define(tree, plain(alloc, Shape::Option(trees)))?;
     expect(types.entry(tree).is_some(), "an entry")?;
-    let again = types.reserve(owned(alloc, "Tree")?, owned(alloc, "Other")?)?;
-    expect(again == tree, "the same row")?;
-    expect(types.name(tree) == Some("Tree"), "the first name")?;
-    expect(types.find("Other").is_none(), "no other row")
+    let again = new_row(alloc, types, "Tree", "Other")?;
+    let named = types.name(tree) == Some("Tree") && types.find("Other").is_none();
+    expect(again == tree && named, "the same row, with its first name")
 }
 
 #[test]
@@ -32,35 +41,21 @@ fn rows_are_reserved(rt: HostRuntime) -> Result<(), Fail> {
     expect_reserved(rt.alloc(), &mut types)
 }
 
-fn noted(alloc: Global, default: &str) -> Result<TypeEntry, Fail> {
-    let mut notes = Map::new(alloc);
-    notes.insert(owned(alloc, "default")?, Value::from_str(alloc, default)?)?;
-    Ok(TypeEntry {
-        inline: false,
-        notes,
-        shape: Shape::Any,
-    })
-}
-
-// The entry is defined again, and then others.
-fn expect_defined_twice(
-    alloc: Global,
-    types: &mut Types,
-    id: &str,
-    note: &str,
-    code: u32,
-) -> Result<(), Fail> {
-    let n = new_row(alloc, types, id)?;
-    types.define(n, noted(alloc, note)?)?;
-    expect_answer(types.define(n, noted(alloc, note)?), code)?;
-    expect_answer(types.define(n, entry(alloc, false, Shape::Any)), 6)?;
-    expect_answer(types.define(n, entry(alloc, false, Shape::Seq(2))), 8)
-}
-
-// A decimal in a note equals nothing.
+// Defines a row, and then again: alike, without notes, and with a row that the table lacks. A
+// decimal in a note equals nothing.
 fn expect_notes(alloc: Global, types: &mut Types) -> Result<(), Fail> {
-    expect_defined_twice(alloc, types, "whole", "1", 0)?;
-    expect_defined_twice(alloc, types, "decimal", "0.5", 6)
+    for (id, notes, code) in [
+        ("whole", r#"{"default":1}"#, 0),
+        ("decimal", r#"{"default":0.5}"#, 6),
+    ] {
+        let n = new_row(alloc, types, id, id)?;
+        types.define(n, noted(alloc, notes)?)?;
+        let again = code_of(types.define(n, noted(alloc, notes)?));
+        let bare = code_of(types.define(n, plain(alloc, Shape::Any)));
+        let unknown = code_of(types.define(n, plain(alloc, Shape::Seq(2))));
+        expect([again, bare, unknown] == [code, 6, 8], "other answers")?;
+    }
+    Ok(())
 }
 
 #[test]
@@ -69,156 +64,84 @@ fn entries_are_defined_once(rt: HostRuntime) -> Result<(), Fail> {
     expect_notes(rt.alloc(), &mut types)
 }
 
-fn field(alloc: Global, name: &str, ty: TypeNo) -> Result<Field, AllocError> {
-    Ok(Field {
-        name: owned(alloc, name)?,
-        ty,
-        required: Required {
-            deserialize: true,
-            serialize: true,
-        },
-        notes: Map::new(alloc),
-    })
-}
-
-/// An entry of a struct with two fields.
-pub(crate) fn pair(
-    alloc: Global,
-    first: &str,
-    second: &str,
-    ty: TypeNo,
-) -> Result<TypeEntry, AllocError> {
-    let mut list = Vec::new(alloc);
-    list.push(field(alloc, first, ty)?)?;
-    list.push(field(alloc, second, ty)?)?;
-    let closed = false;
-    Ok(entry(alloc, false, Shape::Struct(Fields { list, closed })))
-}
+// Entries for a row 1 in a table of two rows: the third is of the row itself, and the fourth of a
+// row that the table lacks.
+const PAIRS: &str =
+    r#"{"types":[{"id":"0","name":"0","shape":{"struct":{"fields":[{"name":"left","type":0},{"name":"right","type":0}]}}},{"id":"1","name":"1","shape":{"struct":{"fields":[{"name":"right","type":0},{"name":"left","type":0}]}}},{"id":"2","name":"2","shape":{"struct":{"fields":[{"name":"left","type":1},{"name":"right","type":1}]}}},{"id":"3","name":"3","shape":{"struct":{"fields":[{"name":"left","type":2},{"name":"right","type":2}]}}},{"id":"4","name":"4","shape":{"newtype":0}}],"root":0}"#;
 
 // Structs are compared field by field, in order.
-fn expect_structs(alloc: Global, types: &mut Types) -> Result<(), Fail> {
-    let text = types.text(alloc)?;
-    let row = new_row(alloc, types, "Pair")?;
-    types.define(row, pair(alloc, "left", "right", text)?)?;
-    expect_answer(types.define(row, pair(alloc, "left", "right", text)?), 0)?;
-    expect_answer(types.define(row, pair(alloc, "right", "left", text)?), 6)?;
-    expect_answer(types.define(row, pair(alloc, "left", "right", row)?), 6)?;
-    expect_answer(types.define(row, pair(alloc, "left", "right", 2)?), 8)?;
-    expect_answer(
-        types.define(row, entry(alloc, false, Shape::Newtype(text))),
-        6,
-    )
+fn expect_structs(alloc: Global, types: &mut Types, pairs: &Types) -> Result<(), Fail> {
+    let _ = types.text(alloc)?;
+    let n = new_row(alloc, types, "Pair", "Pair")?;
+    for (row, code) in [(0, 0), (0, 0), (1, 6), (2, 6), (3, 8), (4, 6)] {
+        expect(defined_as(types, n, pairs, row)? == code, "another answer")?;
+    }
+    Ok(())
 }
 
 #[test]
 fn structs_are_defined_once(rt: HostRuntime) -> Result<(), Fail> {
+    let pairs = table_of(rt.alloc(), PAIRS)?;
     let mut types = Types::new(rt.alloc());
-    expect_structs(rt.alloc(), &mut types)
+    expect_structs(rt.alloc(), &mut types, &pairs)
 }
 
-// A row with this name and a note, and a reserved one.
-fn two_rows(alloc: Global, name: &str, note: &str) -> Result<Types, Fail> {
-    let mut types = Types::new(alloc);
-    let row = types.reserve(owned(alloc, "row")?, owned(alloc, name)?)?;
-    types.define(row, noted(alloc, note)?)?;
-    let _ = new_row(alloc, &mut types, "reserved")?;
-    Ok(types)
+// Adds a row with this name and these notes, and a reserved one.
+fn add_rows(alloc: Global, types: &mut Types, name: &str, notes: &str) -> Result<(), Fail> {
+    let row = new_row(alloc, types, "row", name)?;
+    types.define(row, noted(alloc, notes)?)?;
+    let _ = new_row(alloc, types, "reserved", "Reserved")?;
+    Ok(())
 }
 
-// The table with a row more.
-fn longer(alloc: Global, types: &Types) -> Result<Types, Fail> {
-    let mut longer = types.clone()?;
-    let _ = longer.bool(alloc)?;
-    Ok(longer)
-}
-
-// The table with its last row defined.
-fn defined(alloc: Global, types: &Types) -> Result<Types, Fail> {
-    let mut defined = types.clone()?;
-    defined.define(1, entry(alloc, false, Shape::Any))?;
-    Ok(defined)
-}
-
-fn expect_beginnings(alloc: Global, types: &Types) -> Result<(), Fail> {
-    expect(types.begins_with(types), "its own rows")?;
-    let longer = longer(alloc, types)?;
-    let of_longer = longer.begins_with(types) && !types.begins_with(&longer);
-    expect(of_longer, "the longer begins with the shorter")?;
-    let defined = defined(alloc, types)?;
-    let of_defined = defined.begins_with(types) || types.begins_with(&defined);
-    expect(!of_defined, "a row that is not defined begins no table")
-}
-
-// Whether the table begins with that of a row with this name and note.
-fn expect_beginning(
-    alloc: Global,
-    types: &Types,
-    name: &str,
-    note: &str,
-    begins: bool,
-) -> Result<(), Fail> {
-    let first = two_rows(alloc, name, note)?;
-    expect(types.begins_with(&first) == begins, "another beginning")
+// Whether the table begins with that of these two rows.
+fn begins(alloc: Global, types: &Types, name: &str, notes: &str) -> Result<bool, Fail> {
+    let mut first = Types::new(alloc);
+    add_rows(alloc, &mut first, name, notes)?;
+    Ok(types.begins_with(&first))
 }
 
 // A decimal equals nothing.
-fn expect_other_beginnings(alloc: Global, types: &Types) -> Result<(), Fail> {
-    expect_beginning(alloc, types, "Row", "1", true)?;
-    expect_beginning(alloc, types, "Other", "1", false)?;
-    expect_beginning(alloc, types, "Row", "2", false)?;
-    expect_beginning(alloc, types, "Row", "1.5", false)
+fn expect_beginnings(alloc: Global, types: &mut Types) -> Result<(), Fail> {
+    add_rows(alloc, types, "Row", r#"{"default":1}"#)?;
+    expect(types.begins_with(types), "its own rows")?;
+    for (name, notes, wanted) in [
+        ("Row", r#"{"default":1}"#, true),
+        ("Other", r#"{"default":1}"#, false),
+        ("Row", r#"{"default":2}"#, false),
+        ("Row", r#"{"default":1.5}"#, false),
+    ] {
+        expect(
+            begins(alloc, types, name, notes)? == wanted,
+            "another beginning",
+        )?;
+    }
+    Ok(())
 }
 
 #[test]
 fn tables_begin_with_others(rt: HostRuntime) -> Result<(), Fail> {
-    let types = two_rows(rt.alloc(), "Row", "1")?;
-    expect_beginnings(rt.alloc(), &types)
+    let mut types = Types::new(rt.alloc());
+    expect_beginnings(rt.alloc(), &mut types)
+}
+
+// A longer table begins with a shorter one, and one with a row that is not defined begins with no
+// table that has it defined, nor that with this one.
+fn expect_longer(alloc: Global, types: &mut Types, other: &mut Types) -> Result<(), Fail> {
+    add_rows(alloc, types, "Row", "{}")?;
+    add_rows(alloc, other, "Row", "{}")?;
+    let _ = other.bool(alloc)?;
+    let is_longer = other.begins_with(types) && !types.begins_with(other);
+    expect(is_longer, "the longer begins with the shorter")?;
+    other.define(1, plain(alloc, Shape::Any))?;
+    expect(!other.begins_with(types), "a row that is now defined")?;
+    let _ = types.bool(alloc)?;
+    expect(!types.begins_with(other), "a row that is not defined")
 }
 
 #[test]
-fn tables_begin_with_no_other_rows(rt: HostRuntime) -> Result<(), Fail> {
-    let types = two_rows(rt.alloc(), "Row", "1")?;
-    expect_other_beginnings(rt.alloc(), &types)
-}
-
-const NODE: &str =
-    r#"{"types":[{"id":"int32","name":"int32","inline":true,"shape":{"int":"i32"}},{"id":"Node","name":"Node","shape":{"struct":{"fields":[{"name":"value","type":0},{"name":"next","type":2,"required":false,"notes":{}}]}}},{"id":"Option<Node>","name":"Nullable_Node","inline":true,"shape":{"option":1}}],"root":1}"#;
-
-fn expect_fields(fields: &Fields) -> Result<(), Fail> {
-    let [value, next] = fields.list.as_slice() else {
-        return Err("two fields".into());
-    };
-    expect(!fields.closed, "open")?;
-    expect(value.name.as_str() == "value" && value.ty == 0, "the value")?;
-    expect(
-        value.required.deserialize && value.required.serialize,
-        "required",
-    )?;
-    expect(next.name.as_str() == "next" && next.ty == 2, "the next")?;
-    let needed = next.required.deserialize || next.required.serialize;
-    expect(
-        !needed && next.notes.is_empty(),
-        "neither required nor noted",
-    )
-}
-
-fn expect_node(types: &Types, root: TypeNo) -> Result<(), Fail> {
-    expect(root == 1 && types.len() == 3, "the root and the rows")?;
-    expect(types.name(1) == Some("Node"), "the name")?;
-    let option = types.entry(2).ok_or("no entry")?;
-    expect(
-        option.inline && matches!(option.shape, Shape::Option(1)),
-        "the option",
-    )?;
-    let node = types.entry(1).ok_or("no entry")?;
-    match &node.shape {
-        Shape::Struct(fields) => expect_fields(fields),
-        _ => Err("another shape".into()),
-    }
-}
-
-#[test]
-fn tables_are_read(rt: HostRuntime) -> Result<(), Fail> {
-    let (types, root) = table_of(rt.alloc(), NODE)?;
-    expect_node(&types, root)
+fn tables_begin_with_shorter_ones(rt: HostRuntime) -> Result<(), Fail> {
+    let mut types = Types::new(rt.alloc());
+    let mut other = Types::new(rt.alloc());
+    expect_longer(rt.alloc(), &mut types, &mut other)
 }

@@ -9,8 +9,8 @@ fn optional_byte(alloc: Global) -> Result<String, GenerateError> {
     let byte = types.int(alloc, IntKind::U8)?;
     let option = types.option(alloc, byte)?;
     let settings = SchemaSettings::draft2020_12(alloc);
-    let mut generator = SchemaGenerator::with_types(alloc, settings, types)?;
-    let schema = generator.root_schema_for_type(alloc, option)?;
+    let generator = SchemaGenerator::with_types(alloc, settings, types)?;
+    let schema = generator.into_root_schema_for_type(alloc, option)?;
     Ok(schema.to_ordered_string(alloc)?)
 }
 

@@ -1,86 +1,76 @@
+use crate::expect::expect;
 use schemars::Contract;
 use schemars::types::TypeNo;
 use schemars_naming::names::Names;
-use std::alloc::{AllocError, Global};
-use std::process::Abort;
+use std::alloc::Global;
 use std::test::Fail;
 
-// The row, the contract, the name to begin with and the name that is expected, one a line.
-const NAMES: &str = "5|read|Config|Config
-0|read|Config|Config2
-9|read|Config|Config3
-0|read|Other|Config2
-0|written|Config|Config4
-0|read|Config|Config2
-1|read|Config2|Config22
-2|read||
-3|read||2
-3|written||3";
+const READ: Contract = Contract::Deserialize;
+
+const WRITTEN: Contract = Contract::Serialize;
+
+// The row, the contract, the name to begin with and the name that is expected.
+const NAMES: [(TypeNo, Contract, &str, &str); 10] = [
+    (5, READ, "Config", "Config"),
+    (0, READ, "Config", "Config2"),
+    (9, READ, "Config", "Config3"),
+    (0, READ, "Other", "Config2"),
+    (0, WRITTEN, "Config", "Config4"),
+    (0, READ, "Config", "Config2"),
+    (1, READ, "Config2", "Config22"),
+    (2, READ, "", ""),
+    (3, READ, "", "2"),
+    (3, WRITTEN, "", "3"),
+];
 
 // After all but the first name were taken back.
-const NAMES_AGAIN: &str = "9|read|Config|Config2
-5|read|Config|Config
-0|read|Config|Config3";
+const NAMES_AGAIN: [(TypeNo, Contract, &str, &str); 3] = [
+    (9, READ, "Config", "Config2"),
+    (5, READ, "Config", "Config"),
+    (0, READ, "Config", "Config3"),
+];
 
-fn contract_of(text: &str) -> Contract {
-    if text == "read" {
-        Contract::Deserialize
-    } else {
-        Contract::Serialize
-    }
-}
-
-// The name of row `n` under this contract, given now if it has none.
-fn name(
-    names: &mut Names,
+// Whether the row has the name, which it is given now if it has none.
+fn is_named(
     alloc: Global,
+    names: &mut Names,
     n: TypeNo,
     contract: Contract,
     base: &str,
-) -> Result<String, AllocError> {
-    if let Some(name) = names.get(n, contract) {
-        return String::from_str(alloc, name);
-    }
-    names.give(alloc, n, contract, base)
+    name: &str,
+) -> bool {
+    let is_given = names.get(n, contract).is_some();
+    let gives = is_given
+        || match names.give(alloc, n, contract, base) {
+            Ok(given) => given.as_str() == name,
+            Err(_) => false,
+        };
+    gives && names.get(n, contract) == Some(name)
 }
 
-fn assert_name(rt: &impl Abort, alloc: Global, names: &mut Names, line: &str) -> Result<(), Fail> {
-    let parts: Vec<&str> = line.split('|').collect(alloc)?;
-    let [row, contract, base, expected] = parts.as_slice() else {
-        return Err("a line has four parts".into());
-    };
-    let row: TypeNo = row.parse()?;
-    let given = name(names, alloc, row, contract_of(*contract), *base)?;
-    assert_eq!(rt; given.as_str(), *expected, "{line}");
-    assert_eq!(rt;
-        names.get(row, contract_of(*contract)),
-        Some(*expected),
-        "{line}"
-    );
-    Ok(())
-}
-
-fn assert_names(
-    rt: &impl Abort,
+fn expect_each(
     alloc: Global,
     names: &mut Names,
-    lines: &str,
+    lines: &[(TypeNo, Contract, &'static str, &'static str)],
 ) -> Result<(), Fail> {
-    for line in lines.lines() {
-        assert_name(rt, alloc, names, line)?;
+    for (n, contract, base, name) in lines {
+        expect(is_named(alloc, names, *n, *contract, *base, *name), *name)?;
     }
     Ok(())
+}
+
+fn expect_names(alloc: Global, names: &mut Names) -> Result<(), Fail> {
+    expect_each(alloc, names, &NAMES)?;
+    let eight = names.len() == 8 && names.get(4, READ).is_none();
+    expect(eight, "eight names")?;
+    names.truncate(1);
+    let one = names.len() == 1 && names.get(9, READ).is_none();
+    expect(one, "one name")?;
+    expect_each(alloc, names, &NAMES_AGAIN)
 }
 
 #[test]
 fn names_are_numbered_and_taken_back(rt: HostRuntime) -> Result<(), Fail> {
     let mut names = Names::new(rt.alloc());
-    assert_names(&rt, rt.alloc(), &mut names, NAMES)?;
-    assert_eq!(rt; names.len(), 8);
-    assert_eq!(rt; names.get(4, Contract::Deserialize), None);
-    names.truncate(1);
-    assert_eq!(rt; names.len(), 1);
-    assert_eq!(rt; names.get(9, Contract::Deserialize), None);
-    assert_names(&rt, rt.alloc(), &mut names, NAMES_AGAIN)?;
-    Ok(())
+    expect_names(rt.alloc(), &mut names)
 }

@@ -1,6 +1,6 @@
 //! Sources and sinks that fail.
-use crate::expect::{expect, owned};
-use schemagen_run::fault::{Fault, READ, WRITE};
+use crate::inputs::words_of;
+use schemagen_run::fault::Fault;
 use schemagen_run::run::run;
 use schemagen_run::streams::{Sink, SinkOf, Source, SourceOf};
 use std::alloc::Global;
@@ -80,58 +80,57 @@ fn ended(alloc: Global, words: &[String], reads: usize, narrow: &mut Narrow) -> 
     run(alloc, words, &mut source, &mut sink)
 }
 
-fn words(alloc: Global) -> Result<Vec<String>, Fail> {
-    Ok(vec![in alloc; owned(alloc, "types")?, owned(alloc, "2020-12")?]?)
-}
-
-fn expect_read(alloc: Global, words: &[String], reads: usize) -> Result<(), Fail> {
-    let mut narrow = unwritten(alloc, 1000, true);
+// Whether a run with this many reads and writes ends in this way, with as many bytes of the line
+// taken.
+fn ends(
+    alloc: Global,
+    words: &[String],
+    reads: usize,
+    writes: usize,
+    fails: bool,
+    end: Result<(), Fault>,
+    taken: usize,
+) -> bool {
+    let mut narrow = unwritten(alloc, writes, fails);
     let result = ended(alloc, words, reads, &mut narrow);
-    if reads > ANY.len() {
-        expect(
-            result == Ok(()) && narrow.taken.as_slice() == LINE,
-            "the whole line",
-        )
-    } else {
-        let refused = result == Err(Fault::Refused(READ));
-        expect(refused && narrow.taken.is_empty(), "nothing is written")
-    }
-}
-
-fn expect_reads(alloc: Global, words: &[String]) -> Result<(), Fail> {
-    for reads in 0..ANY.len() + 2 {
-        expect_read(alloc, words, reads)?;
-    }
-    Ok(())
+    result == end && narrow.taken.len() == taken && LINE.starts_with(&narrow.taken)
 }
 
 #[test]
 fn failed_sources_are_told(rt: HostRuntime) -> Result<(), Fail> {
-    let words = words(rt.alloc())?;
-    expect_reads(rt.alloc(), &words)
-}
-
-fn expect_write(alloc: Global, words: &[String], writes: usize, fails: bool) -> Result<(), Fail> {
-    let mut narrow = unwritten(alloc, writes, fails);
-    let result = ended(alloc, words, 1000, &mut narrow);
-    let refused = result == Err(Fault::Refused(WRITE));
-    expect(refused == (writes < LINE.len()), "another end")?;
-    expect(LINE.starts_with(&narrow.taken), "a beginning of the line")?;
-    expect(narrow.taken.len() == writes, "as many bytes as were taken")
-}
-
-fn expect_writes(alloc: Global, words: &[String]) -> Result<(), Fail> {
-    for writes in 0..LINE.len() + 1 {
-        expect_write(alloc, words, writes, true)?;
-        expect_write(alloc, words, writes, false)?;
+    let words = words_of(rt.alloc(), &["types", "2020-12"])?;
+    let refused = Err(Fault::Refused(23));
+    for reads in 0..ANY.len() + 1 {
+        assert!(rt; ends(rt.alloc(), &words, reads, 1000, true, refused, 0));
     }
+    let reads = ANY.len() + 1;
+    assert!(rt; ends(rt.alloc(), &words, reads, 1000, true, Ok(()), LINE.len()));
     Ok(())
 }
 
 #[test]
 fn failed_sinks_are_told(rt: HostRuntime) -> Result<(), Fail> {
-    let words = words(rt.alloc())?;
-    expect_writes(rt.alloc(), &words)
+    let words = words_of(rt.alloc(), &["types", "2020-12"])?;
+    let refused = Err(Fault::Refused(24));
+    for writes in 0..LINE.len() {
+        for fails in [true, false] {
+            assert!(rt; ends(rt.alloc(), &words, 1000, writes, fails, refused, writes));
+        }
+    }
+    for fails in [true, false] {
+        assert!(rt;
+            ends(
+                rt.alloc(),
+                &words,
+                1000,
+                LINE.len(),
+                fails,
+                Ok(()),
+                LINE.len()
+            )
+        );
+    }
+    Ok(())
 }
 
 #[test]
