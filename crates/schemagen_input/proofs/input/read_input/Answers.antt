@@ -1,6 +1,7 @@
 -- The input is what its rows and its root are.
-use Rattle.std.proofs.Common.{◌≡◌, ◌<◌, ℕ, true, None, nat_lt, length, sym, ◌∙◌, arith, rules, codes, ◌∷◌, []}
+use Rattle.std.proofs.Common.{◌≡◌, ◌<◌, ℕ, true, None, nat_lt, length, sym, ◌∙◌, arith, codes, ◌∷◌, []}
 use Rattle.std.proofs.lemmas.Bool.Decides.{nat_tests}
+use Rattle.std.proofs.lemmas.Result.{err_from_is_err_and}
 use Rattle.serde_json.specs.View.{view, items_view}
 use Rattle.schemagen_input.specs.declared.input.InputError.TheVariants.{BadTable}
 use Rattle.schemagen_input.specs.Input.{input_of, has_only}
@@ -16,7 +17,8 @@ returns-in_err-types-clause-bad c =
     let parts = input_of-parts (view c.args.value.now) _ _ only (sym c.in-Some-Some.ensures) (sym c.in-Some-Some.ensures') in
     let bad : c.in_err-types.field-0.0 ≡ BadTable → input_of (view c.args.value.now) ≡ None =
     λ b. parts ∙ tabled-not_reserved (items_view c.in-Some-Some.rows.now.items) c.in-Some-Some.root (rw (sym c.deref.ensures.value) (c.in_err-types.ensures.bad b)) in
-    search rules
+    let p = err_from_is_err_and c.from_residual.result c.from_residual.ensures.1 in
+    rw (p.1, p.2) bad
 
 pub returns-in_err-types-2-clause-bad : goal.returns-in_err-types-2-clause-bad
 returns-in_err-types-2-clause-bad c =
@@ -24,7 +26,8 @@ returns-in_err-types-2-clause-bad c =
     let parts = input_of-parts (view c.args.value.now) _ _ only (sym c.in-Some-Some.ensures) (sym c.in-Some-Some.ensures') in
     let bad : c.in_err-types-2.field-0.0 ≡ BadTable → input_of (view c.args.value.now) ≡ None =
     λ b. parts ∙ tabled-not_fitting (items_view c.in-Some-Some.rows.now.items) c.in-Some-Some.root c.in_ok-types.types (rw (sym c.deref.ensures.value) (c.in_ok-types.ensures.ok)) (rw (sym c.deref-2.ensures.value) (c.in_err-types-2.ensures.bad b)) in
-    search rules
+    let p = err_from_is_err_and c.from_residual-in_err-types-2.result c.from_residual-in_err-types-2.ensures.1 in
+    rw (p.1, p.2) bad
 
 pub returns-clause-ok : goal.returns-clause-ok
 returns-clause-ok c =

@@ -50,7 +50,7 @@ returns-in_err-line-clause-accepted g c = λ _ bytes known text.
     search rules
 
 pub returns-clause-done : goal.returns-clause-done
-returns-clause-done g c = search rules
+returns-clause-done g c = tt
 
 pub returns-clause-sound : goal.returns-clause-sound
-returns-clause-sound g c = search rules
+returns-clause-sound g c = tt

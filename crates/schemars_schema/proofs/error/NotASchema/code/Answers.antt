@@ -1,5 +1,5 @@
-use Rattle.std.proofs.Common.{rules}
+use Rattle.std.proofs.Common.{refl}
 use Rattle.schemars_schema.proofs.error.NotASchema.code.Goals as goal
 
 pub returns : goal.returns
-returns c = search rules
+returns c = refl

@@ -1,6 +1,5 @@
-use Rattle.std.proofs.Common.{rules}
-use Rattle.serde_json.specs.declared.value.Value.{the_lemmas}
+use Rattle.serde_json.proofs.Views.{view-Object}
 use Rattle.schemars_schema.proofs.schema.SchemaFromMapStringValue.from.Goals as goal
 
 pub returns : goal.returns
-returns c = search (rules, the_lemmas)
+returns c = view-Object c.args.members

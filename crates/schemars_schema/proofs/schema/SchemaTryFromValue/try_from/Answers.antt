@@ -1,5 +1,5 @@
-use Rattle.std.proofs.Common.{rules}
+use Rattle.std.proofs.Common.{refl}
 use Rattle.schemars_schema.proofs.schema.SchemaTryFromValue.try_from.Goals as goal
 
 pub returns-then-is_schema : goal.returns-then-is_schema
-returns-then-is_schema c = search rules
+returns-then-is_schema c = refl

@@ -1,5 +1,4 @@
-use Rattle.std.proofs.Common.{rules}
 use Rattle.schemars_schema.proofs.schema.ValueFromSchema.from.Goals as goal
 
 pub returns : goal.returns
-returns c = search rules
+returns c = c.to_value.ensures.value
