@@ -5,8 +5,7 @@
 #![tactic(auto)]
 
 pub use schemars_documents::Contract;
-pub use schemars_generate::generate;
-pub use schemars_generate::{GenerateError, SchemaGenerator, SchemaSettings};
+pub use schemars_generate::{GenerateError, SchemaGenerator, SchemaSettings, generate};
 pub use schemars_rewrite::builders;
 pub use schemars_schema::{NotASchema, Schema, consts, encoding, json_eq, schema};
 pub use schemars_types as types;

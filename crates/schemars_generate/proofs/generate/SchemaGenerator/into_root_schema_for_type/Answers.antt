@@ -25,3 +25,6 @@ returns-in_err-document-clause-only_memory c =
       | inr h ↦ absurd (always_placed c.args.self c.args.n plain path h.1)
     ] in
     search rules
+
+pub returns-clause-root : goal.returns-clause-root
+returns-clause-root c = let root = c.in_ok-document.ensures.root in (root.0, root.1)
