@@ -12,12 +12,12 @@ use Rattle.schemars_types.specs.Rows.{Row, entry_at}
 use Rattle.schemars_types.specs.Edges.{height}
 use Rattle.schemars_types.specs.Meaning.{Contract}
 use Rattle.schemars_documents.specs.ContractOf.{contract_of}
-use Rattle.schemars_documents.specs.Documents.{IsDocument, IsOwnDocument, IsWritten, AreWritten, Describes, NoPart, annotated, item_in, list_document_for, ArePartsWritten, field_keywords}
+use Rattle.schemars_documents.specs.Documents.{IsDocument, IsOwnDocument, IsWritten, AreWritten, Describes, annotated, item_in, list_document_for, ArePartsWritten, field_keywords}
 use Rattle.schemars_build.specs.Parts.{IsSubschema}
 use Rattle.schemars_build.specs.Missing.{StandsIn, depth_in_place}
 use Rattle.schemars_documents.specs.Properties.{ArePropertiesOf}
 use Rattle.schemars_naming.specs.Work.{Plan, Work, Refers, Step}
-use Rattle.schemars_documents.proofs.Mapping.{fields_map, shape_map, written_map, describes-wider}
+use Rattle.schemars_documents.proofs.Mapping.{fields_map, written_map, describes-wider}
 use Rattle.schemars_build.proofs.Steps.{step_wider, refers-wider}
 
 -- ---- parts

@@ -1,4 +1,4 @@
-use Rattle.std.proofs.Common.{IfOk, subst, sym, ap}
+use Rattle.std.proofs.Common.{IfOk, subst, sym}
 use Rattle.schemars_shapes.specs.Shape.{shape_of}
 use Rattle.schemars_documents.specs.Documents.{IsDocument, NoPart}
 use Rattle.schemars_documents.specs.ContractOf.{contract_of}
