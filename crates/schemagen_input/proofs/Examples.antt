@@ -5,7 +5,8 @@ use Rattle.serde_json.proofs.OnLiterals.{serde_json_on_literals}
 use Rattle.schemars_json.specs.Json.{Text}
 use Rattle.serde_json.specs.Data.{no_members}
 use Rattle.schemars_shapes.specs.declared.shape.IntKind.TheVariants.{U8, I32, I128}
-use Rattle.schemars_shapes.specs.Shape.{Shape, Field, Required, without_notes, in_place, int, non_zero, formatted, char, option, seq, struct}
+use Rattle.schemars_shapes.specs.Shape.{Shape, Field, Required, without_notes, in_place, int, non_zero, formatted, char}
+use Rattle.schemars_shapes.specs.Shape.{option, seq, struct}
 use Rattle.schemars_types.specs.Rows.{Row}
 use Rattle.schemagen_input.specs.Input.{input_of, required}
 
@@ -23,57 +24,82 @@ field name ty need = record { name = name; ty = ty; required = need; notes = no_
 said : Text → Option (List Row × ℕ)
 said text = option_and_then input_of (read text)
 
-three_rows : said (codes "{\"types\":[{\"id\":\"uint8\",\"name\":\"uint8\",\"inline\":true,\"shape\":{\"int\":\"u8\"}},{\"id\":\"Option<uint8>\",\"name\":\"Nullable_uint8\",\"inline\":true,\"shape\":{\"option\":0}},{\"id\":\"[Option<uint8>]\",\"name\":\"Array_of_Nullable_uint8\",\"inline\":true,\"shape\":{\"seq\":1}}],\"root\":2}")
-    ≡ Some (row (codes "uint8") (codes "uint8") (int U8) ∷ row (codes "Option<uint8>") (codes "Nullable_uint8") (option 0) ∷ row (codes "[Option<uint8>]") (codes "Array_of_Nullable_uint8") (seq 1) ∷ [], 2)
+three_rows : said
+    (codes "{\"types\":[{\"id\":\"uint8\",\"name\":\"uint8\",\"inline\":true,\"shape\":{\"int\":\"u8\"}},{\"id\":\"Option<uint8>\",\"name\":\"Nullable_uint8\",\"inline\":true,\"shape\":{\"option\":0}},{\"id\":\"[Option<uint8>]\",\"name\":\"Array_of_Nullable_uint8\",\"inline\":true,\"shape\":{\"seq\":1}}],\"root\":2}")
+    ≡ Some (
+      row (codes "uint8") (codes "uint8") (int U8) ∷ row (codes "Option<uint8>") (codes "Nullable_uint8") (option 0)
+          ∷ row (codes "[Option<uint8>]") (codes "Array_of_Nullable_uint8") (seq 1) ∷ [],
+      2,
+    )
 unfolding serde_json_on_literals said row
 three_rows = refl
 
 -- the order of members is free, and so is white space; of equal keys the last counts
-members_move : said (codes " {\"root\":9, \"root\":0, \"types\":[ {\"shape\":{\"format\":\"ipv4\"}, \"notes\":{}, \"inline\":true, \"name\":\"\", \"id\":\"a\"} ]} ")
+members_move : said
+    (codes " {\"root\":9, \"root\":0, \"types\":[ {\"shape\":{\"format\":\"ipv4\"}, \"notes\":{}, \"inline\":true, \"name\":\"\", \"id\":\"a\"} ]} ")
     ≡ Some (row (codes "a") [] (formatted (codes "ipv4")) ∷ [], 0)
 unfolding serde_json_on_literals said row
 members_move = refl
 
-root_below : said (codes "{\"types\":[{\"id\":\"a\",\"name\":\"a\",\"inline\":true,\"shape\":{\"nonzero\":\"i128\"}},{\"id\":\"b\",\"name\":\"a\",\"inline\":true,\"shape\":\"char\"}],\"root\":0}")
+root_below : said
+    (codes "{\"types\":[{\"id\":\"a\",\"name\":\"a\",\"inline\":true,\"shape\":{\"nonzero\":\"i128\"}},{\"id\":\"b\",\"name\":\"a\",\"inline\":true,\"shape\":\"char\"}],\"root\":0}")
     ≡ Some (row (codes "a") (codes "a") (non_zero I128) ∷ row (codes "b") (codes "a") char ∷ [], 0)
 unfolding serde_json_on_literals said row
 root_below = refl
 
 -- a struct that refers to itself through its option
-node : said (codes "{\"types\":[{\"id\":\"int32\",\"name\":\"int32\",\"inline\":true,\"shape\":{\"int\":\"i32\"}},{\"id\":\"Node\",\"name\":\"Node\",\"shape\":{\"struct\":{\"fields\":[{\"name\":\"value\",\"type\":0,\"required\":true},{\"name\":\"next\",\"type\":2,\"required\":false}]}}},{\"id\":\"Option<Node>\",\"name\":\"Nullable_Node\",\"inline\":true,\"shape\":{\"option\":1}}],\"root\":1}")
-    ≡ Some (row (codes "int32") (codes "int32") (int I32) ∷ named (codes "Node") (struct (field (codes "value") 0 (required true true) ∷ field (codes "next") 2 (required false false) ∷ []) false) ∷ row (codes "Option<Node>") (codes "Nullable_Node") (option 1) ∷ [], 1)
+node : said
+    (codes "{\"types\":[{\"id\":\"int32\",\"name\":\"int32\",\"inline\":true,\"shape\":{\"int\":\"i32\"}},{\"id\":\"Node\",\"name\":\"Node\",\"shape\":{\"struct\":{\"fields\":[{\"name\":\"value\",\"type\":0,\"required\":true},{\"name\":\"next\",\"type\":2,\"required\":false}]}}},{\"id\":\"Option<Node>\",\"name\":\"Nullable_Node\",\"inline\":true,\"shape\":{\"option\":1}}],\"root\":1}")
+    ≡ Some (
+      row (codes "int32") (codes "int32") (int I32) ∷ named (codes "Node")
+          (struct (field (codes "value") 0 (required true true) ∷ field (codes "next") 2 (required false false) ∷ []) false)
+          ∷ row (codes "Option<Node>") (codes "Nullable_Node") (option 1) ∷ [],
+      1,
+    )
 unfolding serde_json_on_literals said row named field
 node = refl
 
 -- it is said for both contracts at once, or for each; a missing one is true
-required_by_contract : said (codes "{\"types\":[{\"id\":\"a\",\"name\":\"a\",\"shape\":{\"struct\":{\"closed\":true,\"fields\":[{\"type\":0,\"name\":\"b\"},{\"name\":\"b\",\"type\":0,\"notes\":{},\"required\":{\"serialize\":true,\"deserialize\":false}}]}}}],\"root\":0}")
-    ≡ Some (named (codes "a") (struct (field (codes "b") 0 (required true true) ∷ field (codes "b") 0 (required false true) ∷ []) true) ∷ [], 0)
+required_by_contract : said
+    (codes "{\"types\":[{\"id\":\"a\",\"name\":\"a\",\"shape\":{\"struct\":{\"closed\":true,\"fields\":[{\"type\":0,\"name\":\"b\"},{\"name\":\"b\",\"type\":0,\"notes\":{},\"required\":{\"serialize\":true,\"deserialize\":false}}]}}}],\"root\":0}")
+    ≡ Some (
+      named (codes "a") (struct (field (codes "b") 0 (required true true) ∷ field (codes "b") 0 (required false true) ∷ []) true)
+          ∷ [],
+      0,
+    )
 unfolding serde_json_on_literals said named field
 required_by_contract = refl
 
-no_fields : said (codes "{\"types\":[{\"id\":\"a\",\"name\":\"a\",\"shape\":{\"struct\":{}}}],\"root\":0}") ≡ Some (named (codes "a") (struct [] false) ∷ [], 0)
+no_fields : said (codes "{\"types\":[{\"id\":\"a\",\"name\":\"a\",\"shape\":{\"struct\":{}}}],\"root\":0}")
+    ≡ Some (named (codes "a") (struct [] false) ∷ [], 0)
 unfolding serde_json_on_literals said named
 no_fields = refl
 
 -- a row may refer to itself, and to a later one
-any_row : said (codes "{\"types\":[{\"id\":\"a\",\"name\":\"a\",\"shape\":{\"seq\":1}},{\"id\":\"b\",\"name\":\"b\",\"shape\":{\"seq\":1}}],\"root\":0}")
+any_row : said
+    (codes "{\"types\":[{\"id\":\"a\",\"name\":\"a\",\"shape\":{\"seq\":1}},{\"id\":\"b\",\"name\":\"b\",\"shape\":{\"seq\":1}}],\"root\":0}")
     ≡ Some (named (codes "a") (seq 1) ∷ named (codes "b") (seq 1) ∷ [], 0)
 unfolding serde_json_on_literals said named
 any_row = refl
 
-required_by_one_contract : said (codes "{\"types\":[{\"id\":\"a\",\"name\":\"a\",\"shape\":{\"struct\":{\"fields\":[{\"name\":\"b\",\"type\":0,\"required\":{\"serialize\":true}}]}}}],\"root\":0}") ≡ None
+required_by_one_contract : said
+    (codes "{\"types\":[{\"id\":\"a\",\"name\":\"a\",\"shape\":{\"struct\":{\"fields\":[{\"name\":\"b\",\"type\":0,\"required\":{\"serialize\":true}}]}}}],\"root\":0}") ≡ None
 unfolding serde_json_on_literals said
 required_by_one_contract = refl
 
-field_of_no_row : said (codes "{\"types\":[{\"id\":\"a\",\"name\":\"a\",\"shape\":{\"struct\":{\"fields\":[{\"name\":\"b\",\"type\":1}]}}}],\"root\":0}") ≡ None
+field_of_no_row : said
+    (codes "{\"types\":[{\"id\":\"a\",\"name\":\"a\",\"shape\":{\"struct\":{\"fields\":[{\"name\":\"b\",\"type\":1}]}}}],\"root\":0}")
+    ≡ None
 unfolding serde_json_on_literals said
 field_of_no_row = refl
 
-field_with_notes : said (codes "{\"types\":[{\"id\":\"a\",\"name\":\"a\",\"shape\":{\"struct\":{\"fields\":[{\"name\":\"b\",\"type\":0,\"notes\":{\"title\":\"t\"}}]}}}],\"root\":0}") ≡ None
+field_with_notes : said
+    (codes "{\"types\":[{\"id\":\"a\",\"name\":\"a\",\"shape\":{\"struct\":{\"fields\":[{\"name\":\"b\",\"type\":0,\"notes\":{\"title\":\"t\"}}]}}}],\"root\":0}") ≡ None
 unfolding serde_json_on_literals said
 field_with_notes = refl
 
-with_flatten : said (codes "{\"types\":[{\"id\":\"a\",\"name\":\"a\",\"shape\":{\"struct\":{\"fields\":[],\"flatten\":[]}}}],\"root\":0}") ≡ None
+with_flatten : said
+    (codes "{\"types\":[{\"id\":\"a\",\"name\":\"a\",\"shape\":{\"struct\":{\"fields\":[],\"flatten\":[]}}}],\"root\":0}") ≡ None
 unfolding serde_json_on_literals said
 with_flatten = refl
 
@@ -85,19 +111,23 @@ another_member : said (codes "{\"types\":[{\"id\":\"a\",\"name\":\"a\",\"inline\
 unfolding serde_json_on_literals said
 another_member = refl
 
-another_member_of_a_row : said (codes "{\"types\":[{\"id\":\"a\",\"name\":\"a\",\"inline\":true,\"shape\":\"any\",\"closed\":true}],\"root\":0}") ≡ None
+another_member_of_a_row : said
+    (codes "{\"types\":[{\"id\":\"a\",\"name\":\"a\",\"inline\":true,\"shape\":\"any\",\"closed\":true}],\"root\":0}") ≡ None
 unfolding serde_json_on_literals said
 another_member_of_a_row = refl
 
-null_for_missing : said (codes "{\"types\":[{\"id\":\"a\",\"name\":\"a\",\"inline\":true,\"notes\":null,\"shape\":\"any\"}],\"root\":0}") ≡ None
+null_for_missing : said (codes "{\"types\":[{\"id\":\"a\",\"name\":\"a\",\"inline\":true,\"notes\":null,\"shape\":\"any\"}],\"root\":0}")
+    ≡ None
 unfolding serde_json_on_literals said
 null_for_missing = refl
 
-with_notes : said (codes "{\"types\":[{\"id\":\"a\",\"name\":\"a\",\"inline\":true,\"notes\":{\"title\":\"t\"},\"shape\":\"any\"}],\"root\":0}") ≡ None
+with_notes : said
+    (codes "{\"types\":[{\"id\":\"a\",\"name\":\"a\",\"inline\":true,\"notes\":{\"title\":\"t\"},\"shape\":\"any\"}],\"root\":0}") ≡ None
 unfolding serde_json_on_literals said
 with_notes = refl
 
-id_twice : said (codes "{\"types\":[{\"id\":\"a\",\"name\":\"a\",\"inline\":true,\"shape\":\"any\"},{\"id\":\"a\",\"name\":\"b\",\"inline\":true,\"shape\":\"any\"}],\"root\":0}") ≡ None
+id_twice : said
+    (codes "{\"types\":[{\"id\":\"a\",\"name\":\"a\",\"inline\":true,\"shape\":\"any\"},{\"id\":\"a\",\"name\":\"b\",\"inline\":true,\"shape\":\"any\"}],\"root\":0}") ≡ None
 unfolding serde_json_on_literals said
 id_twice = refl
 
@@ -109,7 +139,8 @@ float_number : said (codes "{\"types\":[{\"id\":\"a\",\"name\":\"a\",\"inline\":
 unfolding serde_json_on_literals said
 float_number = refl
 
-two_shapes : said (codes "{\"types\":[{\"id\":\"a\",\"name\":\"a\",\"inline\":true,\"shape\":{\"format\":\"f\",\"int\":\"u8\"}}],\"root\":0}") ≡ None
+two_shapes : said
+    (codes "{\"types\":[{\"id\":\"a\",\"name\":\"a\",\"inline\":true,\"shape\":{\"format\":\"f\",\"int\":\"u8\"}}],\"root\":0}") ≡ None
 unfolding serde_json_on_literals said
 two_shapes = refl
 

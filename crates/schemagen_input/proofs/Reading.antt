@@ -1,5 +1,8 @@
 -- Why reading the headings of all rows first, and then their entries, gives the table that the value says.
-use Rattle.std.proofs.Common.{◌≡◌, ◌+◌, ◌<◌, ◌≤◌, ℕ, zero, suc, nat_lt, nat_le, List, [], ◌∷◌, ◌++◌, length, get_or, drop, map, slice_get, Bool, true, false, not, ◌&&◌, ◌||◌, Option, Some, None, option_map, option_and_then, is_some, cond, codes, refl, ap, ◌∙◌, sym, arith, append_assoc, append-nil, add-one, true≢false, String, IsTrue, ◌↔◌}
+use Rattle.std.proofs.Common.{◌≡◌, ◌+◌, ◌<◌, ◌≤◌, ℕ, zero, suc, nat_lt, nat_le, List, [], ◌∷◌, ◌++◌, length, get_or}
+use Rattle.std.proofs.Common.{drop, map, slice_get, Bool, true, false, not, ◌&&◌, ◌||◌, Option, Some, None, option_map}
+use Rattle.std.proofs.Common.{option_and_then, is_some, cond, codes, refl, ap, ◌∙◌, sym, arith, append_assoc}
+use Rattle.std.proofs.Common.{append-nil, add-one, true≢false, String, IsTrue, ◌↔◌}
 use Rattle.std.specs.List.{list_all, list_any, position_from, find}
 use Rattle.std.specs.Option.{option_map_or}
 use Rattle.std.specs.Str.{bytes_eq}
@@ -20,7 +23,9 @@ use Rattle.schemars_types.specs.Rows.{Row, place_of, with_entry, defined, reserv
 use Rattle.schemars_types.specs.Refusals.{refusal_of}
 use Rattle.schemars_types.specs.declared.error.TypesError.{TypesError}
 use Rattle.schemars_types.specs.declared.error.TypesError.TheVariants.{UnknownType, AlreadyDefined}
-use Rattle.schemagen_input.specs.Input.{input_of, number_in, unentered, has_only, needed, row_names, heading_in, entry_in, row_in, rows_in, all_differ, ids_of, are_none, is_bare, refers_within, fits, all_fit, is_table}
+use Rattle.schemagen_input.specs.Input.{input_of, number_in, unentered, has_only, needed, row_names, heading_in}
+use Rattle.schemagen_input.specs.Input.{entry_in, row_in, rows_in, all_differ, ids_of, are_none, is_bare, refers_within}
+use Rattle.schemagen_input.specs.Input.{fits, all_fit, is_table}
 use Rattle.schemagen_input.specs.Reading.{headings_in, reserved_after, fitting_after}
 
 -- ---- options
@@ -29,7 +34,8 @@ map_some : {A B : Type 0} (f : A → B) (o : Option A) (b : B) → option_map f 
 map_some f None b e = cc
 map_some f (Some a) b e = (a, refl, cc)
 
-then_some : {A B : Type 0} (f : A → Option B) (o : Option A) (b : B) → option_and_then f o ≡ Some b → (a : A) × (o ≡ Some a) × (f a ≡ Some b)
+then_some : {A B : Type 0} (f : A → Option B) (o : Option A) (b : B) → option_and_then f o ≡ Some b
+    → (a : A) × (o ≡ Some a) × (f a ≡ Some b)
 then_some f None b e = cc
 then_some f (Some a) b e = (a, refl, e)
 
@@ -43,7 +49,8 @@ found_once : (b : Bool) (i : ℕ) (rest : Option ℕ) (more : Bool) → is_some 
 found_once true i rest more e = refl
 found_once false i rest more e = e
 
-is_some-position_from : (id : Text) (rows : List Row) (i : ℕ) → is_some (position_from (λ r. bytes_eq r.id id) i rows) ≡ list_any (λ u. bytes_eq u id) (ids_of rows)
+is_some-position_from : (id : Text) (rows : List Row) (i : ℕ) → is_some (position_from (λ r. bytes_eq r.id id) i rows)
+    ≡ list_any (λ u. bytes_eq u id) (ids_of rows)
 is_some-position_from id [] i = refl
 is_some-position_from id (r ∷ rows) i = found_once (bytes_eq r.id id) i _ _ (is_some-position_from id rows (i + 1))
 
@@ -56,12 +63,14 @@ any-middle t u (v ∷ before) after same = rw (any-middle t u before after same)
     or_true false = refl
 
 -- a text that is there already
-all_differ-again : (before after : List Text) (t : Text) → list_any (λ u. bytes_eq u t) before ≡ true → all_differ (before ++ t ∷ after) ≡ false
+all_differ-again : (before after : List Text) (t : Text) → list_any (λ u. bytes_eq u t) before ≡ true
+    → all_differ (before ++ t ∷ after) ≡ false
 all_differ-again [] after t there = cc
 all_differ-again (u ∷ before) after t there = by (bytes_eq u t) refl there (all_differ-again before after t)
   where
     by : (b : Bool) → bytes_eq u t ≡ b → b || list_any (λ v. bytes_eq v t) before ≡ true
-        → (list_any (λ v. bytes_eq v t) before ≡ true → all_differ (before ++ t ∷ after) ≡ false) → all_differ ((u ∷ before) ++ t ∷ after) ≡ false
+        → (list_any (λ v. bytes_eq v t) before ≡ true → all_differ (before ++ t ∷ after) ≡ false)
+        → all_differ ((u ∷ before) ++ t ∷ after) ≡ false
     by true same h rest = rw (any-middle u t before after same)
     by false other h rest = rw (rest h) (both_false _)
 
@@ -69,7 +78,8 @@ any-append : (p : Text → Bool) (xs : List Text) (t : Text) → list_any p xs �
 any-append p [] t none e = rw e
 any-append p (x ∷ xs) t none e = by (p x) none (λ h. any-append p xs t h e)
   where
-    by : (b : Bool) → b || list_any p xs ≡ false → (list_any p xs ≡ false → list_any p (xs ++ t ∷ []) ≡ false) → b || list_any p (xs ++ t ∷ []) ≡ false
+    by : (b : Bool) → b || list_any p xs ≡ false → (list_any p xs ≡ false → list_any p (xs ++ t ∷ []) ≡ false)
+        → b || list_any p (xs ++ t ∷ []) ≡ false
     by true h rest = cc
     by false h rest = rest h
 
@@ -89,7 +99,8 @@ unlike a b other = either (bytes_eq b a) refl
     either false same = refl
 
 -- a new text joins at the end
-all_differ-joined : (ts : List Text) (t : Text) → all_differ ts ≡ true → list_any (λ u. bytes_eq u t) ts ≡ false → all_differ (ts ++ t ∷ []) ≡ true
+all_differ-joined : (ts : List Text) (t : Text) → all_differ ts ≡ true → list_any (λ u. bytes_eq u t) ts ≡ false
+    → all_differ (ts ++ t ∷ []) ≡ true
 all_differ-joined [] t differ none = refl
 all_differ-joined (u ∷ ts) t differ none =
     let parts = both (not (list_any (λ v. bytes_eq v u) ts)) (all_differ ts) differ in
@@ -111,9 +122,11 @@ pub record Reserving (rows : List Value) (n : ℕ) (types : List Row) : Type 0 w
   pub rest : reserved_after [] (items_view rows) ≡ reserved_after types (items_view (drop n rows))
   pub differ : all_differ (ids_of types) ≡ true
 
-next_item : (rows : List Value) (n : ℕ) (row : Value) → row ≡ get_or rows n row → n < length rows → items_view (drop n rows) ≡ item (view row) (items_view (drop (n + 1) rows))
+next_item : (rows : List Value) (n : ℕ) (row : Value) → row ≡ get_or rows n row → n < length rows
+    → items_view (drop n rows) ≡ item (view row) (items_view (drop (n + 1) rows))
 next_item rows n row is here =
-    ap items_view (drop-cons rows n row here) ∙ ap (λ (r : Value). items_view (r ∷ drop (suc n) rows)) (sym is) ∙ ap (λ (k : ℕ). items_view (row ∷ drop k rows)) (sym (add-one n))
+    ap items_view (drop-cons rows n row here) ∙ ap (λ (r : Value). items_view (r ∷ drop (suc n) rows)) (sym is)
+    ∙ ap (λ (k : ℕ). items_view (row ∷ drop k rows)) (sym (add-one n))
 
 no_items_left : (rows : List Value) (n : ℕ) → length rows ≤ n → items_view (drop n rows) ≡ no_items
 no_items_left [] zero past = refl
@@ -121,10 +134,12 @@ no_items_left [] (suc n) past = refl
 no_items_left (r ∷ rows) zero past = absurd (omega arith)
 no_items_left (r ∷ rows) (suc n) past = no_items_left rows n (omega arith)
 
-reserved_after-item : (types : List Row) (d : Data) (ds : Items) (r : Row) → heading_in d ≡ Some r → reserved_after types (item d ds) ≡ reserved_after (types ++ r ∷ []) ds
+reserved_after-item : (types : List Row) (d : Data) (ds : Items) (r : Row) → heading_in d ≡ Some r
+    → reserved_after types (item d ds) ≡ reserved_after (types ++ r ∷ []) ds
 reserved_after-item types d ds r is = rw is (by (headings_in ds))
   where
-    by : (o : Option (List Row)) → option_and_then (λ rs. cond (all_differ (ids_of (types ++ rs))) (Some (types ++ rs)) None) (option_map (λ rs. r ∷ rs) o)
+    by : (o : Option (List Row)) → option_and_then (λ rs. cond (all_differ (ids_of (types ++ rs))) (Some (types ++ rs)) None)
+        (option_map (λ rs. r ∷ rs) o)
         ≡ option_and_then (λ rs. cond (all_differ (ids_of ((types ++ r ∷ []) ++ rs))) (Some ((types ++ r ∷ []) ++ rs)) None) o
     by None = refl
     by (Some rs) = rw (append_assoc types (r ∷ []) rs)
@@ -132,15 +147,20 @@ reserved_after-item types d ds r is = rw is (by (headings_in ds))
 pub reserving_begins : (rows : List Value) → Reserving rows 0 []
 reserving_begins rows = record { rest = refl; differ = refl }
 
-pub reserving_goes_on : (rows : List Value) (n : ℕ) (types new : List Row) (row : Value) (id name : Text) → row ≡ get_or rows n row → n < length rows
-    → Reserving rows n types → heading_in (view row) ≡ Some (unentered id name) → is_some (place_of id types) ≡ false → new ≡ reserved id name types → Reserving rows (n + 1) new
+pub reserving_goes_on : (rows : List Value) (n : ℕ) (types new : List Row) (row : Value) (id name : Text) → row ≡ get_or rows n row
+    → n < length rows
+    → Reserving rows n types → heading_in (view row) ≡ Some (unentered id name) → is_some (place_of id types) ≡ false
+    → new ≡ reserved id name types → Reserving rows (n + 1) new
 reserving_goes_on rows n types new row id name is here before heading absent grown =
     let r = unentered id name in
     let joined : new ≡ types ++ r ∷ [] = grown ∙ rw absent in
     let free : list_any (λ u. bytes_eq u id) (ids_of types) ≡ false = sym (is_some-position_from id types 0) ∙ absent in
     record {
-      rest = before.rest ∙ ap (reserved_after types) (next_item rows n row is here) ∙ reserved_after-item types (view row) (items_view (drop (n + 1) rows)) r heading ∙ ap (λ (rs : List Row). reserved_after rs (items_view (drop (n + 1) rows))) (sym joined);
-      differ = ap (λ (rs : List Row). all_differ (ids_of rs)) joined ∙ ap all_differ (ids_of-append types (r ∷ [])) ∙ all_differ-joined (ids_of types) id before.differ free;
+      rest = before.rest ∙ ap (reserved_after types) (next_item rows n row is here)
+          ∙ reserved_after-item types (view row) (items_view (drop (n + 1) rows)) r heading
+          ∙ ap (λ (rs : List Row). reserved_after rs (items_view (drop (n + 1) rows))) (sym joined);
+      differ = ap (λ (rs : List Row). all_differ (ids_of rs)) joined ∙ ap all_differ (ids_of-append types (r ∷ []))
+          ∙ all_differ-joined (ids_of types) id before.differ free;
     }
 
 -- a row has no heading
@@ -149,24 +169,30 @@ pub reserving_fails : (rows : List Value) (n : ℕ) (types : List Row) (row : Va
 reserving_fails rows n types row is here before none = before.rest ∙ ap (reserved_after types) (next_item rows n row is here) ∙ rw none
 
 -- an id is there already
-pub reserving_repeats : (rows : List Value) (n : ℕ) (types : List Row) (row : Value) (id name : Text) → row ≡ get_or rows n row → n < length rows
-    → Reserving rows n types → heading_in (view row) ≡ Some (unentered id name) → is_some (place_of id types) ≡ true → reserved_after [] (items_view rows) ≡ None
+pub reserving_repeats : (rows : List Value) (n : ℕ) (types : List Row) (row : Value) (id name : Text) → row ≡ get_or rows n row
+    → n < length rows
+    → Reserving rows n types → heading_in (view row) ≡ Some (unentered id name) → is_some (place_of id types) ≡ true
+    → reserved_after [] (items_view rows) ≡ None
 reserving_repeats rows n types row id name is here before heading there =
     before.rest ∙ ap (reserved_after types) (next_item rows n row is here) ∙ rw heading (by (headings_in (items_view (drop (n + 1) rows))))
   where
-    by : (o : Option (List Row)) → option_and_then (λ rs. cond (all_differ (ids_of (types ++ rs))) (Some (types ++ rs)) None) (option_map (λ rs. unentered id name ∷ rs) o) ≡ None
+    by : (o : Option (List Row)) → option_and_then (λ rs. cond (all_differ (ids_of (types ++ rs))) (Some (types ++ rs)) None)
+        (option_map (λ rs. unentered id name ∷ rs) o) ≡ None
     by None = refl
     by (Some rs) =
-        let again = ap all_differ (ids_of-append types (unentered id name ∷ rs)) ∙ all_differ-again (ids_of types) (ids_of rs) id (sym (is_some-position_from id types 0) ∙ there) in
+        let again = ap all_differ (ids_of-append types (unentered id name ∷ rs))
+        ∙ all_differ-again (ids_of types) (ids_of rs) id (sym (is_some-position_from id types 0) ∙ there) in
         rw again
 
-pub reserving_ends : (rows : List Value) (n : ℕ) (types : List Row) → length rows ≤ n → Reserving rows n types → reserved_after [] (items_view rows) ≡ Some types
+pub reserving_ends : (rows : List Value) (n : ℕ) (types : List Row) → length rows ≤ n → Reserving rows n types
+    → reserved_after [] (items_view rows) ≡ Some types
 reserving_ends rows n types past before =
     before.rest ∙ ap (reserved_after types) (no_items_left rows n past) ∙ rw (append-nil types, before.differ)
 
 -- ---- entries
 
-defined-middle : (done after : List Row) (r : Row) (e : Entry) → defined (length done) e (done ++ r ∷ after) ≡ done ++ with_entry e r ∷ after
+defined-middle : (done after : List Row) (r : Row) (e : Entry) → defined (length done) e (done ++ r ∷ after)
+    ≡ done ++ with_entry e r ∷ after
 defined-middle [] after r e = refl
 defined-middle (q ∷ done) after r e = ap (λ rs. q ∷ rs) (defined-middle done after r e)
 
@@ -194,8 +220,18 @@ pub record Defining (rows : List Value) (count n : ℕ) (types : List Row) : Typ
   pub rest : fitting_after count [] (items_view rows) ≡ fitting_after count done (items_view (drop n rows))
   pub fit : all_fit count done ≡ true
 
-pub defining_begins : (rows : List Value) (types : List Row) → headings_in (items_view rows) ≡ Some types → Defining rows (length types) 0 types
-defining_begins rows types headings = record { done = []; after = types; split = refl; place = refl; long = refl; headings = headings; rest = refl; fit = refl }
+pub defining_begins : (rows : List Value) (types : List Row) → headings_in (items_view rows) ≡ Some types
+    → Defining rows (length types) 0 types
+defining_begins rows types headings = record {
+  done = [];
+  after = types;
+  split = refl;
+  place = refl;
+  long = refl;
+  headings = headings;
+  rest = refl;
+  fit = refl;
+}
 
 -- the heading of the next row, and those after it
 record Next (d : Data) (ds : Items) (after : List Row) : Type 0 where
@@ -211,18 +247,22 @@ next_heading d ds after e =
     let others = map_some (λ rs. first.0 ∷ rs) (headings_in ds) after first.2 in
     record { heading = first.0; later = others.0; is = sym others.2; here = first.1; there = others.1 }
 
-fitting_after-item : (count : ℕ) (done : List Row) (d : Data) (ds : Items) (r : Row) → row_in d ≡ Some r → fitting_after count done (item d ds) ≡ fitting_after count (done ++ r ∷ []) ds
+fitting_after-item : (count : ℕ) (done : List Row) (d : Data) (ds : Items) (r : Row) → row_in d ≡ Some r
+    → fitting_after count done (item d ds) ≡ fitting_after count (done ++ r ∷ []) ds
 fitting_after-item count done d ds r is = rw is (by (rows_in ds))
   where
-    by : (o : Option (List Row)) → option_and_then (λ rs. cond (all_fit count (done ++ rs)) (Some (done ++ rs)) None) (option_map (λ rs. r ∷ rs) o)
+    by : (o : Option (List Row)) → option_and_then (λ rs. cond (all_fit count (done ++ rs)) (Some (done ++ rs)) None)
+        (option_map (λ rs. r ∷ rs) o)
         ≡ option_and_then (λ rs. cond (all_fit count ((done ++ r ∷ []) ++ rs)) (Some ((done ++ r ∷ []) ++ rs)) None) o
     by None = refl
     by (Some rs) = rw (append_assoc done (r ∷ []) rs)
 
-next_headings : (rows : List Value) (count n : ℕ) (row : Value) (types : List Row) → row ≡ get_or rows n row → n < length rows → (before : Defining rows count n types)
+next_headings : (rows : List Value) (count n : ℕ) (row : Value) (types : List Row) → row ≡ get_or rows n row → n < length rows
+    → (before : Defining rows count n types)
     → Next (view row) (items_view (drop (n + 1) rows)) before.after
 next_headings rows count n row types is here before =
-    next_heading (view row) (items_view (drop (n + 1) rows)) before.after (ap headings_in (sym (next_item rows n row is here)) ∙ before.headings)
+    next_heading (view row) (items_view (drop (n + 1) rows)) before.after
+    (ap headings_in (sym (next_item rows n row is here)) ∙ before.headings)
 
 -- ---- numbers
 
@@ -236,7 +276,8 @@ all_known len (m ∷ ms) none = by (nat_le len m) refl none (all_known len ms)
     below : nat_le len m ≡ false → nat_lt m len ≡ true
     below e = grind (arith, nat_tests)
 
-    by : (b : Bool) → nat_le len m ≡ b → cond b (Some m) (find (λ k. nat_le len k) ms) ≡ None → (find (λ k. nat_le len k) ms ≡ None → list_all (λ k. nat_lt k len) ms ≡ true)
+    by : (b : Bool) → nat_le len m ≡ b → cond b (Some m) (find (λ k. nat_le len k) ms) ≡ None
+        → (find (λ k. nat_le len k) ms ≡ None → list_all (λ k. nat_lt k len) ms ≡ true)
         → list_all (λ k. nat_lt k len) (m ∷ ms) ≡ true
     by true e h rest = cc
     by false e h rest = rw (below e) (rest h)
@@ -248,7 +289,8 @@ some_unknown len (m ∷ ms) k there = by (nat_le len m) refl there (some_unknown
     not_below : nat_le len m ≡ true → nat_lt m len ≡ false
     not_below e = grind (arith, nat_tests)
 
-    by : (b : Bool) → nat_le len m ≡ b → cond b (Some m) (find (λ k. nat_le len k) ms) ≡ Some k → (find (λ k. nat_le len k) ms ≡ Some k → list_all (λ k. nat_lt k len) ms ≡ false)
+    by : (b : Bool) → nat_le len m ≡ b → cond b (Some m) (find (λ k. nat_le len k) ms) ≡ Some k
+        → (find (λ k. nat_le len k) ms ≡ Some k → list_all (λ k. nat_lt k len) ms ≡ false)
         → list_all (λ k. nat_lt k len) (m ∷ ms) ≡ false
     by true e h rest = rw (not_below e)
     by false e h rest = rw (rest h) (both_false (nat_lt m len))
@@ -258,12 +300,14 @@ taken_is_within : (rows : List Row) (n : ℕ) (e : Entry) → refusal_of rows n 
 taken_is_within rows n e none = by (nat_le (length rows) n) (unknown_in rows e.shape) refl none
   where
     by : (b : Bool) (o : Option ℕ) → unknown_in rows e.shape ≡ o
-        → option_map_or (λ m. Some (UnknownType m)) (cond b (Some n) o) (cond (holds_another rows n e) (Some (AlreadyDefined n)) None) ≡ None → refers_within (length rows) e ≡ true
+        → option_map_or (λ m. Some (UnknownType m)) (cond b (Some n) o) (cond (holds_another rows n e) (Some (AlreadyDefined n)) None)
+        ≡ None → refers_within (length rows) e ≡ true
     by true o is h = cc
     by false None is h = all_known (length rows) (numbers_of e.shape) is
     by false (Some k) is h = cc
 
-no_entry_at : (b : Bool) (id name : Option Text) (r : Row) → cond b (option_and_then (λ i. option_map (unentered i) name) id) None ≡ Some r → r.entry ≡ None
+no_entry_at : (b : Bool) (id name : Option Text) (r : Row) → cond b (option_and_then (λ i. option_map (unentered i) name) id) None
+    ≡ Some r → r.entry ≡ None
 no_entry_at true (Some i) (Some m) r h = let same : unentered i m ≡ r = cc in sym (ap (λ (q : Row). q.entry) same)
 no_entry_at true (Some i) None r h = cc
 no_entry_at true None name r h = cc
@@ -273,16 +317,19 @@ no_entry : (d : Data) (r : Row) → heading_in d ≡ Some r → r.entry ≡ None
 no_entry d r h = no_entry_at (has_only row_names d) (needed as_str (codes "id") d) (needed as_str (codes "name") d) r h
 
 -- what it refuses for a row without an entry does not
-refused_is_not_within : (done after : List Row) (r : Row) (e : Entry) (x : TypesError) → r.entry ≡ None → refusal_of (done ++ r ∷ after) (length done) e ≡ Some x
+refused_is_not_within : (done after : List Row) (r : Row) (e : Entry) (x : TypesError) → r.entry ≡ None
+    → refusal_of (done ++ r ∷ after) (length done) e ≡ Some x
     → refers_within (length (done ++ r ∷ after)) e ≡ false
 refused_is_not_within done after r e x none refused =
     let inside = is_within done after r in
     let past : nat_le (length (done ++ r ∷ after)) (length done) ≡ false = above _ _ inside in
     let free : holds_another (done ++ r ∷ after) (length done) e ≡ false = rw (slice_get-middle done after r, none) in
-    by (nat_le (length (done ++ r ∷ after)) (length done)) (holds_another (done ++ r ∷ after) (length done) e) (unknown_in (done ++ r ∷ after) e.shape) past free refl refused
+    by (nat_le (length (done ++ r ∷ after)) (length done)) (holds_another (done ++ r ∷ after) (length done) e)
+    (unknown_in (done ++ r ∷ after) e.shape) past free refl refused
   where
     by : (b held : Bool) (o : Option ℕ) → b ≡ false → held ≡ false → unknown_in (done ++ r ∷ after) e.shape ≡ o
-        → option_map_or (λ m. Some (UnknownType m)) (cond b (Some (length done)) o) (cond held (Some (AlreadyDefined (length done))) None) ≡ Some x → refers_within (length (done ++ r ∷ after)) e ≡ false
+        → option_map_or (λ m. Some (UnknownType m)) (cond b (Some (length done)) o)
+        (cond held (Some (AlreadyDefined (length done))) None) ≡ Some x → refers_within (length (done ++ r ∷ after)) e ≡ false
     by true held o past free is h = cc
     by false true o past free is h = cc
     by false false None past free is h = cc
@@ -290,14 +337,17 @@ refused_is_not_within done after r e x none refused =
 
 -- ---- entries join the table
 
-pub defining_goes_on : (rows : List Value) (count n : ℕ) (types new : List Row) (row : Value) (e : Entry) → row ≡ get_or rows n row → n < length rows
-    → Defining rows count n types → entry_in (view row) ≡ Some e → is_bare e ≡ true → refusal_of types n e ≡ None → new ≡ defined n e types → Defining rows count (n + 1) new
+pub defining_goes_on : (rows : List Value) (count n : ℕ) (types new : List Row) (row : Value) (e : Entry) → row ≡ get_or rows n row
+    → n < length rows
+    → Defining rows count n types → entry_in (view row) ≡ Some e → is_bare e ≡ true → refusal_of types n e ≡ None
+    → new ≡ defined n e types → Defining rows count (n + 1) new
 defining_goes_on rows count n types new row e is here before entry bare taken grown =
     let next = next_headings rows count n row types is here before in
     let done = before.done in
     let r = with_entry e next.heading in
     let whole : row_in (view row) ≡ Some r = rw (next.here, entry) in
-    let replaced : new ≡ done ++ r ∷ next.later = grown ∙ ap (λ (k : ℕ). defined k e types) (sym before.place) ∙ ap (defined (length done) e) (before.split ∙ ap (λ rs. done ++ rs) next.is) ∙ defined-middle done next.later next.heading e in
+    let replaced : new ≡ done ++ r ∷ next.later = grown ∙ ap (λ (k : ℕ). defined k e types) (sym before.place)
+    ∙ ap (defined (length done) e) (before.split ∙ ap (λ rs. done ++ rs) next.is) ∙ defined-middle done next.later next.heading e in
     let within : refers_within count e ≡ true = ap (λ (k : ℕ). refers_within k e) (sym before.long) ∙ taken_is_within types n e taken in
     record {
       done = done ++ r ∷ [];
@@ -306,7 +356,8 @@ defining_goes_on rows count n types new row e is here before entry bare taken gr
       place = omega (arith, length-snoc done r, before.place);
       long = ap length grown ∙ long-defined n e types ∙ before.long;
       headings = next.there;
-      rest = before.rest ∙ ap (fitting_after count done) (next_item rows n row is here) ∙ fitting_after-item count done (view row) (items_view (drop (n + 1) rows)) r whole;
+      rest = before.rest ∙ ap (fitting_after count done) (next_item rows n row is here)
+          ∙ fitting_after-item count done (view row) (items_view (drop (n + 1) rows)) r whole;
       fit = list_all-append (λ q. option_map_or (fits count) q.entry false) done (r ∷ []) ∙ rw (before.fit, bare, within);
     }
   where
@@ -328,10 +379,12 @@ does_not_fit rows count n types row e is here before entry bad =
     let next = next_headings rows count n row types is here before in
     let r = with_entry e next.heading in
     let whole : row_in (view row) ≡ Some r = rw (next.here, entry) in
-    before.rest ∙ ap (fitting_after count before.done) (next_item rows n row is here) ∙ rw whole (by before.done r (rows_in (items_view (drop (n + 1) rows))) refl)
+    before.rest ∙ ap (fitting_after count before.done) (next_item rows n row is here)
+    ∙ rw whole (by before.done r (rows_in (items_view (drop (n + 1) rows))) refl)
   where
     unfit : (done : List Row) (r : Row) (rs : List Row) → r.entry ≡ Some e → all_fit count (done ++ r ∷ rs) ≡ false
-    unfit done r rs has = list_all-append (λ q. option_map_or (fits count) q.entry false) done (r ∷ rs) ∙ rw (has, bad) (both_false (all_fit count done))
+    unfit done r rs has = list_all-append (λ q. option_map_or (fits count) q.entry false) done (r ∷ rs)
+        ∙ rw (has, bad) (both_false (all_fit count done))
 
     by : (done : List Row) (r : Row) (o : Option (List Row)) → r.entry ≡ Some e
         → option_and_then (λ rs. cond (all_fit count (done ++ rs)) (Some (done ++ rs)) None) (option_map (λ rs. r ∷ rs) o) ≡ None
@@ -339,28 +392,35 @@ does_not_fit rows count n types row e is here before entry bad =
     by done r (Some rs) has = rw (unfit done r rs has)
 
 -- a row or a field has notes
-pub defining_is_not_bare : (rows : List Value) (count n : ℕ) (types : List Row) (row : Value) (e : Entry) → row ≡ get_or rows n row → n < length rows
+pub defining_is_not_bare : (rows : List Value) (count n : ℕ) (types : List Row) (row : Value) (e : Entry) → row ≡ get_or rows n row
+    → n < length rows
     → Defining rows count n types → entry_in (view row) ≡ Some e → is_bare e ≡ false → fitting_after count [] (items_view rows) ≡ None
-defining_is_not_bare rows count n types row e is here before entry noted = does_not_fit rows count n types row e is here before entry (rw noted)
+defining_is_not_bare rows count n types row e is here before entry noted =
+    does_not_fit rows count n types row e is here before entry (rw noted)
 
 -- the table refuses the entry
-pub defining_is_refused : (rows : List Value) (count n : ℕ) (types : List Row) (row : Value) (e : Entry) (x : TypesError) → row ≡ get_or rows n row → n < length rows
-    → Defining rows count n types → entry_in (view row) ≡ Some e → refusal_of types n e ≡ Some x → fitting_after count [] (items_view rows) ≡ None
+pub defining_is_refused : (rows : List Value) (count n : ℕ) (types : List Row) (row : Value) (e : Entry) (x : TypesError)
+    → row ≡ get_or rows n row → n < length rows
+    → Defining rows count n types → entry_in (view row) ≡ Some e → refusal_of types n e ≡ Some x
+    → fitting_after count [] (items_view rows) ≡ None
 defining_is_refused rows count n types row e x is here before entry refused =
     let next = next_headings rows count n row types is here before in
     let whole : types ≡ before.done ++ next.heading ∷ next.later = before.split ∙ ap (λ rs. before.done ++ rs) next.is in
     let at_place : refusal_of (before.done ++ next.heading ∷ next.later) (length before.done) e ≡ Some x =
-    ap (λ (k : ℕ). refusal_of (before.done ++ next.heading ∷ next.later) k e) before.place ∙ ap (λ (rs : List Row). refusal_of rs n e) (sym whole) ∙ refused in
+    ap (λ (k : ℕ). refusal_of (before.done ++ next.heading ∷ next.later) k e) before.place
+    ∙ ap (λ (rs : List Row). refusal_of rs n e) (sym whole) ∙ refused in
     let outside = refused_is_not_within before.done next.later next.heading e x (no_entry (view row) next.heading next.here) at_place in
     let so_many : count ≡ length (before.done ++ next.heading ∷ next.later) = sym before.long ∙ ap length whole in
     does_not_fit rows count n types row e is here before entry (ap (λ (k : ℕ). fits k e) so_many ∙ rw outside (both_false (is_bare e)))
 
-pub defining_ends : (rows : List Value) (count n : ℕ) (types : List Row) → length rows ≤ n → Defining rows count n types → fitting_after count [] (items_view rows) ≡ Some types
+pub defining_ends : (rows : List Value) (count n : ℕ) (types : List Row) → length rows ≤ n → Defining rows count n types
+    → fitting_after count [] (items_view rows) ≡ Some types
 defining_ends rows count n types past before =
     let empty = no_items_left rows n past in
     let none_after : before.after ≡ [] = some_nil (sym before.headings ∙ ap headings_in empty) in
     let all : types ≡ before.done ++ [] = before.split ∙ ap (λ rs. before.done ++ rs) none_after in
-    before.rest ∙ ap (fitting_after count before.done) empty ∙ rw (append-nil before.done, before.fit) (ap Some (sym (all ∙ append-nil before.done)))
+    before.rest ∙ ap (fitting_after count before.done) empty ∙ rw (append-nil before.done, before.fit)
+    (ap Some (sym (all ∙ append-nil before.done)))
   where
     some_nil : {xs : List Row} → Some xs ≡ Some [] → xs ≡ []
     some_nil e = cc
@@ -377,9 +437,11 @@ same_ids (item d ds) rs hs e f =
     let row = then_some (λ r. option_map (λ rs. r ∷ rs) (rows_in ds)) (row_in d) rs e in
     let rows = map_some (λ rs. row.0 ∷ rs) (rows_in ds) rs row.2 in
     let next = next_heading d ds hs f in
-    ids_join row.0 next.heading rows.0 next.later rs hs rows.2 next.is (same_id d row.0 next.heading row.1 next.here) (same_ids ds rows.0 next.later rows.1 next.there)
+    ids_join row.0 next.heading rows.0 next.later rs hs rows.2 next.is (same_id d row.0 next.heading row.1 next.here)
+    (same_ids ds rows.0 next.later rows.1 next.there)
   where
-    ids_join : (r h : Row) (rs hs all headings : List Row) → r ∷ rs ≡ all → headings ≡ h ∷ hs → r.id ≡ h.id → ids_of rs ≡ ids_of hs → ids_of all ≡ ids_of headings
+    ids_join : (r h : Row) (rs hs all headings : List Row) → r ∷ rs ≡ all → headings ≡ h ∷ hs → r.id ≡ h.id → ids_of rs ≡ ids_of hs
+        → ids_of all ≡ ids_of headings
     ids_join r h rs hs all headings e f one more = sym (ap ids_of e) ∙ rw (one, more) (sym (ap ids_of f))
 
     some_same : (a b : Row) → Some a ≡ Some b → a ≡ b
@@ -396,7 +458,8 @@ headings_of_rows : (ds : Items) → headings_in ds ≡ None → rows_in ds ≡ N
 headings_of_rows no_items e = cc
 headings_of_rows (item d ds) e = by (heading_in d) (headings_in ds) (entry_in d) (rows_in ds) e (headings_of_rows ds)
   where
-    by : (h : Option Row) (hs : Option (List Row)) (x : Option Entry) (rs : Option (List Row)) → option_and_then (λ r. option_map (λ qs. r ∷ qs) hs) h ≡ None → (hs ≡ None → rs ≡ None)
+    by : (h : Option Row) (hs : Option (List Row)) (x : Option Entry) (rs : Option (List Row))
+        → option_and_then (λ r. option_map (λ qs. r ∷ qs) hs) h ≡ None → (hs ≡ None → rs ≡ None)
         → option_and_then (λ r. option_map (λ qs. r ∷ qs) rs) (option_and_then (λ r. option_map (λ y. with_entry y r) x) h) ≡ None
     by None hs x rs e rest = refl
     by (Some r) (Some hs) x rs e rest = cc
@@ -416,7 +479,8 @@ tabled-not_reserved ds root none = by (headings_in ds) refl none
     with_rows hs None e f again = refl
     with_rows hs (Some rs) e f again = rw (same_ids ds rs hs e f, again)
 
-    by : (o : Option (List Row)) → headings_in ds ≡ o → option_and_then (λ rs. cond (all_differ (ids_of rs)) (Some rs) None) o ≡ None → tabled ds root ≡ None
+    by : (o : Option (List Row)) → headings_in ds ≡ o → option_and_then (λ rs. cond (all_differ (ids_of rs)) (Some rs) None) o ≡ None
+        → tabled ds root ≡ None
     by None e h = rw (headings_of_rows ds e)
     by (Some hs) e h = with_rows hs (rows_in ds) refl e (refuted (all_differ (ids_of hs)) hs h)
 
@@ -425,7 +489,8 @@ same_length : (rs hs : List Row) → ids_of rs ≡ ids_of hs → length rs ≡ l
 same_length rs hs e = sym (length-map rs (λ (r : Row). r.id)) ∙ ap length e ∙ length-map hs (λ (r : Row). r.id)
 
 -- a row that does not fit, or has no entry
-pub tabled-not_fitting : (ds : Items) (root : ℕ) (headings : List Row) → reserved_after [] ds ≡ Some headings → fitting_after (length headings) [] ds ≡ None → tabled ds root ≡ None
+pub tabled-not_fitting : (ds : Items) (root : ℕ) (headings : List Row) → reserved_after [] ds ≡ Some headings
+    → fitting_after (length headings) [] ds ≡ None → tabled ds root ≡ None
 tabled-not_fitting ds root headings reserved none =
     let first = then_some (λ rs. cond (all_differ (ids_of rs)) (Some rs) None) (headings_in ds) headings reserved in
     by (rows_in ds) refl (first.1 ∙ ap Some (kept (all_differ (ids_of first.0)) first.0 headings first.2)) none
@@ -438,7 +503,8 @@ tabled-not_fitting ds root headings reserved none =
     refuted true rs e = cc
     refuted false rs e = refl
 
-    by : (o : Option (List Row)) → rows_in ds ≡ o → headings_in ds ≡ Some headings → option_and_then (λ rs. cond (all_fit (length headings) rs) (Some rs) None) o ≡ None
+    by : (o : Option (List Row)) → rows_in ds ≡ o → headings_in ds ≡ Some headings
+        → option_and_then (λ rs. cond (all_fit (length headings) rs) (Some rs) None) o ≡ None
         → option_and_then {U = List Row × ℕ} (λ rows. cond (is_table rows root) (Some (rows, root)) None) o ≡ None
     by None is hs e = refl
     by (Some rs) is hs e =
@@ -446,7 +512,8 @@ tabled-not_fitting ds root headings reserved none =
         rw (many, refuted (all_fit (length headings) rs) rs e, both_false (all_differ (ids_of rs)))
 
 -- the rows and the root, where nothing was refused
-pub tabled-done : (ds : Items) (root : ℕ) (headings rows : List Row) → reserved_after [] ds ≡ Some headings → fitting_after (length headings) [] ds ≡ Some rows
+pub tabled-done : (ds : Items) (root : ℕ) (headings rows : List Row) → reserved_after [] ds ≡ Some headings
+    → fitting_after (length headings) [] ds ≡ Some rows
     → tabled ds root ≡ cond (nat_lt root (length rows)) (Some (rows, root)) None
 tabled-done ds root headings rows reserved fitting =
     let first = then_some (λ rs. cond (all_differ (ids_of rs)) (Some rs) None) (headings_in ds) headings reserved in
@@ -469,7 +536,8 @@ are_none-members_view (m ∷ es) true e = absurd (omega (arith, e.0 refl))
 are_none-members_view (m ∷ es) false e = refl
 
 -- a field with notes
-pub noted_field : (fs : List src-field.Field) (i : ℕ) (f : src-field.Field) (b : Bool) → f ≡ get_or fs i f → i < length fs → (IsTrue b ↔ (length f.notes.entries ≡ 0)) → b ≡ false
+pub noted_field : (fs : List src-field.Field) (i : ℕ) (f : src-field.Field) (b : Bool) → f ≡ get_or fs i f → i < length fs
+    → (IsTrue b ↔ (length f.notes.entries ≡ 0)) → b ≡ false
     → list_all (λ g. are_none g.notes) (map field_of (drop i fs)) ≡ false
 noted_field fs i f b is here empty has =
     let noted : are_none (members_view f.notes.entries) ≡ false = sym (are_none-members_view f.notes.entries b empty) ∙ has in
@@ -477,11 +545,13 @@ noted_field fs i f b is here empty has =
     ∙ ap (λ (g : src-field.Field). list_all (λ h. are_none h.notes) (map field_of (g ∷ drop (suc i) fs))) (sym is) ∙ rw noted
 
 -- the parts of an input
-pub input_of-parts : (d : Data) (ds : Items) (root : ℕ) → has_only (codes "types" ∷ codes "root" ∷ []) d ≡ true → needed as_array (codes "types") d ≡ Some ds → needed number_in (codes "root") d ≡ Some root
+pub input_of-parts : (d : Data) (ds : Items) (root : ℕ) → has_only (codes "types" ∷ codes "root" ∷ []) d ≡ true
+    → needed as_array (codes "types") d ≡ Some ds → needed number_in (codes "root") d ≡ Some root
     → input_of d ≡ tabled ds root
 input_of-parts d ds root only rows number = rw (only, number) (rows_of (get (codes "types") d) rows)
   where
     rows_of : (o : Option Data) → option_and_then as_array o ≡ Some ds
-        → option_and_then {U = List Row × ℕ} (λ rs. cond (is_table rs root) (Some (rs, root)) None) (option_and_then (λ e. option_and_then rows_in (as_array e)) o) ≡ tabled ds root
+        → option_and_then {U = List Row × ℕ} (λ rs. cond (is_table rs root) (Some (rs, root)) None)
+        (option_and_then (λ e. option_and_then rows_in (as_array e)) o) ≡ tabled ds root
     rows_of None e = cc
     rows_of (Some e) f = rw f

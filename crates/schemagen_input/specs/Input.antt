@@ -1,5 +1,6 @@
 -- The table that a JSON value says, and its root.
-use Rattle.std.specs.Prelude.{ℕ, List, [], ◌∷◌, Bool, true, false, ◌&&◌, not, nat_lt, length, Option, Some, None, map, option_map, option_and_then, if◌then◌else◌, bytes_eq, codes}
+use Rattle.std.specs.Prelude.{ℕ, List, [], ◌∷◌, Bool, true, false, ◌&&◌, not, nat_lt, length, Option, Some, None, map}
+use Rattle.std.specs.Prelude.{option_map, option_and_then, if◌then◌else◌, bytes_eq, codes}
 use Rattle.std.specs.List.{list_all, list_any}
 use Rattle.std.specs.Option.{option_map_or}
 use Rattle.serde_json.specs.Data.{Data, null, boolean, number, string, array, object, Items, no_items, item, Members, no_members, member}
@@ -8,7 +9,10 @@ use Rattle.schemars_json.specs.Json.{Text}
 use Rattle.schemars_json.specs.OrderedText.{is_listed}
 use Rattle.schemars_shapes.specs.declared.shape.IntKind.{IntKind}
 use Rattle.schemars_shapes.specs.declared.shape.IntKind.TheVariants.{I8, I16, I32, I64, I128, Isize, U8, U16, U32, U64, U128, Usize}
-use Rattle.schemars_shapes.specs.Shape.{Required, Field, Shape, Entry, null as null_shape, bool, int, non_zero, number as number_shape, text, char, formatted, any, bytes, schema_itself, option, seq, set, array as array_shape, up_to, tuple, struct, newtype, numbers_of}
+use Rattle.schemars_shapes.specs.Shape.{Required, Field, Shape, Entry, null as null_shape, bool, int, non_zero}
+use Rattle.schemars_shapes.specs.Shape.{number as number_shape, text, char, formatted, any, bytes, schema_itself}
+use Rattle.schemars_shapes.specs.Shape.{option, seq, set, array as array_shape, up_to, tuple, struct, newtype}
+use Rattle.schemars_shapes.specs.Shape.{numbers_of}
 use Rattle.schemars_types.specs.Rows.{Row, with_entry}
 
 -- ---- the members of an object
@@ -48,9 +52,12 @@ notes_in d = optional no_members as_object (codes "notes") d
 abbrev pub kind_named : Text → Option IntKind
 kind_named t =
     if bytes_eq t (codes "i8") then Some I8 else (if bytes_eq t (codes "i16") then Some I16 else (if bytes_eq t (codes "i32") then Some I32
-    else (if bytes_eq t (codes "i64") then Some I64 else (if bytes_eq t (codes "i128") then Some I128 else (if bytes_eq t (codes "isize") then Some Isize
-    else (if bytes_eq t (codes "u8") then Some U8 else (if bytes_eq t (codes "u16") then Some U16 else (if bytes_eq t (codes "u32") then Some U32
-    else (if bytes_eq t (codes "u64") then Some U64 else (if bytes_eq t (codes "u128") then Some U128 else (if bytes_eq t (codes "usize") then Some Usize else None)))))))))))
+    else (if bytes_eq t (codes "i64") then Some I64 else (if bytes_eq t (codes "i128") then Some I128 else
+    (if bytes_eq t (codes "isize") then Some Isize
+    else (if bytes_eq t (codes "u8") then Some U8 else (if bytes_eq t (codes "u16") then Some U16 else
+    (if bytes_eq t (codes "u32") then Some U32
+    else (if bytes_eq t (codes "u64") then Some U64 else (if bytes_eq t (codes "u128") then Some U128 else
+    (if bytes_eq t (codes "usize") then Some Usize else None)))))))))))
 
 abbrev pub kind_in : Data → Option IntKind
 kind_in d = option_and_then kind_named (as_str d)
@@ -64,7 +71,8 @@ required read written = record { deserialize = read; serialize = written }
 abbrev pub required_each : Data → Option Required
 required_each d =
     if has_only (codes "deserialize" ∷ codes "serialize" ∷ []) d
-    then option_and_then (λ read. option_map (required read) (needed as_bool (codes "serialize") d)) (needed as_bool (codes "deserialize") d)
+    then option_and_then (λ read. option_map (required read) (needed as_bool (codes "serialize") d))
+    (needed as_bool (codes "deserialize") d)
     else None
 
 -- a truth value says it for both
@@ -77,7 +85,8 @@ field_names = codes "name" ∷ codes "type" ∷ codes "required" ∷ codes "note
 -- a field whose members are known by name
 abbrev pub field_of_members : Data → Option Field
 field_of_members d =
-    option_and_then (λ name. option_and_then (λ ty. option_and_then (λ need. option_map (λ notes. record { name = name; ty = ty; required = need; notes = notes }) (notes_in d))
+    option_and_then (λ name. option_and_then (λ ty. option_and_then (λ need.
+    option_map (λ notes. record { name = name; ty = ty; required = need; notes = notes }) (notes_in d))
     (optional (required true true) required_in (codes "required") d)) (needed number_in (codes "type") d)) (needed as_str (codes "name") d)
 
 abbrev pub field_in : Data → Option Field
@@ -102,8 +111,10 @@ struct_in d =
 -- the shapes that are said by a text
 abbrev pub shape_named : Text → Option Shape
 shape_named t =
-    if bytes_eq t (codes "null") then Some null_shape else (if bytes_eq t (codes "bool") then Some bool else (if bytes_eq t (codes "number") then Some number_shape
-    else (if bytes_eq t (codes "text") then Some text else (if bytes_eq t (codes "char") then Some char else (if bytes_eq t (codes "any") then Some any
+    if bytes_eq t (codes "null") then Some null_shape else (if bytes_eq t (codes "bool") then Some bool else
+    (if bytes_eq t (codes "number") then Some number_shape
+    else (if bytes_eq t (codes "text") then Some text else (if bytes_eq t (codes "char") then Some char else
+    (if bytes_eq t (codes "any") then Some any
     else (if bytes_eq t (codes "bytes") then Some bytes else (if bytes_eq t (codes "schema") then Some schema_itself else None)))))))
 
 abbrev pub numbers_in : Items → Option (List ℕ)
@@ -136,8 +147,10 @@ list_under name d =
 -- other shapes without fields
 abbrev pub plain_under : Text → Data → Option Shape
 plain_under name d =
-    if bytes_eq name (codes "int") then option_map int (kind_in d) else (if bytes_eq name (codes "nonzero") then option_map non_zero (kind_in d)
-    else (if bytes_eq name (codes "format") then option_map formatted (as_str d) else (if bytes_eq name (codes "option") then option_map option (number_in d)
+    if bytes_eq name (codes "int") then option_map int (kind_in d) else
+    (if bytes_eq name (codes "nonzero") then option_map non_zero (kind_in d)
+    else (if bytes_eq name (codes "format") then option_map formatted (as_str d) else
+    (if bytes_eq name (codes "option") then option_map option (number_in d)
     else (if bytes_eq name (codes "newtype") then option_map newtype (number_in d) else list_under name d))))
 
 -- and those that are said by an object with this one member
@@ -159,7 +172,8 @@ row_names = codes "id" ∷ codes "name" ∷ codes "inline" ∷ codes "notes" ∷
 
 abbrev pub entry_in : Data → Option Entry
 entry_in d =
-    option_and_then (λ inline. option_and_then (λ notes. option_map (λ shape. record { inline = inline; notes = notes; shape = shape }) (needed shape_in (codes "shape") d))
+    option_and_then (λ inline. option_and_then (λ notes. option_map (λ shape. record { inline = inline; notes = notes; shape = shape })
+    (needed shape_in (codes "shape") d))
     (notes_in d)) (optional false as_bool (codes "inline") d)
 
 -- a row that has no entry yet
@@ -223,5 +237,6 @@ is_table rows root = all_differ (ids_of rows) && (all_fit (length rows) rows && 
 abbrev pub input_of : Data → Option (List Row × ℕ)
 input_of d =
     if has_only (codes "types" ∷ codes "root" ∷ []) d
-    then option_and_then (λ rows. option_and_then (λ root. if is_table rows root then Some (rows, root) else None) (needed number_in (codes "root") d)) (needed (λ e. option_and_then rows_in (as_array e)) (codes "types") d)
+    then option_and_then (λ rows. option_and_then (λ root. if is_table rows root then Some (rows, root) else None)
+    (needed number_in (codes "root") d)) (needed (λ e. option_and_then rows_in (as_array e)) (codes "types") d)
     else None

@@ -4,8 +4,12 @@ ghost use Rattle.std.specs.List.{list_all};
 ghost use Rattle.serde_json.specs.View.{view, items_view, members_view};
 ghost use Rattle.schemars_shapes.specs.Shape.{shape_of, field_of, fields_view, required_of, entry_of, formatted, struct};
 ghost use Rattle.schemars_json.specs.OrderedText.{is_listed};
-ghost use Rattle.schemagen_input.specs.Input.{has_only, lone_in, number_in, notes_in, kind_named, kind_in, required, required_each, required_in, field_in, fields_in, list_in, struct_in, counted_in, array_in, up_to_in, numbers_in, tuple_in, list_under, plain_under};
-ghost use Rattle.schemagen_input.specs.Input.{shape_named, shape_under, shape_in, entry_in, optional, needed, heading_in, unentered, are_none, are_fields_bare, is_bare, input_of};
+ghost use Rattle.schemagen_input.specs.Input.{has_only, lone_in, number_in, notes_in, kind_named, kind_in, required};
+ghost use Rattle.schemagen_input.specs.Input.{required_each, required_in, field_in, fields_in, list_in, struct_in};
+ghost use Rattle.schemagen_input.specs.Input.{counted_in, array_in, up_to_in, numbers_in, tuple_in, list_under};
+ghost use Rattle.schemagen_input.specs.Input.{plain_under};
+ghost use Rattle.schemagen_input.specs.Input.{shape_named, shape_under, shape_in, entry_in, optional, needed};
+ghost use Rattle.schemagen_input.specs.Input.{heading_in, unentered, are_none, are_fields_bare, is_bare, input_of};
 ghost use Rattle.schemagen_input.specs.Reading.{as_input, headings_in, reserved_after, fitting_after};
 ghost use Rattle.serde_json.specs.Find.{as_bool, as_str, as_array};
 

@@ -1,5 +1,7 @@
 -- Which words a run knows, and what it refuses.
-use Rattle.std.proofs.Common.{◌≡◌, ◌⊎◌, inl, inr, ℕ, List, [], ◌∷◌, ◌++◌, append-nil, subst, Option, Some, None, Result, Ok, Err, IfErr, length, get_or, ◌&&◌, true, String, Global, string_bytes, codes, sym, ap, ◌∙◌, arith}
+use Rattle.std.proofs.Common.{◌≡◌, ◌⊎◌, inl, inr, ℕ, List, [], ◌∷◌, ◌++◌, append-nil, subst, Option, Some, None, Result}
+use Rattle.std.proofs.Common.{Ok, Err, IfErr, length, get_or, ◌&&◌, true, String, Global, string_bytes, codes, sym, ap}
+use Rattle.std.proofs.Common.{◌∙◌, arith}
 use Rattle.std.specs.Str.{bytes_eq}
 use Rattle.std.proofs.lemmas.Slice.Eq.{bytes_eq-Decides}
 use Rattle.schemars_documents.specs.declared.contract.Contract.TheVariants.{Deserialize, Serialize}
@@ -26,15 +28,21 @@ two_words (u ∷ v ∷ []) a b two first second types =
     let parts = both (bytes_eq (string_bytes a) (codes "types")) (bytes_eq (string_bytes b) (codes "2020-12")) types in
     rw (is_word a u (codes "types") first parts.0, is_word b v (codes "2020-12") second parts.1)
 
-pub three_words : (words : List (String Global)) (a b c : String Global) → length words ≡ 3 → a ≡ get_or words 0 a → b ≡ get_or words 1 b → c ≡ get_or words 2 c
-    → bytes_eq (string_bytes a) (codes "types") && bytes_eq (string_bytes b) (codes "2020-12") ≡ true → bytes_eq (string_bytes c) (codes "--serialize") ≡ true → AskFor words Serialize
+pub three_words : (words : List (String Global)) (a b c : String Global) → length words ≡ 3 → a ≡ get_or words 0 a → b ≡ get_or words 1 b
+    → c ≡ get_or words 2 c
+    → bytes_eq (string_bytes a) (codes "types") && bytes_eq (string_bytes b) (codes "2020-12") ≡ true
+    → bytes_eq (string_bytes c) (codes "--serialize") ≡ true → AskFor words Serialize
 three_words [] a b c three first second third types flag = absurd (omega arith)
 three_words (u ∷ []) a b c three first second third types flag = absurd (omega arith)
 three_words (u ∷ v ∷ []) a b c three first second third types flag = absurd (omega arith)
 three_words (u ∷ v ∷ w ∷ x ∷ ws) a b c three first second third types flag = absurd (omega arith)
 three_words (u ∷ v ∷ w ∷ []) a b c three first second third types flag =
     let parts = both (bytes_eq (string_bytes a) (codes "types")) (bytes_eq (string_bytes b) (codes "2020-12")) types in
-    rw (is_word a u (codes "types") first parts.0, is_word b v (codes "2020-12") second parts.1, is_word c w (codes "--serialize") third flag)
+    rw (
+      is_word a u (codes "types") first parts.0,
+      is_word b v (codes "2020-12") second parts.1,
+      is_word c w (codes "--serialize") third flag,
+    )
 
 -- ---- tables without faults
 
@@ -61,8 +69,10 @@ pub read_outside : (bytes : List ℕ) (old new : Option (List ℕ)) (e : Fault) 
     → (e ≡ Refused NOT_JSON → GivesAll old new IsNoJson) → (e ≡ Refused BAD_TABLE → GivesAll old new IsBadTable) → IsOutside e
 read_outside bytes old new e known text (inl memory) not_json bad_table = inl memory
 read_outside bytes old new e known text (inr (inl failed)) not_json bad_table = inr (inl failed)
-read_outside bytes old new e known text (inr (inr (inl is))) not_json bad_table = absurd (no_json bytes (gave bytes old new known (not_json is)) text)
-read_outside bytes old new e known text (inr (inr (inr is))) not_json bad_table = absurd (no_table bytes (gave bytes old new known (bad_table is)) text)
+read_outside bytes old new e known text (inr (inr (inl is))) not_json bad_table =
+    absurd (no_json bytes (gave bytes old new known (not_json is)) text)
+read_outside bytes old new e known text (inr (inr (inr is))) not_json bad_table =
+    absurd (no_table bytes (gave bytes old new known (bad_table is)) text)
 
 -- the table that was read is the one without faults
 pub read_is_accepted : (bytes : List ℕ) (rows : List Row) (root : ℕ) → IsTableText rows root bytes → IsAcceptedText bytes → IsAccepted rows
@@ -83,13 +93,15 @@ memory_is_not_of_table e memory (inr (inr (inl is))) = cc
 memory_is_not_of_table e memory (inr (inr (inr is))) = cc
 
 -- a refusal of the table that was read
-pub read_is_faulty : (rows : List Row) (root : ℕ) (old new : Option (List ℕ)) (e : Fault) → GivesAll old new (IsTableText rows root) → (e ≡ Refused OUT_OF_MEMORY) ⊎ Tells rows e
+pub read_is_faulty : (rows : List Row) (root : ℕ) (old new : Option (List ℕ)) (e : Fault) → GivesAll old new (IsTableText rows root)
+    → (e ≡ Refused OUT_OF_MEMORY) ⊎ Tells rows e
     → IsTableFault e → GivesAll old new (IsFaultyTable e)
 read_is_faulty rows root old new e given (inl memory) fault = absurd (memory_is_not_of_table e memory fault)
 read_is_faulty rows root old new e (bytes, consumed, end, text) (inr told) fault = (bytes, consumed, end, (rows, (root, text, told)))
 
 -- the same refusal is passed on
-pub refused_alike : (old new : Option (List ℕ)) (result : Result (Unit {0}) Fault) (e : Fault) → IsErrAnd result (λ f. f ≡ e) → (IsTableFault e → GivesAll old new (IsFaultyTable e))
+pub refused_alike : (old new : Option (List ℕ)) (result : Result (Unit {0}) Fault) (e : Fault) → IsErrAnd result (λ f. f ≡ e)
+    → (IsTableFault e → GivesAll old new (IsFaultyTable e))
     → IfErr result (λ f. IsTableFault f → GivesAll old new (IsFaultyTable f))
 refused_alike old new (Ok done) e same faulty = tt
 refused_alike old new (Err f) e same faulty = subst (λ (x : Fault). IsTableFault x → GivesAll old new (IsFaultyTable x)) (sym same) faulty

@@ -1,5 +1,7 @@
 -- What the generator asks of a table holds of each input.
-use Rattle.std.proofs.Common.{◌≡◌, ◌<◌, ℕ, zero, suc, nat_lt, List, [], ◌∷◌, ◌++◌, length, map, Bool, true, false, ◌&&◌, Option, Some, None, option_and_then, cond, codes, refl, ap, ◌∙◌, sym, subst, inl, true≢false}
+use Rattle.std.proofs.Common.{◌≡◌, ◌<◌, ℕ, zero, suc, nat_lt, List, [], ◌∷◌, ◌++◌, length, map, Bool, true, false, ◌&&◌}
+use Rattle.std.proofs.Common.{Option, Some, None, option_and_then, cond, codes, refl, ap, ◌∙◌, sym, subst, inl}
+use Rattle.std.proofs.Common.{true≢false}
 use Rattle.std.specs.Str.{bytes_eq}
 use Rattle.std.proofs.lemmas.Slice.Eq.{bytes_eq-Decides}
 use Rattle.std.specs.List.{list_all, AllByRecursion, IsDistinct}
@@ -18,10 +20,13 @@ use Rattle.schemars_types.specs.Faults.{IsChecked}
 use Rattle.schemars_documents.specs.declared.contract.Contract.{Contract}
 use Rattle.schemars_generate.specs.Headline.{Headline, IsRootOf, IsDraftPath}
 use Rattle.schemars_documents.specs.ContractOf.{contract_of}
-use Rattle.schemars_documents.specs.PlainTable.{IsNoName, AreDistinct, AreNoted, IsPlainShape, IsPlainEntry, IsPlainTable, FieldsHaveNoFloat, ShapeHasNoFloat, EntryHasNoFloat, HasNoFloat}
+use Rattle.schemars_documents.specs.PlainTable.{IsNoName, AreDistinct, AreNoted, IsPlainShape, IsPlainEntry}
+use Rattle.schemars_documents.specs.PlainTable.{IsPlainTable, FieldsHaveNoFloat, ShapeHasNoFloat, EntryHasNoFloat}
+use Rattle.schemars_documents.specs.PlainTable.{HasNoFloat}
 use Rattle.schemars_generate.specs.State.{Settings, State, plan_of, HasOwnDefinitions}
 use Rattle.schemars_naming.specs.Work.{Work}
-use Rattle.schemagen_input.specs.Input.{input_of, has_only, needed, number_in, rows_in, all_differ, ids_of, are_none, are_fields_bare, is_bare, refers_within, fits, all_fit, is_table}
+use Rattle.schemagen_input.specs.Input.{input_of, has_only, needed, number_in, rows_in, all_differ, ids_of, are_none}
+use Rattle.schemagen_input.specs.Input.{are_fields_bare, is_bare, refers_within, fits, all_fit, is_table}
 use Rattle.schemagen_run.specs.Run.{settings_for, fresh, IsLineOf}
 
 pub both : (a b : Bool) → a && b ≡ true → (a ≡ true) × (b ≡ true)
@@ -32,16 +37,20 @@ all_rows_fit : (rows : List Row) (root : ℕ) → is_table rows root ≡ true �
 all_rows_fit rows root table = (both (all_fit (length rows) rows) (nat_lt root (length rows)) (both (all_differ (ids_of rows)) _ table).1).0
 
 root_is_within : (rows : List Row) (root : ℕ) → is_table rows root ≡ true → root < length rows
-root_is_within rows root table = ltb-true root (length rows) (both (all_fit (length rows) rows) (nat_lt root (length rows)) (both (all_differ (ids_of rows)) _ table).1).1
+root_is_within rows root table = ltb-true root (length rows) (both (all_fit (length rows) rows) (nat_lt root (length rows))
+    (both (all_differ (ids_of rows)) _ table).1).1
 
 -- what stands in row n fits
 entry_fits : (count : ℕ) (rows : List Row) (n : ℕ) (e : Entry) → all_fit count rows ≡ true → entry_at rows n ≡ Some e → fits count e ≡ true
 entry_fits count [] n e fit there = cc
 entry_fits count (r ∷ rows) zero e fit there = rw there at ((both (option_map_or (fits count) r.entry false) (all_fit count rows) fit).0)
-entry_fits count (r ∷ rows) (suc n) e fit there = entry_fits count rows n e (both (option_map_or (fits count) r.entry false) (all_fit count rows) fit).1 there
+entry_fits count (r ∷ rows) (suc n) e fit there = entry_fits count rows n e
+    (both (option_map_or (fits count) r.entry false) (all_fit count rows) fit).1 there
 
-entry_is_bare : (rows : List Row) (root n : ℕ) (e : Entry) → is_table rows root ≡ true → entry_at rows n ≡ Some e → (are_none e.notes ≡ true) × (are_fields_bare e.shape ≡ true)
-entry_is_bare rows root n e table there = both (are_none e.notes) (are_fields_bare e.shape) (both (is_bare e) (refers_within (length rows) e) (entry_fits (length rows) rows n e (all_rows_fit rows root table) there)).0
+entry_is_bare : (rows : List Row) (root n : ℕ) (e : Entry) → is_table rows root ≡ true → entry_at rows n ≡ Some e
+    → (are_none e.notes ≡ true) × (are_fields_bare e.shape ≡ true)
+entry_is_bare rows root n e table there = both (are_none e.notes) (are_fields_bare e.shape)
+    (both (is_bare e) (refers_within (length rows) e) (entry_fits (length rows) rows n e (all_rows_fit rows root table) there)).0
 
 -- ---- without notes
 
@@ -133,21 +142,27 @@ is_plain_table rows root table checked n = by (entry_at rows n) refl
     by : (o : Option Entry) → entry_at rows n ≡ o → IsPlainEntry o
     by None there = tt
     by (Some e) there =
-        let bare = entry_is_bare rows root n e table there in
-        (none_are_notes e.notes bare.0, plain_shape e.shape bare.1 (subst (λ (o : Option Entry). IsDistinct bytes_eq (option_map_or (λ f. names_of f.shape) o [])) there (checked.names_differ n)))
+        let bare = entry_is_bare rows root n e table there in (
+          none_are_notes e.notes bare.0,
+          plain_shape e.shape bare.1 (subst
+              (λ (o : Option Entry). IsDistinct bytes_eq (option_map_or (λ f. names_of f.shape) o [])) there (checked.names_differ n)),
+        )
 
 has_no_float : (rows : List Row) (root : ℕ) → is_table rows root ≡ true → HasNoFloat rows
 has_no_float rows root table n = by (entry_at rows n) refl
   where
     by : (o : Option Entry) → entry_at rows n ≡ o → EntryHasNoFloat o
     by None there = tt
-    by (Some e) there = let bare = entry_is_bare rows root n e table there in (none_have_float e.notes bare.0, shape_without_float e.shape bare.1)
+    by (Some e) there = let bare = entry_is_bare rows root n e table there in
+        (none_have_float e.notes bare.0, shape_without_float e.shape bare.1)
 
 -- what an input gives is a table
 pub input_of-table : (d : Data) (rows : List Row) (root : ℕ) → input_of d ≡ Some (rows, root) → is_table rows root ≡ true
-input_of-table d rows root e = by (has_only (codes "types" ∷ codes "root" ∷ []) d) (needed (λ v. option_and_then rows_in (as_array v)) (codes "types") d) (needed number_in (codes "root") d) e
+input_of-table d rows root e = by (has_only (codes "types" ∷ codes "root" ∷ []) d)
+    (needed (λ v. option_and_then rows_in (as_array v)) (codes "types") d) (needed number_in (codes "root") d) e
   where
-    kept : (rs : List Row) (n : ℕ) (b : Bool) → is_table rs n ≡ b → cond {A = Option (List Row × ℕ)} b (Some (rs, n)) None ≡ Some (rows, root) → is_table rows root ≡ true
+    kept : (rs : List Row) (n : ℕ) (b : Bool) → is_table rs n ≡ b → cond {A = Option (List Row × ℕ)} b (Some (rs, n)) None
+        ≡ Some (rows, root) → is_table rows root ≡ true
     kept rs n true is h = let same : (rs, n) ≡ (rows, root) = pair_same h in sym (ap (λ (p : List Row × ℕ). is_table p.0 p.1) same) ∙ is
       where
         pair_same : {p q : List Row × ℕ} → Some p ≡ Some q → p ≡ q
@@ -155,7 +170,8 @@ input_of-table d rows root e = by (has_only (codes "types" ∷ codes "root" ∷ 
     kept rs n false is h = cc
 
     by : (b : Bool) (o : Option (List Row)) (r : Option ℕ)
-        → cond b (option_and_then {U = List Row × ℕ} (λ rs. option_and_then {U = List Row × ℕ} (λ n. cond (is_table rs n) (Some (rs, n)) None) r) o) None ≡ Some (rows, root) → is_table rows root ≡ true
+        → cond b (option_and_then {U = List Row × ℕ} (λ rs. option_and_then {U = List Row × ℕ}
+        (λ n. cond (is_table rs n) (Some (rs, n)) None) r) o) None ≡ Some (rows, root) → is_table rows root ≡ true
     by true (Some rs) (Some n) h = kept rs n (is_table rs n) refl h
     by true (Some rs) None h = cc
     by true None r h = cc
@@ -166,7 +182,8 @@ input_of-table d rows root e = by (has_only (codes "types" ∷ codes "root" ∷ 
 pub fresh_of : (s : State) (settings : Settings) (contract : Contract) (rows : List Row) → settings ≡ settings_for contract
     → s ≡ record { settings = settings; rows = rows; names = []; definitions = no_members } → s ≡ fresh contract rows
 fresh_of s settings contract rows same made =
-    made ∙ ap (λ (t : Settings). let state : State = record { settings = t; rows = rows; names = []; definitions = no_members } in state) same
+    made ∙ ap (λ (t : Settings). let state : State = record { settings = t; rows = rows; names = []; definitions = no_members } in state)
+    same
 
 has_own_definitions : (contract : Contract) (rows : List Row) → HasOwnDefinitions (fresh contract rows)
 has_own_definitions contract rows name d there = cc
@@ -174,19 +191,26 @@ has_own_definitions contract rows name d there = cc
 -- what the generator says of a document
 abbrev pub Generated : State → ℕ → Data → Type 0
 Generated s root document =
-    (HasOwnDefinitions s → IsDraftPath (plan_of s None).path → Headline s.rows (contract_of s.settings.contract) (plan_of s None).path root document)
+    (HasOwnDefinitions s → IsDraftPath (plan_of s None).path → Headline s.rows (contract_of s.settings.contract) (plan_of s None).path
+    root document)
     × ((w : Work) × IsRootOf s root w document) × (HasNoFloat s.rows → HasOwnDefinitions s → has_float document ≡ false)
 
 -- the text of a root document, and a newline, is its line
-pub line_of_document : (s : State) (contract : Contract) (rows : List Row) (root : ℕ) (document : Data) (text line : Text) → is_table rows root ≡ true → IsChecked rows → s ≡ fresh contract rows
-    → Generated s root document → (has_float document ≡ false → text ≡ ordered_text document) → line ≡ text ++ 10 ∷ [] → IsLineOf contract rows root line
+pub line_of_document : (s : State) (contract : Contract) (rows : List Row) (root : ℕ) (document : Data) (text line : Text)
+    → is_table rows root ≡ true → IsChecked rows → s ≡ fresh contract rows
+    → Generated s root document → (has_float document ≡ false → text ≡ ordered_text document) → line ≡ text ++ 10 ∷ []
+    → IsLineOf contract rows root line
 line_of_document s contract rows root document text line table checked same generated written ends =
     let here : Generated (fresh contract rows) root document = subst (λ (t : State). Generated t root document) same generated in
-    let own = has_own_definitions contract rows in
-    (document, (here.1, here.0 own (inl refl) (is_plain_table rows root table checked)), ends ∙ ap (λ (t : Text). t ++ 10 ∷ []) (written (here.2 (has_no_float rows root table) own)))
+    let own = has_own_definitions contract rows in (
+      document,
+      (here.1, here.0 own (inl refl) (is_plain_table rows root table checked)),
+      ends ∙ ap (λ (t : Text). t ++ 10 ∷ []) (written (here.2 (has_no_float rows root table) own)),
+    )
 
 -- memory is all that its root document may want
-pub root_wants_only_memory : {P : Type 0} (s : State) (contract : Contract) (rows : List Row) (root : ℕ) → is_table rows root ≡ true → IsChecked rows → s ≡ fresh contract rows
+pub root_wants_only_memory : {P : Type 0} (s : State) (contract : Contract) (rows : List Row) (root : ℕ) → is_table rows root ≡ true
+    → IsChecked rows → s ≡ fresh contract rows
     → (IsPlainTable s.rows → IsDraftPath (plan_of s None).path → root < length s.rows → P) → P
 root_wants_only_memory {P} s contract rows root table checked same only =
     let here : IsPlainTable rows → IsDraftPath (plan_of (fresh contract rows) None).path → root < length rows → P =

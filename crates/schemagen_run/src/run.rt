@@ -1,12 +1,14 @@
 //! A run of the program over its words, a source and a sink.
-ghost use Rattle.std.specs.Prelude.{◌≡◌, ◌≢◌, ◌⊎◌, ◌↔◌, ℕ, List, Some, false, true, Err, IsTrue, IfOk, IfErr, OnOk, MatchOption, string_bytes, bytes_eq, codes, ◌&&◌};
+ghost use Rattle.std.specs.Prelude.{◌≡◌, ◌≢◌, ◌⊎◌, ◌↔◌, ℕ, List, Some, false, true, Err, IsTrue, IfOk, IfErr, OnOk};
+ghost use Rattle.std.specs.Prelude.{MatchOption, string_bytes, bytes_eq, codes, ◌&&◌};
 ghost use Rattle.std.specs.Io.KnownBytes.{Appends};
 ghost use Rattle.serde_json.specs.View.{view};
 ghost use Rattle.schemars_types.specs.Faults.{IsAccepted};
 ghost use Rattle.schemars_generate.specs.Settings.{settings_of};
 ghost use Rattle.schemagen_run.specs.Streams.{AppendsBeginning};
 ghost use Rattle.schemagen_input.specs.Input.{is_table};
-ghost use Rattle.schemagen_run.specs.Run.{AskFor, AreKnown, GivesAll, IsTextOf, IsNoJson, IsBadTable, IsTableText, IsAcceptedText, IsFaultyTable, Tells, settings_for, IsLineOf, IsLineFor};
+ghost use Rattle.schemagen_run.specs.Run.{AskFor, AreKnown, GivesAll, IsTextOf, IsNoJson, IsBadTable, IsTableText};
+ghost use Rattle.schemagen_run.specs.Run.{IsAcceptedText, IsFaultyTable, Tells, settings_for, IsLineOf, IsLineFor};
 ghost use Rattle.schemagen_run.specs.Fault.{IsReadFault, IsTableFault, IsOutside, IsFault};
 
 use crate::fault::{BAD_TABLE, Fault, NOT_JSON, OUT_OF_MEMORY, READ, WRITE};

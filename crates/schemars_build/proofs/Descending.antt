@@ -1,5 +1,6 @@
 -- How the recursion that makes documents goes down.
-use Rattle.std.proofs.Common.{◌≡◌, ◌<◌, ◌≤◌, ◌+◌, ◌*◌, ℕ, suc, List, [], ◌∷◌, length, map, Bool, true, false, Some, refl, ap, ◌∙◌, sym, subst, arith, All, get_or, Contains}
+use Rattle.std.proofs.Common.{◌≡◌, ◌<◌, ◌≤◌, ◌+◌, ◌*◌, ℕ, suc, List, [], ◌∷◌, length, map, Bool, true, false, Some}
+use Rattle.std.proofs.Common.{refl, ap, ◌∙◌, sym, subst, arith, All, get_or, Contains}
 use Rattle.std.specs.Prelude.{if◌then◌else◌}
 use Rattle.std.specs.Option.{option_map_or}
 use Rattle.std.proofs.Math.Nat.{mul-le-mul_right}
@@ -33,12 +34,14 @@ left_of_properties p w n = missing p.rows p.contract w * width p.rows + (4 * hei
 -- ---- the rows that stand in a document
 
 pub stands : (rows : List Row) (n : ℕ) (e : Entry) → IsChecked rows → entry_at rows n ≡ Some e → All (StandsIn rows n) (numbers_of e.shape)
-stands rows n e h at = λ k d less. one (get_or (numbers_of e.shape) k d) (k, less, get_or_default (numbers_of e.shape) k (get_or (numbers_of e.shape) k d) d less)
+stands rows n e h at = λ k d less. one (get_or (numbers_of e.shape) k d)
+    (k, less, get_or_default (numbers_of e.shape) k (get_or (numbers_of e.shape) k d) d less)
   where
     numbers : numbers_at rows n ≡ numbers_of e.shape
     numbers = ap (λ o. option_map_or (λ x. numbers_of x.shape) o []) at
 
-    lower : (m : ℕ) → Contains (numbers_at rows n) m → (b : Bool) → is_inline_at rows m ≡ b → (if b then suc (height rows m) else 0) ≤ height rows n
+    lower : (m : ℕ) → Contains (numbers_at rows n) m → (b : Bool) → is_inline_at rows m ≡ b
+        → (if b then suc (height rows m) else 0) ≤ height rows n
     lower m is true inline = h.height_falls n m (is, inline)
     lower m is false inline = omega arith
 
@@ -50,7 +53,8 @@ stands rows n e h at = λ k d less. one (get_or (numbers_of e.shape) k d) (k, le
 pub stands_one : (rows : List Row) (n m : ℕ) (ms : List ℕ) → ms ≡ m ∷ [] → All (StandsIn rows n) ms → StandsIn rows n m
 stands_one rows n m ms is h = let P : List ℕ → Type 0 = λ xs. All (StandsIn rows n) xs in subst P is h 0 0 (omega arith)
 
-pub stands_field : (rows : List Row) (n : ℕ) (fs : List src.Field) (i : ℕ) (d : src.Field) → All (StandsIn rows n) (map (λ f. f.ty) (map field_of fs)) → i < length fs → StandsIn rows n (get_or fs i d).ty
+pub stands_field : (rows : List Row) (n : ℕ) (fs : List src.Field) (i : ℕ) (d : src.Field)
+    → All (StandsIn rows n) (map (λ f. f.ty) (map field_of fs)) → i < length fs → StandsIn rows n (get_or fs i d).ty
 stands_field rows n fs i d h less =
     let Q : ℕ → Type 0 = λ m. StandsIn rows n m in
     let inner : i < length (map field_of fs) = simp length-map less in
@@ -73,18 +77,22 @@ same_less a b w k fewer more = let e : a * w ≤ b * w = mul-le-mul_right w fewe
 -- from a document to a part
 pub to_part : (p : Plan) (w v : Work) (n m k : ℕ) → StandsIn p.rows n m → missing p.rows p.contract v ≤ missing p.rows p.contract w → 1 < k
     → left_of_subschema p v m < missing p.rows p.contract w * width p.rows + (4 * height p.rows n + k)
-to_part p w v n m k h fewer more = part_less (missing p.rows p.contract v) (missing p.rows p.contract w) (width p.rows) (depth_in_place p.rows m) (height p.rows n) k fewer h.is_lower more
+to_part p w v n m k h fewer more = part_less (missing p.rows p.contract v) (missing p.rows p.contract w) (width p.rows)
+    (depth_in_place p.rows m) (height p.rows n) k fewer h.is_lower more
 
 -- to a part in place
 pub to_own : (p : Plan) (w : Work) (n : ℕ) → is_inline_at p.rows n ≡ true → left_of_own_document p w n < left_of_subschema p w n
 to_own p w n inline = rw inline (omega arith)
 
 -- to a part by reference
-pub to_define : (p : Plan) (w v : Work) (n : ℕ) → missing p.rows p.contract v ≤ missing p.rows p.contract w → left_of_define p v < left_of_subschema p w n
-to_define p w v n fewer = same_less (missing p.rows p.contract v) (missing p.rows p.contract w) (width p.rows) (4 * depth_in_place p.rows n + 1) fewer (omega arith)
+pub to_define : (p : Plan) (w v : Work) (n : ℕ) → missing p.rows p.contract v ≤ missing p.rows p.contract w
+    → left_of_define p v < left_of_subschema p w n
+to_define p w v n fewer = same_less (missing p.rows p.contract v) (missing p.rows p.contract w) (width p.rows)
+    (4 * depth_in_place p.rows n + 1) fewer (omega arith)
 
 -- to a new definition
-pub to_definition : (p : Plan) (w v : Work) (n : ℕ) → IsChecked p.rows → missing p.rows p.contract v < missing p.rows p.contract w → left_of_own_document p v n < left_of_define p w
+pub to_definition : (p : Plan) (w v : Work) (n : ℕ) → IsChecked p.rows → missing p.rows p.contract v < missing p.rows p.contract w
+    → left_of_own_document p v n < left_of_define p w
 to_definition p w v n h fewer =
     let bound = h.height_bound n in
     closer (missing p.rows p.contract v) (missing p.rows p.contract w) (width p.rows) (4 * height p.rows n + 4) fewer (omega arith)

@@ -1,5 +1,6 @@
 -- What a part of a call adds, joined to what the next part adds.
-use Rattle.std.proofs.Common.{◌≡◌, inl, inr, ◌<◌, ◌≤◌, ◌+◌, ℕ, zero, suc, List, [], ◌∷◌, ◌++◌, length, Bool, true, false, Option, Some, None, refl, sym, ap, ◌∙◌, arith, subst, take, Contains, true≢false}
+use Rattle.std.proofs.Common.{◌≡◌, inl, inr, ◌<◌, ◌≤◌, ◌+◌, ℕ, zero, suc, List, [], ◌∷◌, ◌++◌, length, Bool, true}
+use Rattle.std.proofs.Common.{false, Option, Some, None, refl, sym, ap, ◌∙◌, arith, subst, take, Contains, true≢false}
 use Rattle.std.specs.Prelude.{◌==◌, ◌||◌, bytes_eq, is_some, if◌then◌else◌}
 use Rattle.std.specs.Option.{option_map_or}
 use Rattle.std.specs.Str.{IsUtf8}
@@ -42,17 +43,20 @@ or_more : (free a b : Bool) → (a ≡ true → b ≡ true) → free || a ≡ tr
 or_more true a b h e = refl
 or_more false a b h e = h e
 
-pub refers-wider : (plan : Plan) (free : Bool) (old new : Work) → Wider plan.contract old new → (n : ℕ) (r : Text) → Refers plan free old n r → Refers plan free new n r
+pub refers-wider : (plan : Plan) (free : Bool) (old new : Work) → Wider plan.contract old new → (n : ℕ) (r : Text)
+    → Refers plan free old n r → Refers plan free new n r
 refers-wider plan free old new w n r (inl h) = inl (h.0, or_more free old.meets_root new.meets_root w.meets h.1, h.2, h.3)
 refers-wider plan free old new w n r (inr h) = inr (h.0, w.names n h.0 h.1, w.keys h.0 h.2, h.3, h.4, h.5)
 
-pub definition-wider : (plan : Plan) (old new : Work) → Wider plan.contract old new → (k : Text) (d : Data) → IsDefinition plan old k d → IsDefinition plan new k d
+pub definition-wider : (plan : Plan) (old new : Work) → Wider plan.contract old new → (k : Text) (d : Data) → IsDefinition plan old k d
+    → IsDefinition plan new k d
 definition-wider plan old new w k d h = record {
   row = h.row;
   is_named = w.names h.row k h.is_named;
   is_text = h.is_text;
   depth = h.depth;
-  describes = describes-wider plan.rows (contract_of plan.contract) (Refers plan false old) (Refers plan false new) (refers-wider plan false old new w) h.depth h.depth (omega arith) h.row d h.describes;
+  describes = describes-wider plan.rows (contract_of plan.contract) (Refers plan false old) (Refers plan false new)
+      (refers-wider plan false old new w) h.depth h.depth (omega arith) h.row d h.describes;
 }
 
 -- ---- steps
@@ -75,7 +79,8 @@ step_trans plan a b c h g = record {
   still_meets = λ e. g.still_meets (h.still_meets e);
 }
   where
-    go : (k : Text) (d : Data) (o : Option Data) → get_member k b.definitions ≡ o → get_member k a.definitions ≡ None → get_member k c.definitions ≡ Some d → IsDefinition plan c k d
+    go : (k : Text) (d : Data) (o : Option Data) → get_member k b.definitions ≡ o → get_member k a.definitions ≡ None
+        → get_member k c.definitions ≡ Some d → IsDefinition plan c k d
     go k d None is none some = g.adds k d is some
     go k d (Some e) is none some =
         let kept : get_member k c.definitions ≡ Some e = g.stays k e is in
@@ -88,7 +93,8 @@ or_kept true b h = refl
 or_kept false b h = absurd (true≢false (sym h))
 
 -- the root is referred to
-pub step_meet : (plan : Plan) (old : Work) (in_definition : Bool) → Step plan old (record old { meets_root = old.meets_root || in_definition })
+pub step_meet : (plan : Plan) (old : Work) (in_definition : Bool) → Step plan old
+    (record old { meets_root = old.meets_root || in_definition })
 step_meet plan old in_definition = record {
   names = gives-none plan.rows old.names;
   stays = λ k d e. e;
@@ -98,7 +104,8 @@ step_meet plan old in_definition = record {
 }
 
 -- a name is given
-pub step_names : (plan : Plan) (old : Work) (names : Naming) → GivesNames plan.rows old.names names → Step plan old (record old { names = names })
+pub step_names : (plan : Plan) (old : Work) (names : Naming) → GivesNames plan.rows old.names names
+    → Step plan old (record old { names = names })
 step_names plan old names h = record {
   names = h;
   stays = λ k d e. e;
@@ -122,7 +129,8 @@ same_key {P} q k same apart = go (bytes_eq q k) refl
     go true is = same ((bytes_eq-Decides q k).0 is)
     go false is = apart (λ e. true≢false (sym ((bytes_eq-Decides q k).1 e) ∙ is))
 
-pub step_defines : (plan : Plan) (old mid : Work) (n : ℕ) (k : Text) (d : Data) (depth : ℕ) → get_member k old.definitions ≡ None → IsUtf8 k → Step plan (begun_with old k) mid → name_of n plan.contract mid.names ≡ Some k
+pub step_defines : (plan : Plan) (old mid : Work) (n : ℕ) (k : Text) (d : Data) (depth : ℕ) → get_member k old.definitions ≡ None
+    → IsUtf8 k → Step plan (begun_with old k) mid → name_of n plan.contract mid.names ≡ Some k
     → Describes plan.rows (contract_of plan.contract) (Refers plan false mid) depth n d → Step plan old (finished_with mid k d)
 step_defines plan old mid n k d depth absent text h named describes = record {
   names = h.names;
@@ -142,15 +150,18 @@ step_defines plan old mid n k d depth absent text h named describes = record {
     finished = get_member-replaced k d (boolean false) mid.definitions is_begun
 
     other : (q : Text) (e : Data) → get_member q old.definitions ≡ Some e → q ≡ k → ⊥
-    other q e is same = let P : Text → Type 0 = λ x. get_member x old.definitions ≡ Some e in let there : get_member k old.definitions ≡ Some e = subst P same is in cc
+    other q e is same = let P : Text → Type 0 = λ x. get_member x old.definitions ≡ Some e in
+        let there : get_member k old.definitions ≡ Some e = subst P same is in cc
 
     stays : (q : Text) (e : Data) → get_member q old.definitions ≡ Some e → (q ≡ k → ⊥) → get_member q new.definitions ≡ Some e
-    stays q e is apart = get_member-replaced_other q k d mid.definitions apart ∙ h.stays q e (get_member-put_other q k (boolean false) old.definitions apart ∙ is)
+    stays q e is apart = get_member-replaced_other q k d mid.definitions apart
+        ∙ h.stays q e (get_member-put_other q k (boolean false) old.definitions apart ∙ is)
 
     wider : Wider plan.contract mid new
     wider = record {
       names = λ m name e. e;
-      keys = λ q is. same_key q k (λ same. (d, ap (λ x. get_member x new.definitions) same ∙ finished)) (λ apart. (is.0, get_member-replaced_other q k d mid.definitions apart ∙ is.1));
+      keys = λ q is. same_key q k (λ same. (d, ap (λ x. get_member x new.definitions) same ∙ finished))
+          (λ apart. (is.0, get_member-replaced_other q k d mid.definitions apart ∙ is.1));
       meets = λ e. e;
     }
 
@@ -160,7 +171,8 @@ step_defines plan old mid n k d depth absent text h named describes = record {
       is_named = named;
       is_text = text;
       depth = depth;
-      describes = describes-wider plan.rows (contract_of plan.contract) (Refers plan false mid) (Refers plan false new) (refers-wider plan false mid new wider) depth depth (omega arith) n d describes;
+      describes = describes-wider plan.rows (contract_of plan.contract) (Refers plan false mid) (Refers plan false new)
+          (refers-wider plan false mid new wider) depth depth (omega arith) n d describes;
     }
 
     added : (q : Text) (e : Data) → q ≡ k → get_member q new.definitions ≡ Some e → IsDefinition plan new q e
@@ -171,79 +183,99 @@ step_defines plan old mid n k d depth absent text h named describes = record {
         let Q : Data → Type 0 = λ x. IsDefinition plan new k x in
         subst P (sym same) (subst Q alike own)
 
-    nested : (q : Text) (e : Data) → (q ≡ k → ⊥) → get_member q old.definitions ≡ None → get_member q new.definitions ≡ Some e → IsDefinition plan new q e
+    nested : (q : Text) (e : Data) → (q ≡ k → ⊥) → get_member q old.definitions ≡ None → get_member q new.definitions ≡ Some e
+        → IsDefinition plan new q e
     nested q e apart none some =
         definition-wider plan mid new wider q e
-        (h.adds q e (get_member-put_other q k (boolean false) old.definitions apart ∙ none) (sym (get_member-replaced_other q k d mid.definitions apart) ∙ some))
+        (h.adds q e (get_member-put_other q k (boolean false) old.definitions apart ∙ none)
+        (sym (get_member-replaced_other q k d mid.definitions apart) ∙ some))
 
 -- ---- fewer rows are missing
 
-made-wider : (contract : Contract) (old new : Work) → Wider contract old new → (n : ℕ) → is_made contract old n ≡ true → is_made contract new n ≡ true
+made-wider : (contract : Contract) (old new : Work) → Wider contract old new → (n : ℕ) → is_made contract old n ≡ true
+    → is_made contract new n ≡ true
 made-wider contract old new w n h = go (name_of n contract old.names) refl h
   where
-    key : (o : Option Data) (name : Text) → get_member name old.definitions ≡ o → is_some o ≡ true → is_some (get_member name new.definitions) ≡ true
+    key : (o : Option Data) (name : Text) → get_member name old.definitions ≡ o → is_some o ≡ true
+        → is_some (get_member name new.definitions) ≡ true
     key None name is e = absurd (true≢false (sym e))
     key (Some d) name is e = ap is_some (w.keys name (d, is)).1
 
-    go : (o : Option Text) → name_of n contract old.names ≡ o → option_map_or (λ name. is_some (get_member name old.definitions)) o false ≡ true
+    go : (o : Option Text) → name_of n contract old.names ≡ o → option_map_or (λ name. is_some (get_member name old.definitions)) o false
+        ≡ true
         → option_map_or (λ name. is_some (get_member name new.definitions)) (name_of n contract new.names) false ≡ true
     go None is e = absurd (true≢false (sym e))
-    go (Some name) is e = ap (λ o. option_map_or (λ x. is_some (get_member x new.definitions)) o false) (w.names n name is) ∙ key (get_member name old.definitions) name refl e
+    go (Some name) is e = ap (λ o. option_map_or (λ x. is_some (get_member x new.definitions)) o false) (w.names n name is)
+        ∙ key (get_member name old.definitions) name refl e
 
-below-wider : (contract : Contract) (old new : Work) → Wider contract old new → (n : ℕ) → missing_below contract new n ≤ missing_below contract old n
+below-wider : (contract : Contract) (old new : Work) → Wider contract old new → (n : ℕ)
+    → missing_below contract new n ≤ missing_below contract old n
 below-wider contract old new w zero = omega arith
 below-wider contract old new w (suc n) = go (is_made contract old n) (is_made contract new n) refl refl (below-wider contract old new w n)
   where
-    go : (a b : Bool) → is_made contract old n ≡ a → is_made contract new n ≡ b → missing_below contract new n ≤ missing_below contract old n
+    go : (a b : Bool) → is_made contract old n ≡ a → is_made contract new n ≡ b
+        → missing_below contract new n ≤ missing_below contract old n
         → (if b then 0 else 1) + missing_below contract new n ≤ (if a then 0 else 1) + missing_below contract old n
     go true true i j h = omega arith
     go true false i j h = absurd (true≢false (sym (made-wider contract old new w n i) ∙ j))
     go false true i j h = omega arith
     go false false i j h = omega arith
 
-below-less : (contract : Contract) (old new : Work) → Wider contract old new → (n k : ℕ) → k < n → is_made contract old k ≡ false → is_made contract new k ≡ true → missing_below contract new n < missing_below contract old n
+below-less : (contract : Contract) (old new : Work) → Wider contract old new → (n k : ℕ) → k < n → is_made contract old k ≡ false
+    → is_made contract new k ≡ true → missing_below contract new n < missing_below contract old n
 below-less contract old new w zero k less was now = absurd (omega arith)
 below-less contract old new w (suc n) k less was now = by_order (k == n) refl (below-less contract old new w n k)
   where
-    later : missing_below contract new n < missing_below contract old n → (a b : Bool) → is_made contract old n ≡ a → is_made contract new n ≡ b
+    later : missing_below contract new n < missing_below contract old n → (a b : Bool) → is_made contract old n ≡ a
+        → is_made contract new n ≡ b
         → (if b then 0 else 1) + missing_below contract new n < (if a then 0 else 1) + missing_below contract old n
     later h true true i j = omega arith
     later h true false i j = absurd (true≢false (sym (made-wider contract old new w n i) ∙ j))
     later h false true i j = omega arith
     later h false false i j = omega arith
 
-    here : k ≡ n → (if is_made contract new n then 0 else 1) + missing_below contract new n < (if is_made contract old n then 0 else 1) + missing_below contract old n
+    here : k ≡ n → (if is_made contract new n then 0 else 1) + missing_below contract new n
+        < (if is_made contract old n then 0 else 1) + missing_below contract old n
     here same =
         let was_n : is_made contract old n ≡ false = ap (is_made contract old) (sym same) ∙ was in
         let now_n : is_made contract new n ≡ true = ap (is_made contract new) (sym same) ∙ now in
         let rest = below-wider contract old new w n in
         rw (was_n, now_n) (omega arith)
 
-    by_order : (b : Bool) → (k == n) ≡ b → (k < n → is_made contract old k ≡ false → is_made contract new k ≡ true → missing_below contract new n < missing_below contract old n)
-        → (if is_made contract new n then 0 else 1) + missing_below contract new n < (if is_made contract old n then 0 else 1) + missing_below contract old n
+    by_order : (b : Bool) → (k == n) ≡ b → (k < n → is_made contract old k ≡ false → is_made contract new k ≡ true
+        → missing_below contract new n < missing_below contract old n)
+        → (if is_made contract new n then 0 else 1) + missing_below contract new n
+        < (if is_made contract old n then 0 else 1) + missing_below contract old n
     by_order true is rest = here (eqb-true k n is)
     by_order false is rest =
         let below : k < n = grind (arith, nat_tests) in
         later (rest below was now) (is_made contract old n) (is_made contract new n) refl refl
 
-pub missing-wider : (rows : List Row) (contract : Contract) (old new : Work) → Wider contract old new → missing rows contract new ≤ missing rows contract old
+pub missing-wider : (rows : List Row) (contract : Contract) (old new : Work) → Wider contract old new
+    → missing rows contract new ≤ missing rows contract old
 unfolding missing
 missing-wider rows contract old new w = below-wider contract old new w (length rows)
 
-pub missing-less : (rows : List Row) (contract : Contract) (old new : Work) (k : ℕ) → Wider contract old new → k < length rows → is_made contract old k ≡ false → is_made contract new k ≡ true
+pub missing-less : (rows : List Row) (contract : Contract) (old new : Work) (k : ℕ) → Wider contract old new → k < length rows
+    → is_made contract old k ≡ false → is_made contract new k ≡ true
     → missing rows contract new < missing rows contract old
 unfolding missing
 missing-less rows contract old new k w less was now = below-less contract old new w (length rows) k less was now
 
 -- ---- what a definition does
 
-pub begun-fewer : (plan : Plan) (old : Work) (n : ℕ) (k : Text) → n < length plan.rows → name_of n plan.contract old.names ≡ Some k → get_member k old.definitions ≡ None
+pub begun-fewer : (plan : Plan) (old : Work) (n : ℕ) (k : Text) → n < length plan.rows → name_of n plan.contract old.names ≡ Some k
+    → get_member k old.definitions ≡ None
     → missing plan.rows plan.contract (begun_with old k) < missing plan.rows plan.contract old
 begun-fewer plan old n k less named none =
     missing-less plan.rows plan.contract old (begun_with old k) n wider less was now
   where
     kept : (q : Text) → IsKey q old.definitions → IsKey q (put k (boolean false) old.definitions)
-    kept q is = same_key q k (λ same. (boolean false, ap (λ x. get_member x (put k (boolean false) old.definitions)) same ∙ get_member-put k (boolean false) old.definitions))
+    kept q is = same_key q k (λ same. (
+      boolean false,
+      ap (λ x. get_member x (put k (boolean false) old.definitions)) same
+          ∙ get_member-put k (boolean false) old.definitions,
+    ))
         (λ apart. (is.0, get_member-put_other q k (boolean false) old.definitions apart ∙ is.1))
 
     wider : Wider plan.contract old (begun_with old k)
@@ -253,7 +285,8 @@ begun-fewer plan old n k less named none =
     was = ap (λ o. option_map_or (λ name. is_some (get_member name old.definitions)) o false) named ∙ ap is_some none
 
     now : is_made plan.contract (begun_with old k) n ≡ true
-    now = ap (λ o. option_map_or (λ name. is_some (get_member name (put k (boolean false) old.definitions))) o false) named ∙ ap is_some (get_member-put k (boolean false) old.definitions)
+    now = ap (λ o. option_map_or (λ name. is_some (get_member name (put k (boolean false) old.definitions))) o false) named
+        ∙ ap is_some (get_member-put k (boolean false) old.definitions)
 
 abbrev undone_with : Work → Members → Work
 undone_with w ms = record { names = take w.kept w.names; definitions = ms; begun = []; kept = w.kept; meets_root = false }
@@ -267,8 +300,10 @@ undone-finished mid k d is = ap (undone_with mid) (without_all-replaced mid.begu
 pub begun-contains : (plan : Plan) (old : Work) (k : Text) (mid : Work) → Step plan (begun_with old k) mid → Contains mid.begun k
 begun-contains plan old k mid h = h.still_begun k (Contains-append_right old.begun (k ∷ []) k (0, omega arith, refl))
 
-pub finished-found : (plan : Plan) (old mid : Work) (k : Text) (d : Data) → Step plan (begun_with old k) mid → get_member k (finished_with mid k d).definitions ≡ Some d
-finished-found plan old mid k d h = get_member-replaced k d (boolean false) mid.definitions (h.stays k (boolean false) (get_member-put k (boolean false) old.definitions))
+pub finished-found : (plan : Plan) (old mid : Work) (k : Text) (d : Data) → Step plan (begun_with old k) mid
+    → get_member k (finished_with mid k d).definitions ≡ Some d
+finished-found plan old mid k d h = get_member-replaced k d (boolean false) mid.definitions
+    (h.stays k (boolean false) (get_member-put k (boolean false) old.definitions))
 
 pub key-found : (k : Text) (ms : Members) → is_some (get_member k ms) ≡ true → IsKey k ms
 key-found k ms h = go (get_member k ms) refl h

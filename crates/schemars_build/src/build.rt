@@ -6,7 +6,8 @@ ghost use Rattle.schemars_schema.specs.References.{references, found_in_members,
 ghost use Rattle.schemars_types.specs.Edges.{height};
 ghost use Rattle.schemars_types.specs.Faults.{IsChecked};
 ghost use Rattle.schemars_shapes.specs.Shape.{shape_of, field_of, numbers_of};
-ghost use Rattle.schemars_documents.specs.Documents.{IsDocument, IsWritten, ArePartsWritten, Describes, HasNoParts, NoPart, item_in, reference};
+ghost use Rattle.schemars_documents.specs.Documents.{IsDocument, IsWritten, ArePartsWritten, Describes, HasNoParts};
+ghost use Rattle.schemars_documents.specs.Documents.{NoPart, item_in, reference};
 ghost use Rattle.schemars_build.specs.Parts.{IsSubschema};
 ghost use Rattle.schemars_build.specs.Missing.{missing, StandsIn};
 ghost use Rattle.schemars_documents.specs.ContractOf.{contract_of};
@@ -99,7 +100,8 @@ fn define(
         ≤ missing (plan_of plan.now).rows plan.now.contract work.old) }
     ensures defined { OnOk result (IsKey (string_bytes name.now) work.new.definitions) }
     ensures reached { OnOk result (IsPlainTable (plan_of plan.now).rows
-        → AreReached (plan_of plan.now) false work.old work.new (string (reference_to (plan_of plan.now).path (string_bytes name.now)) ∷ [])) }
+        → AreReached (plan_of plan.now) false work.old work.new
+        (string (reference_to (plan_of plan.now).path (string_bytes name.now)) ∷ [])) }
 {
     let key = name.as_str();
     if work.has_definition(key) {

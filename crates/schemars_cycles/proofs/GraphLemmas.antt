@@ -1,5 +1,6 @@
 -- Members of lists of numbers, the targets of a number, and what closed walks need.
-use Rattle.std.proofs.Common.{◌≡◌, ◌<◌, ◌+◌, inl, inr, All, ℕ, zero, suc, List, [], ◌∷◌, Vec, length, get_or, Contains, slice_index, refl, sym, subst, arith}
+use Rattle.std.proofs.Common.{◌≡◌, ◌<◌, ◌+◌, inl, inr, All, ℕ, zero, suc, List, [], ◌∷◌, Vec, length, get_or, Contains}
+use Rattle.std.proofs.Common.{slice_index, refl, sym, subst, arith}
 use Rattle.std.specs.declared.alloc.Global.{Global}
 use Rattle.std.proofs.lemmas.Bool.{cases_eq}
 use Rattle.std.proofs.lemmas.List.Elements.{All-contains}
@@ -28,7 +29,8 @@ walk_along E F f n m (one m' e) = one m' (f n m' e)
 walk_along E F f n m (then k m' w e) = then k m' (walk_along E F f n k w) (f k m' e)
 
 -- one number further
-pub falls_more : (graph : Graph) (ranks : List ℕ) (n : ℕ) → ((k m : ℕ) → k < n → Contains (targets_in graph k) m → slice_index ranks m < slice_index ranks k) → All (λ m. slice_index ranks m < slice_index ranks n) (targets_in graph n)
+pub falls_more : (graph : Graph) (ranks : List ℕ) (n : ℕ) → ((k m : ℕ) → k < n → Contains (targets_in graph k) m
+    → slice_index ranks m < slice_index ranks k) → All (λ m. slice_index ranks m < slice_index ranks n) (targets_in graph n)
     → (k m : ℕ) → k < n + 1 → Contains (targets_in graph k) m → slice_index ranks m < slice_index ranks k
 falls_more graph ranks n before here k m below among = elim (cases_eq k n) [
   | inl same ↦
@@ -38,7 +40,8 @@ falls_more graph ranks n before here k m below among = elim (cases_eq k n) [
   | inr other ↦ before k m (omega arith) among
 ]
 
-walk_falls : (graph : Graph) (ranks : List ℕ) → Falls graph ranks → (n m : ℕ) → Walk (Leads (targets_in graph)) n m → slice_index ranks m < slice_index ranks n
+walk_falls : (graph : Graph) (ranks : List ℕ) → Falls graph ranks → (n m : ℕ) → Walk (Leads (targets_in graph)) n m
+    → slice_index ranks m < slice_index ranks n
 walk_falls graph ranks h n m (one m' e) = h.falls n m' e
 walk_falls graph ranks h n m (then k m' w e) = let last = h.falls k m' e in omega (arith, walk_falls graph ranks h n k w)
 

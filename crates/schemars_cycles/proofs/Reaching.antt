@@ -1,7 +1,10 @@
 -- What a search meets, one number after another.
-use Rattle.std.proofs.Common.{◌≡◌, ◌<◌, ◌+◌, ◌⊎◌, inl, inr, ℕ, zero, suc, List, [], ◌∷◌, ◌++◌, Bool, true, false, Some, length, get_or, Contains, refl, sym, ap, ◌∙◌, subst, arith, length-set, length-append, replicate, slice_get}
+use Rattle.std.proofs.Common.{◌≡◌, ◌<◌, ◌+◌, ◌⊎◌, inl, inr, ℕ, zero, suc, List, [], ◌∷◌, ◌++◌, Bool, true, false, Some}
+use Rattle.std.proofs.Common.{length, get_or, Contains, refl, sym, ap, ◌∙◌, subst, arith, length-set, length-append}
+use Rattle.std.proofs.Common.{replicate, slice_get}
 use Rattle.std.proofs.Math.ListN.{set}
-use Rattle.std.proofs.lemmas.List.Elements.{Contains-append_left, Contains-append_right, Contains-append_cases, Contains-push, Contains-push_cases}
+use Rattle.std.proofs.lemmas.List.Elements.{Contains-append_left, Contains-append_right, Contains-append_cases}
+use Rattle.std.proofs.lemmas.List.Elements.{Contains-push, Contains-push_cases}
 use Rattle.schemars_cycles.proofs.GraphLemmas.{nothing_among}
 use Rattle.schemars_cycles.specs.Walks.{Walk, one, then, Leads}
 use Rattle.schemars_cycles.specs.Search.{Graph, targets_in, IsMet, unmet, Front, front_of, Meets, AreReached}
@@ -39,16 +42,26 @@ is_alone : (m k : ℕ) → Contains (m ∷ []) k → m ≡ k
 is_alone m k (zero, below, is) = is
 is_alone m k (suc i, below, is) = absurd (omega arith)
 
-pub meets_new : (met : List Bool) (waiting : List ℕ) (m : ℕ) (d : Bool) → m < length met → get_or met m d ≡ false → Meets (m ∷ []) (front_of met waiting) (front_of (set met m true) (waiting ++ m ∷ []))
+pub meets_new : (met : List Bool) (waiting : List ℕ) (m : ℕ) (d : Bool) → m < length met → get_or met m d ≡ false
+    → Meets (m ∷ []) (front_of met waiting) (front_of (set met m true) (waiting ++ m ∷ []))
 meets_new met waiting m d below new = record {
   same_length = length-set met m true;
   fewer = omega (arith, unmet-set met m d below new);
   each_waits = omega (arith, unmet-set met m d below new, length-append waiting (m ∷ []));
-  all = λ k among. let P : ℕ → Type 0 = λ j. IsMet (set met m true) j in subst P (is_alone m k among) (record { at = met-set_same met m below });
+  all = λ k among. let P : ℕ → Type 0 = λ j. IsMet (set met m true) j in
+      subst P (is_alone m k among) (record { at = met-set_same met m below });
   kept = λ k h. record { at = met-set_kept met m k h.at };
   still_waits = λ k h. Contains-append_left waiting (m ∷ []) k h;
-  met_from = λ k h. elim (met-set_cases met m k h.at) [ inl before ↦ inl (record { at = before }) | inr same ↦ inr (alone m k same, Contains-append_right waiting (m ∷ []) k (alone m k same)) ];
-  waits_from = λ k h. elim (Contains-push_cases waiting m k h) [ inl before ↦ inl before | inr same ↦ inr (let P : ℕ → Type 0 = λ j. IsMet (set met m true) j in subst P same (record { at = met-set_same met m below })) ];
+  met_from = λ k h. elim (met-set_cases met m k h.at) [
+    | inl before ↦ inl (record { at = before })
+    | inr same ↦ inr
+        (alone m k same, Contains-append_right waiting (m ∷ []) k (alone m k same))
+  ];
+  waits_from = λ k h. elim (Contains-push_cases waiting m k h) [
+    | inl before ↦ inl before
+    | inr same ↦ inr
+        (let P : ℕ → Type 0 = λ j. IsMet (set met m true) j in subst P same (record { at = met-set_same met m below }))
+  ];
 }
 
 pub meets_met : (f : Front) (m : ℕ) → IsMet f.met m → Meets (m ∷ []) f f
@@ -84,10 +97,18 @@ meets_then ms ns f g h p q = record {
   kept = λ k m. q.kept k (p.kept k m);
   still_waits = λ k w. q.still_waits k (p.still_waits k w);
   met_from = λ k m. elim (q.met_from k m) [
-    | inl between ↦ elim (p.met_from k between) [ inl before ↦ inl before | inr (among, waits) ↦ inr (Contains-append_left ms ns k among, q.still_waits k waits) ]
+    | inl between ↦ elim (p.met_from k between) [
+      | inl before ↦ inl before
+      | inr (among, waits) ↦ inr
+          (Contains-append_left ms ns k among, q.still_waits k waits)
+    ]
     | inr (among, waits) ↦ inr (Contains-append_right ms ns k among, waits)
   ];
-  waits_from = λ k w. elim (q.waits_from k w) [ inl between ↦ elim (p.waits_from k between) [ inl before ↦ inl before | inr m ↦ inr (q.kept k m) ] | inr m ↦ inr m ];
+  waits_from = λ k w. elim (q.waits_from k w) [
+    | inl between ↦ elim (p.waits_from k between)
+        [ inl before ↦ inl before | inr m ↦ inr (q.kept k m) ]
+    | inr m ↦ inr m
+  ];
 }
 
 -- ---- the whole search
@@ -105,7 +126,8 @@ met-none zero m h = cc
 met-none (suc k) zero h = cc
 met-none (suc k) (suc m) h = met-none k m h
 
-pub under_way_first : (graph : Graph) (from : ℕ) (f g : Front) → f.met ≡ replicate (length graph) false → f.waiting ≡ [] → length f.met ≡ length graph → Meets (targets_in graph from) f g → IsUnderWay graph from g
+pub under_way_first : (graph : Graph) (from : ℕ) (f g : Front) → f.met ≡ replicate (length graph) false → f.waiting ≡ []
+    → length f.met ≡ length graph → Meets (targets_in graph from) f g → IsUnderWay graph from g
 under_way_first graph from f g fresh empty len p = record {
   same_length = p.same_length ∙ len;
   sound = λ m h. one m (among m (p.met_from m h)).0;
@@ -117,7 +139,8 @@ under_way_first graph from f g fresh empty len p = record {
     unmet_before : (m : ℕ) → IsMet f.met m → ⊥
     unmet_before m h = met-none (length graph) m (subst (λ (xs : List Bool). slice_get xs m ≡ Some true) fresh h.at)
 
-    among : (m : ℕ) → IsMet f.met m ⊎ (Contains (targets_in graph from) m × Contains g.waiting m) → Contains (targets_in graph from) m × Contains g.waiting m
+    among : (m : ℕ) → IsMet f.met m ⊎ (Contains (targets_in graph from) m × Contains g.waiting m)
+        → Contains (targets_in graph from) m × Contains g.waiting m
     among m (inl before) = absurd (unmet_before m before)
     among m (inr now) = now
 
@@ -125,7 +148,8 @@ under_way_first graph from f g fresh empty len p = record {
     waits m (inl before) = absurd (nothing_among m (subst (λ (xs : List ℕ). Contains xs m) empty before))
     waits m (inr now) = now
 
-pub under_way_next : (graph : Graph) (from n : ℕ) (e f g : Front) → IsUnderWay graph from e → e.waiting ≡ f.waiting ++ n ∷ [] → e.met ≡ f.met → Meets (targets_in graph n) f g → IsUnderWay graph from g
+pub under_way_next : (graph : Graph) (from n : ℕ) (e f g : Front) → IsUnderWay graph from e → e.waiting ≡ f.waiting ++ n ∷ []
+    → e.met ≡ f.met → Meets (targets_in graph n) f g → IsUnderWay graph from g
 under_way_next graph from n e f g h popped same p = record {
   same_length = p.same_length ∙ ap length (sym same) ∙ h.same_length;
   sound = λ m is. sound m (p.met_from m is);
@@ -158,15 +182,18 @@ under_way_next graph from n e f g h popped same p = record {
     stays k (inl before) = inl (p.still_waits k before)
     stays k (inr is) = inr (at_n k is)
 
-    before_now : (k : ℕ) → Contains e.waiting k ⊎ ((m : ℕ) → Contains (targets_in graph k) m → IsMet e.met m) → Contains g.waiting k ⊎ ((m : ℕ) → Contains (targets_in graph k) m → IsMet g.met m)
+    before_now : (k : ℕ) → Contains e.waiting k ⊎ ((m : ℕ) → Contains (targets_in graph k) m → IsMet e.met m)
+        → Contains g.waiting k ⊎ ((m : ℕ) → Contains (targets_in graph k) m → IsMet g.met m)
     before_now k (inl is) = stays k (Contains-push_cases f.waiting n k (subst (λ (xs : List ℕ). Contains xs k) popped is))
     before_now k (inr done) = inr (λ m among. kept m (done m among))
 
-    gone : (k : ℕ) → IsMet f.met k ⊎ (Contains (targets_in graph n) k × Contains g.waiting k) → Contains g.waiting k ⊎ ((m : ℕ) → Contains (targets_in graph k) m → IsMet g.met m)
+    gone : (k : ℕ) → IsMet f.met k ⊎ (Contains (targets_in graph n) k × Contains g.waiting k)
+        → Contains g.waiting k ⊎ ((m : ℕ) → Contains (targets_in graph k) m → IsMet g.met m)
     gone k (inl is) = before_now k (h.gone_on k (was_met k is))
     gone k (inr now) = inl now.1
 
-complete : (graph : Graph) (from : ℕ) (f : Front) → IsUnderWay graph from f → f.waiting ≡ [] → (m : ℕ) → Walk (Leads (targets_in graph)) from m → IsMet f.met m
+complete : (graph : Graph) (from : ℕ) (f : Front) → IsUnderWay graph from f → f.waiting ≡ [] → (m : ℕ)
+    → Walk (Leads (targets_in graph)) from m → IsMet f.met m
 complete graph from f h empty m (one m' among) = h.first m' among
 complete graph from f h empty m (then k m' w among) = onward (h.gone_on k (complete graph from f h empty k w))
   where

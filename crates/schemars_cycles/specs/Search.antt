@@ -1,5 +1,6 @@
 -- Graphs as the program holds them, and sets of rows that a search has met.
-use Rattle.std.specs.Prelude.{◌≡◌, ◌<◌, ◌≤◌, ◌+◌, ◌⊎◌, ℕ, suc, List, [], ◌∷◌, length, Contains, slice_get, slice_index, Bool, true, false, Some, Vec}
+use Rattle.std.specs.Prelude.{◌≡◌, ◌<◌, ◌≤◌, ◌+◌, ◌⊎◌, ℕ, suc, List, [], ◌∷◌, length, Contains, slice_get, slice_index}
+use Rattle.std.specs.Prelude.{Bool, true, false, Some, Vec}
 use Rattle.std.specs.declared.alloc.Global.{Global}
 use Rattle.std.specs.Option.{option_map_or}
 use Rattle.schemars_cycles.specs.Walks.{Walk, Leads}

@@ -1,5 +1,6 @@
 -- A document accepts just what belongs to its row, through references and rows that lead back to themselves.
-use Rattle.std.proofs.Common.{◌≡◌, ◌⊎◌, inl, inr, ℕ, zero, suc, ◌+◌, ◌*◌, ◌<◌, ◌≤◌, List, [], ◌∷◌, Option, Some, None, Bool, true, false, refl, sym, ap, ◌∙◌, arith, add-one, true≢false}
+use Rattle.std.proofs.Common.{◌≡◌, ◌⊎◌, inl, inr, ℕ, zero, suc, ◌+◌, ◌*◌, ◌<◌, ◌≤◌, List, [], ◌∷◌, Option, Some, None}
+use Rattle.std.proofs.Common.{Bool, true, false, refl, sym, ap, ◌∙◌, arith, add-one, true≢false}
 use Rattle.std.specs.Prelude.{nat_lt, if◌then◌else◌, length}
 use Rattle.std.proofs.Math.Nat.{mul-le-mul_right}
 use Rattle.std.proofs.lemmas.Bool.Decides.{nat_tests}
@@ -83,11 +84,14 @@ module _ (rows : List Row) (contract : Contract) (Refers : ℕ → Text → Type
   reference_nullable : (r : Text) → IsNullable (reference r)
   reference_nullable r = inl (record { combined = refl; offers = λ stays. absurd (true≢false (sym stays)) })
 
-  own_nullable : (d : ℕ) → ((j : ℕ) (t : Data) → In d j t → IsNullable t) → (o : Option Entry) → IsPlainEntry o → (t : Data) → IsOwnDocument (In d) contract o t → IsNullable t
+  own_nullable : (d : ℕ) → ((j : ℕ) (t : Data) → In d j t → IsNullable t) → (o : Option Entry) → IsPlainEntry o → (t : Data)
+      → IsOwnDocument (In d) contract o t → IsNullable t
   own_nullable d ready None noted t is = absurd is
-  own_nullable d ready (Some e) noted t is = rw is.2 (nullable-annotated e.notes is.0 noted.0 (shape_nullable (In d) contract ready e.shape is.0 is.1))
+  own_nullable d ready (Some e) noted t is = rw is.2 (nullable-annotated e.notes is.0 noted.0
+      (shape_nullable (In d) contract ready e.shape is.0 is.1))
 
-  written_by : (d : ℕ) → ((j : ℕ) (t : Data) → Describes rows contract Refers d j t → IsNullable t) → (j : ℕ) (t : Data) → In d j t → IsNullable t
+  written_by : (d : ℕ) → ((j : ℕ) (t : Data) → Describes rows contract Refers d j t → IsNullable t) → (j : ℕ) (t : Data) → In d j t
+      → IsNullable t
   written_by d own j t (inl h) = rw h.2 (reference_nullable h.0)
   written_by d own j t (inr h) = own j t h
 
@@ -102,7 +106,8 @@ module _ (rows : List Row) (contract : Contract) (Refers : ℕ → Text → Type
   pub described_schema : (d n : ℕ) (t : Data) → Describes rows contract Refers d n t → IsSchema t
   described_schema d n t h = nullable-schema t (described_nullable d n t h)
 
--- ---- what is given: a plain table whose ranks fall where a part has the row's own values, and a document in which each reference leads to what says the same as its row's document
+-- ---- what is given: a plain table whose ranks fall where a part has the row's own values, and a document in which
+-- each reference leads to what says the same as its row's document
 
 pub record Setting : Type 0 where
   pub rows : List Row
@@ -111,7 +116,8 @@ pub record Setting : Type 0 where
   pub document : Data
   pub refs : References
   pub resolves : (j : ℕ) (r : Text) → InList refs j r
-      → (found : Data) × (s : Data) × (d : ℕ) × (resolved document r ≡ Some found) × ((f : Text → Judge) → judge (context2020_12 patterns f) found ≡ judge (context2020_12 patterns f) s)
+      → (found : Data) × (s : Data) × (d : ℕ) × (resolved document r ≡ Some found)
+      × ((f : Text → Judge) → judge (context2020_12 patterns f) found ≡ judge (context2020_12 patterns f) s)
       × Describes rows contract (InList refs) d j s
   pub plain : IsPlainTable rows
   pub rank : ℕ → ℕ
@@ -163,7 +169,8 @@ module _ (s : Setting) where
 
   abbrev Good : ℕ → Type 0
   Good n =
-      (j : ℕ) (r : Text) → InList refs j r → (w : Data) → IsJson w → (m : ℕ) → depth w * most_hops + hops j < n → depth w * ranks + rank j < m
+      (j : ℕ) (r : Text) → InList refs j r → (w : Data) → IsJson w → (m : ℕ) → depth w * most_hops + hops j < n
+      → depth w * ranks + rank j < m
       → (at_most n r).fits w ≡ verdict (belongs_within rows contract patterns m j w)
 
   abbrev Said : ℕ → ℕ → Type 0
@@ -175,8 +182,10 @@ module _ (s : Setting) where
   unfolding read_data all_keywords
   reference_says f r v = both-yes ((f r).fits v)
 
-  part_says : (n d m : ℕ) → Good n → Said n d → (k : ℕ) (e : Entry) → entry_at rows k ≡ Some e → (v : Data) → depth v * most_hops + hops k ≤ n → depth v * ranks + rank k < suc m
-      → (j : ℕ) (t w : Data) → W d j t → IsJson w → Inside e.shape v j w → (judge (context2020_12 patterns (at_most n)) t).fits w ≡ verdict (belongs_within rows contract patterns m j w)
+  part_says : (n d m : ℕ) → Good n → Said n d → (k : ℕ) (e : Entry) → entry_at rows k ≡ Some e → (v : Data)
+      → depth v * most_hops + hops k ≤ n → depth v * ranks + rank k < suc m
+      → (j : ℕ) (t w : Data) → W d j t → IsJson w → Inside e.shape v j w
+      → (judge (context2020_12 patterns (at_most n)) t).fits w ≡ verdict (belongs_within rows contract patterns m j w)
   unfolding hops
   part_says n d m good said k e is v costs low j t w (inl (r, is_ref, same_t)) json (inl less) =
       let a = closer (depth w) (depth v) most_hops (hops j) less (few_hops j) in
@@ -197,7 +206,8 @@ module _ (s : Setting) where
       let same_depth : depth w ≡ depth v = ap depth same.1 in
       said j t h w json m (rw same_depth (omega arith)) (rw same_depth (omega arith))
 
-  own_says : (n d : ℕ) → Good n → Said n d → (k : ℕ) (o : Option Entry) → entry_at rows k ≡ o → IsPlainEntry o → (t : Data) → IsOwnDocument (W d) contract o t → (v : Data) → IsJson v → (m : ℕ)
+  own_says : (n d : ℕ) → Good n → Said n d → (k : ℕ) (o : Option Entry) → entry_at rows k ≡ o → IsPlainEntry o → (t : Data)
+      → IsOwnDocument (W d) contract o t → (v : Data) → IsJson v → (m : ℕ)
       → depth v * most_hops + hops k ≤ n → depth v * ranks + rank k < suc m
       → (judge (context2020_12 patterns (at_most n)) t).fits v
       ≡ verdict (elim o [ None ↦ false | Some entry ↦ has_shape contract patterns (belongs_within rows contract patterns m) entry.shape v ])
@@ -213,9 +223,11 @@ module _ (s : Setting) where
   unfolding Describes belongs_within
   said n good zero k t h v json m costs low = absurd h
   said n good (suc d) k t h v json zero costs low = absurd (omega arith)
-  said n good (suc d) k t h v json (suc m) costs low = own_says n d good (said n good d) k (entry_at rows k) refl (s.plain k) t h v json m costs low
+  said n good (suc d) k t h v json (suc m) costs low = own_says n d good (said n good d) k (entry_at rows k) refl (s.plain k) t h v json
+      m costs low
 
-  followed : (n : ℕ) (r : Text) (t : Data) → resolved document r ≡ Some t → at_most (suc n) r ≡ judge (context2020_12 patterns (at_most n)) t
+  followed : (n : ℕ) (r : Text) (t : Data) → resolved document r ≡ Some t
+      → at_most (suc n) r ≡ judge (context2020_12 patterns (at_most n)) t
   unfolding follow
   followed n r t e = rw (e, follow)
 
@@ -229,7 +241,8 @@ module _ (s : Setting) where
   within a h r n small less = omega arith
 
   -- from the bound on, a document says what its row means
-  pub describes_says : (d k : ℕ) (t : Data) → D d k t → (v : Data) → IsJson v → (n m : ℕ) → (depth v + 1) * (length refs + 1) ≤ n → (depth v + 1) * ranks ≤ m
+  pub describes_says : (d k : ℕ) (t : Data) → D d k t → (v : Data) → IsJson v → (n m : ℕ) → (depth v + 1) * (length refs + 1) ≤ n
+      → (depth v + 1) * ranks ≤ m
       → (judge (context2020_12 patterns (at_most n)) t).fits v ≡ verdict (belongs_within rows contract patterns m k v)
   unfolding most_hops
   describes_says d k t h v json n m enough steps =
@@ -242,7 +255,8 @@ module _ (s : Setting) where
   strictly a h r n small less = omega arith
 
   -- and so does a reference to it
-  pub written_says : (d k : ℕ) (t : Data) → W d k t → (v : Data) → IsJson v → (n m : ℕ) → (depth v + 1) * (length refs + 1) ≤ n → (depth v + 1) * ranks ≤ m
+  pub written_says : (d k : ℕ) (t : Data) → W d k t → (v : Data) → IsJson v → (n m : ℕ) → (depth v + 1) * (length refs + 1) ≤ n
+      → (depth v + 1) * ranks ≤ m
       → (judge (context2020_12 patterns (at_most n)) t).fits v ≡ verdict (belongs_within rows contract patterns m k v)
   unfolding most_hops
   written_says d k t (inr h) v json n m enough steps = describes_says d k t h v json n m enough steps

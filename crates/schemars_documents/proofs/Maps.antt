@@ -1,5 +1,6 @@
 -- What the document of a map with named members says under 2020-12.
-use Rattle.std.proofs.Common.{◌≡◌, List, [], ◌∷◌, Option, Some, None, Bool, true, false, Ordering, Less, Equal, Greater, nat_cmp, is_eq, refl, sym, ap, ◌∙◌, option_map}
+use Rattle.std.proofs.Common.{◌≡◌, List, [], ◌∷◌, Option, Some, None, Bool, true, false, Ordering, Less, Equal, Greater}
+use Rattle.std.proofs.Common.{nat_cmp, is_eq, refl, sym, ap, ◌∙◌, option_map}
 use Rattle.std.specs.Prelude.{codes, bytes_eq, if◌then◌else◌, is_some}
 use Rattle.std.specs.Ordering.{match_ordering}
 use Rattle.std.specs.Cmp.Lexicographic.{slice_cmp}
@@ -9,7 +10,10 @@ use Rattle.serde_json.specs.Find.{get_member}
 use Rattle.schemars_schema.specs.Verdict.{Verdict, Yes, No, both, verdict}
 use Rattle.schemars_json.specs.Json.{Text}
 use Rattle.schemars_schema.specs.SchemaData.{IsSchema, object_of, put_all}
-use Rattle.schemars_schema.specs.Acceptance.{Patterns, Judge, Context, Reading, judge, read_data, read_members, all_keywords, all_named, schema_named, each_member, where_some, have_all, texts_in, type_says, required_says, properties_say, additional_properties_say, is_covered}
+use Rattle.schemars_schema.specs.Acceptance.{Patterns, Judge, Context, Reading, judge, read_data, read_members}
+use Rattle.schemars_schema.specs.Acceptance.{all_keywords, all_named, schema_named, each_member, where_some, have_all}
+use Rattle.schemars_schema.specs.Acceptance.{texts_in, type_says, required_says, properties_say}
+use Rattle.schemars_schema.specs.Acceptance.{additional_properties_say, is_covered}
 use Rattle.schemars_schema.proofs.Verdicts.{both-yes}
 use Rattle.schemars_schema.proofs.Objects.{schema-judge}
 use Rattle.schemars_rewrite.specs.NullLaw.{context2020_12, text_items}
@@ -31,17 +35,20 @@ unfolding read_data judges_in
 all_named-schemas c no_members h = refl
 all_named-schemas c (member k d ms) h = rw (schema-judge c d h.0, all_named-schemas c ms h.1)
 
-judge_found : (o : Ordering) (b : Bool) (p : Judge) (rest : Option Judge) → is_eq o ≡ b → (if b then Some p else rest) ≡ match_ordering o rest (Some p) rest
+judge_found : (o : Ordering) (b : Bool) (p : Judge) (rest : Option Judge) → is_eq o ≡ b
+    → (if b then Some p else rest) ≡ match_ordering o rest (Some p) rest
 judge_found Less b p rest is = rw (← is)
 judge_found Equal b p rest is = rw (← is)
 judge_found Greater b p rest is = rw (← is)
 
-mapped : (o : Ordering) (f : Data → Judge) (a b c : Option Data) → match_ordering o (option_map f a) (option_map f b) (option_map f c) ≡ option_map f (match_ordering o a b c)
+mapped : (o : Ordering) (f : Data → Judge) (a b c : Option Data) → match_ordering o (option_map f a) (option_map f b) (option_map f c)
+    ≡ option_map f (match_ordering o a b c)
 mapped Less f a b c = refl
 mapped Equal f a b c = refl
 mapped Greater f a b c = refl
 
-pub schema_named-judges_in : (c : Context) (ms : Members) (k : Text) → schema_named k (judges_in c ms) ≡ option_map (judge c) (get_member k ms)
+pub schema_named-judges_in : (c : Context) (ms : Members) (k : Text)
+    → schema_named k (judges_in c ms) ≡ option_map (judge c) (get_member k ms)
 unfolding judges_in
 schema_named-judges_in c no_members k = refl
 schema_named-judges_in c (member l d ms) k =
@@ -100,9 +107,11 @@ module _ (patterns : Patterns) (f : Text → Judge) where
   map_says es ns closed v =
       both (type_says false (Some (string (codes "object"))) None v)
       (both (required_says (required_value ns) v)
-      (both (properties_say (properties_value c es) v) (additional_properties_say (is_covered patterns (properties_value c es) None) (closed_value c closed) v)))
+      (both (properties_say (properties_value c es) v) (additional_properties_say (is_covered patterns (properties_value c es) None)
+      (closed_value c closed) v)))
 
-  judge-map : (es : List Keyword) (ns : List Text) (closed : Bool) (v : Data) → (judge c (map_document es ns closed)).fits v ≡ map_says es ns closed v
+  judge-map : (es : List Keyword) (ns : List Text) (closed : Bool) (v : Data)
+      → (judge c (map_document es ns closed)).fits v ≡ map_says es ns closed v
   unfolding read_data all_keywords map_says required_value properties_value closed_value
   judge-map [] [] false v = refl
   judge-map [] [] true v = rw both-yes refl
@@ -129,26 +138,31 @@ module _ (patterns : Patterns) (f : Text → Judge) where
   required_part [] ms = refl
   required_part (n ∷ ns) ms = rw (texts_in-text_items ns)
 
-  named_part : (es : List Keyword) → AreEntries es → (ms : Members) → properties_say (properties_value c es) (object ms) ≡ each_member (named_says (judges_of es)) ms
+  named_part : (es : List Keyword) → AreEntries es → (ms : Members) → properties_say (properties_value c es) (object ms)
+      ≡ each_member (named_says (judges_of es)) ms
   unfolding properties_value read_data judges_in
   named_part [] h ms = sym (each_yes ms)
   named_part (e ∷ es) h ms = rw (all_named-schemas c (put_all (e ∷ es) no_members) (AreSchemas-put_all (e ∷ es) no_members h tt))
 
-  covered : (e : Keyword) (es : List Keyword) → AreEntries (e ∷ es) → (k : Text) → is_covered patterns (properties_value c (e ∷ es)) None k ≡ is_some (schema_named k (judges_of (e ∷ es)))
+  covered : (e : Keyword) (es : List Keyword) → AreEntries (e ∷ es) → (k : Text)
+      → is_covered patterns (properties_value c (e ∷ es)) None k ≡ is_some (schema_named k (judges_of (e ∷ es)))
   unfolding properties_value read_data judges_in
   covered e es h k = rw (all_named-schemas c (put_all (e ∷ es) no_members) (AreSchemas-put_all (e ∷ es) no_members h tt)) (or-false _)
 
   other_part : (es : List Keyword) (closed : Bool) → AreEntries es → (ms : Members)
-      → additional_properties_say (is_covered patterns (properties_value c es) None) (closed_value c closed) (object ms) ≡ each_member (other_says closed (judges_of es)) ms
+      → additional_properties_say (is_covered patterns (properties_value c es) None) (closed_value c closed) (object ms)
+      ≡ each_member (other_says closed (judges_of es)) ms
   unfolding properties_value closed_value read_data judges_in
   other_part es false h ms = sym (each_yes ms)
   other_part [] true h ms = refl
   other_part (e ∷ es) true h ms = each_agree _ _ (λ k w. ap (λ b. if b then Yes else No) (covered e es h k)) ms
 
   pub judge-map_object : (es : List Keyword) (ns : List Text) (closed : Bool) → AreEntries es → (ms : Members)
-      → (judge c (map_document es ns closed)).fits (object ms) ≡ both (verdict (have_all ns ms)) (both (each_member (named_says (judges_of es)) ms) (each_member (other_says closed (judges_of es)) ms))
+      → (judge c (map_document es ns closed)).fits (object ms) ≡ both (verdict (have_all ns ms))
+      (both (each_member (named_says (judges_of es)) ms) (each_member (other_says closed (judges_of es)) ms))
   unfolding map_says
-  judge-map_object es ns closed h ms = judge-map es ns closed (object ms) ∙ rw (required_part ns ms, named_part es h ms, other_part es closed h ms)
+  judge-map_object es ns closed h ms = judge-map es ns closed (object ms)
+      ∙ rw (required_part ns ms, named_part es h ms, other_part es closed h ms)
 
   abbrev pub IsNoMap : Data → Type 0
   IsNoMap null = Unit {0}
@@ -162,7 +176,8 @@ module _ (patterns : Patterns) (f : Text → Judge) where
   silent None = refl
   silent (Some x) = refl
 
-  pub judge-map_other : (es : List Keyword) (ns : List Text) (closed : Bool) (v : Data) → IsNoMap v → (judge c (map_document es ns closed)).fits v ≡ No
+  pub judge-map_other : (es : List Keyword) (ns : List Text) (closed : Bool) (v : Data) → IsNoMap v
+      → (judge c (map_document es ns closed)).fits v ≡ No
   unfolding map_says
   judge-map_other es ns closed (object ms) h = absurd h
   judge-map_other es ns closed null h = judge-map es ns closed null ∙ simp silent

@@ -12,7 +12,9 @@ use Rattle.schemars_shapes.specs.Shape.{Shape, Entry, numbers_of}
 use Rattle.schemars_types.specs.Meaning.{Contract, Deserialize, Serialize, has_shape}
 use Rattle.schemars_documents.specs.Documents.{IsDocument}
 use Rattle.schemars_documents.specs.PlainTable.{IsPlainShape}
-use Rattle.schemars_documents.proofs.Shapes.{bytes_say, schema_says, null_says, bool_says, number_says, text_says, formatted_says, char_says, any_says, seq_says, set_says, array_says, up_to_says, tuple_says, int_says, non_zero_says}
+use Rattle.schemars_documents.proofs.Shapes.{bytes_say, schema_says, null_says, bool_says, number_says, text_says}
+use Rattle.schemars_documents.proofs.Shapes.{formatted_says, char_says, any_says, seq_says, set_says, array_says}
+use Rattle.schemars_documents.proofs.Shapes.{up_to_says, tuple_says, int_says, non_zero_says}
 use Rattle.schemars_documents.proofs.Structs.{struct_says}
 use Rattle.schemars_shapes.specs.declared.shape.IntKind.{IntKind}
 use Rattle.schemars_shapes.specs.declared.shape.IntKind.TheVariants.{I8, I16, I32, I64, I128, Isize, U8, U16, U32, U64, U128, Usize}
@@ -50,7 +52,12 @@ non_zero_nullable U128 = inr (record { alone = refl; type_form = refl; no_const 
 non_zero_nullable Usize = inr (record { alone = refl; type_form = refl; no_const = refl; not_form = inl refl })
 
 bytes_nullable : (contract : Contract) → IsNullable (bytes_document contract)
-bytes_nullable Deserialize = inr (record { alone = refl; type_form = (codes "array" ∷ codes "string" ∷ [], refl, refl); no_const = refl; not_form = inl refl })
+bytes_nullable Deserialize = inr (record {
+  alone = refl;
+  type_form = (codes "array" ∷ codes "string" ∷ [], refl, refl);
+  no_const = refl;
+  not_form = inl refl;
+})
 bytes_nullable Serialize = inr (record { alone = refl; type_form = refl; no_const = refl; not_form = inl refl })
 
 map_nullable : (es : List Keyword) (ns : List Text) (closed : Bool) → IsNullable (map_document es ns closed)
@@ -79,14 +86,20 @@ module _ (W : ℕ → Data → Type 0) (contract : Contract) (ready : (j : ℕ) 
   shape_nullable (shape.formatted f) s is = rw is (inr (record { alone = refl; type_form = refl; no_const = refl; not_form = inl refl }))
   shape_nullable shape.any s is = rw is tt
   shape_nullable shape.bytes s is = rw is (bytes_nullable contract)
-  shape_nullable shape.schema_itself s is = rw is (inr (record { alone = refl; type_form = (codes "object" ∷ codes "boolean" ∷ [], refl, refl); no_const = refl; not_form = inl refl }))
+  shape_nullable shape.schema_itself s is = rw is (inr (record {
+    alone = refl;
+    type_form = (codes "object" ∷ codes "boolean" ∷ [], refl, refl);
+    no_const = refl;
+    not_form = inl refl;
+  }))
   shape_nullable (shape.option n) s is = rw is.2 (nullable-allow_null is.0 (ready n is.0 is.1))
   shape_nullable (shape.struct xs closed) s is = rw is.2 (map_nullable _ _ closed)
   shape_nullable (shape.newtype n) s is = ready n s is
   shape_nullable (shape.seq n) s is = rw is.2 (inr (record { alone = refl; type_form = refl; no_const = refl; not_form = inl refl }))
   shape_nullable (shape.set n) s is = rw is.2 (inr (record { alone = refl; type_form = refl; no_const = refl; not_form = inl refl }))
   shape_nullable (shape.array n zero) s is = rw is (inr (record { alone = refl; type_form = refl; no_const = refl; not_form = inl refl }))
-  shape_nullable (shape.array n (suc len)) s is = rw is.2 (inr (record { alone = refl; type_form = refl; no_const = refl; not_form = inl refl }))
+  shape_nullable (shape.array n (suc len)) s is = rw is.2 (inr (record
+      { alone = refl; type_form = refl; no_const = refl; not_form = inl refl }))
   shape_nullable (shape.up_to n cap) s is = rw is.2 (inr (record { alone = refl; type_form = refl; no_const = refl; not_form = inl refl }))
   shape_nullable (shape.tuple ns) s is = rw is.2 (tuple_nullable is.0)
 
@@ -118,7 +131,8 @@ IsSame (shape.newtype n) j = j ≡ n
 abbrev pub Inside : Shape → Data → ℕ → Data → Type 0
 Inside kind v j w = (depth w < depth v) ⊎ (IsSame kind j × (w ≡ v))
 
-module _ (patterns : Patterns) (f : Text → Judge) (contract : Contract) (W : ℕ → Data → Type 0) (M : ℕ → Data → Bool) (ready : (j : ℕ) (t : Data) → W j t → IsNullable t) where
+module _ (patterns : Patterns) (f : Text → Judge) (contract : Contract) (W : ℕ → Data → Type 0) (M : ℕ → Data → Bool)
+    (ready : (j : ℕ) (t : Data) → W j t → IsNullable t) where
   abbrev c : Context
   c = context2020_12 patterns f
 
@@ -128,7 +142,8 @@ module _ (patterns : Patterns) (f : Text → Judge) (contract : Contract) (W : �
   abbrev schemas : (j : ℕ) (t : Data) → W j t → IsSchema t
   schemas j t is = nullable-schema t (ready j t is)
 
-  pub shape_says : (kind : Shape) (s : Data) → IsPlainShape kind → IsDocument W contract kind s → (v : Data) → IsJson v → Agrees kind v → (judge c s).fits v ≡ verdict (has_shape contract patterns M kind v)
+  pub shape_says : (kind : Shape) (s : Data) → IsPlainShape kind → IsDocument W contract kind s → (v : Data) → IsJson v → Agrees kind v
+      → (judge c s).fits v ≡ verdict (has_shape contract patterns M kind v)
   shape_says shape.null s p is v json agree = rw is (null_says patterns f contract M v)
   shape_says shape.bool s p is v json agree = rw is (bool_says patterns f contract M v)
   shape_says (shape.int k) s p is v json agree = rw is (int_says patterns f contract M k v)
@@ -140,12 +155,19 @@ module _ (patterns : Patterns) (f : Text → Judge) (contract : Contract) (W : �
   shape_says shape.any s p is v json agree = rw is (any_says patterns f contract M v)
   shape_says shape.bytes s p is v json agree = rw is (bytes_say patterns f contract M v)
   shape_says shape.schema_itself s p is v json agree = rw is (schema_says patterns f contract M v)
-  shape_says (shape.option j) s p is v json agree = rw is.2 (allow_null-says patterns f is.0 (ready j is.0 is.1) v (M j v) (agree j is.0 v is.1 json (inr (refl, refl))))
-  shape_says (shape.seq j) s p is v json agree = rw is.2 (seq_says patterns f contract M j is.0 (schemas j is.0 is.1) v json (λ w js less. agree j is.0 w is.1 js (inl less)))
-  shape_says (shape.set j) s p is v json agree = rw is.2 (set_says patterns f contract M j is.0 (schemas j is.0 is.1) v json (λ w js less. agree j is.0 w is.1 js (inl less)))
-  shape_says (shape.array j len) s p is v json agree = array_says patterns f contract M W schemas j len s is v json (λ t w a js less. agree j t w a js (inl less))
-  shape_says (shape.up_to j cap) s p is v json agree = rw is.2 (up_to_says patterns f contract M j cap is.0 (schemas j is.0 is.1) v json (λ w js less. agree j is.0 w is.1 js (inl less)))
-  shape_says (shape.tuple ns) s p is v json agree = rw is.2 (tuple_says patterns f contract M W schemas ns is.0 is.1 v json (λ j t w a js less. agree j t w a js (inl less)))
+  shape_says (shape.option j) s p is v json agree = rw is.2 (allow_null-says patterns f is.0 (ready j is.0 is.1) v (M j v)
+      (agree j is.0 v is.1 json (inr (refl, refl))))
+  shape_says (shape.seq j) s p is v json agree = rw is.2 (seq_says patterns f contract M j is.0 (schemas j is.0 is.1) v json
+      (λ w js less. agree j is.0 w is.1 js (inl less)))
+  shape_says (shape.set j) s p is v json agree = rw is.2 (set_says patterns f contract M j is.0 (schemas j is.0 is.1) v json
+      (λ w js less. agree j is.0 w is.1 js (inl less)))
+  shape_says (shape.array j len) s p is v json agree = array_says patterns f contract M W schemas j len s is v json
+      (λ t w a js less. agree j t w a js (inl less))
+  shape_says (shape.up_to j cap) s p is v json agree = rw is.2 (up_to_says patterns f contract M j cap is.0 (schemas j is.0 is.1) v json
+      (λ w js less. agree j is.0 w is.1 js (inl less)))
+  shape_says (shape.tuple ns) s p is v json agree = rw is.2 (tuple_says patterns f contract M W schemas ns is.0 is.1 v json
+      (λ j t w a js less. agree j t w a js (inl less)))
   shape_says (shape.struct xs closed) s p is v json agree =
-      rw is.2 (struct_says patterns f contract W M schemas xs is.0 closed p.0 p.1 is.1 v json (λ j t w a js less. agree j t w a js (inl less)))
+      rw is.2 (struct_says patterns f contract W M schemas xs is.0 closed p.0 p.1 is.1 v json
+      (λ j t w a js less. agree j t w a js (inl less)))
   shape_says (shape.newtype j) s p is v json agree = agree j s v is json (inr (refl, refl))

@@ -53,10 +53,12 @@ module _ (patterns : Patterns) (f : Text → Judge) where
 
 -- ---- null can be allowed beside notes
 
-put_members-other : (l : Text) (notes ms : Members) → is_annotation l ≡ false → AreNotes notes → get_member l (put_members notes ms) ≡ get_member l ms
+put_members-other : (l : Text) (notes ms : Members) → is_annotation l ≡ false → AreNotes notes
+    → get_member l (put_members notes ms) ≡ get_member l ms
 put_members-other l no_members ms e h = refl
 put_members-other l (member k d notes) ms e h =
-    put_members-other l notes (put k d ms) e h.1 ∙ get_member-put_other l k d ms (λ same. true≢false (sym h.0 ∙ (ap is_annotation (sym same) ∙ e)))
+    put_members-other l notes (put k d ms) e h.1 ∙ get_member-put_other l k d ms
+    (λ same. true≢false (sym h.0 ∙ (ap is_annotation (sym same) ∙ e)))
 
 -- a note stands there, so that no keyword stands alone
 abbrev HasNote : Members → Type 0
@@ -69,13 +71,28 @@ put_members-noted (member k d notes) ms h noted = put_members-noted notes (put k
 noted-not_choice : (ms : Members) → HasNote ms → is_null_choice (object ms) ≡ true → ⊥
 noted-not_choice ms noted stays = true≢false (sym noted.2 ∙ ap is_annotation (choice_key ms stays noted.0 noted.1 noted.3))
 
-nullable-agree : (ms ns : Members) → HasNote ms → ((l : Text) → is_annotation l ≡ false → get_member l ms ≡ get_member l ns) → IsNullable (object ns) → IsNullable (object ms)
+nullable-agree : (ms ns : Members) → HasNote ms → ((l : Text) → is_annotation l ≡ false → get_member l ms ≡ get_member l ns)
+    → IsNullable (object ns) → IsNullable (object ms)
 nullable-agree ms ns noted e (inl p) = inl (record {
-  combined = rw (e (codes "if") refl, e (codes "allOf") refl, e (codes "anyOf") refl, e (codes "oneOf") refl, e (codes "$ref") refl, e (codes "not") refl) p.combined;
+  combined = rw (
+    e (codes "if") refl,
+    e (codes "allOf") refl,
+    e (codes "anyOf") refl,
+    e (codes "oneOf") refl,
+    e (codes "$ref") refl,
+    e (codes "not") refl,
+  ) p.combined;
   offers = λ stays. absurd (noted-not_choice ms noted stays);
 })
 nullable-agree ms ns noted e (inr p) = inr (record {
-  alone = rw (e (codes "if") refl, e (codes "allOf") refl, e (codes "anyOf") refl, e (codes "oneOf") refl, e (codes "$ref") refl, e (codes "not") refl) p.alone;
+  alone = rw (
+    e (codes "if") refl,
+    e (codes "allOf") refl,
+    e (codes "anyOf") refl,
+    e (codes "oneOf") refl,
+    e (codes "$ref") refl,
+    e (codes "not") refl,
+  ) p.alone;
   type_form = rw (e (codes "type") refl) p.type_form;
   no_const = e (codes "const") refl ∙ p.no_const;
   not_form = rw (e (codes "not") refl) p.not_form;
@@ -93,8 +110,10 @@ nullable-members_in (array ds) r = absurd r
 pub nullable-annotated : (notes : Members) (s : Data) → AreNotes notes → IsNullable s → IsNullable (annotated notes s)
 nullable-annotated no_members s h r = r
 nullable-annotated (member k d notes) s h r =
-    let noted : HasNote (put_members (member k d notes) (members_in s)) = put_members-noted notes (put k d (members_in s)) h.1 (k, d, h.0, get_member-put k d (members_in s)) in
-    nullable-agree (put_members (member k d notes) (members_in s)) (members_in s) noted (λ l e. put_members-other l (member k d notes) (members_in s) e h) (nullable-members_in s r)
+    let noted : HasNote (put_members (member k d notes) (members_in s)) =
+    put_members-noted notes (put k d (members_in s)) h.1 (k, d, h.0, get_member-put k d (members_in s)) in
+    nullable-agree (put_members (member k d notes) (members_in s)) (members_in s) noted
+    (λ l e. put_members-other l (member k d notes) (members_in s) e h) (nullable-members_in s r)
 
 pub annotated-schema : (notes : Members) (s : Data) → IsSchema s → IsSchema (annotated notes s)
 annotated-schema no_members s is = is

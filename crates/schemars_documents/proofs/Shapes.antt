@@ -1,14 +1,17 @@
 -- What the document of each shape says under 2020-12.
-use Rattle.std.proofs.Common.{◌≡◌, ℕ, zero, suc, ◌<◌, ◌≤◌, List, [], ◌∷◌, length, map, Option, Some, None, Bool, true, false, refl, sym, ap, ◌∙◌, arith}
+use Rattle.std.proofs.Common.{◌≡◌, ℕ, zero, suc, ◌<◌, ◌≤◌, List, [], ◌∷◌, length, map, Option, Some, None, Bool, true}
+use Rattle.std.proofs.Common.{false, refl, sym, ap, ◌∙◌, arith}
 use Rattle.std.specs.Prelude.{codes, ℤ, pos, negsuc, int_le, is_some, ◌||◌, ◌&&◌, ◌==◌, not, nat_le, ◌++◌}
 use Rattle.std.proofs.lemmas.Bool.Decides.{nat_tests}
-use Rattle.serde_json.specs.Data.{Data, null, boolean, number, unsigned, negative, float, string, array, object, Items, no_items, item, depth, items_depth}
+use Rattle.serde_json.specs.Data.{Data, null, boolean, number, unsigned, negative, float, string, array, object, Items}
+use Rattle.serde_json.specs.Data.{no_items, item, depth, items_depth}
 use Rattle.serde_json.specs.Find.{as_integer, of_integer, as_array}
 use Rattle.serde_json.specs.Events.{items_len}
 use Rattle.schemars_schema.specs.Verdict.{Verdict, Yes, No, Open, both, verdict, opposite}
 use Rattle.schemars_json.specs.Json.{Text, IsJson, AreJson, json_eq, are_distinct}
 use Rattle.schemars_schema.specs.SchemaData.{IsSchema, object_of}
-use Rattle.schemars_schema.specs.Acceptance.{Patterns, Judge, Context, judge, read_data, read_items, by_position, all_keywords, each_past, where_some, code_points, whole_number}
+use Rattle.schemars_schema.specs.Acceptance.{Patterns, Judge, Context, judge, read_data, read_items, by_position}
+use Rattle.schemars_schema.specs.Acceptance.{all_keywords, each_past, where_some, code_points, whole_number}
 use Rattle.schemars_schema.proofs.Verdicts.{both-yes, both-verdict}
 use Rattle.schemars_schema.proofs.Objects.{schema-judge}
 use Rattle.schemars_rewrite.specs.NullLaw.{context2020_12, zero_schema}
@@ -16,8 +19,12 @@ use Rattle.schemars_shapes.specs.declared.shape.IntKind.{IntKind}
 use Rattle.schemars_shapes.specs.declared.shape.IntKind.TheVariants.{I8, I16, I32, I64, I128, Isize, U8, U16, U32, U64, U128, Usize}
 use Rattle.schemars_shapes.specs.IntKind.{format_of}
 use Rattle.schemars_shapes.specs.Shape as shape
-use Rattle.schemars_types.specs.Meaning.{Contract, Deserialize, Serialize, is_byte, is_byte_text, has_shape, every_item, each_of, holds, least_of, greatest_of, is_at_least, is_at_most, is_zero}
-use Rattle.schemars_documents.specs.Documents.{type_alone, int_keywords, int_document, non_zero_document, char_document, formatted_document, seq_document, set_document, array_document, up_to_document, empty_list_document, tuple_document, items_from, ArePartsWritten, IsArrayDocument, bytes_document, schema_document}
+use Rattle.schemars_types.specs.Meaning.{Contract, Deserialize, Serialize, is_byte, is_byte_text, has_shape, every_item}
+use Rattle.schemars_types.specs.Meaning.{each_of, holds, least_of, greatest_of, is_at_least, is_at_most, is_zero}
+use Rattle.schemars_documents.specs.Documents.{type_alone, int_keywords, int_document, non_zero_document, char_document}
+use Rattle.schemars_documents.specs.Documents.{formatted_document, seq_document, set_document, array_document}
+use Rattle.schemars_documents.specs.Documents.{up_to_document, empty_list_document, tuple_document, items_from}
+use Rattle.schemars_documents.specs.Documents.{ArePartsWritten, IsArrayDocument, bytes_document, schema_document}
 
 module _ (patterns : Patterns) (f : Text → Judge) (contract : Contract) (M : ℕ → Data → Bool) where
   abbrev c : Context
@@ -87,12 +94,15 @@ module _ (patterns : Patterns) (f : Text → Judge) (contract : Contract) (M : �
   unfolding read_data
   any_says v = refl
 
-  each_item : (n : ℕ) (t : Data) (vs : Items) → AreJson vs → ((w : Data) → IsJson w → depth w ≤ items_depth vs → (judge c t).fits w ≡ verdict (M n w))
+  each_item : (n : ℕ) (t : Data) (vs : Items) → AreJson vs → ((w : Data) → IsJson w → depth w ≤ items_depth vs
+      → (judge c t).fits w ≡ verdict (M n w))
       → each_past zero (judge c t) vs ≡ verdict (every_item (M n) vs)
   each_item n t no_items are h = refl
-  each_item n t (item v vs) are h = rw (h v are.0 (omega arith), each_item n t vs are.1 (λ w is less. h w is (omega arith))) (both-verdict (M n v) (every_item (M n) vs))
+  each_item n t (item v vs) are h = rw (h v are.0 (omega arith), each_item n t vs are.1 (λ w is less. h w is (omega arith)))
+      (both-verdict (M n v) (every_item (M n) vs))
 
-  pub seq_says : (n : ℕ) (t : Data) → IsSchema t → (v : Data) → IsJson v → ((w : Data) → IsJson w → depth w < depth v → (judge c t).fits w ≡ verdict (M n w))
+  pub seq_says : (n : ℕ) (t : Data) → IsSchema t → (v : Data) → IsJson v
+      → ((w : Data) → IsJson w → depth w < depth v → (judge c t).fits w ≡ verdict (M n w))
       → Says (seq_document t) (shape.seq n) v
   unfolding read_data all_keywords
   seq_says n t is null json h = refl
@@ -111,16 +121,19 @@ module _ (patterns : Patterns) (f : Text → Judge) (contract : Contract) (M : �
   set_says n t is (boolean b) json h = refl
   set_says n t is (number k) json h = refl
   set_says n t is (string s) json h = refl
-  set_says n t is (array vs) json h = rw (schema-judge c t is, both-yes, each_item n t vs json (λ w is less. h w is (omega arith))) (both-verdict (are_distinct vs) (every_item (M n) vs))
+  set_says n t is (array vs) json h = rw (schema-judge c t is, both-yes, each_item n t vs json (λ w is less. h w is (omega arith)))
+      (both-verdict (are_distinct vs) (every_item (M n) vs))
   set_says n t is (object ms) json h = refl
 
-  pub up_to_says : (n cap : ℕ) (t : Data) → IsSchema t → (v : Data) → IsJson v → AgreesOn n t v → Says (up_to_document cap t) (shape.up_to n cap) v
+  pub up_to_says : (n cap : ℕ) (t : Data) → IsSchema t → (v : Data) → IsJson v → AgreesOn n t v
+      → Says (up_to_document cap t) (shape.up_to n cap) v
   unfolding read_data all_keywords
   up_to_says n cap t is null json h = refl
   up_to_says n cap t is (boolean b) json h = refl
   up_to_says n cap t is (number k) json h = refl
   up_to_says n cap t is (string s) json h = refl
-  up_to_says n cap t is (array vs) json h = rw (schema-judge c t is, both-yes, each_item n t vs json (λ w is less. h w is (omega arith))) (both-verdict (nat_le (items_len vs) cap) (every_item (M n) vs))
+  up_to_says n cap t is (array vs) json h = rw (schema-judge c t is, both-yes, each_item n t vs json (λ w is less. h w is (omega arith)))
+      (both-verdict (nat_le (items_len vs) cap) (every_item (M n) vs))
   up_to_says n cap t is (object ms) json h = refl
 
   just_so_many : (len k : ℕ) → nat_le len k && nat_le k len ≡ (k == len)
@@ -133,7 +146,8 @@ module _ (patterns : Patterns) (f : Text → Judge) (contract : Contract) (M : �
   three false false true = refl
   three false false false = refl
 
-  some_items_say : (n len : ℕ) (t : Data) → IsSchema t → (v : Data) → IsJson v → AgreesOn n t v → Says (array_document len t) (shape.array n len) v
+  some_items_say : (n len : ℕ) (t : Data) → IsSchema t → (v : Data) → IsJson v → AgreesOn n t v
+      → Says (array_document len t) (shape.array n len) v
   unfolding read_data all_keywords
   some_items_say n len t is null json h = refl
   some_items_say n len t is (boolean b) json h = refl
@@ -141,7 +155,8 @@ module _ (patterns : Patterns) (f : Text → Judge) (contract : Contract) (M : �
   some_items_say n len t is (string s) json h = refl
   some_items_say n len t is (array vs) json h =
       rw (schema-judge c t is, both-yes, each_item n t vs json (λ w is less. h w is (omega arith)))
-      (three (nat_le len (items_len vs)) (nat_le (items_len vs) len) (every_item (M n) vs) ∙ ap (λ b. verdict (b && every_item (M n) vs)) (just_so_many len (items_len vs)))
+      (three (nat_le len (items_len vs)) (nat_le (items_len vs) len) (every_item (M n) vs)
+      ∙ ap (λ b. verdict (b && every_item (M n) vs)) (just_so_many len (items_len vs)))
   some_items_say n len t is (object ms) json h = refl
 
   past_none : (k : ℕ) → nat_le (suc k) 0 ≡ false
@@ -211,7 +226,8 @@ module _ (patterns : Patterns) (f : Text → Judge) (contract : Contract) (M : �
         rw (
           one_more (length ts) (items_len vs),
           one_more (items_len vs) (length ts),
-          both_apart (verdict (nat_le (length ts) (items_len vs))) (verdict (nat_le (items_len vs) (length ts))) ((judge c t).fits v) (by_position (map (judge c) ts) vs),
+          both_apart (verdict (nat_le (length ts) (items_len vs))) (verdict (nat_le (items_len vs) (length ts))) ((judge c t).fits v)
+              (by_position (map (judge c) ts) vs),
           agree n t v h.0 are.0 (omega arith),
           in_place ns ts vs h.1 are.1 (λ j t w a is less. agree j t w a is (omega arith)),
         ) (both-verdict (M n v) (each_of M ns vs))
@@ -233,23 +249,32 @@ module _ (patterns : Patterns) (f : Text → Judge) (contract : Contract) (M : �
     no_parts_say [] h (object ms) = refl
     no_parts_say (n ∷ ns) h v = absurd h
 
-    some_parts_say : (ns : List ℕ) (t : Data) (ts : List Data) → ArePartsWritten W ns (t ∷ ts) → (v : Data) → IsJson v → AgreesInside v → Says (tuple_document (t ∷ ts)) (shape.tuple ns) v
+    some_parts_say : (ns : List ℕ) (t : Data) (ts : List Data) → ArePartsWritten W ns (t ∷ ts) → (v : Data) → IsJson v → AgreesInside v
+        → Says (tuple_document (t ∷ ts)) (shape.tuple ns) v
     unfolding read_data all_keywords
     some_parts_say ns t ts h null json agree = refl
     some_parts_say ns t ts h (boolean b) json agree = refl
     some_parts_say ns t ts h (number k) json agree = refl
     some_parts_say ns t ts h (string s) json agree = refl
-    some_parts_say ns t ts h (array vs) json agree = rw (parts_read ns (t ∷ ts) h, both-yes (by_position (judge c t ∷ map (judge c) ts) vs), both-yes (by_position (judge c t ∷ map (judge c) ts) vs)) (in_place ns (t ∷ ts) vs h json (λ j u w a is less. agree j u w a is (omega arith)))
+    some_parts_say ns t ts h (array vs) json agree = rw (
+      parts_read ns (t ∷ ts) h,
+      both-yes (by_position (judge c t ∷ map (judge c) ts) vs),
+      both-yes (by_position (judge c t ∷ map (judge c) ts) vs),
+    )
+        (in_place ns (t ∷ ts) vs h json (λ j u w a is less. agree j u w a is (omega arith)))
     some_parts_say ns t ts h (object ms) json agree = refl
 
-    pub tuple_says : (ns : List ℕ) (ts : List Data) → ArePartsWritten W ns ts → (v : Data) → IsJson v → AgreesInside v → Says (tuple_document ts) (shape.tuple ns) v
+    pub tuple_says : (ns : List ℕ) (ts : List Data) → ArePartsWritten W ns ts → (v : Data) → IsJson v → AgreesInside v
+        → Says (tuple_document ts) (shape.tuple ns) v
     tuple_says ns [] h v json agree = no_parts_say ns h v
     tuple_says ns (t ∷ ts) h v json agree = some_parts_say ns t ts h v json agree
 
-    pub array_says : (n len : ℕ) (s : Data) → IsArrayDocument (W n) len s → (v : Data) → IsJson v → ((t w : Data) → W n t → IsJson w → depth w < depth v → (judge c t).fits w ≡ verdict (M n w))
+    pub array_says : (n len : ℕ) (s : Data) → IsArrayDocument (W n) len s → (v : Data) → IsJson v
+        → ((t w : Data) → W n t → IsJson w → depth w < depth v → (judge c t).fits w ≡ verdict (M n w))
         → Says s (shape.array n len) v
     array_says n zero s is v json agree = rw is (no_items_say n v)
-    array_says n (suc k) s is v json agree = rw is.2 (some_items_say n (suc k) is.0 (schemas n is.0 is.1) v json (λ w j less. agree is.0 w is.1 j less))
+    array_says n (suc k) s is v json agree = rw is.2 (some_items_say n (suc k) is.0 (schemas n is.0 is.1) v json
+        (λ w j less. agree is.0 w is.1 j less))
 
   -- ---- integers
 
@@ -275,16 +300,19 @@ module _ (patterns : Patterns) (f : Text → Judge) (contract : Contract) (M : �
       go true = refl
       go false = refl
 
-  to_greatest : (m : ℤ) (z : Option ℤ) → both (verdict (is_some z || false)) (says_greatest m z) ≡ verdict (holds z (λ n. true && int_le n m))
+  to_greatest : (m : ℤ) (z : Option ℤ) → both (verdict (is_some z || false)) (says_greatest m z)
+      ≡ verdict (holds z (λ n. true && int_le n m))
   to_greatest m None = refl
   to_greatest m (Some z) = refl
 
-  between : (l g : ℤ) (z : Option ℤ) → both (verdict (is_some z || false)) (both (says_least l z) (says_greatest g z)) ≡ verdict (holds z (λ n. int_le l n && int_le n g))
+  between : (l g : ℤ) (z : Option ℤ) → both (verdict (is_some z || false)) (both (says_least l z) (says_greatest g z))
+      ≡ verdict (holds z (λ n. int_le l n && int_le n g))
   between l g None = refl
   between l g (Some z) = both-verdict (int_le l z) (int_le z g)
 
   bounds_say : (format : Text) (least greatest : Option ℤ) (v : Data)
-      → (judge c (object_of (int_keywords format least greatest))).fits v ≡ verdict (holds (whole_number v) (λ z. is_at_least least z && is_at_most greatest z))
+      → (judge c (object_of (int_keywords format least greatest))).fits v
+      ≡ verdict (holds (whole_number v) (λ z. is_at_least least z && is_at_most greatest z))
   unfolding read_data all_keywords
   bounds_say format None None null = refl
   bounds_say format None None (boolean b) = refl
@@ -324,7 +352,8 @@ module _ (patterns : Patterns) (f : Text → Judge) (contract : Contract) (M : �
   opposite_alone true = refl
   opposite_alone false = refl
 
-  three_with_not : (x y b : Bool) → both (verdict x) (both (verdict y) (both (opposite (both (verdict b) Yes)) Yes)) ≡ verdict ((x && y) && not b)
+  three_with_not : (x y b : Bool) → both (verdict x) (both (verdict y) (both (opposite (both (verdict b) Yes)) Yes))
+      ≡ verdict ((x && y) && not b)
   three_with_not x y b = rw (opposite_alone b) (three x y (not b))
 
   wide_not_zero : (format : Text) (v : Data) → IsJson v → IsNonZeroLaw format None None v
@@ -346,16 +375,19 @@ module _ (patterns : Patterns) (f : Text → Judge) (contract : Contract) (M : �
   narrow_not_zero format l g (string s) is = refl
   narrow_not_zero format l g (array vs) is = refl
   narrow_not_zero format l g (object ms) is = refl
-  narrow_not_zero format l g (number (unsigned k)) is = rw (whole_of_integer l, whole_of_integer g) (three_with_not (int_le l (pos k)) (int_le (pos k) g) (0 == k))
+  narrow_not_zero format l g (number (unsigned k)) is = rw (whole_of_integer l, whole_of_integer g)
+      (three_with_not (int_le l (pos k)) (int_le (pos k) g) (0 == k))
   narrow_not_zero format l g (number (negative (pos k))) is = absurd is
-  narrow_not_zero format l g (number (negative (negsuc k))) is = rw (whole_of_integer l, whole_of_integer g) (three (int_le l (negsuc k)) (int_le (negsuc k) g) true)
+  narrow_not_zero format l g (number (negative (negsuc k))) is = rw (whole_of_integer l, whole_of_integer g)
+      (three (int_le l (negsuc k)) (int_le (negsuc k) g) true)
   narrow_not_zero format l g (number (float x)) is = refl
 
   at_least_one : (n : ℕ) (b : Bool) → nat_le 1 n && b ≡ (nat_le 0 n && b) && not (0 == n)
   at_least_one n true = grind (arith, nat_tests)
   at_least_one n false = grind (arith, nat_tests)
 
-  from_one : (greatest : Option ℤ) (z : ℤ) → int_le (pos 1) z && is_at_most greatest z ≡ (int_le (pos 0) z && is_at_most greatest z) && not (is_zero z)
+  from_one : (greatest : Option ℤ) (z : ℤ) → int_le (pos 1) z && is_at_most greatest z
+      ≡ (int_le (pos 0) z && is_at_most greatest z) && not (is_zero z)
   from_one greatest (pos n) = at_least_one n (is_at_most greatest (pos n))
   from_one greatest (negsuc n) = refl
 
@@ -393,9 +425,11 @@ module _ (patterns : Patterns) (f : Text → Judge) (contract : Contract) (M : �
   or-false false = refl
 
   bytes_of : (vs : Items) → both (each_past zero (judge c (int_document U8)) vs) Yes ≡ verdict (every_item is_byte vs || false)
-  bytes_of vs = both-yes (each_past zero (judge c (int_document U8)) vs) ∙ (each_byte vs ∙ ap verdict (sym (or-false (every_item is_byte vs))))
+  bytes_of vs = both-yes (each_past zero (judge c (int_document U8)) vs)
+      ∙ (each_byte vs ∙ ap verdict (sym (or-false (every_item is_byte vs))))
 
-  bytes_read : (v : Data) → (judge c (bytes_document Deserialize)).fits v ≡ verdict (holds (as_array v) (every_item is_byte) || is_byte_text Deserialize v)
+  bytes_read : (v : Data) → (judge c (bytes_document Deserialize)).fits v
+      ≡ verdict (holds (as_array v) (every_item is_byte) || is_byte_text Deserialize v)
   unfolding read_data all_keywords
   bytes_read null = refl
   bytes_read (boolean b) = refl
@@ -404,7 +438,8 @@ module _ (patterns : Patterns) (f : Text → Judge) (contract : Contract) (M : �
   bytes_read (array vs) = bytes_of vs
   bytes_read (object ms) = refl
 
-  bytes_written : (v : Data) → (judge c (bytes_document Serialize)).fits v ≡ verdict (holds (as_array v) (every_item is_byte) || is_byte_text Serialize v)
+  bytes_written : (v : Data) → (judge c (bytes_document Serialize)).fits v
+      ≡ verdict (holds (as_array v) (every_item is_byte) || is_byte_text Serialize v)
   unfolding read_data all_keywords
   bytes_written null = refl
   bytes_written (boolean b) = refl

@@ -7,10 +7,13 @@ ghost use Rattle.schemars_rewrite.specs.NullLaw.{text_items};
 ghost use Rattle.schemars_shapes.specs.Shape.{shape_of, field_of, required_of};
 ghost use Rattle.schemars_types.specs.Meaning.{is_required};
 ghost use Rattle.schemars_documents.specs.ContractOf.{contract_of};
-ghost use Rattle.schemars_documents.specs.Documents.{byte_document, bytes_document, schema_document, map_of, keyword_of_members, keyword_of_items, required_names};
+ghost use Rattle.schemars_documents.specs.Documents.{byte_document, bytes_document, schema_document, map_of};
+ghost use Rattle.schemars_documents.specs.Documents.{keyword_of_members, keyword_of_items, required_names};
 ghost use Rattle.serde_json.specs.View.{view, members_view};
 ghost use Rattle.schemars_schema.specs.SchemaData.{IsSchema, members_in, inserted, put_all, put_members};
-ghost use Rattle.schemars_documents.specs.Documents.{typed, type_alone, char_document, formatted_document, list_document_for, empty_list_document, tuple_document, annotated, with_title, with_meta_schema, root_document};
+ghost use Rattle.schemars_documents.specs.Documents.{typed, type_alone, char_document, formatted_document};
+ghost use Rattle.schemars_documents.specs.Documents.{list_document_for, empty_list_document, tuple_document, annotated};
+ghost use Rattle.schemars_documents.specs.Documents.{with_title, with_meta_schema, root_document};
 
 use crate::contract::Contract;
 use schemars_schema::Schema;

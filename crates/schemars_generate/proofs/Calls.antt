@@ -1,5 +1,7 @@
 -- What a call makes of what a generator holds.
-use Rattle.std.proofs.Common.{◌≡◌, ◌<◌, inl, inr, ℕ, zero, suc, List, [], ◌∷◌, take, length, Bool, true, false, Option, Some, None, refl, sym, ap, ◌∙◌, arith, subst, true≢false, Result, Ok, Err, IsErrAnd, IfErr}
+use Rattle.std.proofs.Common.{◌≡◌, ◌<◌, inl, inr, ℕ, zero, suc, List, [], ◌∷◌, take, length, Bool, true, false, Option}
+use Rattle.std.proofs.Common.{Some, None, refl, sym, ap, ◌∙◌, arith, subst, true≢false, Result, Ok, Err, IsErrAnd}
+use Rattle.std.proofs.Common.{IfErr}
 use Rattle.std.specs.Prelude.{if◌then◌else◌}
 use Rattle.std.specs.List.{IsDistinct}
 use Rattle.serde_json.specs.Data.{Data, Members}
@@ -36,24 +38,30 @@ use Rattle.schemars_generate.proofs.Roots.{root_placed, root_call_means}
 -- ---- definitions between calls
 
 -- references that are known in another work too
-definition-moved : (plan other : Plan) (old new : Work) → plan.rows ≡ other.rows → plan.contract ≡ other.contract → ((n : ℕ) (name : Text) → name_of n plan.contract old.names ≡ Some name → name_of n other.contract new.names ≡ Some name)
-    → ((n : ℕ) (r : Text) → Refers plan false old n r → Refers other false new n r) → (k : Text) (d : Data) → IsDefinition plan old k d → IsDefinition other new k d
+definition-moved : (plan other : Plan) (old new : Work) → plan.rows ≡ other.rows → plan.contract ≡ other.contract
+    → ((n : ℕ) (name : Text) → name_of n plan.contract old.names ≡ Some name → name_of n other.contract new.names ≡ Some name)
+    → ((n : ℕ) (r : Text) → Refers plan false old n r → Refers other false new n r) → (k : Text) (d : Data) → IsDefinition plan old k d
+    → IsDefinition other new k d
 definition-moved plan other old new rows contract names refers k d h = record {
   row = h.row;
   is_named = names h.row k h.is_named;
   is_text = h.is_text;
   depth = h.depth;
   describes =
-      let wide = describes-wider plan.rows (contract_of plan.contract) (Refers plan false old) (Refers other false new) refers h.depth h.depth (omega arith) h.row d h.describes in
+      let wide = describes-wider plan.rows (contract_of plan.contract) (Refers plan false old) (Refers other false new) refers h.depth
+      h.depth (omega arith) h.row d h.describes in
       let P : List Row → Type 0 = λ rs. Describes rs (contract_of other.contract) (Refers other false new) h.depth h.row d in
       subst P rows (ap-contract wide);
 }
   where
-    ap-contract : Describes plan.rows (contract_of plan.contract) (Refers other false new) h.depth h.row d → Describes plan.rows (contract_of other.contract) (Refers other false new) h.depth h.row d
-    ap-contract wide = let P : Contract → Type 0 = λ x. Describes plan.rows x (Refers other false new) h.depth h.row d in subst P (ap contract_of contract) wide
+    ap-contract : Describes plan.rows (contract_of plan.contract) (Refers other false new) h.depth h.row d
+        → Describes plan.rows (contract_of other.contract) (Refers other false new) h.depth h.row d
+    ap-contract wide = let P : Contract → Type 0 = λ x. Describes plan.rows x (Refers other false new) h.depth h.row d in
+        subst P (ap contract_of contract) wide
 
 -- what a root call has, of what was there and what it adds
-pub definitions_in : (s : State) (root : Option ℕ) (w : Work) → Step (plan_of s root) (work_of s) w → HasOwnDefinitions s → AllStand (plan_of s root) w
+pub definitions_in : (s : State) (root : Option ℕ) (w : Work) → Step (plan_of s root) (work_of s) w → HasOwnDefinitions s
+    → AllStand (plan_of s root) w
 definitions_in s root w step own k d found = go (get_member k s.definitions) refl
   where
     go : (o : Option Data) → get_member k s.definitions ≡ o → Stands (plan_of s root) w k d
@@ -62,10 +70,12 @@ definitions_in s root w step own k d found = go (get_member k s.definitions) ref
         let kept : get_member k w.definitions ≡ Some e = step.stays k e is in
         let same : e ≡ d = cc in
         let P : Data → Type 0 = λ x. Stands (plan_of s root) w k x in
-        subst P same (stands_before (plan_of s root) w k e (definition-wider (plan_of s None) (work_of s) w (step_wider (plan_of s root) (work_of s) w step) k e (own k e is)))
+        subst P same (stands_before (plan_of s root) w k e (definition-wider (plan_of s None) (work_of s) w
+        (step_wider (plan_of s root) (work_of s) w step) k e (own k e is)))
 
 -- no definition refers to the root, so they can stay
-pub definitions_kept : (s : State) (root : Option ℕ) (w : Work) → w.meets_root ≡ false → Step (plan_of s root) (work_of s) w → HasOwnDefinitions s → HasOwnDefinitions (record s { names = w.names; definitions = w.definitions })
+pub definitions_kept : (s : State) (root : Option ℕ) (w : Work) → w.meets_root ≡ false → Step (plan_of s root) (work_of s) w
+    → HasOwnDefinitions s → HasOwnDefinitions (record s { names = w.names; definitions = w.definitions })
 definitions_kept s root w none step own k d found = go (get_member k s.definitions) refl
   where
     new : State
@@ -83,7 +93,8 @@ definitions_kept s root w none step own k d found = go (get_member k s.definitio
     }
 
     go : (o : Option Data) → get_member k s.definitions ≡ o → IsDefinition (plan_of new None) (work_of new) k d
-    go None is = definition-moved (plan_of s root) (plan_of new None) w (work_of new) refl refl (λ n name e. e) from_root k d (step.adds k d is found)
+    go None is = definition-moved (plan_of s root) (plan_of new None) w (work_of new) refl refl (λ n name e. e) from_root k d
+        (step.adds k d is found)
     go (Some e) is =
         let kept : get_member k w.definitions ≡ Some e = step.stays k e is in
         let same : e ≡ d = cc in
@@ -91,7 +102,8 @@ definitions_kept s root w none step own k d found = go (get_member k s.definitio
         subst P same (definition-wider (plan_of s None) (work_of s) (work_of new) wider k e (own k e is))
 
 -- the old ones stay the generator's own as names join
-names_joined : (s : State) (w : Work) (root : Option ℕ) → Step (plan_of s root) (work_of s) w → HasOwnDefinitions s → HasOwnDefinitions (record s { names = w.names })
+names_joined : (s : State) (w : Work) (root : Option ℕ) → Step (plan_of s root) (work_of s) w → HasOwnDefinitions s
+    → HasOwnDefinitions (record s { names = w.names })
 names_joined s w root step own k d found =
     let new = record s { names = w.names } in
     definition-wider (plan_of s None) (work_of s) (work_of new) (record {
@@ -100,31 +112,43 @@ names_joined s w root step own k d found =
       meets = λ e. e;
     }) k d (own k d found)
 
-pub after_root_own : (s : State) (n : ℕ) (w : Work) → Step (plan_of s (Some n)) (work_of s) w → HasOwnDefinitions s → HasOwnDefinitions (after_root s w)
+pub after_root_own : (s : State) (n : ℕ) (w : Work) → Step (plan_of s (Some n)) (work_of s) w → HasOwnDefinitions s
+    → HasOwnDefinitions (after_root s w)
 after_root_own s n w step own = go w.meets_root refl
   where
-    go : (b : Bool) → w.meets_root ≡ b → HasOwnDefinitions (record s { names = w.names; definitions = if b then s.definitions else w.definitions })
+    go : (b : Bool) → w.meets_root ≡ b → HasOwnDefinitions (record s {
+      names = w.names;
+      definitions = if b then s.definitions else
+          w.definitions;
+    })
     go true is = names_joined s w (Some n) step own
     go false is = definitions_kept s (Some n) w is step own
 
-pub part_own : (s new : State) → new ≡ record s { names = new.names; definitions = new.definitions } → Step (plan_of s None) (work_of s) (work_of new) → HasOwnDefinitions s → HasOwnDefinitions new
+pub part_own : (s new : State) → new ≡ record s { names = new.names; definitions = new.definitions }
+    → Step (plan_of s None) (work_of s) (work_of new) → HasOwnDefinitions s → HasOwnDefinitions new
 part_own s new same step own =
     subst HasOwnDefinitions (sym same) (definitions_kept s None (work_of new) refl step own)
 
 -- ---- a larger table
 
-describes-more : (rows more : List Row) (contract : Contract) (R : ℕ → Text → Type 0) → ((n : ℕ) (e : Entry) → entry_at rows n ≡ Some e → entry_at more n ≡ Some e) → (depth n : ℕ) (s : Data) → Describes rows contract R depth n s → Describes more contract R depth n s
+describes-more : (rows more : List Row) (contract : Contract) (R : ℕ → Text → Type 0)
+    → ((n : ℕ) (e : Entry) → entry_at rows n ≡ Some e → entry_at more n ≡ Some e) → (depth n : ℕ) (s : Data)
+    → Describes rows contract R depth n s → Describes more contract R depth n s
 unfolding Describes
 describes-more rows more contract R all zero n s h = absurd h
 describes-more rows more contract R all (suc depth) n s h = go (describes-more rows more contract R all depth) (entry_at rows n) refl h
   where
-    go : ((j : ℕ) (t : Data) → Describes rows contract R depth j t → Describes more contract R depth j t) → (o : Option Entry) → entry_at rows n ≡ o → IsOwnDocument (IsWritten R (Describes rows contract R depth)) contract o s → IsOwnDocument (IsWritten R (Describes more contract R depth)) contract (entry_at more n) s
+    go : ((j : ℕ) (t : Data) → Describes rows contract R depth j t → Describes more contract R depth j t) → (o : Option Entry)
+        → entry_at rows n ≡ o → IsOwnDocument (IsWritten R (Describes rows contract R depth)) contract o s
+        → IsOwnDocument (IsWritten R (Describes more contract R depth)) contract (entry_at more n) s
     go deeper None is h = absurd h
     go deeper (Some e) is h =
         let P : Option Entry → Type 0 = λ o. IsOwnDocument (IsWritten R (Describes more contract R depth)) contract o s in
-        subst P (sym (all n e is)) (own_map (IsWritten R (Describes rows contract R depth)) (IsWritten R (Describes more contract R depth)) contract (written_map R R _ _ (λ j r e. e) deeper) (Some e) s h)
+        subst P (sym (all n e is)) (own_map (IsWritten R (Describes rows contract R depth))
+        (IsWritten R (Describes more contract R depth)) contract (written_map R R _ _ (λ j r e. e) deeper) (Some e) s h)
 
-entry-in_more : (first : List Row) (k : ℕ) (rows : List Row) → take k rows ≡ first → (n : ℕ) (e : Entry) → entry_at first n ≡ Some e → entry_at rows n ≡ Some e
+entry-in_more : (first : List Row) (k : ℕ) (rows : List Row) → take k rows ≡ first → (n : ℕ) (e : Entry) → entry_at first n ≡ Some e
+    → entry_at rows n ≡ Some e
 entry-in_more first k rows same n e is = go k rows n (ap (λ rs. entry_at rs n) same ∙ is)
   where
     go : (k : ℕ) (rows : List Row) (n : ℕ) → entry_at (take k rows) n ≡ Some e → entry_at rows n ≡ Some e
@@ -146,7 +170,8 @@ apart_in_more first k rows same n h = go k rows n (let P : List Row → Type 0 =
         let there : n < length rows = later.0 in
         (omega (arith, there), later.1)
 
-pub more_types_own : (s : State) (rows : List Row) → take (length s.rows) rows ≡ s.rows → HasOwnDefinitions s → HasOwnDefinitions (record s { rows = rows })
+pub more_types_own : (s : State) (rows : List Row) → take (length s.rows) rows ≡ s.rows → HasOwnDefinitions s
+    → HasOwnDefinitions (record s { rows = rows })
 more_types_own s rows same own k d found =
     let h = own k d found in
     let new = record s { rows = rows } in
@@ -155,30 +180,38 @@ more_types_own s rows same own k d found =
       is_named = h.is_named;
       is_text = h.is_text;
       depth = h.depth;
-      describes = describes-wider rows (contract_of s.settings.contract) (Refers (plan_of s None) false (work_of s)) (Refers (plan_of (record s { rows = rows }) None) false (work_of s)) to_more h.depth h.depth (omega arith) h.row d
-          (describes-more s.rows rows (contract_of s.settings.contract) (Refers (plan_of s None) false (work_of s)) (entry-in_more s.rows (length s.rows) rows same) h.depth h.row d h.describes);
+      describes = describes-wider rows (contract_of s.settings.contract) (Refers (plan_of s None) false (work_of s))
+          (Refers (plan_of (record s { rows = rows }) None) false (work_of s)) to_more h.depth h.depth (omega arith) h.row d
+          (describes-more s.rows rows (contract_of s.settings.contract) (Refers (plan_of s None) false (work_of s))
+          (entry-in_more s.rows (length s.rows) rows same) h.depth h.row d h.describes);
     }
   where
-    to_more : (n : ℕ) (r : Text) → Refers (plan_of s None) false (work_of s) n r → Refers (plan_of (record s { rows = rows }) None) false (work_of s) n r
+    to_more : (n : ℕ) (r : Text) → Refers (plan_of s None) false (work_of s) n r
+        → Refers (plan_of (record s { rows = rows }) None) false (work_of s) n r
     to_more n r (inl h) = cc
     to_more n r (inr h) = inr (h.0, h.1, h.2, h.3, apart_in_more s.rows (length s.rows) rows same n h.4, h.5)
 
 -- ---- root documents
 
-pub root_means : (s : State) (n : ℕ) (w : Work) (d : Data) → IsChecked s.rows → IsRootOf s n w d → HasKeysOnce w.definitions → IsOneToOne w.names → HasOwnDefinitions s → IsDraftPath (plan_of s None).path
+pub root_means : (s : State) (n : ℕ) (w : Work) (d : Data) → IsChecked s.rows → IsRootOf s n w d → HasKeysOnce w.definitions
+    → IsOneToOne w.names → HasOwnDefinitions s → IsDraftPath (plan_of s None).path
     → Headline s.rows (contract_of s.settings.contract) (plan_of s None).path n d
-root_means s n w d checked root once one own path = root_call_means s n w d root checked one once (definitions_in s (Some n) w root.step own) path
+root_means s n w d checked root once one own path = root_call_means s n w d root checked one once
+    (definitions_in s (Some n) w root.step own) path
 
-pub root_is_whole : (s : State) (n : ℕ) (w : Work) (d : Data) → IsRootOf s n w d → HasKeysOnce w.definitions → HasNoFloat s.rows → HasOwnDefinitions s → has_float d ≡ false
+pub root_is_whole : (s : State) (n : ℕ) (w : Work) (d : Data) → IsRootOf s n w d → HasKeysOnce w.definitions → HasNoFloat s.rows
+    → HasOwnDefinitions s → has_float d ≡ false
 root_is_whole s n w d root once none own =
     whole_with_definitions (plan_of s (Some n)).path w.definitions (root_document (name_at s.rows n) s.settings.meta_schema root.own) d
     (definitions_whole (plan_of s (Some n)) w none (definitions_in s (Some n) w root.step own) once)
-    (root_whole (name_at s.rows n) s.settings.meta_schema root.own (described_whole s.rows (contract_of s.settings.contract) (Refers (plan_of s (Some n)) true w) none (suc (height s.rows n)) n root.own root.describes))
+    (root_whole (name_at s.rows n) s.settings.meta_schema root.own (described_whole s.rows (contract_of s.settings.contract)
+    (Refers (plan_of s (Some n)) true w) none (suc (height s.rows n)) n root.own root.describes))
     root.is_root
 
 pub always_placed : (s : State) (n : ℕ) → IsPlainTable s.rows → IsDraftPath (plan_of s None).path → CannotPlace s n → ⊥
 always_placed s n plain path h =
-    let there = root_placed (plan_of s (Some n)) h.work n (name_at s.rows n) s.settings.meta_schema (suc (height s.rows n)) h.own plain (Refers (plan_of s (Some n)) true h.work) h.describes path in
+    let there = root_placed (plan_of s (Some n)) h.work n (name_at s.rows n) s.settings.meta_schema (suc (height s.rows n)) h.own plain
+    (Refers (plan_of s (Some n)) true h.work) h.describes path in
     let some = there.1 in
     let none = h.no_place in
     cc
@@ -186,7 +219,8 @@ always_placed s n plain path h =
 -- ---- parts
 
 pub reference_of_part : (s : State) (n : ℕ) (d : Data) → IsSubschema (plan_of s None) false (work_of s) n d → is_inline_at s.rows n ≡ false
-    → (name : Text) × (name_of n s.settings.contract s.names ≡ Some name) × IsKey name s.definitions × (d ≡ reference (reference_to (plan_of s None).path name))
+    → (name : Text) × (name_of n s.settings.contract s.names ≡ Some name) × IsKey name s.definitions
+    × (d ≡ reference (reference_to (plan_of s None).path name))
 unfolding Describes
 reference_of_part s n d (inl (r, inl h, same)) apart = cc
 reference_of_part s n d (inl (r, inr h, same)) apart = (h.0, h.1, h.2, same ∙ ap reference h.3)
@@ -197,11 +231,13 @@ reference_of_part s n d (inr h) apart =
     absurd nothing
 
 -- what the running call has marked doesn't matter without a root
-pub part_kept : (s new : State) (w : Work) (n : ℕ) (d : Data) → new ≡ record s { names = w.names; definitions = w.definitions } → IsSubschema (plan_of s None) false w n d → IsSubschema (plan_of new None) false (work_of new) n d
+pub part_kept : (s new : State) (w : Work) (n : ℕ) (d : Data) → new ≡ record s { names = w.names; definitions = w.definitions }
+    → IsSubschema (plan_of s None) false w n d → IsSubschema (plan_of new None) false (work_of new) n d
 part_kept s new w n d same h =
     let P : State → Type 0 = λ x. IsSubschema (plan_of x None) false (work_of x) n d in
     subst P (sym same) (written_map (Refers (plan_of s None) false w) (Refers (plan_of s None) false v) _ _ moved
-    (describes-wider s.rows (contract_of s.settings.contract) (Refers (plan_of s None) false w) (Refers (plan_of s None) false v) moved (depth_in_place s.rows n) (depth_in_place s.rows n) (omega arith)) n d h)
+    (describes-wider s.rows (contract_of s.settings.contract) (Refers (plan_of s None) false w) (Refers (plan_of s None) false v) moved
+    (depth_in_place s.rows n) (depth_in_place s.rows n) (omega arith)) n d h)
   where
     v : Work
     v = work_of (record s { names = w.names; definitions = w.definitions })
@@ -210,7 +246,8 @@ part_kept s new w n d same h =
     moved j r (inl h) = cc
     moved j r (inr h) = inr h
 
-pub step_kept : (s : State) (w : Work) → Step (plan_of s None) (work_of s) w → Step (plan_of s None) (work_of s) (work_of (record s { names = w.names; definitions = w.definitions }))
+pub step_kept : (s : State) (w : Work) → Step (plan_of s None) (work_of s) w
+    → Step (plan_of s None) (work_of s) (work_of (record s { names = w.names; definitions = w.definitions }))
 step_kept s w h = record {
   names = h.names;
   stays = h.stays;
@@ -227,7 +264,8 @@ step_kept s w h = record {
     moved j r (inr h) = inr h
 
 -- nor does what the call has begun and marked
-pub reached_kept : (plan : Plan) (inside : Bool) (s : State) (old w : Work) (from : List Data) → AreReached plan inside old w from → AreReached plan inside old (work_of (record s { names = w.names; definitions = w.definitions })) from
+pub reached_kept : (plan : Plan) (inside : Bool) (s : State) (old w : Work) (from : List Data) → AreReached plan inside old w from
+    → AreReached plan inside old (work_of (record s { names = w.names; definitions = w.definitions })) from
 reached_kept plan inside s old w from h = record {
   definitions = h.definitions;
   names = h.names;
@@ -243,7 +281,8 @@ err_told (Err e) P Q h all = all e h
 
 -- ---- placing
 
-pub some_definitions : (path : Text) (es : List Entries) (document : Data) → (length es ≡ 0 → ⊥) → with_definitions path (members_view es) document ≡ placed_at path (members_view es) document
+pub some_definitions : (path : Text) (es : List Entries) (document : Data) → (length es ≡ 0 → ⊥)
+    → with_definitions path (members_view es) document ≡ placed_at path (members_view es) document
 some_definitions path [] document some = absurd (some refl)
 some_definitions path (e ∷ es) document some = refl
 
@@ -264,7 +303,8 @@ checked_nothing = record {
 pub one_to_one-none : IsOneToOne []
 one_to_one-none = record { one_row = λ m n c d name a b. cc }
 
-pub cannot_place : (s : State) (n : ℕ) (old w : Work) (t : Data) (path : Text) (ms : Members) → old ≡ work_of s → Step (plan_of s (Some n)) old w → IsTitledRoot s old n w t → path ≡ (plan_of s None).path → ms ≡ w.definitions
+pub cannot_place : (s : State) (n : ℕ) (old w : Work) (t : Data) (path : Text) (ms : Members) → old ≡ work_of s
+    → Step (plan_of s (Some n)) old w → IsTitledRoot s old n w t → path ≡ (plan_of s None).path → ms ≡ w.definitions
     → with_definitions path ms t ≡ None → CannotPlace s n
 cannot_place s n old w t path ms between step titled same_path same none = record {
   work = w;
@@ -275,7 +315,8 @@ cannot_place s n old w t path ms between step titled same_path same none = recor
   reached = λ plain. subst (λ x. AreReached (plan_of s (Some n)) false x w (references titled.own)) between (titled.reached plain);
 }
 
-pub root_of : (s : State) (n : ℕ) (old w : Work) (t d : Data) (path : Text) (ms : Members) → old ≡ work_of s → Step (plan_of s (Some n)) old w → IsTitledRoot s old n w t → path ≡ (plan_of s None).path → ms ≡ w.definitions
+pub root_of : (s : State) (n : ℕ) (old w : Work) (t d : Data) (path : Text) (ms : Members) → old ≡ work_of s
+    → Step (plan_of s (Some n)) old w → IsTitledRoot s old n w t → path ≡ (plan_of s None).path → ms ≡ w.definitions
     → with_definitions path ms t ≡ Some d → IsRootOf s n w d
 root_of s n old w t d path ms between step titled same_path same made = record {
   step = subst (λ x. Step (plan_of s (Some n)) x w) between step;

@@ -1,5 +1,6 @@
 -- A struct whose one field, which is required, is the struct itself: its table is accepted, and no value belongs to it.
-use Rattle.std.proofs.Common.{◌≡◌, ◌≤◌, ℕ, zero, suc, List, [], ◌∷◌, Bool, true, false, Option, Some, None, Ordering, Less, Equal, Greater, nat_cmp, refl, sym, ◌∙◌, arith}
+use Rattle.std.proofs.Common.{◌≡◌, ◌≤◌, ℕ, zero, suc, List, [], ◌∷◌, Bool, true, false, Option, Some, None, Ordering}
+use Rattle.std.proofs.Common.{Less, Equal, Greater, nat_cmp, refl, sym, ◌∙◌, arith}
 use Rattle.std.specs.Prelude.{codes, ◌&&◌, ◌||◌, not, is_some}
 use Rattle.std.specs.List.{IsDistinct}
 use Rattle.std.specs.Ordering.{match_ordering}
@@ -23,7 +24,12 @@ abbrev next : Field
 next = record { name = codes "n"; ty = 0; required = record { deserialize = true; serialize = true }; notes = no_members }
 
 abbrev pub endless : List Row
-endless = (record { id = codes "L"; name = codes "L"; entry = Some (record { inline = false; notes = no_members; shape = struct (next ∷ []) false }) }) ∷ []
+endless = (record {
+  id = codes "L";
+  name = codes "L";
+  entry = Some (record
+      { inline = false; notes = no_members; shape = struct (next ∷ []) false });
+}) ∷ []
 
 -- ---- it is accepted
 
@@ -58,7 +64,8 @@ endless_accepted = record {
 
 -- ---- and has no value
 
-misfit : (p : Text → Data → Bool) (k : Text) (d : Data) (ms : Members) → get_member k ms ≡ Some d → p k d ≡ false → every_member p ms ≡ false
+misfit : (p : Text → Data → Bool) (k : Text) (d : Data) (ms : Members) → get_member k ms ≡ Some d → p k d ≡ false
+    → every_member p ms ≡ false
 misfit p k d no_members is bad = cc
 misfit p k d (member l e ms) is bad = go (slice_cmp nat_cmp k l) refl is (misfit p k d ms)
   where
@@ -70,7 +77,8 @@ misfit p k d (member l e ms) is bad = go (slice_cmp nat_cmp k l) refl is (misfit
     first true b h = cc
     first false b h = refl
 
-    go : (o : Ordering) → slice_cmp nat_cmp k l ≡ o → match_ordering o (get_member k ms) (Some e) (get_member k ms) ≡ Some d → (get_member k ms ≡ Some d → p k d ≡ false → every_member p ms ≡ false) → p l e && every_member p ms ≡ false
+    go : (o : Ordering) → slice_cmp nat_cmp k l ≡ o → match_ordering o (get_member k ms) (Some e) (get_member k ms) ≡ Some d
+        → (get_member k ms ≡ Some d → p k d ≡ false → every_member p ms ≡ false) → p l e && every_member p ms ≡ false
     go Less at is rest = either (p l e) (every_member p ms) (rest is bad)
     go Equal at is rest =
         let same_key : k ≡ l = exact_bytes k l at in
@@ -82,13 +90,16 @@ no_and : (a : Bool) → a && false ≡ false
 no_and true = refl
 no_and false = refl
 
-absent_or_misfit : (c : Contract) (part : ℕ → Data → Bool) → ((w : Data) → part 0 w ≡ false) → (ms : Members) (o : Option Data) → get_member (codes "n") ms ≡ o
-    → every_member (member_fits part (next ∷ []) false) ms && ((not (is_required c next.required) || is_some (get_member (codes "n") ms)) && true) ≡ false
+absent_or_misfit : (c : Contract) (part : ℕ → Data → Bool) → ((w : Data) → part 0 w ≡ false) → (ms : Members) (o : Option Data)
+    → get_member (codes "n") ms ≡ o
+    → every_member (member_fits part (next ∷ []) false) ms && ((not (is_required c next.required) || is_some (get_member (codes "n") ms))
+    && true) ≡ false
 absent_or_misfit Deserialize part none ms None is = rw is (no_and (every_member (member_fits part (next ∷ []) false) ms))
 absent_or_misfit Serialize part none ms None is = rw is (no_and (every_member (member_fits part (next ∷ []) false) ms))
 absent_or_misfit c part none ms (Some w) is = rw (misfit (member_fits part (next ∷ []) false) (codes "n") w ms is (none w)) refl
 
-pub no_value : (contract : Contract) (patterns : Patterns) (steps n : ℕ) (v : Data) → belongs_within endless contract patterns steps n v ≡ false
+pub no_value : (contract : Contract) (patterns : Patterns) (steps n : ℕ) (v : Data)
+    → belongs_within endless contract patterns steps n v ≡ false
 unfolding belongs_within
 no_value contract patterns zero n v = refl
 no_value contract patterns (suc steps) (suc n) v = refl
@@ -97,9 +108,12 @@ no_value contract patterns (suc steps) zero (boolean b) = refl
 no_value contract patterns (suc steps) zero (number m) = refl
 no_value contract patterns (suc steps) zero (string s) = refl
 no_value contract patterns (suc steps) zero (array ds) = refl
-no_value contract patterns (suc steps) zero (object ms) = absent_or_misfit contract (belongs_within endless contract patterns steps) (λ w. no_value contract patterns steps 0 w) ms (get_member (codes "n") ms) refl
+no_value contract patterns (suc steps) zero (object ms) = absent_or_misfit contract (belongs_within endless contract patterns steps)
+    (λ w. no_value contract patterns steps 0 w) ms (get_member (codes "n") ms) refl
 
 -- so its document accepts nothing
 pub document_accepts_nothing : (contract : Contract) (path : Text) (document : Data) → MeansItsType endless contract path 0 document
-    → (patterns : Patterns) (v : Data) → IsJson v → (followed : ℕ) → bound path document v ≤ followed → accepts draft2020_12 document patterns followed document v ≡ No
-document_accepts_nothing contract path document h patterns v json followed enough = h.accepts_its_values patterns v json followed enough ∙ rw (no_value contract patterns _ 0 v) refl
+    → (patterns : Patterns) (v : Data) → IsJson v → (followed : ℕ) → bound path document v ≤ followed
+    → accepts draft2020_12 document patterns followed document v ≡ No
+document_accepts_nothing contract path document h patterns v json followed enough =
+    h.accepts_its_values patterns v json followed enough ∙ rw (no_value contract patterns _ 0 v) refl

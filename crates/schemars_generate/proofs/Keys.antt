@@ -1,5 +1,7 @@
 -- The keys of members, and those under which definitions stand.
-use Rattle.std.proofs.Common.{◌≡◌, ◌⊎◌, inl, inr, List, [], ◌∷◌, Some, None, true, false, Ordering, Less, Equal, Greater, nat_cmp, refl, sym, ap, ◌∙◌, true≢false, string_cmp, String, Global, string_bytes}
+use Rattle.std.proofs.Common.{◌≡◌, ◌⊎◌, inl, inr, List, [], ◌∷◌, Some, None, true, false, Ordering, Less, Equal}
+use Rattle.std.proofs.Common.{Greater, nat_cmp, refl, sym, ap, ◌∙◌, true≢false, string_cmp, String, Global}
+use Rattle.std.proofs.Common.{string_bytes}
 use Rattle.std.specs.Prelude.{codes}
 use Rattle.std.specs.Ordering.{match_ordering}
 use Rattle.std.specs.Cmp.Lexicographic.{slice_cmp}
@@ -38,7 +40,8 @@ key_later j k d ms h = go (slice_cmp nat_cmp j k)
 pub key_cases : (j k : Text) (d : Data) (ms : Members) → IsKey j (member k d ms) → (j ≡ k) ⊎ IsKey j ms
 key_cases j k d ms h = go (slice_cmp nat_cmp j k) refl h.1
   where
-    go : (o : Ordering) → slice_cmp nat_cmp j k ≡ o → match_ordering o (get_member j ms) (Some d) (get_member j ms) ≡ Some h.0 → (j ≡ k) ⊎ IsKey j ms
+    go : (o : Ordering) → slice_cmp nat_cmp j k ≡ o → match_ordering o (get_member j ms) (Some d) (get_member j ms) ≡ Some h.0
+        → (j ≡ k) ⊎ IsKey j ms
     go Less is found = inr (h.0, found)
     go Equal is found = inl (exact_bytes j k is)
     go Greater is found = inr (h.0, found)
@@ -49,7 +52,8 @@ abbrev pub AllMembers : (Data → Type 0) → Members → Type 0
 AllMembers P no_members = Unit {0}
 AllMembers P (member k d ms) = P d × AllMembers P ms
 
-found_later : (j k : Text) (d e : Data) (ms : Members) → get_member k ms ≡ None → get_member j ms ≡ Some e → get_member j (member k d ms) ≡ Some e
+found_later : (j k : Text) (d e : Data) (ms : Members) → get_member k ms ≡ None → get_member j ms ≡ Some e
+    → get_member j (member k d ms) ≡ Some e
 found_later j k d e ms new found = go (slice_cmp nat_cmp j k) refl
   where
     go : (o : Ordering) → slice_cmp nat_cmp j k ≡ o → match_ordering o (get_member j ms) (Some d) (get_member j ms) ≡ Some e
@@ -58,9 +62,13 @@ found_later j k d e ms new found = go (slice_cmp nat_cmp j k) refl
     go Greater is = found
 
 -- what holds of all that is found holds of all members
-pub all_members : (P : Data → Type 0) (ms : Members) → HasKeysOnce ms → ((k : Text) (d : Data) → get_member k ms ≡ Some d → P d) → AllMembers P ms
+pub all_members : (P : Data → Type 0) (ms : Members) → HasKeysOnce ms → ((k : Text) (d : Data) → get_member k ms ≡ Some d → P d)
+    → AllMembers P ms
 all_members P no_members once all = tt
-all_members P (member k d ms) once all = (all k d (found_here k d ms), all_members P ms once.1 (λ j e found. all j e (found_later j k d e ms once.0 found)))
+all_members P (member k d ms) once all = (
+  all k d (found_here k d ms),
+  all_members P ms once.1 (λ j e found. all j e (found_later j k d e ms once.0 found)),
+)
 
 -- and of all members, of what is found
 pub found_among : (P : Data → Type 0) (ms : Members) → AllMembers P ms → (k : Text) (d : Data) → get_member k ms ≡ Some d → P d
@@ -72,9 +80,11 @@ found_among P (member l e ms) all k d found = go (slice_cmp nat_cmp k l) found (
     go Equal found later = let same : e ≡ d = cc in rw (← same) (all.0)
     go Greater found later = later found
 
-absent_above : (k : String Global) (es : List Entry) → AllByRecursion (λ l. string_cmp k l ≡ Less) (keys_of es) → get_member (string_bytes k) (members_view es) ≡ None
+absent_above : (k : String Global) (es : List Entry) → AllByRecursion (λ l. string_cmp k l ≡ Less) (keys_of es)
+    → get_member (string_bytes k) (members_view es) ≡ None
 absent_above k [] above = refl
-absent_above k (e ∷ es) above = let less : slice_cmp nat_cmp (string_bytes k) (string_bytes e.0) ≡ Less = above.0 in rw less (absent_above k es above.1)
+absent_above k (e ∷ es) above = let less : slice_cmp nat_cmp (string_bytes k) (string_bytes e.0) ≡ Less = above.0 in
+    rw less (absent_above k es above.1)
 
 -- the entries of a map have each key once
 pub map_once : (es : List Entry) → IsStrictlySortedBy string_cmp (keys_of es) → HasKeysOnce (members_view es)
@@ -92,8 +102,10 @@ abbrev pub IsOther : Text → Type 0
 IsOther k = is_listed k (codes "$defs" ∷ codes "definitions" ∷ []) ≡ false
 
 pub other_apart : (key k : Text) → IsDefinitionsKey key → IsOther k → key ≡ k → ⊥
-other_apart key k (inl is) other same = true≢false (ap (λ x. is_listed x (codes "$defs" ∷ codes "definitions" ∷ [])) (sym is ∙ same) ∙ other)
-other_apart key k (inr is) other same = true≢false (ap (λ x. is_listed x (codes "$defs" ∷ codes "definitions" ∷ [])) (sym is ∙ same) ∙ other)
+other_apart key k (inl is) other same = true≢false (ap (λ x. is_listed x (codes "$defs" ∷ codes "definitions" ∷ [])) (sym is ∙ same)
+    ∙ other)
+other_apart key k (inr is) other same = true≢false (ap (λ x. is_listed x (codes "$defs" ∷ codes "definitions" ∷ [])) (sym is ∙ same)
+    ∙ other)
 
 pub annotation_other : (k : Text) → is_annotation k ≡ true → IsOther k
 annotation_other k note = annotation-not_listed k (codes "$defs" ∷ codes "definitions" ∷ []) refl note

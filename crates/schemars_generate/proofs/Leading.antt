@@ -1,5 +1,6 @@
 -- Where the references of a table's documents lead: to the root, or to the definition of their row.
-use Rattle.std.proofs.Common.{◌≡◌, ◌⊎◌, inl, inr, ℕ, zero, suc, ◌+◌, ◌*◌, ◌<◌, ◌≤◌, List, [], ◌∷◌, Option, Some, None, Bool, true, false, Contains, length, refl, sym, ap, ◌∙◌, arith, subst}
+use Rattle.std.proofs.Common.{◌≡◌, ◌⊎◌, inl, inr, ℕ, zero, suc, ◌+◌, ◌*◌, ◌<◌, ◌≤◌, List, [], ◌∷◌, Option, Some, None}
+use Rattle.std.proofs.Common.{Bool, true, false, Contains, length, refl, sym, ap, ◌∙◌, arith, subst}
 use Rattle.std.specs.Prelude.{codes, is_some}
 use Rattle.std.specs.Str.{IsUtf8}
 use Rattle.std.proofs.Math.Nat.{mul-le-mul_left}
@@ -61,7 +62,8 @@ same_number (shape.up_to i cap) j same = absurd same
 same_number (shape.tuple ns) j same = absurd same
 same_number (shape.struct xs closed) j same = absurd same
 
-rank_below : (rows : List Row) → IsChecked rows → (n : ℕ) (e : Entry) (j : ℕ) → entry_at rows n ≡ Some e → IsSame e.shape j → rank rows j < rank rows n
+rank_below : (rows : List Row) → IsChecked rows → (n : ℕ) (e : Entry) (j : ℕ) → entry_at rows n ≡ Some e → IsSame e.shape j
+    → rank rows j < rank rows n
 rank_below rows checked n e j at same =
     let among = same_number e.shape j same in
     let edge : Contains (same_value_numbers_at rows n) j = rw at among.0 in
@@ -94,7 +96,8 @@ module _ (plan : Plan) (names : Naming) where
 
   references_of : (ms : Members) → ((k : Text) → IsKey k ms → RowNamed k) → References
   references_of no_members row = []
-  references_of (member k d ms) row = ((row k (key_here k d ms)).0, reference_to plan.path k) ∷ references_of ms (λ j is. row j (key_later j k d ms is))
+  references_of (member k d ms) row = ((row k (key_here k d ms)).0, reference_to plan.path k)
+      ∷ references_of ms (λ j is. row j (key_later j k d ms is))
 
   references_len : (ms : Members) (row : (k : Text) → IsKey k ms → RowNamed k) → length (references_of ms row) ≡ members_len ms
   unfolding references_of
@@ -105,15 +108,18 @@ module _ (plan : Plan) (names : Naming) where
   abbrev NamedReference : Members → ℕ → Text → Type 0
   NamedReference ms j r = (name : Text) × (name_of j plan.contract names ≡ Some name) × IsKey name ms × (r ≡ reference_to plan.path name)
 
-  named_from : (ms : Members) (row : (k : Text) → IsKey k ms → RowNamed k) (j : ℕ) (r : Text) → InList (references_of ms row) j r → NamedReference ms j r
+  named_from : (ms : Members) (row : (k : Text) → IsKey k ms → RowNamed k) (j : ℕ) (r : Text) → InList (references_of ms row) j r
+      → NamedReference ms j r
   unfolding references_of
   named_from no_members row j r h = absurd h
   named_from (member k d ms) row j r (inl h) =
       let P : ℕ → Type 0 = λ i. name_of i plan.contract names ≡ Some k in
       (k, subst P h.0 (row k (key_here k d ms)).1, key_here k d ms, sym h.1)
-  named_from (member k d ms) row j r (inr h) = let n = named_from ms (λ i is. row i (key_later i k d ms is)) j r h in (n.0, n.1, key_later n.0 k d ms n.2, n.3)
+  named_from (member k d ms) row j r (inr h) = let n = named_from ms (λ i is. row i (key_later i k d ms is)) j r h in
+      (n.0, n.1, key_later n.0 k d ms n.2, n.3)
 
-  named_in : IsOneToOne names → (ms : Members) (row : (k : Text) → IsKey k ms → RowNamed k) (j : ℕ) (r : Text) → NamedReference ms j r → InList (references_of ms row) j r
+  named_in : IsOneToOne names → (ms : Members) (row : (k : Text) → IsKey k ms → RowNamed k) (j : ℕ) (r : Text) → NamedReference ms j r
+      → InList (references_of ms row) j r
   unfolding references_of
   named_in one no_members row j r h = cc (h.2.1)
   named_in one (member k d ms) row j r h = elim (key_cases h.0 k d ms h.2) [
@@ -144,7 +150,8 @@ unfolding with_root
 listed_later None refs j r h = h
 listed_later (Some n) refs j r h = inr h
 
-listed_cases : (root : Option ℕ) (refs : References) (j : ℕ) (r : Text) → InList (with_root root refs) j r → ((root ≡ Some j) × (r ≡ codes "#")) ⊎ InList refs j r
+listed_cases : (root : Option ℕ) (refs : References) (j : ℕ) (r : Text) → InList (with_root root refs) j r
+    → ((root ≡ Some j) × (r ≡ codes "#")) ⊎ InList refs j r
 unfolding with_root
 listed_cases None refs j r h = inr h
 listed_cases (Some n) refs j r (inl h) = inl (ap Some h.0, sym h.1)
@@ -152,11 +159,13 @@ listed_cases (Some n) refs j r (inr h) = inr h
 
 -- the definitions are found by their references in this document, and the bound counts them
 pub record HoldsDefinitions (path : Text) (definitions : Members) (document : Data) : Type 0 where
-  pub leads : (name : Text) (d : Data) → IsUtf8 name → get_member name definitions ≡ Some d → lookup (reference_to path name) document ≡ Some d
+  pub leads : (name : Text) (d : Data) → IsUtf8 name → get_member name definitions ≡ Some d
+      → lookup (reference_to path name) document ≡ Some d
   pub counts : members_len definitions ≤ count_of_definitions path document
 
 -- so it is where they stand at the path
-pub holds_at : (path : Text) (definitions : Members) (document : Data) → lookup (35 ∷ path) document ≡ Some (object definitions) → members_len definitions ≤ count_of_definitions path document
+pub holds_at : (path : Text) (definitions : Members) (document : Data) → lookup (35 ∷ path) document ≡ Some (object definitions)
+    → members_len definitions ≤ count_of_definitions path document
     → HoldsDefinitions path definitions document
 holds_at path definitions document found counts = record {
   leads = λ name d text is. lookup-encoded (35 ∷ path) name document definitions text found ∙ is;
@@ -196,7 +205,8 @@ stands_now plan w name d h = record {
   is_named = h.is_named;
   is_text = h.is_text;
   depth = h.depth;
-  describes = describes-wider plan.rows (contract_of plan.contract) (Refers plan false w) (MayRefer plan w) (refers_may plan w false) h.depth h.depth (omega arith) h.row d h.describes;
+  describes = describes-wider plan.rows (contract_of plan.contract) (Refers plan false w) (MayRefer plan w) (refers_may plan w false)
+      h.depth h.depth (omega arith) h.row d h.describes;
 }
 
 pub stands_before : (plan : Plan) (w : Work) (name : Text) (d : Data) → IsDefinition (rootless plan) w name d → Stands plan w name d
@@ -205,20 +215,23 @@ stands_before plan w name d h = record {
   is_named = h.is_named;
   is_text = h.is_text;
   depth = h.depth;
-  describes = describes-wider plan.rows (contract_of plan.contract) (Refers (rootless plan) false w) (MayRefer plan w) (λ j r e. inr (free_refers (rootless plan) w false j r e)) h.depth h.depth (omega arith) h.row d h.describes;
+  describes = describes-wider plan.rows (contract_of plan.contract) (Refers (rootless plan) false w) (MayRefer plan w)
+      (λ j r e. inr (free_refers (rootless plan) w false j r e)) h.depth h.depth (omega arith) h.row d h.describes;
 }
 
 -- the root is the document itself, or says the same
 abbrev pub IsItsRoot : Plan → Work → Data → Type 0
 IsItsRoot plan w document =
     (n : ℕ) → plan.root ≡ Some n
-    → (own : Data) × (depth : ℕ) × ((patterns : Patterns) (f : Text → Judge) → judge (context2020_12 patterns f) document ≡ judge (context2020_12 patterns f) own) × IsSchema document
+    → (own : Data) × (depth : ℕ) × ((patterns : Patterns) (f : Text → Judge)
+    → judge (context2020_12 patterns f) document ≡ judge (context2020_12 patterns f) own) × IsSchema document
     × Describes plan.rows (contract_of plan.contract) (MayRefer plan w) depth n own
 
 bound_enough : (a len defs counted n : ℕ) → len ≤ defs + 1 → defs ≤ counted → (a + 1) * (counted + 2) ≤ n → (a + 1) * (len + 1) ≤ n
 bound_enough a len defs counted n few less h = grind (arith, mul-le-mul_left)
 
-module _ (plan : Plan) (w : Work) (document : Data) (checked : IsChecked plan.rows) (plain : IsPlainTable plan.rows) (one : IsOneToOne w.names) (definitions : AllStand plan w)
+module _ (plan : Plan) (w : Work) (document : Data) (checked : IsChecked plan.rows) (plain : IsPlainTable plan.rows)
+    (one : IsOneToOne w.names) (definitions : AllStand plan w)
     (holds : HoldsDefinitions plan.path w.definitions document) (is_root : IsItsRoot plan w document) where
   abbrev row_named : (k : Text) → IsKey k w.definitions → RowNamed plan w.names k
   row_named k is = let d = definitions k is.0 is.1 in (d.row, d.is_named)
@@ -231,14 +244,20 @@ module _ (plan : Plan) (w : Work) (document : Data) (checked : IsChecked plan.ro
 
   refs_len : length refs ≤ members_len w.definitions + 1
   unfolding refs to_definitions
-  refs_len = omega (arith, with_root_len plan.root (references_of plan w.names w.definitions row_named), references_len plan w.names w.definitions row_named)
+  refs_len = omega (
+    arith,
+    with_root_len plan.root (references_of plan w.names w.definitions row_named),
+    references_len plan w.names w.definitions row_named,
+  )
 
   refers_listed : (j : ℕ) (r : Text) → MayRefer plan w j r → InList refs j r
   unfolding refs to_definitions
   refers_listed j r (inl (inl h)) = rw (h.2) (listed_root plan.root (references_of plan w.names w.definitions row_named) j h.0)
-  refers_listed j r (inl (inr h)) = listed_later plan.root (references_of plan w.names w.definitions row_named) j r (named_in plan w.names one w.definitions row_named j r (h.0, h.1, h.2, h.3))
+  refers_listed j r (inl (inr h)) = listed_later plan.root (references_of plan w.names w.definitions row_named) j r
+      (named_in plan w.names one w.definitions row_named j r (h.0, h.1, h.2, h.3))
   refers_listed j r (inr (inl h)) = cc
-  refers_listed j r (inr (inr h)) = listed_later plan.root (references_of plan w.names w.definitions row_named) j r (named_in plan w.names one w.definitions row_named j r (h.0, h.1, h.2, h.3))
+  refers_listed j r (inr (inr h)) = listed_later plan.root (references_of plan w.names w.definitions row_named) j r
+      (named_in plan w.names one w.definitions row_named j r (h.0, h.1, h.2, h.3))
 
   -- the root by `#`, or a row by the name of its definition
   abbrev Leads : ℕ → Text → Type 0
@@ -263,13 +282,22 @@ module _ (plan : Plan) (w : Work) (document : Data) (checked : IsChecked plan.ro
   -- found, and what it says the same as, which describes the row
   abbrev LeadsTo : ℕ → Text → Type 0
   LeadsTo j r =
-      (found : Data) × (s : Data) × (d : ℕ) × (resolved document r ≡ Some found) × ((patterns : Patterns) (f : Text → Judge) → judge (context2020_12 patterns f) found ≡ judge (context2020_12 patterns f) s)
+      (found : Data) × (s : Data) × (d : ℕ) × (resolved document r ≡ Some found)
+      × ((patterns : Patterns) (f : Text → Judge) → judge (context2020_12 patterns f) found ≡ judge (context2020_12 patterns f) s)
       × D d j s
 
   leads_root : (j : ℕ) → plan.root ≡ Some j → LeadsTo j (codes "#")
-  leads_root j is = let root = is_root j is in (document, root.0, root.1, resolved_found document (codes "#") document (lookup-whole document) root.3, root.2, root.4)
+  leads_root j is = let root = is_root j is in (
+    document,
+    root.0,
+    root.1,
+    resolved_found document (codes "#") document (lookup-whole document) root.3,
+    root.2,
+    root.4,
+  )
 
-  leads_named : (j : ℕ) (name : Text) (d : Data) → name_of j plan.contract w.names ≡ Some name → get_member name w.definitions ≡ Some d → LeadsTo j (reference_to plan.path name)
+  leads_named : (j : ℕ) (name : Text) (d : Data) → name_of j plan.contract w.names ≡ Some name → get_member name w.definitions ≡ Some d
+      → LeadsTo j (reference_to plan.path name)
   leads_named j name d named found =
       let definition = definitions name d found in
       let same : definition.row ≡ j = (one.one_row definition.row j plan.contract plan.contract name definition.is_named named).0 in
@@ -278,7 +306,8 @@ module _ (plan : Plan) (w : Work) (document : Data) (checked : IsChecked plan.ro
         d,
         d,
         definition.depth,
-        resolved_found document (reference_to plan.path name) d (holds.leads name d definition.is_text found) (described_schema plan.rows (contract_of plan.contract) (MayRefer plan w) plain definition.depth j d describes),
+        resolved_found document (reference_to plan.path name) d (holds.leads name d definition.is_text found)
+            (described_schema plan.rows (contract_of plan.contract) (MayRefer plan w) plain definition.depth j d describes),
         λ patterns f. refl,
         describes,
       )
@@ -298,8 +327,15 @@ module _ (plan : Plan) (w : Work) (document : Data) (checked : IsChecked plan.ro
     document = document;
     refs = refs;
     resolves = λ j r is.
-        let to = leads_to j r (listed_leads j r is) in
-        (to.0, to.1, to.2, to.3, to.4 patterns, describes-wider plan.rows (contract_of plan.contract) (MayRefer plan w) (InList refs) refers_listed to.2 to.2 (omega arith) j to.1 to.5);
+        let to = leads_to j r (listed_leads j r is) in (
+          to.0,
+          to.1,
+          to.2,
+          to.3,
+          to.4 patterns,
+          describes-wider plan.rows (contract_of plan.contract) (MayRefer plan w) (InList refs)
+              refers_listed to.2 to.2 (omega arith) j to.1 to.5,
+        );
     plain = plain;
     rank = rank plan.rows;
     ranks = length plan.rows;
@@ -308,8 +344,13 @@ module _ (plan : Plan) (w : Work) (document : Data) (checked : IsChecked plan.ro
   }
 
   -- what is written for a row accepts just its values
-  pub written_accepts : (d n : ℕ) (t : Data) → IsWritten (MayRefer plan w) (D d) n t → AcceptsItsValues plan.rows (contract_of plan.contract) plan.path n document t
+  pub written_accepts : (d n : ℕ) (t : Data) → IsWritten (MayRefer plan w) (D d) n t
+      → AcceptsItsValues plan.rows (contract_of plan.contract) plan.path n document t
   unfolding setting
   written_accepts d n t h patterns v json followed bounded =
-      let listed = written_map (MayRefer plan w) (InList refs) (D d) (Describes plan.rows (contract_of plan.contract) (InList refs) d) refers_listed (describes-wider plan.rows (contract_of plan.contract) (MayRefer plan w) (InList refs) refers_listed d d (omega arith)) n t h in
-      written_says (setting patterns) d n t listed v json followed ((depth v + 1) * length plan.rows) (bound_enough (depth v) (length refs) (members_len w.definitions) (count_of_definitions plan.path document) followed refs_len holds.counts bounded) (omega arith)
+      let listed = written_map (MayRefer plan w) (InList refs) (D d) (Describes plan.rows (contract_of plan.contract) (InList refs) d)
+      refers_listed (describes-wider plan.rows (contract_of plan.contract) (MayRefer plan w) (InList refs) refers_listed d d
+      (omega arith)) n t h in
+      written_says (setting patterns) d n t listed v json followed ((depth v + 1) * length plan.rows)
+      (bound_enough (depth v) (length refs) (members_len w.definitions) (count_of_definitions plan.path document) followed refs_len
+      holds.counts bounded) (omega arith)

@@ -1,5 +1,6 @@
 -- Each reference in a definition names a key.
-use Rattle.std.proofs.Common.{◌≡◌, ◌<◌, ◌⊎◌, inl, inr, ℕ, zero, suc, List, [], ◌∷◌, length, get_or, Bool, true, false, None, true≢false, Contains, refl, sym, ap, ◌∙◌, arith}
+use Rattle.std.proofs.Common.{◌≡◌, ◌<◌, ◌⊎◌, inl, inr, ℕ, zero, suc, List, [], ◌∷◌, length, get_or, Bool, true, false}
+use Rattle.std.proofs.Common.{None, true≢false, Contains, refl, sym, ap, ◌∙◌, arith}
 use Rattle.std.specs.Prelude.{◌&&◌, ◌||◌, bytes_eq}
 use Rattle.std.specs.Option.{option_map_or}
 use Rattle.std.proofs.lemmas.Slice.Eq.{bytes_eq-Decides}
@@ -32,18 +33,22 @@ unfolding names_key
 names_a_key path no_members k h = cc (h.1)
 names_a_key path (member l d ms) k h = elim (key_cases k l d ms h) [
   | inl same ↦
-      let own : bytes_eq (reference_to path l) (reference_to path k) ≡ true = (bytes_eq-Decides (reference_to path l) (reference_to path k)).1 (ap (reference_to path) (sym same)) in
+      let own : bytes_eq (reference_to path l) (reference_to path k) ≡ true =
+      (bytes_eq-Decides (reference_to path l) (reference_to path k)).1 (ap (reference_to path) (sym same)) in
       rw own refl
-  | inr later ↦ or_later (bytes_eq (reference_to path l) (reference_to path k)) (names_key path ms (string (reference_to path k))) (names_a_key path ms k later)
+  | inr later ↦ or_later (bytes_eq (reference_to path l) (reference_to path k)) (names_key path ms (string (reference_to path k)))
+      (names_a_key path ms k later)
 ]
 
-key_named : (path : Text) (ms : Members) (r : Data) → names_key path ms r ≡ true → (name : Text) × IsKey name ms × (r ≡ string (reference_to path name))
+key_named : (path : Text) (ms : Members) (r : Data) → names_key path ms r ≡ true
+    → (name : Text) × IsKey name ms × (r ≡ string (reference_to path name))
 unfolding names_key
 key_named path no_members r h = absurd (true≢false (sym h))
-key_named path (member k d ms) r h = elim (or_cases (option_map_or (bytes_eq (reference_to path k)) (as_str r) false) (names_key path ms r) h) [
-  | inl here ↦ (k, key_here k d ms, text r here)
-  | inr later ↦ let rest = key_named path ms r later in (rest.0, key_later rest.0 k d ms rest.1, rest.2)
-]
+key_named path (member k d ms) r h = elim (or_cases (option_map_or (bytes_eq (reference_to path k)) (as_str r) false)
+    (names_key path ms r) h) [
+      | inl here ↦ (k, key_here k d ms, text r here)
+      | inr later ↦ let rest = key_named path ms r later in (rest.0, key_later rest.0 k d ms rest.1, rest.2)
+    ]
   where
     text : (x : Data) → option_map_or (bytes_eq (reference_to path k)) (as_str x) false ≡ true → x ≡ string (reference_to path k)
     text (string t) is = ap string (sym ((bytes_eq-Decides (reference_to path k) t).0 is))
@@ -57,7 +62,8 @@ both : (a b : Bool) → a && b ≡ true → (a ≡ true) × (b ≡ true)
 both true b e = (refl, e)
 both false b e = absurd (true≢false (sym e))
 
-all_pass-at : (test : Data → Bool) (xs : List Data) (x : Data) (i : ℕ) → all_pass test xs ≡ true → i < length xs → get_or xs i x ≡ x → test x ≡ true
+all_pass-at : (test : Data → Bool) (xs : List Data) (x : Data) (i : ℕ) → all_pass test xs ≡ true → i < length xs → get_or xs i x ≡ x
+    → test x ≡ true
 all_pass-at test [] x i all less is = absurd (omega (arith, less))
 all_pass-at test (y ∷ ys) x zero all less is = ap test (sym is) ∙ (both (test y) (all_pass test ys) all).0
 all_pass-at test (y ∷ ys) x (suc i) all less is = all_pass-at test ys x i (both (test y) (all_pass test ys) all).1 (omega (arith, less)) is
@@ -69,7 +75,8 @@ all_pass-each test xs x all h = all_pass-at test xs x h.0 all h.1 h.2
 pub references_name_keys : (s : State) → HasOwnDefinitions s → IsPlainTable s.rows → ReferencesNameKeys s
 references_name_keys s own plain k d r found among =
     let definition = own k d found in
-    let all = (described_resolved test s.rows (contract_of s.settings.contract) (Refers (plan_of s None) false (work_of s)) plain leads definition.depth definition.row d definition.describes).1 in
+    let all = (described_resolved test s.rows (contract_of s.settings.contract) (Refers (plan_of s None) false (work_of s)) plain leads
+    definition.depth definition.row d definition.describes).1 in
     key_named (plan_of s None).path s.definitions r (all_pass-each test (references d) r all among)
   where
     test : Data → Bool

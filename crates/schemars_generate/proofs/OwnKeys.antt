@@ -13,7 +13,9 @@ use Rattle.schemars_schema.specs.Edits.{without}
 use Rattle.schemars_schema.specs.Acceptance.{is_null}
 use Rattle.schemars_schema.specs.SchemaData.{members_in, object_of, put_all, put_members}
 use Rattle.schemars_schema.specs.Annotations.{AreNotes}
-use Rattle.schemars_rewrite.specs.AllowNull.{null_schema, is_null_choice, is_combined, or_null, allow_null, type_with_null, null_in_type, enum_with_null, null_in_enum, const_or_null, null_in_const, null_in_values}
+use Rattle.schemars_rewrite.specs.AllowNull.{null_schema, is_null_choice, is_combined, or_null, allow_null}
+use Rattle.schemars_rewrite.specs.AllowNull.{type_with_null, null_in_type, enum_with_null, null_in_enum, const_or_null}
+use Rattle.schemars_rewrite.specs.AllowNull.{null_in_const, null_in_values}
 use Rattle.schemars_rewrite.specs.NullLaw.{zero_schema}
 use Rattle.schemars_shapes.specs.declared.shape.IntKind.{IntKind}
 use Rattle.schemars_shapes.specs.IntKind.{format_of}
@@ -21,7 +23,13 @@ use Rattle.schemars_shapes.specs.Shape as shape
 use Rattle.schemars_shapes.specs.Shape.{Shape, Entry}
 use Rattle.schemars_types.specs.Rows.{Row, entry_at}
 use Rattle.schemars_types.specs.Meaning.{Contract, least_of, greatest_of}
-use Rattle.schemars_documents.specs.Documents.{Keyword, IsDocument, IsOwnDocument, IsWritten, Describes, annotated, with_title, with_meta_schema, root_document, int_keywords, int_document, non_zero_document, is_signed, map_document, properties_keyword, required_keyword, closed_keyword, typed, type_alone, char_document, formatted_document, bytes_document, schema_document, seq_document, field_keywords, required_names, reference, set_document, array_document, up_to_document, empty_list_document, tuple_document}
+use Rattle.schemars_documents.specs.Documents.{Keyword, IsDocument, IsOwnDocument, IsWritten, Describes, annotated}
+use Rattle.schemars_documents.specs.Documents.{with_title, with_meta_schema, root_document, int_keywords, int_document}
+use Rattle.schemars_documents.specs.Documents.{non_zero_document, is_signed, map_document, properties_keyword}
+use Rattle.schemars_documents.specs.Documents.{required_keyword, closed_keyword, typed, type_alone, char_document}
+use Rattle.schemars_documents.specs.Documents.{formatted_document, bytes_document, schema_document, seq_document}
+use Rattle.schemars_documents.specs.Documents.{field_keywords, required_names, reference, set_document, array_document}
+use Rattle.schemars_documents.specs.Documents.{up_to_document, empty_list_document, tuple_document}
 use Rattle.schemars_documents.specs.PlainTable.{IsPlainEntry, IsPlainTable}
 use Rattle.schemars_generate.proofs.Keys.{IsDefinitionsKey, IsOther, other_apart, annotation_other}
 
@@ -81,7 +89,8 @@ module _ (key : Text) (is_key : IsDefinitionsKey key) where
 
   lacks-put_members : (notes ms : Members) → AreNotes notes → Lacks ms → Lacks (put_members notes ms)
   lacks-put_members no_members ms noted h = h
-  lacks-put_members (member k d notes) ms noted h = lacks-put_members notes (put k d ms) noted.1 (lacks-put k d ms (annotation_other k noted.0) h)
+  lacks-put_members (member k d notes) ms noted h = lacks-put_members notes (put k d ms) noted.1
+      (lacks-put k d ms (annotation_other k noted.0) h)
 
   lacks_annotated : (notes : Members) (s : Data) → AreNotes notes → LacksIn s → LacksIn (annotated notes s)
   lacks_annotated no_members s noted h = h
@@ -90,7 +99,8 @@ module _ (key : Text) (is_key : IsDefinitionsKey key) where
   -- ---- each shape
 
   lacks_int : (kind : IntKind) → LacksIn (int_document kind)
-  lacks_int kind = lacks (int_keywords (format_of kind) (least_of kind) (greatest_of kind)) (int_other (format_of kind) (least_of kind) (greatest_of kind))
+  lacks_int kind = lacks (int_keywords (format_of kind) (least_of kind) (greatest_of kind))
+      (int_other (format_of kind) (least_of kind) (greatest_of kind))
 
   lacks_non_zero : (kind : IntKind) → LacksIn (non_zero_document kind)
   lacks_non_zero kind = go (is_signed kind)
@@ -102,13 +112,19 @@ module _ (key : Text) (is_key : IsDefinitionsKey key) where
           )
       go true =
           lacks (int_keywords (format_of kind) (least_of kind) (greatest_of kind) ++ (codes "not", zero_schema) ∷ [])
-          (append_other (int_keywords (format_of kind) (least_of kind) (greatest_of kind)) ((codes "not", zero_schema) ∷ []) (int_other (format_of kind) (least_of kind) (greatest_of kind)) (refl, tt))
-      go false = lacks (int_keywords (format_of kind) (Some (pos 1)) (greatest_of kind)) (int_other (format_of kind) (Some (pos 1)) (greatest_of kind))
+          (append_other (int_keywords (format_of kind) (least_of kind) (greatest_of kind)) ((codes "not", zero_schema) ∷ [])
+          (int_other (format_of kind) (least_of kind) (greatest_of kind)) (refl, tt))
+      go false = lacks (int_keywords (format_of kind) (Some (pos 1)) (greatest_of kind))
+          (int_other (format_of kind) (Some (pos 1)) (greatest_of kind))
 
   lacks_map : (es : List Keyword) (ns : List Text) (closed : Bool) → LacksIn (map_document es ns closed)
   lacks_map es ns closed =
       let rest : List Keyword = properties_keyword es ++ (required_keyword ns ++ closed_keyword closed) in
-      lacks (typed (codes "object") ∷ rest) (refl, append_other (properties_keyword es) (required_keyword ns ++ closed_keyword closed) (properties_other es) (append_other (required_keyword ns) (closed_keyword closed) (required_other ns) (closed_other closed)))
+      lacks (typed (codes "object") ∷ rest) (
+        refl,
+        append_other (properties_keyword es) (required_keyword ns ++ closed_keyword closed)
+            (properties_other es) (append_other (required_keyword ns) (closed_keyword closed) (required_other ns) (closed_other closed)),
+      )
 
   lacks_null_in_type : (o : Option Data) (ms : Members) → Lacks ms → Lacks (null_in_type o ms)
   lacks_null_in_type None ms h = h
@@ -143,7 +159,8 @@ module _ (key : Text) (is_key : IsDefinitionsKey key) where
     where
       go : (b : Bool) → Lacks (if b then ms else const_or_null c ms)
       go true = h
-      go false = lacks-put (codes "enum") (array (item c (item null no_items))) (without (codes "const") ms) refl (lacks_without (codes "const") ms h)
+      go false = lacks-put (codes "enum") (array (item c (item null no_items))) (without (codes "const") ms) refl
+          (lacks_without (codes "const") ms h)
 
   lacks_allow_null : (s : Data) → LacksIn s → LacksIn (allow_null s)
   lacks_allow_null (boolean true) h = refl
@@ -153,10 +170,12 @@ module _ (key : Text) (is_key : IsDefinitionsKey key) where
       typed_members : Members
       typed_members = null_in_type (get_member (codes "type") ms) ms
 
-      go : (stays b : Bool) → LacksIn (if stays then object ms else if b then or_null (object ms) else object (null_in_values (null_in_type (get_member (codes "type") ms) ms)))
+      go : (stays b : Bool) → LacksIn (if stays then object ms else if b then or_null (object ms) else
+          object (null_in_values (null_in_type (get_member (codes "type") ms) ms)))
       go true b = h
       go false true = lacks_both (members_in (or_null (object ms))) refl refl
-      go false false = lacks_null_in_const (get_member (codes "const") typed_members) typed_members (lacks_null_in_type (get_member (codes "type") ms) ms h)
+      go false false = lacks_null_in_const (get_member (codes "const") typed_members) typed_members
+          (lacks_null_in_type (get_member (codes "type") ms) ms h)
   lacks_allow_null null h = refl
   lacks_allow_null (number n) h = refl
   lacks_allow_null (string t) h = refl
@@ -169,7 +188,8 @@ module _ (key : Text) (is_key : IsDefinitionsKey key) where
   lacks_tuple [] = lacks_both (members_in empty_list_document) refl refl
   lacks_tuple (t ∷ ts) = lacks_both (members_in (tuple_document (t ∷ ts))) refl refl
 
-  shape_lacks : (W : ℕ → Data → Type 0) (contract : Contract) → ((j : ℕ) (t : Data) → W j t → LacksIn t) → (kind : Shape) (s : Data) → IsDocument W contract kind s → LacksIn s
+  shape_lacks : (W : ℕ → Data → Type 0) (contract : Contract) → ((j : ℕ) (t : Data) → W j t → LacksIn t) → (kind : Shape) (s : Data)
+      → IsDocument W contract kind s → LacksIn s
   shape_lacks W contract all shape.null s is = rw is (lacks_both (members_in (type_alone (codes "null"))) refl refl)
   shape_lacks W contract all shape.bool s is = rw is (lacks_both (members_in (type_alone (codes "boolean"))) refl refl)
   shape_lacks W contract all (shape.int k) s is = rw is (lacks_int k)
@@ -188,22 +208,27 @@ module _ (key : Text) (is_key : IsDefinitionsKey key) where
   shape_lacks W contract all (shape.array n (suc len)) s is = rw is.2 (lacks_both (members_in (array_document (suc len) is.0)) refl refl)
   shape_lacks W contract all (shape.up_to n cap) s is = rw is.2 (lacks_both (members_in (up_to_document cap is.0)) refl refl)
   shape_lacks W contract all (shape.tuple ns) s is = rw is.2 (lacks_tuple is.0)
-  shape_lacks W contract all (shape.struct xs closed) s is = rw is.2 (lacks_map (field_keywords xs is.0) (required_names contract xs) closed)
+  shape_lacks W contract all (shape.struct xs closed) s is = rw is.2
+      (lacks_map (field_keywords xs is.0) (required_names contract xs) closed)
   shape_lacks W contract all (shape.newtype n) s is = all n s is
 
-  own_lacks : (W : ℕ → Data → Type 0) (contract : Contract) → ((j : ℕ) (t : Data) → W j t → LacksIn t) → (o : Option Entry) → IsPlainEntry o → (s : Data) → IsOwnDocument W contract o s → LacksIn s
+  own_lacks : (W : ℕ → Data → Type 0) (contract : Contract) → ((j : ℕ) (t : Data) → W j t → LacksIn t) → (o : Option Entry)
+      → IsPlainEntry o → (s : Data) → IsOwnDocument W contract o s → LacksIn s
   own_lacks W contract all None plain s is = absurd is
-  own_lacks W contract all (Some e) plain s is = rw is.2 (lacks_annotated e.notes is.0 plain.0 (shape_lacks W contract all e.shape is.0 is.1))
+  own_lacks W contract all (Some e) plain s is = rw is.2 (lacks_annotated e.notes is.0 plain.0
+      (shape_lacks W contract all e.shape is.0 is.1))
 
   module _ (rows : List Row) (contract : Contract) (Refers : ℕ → Text → Type 0) (plain : IsPlainTable rows) where
-    written_lacks : (d : ℕ) → ((j : ℕ) (t : Data) → Describes rows contract Refers d j t → LacksIn t) → (j : ℕ) (t : Data) → IsWritten Refers (Describes rows contract Refers d) j t → LacksIn t
+    written_lacks : (d : ℕ) → ((j : ℕ) (t : Data) → Describes rows contract Refers d j t → LacksIn t) → (j : ℕ) (t : Data)
+        → IsWritten Refers (Describes rows contract Refers d) j t → LacksIn t
     written_lacks d own j t (inl h) = rw h.2 (lacks_both (members_in (reference h.0)) refl refl)
     written_lacks d own j t (inr h) = own j t h
 
     described_lacks : (d n : ℕ) (t : Data) → Describes rows contract Refers d n t → LacksIn t
     unfolding Describes
     described_lacks zero n t h = absurd h
-    described_lacks (suc d) n t h = own_lacks (IsWritten Refers (Describes rows contract Refers d)) contract (written_lacks d (described_lacks d)) (entry_at rows n) (plain n) t h
+    described_lacks (suc d) n t h = own_lacks (IsWritten Refers (Describes rows contract Refers d)) contract
+        (written_lacks d (described_lacks d)) (entry_at rows n) (plain n) t h
 
     lacks_with_title : (name : Text) (ms : Members) → Lacks ms → Lacks (with_title name ms)
     lacks_with_title name ms h = go (is_some (get_member (codes "title") ms))
@@ -217,5 +242,7 @@ module _ (key : Text) (is_key : IsDefinitionsKey key) where
     lacks_with_meta_schema (Some uri) ms h = lacks-put (codes "$schema") (string uri) ms refl h
 
     -- so there is room for definitions
-    pub no_definitions_in : (name : Text) (uri : Option Text) (d n : ℕ) (own : Data) → Describes rows contract Refers d n own → get_member key (members_in (root_document name uri own)) ≡ None
-    no_definitions_in name uri d n own h = lacks_with_meta_schema uri (with_title name (members_in own)) (lacks_with_title name (members_in own) (described_lacks d n own h))
+    pub no_definitions_in : (name : Text) (uri : Option Text) (d n : ℕ) (own : Data) → Describes rows contract Refers d n own
+        → get_member key (members_in (root_document name uri own)) ≡ None
+    no_definitions_in name uri d n own h = lacks_with_meta_schema uri (with_title name (members_in own))
+        (lacks_with_title name (members_in own) (described_lacks d n own h))

@@ -1,5 +1,6 @@
 -- Every reference of a document passes a test, where those of its parts do: it resolves, or it names a key.
-use Rattle.std.proofs.Common.{◌≡◌, inl, inr, ℕ, zero, suc, List, [], ◌∷◌, ◌++◌, Option, Some, None, Bool, true, false, Ordering, Less, Equal, Greater, nat_cmp, refl, sym, ap, ◌∙◌, true≢false}
+use Rattle.std.proofs.Common.{◌≡◌, inl, inr, ℕ, zero, suc, List, [], ◌∷◌, ◌++◌, Option, Some, None, Bool, true, false}
+use Rattle.std.proofs.Common.{Ordering, Less, Equal, Greater, nat_cmp, refl, sym, ap, ◌∙◌, true≢false}
 use Rattle.std.specs.Prelude.{codes, bytes_eq, is_some, if◌then◌else◌, ◌&&◌}
 use Rattle.std.specs.Ordering.{match_ordering}
 use Rattle.std.specs.Cmp.Lexicographic.{slice_cmp}
@@ -11,16 +12,22 @@ use Rattle.schemars_schema.specs.SchemaData.{put_members, IsSchema, members_in, 
 use Rattle.schemars_schema.specs.Annotations.{AreNotes}
 use Rattle.schemars_schema.specs.Edits.{without}
 use Rattle.schemars_schema.specs.Acceptance.{is_null}
-use Rattle.schemars_schema.specs.References.{found_in, found_in_members, found_in_items, found_in_keywords, references, resolves, all_resolve}
+use Rattle.schemars_schema.specs.References.{found_in, found_in_members, found_in_items, found_in_keywords, references}
+use Rattle.schemars_schema.specs.References.{resolves, all_resolve}
 use Rattle.schemars_schema.proofs.Contents.{found_under, found_under-annotation}
-use Rattle.schemars_rewrite.specs.AllowNull.{is_null_choice, is_combined, or_null, allow_null, type_with_null, null_in_type, enum_with_null, null_in_enum, const_or_null, null_in_const, null_in_values}
+use Rattle.schemars_rewrite.specs.AllowNull.{is_null_choice, is_combined, or_null, allow_null, type_with_null}
+use Rattle.schemars_rewrite.specs.AllowNull.{null_in_type, enum_with_null, null_in_enum, const_or_null, null_in_const}
+use Rattle.schemars_rewrite.specs.AllowNull.{null_in_values}
 use Rattle.schemars_shapes.specs.declared.shape.IntKind.{IntKind}
 use Rattle.schemars_shapes.specs.declared.shape.IntKind.TheVariants.{I8, I16, I32, I64, I128, Isize, U8, U16, U32, U64, U128, Usize}
 use Rattle.schemars_shapes.specs.Shape as shape
 use Rattle.schemars_shapes.specs.Shape.{Shape, Field, Entry}
 use Rattle.schemars_types.specs.Rows.{Row, entry_at}
 use Rattle.schemars_types.specs.Meaning.{Contract, Deserialize, Serialize}
-use Rattle.schemars_documents.specs.Documents.{Keyword, IsDocument, IsOwnDocument, IsWritten, AreWritten, ArePartsWritten, items_from, tuple_document, Describes, reference, with_title, with_meta_schema, root_document, annotated, int_document, non_zero_document, bytes_document, map_document, field_keywords}
+use Rattle.schemars_documents.specs.Documents.{Keyword, IsDocument, IsOwnDocument, IsWritten, AreWritten}
+use Rattle.schemars_documents.specs.Documents.{ArePartsWritten, items_from, tuple_document, Describes, reference}
+use Rattle.schemars_documents.specs.Documents.{with_title, with_meta_schema, root_document, annotated, int_document}
+use Rattle.schemars_documents.specs.Documents.{non_zero_document, bytes_document, map_document, field_keywords}
 use Rattle.schemars_documents.specs.PlainTable.{AreNoted, IsPlainShape, IsPlainEntry, IsPlainTable}
 use Rattle.schemars_generate.proofs.Keys.{AllMembers, IsDefinitionsKey}
 
@@ -54,7 +61,8 @@ module _ (test : Data → Bool) where
 
   -- ---- members that are put in
 
-  keywords-put : (k : Text) (d : Data) (ms : Members) → Resolve (found_under k d) → Resolve (found_in_keywords ms) → Resolve (found_in_keywords (put k d ms))
+  keywords-put : (k : Text) (d : Data) (ms : Members) → Resolve (found_under k d) → Resolve (found_in_keywords ms)
+      → Resolve (found_in_keywords (put k d ms))
   unfolding found_in
   keywords-put k d no_members here all = resolve-append (found_under k d) [] here refl
   keywords-put k d (member l e ms) here all = go (slice_cmp nat_cmp k l) refl (keywords-put k d ms here parts.1)
@@ -65,10 +73,12 @@ module _ (test : Data → Bool) where
       go : (o : Ordering) → slice_cmp nat_cmp k l ≡ o → Resolve (found_in_keywords (put k d ms))
           → Resolve (found_in_keywords (match_ordering o (member k d (member l e ms)) (member l d ms) (member l e (put k d ms))))
       go Less is later = resolve-append (found_under k d) (found_in_keywords (member l e ms)) here all
-      go Equal is later = resolve-append (found_under l d) (found_in_keywords ms) (ap (λ x. all_pass test (found_under x d)) (sym (exact_bytes k l is)) ∙ here) parts.1
+      go Equal is later = resolve-append (found_under l d) (found_in_keywords ms)
+          (ap (λ x. all_pass test (found_under x d)) (sym (exact_bytes k l is)) ∙ here) parts.1
       go Greater is later = resolve-append (found_under l e) (found_in_keywords (put k d ms)) parts.0 later
 
-  members-put : (k : Text) (d : Data) (ms : Members) → Resolve (references d) → Resolve (found_in_members ms) → Resolve (found_in_members (put k d ms))
+  members-put : (k : Text) (d : Data) (ms : Members) → Resolve (references d) → Resolve (found_in_members ms)
+      → Resolve (found_in_members (put k d ms))
   unfolding found_in
   members-put k d no_members here all = resolve-append (references d) [] here refl
   members-put k d (member l e ms) here all = go (slice_cmp nat_cmp k l) (members-put k d ms here parts.1)
@@ -76,7 +86,8 @@ module _ (test : Data → Bool) where
       parts : Resolve (references e) × Resolve (found_in_members ms)
       parts = resolve-parts (references e) (found_in_members ms) all
 
-      go : (o : Ordering) → Resolve (found_in_members (put k d ms)) → Resolve (found_in_members (match_ordering o (member k d (member l e ms)) (member l d ms) (member l e (put k d ms))))
+      go : (o : Ordering) → Resolve (found_in_members (put k d ms)) → Resolve
+          (found_in_members (match_ordering o (member k d (member l e ms)) (member l d ms) (member l e (put k d ms))))
       go Less later = resolve-append (references d) (found_in_members (member l e ms)) here all
       go Equal later = resolve-append (references d) (found_in_members ms) here parts.1
       go Greater later = resolve-append (references e) (found_in_members (put k d ms)) parts.0 later
@@ -100,15 +111,19 @@ module _ (test : Data → Bool) where
   resolved_members_in (string t) h = refl
   resolved_members_in (array ds) h = refl
 
-  resolved_put_members : (notes ms : Members) → AreNotes notes → Resolve (found_in_keywords ms) → Resolve (found_in_keywords (put_members notes ms))
+  resolved_put_members : (notes ms : Members) → AreNotes notes → Resolve (found_in_keywords ms)
+      → Resolve (found_in_keywords (put_members notes ms))
   resolved_put_members no_members ms h e = e
-  resolved_put_members (member k d notes) ms h e = resolved_put_members notes (put k d ms) h.1 (keywords-put k d ms (ap (all_pass test) (found_under-annotation k d h.0)) e)
+  resolved_put_members (member k d notes) ms h e = resolved_put_members notes (put k d ms) h.1
+      (keywords-put k d ms (ap (all_pass test) (found_under-annotation k d h.0)) e)
 
   pub resolved_annotated : (notes : Members) (s : Data) → AreNotes notes → IsResolved s → IsResolved (annotated notes s)
   resolved_annotated no_members s h e = e
-  resolved_annotated (member k d notes) s h e = resolved_object (put_members (member k d notes) (members_in s)) (resolved_put_members (member k d notes) (members_in s) h (resolved_members_in s e))
+  resolved_annotated (member k d notes) s h e = resolved_object (put_members (member k d notes) (members_in s))
+      (resolved_put_members (member k d notes) (members_in s) h (resolved_members_in s e))
 
-  resolved_null_in_type : (o : Option Data) (ms : Members) → Resolve (found_in_keywords ms) → Resolve (found_in_keywords (null_in_type o ms))
+  resolved_null_in_type : (o : Option Data) (ms : Members) → Resolve (found_in_keywords ms)
+      → Resolve (found_in_keywords (null_in_type o ms))
   resolved_null_in_type None ms e = e
   resolved_null_in_type (Some d) ms e = keywords-put (codes "type") (type_with_null d) ms refl e
 
@@ -120,21 +135,25 @@ module _ (test : Data → Bool) where
       parts : Resolve (found_under l e) × Resolve (found_in_keywords ms)
       parts = resolve-parts (found_under l e) (found_in_keywords ms) h
 
-      go : (b : Bool) → Resolve (found_in_keywords (without k ms)) → Resolve (found_in_keywords (if b then ms else member l e (without k ms)))
+      go : (b : Bool) → Resolve (found_in_keywords (without k ms)) → Resolve
+          (found_in_keywords (if b then ms else member l e (without k ms)))
       go true later = parts.1
       go false later = resolve-append (found_under l e) (found_in_keywords (without k ms)) parts.0 later
 
-  resolved_null_in_enum : (o : Option Data) (ms : Members) → Resolve (found_in_keywords ms) → Resolve (found_in_keywords (null_in_enum o ms))
+  resolved_null_in_enum : (o : Option Data) (ms : Members) → Resolve (found_in_keywords ms)
+      → Resolve (found_in_keywords (null_in_enum o ms))
   resolved_null_in_enum None ms e = e
   resolved_null_in_enum (Some d) ms e = keywords-put (codes "enum") (enum_with_null d) ms refl e
 
-  resolved_null_in_const : (o : Option Data) (ms : Members) → Resolve (found_in_keywords ms) → Resolve (found_in_keywords (null_in_const o ms))
+  resolved_null_in_const : (o : Option Data) (ms : Members) → Resolve (found_in_keywords ms)
+      → Resolve (found_in_keywords (null_in_const o ms))
   resolved_null_in_const None ms e = resolved_null_in_enum (get_member (codes "enum") ms) ms e
   resolved_null_in_const (Some c) ms e = go (is_null c)
     where
       go : (b : Bool) → Resolve (found_in_keywords (if b then ms else const_or_null c ms))
       go true = e
-      go false = keywords-put (codes "enum") (array (item c (item null no_items))) (without (codes "const") ms) refl (resolved_without (codes "const") ms e)
+      go false = keywords-put (codes "enum") (array (item c (item null no_items))) (without (codes "const") ms) refl
+          (resolved_without (codes "const") ms e)
 
   resolved_or_null : (s : Data) → IsResolved s → IsResolved (or_null s)
   unfolding found_in
@@ -149,11 +168,13 @@ module _ (test : Data → Bool) where
       typed : Members
       typed = null_in_type (get_member (codes "type") ms) ms
 
-      go : (stays b : Bool) → IsResolved (if stays then object ms else if b then or_null (object ms) else object (null_in_values (null_in_type (get_member (codes "type") ms) ms)))
+      go : (stays b : Bool) → IsResolved (if stays then object ms else if b then or_null (object ms) else
+          object (null_in_values (null_in_type (get_member (codes "type") ms) ms)))
       go true b = h
       go false true = resolved_or_null (object ms) h
       go false false =
-          resolved_object (null_in_values typed) (resolved_null_in_const (get_member (codes "const") typed) typed (resolved_null_in_type (get_member (codes "type") ms) ms h.1))
+          resolved_object (null_in_values typed) (resolved_null_in_const (get_member (codes "const") typed) typed
+          (resolved_null_in_type (get_member (codes "type") ms) ms h.1))
   resolved_allow_null null h = absurd h.0
   resolved_allow_null (number n) h = absurd h.0
   resolved_allow_null (string t) h = absurd h.0
@@ -207,11 +228,13 @@ module _ (test : Data → Bool) where
   AllResolved [] = Unit {0}
   AllResolved (e ∷ es) = Resolve (references e.1) × AllResolved es
 
-  resolved_entries : (es : List Keyword) (ms : Members) → AllResolved es → Resolve (found_in_members ms) → Resolve (found_in_members (put_all es ms))
+  resolved_entries : (es : List Keyword) (ms : Members) → AllResolved es → Resolve (found_in_members ms)
+      → Resolve (found_in_members (put_all es ms))
   resolved_entries [] ms h e = e
   resolved_entries (x ∷ es) ms h e = resolved_entries es (put x.0 x.1 ms) h.1 (members-put x.0 x.1 ms h.0 e)
 
-  resolved_map : (es : List Keyword) (ns : List Text) (closed : Bool) → Resolve (found_in_members (put_all es no_members)) → IsResolved (map_document es ns closed)
+  resolved_map : (es : List Keyword) (ns : List Text) (closed : Bool) → Resolve (found_in_members (put_all es no_members))
+      → IsResolved (map_document es ns closed)
   unfolding found_in
   resolved_map [] [] false h = (tt, refl)
   resolved_map [] [] true h = (tt, refl)
@@ -224,23 +247,27 @@ module _ (test : Data → Bool) where
 
   -- ---- each shape
 
-  fields_resolved : (W : ℕ → Data → Type 0) → ((j : ℕ) (t : Data) → W j t → IsResolved t) → (xs : List Field) (ts : List Data) → AreNoted xs → AreWritten W xs ts → AllResolved (field_keywords xs ts)
+  fields_resolved : (W : ℕ → Data → Type 0) → ((j : ℕ) (t : Data) → W j t → IsResolved t) → (xs : List Field) (ts : List Data)
+      → AreNoted xs → AreWritten W xs ts → AllResolved (field_keywords xs ts)
   fields_resolved W all [] ts n h = tt
   fields_resolved W all (x ∷ xs) [] n h = tt
   fields_resolved W all (x ∷ xs) (t ∷ ts) n h = ((resolved_annotated x.notes t n.0 (all x.ty t h.0)).1, fields_resolved W all xs ts n.1 h.1)
 
-  parts_resolved : (W : ℕ → Data → Type 0) → ((j : ℕ) (t : Data) → W j t → IsResolved t) → (ns : List ℕ) (ts : List Data) → ArePartsWritten W ns ts → Resolve (found_in_items (items_from ts))
+  parts_resolved : (W : ℕ → Data → Type 0) → ((j : ℕ) (t : Data) → W j t → IsResolved t) → (ns : List ℕ) (ts : List Data)
+      → ArePartsWritten W ns ts → Resolve (found_in_items (items_from ts))
   unfolding found_in
   parts_resolved W all [] ts h = rw h refl
   parts_resolved W all (n ∷ ns) [] h = absurd h
-  parts_resolved W all (n ∷ ns) (t ∷ ts) h = resolve-append (references t) (found_in_items (items_from ts)) (all n t h.0).1 (parts_resolved W all ns ts h.1)
+  parts_resolved W all (n ∷ ns) (t ∷ ts) h = resolve-append (references t) (found_in_items (items_from ts)) (all n t h.0).1
+      (parts_resolved W all ns ts h.1)
 
   resolved_tuple : (ts : List Data) → Resolve (found_in_items (items_from ts)) → IsResolved (tuple_document ts)
   unfolding found_in
   resolved_tuple [] h = (tt, refl)
   resolved_tuple (t ∷ ts) h = (tt, resolve-append (found_in_items (items_from (t ∷ ts))) [] h refl)
 
-  shape_resolved : (W : ℕ → Data → Type 0) (contract : Contract) → ((j : ℕ) (t : Data) → W j t → IsResolved t) → (kind : Shape) → IsPlainShape kind → (s : Data) → IsDocument W contract kind s → IsResolved s
+  shape_resolved : (W : ℕ → Data → Type 0) (contract : Contract) → ((j : ℕ) (t : Data) → W j t → IsResolved t) → (kind : Shape)
+      → IsPlainShape kind → (s : Data) → IsDocument W contract kind s → IsResolved s
   unfolding found_in
   shape_resolved W contract all shape.null p s is = rw is (tt, refl)
   shape_resolved W contract all shape.bool p s is = rw is (tt, refl)
@@ -256,25 +283,44 @@ module _ (test : Data → Bool) where
   shape_resolved W contract all (shape.option n) p s is = rw is.2 (resolved_allow_null is.0 (all n is.0 is.1))
   shape_resolved W contract all (shape.seq n) p s is =
       let h = all n is.0 is.1 in
-      rw is.2 (tt, rw (in_list_of_schema is.0 h.0) (resolve-append (references is.0 ++ []) [] (resolve-append (references is.0) [] h.1 refl) refl))
+      rw is.2 (
+        tt,
+        rw (in_list_of_schema is.0 h.0) (resolve-append (references is.0 ++ []) []
+            (resolve-append (references is.0) [] h.1 refl) refl),
+      )
   shape_resolved W contract all (shape.set n) p s is =
       let h = all n is.0 is.1 in
-      rw is.2 (tt, rw (in_list_of_schema is.0 h.0) (resolve-append (references is.0 ++ []) [] (resolve-append (references is.0) [] h.1 refl) refl))
+      rw is.2 (
+        tt,
+        rw (in_list_of_schema is.0 h.0) (resolve-append (references is.0 ++ []) []
+            (resolve-append (references is.0) [] h.1 refl) refl),
+      )
   shape_resolved W contract all (shape.array n zero) p s is = rw is (tt, refl)
   shape_resolved W contract all (shape.array n (suc len)) p s is =
       let h = all n is.0 is.1 in
-      rw is.2 (tt, rw (in_list_of_schema is.0 h.0) (resolve-append (references is.0 ++ []) [] (resolve-append (references is.0) [] h.1 refl) refl))
+      rw is.2 (
+        tt,
+        rw (in_list_of_schema is.0 h.0) (resolve-append (references is.0 ++ []) []
+            (resolve-append (references is.0) [] h.1 refl) refl),
+      )
   shape_resolved W contract all (shape.up_to n cap) p s is =
       let h = all n is.0 is.1 in
-      rw is.2 (tt, rw (in_list_of_schema is.0 h.0) (resolve-append (references is.0 ++ []) [] (resolve-append (references is.0) [] h.1 refl) refl))
+      rw is.2 (
+        tt,
+        rw (in_list_of_schema is.0 h.0) (resolve-append (references is.0 ++ []) []
+            (resolve-append (references is.0) [] h.1 refl) refl),
+      )
   shape_resolved W contract all (shape.tuple ns) p s is = rw is.2 (resolved_tuple is.0 (parts_resolved W all ns is.0 is.1))
   shape_resolved W contract all (shape.struct xs closed) p s is =
-      rw is.2 (resolved_map (field_keywords xs is.0) _ closed (resolved_entries (field_keywords xs is.0) no_members (fields_resolved W all xs is.0 p.1 is.1) refl))
+      rw is.2 (resolved_map (field_keywords xs is.0) _ closed (resolved_entries (field_keywords xs is.0) no_members
+      (fields_resolved W all xs is.0 p.1 is.1) refl))
   shape_resolved W contract all (shape.newtype n) p s is = all n s is
 
-  own_resolved : (W : ℕ → Data → Type 0) (contract : Contract) → ((j : ℕ) (t : Data) → W j t → IsResolved t) → (o : Option Entry) → IsPlainEntry o → (s : Data) → IsOwnDocument W contract o s → IsResolved s
+  own_resolved : (W : ℕ → Data → Type 0) (contract : Contract) → ((j : ℕ) (t : Data) → W j t → IsResolved t) → (o : Option Entry)
+      → IsPlainEntry o → (s : Data) → IsOwnDocument W contract o s → IsResolved s
   own_resolved W contract all None noted s is = absurd is
-  own_resolved W contract all (Some e) noted s is = rw is.2 (resolved_annotated e.notes is.0 noted.0 (shape_resolved W contract all e.shape noted.1 is.0 is.1))
+  own_resolved W contract all (Some e) noted s is = rw is.2 (resolved_annotated e.notes is.0 noted.0
+      (shape_resolved W contract all e.shape noted.1 is.0 is.1))
 
   module _ (rows : List Row) (contract : Contract) (Refers : ℕ → Text → Type 0) (plain : IsPlainTable rows)
       (lead : (j : ℕ) (r : Text) → Refers j r → test (string r) ≡ true) where
@@ -282,7 +328,8 @@ module _ (test : Data → Bool) where
     unfolding found_in
     reference_resolved r h = (tt, rw h)
 
-    written_by : (d : ℕ) → ((j : ℕ) (t : Data) → Describes rows contract Refers d j t → IsResolved t) → (j : ℕ) (t : Data) → IsWritten Refers (Describes rows contract Refers d) j t → IsResolved t
+    written_by : (d : ℕ) → ((j : ℕ) (t : Data) → Describes rows contract Refers d j t → IsResolved t) → (j : ℕ) (t : Data)
+        → IsWritten Refers (Describes rows contract Refers d) j t → IsResolved t
     written_by d own j t (inl h) = rw h.2 (reference_resolved h.0 (lead j h.0 h.1))
     written_by d own j t (inr h) = own j t h
 
@@ -290,7 +337,8 @@ module _ (test : Data → Bool) where
     unfolding Describes
     described_resolved zero n t h = absurd h
     described_resolved (suc d) n t h =
-        own_resolved (IsWritten Refers (Describes rows contract Refers d)) contract (written_by d (described_resolved d)) (entry_at rows n) (plain n) t h
+        own_resolved (IsWritten Refers (Describes rows contract Refers d)) contract (written_by d (described_resolved d))
+        (entry_at rows n) (plain n) t h
 
     pub written_resolved : (d n : ℕ) (t : Data) → IsWritten Refers (Describes rows contract Refers d) n t → IsResolved t
     written_resolved d n t h = written_by d (described_resolved d) n t h
@@ -304,13 +352,16 @@ module _ (test : Data → Bool) where
       go true = e
       go false = keywords-put (codes "title") (string name) ms refl e
 
-  resolved_with_meta_schema : (uri : Option Text) (ms : Members) → Resolve (found_in_keywords ms) → Resolve (found_in_keywords (with_meta_schema uri ms))
+  resolved_with_meta_schema : (uri : Option Text) (ms : Members) → Resolve (found_in_keywords ms)
+      → Resolve (found_in_keywords (with_meta_schema uri ms))
   resolved_with_meta_schema None ms e = e
   resolved_with_meta_schema (Some uri) ms e = keywords-put (codes "$schema") (string uri) ms refl e
 
   pub root_resolved : (name : Text) (uri : Option Text) (s : Data) → IsResolved s → Resolve (references (root_document name uri s))
   root_resolved name uri s h =
-      (resolved_object (with_meta_schema uri (with_title name (members_in s))) (resolved_with_meta_schema uri (with_title name (members_in s)) (resolved_with_title name (members_in s) (resolved_members_in s h)))).1
+      (resolved_object (with_meta_schema uri (with_title name (members_in s)))
+      (resolved_with_meta_schema uri (with_title name (members_in s))
+      (resolved_with_title name (members_in s) (resolved_members_in s h)))).1
 
   -- ---- with definitions
 
@@ -322,11 +373,14 @@ module _ (test : Data → Bool) where
   resolved_definitions no_members h = refl
   resolved_definitions (member k d ms) h = resolve-append (references d) (found_in_members ms) h.0 (resolved_definitions ms h.1)
 
-  found_under_key : (key : Text) (definitions : Members) → IsDefinitionsKey key → found_under key (object definitions) ≡ found_in_members definitions
+  found_under_key : (key : Text) (definitions : Members) → IsDefinitionsKey key
+      → found_under key (object definitions) ≡ found_in_members definitions
   unfolding found_in
   found_under_key key definitions (inl is) = rw is
   found_under_key key definitions (inr is) = rw is
 
-  pub placed_resolved : (key : Text) (definitions ms : Members) → IsDefinitionsKey key → AllResolve definitions → Resolve (references (object ms)) → Resolve (references (object (put key (object definitions) ms)))
+  pub placed_resolved : (key : Text) (definitions ms : Members) → IsDefinitionsKey key → AllResolve definitions
+      → Resolve (references (object ms)) → Resolve (references (object (put key (object definitions) ms)))
   unfolding found_in
-  placed_resolved key definitions ms is all h = keywords-put key (object definitions) ms (rw (found_under_key key definitions is) (resolved_definitions definitions all)) h
+  placed_resolved key definitions ms is all h = keywords-put key (object definitions) ms
+      (rw (found_under_key key definitions is) (resolved_definitions definitions all)) h

@@ -26,8 +26,10 @@ use Rattle.schemars_generate.proofs.Keys.{all_members, IsDefinitionsKey}
 use Rattle.schemars_generate.proofs.OwnKeys.{no_definitions_in}
 use Rattle.schemars_documents.proofs.Mapping.{describes-wider, written_map}
 use Rattle.schemars_documents.proofs.Following.{described_schema}
-use Rattle.schemars_generate.proofs.Resolving.{all_pass-resolve, Resolve, AllResolve, described_resolved, written_resolved, root_resolved, placed_resolved}
-use Rattle.schemars_generate.proofs.Leading.{HoldsDefinitions, IsItsRoot, MayRefer, AllStand, stands_now, refers_may, refers_resolve, written_accepts}
+use Rattle.schemars_generate.proofs.Resolving.{all_pass-resolve, Resolve, AllResolve, described_resolved}
+use Rattle.schemars_generate.proofs.Resolving.{written_resolved, root_resolved, placed_resolved}
+use Rattle.schemars_generate.proofs.Leading.{HoldsDefinitions, IsItsRoot, MayRefer, AllStand, stands_now, refers_may}
+use Rattle.schemars_generate.proofs.Leading.{refers_resolve, written_accepts}
 use Rattle.schemars_generate.proofs.Placed.{IsPlaced, stands_key, holds_put, holds_nothing, placing, placed_in, held}
 
 key_silent : (key : Text) → IsDefinitionsKey key → IsSilent key
@@ -36,7 +38,8 @@ key_silent key (inr is) = rw is refl
 
 -- ---- what holds of every document with the definitions
 
-module _ (plan : Plan) (w : Work) (document : Data) (checked : IsChecked plan.rows) (plain : IsPlainTable plan.rows) (one : IsOneToOne w.names) (definitions : AllStand plan w)
+module _ (plan : Plan) (w : Work) (document : Data) (checked : IsChecked plan.rows) (plain : IsPlainTable plan.rows)
+    (one : IsOneToOne w.names) (definitions : AllStand plan w)
     (holds : HoldsDefinitions plan.path w.definitions document) (is_root : IsItsRoot plan w document) where
   leads : (j : ℕ) (r : Text) → MayRefer plan w j r → is_some (resolved document r) ≡ true
   leads = refers_resolve plan w document checked plain one definitions holds is_root
@@ -44,53 +47,72 @@ module _ (plan : Plan) (w : Work) (document : Data) (checked : IsChecked plan.ro
   definition_resolved : (name : Text) (d : Data) → get_member name w.definitions ≡ Some d → Resolve (resolves document) (references d)
   definition_resolved name d found =
       let definition = definitions name d found in
-      (described_resolved (resolves document) plan.rows (contract_of plan.contract) (MayRefer plan w) plain leads definition.depth definition.row d definition.describes).1
+      (described_resolved (resolves document) plan.rows (contract_of plan.contract) (MayRefer plan w) plain leads definition.depth
+      definition.row d definition.describes).1
 
-  schema_resolved : (d n : ℕ) (t : Data) → IsWritten (MayRefer plan w) (Describes plan.rows (contract_of plan.contract) (MayRefer plan w) d) n t → Resolve (resolves document) (references t)
-  schema_resolved d n t h = (written_resolved (resolves document) plan.rows (contract_of plan.contract) (MayRefer plan w) plain leads d n t h).1
+  schema_resolved : (d n : ℕ) (t : Data) → IsWritten (MayRefer plan w)
+      (Describes plan.rows (contract_of plan.contract) (MayRefer plan w) d) n t → Resolve (resolves document) (references t)
+  schema_resolved d n t h = (written_resolved (resolves document) plan.rows (contract_of plan.contract) (MayRefer plan w) plain leads d n
+      t h).1
 
 -- ---- root documents
 
-judge_placed : (path : Text) (definitions : Members) (root document : Data) → IsPlaced path definitions root document → root ≡ object (members_in root) → (patterns : Patterns) (f : Text → Judge)
+judge_placed : (path : Text) (definitions : Members) (root document : Data) → IsPlaced path definitions root document
+    → root ≡ object (members_in root) → (patterns : Patterns) (f : Text → Judge)
     → judge (context2020_12 patterns f) document ≡ judge (context2020_12 patterns f) root
 judge_placed path definitions root document (inl is) whole patterns f = rw (is.1)
 judge_placed path definitions root document (inr (key, at, is)) whole patterns f =
-    rw is (judge-put (context2020_12 patterns f) key (object definitions) (members_in root) (key_silent key (stands_key path key at)) ∙ ap (judge (context2020_12 patterns f)) (sym whole))
+    rw is (judge-put (context2020_12 patterns f) key (object definitions) (members_in root) (key_silent key (stands_key path key at))
+    ∙ ap (judge (context2020_12 patterns f)) (sym whole))
 
-schema_placed : (path : Text) (definitions ms : Members) (document : Data) → IsPlaced path definitions (object ms) document → IsSchema document
+schema_placed : (path : Text) (definitions ms : Members) (document : Data) → IsPlaced path definitions (object ms) document
+    → IsSchema document
 schema_placed path definitions ms document (inl is) = rw (is.1) tt
 schema_placed path definitions ms document (inr (key, at, is)) = rw is tt
 
-holds_placed : (path : Text) (definitions ms : Members) (document : Data) → IsPlaced path definitions (object ms) document → HoldsDefinitions path definitions document
+holds_placed : (path : Text) (definitions ms : Members) (document : Data) → IsPlaced path definitions (object ms) document
+    → HoldsDefinitions path definitions document
 holds_placed path definitions ms document (inl is) = rw (is.0) (holds_nothing path document)
 holds_placed path definitions ms document (inr (key, at, is)) = rw is (holds_put path key at definitions ms)
 
-resolved_placed : (path : Text) (definitions ms : Members) (document : Data) → IsPlaced path definitions (object ms) document → AllResolve (resolves document) definitions → Resolve (resolves document) (references (object ms))
+resolved_placed : (path : Text) (definitions ms : Members) (document : Data) → IsPlaced path definitions (object ms) document
+    → AllResolve (resolves document) definitions → Resolve (resolves document) (references (object ms))
     → Resolve (resolves document) (references document)
-resolved_placed path definitions ms document (inl is) all h = let P : Data → Type 0 = λ d. Resolve (resolves document) (references d) in subst P (sym is.1) h
+resolved_placed path definitions ms document (inl is) all h = let P : Data → Type 0 = λ d. Resolve (resolves document) (references d) in
+    subst P (sym is.1) h
 resolved_placed path definitions ms document (inr (key, at, is)) all h =
     let P : Data → Type 0 = λ d. Resolve (resolves document) (references d) in
     subst P (sym is) (placed_resolved (resolves document) key definitions ms (stands_key path key at) all h)
 
 -- a root document with its definitions means its type
-pub root_means : (plan : Plan) (w : Work) (n : ℕ) (name : Text) (uri : Option Text) (depth : ℕ) (own document : Data) → IsChecked plan.rows → IsOneToOne w.names → HasKeysOnce w.definitions → plan.root ≡ Some n
-    → AllStand plan w → Describes plan.rows (contract_of plan.contract) (MayRefer plan w) depth n own → IsPlaced plan.path w.definitions (root_document name uri own) document
+pub root_means : (plan : Plan) (w : Work) (n : ℕ) (name : Text) (uri : Option Text) (depth : ℕ) (own document : Data)
+    → IsChecked plan.rows → IsOneToOne w.names → HasKeysOnce w.definitions → plan.root ≡ Some n
+    → AllStand plan w → Describes plan.rows (contract_of plan.contract) (MayRefer plan w) depth n own
+    → IsPlaced plan.path w.definitions (root_document name uri own) document
     → Headline plan.rows (contract_of plan.contract) plan.path n document
 root_means plan w n name uri depth own document checked one once root definitions h placed plain =
     let members : Members = members_in (root_document name uri own) in
     let is_schema : IsSchema own = described_schema plan.rows (contract_of plan.contract) (MayRefer plan w) plain depth n own h in
-    let same : (patterns : Patterns) (f : Text → Judge) → judge (context2020_12 patterns f) document ≡ judge (context2020_12 patterns f) own =
-    λ patterns f. judge_placed plan.path w.definitions (root_document name uri own) document placed refl patterns f ∙ judge-root patterns f name uri own is_schema in
+    let same : (patterns : Patterns) (f : Text → Judge) → judge (context2020_12 patterns f) document
+    ≡ judge (context2020_12 patterns f) own =
+    λ patterns f. judge_placed plan.path w.definitions (root_document name uri own) document placed refl patterns f
+    ∙ judge-root patterns f name uri own is_schema in
     let P : ℕ → Type 0 = λ i. Describes plan.rows (contract_of plan.contract) (MayRefer plan w) depth i own in
-    let is_root : IsItsRoot plan w document = λ m is. let alike : n ≡ m = cc in (own, depth, same, schema_placed plan.path w.definitions members document placed, subst P alike h) in
+    let is_root : IsItsRoot plan w document = λ m is. let alike : n ≡ m = cc in
+    (own, depth, same, schema_placed plan.path w.definitions members document placed, subst P alike h) in
     let holds : HoldsDefinitions plan.path w.definitions document = holds_placed plan.path w.definitions members document placed in
-    let all : AllResolve (resolves document) w.definitions = all_members (λ d. Resolve (resolves document) (references d)) w.definitions once (definition_resolved plan w document checked plain one definitions holds is_root) in
-    let resolved_own = described_resolved (resolves document) plan.rows (contract_of plan.contract) (MayRefer plan w) plain (refers_resolve plan w document checked plain one definitions holds is_root) depth n own h in
+    let all : AllResolve (resolves document) w.definitions = all_members (λ d. Resolve (resolves document) (references d)) w.definitions
+    once (definition_resolved plan w document checked plain one definitions holds is_root) in
+    let resolved_own = described_resolved (resolves document) plan.rows (contract_of plan.contract) (MayRefer plan w) plain
+    (refers_resolve plan w document checked plain one definitions holds is_root) depth n own h in
     record {
       accepts_its_values = λ patterns v json followed bounded.
           ap (λ j. j.fits v) (same patterns (follow draft2020_12 document patterns followed))
-          ∙ written_accepts plan w document checked plain one definitions holds is_root depth n own (inr h) patterns v json followed bounded;
-      references_resolve = sym (all_pass-resolve document (references document)) ∙ resolved_placed plan.path w.definitions members document placed all (root_resolved (resolves document) name uri own resolved_own);
+          ∙ written_accepts plan w document checked plain one definitions holds is_root depth n own (inr h) patterns v json followed
+          bounded;
+      references_resolve = sym (all_pass-resolve document (references document))
+          ∙ resolved_placed plan.path w.definitions members document placed all
+          (root_resolved (resolves document) name uri own resolved_own);
     }
 
 module _ (plan : Plan) (w : Work) (n : ℕ) (name : Text) (uri : Option Text) (depth : ℕ) (own : Data) (plain : IsPlainTable plan.rows)
@@ -99,44 +121,61 @@ module _ (plan : Plan) (w : Work) (n : ℕ) (name : Text) (uri : Option Text) (d
   room key is = no_definitions_in key is plan.rows (contract_of plan.contract) R plain name uri depth n own h
 
   -- at a draft's path definitions can always be placed
-  pub root_placed : IsDraftPath plan.path → (document : Data) × (with_definitions plan.path w.definitions (root_document name uri own) ≡ Some document) × IsPlaced plan.path w.definitions (root_document name uri own) document
+  pub root_placed : IsDraftPath plan.path → (document : Data) × (with_definitions plan.path w.definitions (root_document name uri own)
+      ≡ Some document) × IsPlaced plan.path w.definitions (root_document name uri own) document
   root_placed draft = placing plan.path w.definitions (members_in (root_document name uri own)) draft room
 
 -- so does what is made of it by placing the definitions
-pub root_headline : (plan : Plan) (w : Work) (n : ℕ) (name : Text) (uri : Option Text) (depth : ℕ) (own document : Data) → IsChecked plan.rows → IsOneToOne w.names → HasKeysOnce w.definitions → plan.root ≡ Some n
-    → AllStand plan w → Describes plan.rows (contract_of plan.contract) (MayRefer plan w) depth n own → IsDraftPath plan.path → with_definitions plan.path w.definitions (root_document name uri own) ≡ Some document
+pub root_headline : (plan : Plan) (w : Work) (n : ℕ) (name : Text) (uri : Option Text) (depth : ℕ) (own document : Data)
+    → IsChecked plan.rows → IsOneToOne w.names → HasKeysOnce w.definitions → plan.root ≡ Some n
+    → AllStand plan w → Describes plan.rows (contract_of plan.contract) (MayRefer plan w) depth n own → IsDraftPath plan.path
+    → with_definitions plan.path w.definitions (root_document name uri own) ≡ Some document
     → Headline plan.rows (contract_of plan.contract) plan.path n document
 root_headline plan w n name uri depth own document checked one once root definitions h draft made plain =
-    let placed = placed_in plan.path w.definitions (members_in (root_document name uri own)) document draft (room plan w n name uri depth own plain (MayRefer plan w) h) made in
+    let placed = placed_in plan.path w.definitions (members_in (root_document name uri own)) document draft
+    (room plan w n name uri depth own plain (MayRefer plan w) h) made in
     root_means plan w n name uri depth own document checked one once root definitions h placed plain
 
 -- so does what a root call makes
-pub root_call_means : (old : State) (n : ℕ) (w : Work) (document : Data) → IsRootOf old n w document → IsChecked old.rows → IsOneToOne w.names → HasKeysOnce w.definitions → AllStand (plan_of old (Some n)) w
+pub root_call_means : (old : State) (n : ℕ) (w : Work) (document : Data) → IsRootOf old n w document → IsChecked old.rows
+    → IsOneToOne w.names → HasKeysOnce w.definitions → AllStand (plan_of old (Some n)) w
     → IsDraftPath (plan_of old (Some n)).path → Headline old.rows (contract_of old.settings.contract) (plan_of old (Some n)).path n document
 root_call_means old n w document h checked one once definitions draft =
     let plan = plan_of old (Some n) in
     let depth = suc (height old.rows n) in
-    let described = describes-wider old.rows (contract_of plan.contract) (Refers plan true w) (MayRefer plan w) (refers_may plan w true) depth depth (omega arith) n h.own h.describes in
-    root_headline plan w n (name_at old.rows n) old.settings.meta_schema depth h.own document checked one once refl definitions described draft h.is_root
+    let described = describes-wider old.rows (contract_of plan.contract) (Refers plan true w) (MayRefer plan w) (refers_may plan w true)
+    depth depth (omega arith) n h.own h.describes in
+    root_headline plan w n (name_at old.rows n) old.settings.meta_schema depth h.own document checked one once refl definitions described
+    draft h.is_root
 
 -- ---- subschemas
 
 -- a subschema means its type in each document that holds its definitions
-pub subschema_means : (plan : Plan) (w : Work) (n : ℕ) (free : Bool) (depth : ℕ) (schema document : Data) → IsChecked plan.rows → IsOneToOne w.names → plan.root ≡ None → AllStand plan w
-    → IsWritten (Refers plan free w) (Describes plan.rows (contract_of plan.contract) (Refers plan free w) depth) n schema → IsPlainTable plan.rows → HoldsDefinitions plan.path w.definitions document
+pub subschema_means : (plan : Plan) (w : Work) (n : ℕ) (free : Bool) (depth : ℕ) (schema document : Data) → IsChecked plan.rows
+    → IsOneToOne w.names → plan.root ≡ None → AllStand plan w
+    → IsWritten (Refers plan free w) (Describes plan.rows (contract_of plan.contract) (Refers plan free w) depth) n schema
+    → IsPlainTable plan.rows → HoldsDefinitions plan.path w.definitions document
     → MeansItsTypeIn plan.rows (contract_of plan.contract) plan.path n w.definitions document schema
 subschema_means plan w n free depth schema document checked one none definitions h plain holds =
     let is_root : IsItsRoot plan w document = λ m is. absurd (let never : None ≡ Some m = sym none ∙ is in cc) in
     let more = refers_may plan w free in
-    let wide = written_map (Refers plan free w) (MayRefer plan w) (Describes plan.rows (contract_of plan.contract) (Refers plan free w) depth) (Describes plan.rows (contract_of plan.contract) (MayRefer plan w) depth) more
-    (describes-wider plan.rows (contract_of plan.contract) (Refers plan free w) (MayRefer plan w) more depth depth (omega arith)) n schema h in
+    let wide = written_map (Refers plan free w) (MayRefer plan w) (Describes plan.rows (contract_of plan.contract) (Refers plan free w)
+    depth) (Describes plan.rows (contract_of plan.contract) (MayRefer plan w) depth) more
+    (describes-wider plan.rows (contract_of plan.contract) (Refers plan free w) (MayRefer plan w) more depth depth (omega arith)) n
+    schema h in
     record {
       accepts_its_values = written_accepts plan w document checked plain one definitions holds is_root depth n schema wide;
-      references_resolve = sym (all_pass-resolve document (references schema)) ∙ schema_resolved plan w document checked plain one definitions holds is_root depth n schema wide;
-      definitions_resolve = λ name d found. sym (all_pass-resolve document (references d)) ∙ definition_resolved plan w document checked plain one definitions holds is_root name d found;
+      references_resolve = sym (all_pass-resolve document (references schema))
+          ∙ schema_resolved plan w document checked plain one definitions holds is_root depth n schema wide;
+      definitions_resolve = λ name d found. sym (all_pass-resolve document (references d))
+          ∙ definition_resolved plan w document checked plain one definitions holds is_root name d found;
     }
 
-pub subschema_headline : (s : State) (n : ℕ) (free : Bool) (depth : ℕ) (schema : Data) → IsChecked s.rows → IsOneToOne s.names → HasOwnDefinitions s
-    → IsWritten (Refers (plan_of s None) free (work_of s)) (Describes s.rows (contract_of s.settings.contract) (Refers (plan_of s None) free (work_of s)) depth) n schema → SubschemaHeadline s n schema
+pub subschema_headline : (s : State) (n : ℕ) (free : Bool) (depth : ℕ) (schema : Data) → IsChecked s.rows → IsOneToOne s.names
+    → HasOwnDefinitions s
+    → IsWritten (Refers (plan_of s None) free (work_of s)) (Describes s.rows (contract_of s.settings.contract)
+    (Refers (plan_of s None) free (work_of s)) depth) n schema → SubschemaHeadline s n schema
 subschema_headline s n free depth schema checked one definitions h plain known document holding =
-    subschema_means (plan_of s None) (work_of s) n free depth schema document checked one refl (λ name d found. stands_now (plan_of s None) (work_of s) name d (definitions name d found)) h plain (held (plan_of s None).path s.definitions document known holding)
+    subschema_means (plan_of s None) (work_of s) n free depth schema document checked one refl
+    (λ name d found. stands_now (plan_of s None) (work_of s) name d (definitions name d found)) h plain
+    (held (plan_of s None).path s.definitions document known holding)

@@ -17,7 +17,8 @@ use Rattle.schemars_naming.specs.Work.{Work, Refers, Step}
 use Rattle.schemars_build.specs.Reached.{AreReached}
 use Rattle.schemars_generate.specs.State.{State, plan_of, work_of}
 
--- under every reading of patterns, from the bound on, the schema in this document accepts a JSON value exactly when it belongs to the row, and never leaves it open
+-- under every reading of patterns, from the bound on, the schema in this document accepts a JSON value exactly when it
+-- belongs to the row, and never leaves it open
 abbrev pub AcceptsItsValues : List Row → Contract → Text → ℕ → Data → Data → Type 0
 AcceptsItsValues rows contract path n document schema =
     (patterns : Patterns) (v : Data) → IsJson v → (followed : ℕ) → bound path document v ≤ followed
@@ -48,7 +49,8 @@ with_definitions path (member k d ms) document = placed_at path (member k d ms) 
 -- the document of row n as a root document, without the definitions, where all that joined is reached from it
 pub record IsTitledRoot (old : State) (before : Work) (n : ℕ) (work : Work) (document : Data) : Type 0 where
   pub own : Data
-  pub describes : Describes old.rows (contract_of old.settings.contract) (Refers (plan_of old (Some n)) true work) (suc (height old.rows n)) n own
+  pub describes : Describes old.rows (contract_of old.settings.contract) (Refers (plan_of old (Some n)) true work)
+      (suc (height old.rows n)) n own
   pub is_root : document ≡ root_document (name_at old.rows n) old.settings.meta_schema own
   pub reached : IsPlainTable old.rows → AreReached (plan_of old (Some n)) false before work (references own)
 
@@ -56,8 +58,10 @@ pub record IsTitledRoot (old : State) (before : Work) (n : ℕ) (work : Work) (d
 pub record IsRootOf (old : State) (n : ℕ) (work : Work) (document : Data) : Type 0 where
   pub step : Step (plan_of old (Some n)) (work_of old) work
   pub own : Data
-  pub describes : Describes old.rows (contract_of old.settings.contract) (Refers (plan_of old (Some n)) true work) (suc (height old.rows n)) n own
-  pub is_root : with_definitions (plan_of old (Some n)).path work.definitions (root_document (name_at old.rows n) old.settings.meta_schema own) ≡ Some document
+  pub describes : Describes old.rows (contract_of old.settings.contract) (Refers (plan_of old (Some n)) true work)
+      (suc (height old.rows n)) n own
+  pub is_root : with_definitions (plan_of old (Some n)).path work.definitions
+      (root_document (name_at old.rows n) old.settings.meta_schema own) ≡ Some document
   pub reached : IsPlainTable old.rows → AreReached (plan_of old (Some n)) false (work_of old) work (references own)
 
 -- ---- subschemas
@@ -67,7 +71,8 @@ abbrev pub IsHolding : Text → Members → Data → Type 0
 IsHolding path definitions document = (definitions ≡ no_members) ⊎ (pointer path document ≡ Some (object definitions))
 
 -- a subschema of row n, and the definitions that it leads to
-pub record MeansItsTypeIn (rows : List Row) (contract : Contract) (path : Text) (n : ℕ) (definitions : Members) (document schema : Data) : Type 0 where
+pub record MeansItsTypeIn (rows : List Row) (contract : Contract) (path : Text) (n : ℕ) (definitions : Members)
+    (document schema : Data) : Type 0 where
   pub accepts_its_values : AcceptsItsValues rows contract path n document schema
   pub references_resolve : all_resolve document (references schema) ≡ true
   pub definitions_resolve : (name : Text) (d : Data) → get_member name definitions ≡ Some d → all_resolve document (references d) ≡ true

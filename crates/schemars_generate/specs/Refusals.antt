@@ -10,7 +10,10 @@ use Rattle.schemars_build.specs.Reached.{AreReached}
 use Rattle.schemars_documents.specs.PlainTable.{IsPlainTable}
 use Rattle.schemars_types.specs.Faults.{Refusal}
 use Rattle.schemars_generate.specs.declared.error.GenerateError.{GenerateError}
-use Rattle.schemars_generate.specs.declared.error.GenerateError.TheVariants.{OutOfMemory, UndefinedType, RepeatedName, DirectCycle, EmptyCycle, AlreadyDefined, NotAnExtension, UnknownType, DefinitionsPath}
+use Rattle.schemars_generate.specs.declared.error.GenerateError.TheVariants.{OutOfMemory, UndefinedType, RepeatedName}
+use Rattle.schemars_generate.specs.declared.error.GenerateError.TheVariants.{DirectCycle, EmptyCycle, AlreadyDefined}
+use Rattle.schemars_generate.specs.declared.error.GenerateError.TheVariants.{NotAnExtension, UnknownType}
+use Rattle.schemars_generate.specs.declared.error.GenerateError.TheVariants.{DefinitionsPath}
 use Rattle.schemars_documents.specs.ContractOf.{contract_of}
 use Rattle.schemars_documents.specs.Documents.{Describes, root_document}
 use Rattle.schemars_naming.specs.Work.{Work, Refers, Step}
@@ -49,6 +52,8 @@ pub record CannotPlace (old : State) (n : ℕ) : Type 0 where
   pub work : Work
   pub step : Step (plan_of old (Some n)) (work_of old) work
   pub own : Data
-  pub describes : Describes old.rows (contract_of old.settings.contract) (Refers (plan_of old (Some n)) true work) (suc (height old.rows n)) n own
-  pub no_place : with_definitions (plan_of old (Some n)).path work.definitions (root_document (name_at old.rows n) old.settings.meta_schema own) ≡ None
+  pub describes : Describes old.rows (contract_of old.settings.contract) (Refers (plan_of old (Some n)) true work)
+      (suc (height old.rows n)) n own
+  pub no_place : with_definitions (plan_of old (Some n)).path work.definitions
+      (root_document (name_at old.rows n) old.settings.meta_schema own) ≡ None
   pub reached : IsPlainTable old.rows → AreReached (plan_of old (Some n)) false (work_of old) work (references own)

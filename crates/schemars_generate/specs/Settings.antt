@@ -7,7 +7,11 @@ use Rattle.schemars_naming.specs.Work.{Work}
 use Rattle.schemars_generate.specs.declared.generate.SchemaSettings as src
 
 abbrev pub settings_of : src.SchemaSettings → Settings
-settings_of s = record { definitions_path = cow_str_bytes s.definitions_path; meta_schema = option_map cow_str_bytes s.meta_schema; contract = s.contract }
+settings_of s = record {
+  definitions_path = cow_str_bytes s.definitions_path;
+  meta_schema = option_map cow_str_bytes s.meta_schema;
+  contract = s.contract;
+}
 
 abbrev pub state_of : src.SchemaSettings → List Row → Work → State
 state_of s rows w = record { settings = settings_of s; rows = rows; names = w.names; definitions = w.definitions }

@@ -20,7 +20,11 @@ pub record Settings : Type 0 where
   pub contract : Contract
 
 abbrev pub settings2020_12 : Settings
-settings2020_12 = record { definitions_path = codes "/$defs"; meta_schema = Some (codes "https://json-schema.org/draft/2020-12/schema"); contract = Deserialize }
+settings2020_12 = record {
+  definitions_path = codes "/$defs";
+  meta_schema = Some (codes "https://json-schema.org/draft/2020-12/schema");
+  contract = Deserialize;
+}
 
 pub record State : Type 0 where
   pub settings : Settings
@@ -52,7 +56,8 @@ work_of s = record { names = s.names; definitions = s.definitions; begun = []; k
 abbrev pub plan_of : State → Option ℕ → Plan
 plan_of s root = record { rows = s.rows; contract = s.settings.contract; path = stripped s.settings.definitions_path; root = root }
 
--- each definition is the document of the row of its name, with references to other definitions alone: so it is where the caller changed none
+-- each definition is the document of the row of its name, with references to other definitions alone: so it is where
+-- the caller changed none
 abbrev pub HasOwnDefinitions : State → Type 0
 HasOwnDefinitions s = AreDefinitions (plan_of s None) (work_of s)
 
@@ -70,12 +75,14 @@ after_root old w = record old { names = w.names; definitions = if w.meets_root t
 
 abbrev pub settings_code : Coded Settings
 settings_code =
-    code_by (Text × (Option Text × Contract)) (coded× text_code (coded× (coded_option text_code) contract_code)) (λ s. (s.definitions_path, (s.meta_schema, s.contract)))
+    code_by (Text × (Option Text × Contract)) (coded× text_code (coded× (coded_option text_code) contract_code))
+    (λ s. (s.definitions_path, (s.meta_schema, s.contract)))
     (λ p. record { definitions_path = p.0; meta_schema = p.1.0; contract = p.1.1 })
     (λ _. refl)
 
 abbrev pub state_code : Coded State
 state_code =
-    code_by (Settings × (List Row × (Naming × Members))) (coded× settings_code (coded× rows_code (coded× naming_code members_code))) (λ s. (s.settings, (s.rows, (s.names, s.definitions))))
+    code_by (Settings × (List Row × (Naming × Members))) (coded× settings_code (coded× rows_code (coded× naming_code members_code)))
+    (λ s. (s.settings, (s.rows, (s.names, s.definitions))))
     (λ p. record { settings = p.0; rows = p.1.0; names = p.1.1.0; definitions = p.1.1.1 })
     (λ _. refl)

@@ -1,5 +1,6 @@
 //! From a table of types to documents.
-ghost use Rattle.std.specs.Prelude.{List, ℕ, true, false, ◌≡◌, ◌<◌, ◌≤◌, ◌⊎◌, ◌↔◌, [], suc, take, length, Err, IsOk, IfOk, IfErr, OnOk, OnErr, None, Some};
+ghost use Rattle.std.specs.Prelude.{List, ℕ, true, false, ◌≡◌, ◌<◌, ◌≤◌, ◌⊎◌, ◌↔◌, [], suc, take, length, Err, IsOk};
+ghost use Rattle.std.specs.Prelude.{IfOk, IfErr, OnOk, OnErr, None, Some};
 ghost use Rattle.serde_json.specs.Data.{Data, no_members};
 ghost use Rattle.serde_json.specs.View.{members_view};
 ghost use Rattle.serde_json.specs.Written.{has_float};
@@ -19,7 +20,9 @@ ghost use Rattle.schemars_build.specs.Reached.{AreReached};
 ghost use Rattle.schemars_generate.specs.Refusals.{HasFault, CannotPlace};
 ghost use Rattle.schemars_generate.specs.Keys.{HasKeysOnce};
 ghost use Rattle.schemars_generate.specs.Settings.{settings_of, state_of};
-ghost use Rattle.schemars_generate.specs.State.{State, settings2020_12, plan_of, plan_of as state_plan, work_of, after_root, stripped, without_hash, without_slash, HasOwnDefinitions, ReferencesNameKeys};
+ghost use Rattle.schemars_generate.specs.State.{State, settings2020_12, plan_of, plan_of as state_plan, work_of};
+ghost use Rattle.schemars_generate.specs.State.{after_root, stripped, without_hash, without_slash, HasOwnDefinitions};
+ghost use Rattle.schemars_generate.specs.State.{ReferencesNameKeys};
 ghost use Rattle.schemars_naming.specs.Work as specs;
 ghost use Rattle.schemars_naming.specs.Work.{Step, IsKey, reference_to, undone};
 
@@ -105,10 +108,20 @@ impl Model for SchemaGenerator {
     ghost use Rattle.schemars_types.specs.Faults.{IsChecked};
     ghost use Rattle.schemars_naming.specs.Naming.{IsOneToOne};
 
-    ghost view = { λ g. record { settings = settings_of g.settings; rows = g.types; names = g.work.names; definitions = g.work.definitions } };
+    ghost view = { λ g. record {
+      settings = settings_of g.settings;
+      rows = g.types;
+      names = g.work.names;
+      definitions = g.work.definitions;
+    } };
 
     ghost invariant = { λ g. IsChecked g.types × IsOneToOne g.work.names
-        × (g.work ≡ work_of (record { settings = settings_of g.settings; rows = g.types; names = g.work.names; definitions = g.work.definitions })) };
+        × (g.work ≡ work_of (record {
+          settings = settings_of g.settings;
+          rows = g.types;
+          names = g.work.names;
+          definitions = g.work.definitions;
+        })) };
 }
 
 impl SchemaGenerator {

@@ -6,7 +6,8 @@ use Rattle.std.specs.Float.{Float}
 use Rattle.std.proofs.lemmas.Bool.{and_parts}
 use Rattle.std.proofs.lemmas.Bool.Decides.{Decides-eqb}
 use Rattle.std.proofs.lemmas.Slice.Eq.{bytes_eq-Decides}
-use Rattle.serde_json.specs.Data.{Num, unsigned, negative, float, Data, null, boolean, number, string, array, object, Items, no_items, item, Members, no_members, member}
+use Rattle.serde_json.specs.Data.{Num, unsigned, negative, float, Data, null, boolean, number, string, array, object}
+use Rattle.serde_json.specs.Data.{Items, no_items, item, Members, no_members, member}
 use Rattle.schemars_json.specs.Json.{IsWholeNumber, IsJson, AreJson, AreJsonMembers, num_eq, json_eq, items_eq, members_eq}
 
 truth_same : (a b : Bool) → (if a then b else not b) ≡ true → a ≡ b

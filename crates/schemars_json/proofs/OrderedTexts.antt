@@ -1,5 +1,7 @@
 -- Text that is written value by value, and members that are looked up by their keys.
-use Rattle.std.proofs.Common.{◌≡◌, ◌<◌, ◌+◌, ℕ, List, [], ◌∷◌, ◌++◌, length, get_or, drop, map, Bor, option_map, add-one, drop-cons, Bool, true, false, ◌||◌, Option, Some, None, Ordering, Less, Equal, Greater, is_eq, nat_cmp, string_bytes, refl, sym, ap, ◌∙◌, append_assoc, append-nil}
+use Rattle.std.proofs.Common.{◌≡◌, ◌<◌, ◌+◌, ℕ, List, [], ◌∷◌, ◌++◌, length, get_or, drop, map, Bor, option_map}
+use Rattle.std.proofs.Common.{add-one, drop-cons, Bool, true, false, ◌||◌, Option, Some, None, Ordering, Less, Equal}
+use Rattle.std.proofs.Common.{Greater, is_eq, nat_cmp, string_bytes, refl, sym, ap, ◌∙◌, append_assoc, append-nil}
 use Rattle.std.proofs.lemmas.Bool.{or_parts}
 use Rattle.std.proofs.lemmas.Map.Text.{is_eq-slice_cmp}
 use Rattle.std.proofs.lemmas.Slice.Eq.{bytes_eq-Decides}
@@ -18,7 +20,8 @@ use Rattle.serde_json.proofs.Views.{Entry, view-lookup}
 use Rattle.serde_json.specs.Written.{comma_if, has_float, items_have_float, members_have_float}
 use Rattle.schemars_json.specs.Json.{Text}
 use Rattle.schemars_json.specs.Output.{Output, with_token, with_value, with_values}
-use Rattle.schemars_json.specs.OrderedText.{Layout, SchemaLayout, Written, written_at, each_written_at, arranged, texts, layout_under, layout_inside, with_commas, text_in, item_texts, member_texts}
+use Rattle.schemars_json.specs.OrderedText.{Layout, SchemaLayout, Written, written_at, each_written_at, arranged, texts}
+use Rattle.schemars_json.specs.OrderedText.{layout_under, layout_inside, with_commas, text_in, item_texts, member_texts}
 
 -- ---- text
 
@@ -45,12 +48,15 @@ regroup : (a b c d e : Text) → ((a ++ (b ++ c)) ++ d) ++ e ≡ a ++ (b ++ (c +
 regroup a b c d e = simp append_assoc
 
 -- values between two brackets
-pub bracketed : (o : Output) (opening closing : Token) (ts : List Text) → begins opening ≡ true → ends opening ≡ false → begins closing ≡ false → ends closing ≡ true
-    → with_token (with_values (with_token o opening) ts) closing ≡ with_value o (token_text opening ++ (with_commas false ts ++ token_text closing))
+pub bracketed : (o : Output) (opening closing : Token) (ts : List Text) → begins opening ≡ true → ends opening ≡ false
+    → begins closing ≡ false → ends closing ≡ true
+    → with_token (with_values (with_token o opening) ts) closing ≡ with_value o
+    (token_text opening ++ (with_commas false ts ++ token_text closing))
 bracketed o opening closing ts b e c f =
     let inside = with_values (with_token o opening) ts in
     let start = separator_is o.after_value opening b in
-    let text : inside.text ++ (separator inside.after_value closing ++ token_text closing) ≡ o.text ++ (comma_if o.after_value ++ (token_text opening ++ (with_commas false ts ++ token_text closing))) =
+    let text : inside.text ++ (separator inside.after_value closing ++ token_text closing)
+    ≡ o.text ++ (comma_if o.after_value ++ (token_text opening ++ (with_commas false ts ++ token_text closing))) =
     rw (no_separator inside.after_value closing c, with_values_text (with_token o opening) ts, e, start)
     (regroup o.text (comma_if o.after_value) (token_text opening) (with_commas false ts) (token_text closing)) in
     λ i. record { text = text i; after_value = f i }
@@ -65,7 +71,8 @@ texts-append (w ∷ ws) vs = ap (λ ts. w.text ∷ ts) (texts-append ws vs)
 
 -- three groups of members, one after another
 pub with_groups : (o : Output) (first second third : List Written)
-    → with_values (with_values (with_values o (texts first)) (texts second)) (texts third) ≡ with_values o (texts (first ++ (second ++ third)))
+    → with_values (with_values (with_values o (texts first)) (texts second)) (texts third)
+    ≡ with_values o (texts (first ++ (second ++ third)))
 with_groups o first second third =
     sym (ap (with_values o) (texts-append first (second ++ third) ∙ ap (λ ts. texts first ++ ts) (texts-append second third))
     ∙ with_values-append o (texts first) (texts second ++ texts third)
@@ -79,8 +86,10 @@ written_member k d = record { key = k; text = quoted k ++ 58 ∷ text_in (layout
 differ_when : (o : Ordering) (k l : Text) → slice_cmp nat_cmp k l ≡ o → bytes_eq k l ≡ is_eq o
 differ_when o k l is = sym (is_eq-slice_cmp k l) ∙ ap is_eq is
 
-found_at : (o : Ordering) (k l : Text) (d e : Data) (ms : Members) → slice_cmp nat_cmp k l ≡ o → match_ordering o (get_member k ms) (Some e) (get_member k ms) ≡ Some d
-    → (get_member k ms ≡ Some d → written_at k (member_texts SchemaLayout ms) ≡ written_member k d ∷ []) → written_at k (member_texts SchemaLayout (member l e ms)) ≡ written_member k d ∷ []
+found_at : (o : Ordering) (k l : Text) (d e : Data) (ms : Members) → slice_cmp nat_cmp k l ≡ o
+    → match_ordering o (get_member k ms) (Some e) (get_member k ms) ≡ Some d
+    → (get_member k ms ≡ Some d → written_at k (member_texts SchemaLayout ms) ≡ written_member k d ∷ [])
+    → written_at k (member_texts SchemaLayout (member l e ms)) ≡ written_member k d ∷ []
 unfolding member_texts
 found_at Less k l d e ms is h later = rw (differ_when Less k l is) (later h)
 found_at Greater k l d e ms is h later = rw (differ_when Greater k l is) (later h)
@@ -91,12 +100,15 @@ found_at Equal k l d e ms is h later =
     rw yes (λ i. written_member (same i) (value i) ∷ [])
 
 -- what is written at a key that is there
-pub written_at-found : (k : Text) (d : Data) (ms : Members) → get_member k ms ≡ Some d → written_at k (member_texts SchemaLayout ms) ≡ written_member k d ∷ []
+pub written_at-found : (k : Text) (d : Data) (ms : Members) → get_member k ms ≡ Some d
+    → written_at k (member_texts SchemaLayout ms) ≡ written_member k d ∷ []
 written_at-found k d no_members h = cc
 written_at-found k d (member l e ms) h = found_at _ k l d e ms refl h (written_at-found k d ms)
 
-missing_at : (o : Ordering) (k l : Text) (e : Data) (ms : Members) → slice_cmp nat_cmp k l ≡ o → match_ordering o (get_member k ms) (Some e) (get_member k ms) ≡ None
-    → (get_member k ms ≡ None → written_at k (member_texts SchemaLayout ms) ≡ []) → written_at k (member_texts SchemaLayout (member l e ms)) ≡ []
+missing_at : (o : Ordering) (k l : Text) (e : Data) (ms : Members) → slice_cmp nat_cmp k l ≡ o
+    → match_ordering o (get_member k ms) (Some e) (get_member k ms) ≡ None
+    → (get_member k ms ≡ None → written_at k (member_texts SchemaLayout ms) ≡ [])
+    → written_at k (member_texts SchemaLayout (member l e ms)) ≡ []
 unfolding member_texts
 missing_at Less k l e ms is h later = rw (differ_when Less k l is) (later h)
 missing_at Greater k l e ms is h later = rw (differ_when Greater k l is) (later h)
@@ -108,7 +120,8 @@ unfolding member_texts
 written_at-missing k no_members h = refl
 written_at-missing k (member l e ms) h = missing_at _ k l e ms refl h (written_at-missing k ms)
 
-found_float_at : (o : Ordering) (k : Text) (d e : Data) (ms : Members) → match_ordering o (get_member k ms) (Some e) (get_member k ms) ≡ Some d → has_float e || members_have_float ms ≡ false
+found_float_at : (o : Ordering) (k : Text) (d e : Data) (ms : Members)
+    → match_ordering o (get_member k ms) (Some e) (get_member k ms) ≡ Some d → has_float e || members_have_float ms ≡ false
     → (get_member k ms ≡ Some d → members_have_float ms ≡ false → has_float d ≡ false) → has_float d ≡ false
 found_float_at Less k d e ms h none later = later h (or_parts (has_float e) _ none).1
 found_float_at Greater k d e ms h none later = later h (or_parts (has_float e) _ none).1
@@ -130,7 +143,8 @@ from o ks i ms = with_values o (texts (each_written_at (map (λ k. k.now) (drop 
 next_keyword : (ks : Keywords) (i : ℕ) (other : Bor Text) → i < length ks → drop i ks ≡ get_or ks i other ∷ drop (i + 1) ks
 next_keyword ks i other within = rw add-one (drop-cons ks i other within)
 
-looked_up : (k : Text) (es : List Entry) (r : Option Value) → r ≡ lookup (is_at (λ l. slice_cmp nat_cmp k (string_bytes l))) es → get_member k (members_view es) ≡ option_map view r
+looked_up : (k : Text) (es : List Entry) (r : Option Value) → r ≡ lookup (is_at (λ l. slice_cmp nat_cmp k (string_bytes l))) es
+    → get_member k (members_view es) ≡ option_map view r
 looked_up k es r is = sym (view-lookup k es) ∙ ap (option_map view) (sym is)
 
 pub keyword_found : (o a : Output) (ks : Keywords) (i : ℕ) (other : Bor Text) (v : Value) (es : List Entry) (all : Output) → i < length ks
@@ -158,12 +172,15 @@ pub array_written : (o a b c : Output) (layout inner : Layout) (d : Data) (ds : 
 unfolding text_in
 array_written o a b c layout inner d ds is inside first items last none =
     let no_float : items_have_float ds ≡ false = rw is at none in
-    rw (is, last, items no_float, inside, first) (bracketed o begin_array end_array (item_texts (layout_inside layout) ds) refl refl refl refl)
+    rw (is, last, items no_float, inside, first) (bracketed o begin_array end_array (item_texts (layout_inside layout) ds) refl refl refl
+    refl)
 
 pub object_written : (o a b c : Output) (layout : Layout) (d : Data) (ms : Members) → d ≡ object ms
-    → a ≡ with_token o begin_object → (members_have_float ms ≡ false → b ≡ with_values a (texts (arranged layout (member_texts layout ms)))) → c ≡ with_token b end_object
+    → a ≡ with_token o begin_object → (members_have_float ms ≡ false → b
+    ≡ with_values a (texts (arranged layout (member_texts layout ms)))) → c ≡ with_token b end_object
     → has_float d ≡ false → c ≡ with_value o (text_in layout d)
 unfolding text_in
 object_written o a b c layout d ms is first members last none =
     let no_float : members_have_float ms ≡ false = rw is at none in
-    rw (is, last, members no_float, first) (bracketed o begin_object end_object (texts (arranged layout (member_texts layout ms))) refl refl refl refl)
+    rw (is, last, members no_float, first) (bracketed o begin_object end_object (texts (arranged layout (member_texts layout ms))) refl
+    refl refl refl)

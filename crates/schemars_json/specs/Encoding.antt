@@ -1,5 +1,6 @@
 -- Names in the fragment of a reference (RFC 3986, section 3.5), as tokens of a JSON Pointer (RFC 6901, section 6).
-use Rattle.std.specs.Prelude.{ℕ, ◌+◌, ◌-◌, ◌*◌, ◌/◌, ◌%◌, ◌&&◌, ◌||◌, ◌==◌, nat_le, nat_lt, List, [], ◌∷◌, ◌++◌, Bool, false, if◌then◌else◌, Option, Some, None, option_and_then, length}
+use Rattle.std.specs.Prelude.{ℕ, ◌+◌, ◌-◌, ◌*◌, ◌/◌, ◌%◌, ◌&&◌, ◌||◌, ◌==◌, nat_le, nat_lt, List, [], ◌∷◌, ◌++◌, Bool}
+use Rattle.std.specs.Prelude.{false, if◌then◌else◌, Option, Some, None, option_and_then, length}
 use Rattle.std.specs.Str.Lossy.{utf8_valid_len}
 use Rattle.serde_json.specs.Data.{Data}
 use Rattle.serde_json.specs.Find.{pointer}
@@ -21,7 +22,8 @@ percent_decoded_bytes [] = []
 percent_decoded_bytes (x ∷ []) = x ∷ []
 percent_decoded_bytes (x ∷ y ∷ []) = x ∷ y ∷ []
 percent_decoded_bytes (x ∷ y ∷ z ∷ rest) =
-    if x == 37 && (is_hex_digit y && is_hex_digit z) then (16 * hex_value y + hex_value z) ∷ percent_decoded_bytes rest else x ∷ percent_decoded_bytes (y ∷ z ∷ rest)
+    if x == 37 && (is_hex_digit y && is_hex_digit z) then (16 * hex_value y + hex_value z) ∷ percent_decoded_bytes rest else
+    x ∷ percent_decoded_bytes (y ∷ z ∷ rest)
 
 abbrev pub text_of_bytes : List ℕ → Option Text
 text_of_bytes bs = if utf8_valid_len bs == length bs then Some bs else None
@@ -44,7 +46,8 @@ has_escape (x ∷ rest) = begins_escape (x ∷ rest) || has_escape rest
 
 -- `!`, `$`, `&` to `;` without `/`, `=`, `?` to `Z`, `_`, `a` to `z`
 abbrev pub stays : ℕ → Bool
-stays b = b == 33 || (b == 36 || (is_between 38 46 b || (is_between 48 59 b || (b == 61 || (is_between 63 90 b || (b == 95 || is_between 97 122 b))))))
+stays b = b == 33 || (b == 36 || (is_between 38 46 b || (is_between 48 59 b ||
+    (b == 61 || (is_between 63 90 b || (b == 95 || is_between 97 122 b))))))
 
 -- `0` to `9`, `A` to `F`
 abbrev pub hex_digit : ℕ → ℕ

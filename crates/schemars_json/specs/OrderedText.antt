@@ -9,7 +9,8 @@ use Rattle.schemars_json.specs.Json.{Text}
 
 -- the keywords that are written first, in this order
 abbrev pub first_keywords : List Text
-first_keywords = codes "$id" ∷ codes "$schema" ∷ codes "title" ∷ codes "description" ∷ codes "type" ∷ codes "format" ∷ codes "properties" ∷ []
+first_keywords = codes "$id" ∷ codes "$schema" ∷ codes "title" ∷ codes "description" ∷ codes "type" ∷ codes "format" ∷ codes "properties"
+    ∷ []
 
 -- and those that are written last
 abbrev pub last_keywords : List Text
@@ -25,7 +26,8 @@ holds_plain_json k = is_listed k (codes "examples" ∷ codes "default" ∷ []) |
 
 -- schemas by name stand under these
 abbrev pub holds_named_schemas : Text → Bool
-holds_named_schemas k = is_listed k (codes "properties" ∷ codes "patternProperties" ∷ codes "dependentSchemas" ∷ codes "$defs" ∷ codes "definitions" ∷ [])
+holds_named_schemas k = is_listed k (codes "properties" ∷ codes "patternProperties" ∷ codes "dependentSchemas" ∷ codes "$defs"
+    ∷ codes "definitions" ∷ [])
 
 -- how a value is written: as it is, as a schema, or as schemas by name
 pub data Layout : Type 0 where
@@ -98,7 +100,8 @@ unfoldable mutual
 
   pub member_texts : Layout → Members → List Written
   member_texts layout no_members = []
-  member_texts layout (member k d ms) = record { key = k; text = quoted k ++ 58 ∷ text_in (layout_under layout k) d } ∷ member_texts layout ms
+  member_texts layout (member k d ms) = record { key = k; text = quoted k ++ 58 ∷ text_in (layout_under layout k) d }
+      ∷ member_texts layout ms
 
 -- the text of a schema
 abbrev pub ordered_text : Data → Text

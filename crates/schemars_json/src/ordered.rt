@@ -4,7 +4,10 @@ ghost use Rattle.json.specs.Lex.{tokens};
 ghost use Rattle.json.specs.Print.{print, quoted};
 ghost use Rattle.serde_json.specs.View.{view, items_view, members_view};
 ghost use Rattle.serde_json.specs.Written.{has_float, items_have_float, members_have_float};
-ghost use Rattle.schemars_json.specs.OrderedText.{first_keywords, last_keywords, is_listed, holds_plain_json, holds_named_schemas, SchemaLayout, layout_under, layout_inside, each_written_at, others, arranged, texts, ordered_text, text_in, item_texts, member_texts};
+ghost use Rattle.schemars_json.specs.OrderedText.{first_keywords, last_keywords, is_listed, holds_plain_json};
+ghost use Rattle.schemars_json.specs.OrderedText.{holds_named_schemas, SchemaLayout, layout_under, layout_inside};
+ghost use Rattle.schemars_json.specs.OrderedText.{each_written_at, others, arranged, texts, ordered_text, text_in};
+ghost use Rattle.schemars_json.specs.OrderedText.{item_texts, member_texts};
 ghost use Rattle.schemars_json.specs.Output.{with_value, with_values, meant};
 
 use crate::output::Output;

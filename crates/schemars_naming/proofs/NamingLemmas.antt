@@ -1,5 +1,8 @@
 -- The names against the sets that hold them, and candidates: which differ, and that one of them is not used.
-use Rattle.std.proofs.Common.{◌≡◌, ◌<◌, ◌≤◌, ◌+◌, ◌^◌, ◌==◌, ◌&&◌, ◌||◌, ◌∙◌, ℕ, zero, suc, List, [], ◌∷◌, ◌++◌, Bool, true, false, cond, Some, None, String, string_bytes, option_map, slice_get, find, position, nat_lt, length, take, map, refl, sym, ap, subst, arith, true≢false, length-append}
+use Rattle.std.proofs.Common.{◌≡◌, ◌<◌, ◌≤◌, ◌+◌, ◌^◌, ◌==◌, ◌&&◌, ◌||◌, ◌∙◌, ℕ, zero, suc, List, [], ◌∷◌, ◌++◌, Bool}
+use Rattle.std.proofs.Common.{true, false, cond, Some, None, String, string_bytes, option_map, slice_get, find}
+use Rattle.std.proofs.Common.{position, nat_lt, length, take, map, refl, sym, ap, subst, arith, true≢false}
+use Rattle.std.proofs.Common.{length-append}
 use Rattle.std.specs.declared.alloc.Global.{Global}
 use Rattle.std.specs.Fmt.{decimal}
 use Rattle.std.specs.List.{AllByRecursion, IsDistinct, list_any, position_or_len}
@@ -60,15 +63,20 @@ name_at_place n contract (o ∷ owners) (s ∷ given) same =
     by (is_owner n contract o) (is_of n contract (named o s)) refl refl (name_at_place n contract owners given rest)
   where
     by : (a b : Bool) → is_owner n contract o ≡ a → is_of n contract (named o s) ≡ b
-        → option_map string_bytes (slice_get given (position_or_len (is_owner n contract) owners)) ≡ name_of n contract (naming_of owners given)
-        → option_map string_bytes (slice_get (s ∷ given) (position_or_len (is_owner n contract) (o ∷ owners))) ≡ name_of n contract (naming_of (o ∷ owners) (s ∷ given))
+        → option_map string_bytes (slice_get given (position_or_len (is_owner n contract) owners))
+        ≡ name_of n contract (naming_of owners given)
+        → option_map string_bytes (slice_get (s ∷ given) (position_or_len (is_owner n contract) (o ∷ owners)))
+        ≡ name_of n contract (naming_of (o ∷ owners) (s ∷ given))
     by true true e f rest = rw (e, f) refl
     by true false e f rest = absurd (true≢false (sym e ∙ same_test n contract o s ∙ f))
     by false true e f rest = absurd (true≢false (sym f ∙ sym (same_test n contract o s) ∙ e))
-    by false false e f rest = rw (e, f) (ap (λ (k : ℕ). option_map string_bytes (slice_get (s ∷ given) k)) (one_more (position_or_len (is_owner n contract) owners)) ∙ rest)
+    by false false e f rest = rw (e, f) (ap (λ (k : ℕ). option_map string_bytes (slice_get (s ∷ given) k))
+        (one_more (position_or_len (is_owner n contract) owners)) ∙ rest)
 
-pub name_of_found : (n : ℕ) (contract : Contract) (owners : List Owner) (given : List (String Global)) (i : ℕ) → length owners ≡ length given
-    → position (is_owner n contract) owners ≡ Some i → name_of n contract (naming_of owners given) ≡ option_map string_bytes (slice_get given i)
+pub name_of_found : (n : ℕ) (contract : Contract) (owners : List Owner) (given : List (String Global)) (i : ℕ)
+    → length owners ≡ length given
+    → position (is_owner n contract) owners ≡ Some i → name_of n contract (naming_of owners given)
+    ≡ option_map string_bytes (slice_get given i)
 name_of_found n contract owners given i same found =
     sym (name_at_place n contract owners given same) ∙ ap (λ (k : ℕ). option_map string_bytes (slice_get given k)) (cond_some _ _ _ found).1
 
@@ -91,10 +99,12 @@ is_used-naming_of name (o ∷ owners) (s ∷ given) same =
     let rest : length owners ≡ length given = omega arith in
     λ i. bytes_eq_comm name (string_bytes s) i || is_used-naming_of name owners given rest i
 
-pub length-naming_of : (owners : List Owner) (given : List (String Global)) → length owners ≡ length given → length (naming_of owners given) ≡ length given
+pub length-naming_of : (owners : List Owner) (given : List (String Global)) → length owners ≡ length given
+    → length (naming_of owners given) ≡ length given
 length-naming_of [] given same = same
 length-naming_of (o ∷ owners) [] same = refl
-length-naming_of (o ∷ owners) (s ∷ given) same = let rest : length owners ≡ length given = omega arith in ap suc (length-naming_of owners given rest)
+length-naming_of (o ∷ owners) (s ∷ given) same = let rest : length owners ≡ length given = omega arith in
+    ap suc (length-naming_of owners given rest)
 
 pub naming_of-push : (owners : List Owner) (given : List (String Global)) (o : Owner) (s : String Global) → length owners ≡ length given
     → naming_of (owners ++ o ∷ []) (given ++ s ∷ []) ≡ naming_of owners given ++ named o s ∷ []
@@ -105,7 +115,8 @@ naming_of-push (p ∷ owners) (t ∷ given) o s same =
     let rest : length owners ≡ length given = omega arith in
     ap (λ names. named p t ∷ names) (naming_of-push owners given o s rest)
 
-pub naming_of-take : (n : ℕ) (owners : List Owner) (given : List (String Global)) → naming_of (take n owners) (take n given) ≡ take n (naming_of owners given)
+pub naming_of-take : (n : ℕ) (owners : List Owner) (given : List (String Global))
+    → naming_of (take n owners) (take n given) ≡ take n (naming_of owners given)
 naming_of-take zero owners given = refl
 naming_of-take (suc n) [] given = refl
 naming_of-take (suc n) (o ∷ owners) [] = refl
@@ -120,7 +131,8 @@ no_owner n contract (o ∷ owners) (s ∷ given) same none =
     let rest : length owners ≡ length given = omega arith in
     by (is_of n contract (named o s)) refl none (no_owner n contract owners given rest)
   where
-    by : (b : Bool) → is_of n contract (named o s) ≡ b → option_map (λ x. x.name) (cond b (Some (named o s)) (find (is_of n contract) (naming_of owners given))) ≡ None
+    by : (b : Bool) → is_of n contract (named o s) ≡ b → option_map (λ x. x.name)
+        (cond b (Some (named o s)) (find (is_of n contract) (naming_of owners given))) ≡ None
         → (name_of n contract (naming_of owners given) ≡ None → list_any (is_owner n contract) owners ≡ false)
         → list_any (is_owner n contract) (o ∷ owners) ≡ false
     by true e h rest = cc
@@ -152,7 +164,8 @@ among_true true = refl
 among_true false = refl
 
 -- the name of a row is among the names
-name_among : (n : ℕ) (contract : Contract) (names : Naming) (name : Text) → name_of n contract names ≡ Some name → list_any (bytes_eq name) (texts names) ≡ true
+name_among : (n : ℕ) (contract : Contract) (names : Naming) (name : Text) → name_of n contract names ≡ Some name
+    → list_any (bytes_eq name) (texts names) ≡ true
 name_among n contract [] name e = cc
 name_among n contract (x ∷ names) name e = by (is_of n contract x) e (name_among n contract names name)
   where
@@ -168,11 +181,14 @@ none_among : (q : Text) (ts : List Text) → AllByRecursion (λ t. bytes_eq q t 
 none_among q [] none = refl
 none_among q (t ∷ ts) none = ap (λ b. b || list_any (bytes_eq q) ts) none.0 ∙ none_among q ts none.1
 
-only_once : (x : Named) (names : Naming) → IsDistinct bytes_eq (texts (x ∷ names)) → (n : ℕ) (contract : Contract) → name_of n contract names ≡ Some x.name → ⊥
+only_once : (x : Named) (names : Naming) → IsDistinct bytes_eq (texts (x ∷ names)) → (n : ℕ) (contract : Contract)
+    → name_of n contract names ≡ Some x.name → ⊥
 only_once x names distinct n contract e =
-    true≢false (sym (name_among n contract names x.name e) ∙ none_among x.name (texts names) (IsDistinct-head bytes_eq x.name (texts names) distinct))
+    true≢false (sym (name_among n contract names x.name e) ∙ none_among x.name (texts names)
+    (IsDistinct-head bytes_eq x.name (texts names) distinct))
 
-one_row : (names : Naming) → IsDistinct bytes_eq (texts names) → (m n : ℕ) (c d : Contract) (name : Text) → name_of m c names ≡ Some name → name_of n d names ≡ Some name → (m ≡ n) × (c ≡ d)
+one_row : (names : Naming) → IsDistinct bytes_eq (texts names) → (m n : ℕ) (c d : Contract) (name : Text) → name_of m c names ≡ Some name
+    → name_of n d names ≡ Some name → (m ≡ n) × (c ≡ d)
 one_row [] distinct m n c d name e f = cc
 one_row (x ∷ names) distinct m n c d name e f =
     by (is_of m c x) (is_of n d x) refl refl e f (one_row names (IsDistinct-tail bytes_eq x.name (texts names) distinct) m n c d name)
@@ -190,13 +206,16 @@ one_row (x ∷ names) distinct m n c d name e f =
     by false true p q g h rest = absurd (only_once x names distinct m c (g ∙ sym h))
     by false false p q g h rest = rest g h
 
-texts-naming_of : (owners : List Owner) (given : List (String Global)) → length owners ≡ length given → texts (naming_of owners given) ≡ map string_bytes given
+texts-naming_of : (owners : List Owner) (given : List (String Global)) → length owners ≡ length given
+    → texts (naming_of owners given) ≡ map string_bytes given
 texts-naming_of [] [] same = refl
 texts-naming_of [] (s ∷ given) same = absurd (omega arith)
 texts-naming_of (o ∷ owners) [] same = refl
-texts-naming_of (o ∷ owners) (s ∷ given) same = let rest : length owners ≡ length given = omega arith in ap (λ ts. string_bytes s ∷ ts) (texts-naming_of owners given rest)
+texts-naming_of (o ∷ owners) (s ∷ given) same = let rest : length owners ≡ length given = omega arith in
+    ap (λ ts. string_bytes s ∷ ts) (texts-naming_of owners given rest)
 
-apart_from : (s : String Global) (given : List (String Global)) → AllByRecursion (λ t. string_eq s t ≡ false) given → AllByRecursion (λ t. bytes_eq (string_bytes s) t ≡ false) (map string_bytes given)
+apart_from : (s : String Global) (given : List (String Global)) → AllByRecursion (λ t. string_eq s t ≡ false) given
+    → AllByRecursion (λ t. bytes_eq (string_bytes s) t ≡ false) (map string_bytes given)
 apart_from s [] apart = apart
 apart_from s (t ∷ given) apart = (apart.0, apart_from s given apart.1)
 
@@ -205,9 +224,11 @@ unfolding IsDistinct
 distinct_texts [] distinct = distinct
 distinct_texts (s ∷ given) distinct = (apart_from s given distinct.0, distinct_texts given distinct.1)
 
-pub one_to_one : (owners : List Owner) (given : List (String Global)) → length owners ≡ length given → IsDistinct string_eq given → IsOneToOne (naming_of owners given)
+pub one_to_one : (owners : List Owner) (given : List (String Global)) → length owners ≡ length given → IsDistinct string_eq given
+    → IsOneToOne (naming_of owners given)
 one_to_one owners given same distinct = record {
-  one_row = one_row (naming_of owners given) (subst (λ (ts : List Text). IsDistinct bytes_eq ts) (sym (texts-naming_of owners given same)) (distinct_texts given distinct));
+  one_row = one_row (naming_of owners given) (subst (λ (ts : List Text). IsDistinct bytes_eq ts)
+      (sym (texts-naming_of owners given same)) (distinct_texts given distinct));
 }
 
 -- ---- candidates
@@ -223,7 +244,8 @@ candidate_injective base zero zero h k e = refl
 candidate_injective base zero (suc j) h k e = absurd (longer base (j + 2) (omega arith) e)
 candidate_injective base (suc i) zero h k e = absurd (longer base (i + 2) (omega arith) (sym e))
 candidate_injective base (suc i) (suc j) h k e =
-    let same : i + 2 ≡ j + 2 = decimal_injective (i + 2) (j + 2) (omega arith) (omega arith) (append_cancel_left base (decimal (i + 2)) (decimal (j + 2)) e) in
+    let same : i + 2 ≡ j + 2 = decimal_injective (i + 2) (j + 2) (omega arith) (omega arith)
+    (append_cancel_left base (decimal (i + 2)) (decimal (j + 2)) e) in
     omega arith
 
 -- the first k candidates
@@ -234,9 +256,11 @@ candidates base (suc k) = candidates base k ++ candidate base k ∷ []
 length-candidates : (base : Text) (k : ℕ) → length (candidates base k) ≡ k
 unfolding candidates
 length-candidates base zero = refl
-length-candidates base (suc k) = let rest = length-candidates base k in omega (arith, length-append (candidates base k) (candidate base k ∷ []))
+length-candidates base (suc k) = let rest = length-candidates base k in
+    omega (arith, length-append (candidates base k) (candidate base k ∷ []))
 
-list_any-push : (test : Text → Bool) (ts : List Text) (t : Text) → list_any test (ts ++ t ∷ []) ≡ true → (list_any test ts ≡ true → ⊥) → test t ≡ true
+list_any-push : (test : Text → Bool) (ts : List Text) (t : Text) → list_any test (ts ++ t ∷ []) ≡ true → (list_any test ts ≡ true → ⊥)
+    → test t ≡ true
 list_any-push test [] t e none = by (test t) e
   where
     by : (b : Bool) → b || false ≡ true → b ≡ true
@@ -260,14 +284,16 @@ which base q (suc k) e = by (list_any (bytes_eq q) (candidates base k)) refl (wh
         → (j : ℕ) × (j < suc k) × (candidate base j ≡ q)
     by true h rest = let (j, below, is) = rest h in (j, omega arith, is)
     by false h rest =
-        let last : bytes_eq q (candidate base k) ≡ true = list_any-push (bytes_eq q) (candidates base k) (candidate base k) e (λ t. true≢false (sym t ∙ h)) in
+        let last : bytes_eq q (candidate base k) ≡ true = list_any-push (bytes_eq q) (candidates base k) (candidate base k) e
+        (λ t. true≢false (sym t ∙ h)) in
         (k, omega arith, sym ((bytes_eq-Decides q (candidate base k)).0 last))
 
 candidates_differ : (base : Text) (k : ℕ) → k ≤ 2 ^ 63 → IsDistinct bytes_eq (candidates base k)
 unfolding candidates IsDistinct
 candidates_differ base zero small = tt
 candidates_differ base (suc k) small =
-    IsDistinct-push nat_list_eq_equiv (candidates base k) (candidate base k) (candidates_differ base k (omega arith)) (false_from_ne_true _ (λ e.
+    IsDistinct-push nat_list_eq_equiv (candidates base k) (candidate base k) (candidates_differ base k (omega arith))
+    (false_from_ne_true _ (λ e.
     let (j, below, is) = which base (candidate base k) k e in
     let same : j ≡ k = candidate_injective base j k (omega arith) (omega arith) is in
     absurd (omega arith)))
@@ -281,9 +307,11 @@ length-texts [] = refl
 length-texts (x ∷ names) = ap suc (length-texts names)
 
 -- there are too few names to use one candidate more than there are names
-pub not_all_used : (names : Naming) (base : Text) (tries : ℕ) → length names < tries → tries ≤ 2 ^ 63 → ((j : ℕ) → j < tries → is_used (candidate base j) names ≡ true) → ⊥
+pub not_all_used : (names : Naming) (base : Text) (tries : ℕ) → length names < tries → tries ≤ 2 ^ 63
+    → ((j : ℕ) → j < tries → is_used (candidate base j) names ≡ true) → ⊥
 not_all_used names base tries more small used =
-    let within : length (candidates base tries) ≤ length (texts names) = length-le_from_is_member nat_list_eq_equiv (candidates base tries) (texts names) (candidates_differ base tries small) (λ q e.
+    let within : length (candidates base tries) ≤ length (texts names) =
+    length-le_from_is_member nat_list_eq_equiv (candidates base tries) (texts names) (candidates_differ base tries small) (λ q e.
     let (j, below, is) = which base q tries e in
     sym (used_among q names) ∙ ap (λ t. is_used t names) (sym is) ∙ used j below) in
     omega (arith, length-candidates base tries, length-texts names)

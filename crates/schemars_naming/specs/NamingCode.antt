@@ -23,7 +23,8 @@ abbrev pub contract_code : Coded Contract
 contract_code = code_by Bool coded_bool is_read contract_at contract_at-is_read
 
 abbrev pub named_code : Coded Named
-named_code = code_by (ℕ × (Contract × Text)) (coded× coded_ℕ (coded× contract_code text_code)) (λ x. (x.row, (x.contract, x.name))) (λ p. record { row = p.0; contract = p.1.0; name = p.1.1 }) (λ _. refl)
+named_code = code_by (ℕ × (Contract × Text)) (coded× coded_ℕ (coded× contract_code text_code)) (λ x. (x.row, (x.contract, x.name)))
+    (λ p. record { row = p.0; contract = p.1.0; name = p.1.1 }) (λ _. refl)
 
 abbrev pub naming_code : Coded Naming
 naming_code = coded_list named_code

@@ -1,5 +1,6 @@
 -- What documents are made into: names for rows, and definitions under these names.
-use Rattle.std.specs.Prelude.{◌≡◌, ◌≢◌, ◌<◌, length, ◌⊎◌, ◌++◌, ◌||◌, ℕ, List, [], ◌∷◌, take, Bool, true, false, Option, Some, None, codes, Contains}
+use Rattle.std.specs.Prelude.{◌≡◌, ◌≢◌, ◌<◌, length, ◌⊎◌, ◌++◌, ◌||◌, ℕ, List, [], ◌∷◌, take, Bool, true, false, Option}
+use Rattle.std.specs.Prelude.{Some, None, codes, Contains}
 use Rattle.std.specs.Str.{IsUtf8}
 use Rattle.serde_json.specs.Data.{Data, Members}
 use Rattle.serde_json.specs.Find.{get_member}
@@ -13,7 +14,8 @@ use Rattle.schemars_documents.specs.ContractOf.{contract_of}
 use Rattle.schemars_naming.specs.Naming.{Named, Naming, name_of, IsFirstUnused}
 use Rattle.schemars_documents.specs.Documents.{Describes}
 
--- what stays the same during a call: the table, whose values the documents are for, where the definitions stand, and the row whose root document is made
+-- what stays the same during a call: the table, whose values the documents are for, where the definitions stand, and
+-- the row whose root document is made
 pub record Plan : Type 0 where
   pub rows : List Row
   pub contract : Contract
@@ -42,11 +44,13 @@ reference_to path name = 35 ∷ (path ++ 47 ∷ encoded name)
 abbrev pub StandsApart : List Row → ℕ → Type 0
 StandsApart rows n = (n < length rows) × (is_inline_at rows n ≡ false)
 
--- a row that is not written in place: the root by `#` alone, where that is free or has been met; another by the name under which its definition stands
+-- a row that is not written in place: the root by `#` alone, where that is free or has been met; another by the name
+-- under which its definition stands
 abbrev pub Refers : Plan → Bool → Work → ℕ → Text → Type 0
 Refers plan free w n r =
     ((plan.root ≡ Some n) × (free || w.meets_root ≡ true) × (r ≡ codes "#") × StandsApart plan.rows n)
-    ⊎ ((name : Text) × (name_of n plan.contract w.names ≡ Some name) × IsKey name w.definitions × (r ≡ reference_to plan.path name) × StandsApart plan.rows n
+    ⊎ ((name : Text) × (name_of n plan.contract w.names ≡ Some name) × IsKey name w.definitions × (r ≡ reference_to plan.path name)
+    × StandsApart plan.rows n
     × (plan.root ≢ Some n))
 
 -- ---- definitions
@@ -96,4 +100,10 @@ without_all (k ∷ ks) ms = without k (without_all ks ms)
 
 -- what was there before the running call
 abbrev pub undone : Work → Work
-undone w = record { names = take w.kept w.names; definitions = without_all w.begun w.definitions; begun = []; kept = w.kept; meets_root = false }
+undone w = record {
+  names = take w.kept w.names;
+  definitions = without_all w.begun w.definitions;
+  begun = [];
+  kept = w.kept;
+  meets_root = false;
+}

@@ -10,6 +10,8 @@ use Rattle.schemars_naming.specs.Work.{Work}
 
 abbrev pub work_code : Coded Work
 work_code =
-    code_by (Naming × (Members × (List Text × (ℕ × Bool)))) (coded× naming_code (coded× members_code (coded× (coded_list text_code) (coded× coded_ℕ coded_bool)))) (λ w. (w.names, (w.definitions, (w.begun, (w.kept, w.meets_root)))))
+    code_by (Naming × (Members × (List Text × (ℕ × Bool)))) (coded× naming_code
+    (coded× members_code (coded× (coded_list text_code) (coded× coded_ℕ coded_bool))))
+    (λ w. (w.names, (w.definitions, (w.begun, (w.kept, w.meets_root)))))
     (λ p. record { names = p.0; definitions = p.1.0; begun = p.1.1.0; kept = p.1.1.1.0; meets_root = p.1.1.1.1 })
     (λ _. refl)

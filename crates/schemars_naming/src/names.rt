@@ -1,5 +1,6 @@
 //! Which rows have names.
-ghost use Rattle.std.specs.Prelude.{◌≡◌, ◌+◌, ◌<◌, ◌^◌, ◌++◌, ◌∷◌, [], false, length, None, IfOk, OnOk, OnErr, option_map, string_bytes, take};
+ghost use Rattle.std.specs.Prelude.{◌≡◌, ◌+◌, ◌<◌, ◌^◌, ◌++◌, ◌∷◌, [], false, length, None, IfOk, OnOk, OnErr};
+ghost use Rattle.std.specs.Prelude.{option_map, string_bytes, take};
 ghost use Rattle.schemars_naming.specs.Naming.{name_of, is_used, candidate, IsOneToOne, IsFirstUnused};
 
 use indexmap::IndexSet;

@@ -1,5 +1,6 @@
 //! What documents are made into.
-ghost use Rattle.std.specs.Prelude.{ℕ, List, true, false, map, ◌≡◌, ◌∷◌, ◌++◌, ◌||◌, [], None, Some, length, Contains, IfOk, OnOk, OnErr, option_map, is_some, string_bytes};
+ghost use Rattle.std.specs.Prelude.{ℕ, List, true, false, map, ◌≡◌, ◌∷◌, ◌++◌, ◌||◌, [], None, Some, length, Contains};
+ghost use Rattle.std.specs.Prelude.{IfOk, OnOk, OnErr, option_map, is_some, string_bytes};
 ghost use Rattle.serde_json.specs.Data.{boolean, put, no_members};
 ghost use Rattle.serde_json.specs.Find.{get_member, as_object};
 ghost use Rattle.schemars_schema.specs.SchemaData.{members_in};
@@ -42,7 +43,13 @@ impl Model for Work {
 
     ghost coded = { work_code };
 
-    ghost view = { λ w. record { names = w.names; definitions = members_in w.definitions; begun = map string_bytes w.begun.items; kept = w.kept; meets_root = w.meets_root } };
+    ghost view = { λ w. record {
+      names = w.names;
+      definitions = members_in w.definitions;
+      begun = map string_bytes w.begun.items;
+      kept = w.kept;
+      meets_root = w.meets_root;
+    } };
 
     ghost invariant = { λ w. (is_some (as_object w.definitions) ≡ true) × (w.kept ≤ length w.names) };
 }
@@ -96,7 +103,10 @@ impl Work {
 
     /// Begins a definition, which is `false` until it is finished.
     pub fn begin(&mut self, alloc: Global, name: &str) -> Result<(), AllocError>
-        ensures ok { OnOk result (self.new ≡ record self.old { definitions = put name.now (boolean false) self.old.definitions; begun = self.old.begun ++ name.now ∷ [] }) }
+        ensures ok { OnOk result (self.new ≡ record self.old {
+          definitions = put name.now (boolean false) self.old.definitions;
+          begun = self.old.begun ++ name.now ∷ [];
+        }) }
         ensures err { OnErr result (self.new ≡ self.old) }
     {
         let key = String::from_str(alloc, name)?;
@@ -186,7 +196,12 @@ impl Work {
     /// Keeps the names that were added, and takes the definitions back.
     pub fn forget(&mut self)
         ensures one_to_one { IsOneToOne self.old.names }
-        ensures kept { self.new ≡ record self.old { definitions = without_all self.old.begun self.old.definitions; begun = []; kept = length self.old.names; meets_root = false } }
+        ensures kept { self.new ≡ record self.old {
+          definitions = without_all self.old.begun self.old.definitions;
+          begun = [];
+          kept = length self.old.names;
+          meets_root = false;
+        } }
     {
         take_out(&mut self.definitions, &mut self.begun);
         self.keep();

@@ -1,7 +1,9 @@
 -- What a schema says of null and of other values once null is allowed.
-use Rattle.std.proofs.Common.{◌≡◌, ◌⊎◌, inl, inr, List, [], ◌∷◌, ◌++◌, Option, Some, None, Bool, true, false, refl, sym, ap, ◌∙◌, true≢false}
+use Rattle.std.proofs.Common.{◌≡◌, ◌⊎◌, inl, inr, List, [], ◌∷◌, ◌++◌, Option, Some, None, Bool, true, false, refl, sym}
+use Rattle.std.proofs.Common.{ap, ◌∙◌, true≢false}
 use Rattle.std.specs.Prelude.{codes, bytes_eq, ◌||◌, ◌&&◌, if◌then◌else◌, is_some}
-use Rattle.serde_json.specs.Data.{Data, null, boolean, number, string, array, object, Items, no_items, item, Members, no_members, member, put}
+use Rattle.serde_json.specs.Data.{Data, null, boolean, number, string, array, object, Items, no_items, item, Members}
+use Rattle.serde_json.specs.Data.{no_members, member, put}
 use Rattle.serde_json.specs.Find.{get_member}
 use Rattle.serde_json.specs.View.{view, items_view, members_view}
 use Rattle.serde_json.specs.declared.value.Value.{Value}
@@ -24,11 +26,16 @@ use Rattle.schemars_schema.specs.Verdict.{Verdict, Yes, No, Open, both, verdict,
 use Rattle.schemars_json.specs.Json.{Text, json_eq, is_among}
 use Rattle.schemars_schema.specs.SchemaData.{IsSchema}
 use Rattle.schemars_json.specs.OrderedText.{is_listed}
-use Rattle.schemars_schema.specs.Acceptance.{Patterns, Judge, Context, Raw, judge, read_data, read_items, all_keywords, where_some, type_says, enum_says, texts_in, type_names, are_type_names, is_of_type, is_of_some_type, is_null, each_says, both_some, nothing}
+use Rattle.schemars_schema.specs.Acceptance.{Patterns, Judge, Context, Raw, judge, read_data, read_items, all_keywords}
+use Rattle.schemars_schema.specs.Acceptance.{where_some, type_says, enum_says, texts_in, type_names, are_type_names}
+use Rattle.schemars_schema.specs.Acceptance.{is_of_type, is_of_some_type, is_null, each_says, both_some, nothing}
 use Rattle.schemars_schema.proofs.Verdicts.{both-yes, either-verdict}
 use Rattle.schemars_schema.proofs.Objects.{schema-judge, judge-object, says, says-agree}
-use Rattle.schemars_rewrite.specs.AllowNull.{null_schema, is_combined, is_null_choice, offers_null, holds_text, holds_null, with_item, type_with_null, null_in_type, enum_with_null, null_in_enum, null_in_const, null_in_values, or_null, allow_null}
-use Rattle.schemars_rewrite.specs.NullLaw.{text_items, HasTypeForm, zero_schema, AcceptsNull, SomeAcceptsNull, OffersNull, IsChoice, IsPlain, IsNullable, context2020_12, AcceptsNullToo}
+use Rattle.schemars_rewrite.specs.AllowNull.{null_schema, is_combined, is_null_choice, offers_null, holds_text}
+use Rattle.schemars_rewrite.specs.AllowNull.{holds_null, with_item, type_with_null, null_in_type, enum_with_null}
+use Rattle.schemars_rewrite.specs.AllowNull.{null_in_enum, null_in_const, null_in_values, or_null, allow_null}
+use Rattle.schemars_rewrite.specs.NullLaw.{text_items, HasTypeForm, zero_schema, AcceptsNull, SomeAcceptsNull}
+use Rattle.schemars_rewrite.specs.NullLaw.{OffersNull, IsChoice, IsPlain, IsNullable, context2020_12, AcceptsNullToo}
 
 -- ---- truth values
 
@@ -70,7 +77,8 @@ are_names_append : (ts : List Text) → are_type_names ts ≡ true → are_type_
 are_names_append [] h = refl
 are_names_append (t ∷ ts) h = go (is_listed t type_names) (are_names_append ts) h
   where
-    go : (b : Bool) → (are_type_names ts ≡ true → are_type_names (ts ++ codes "null" ∷ []) ≡ true) → b && are_type_names ts ≡ true → b && are_type_names (ts ++ codes "null" ∷ []) ≡ true
+    go : (b : Bool) → (are_type_names ts ≡ true → are_type_names (ts ++ codes "null" ∷ []) ≡ true) → b && are_type_names ts ≡ true
+        → b && are_type_names (ts ++ codes "null" ∷ []) ≡ true
     go true later h = later h
     go false later h = h
 
@@ -93,7 +101,8 @@ type_plus (Some d) = Some (type_with_null d)
 abbrev Says : Option Data → Data → Verdict
 Says type v = type_says false type None v
 
-names_say : (ts : List Text) → are_type_names ts ≡ true → (v : Data) → Says (Some (array (text_items ts))) v ≡ verdict (is_of_some_type ts v)
+names_say : (ts : List Text) → are_type_names ts ≡ true → (v : Data)
+    → Says (Some (array (text_items ts))) v ≡ verdict (is_of_some_type ts v)
 names_say ts h v = rw (texts_in-text_items ts, h)
 
 name_says : (t : Text) → is_listed t type_names ≡ true → (v : Data) → Says (Some (string t)) v ≡ verdict (is_of_type t v)
@@ -104,14 +113,17 @@ unfolding type_plus
 type_other None h v other = refl
 type_other (Some (string t)) h v other = go (bytes_eq t (codes "null"))
   where
-    go : (b : Bool) → Says (Some (if b then string t else array (item (string t) (item (string (codes "null")) no_items)))) v ≡ Says (Some (string t)) v
+    go : (b : Bool) → Says (Some (if b then string t else array (item (string t) (item (string (codes "null")) no_items)))) v
+        ≡ Says (Some (string t)) v
     go true = refl
     go false = rw (h, no_null_type v other)
 type_other (Some (array ds)) h v other = rw h.1 (go (holds_text (codes "null") (text_items h.0)))
   where
-    go : (b : Bool) → Says (Some (if b then array (text_items h.0) else array (with_item (text_items h.0) (string (codes "null"))))) v ≡ Says (Some (array (text_items h.0))) v
+    go : (b : Bool) → Says (Some (if b then array (text_items h.0) else array (with_item (text_items h.0) (string (codes "null"))))) v
+        ≡ Says (Some (array (text_items h.0))) v
     go true = refl
-    go false = rw with_item-text_items (names_say (h.0 ++ codes "null" ∷ []) (are_names_append h.0 h.2) v ∙ (ap verdict (types_append h.0 v other) ∙ sym (names_say h.0 h.2 v)))
+    go false = rw with_item-text_items (names_say (h.0 ++ codes "null" ∷ []) (are_names_append h.0 h.2) v
+        ∙ (ap verdict (types_append h.0 v other) ∙ sym (names_say h.0 h.2 v)))
 type_other (Some null) h v other = absurd h
 type_other (Some (boolean b)) h v other = absurd h
 type_other (Some (number n)) h v other = absurd h
@@ -122,7 +134,8 @@ unfolding type_plus
 type_null None h = refl
 type_null (Some (string t)) h = go (bytes_eq t (codes "null")) refl
   where
-    go : (b : Bool) → bytes_eq t (codes "null") ≡ b → Says (Some (if b then string t else array (item (string t) (item (string (codes "null")) no_items)))) null ≡ Yes
+    go : (b : Bool) → bytes_eq t (codes "null") ≡ b → Says (Some (if b then string t else
+        array (item (string t) (item (string (codes "null")) no_items)))) null ≡ Yes
     go true e = name_says t h null ∙ ap verdict e
     go false e = rw (h, e)
 type_null (Some (array ds)) h = rw h.1 (go (holds_text (codes "null") (text_items h.0)) refl)
@@ -130,7 +143,8 @@ type_null (Some (array ds)) h = rw h.1 (go (holds_text (codes "null") (text_item
     go : (b : Bool) → holds_text (codes "null") (text_items h.0) ≡ b
         → Says (Some (if b then array (text_items h.0) else array (with_item (text_items h.0) (string (codes "null"))))) null ≡ Yes
     go true e = names_say h.0 h.2 null ∙ ap verdict (sym (holds_text-text_items h.0) ∙ e)
-    go false e = rw with_item-text_items (names_say (h.0 ++ codes "null" ∷ []) (are_names_append h.0 h.2) null ∙ ap verdict (types_null h.0))
+    go false e = rw with_item-text_items (names_say (h.0 ++ codes "null" ∷ []) (are_names_append h.0 h.2) null
+        ∙ ap verdict (types_null h.0))
 type_null (Some null) h = absurd h
 type_null (Some (boolean b)) h = absurd h
 type_null (Some (number n)) h = absurd h
@@ -207,20 +221,24 @@ with_null ms = null_in_values (with_null_type ms)
 put_other : (k l : Text) (d : Data) (ms : Members) → bytes_eq k l ≡ false → get_member k (put l d ms) ≡ get_member k ms
 put_other k l d ms e = get_member-put_other k l d ms (λ same. true≢false (sym ((bytes_eq-Decides k l).1 same) ∙ e))
 
-null_in_type-other : (k : Text) (d : Option Data) (ms : Members) → bytes_eq k (codes "type") ≡ false → get_member k (null_in_type d ms) ≡ get_member k ms
+null_in_type-other : (k : Text) (d : Option Data) (ms : Members) → bytes_eq k (codes "type") ≡ false
+    → get_member k (null_in_type d ms) ≡ get_member k ms
 null_in_type-other k None ms e = refl
 null_in_type-other k (Some d) ms e = put_other k (codes "type") (type_with_null d) ms e
 
-null_in_type-type : (d : Option Data) (ms : Members) → get_member (codes "type") ms ≡ d → get_member (codes "type") (null_in_type d ms) ≡ type_plus d
+null_in_type-type : (d : Option Data) (ms : Members) → get_member (codes "type") ms ≡ d
+    → get_member (codes "type") (null_in_type d ms) ≡ type_plus d
 unfolding type_plus
 null_in_type-type None ms e = e
 null_in_type-type (Some d) ms e = get_member-put (codes "type") _ ms
 
-null_in_enum-other : (k : Text) (d : Option Data) (ms : Members) → bytes_eq k (codes "enum") ≡ false → get_member k (null_in_enum d ms) ≡ get_member k ms
+null_in_enum-other : (k : Text) (d : Option Data) (ms : Members) → bytes_eq k (codes "enum") ≡ false
+    → get_member k (null_in_enum d ms) ≡ get_member k ms
 null_in_enum-other k None ms e = refl
 null_in_enum-other k (Some d) ms e = put_other k (codes "enum") (enum_with_null d) ms e
 
-null_in_enum-enum : (d : Option Data) (ms : Members) → get_member (codes "enum") ms ≡ d → get_member (codes "enum") (null_in_enum d ms) ≡ enum_plus d
+null_in_enum-enum : (d : Option Data) (ms : Members) → get_member (codes "enum") ms ≡ d
+    → get_member (codes "enum") (null_in_enum d ms) ≡ enum_plus d
 unfolding enum_plus
 null_in_enum-enum None ms e = e
 null_in_enum-enum (Some d) ms e = get_member-put (codes "enum") _ ms
@@ -229,7 +247,8 @@ at_type : (ms : Members) (k : Text) → bytes_eq k (codes "type") ≡ false → 
 at_type ms k e = null_in_type-other k (get_member (codes "type") ms) ms e
 
 -- where no `const` stands, the type and the values are changed alone
-without_const : (ms : Members) → get_member (codes "const") ms ≡ None → with_null ms ≡ null_in_enum (get_member (codes "enum") ms) (with_null_type ms)
+without_const : (ms : Members) → get_member (codes "const") ms ≡ None
+    → with_null ms ≡ null_in_enum (get_member (codes "enum") ms) (with_null_type ms)
 without_const ms none =
     ap (λ o. null_in_const o (with_null_type ms)) (at_type ms (codes "const") refl ∙ none)
     ∙ ap (λ o. null_in_enum o (with_null_type ms)) (at_type ms (codes "enum") refl)
@@ -239,18 +258,21 @@ abbrev with_both : Option Data → Option Data → Raw → Raw
 with_both type values g k = if bytes_eq k (codes "type") then type else (if bytes_eq k (codes "enum") then values else g k)
 
 with_null-agree : (ms : Members) → get_member (codes "const") ms ≡ None → (k : Text)
-    → get_member k (with_null ms) ≡ with_both (type_plus (get_member (codes "type") ms)) (enum_plus (get_member (codes "enum") ms)) (λ l. get_member l ms) k
+    → get_member k (with_null ms) ≡ with_both (type_plus (get_member (codes "type") ms)) (enum_plus (get_member (codes "enum") ms))
+    (λ l. get_member l ms) k
 with_null-agree ms none k = ap (get_member k) (without_const ms none) ∙ go (bytes_eq k (codes "type")) (bytes_eq k (codes "enum")) refl refl
   where
     values : Option Data
     values = get_member (codes "enum") ms
 
     go : (b d : Bool) → bytes_eq k (codes "type") ≡ b → bytes_eq k (codes "enum") ≡ d
-        → get_member k (null_in_enum values (with_null_type ms)) ≡ (if b then type_plus (get_member (codes "type") ms) else (if d then enum_plus values else get_member k ms))
+        → get_member k (null_in_enum values (with_null_type ms)) ≡ (if b then type_plus (get_member (codes "type") ms) else
+        (if d then enum_plus values else get_member k ms))
     go true d e f =
         rw ((bytes_eq-Decides k (codes "type")).0 e)
         (null_in_enum-other (codes "type") values (with_null_type ms) refl ∙ null_in_type-type (get_member (codes "type") ms) ms refl)
-    go false true e f = rw ((bytes_eq-Decides k (codes "enum")).0 f) (null_in_enum-enum values (with_null_type ms) (at_type ms (codes "enum") refl))
+    go false true e f = rw ((bytes_eq-Decides k (codes "enum")).0 f) (null_in_enum-enum values (with_null_type ms)
+        (at_type ms (codes "enum") refl))
     go false false e f = null_in_enum-other k values (with_null_type ms) f ∙ at_type ms k e
 
 silent : {A : Type 0} (o : Option A) → where_some o (λ x. Yes) ≡ Yes
@@ -275,7 +297,8 @@ is_null_value (object ms) h = absurd (true≢false (sym h))
 
 -- no keyword that combines schemas stands there
 alone_parts : (ms : Members) → is_combined (object ms) ≡ false
-    → (get_member (codes "allOf") ms ≡ None) × (get_member (codes "anyOf") ms ≡ None) × (get_member (codes "oneOf") ms ≡ None) × (get_member (codes "$ref") ms ≡ None)
+    → (get_member (codes "allOf") ms ≡ None) × (get_member (codes "anyOf") ms ≡ None) × (get_member (codes "oneOf") ms ≡ None)
+    × (get_member (codes "$ref") ms ≡ None)
 alone_parts ms h =
     let a = or-parts _ _ h in
     let b = or-parts _ _ a.1 in
@@ -373,8 +396,10 @@ module _ (patterns : Patterns) (f : Text → Judge) where
   unfolding says all_keywords
   other_says g h v other = rw (type_other (g (codes "type")) h v other, enum_other (g (codes "enum")) v other)
 
-  null_says : (g : Raw) → HasTypeForm (g (codes "type")) → (g (codes "const") ≡ None) → ((g (codes "not") ≡ None) ⊎ (g (codes "not") ≡ Some zero_schema))
-      → (g (codes "allOf") ≡ None) → (g (codes "anyOf") ≡ None) → (g (codes "oneOf") ≡ None) → (g (codes "$ref") ≡ None) → (says c (nulled g)).fits null ≡ Yes
+  null_says : (g : Raw) → HasTypeForm (g (codes "type")) → (g (codes "const") ≡ None)
+      → ((g (codes "not") ≡ None) ⊎ (g (codes "not") ≡ Some zero_schema))
+      → (g (codes "allOf") ≡ None) → (g (codes "anyOf") ≡ None) → (g (codes "oneOf") ≡ None) → (g (codes "$ref") ≡ None)
+      → (says c (nulled g)).fits null ≡ Yes
   unfolding says all_keywords read_data json_eq
   null_says g h no_const (inl no_not) no_all no_any no_one no_ref =
       rw (type_null (g (codes "type")) h, enum_null (g (codes "enum")), no_const, no_not, no_all, no_any, no_one, no_ref) (simp silent)
@@ -390,58 +415,72 @@ module _ (patterns : Patterns) (f : Text → Judge) where
   of_null (array vs) = refl
   of_null (object ms) = refl
 
-  or_null-says : (t : Data) → IsSchema t → (v : Data) (b : Bool) → (judge c t).fits v ≡ verdict b → (judge c (or_null t)).fits v ≡ verdict (is_null v || b)
+  or_null-says : (t : Data) → IsSchema t → (v : Data) (b : Bool) → (judge c t).fits v ≡ verdict b
+      → (judge c (or_null t)).fits v ≡ verdict (is_null v || b)
   unfolding read_data all_keywords
-  or_null-says t is v b e = rw (schema-judge c t is, both-yes, e, of_null v) (either-verdict b (is_null v) ∙ ap verdict (or-swap b (is_null v)))
+  or_null-says t is v b e = rw (schema-judge c t is, both-yes, e, of_null v)
+      (either-verdict b (is_null v) ∙ ap verdict (or-swap b (is_null v)))
 
-  some_listed : (ds : Items) → SomeAcceptsNull ds → (ss : List Judge) → read_items c ds ≡ Some ss → none_of (map (λ s. s.fits null) ss) ≡ Yes → ⊥
+  some_listed : (ds : Items) → SomeAcceptsNull ds → (ss : List Judge) → read_items c ds ≡ Some ss
+      → none_of (map (λ s. s.fits null) ss) ≡ Yes → ⊥
   unfolding read_data
   some_listed no_items some ss is = absurd some
-  some_listed (item d ds) some ss is = go (λ more rest later. some_listed ds more rest later) (read_data c d).schema (read_items c ds) refl refl is
+  some_listed (item d ds) some ss is = go (λ more rest later. some_listed ds more rest later) (read_data c d).schema (read_items c ds)
+      refl refl is
     where
       go : (SomeAcceptsNull ds → (rest : List Judge) → read_items c ds ≡ Some rest → none_of (map (λ s. s.fits null) rest) ≡ Yes → ⊥)
-          → (s : Option Judge) (o : Option (List Judge)) → (read_data c d).schema ≡ s → read_items c ds ≡ o → both_some (λ s ss. s ∷ ss) s o ≡ Some ss → none_of (map (λ s. s.fits null) ss) ≡ Yes → ⊥
+          → (s : Option Judge) (o : Option (List Judge)) → (read_data c d).schema ≡ s → read_items c ds ≡ o
+          → both_some (λ s ss. s ∷ ss) s o ≡ Some ss → none_of (map (λ s. s.fits null) ss) ≡ Yes → ⊥
       go below None o first later at = cc
       go below (Some s) None first later at = cc
       go below (Some s) (Some rest) first later at = rw (← (some_inj at)) (here some)
         where
           here : AcceptsNull d ⊎ SomeAcceptsNull ds → both (opposite (s.fits null)) (none_of (map (λ s. s.fits null) rest)) ≡ Yes → ⊥
-          here (inl accepts) = let fits : s.fits null ≡ Yes = sym (ap (λ o. (judge_in o).fits null) first) ∙ accepts patterns f in rw fits (refused (none_of (map (λ s. s.fits null) rest)))
+          here (inl accepts) = let fits : s.fits null ≡ Yes = sym (ap (λ o. (judge_in o).fits null) first) ∙ accepts patterns f in
+              rw fits (refused (none_of (map (λ s. s.fits null) rest)))
           here (inr more) = refused_later (opposite (s.fits null)) (none_of (map (λ s. s.fits null) rest)) (below more rest later)
 
   always : (b : Bool) → Yes ≡ verdict b → b ≡ true
   always true h = refl
   always false h = cc
 
-  choice_accepts : (ds : Items) → SomeAcceptsNull ds → (b : Bool) → (judge c (object (member (codes "anyOf") (array ds) no_members))).fits null ≡ verdict b → b ≡ true
+  choice_accepts : (ds : Items) → SomeAcceptsNull ds → (b : Bool) → (judge c
+      (object (member (codes "anyOf") (array ds) no_members))).fits null ≡ verdict b → b ≡ true
   unfolding read_data all_keywords
-  choice_accepts ds some b e = go (read_items c ds) refl (sym (both-yes (each_says any_of (Some (record { schema = None; listed = read_items c ds; named = None })) null)) ∙ e)
+  choice_accepts ds some b e = go (read_items c ds) refl (sym (both-yes
+      (each_says any_of (Some (record { schema = None; listed = read_items c ds; named = None })) null)) ∙ e)
     where
-      go : (o : Option (List Judge)) → read_items c ds ≡ o → each_says any_of (Some (record { schema = None; listed = o; named = None })) null ≡ verdict b → b ≡ true
+      go : (o : Option (List Judge)) → read_items c ds ≡ o → each_says any_of (Some (record { schema = None; listed = o; named = None }))
+          null ≡ verdict b → b ≡ true
       go None is h = always b h
       go (Some ss) is h = accepted (none_of (map (λ s. s.fits null) ss)) b (some_listed ds some ss is) h
 
-  choice_says : (ms : Members) → IsChoice ms → is_null_choice (object ms) ≡ true → (v : Data) (n b : Bool) → is_null v ≡ n → (judge c (object ms)).fits v ≡ verdict b
+  choice_says : (ms : Members) → IsChoice ms → is_null_choice (object ms) ≡ true → (v : Data) (n b : Bool) → is_null v ≡ n
+      → (judge c (object ms)).fits v ≡ verdict b
       → (judge c (object ms)).fits v ≡ verdict (n || b)
   choice_says ms p stays v false b is e = e
   choice_says ms p stays v true b is e =
       let only = only_choice ms stays (p.offers stays) in
-      let at_null : (judge c (object (member (codes "anyOf") (array only.0) no_members))).fits null ≡ verdict b = ap (λ ns. (judge c (object ns)).fits null) (sym only.1) ∙ (ap (judge c (object ms)).fits (sym (is_null_value v is)) ∙ e) in
+      let at_null : (judge c (object (member (codes "anyOf") (array only.0) no_members))).fits null ≡ verdict b =
+      ap (λ ns. (judge c (object ns)).fits null) (sym only.1) ∙ (ap (judge c (object ms)).fits (sym (is_null_value v is)) ∙ e) in
       e ∙ ap verdict (choice_accepts only.0 only.2 b at_null)
 
-  plain_says : (ms : Members) → is_combined (object ms) ≡ false → IsPlain ms → (v : Data) (n b : Bool) → is_null v ≡ n → (judge c (object ms)).fits v ≡ verdict b
+  plain_says : (ms : Members) → is_combined (object ms) ≡ false → IsPlain ms → (v : Data) (n b : Bool) → is_null v ≡ n
+      → (judge c (object ms)).fits v ≡ verdict b
       → (judge c (object (with_null ms))).fits v ≡ verdict (n || b)
   plain_says ms alone p v true b is e =
       let g : Raw = λ k. get_member k ms in
       let parts = alone_parts ms alone in
-      rw (is_null_value v is) (ap (λ j. j.fits null) (judge-object c (with_null ms) ∙ says-agree c _ _ (λ k key. with_null-agree ms p.no_const k))
+      rw (is_null_value v is) (ap (λ j. j.fits null) (judge-object c (with_null ms)
+      ∙ says-agree c _ _ (λ k key. with_null-agree ms p.no_const k))
       ∙ null_says g p.type_form p.no_const p.not_form parts.0 parts.1 parts.2 parts.3)
   plain_says ms alone p v false b is e =
       let g : Raw = λ k. get_member k ms in
       ap (λ j. j.fits v) (judge-object c (with_null ms) ∙ says-agree c _ _ (λ k key. with_null-agree ms p.no_const k))
       ∙ (other_says g p.type_form v is ∙ (sym (ap (λ j. j.fits v) (judge-object c ms)) ∙ e))
 
-  pub allow_null-says : (t : Data) → IsNullable t → (v : Data) (b : Bool) → (judge c t).fits v ≡ verdict b → (judge c (allow_null t)).fits v ≡ verdict (is_null v || b)
+  pub allow_null-says : (t : Data) → IsNullable t → (v : Data) (b : Bool) → (judge c t).fits v ≡ verdict b
+      → (judge c (allow_null t)).fits v ≡ verdict (is_null v || b)
   unfolding read_data
   allow_null-says (boolean true) r v true e = ap verdict (sym (or-true (is_null v)))
   allow_null-says (boolean true) r v false e = cc
@@ -475,20 +514,33 @@ type_plus-form (Some (array ds)) h = go (holds_text (codes "null") ds)
   where
     go : (b : Bool) → HasTypeForm (Some (if b then array ds else array (with_item ds (string (codes "null")))))
     go true = h
-    go false = (h.0 ++ codes "null" ∷ [], ap (λ x. with_item x (string (codes "null"))) h.1 ∙ with_item-text_items (codes "null") h.0, are_names_append h.0 h.2)
+    go false = (
+      h.0 ++ codes "null" ∷ [],
+      ap (λ x. with_item x (string (codes "null"))) h.1 ∙ with_item-text_items (codes "null") h.0,
+      are_names_append h.0 h.2,
+    )
 type_plus-form (Some null) h = absurd h
 type_plus-form (Some (boolean b)) h = absurd h
 type_plus-form (Some (number n)) h = absurd h
 type_plus-form (Some (object ms)) h = absurd h
 
-at_other : (ms : Members) → get_member (codes "const") ms ≡ None → (k : Text) → bytes_eq k (codes "type") ≡ false → bytes_eq k (codes "enum") ≡ false → get_member k (with_null ms) ≡ get_member k ms
+at_other : (ms : Members) → get_member (codes "const") ms ≡ None → (k : Text) → bytes_eq k (codes "type") ≡ false
+    → bytes_eq k (codes "enum") ≡ false → get_member k (with_null ms) ≡ get_member k ms
 at_other ms none k e f = with_null-agree ms none k ∙ rw (e, f) refl
 
 plain-with_null : (ms : Members) → IsPlain ms → IsPlain (with_null ms)
 plain-with_null ms p =
-    let at : (k : Text) → bytes_eq k (codes "type") ≡ false → bytes_eq k (codes "enum") ≡ false → get_member k (with_null ms) ≡ get_member k ms = at_other ms p.no_const in
+    let at : (k : Text) → bytes_eq k (codes "type") ≡ false → bytes_eq k (codes "enum") ≡ false
+    → get_member k (with_null ms) ≡ get_member k ms = at_other ms p.no_const in
     record {
-      alone = rw (at (codes "if") refl refl, at (codes "allOf") refl refl, at (codes "anyOf") refl refl, at (codes "oneOf") refl refl, at (codes "$ref") refl refl, at (codes "not") refl refl) p.alone;
+      alone = rw (
+        at (codes "if") refl refl,
+        at (codes "allOf") refl refl,
+        at (codes "anyOf") refl refl,
+        at (codes "oneOf") refl refl,
+        at (codes "$ref") refl refl,
+        at (codes "not") refl refl,
+      ) p.alone;
       type_form = rw (with_null-agree ms p.no_const (codes "type")) (type_plus-form _ p.type_form);
       no_const = at (codes "const") refl refl ∙ p.no_const;
       not_form = rw (at (codes "not") refl refl) p.not_form;
@@ -499,7 +551,8 @@ nullable-allow_null (boolean true) r = tt
 nullable-allow_null (boolean false) r = inr (record { alone = refl; type_form = refl; no_const = refl; not_form = inl refl })
 nullable-allow_null (object ms) r = go (is_null_choice (object ms)) (is_combined (object ms)) refl r
   where
-    go : (s o : Bool) → is_combined (object ms) ≡ o → IsChoice ms ⊎ IsPlain ms → IsNullable (if s then object ms else if o then or_null (object ms) else object (with_null ms))
+    go : (s o : Bool) → is_combined (object ms) ≡ o → IsChoice ms ⊎ IsPlain ms
+        → IsNullable (if s then object ms else if o then or_null (object ms) else object (with_null ms))
     go true o is h = h
     go false true is h = inl (record { combined = refl; offers = λ stays. inr (inl (λ patterns follow. of_null patterns follow null)) })
     go false false is (inl p) = absurd (true≢false (sym p.combined ∙ is))
@@ -522,7 +575,8 @@ nullable-schema (array ds) h = absurd h
 pub allow_null-law : (old new : Data) → new ≡ allow_null old → IsNullable old → AcceptsNullToo old new
 allow_null-law old new e r patterns follow v b h = rw e (allow_null-says patterns follow old r v b h)
 
-pub empty_accepts : (b : Bool) (es : List Entry) → (IsTrue b → length es ≡ 0) → (length es ≡ 0 → IsTrue b) → b ≡ accepts_everything (Some (object (members_view es)))
+pub empty_accepts : (b : Bool) (es : List Entry) → (IsTrue b → length es ≡ 0) → (length es ≡ 0 → IsTrue b)
+    → b ≡ accepts_everything (Some (object (members_view es)))
 empty_accepts b [] none all = all refl
 empty_accepts true (e ∷ es) none all = absurd (omega (arith, none refl))
 empty_accepts false (e ∷ es) none all = refl

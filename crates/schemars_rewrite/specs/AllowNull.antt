@@ -1,6 +1,8 @@
 -- A schema that accepts null too.
-use Rattle.std.specs.Prelude.{◌&&◌, ◌||◌, ◌==◌, [], ◌∷◌, Bool, true, false, Option, Some, None, is_some, option_and_then, if◌then◌else◌, codes, bytes_eq}
-use Rattle.serde_json.specs.Data.{Data, null, boolean, number, string, array, object, Items, no_items, item, Members, no_members, member, put}
+use Rattle.std.specs.Prelude.{◌&&◌, ◌||◌, ◌==◌, [], ◌∷◌, Bool, true, false, Option, Some, None, is_some}
+use Rattle.std.specs.Prelude.{option_and_then, if◌then◌else◌, codes, bytes_eq}
+use Rattle.serde_json.specs.Data.{Data, null, boolean, number, string, array, object, Items, no_items, item, Members}
+use Rattle.serde_json.specs.Data.{no_members, member, put}
 use Rattle.serde_json.specs.Events.{members_len}
 use Rattle.serde_json.specs.Find.{get, get_member, as_object, as_str}
 use Rattle.schemars_json.specs.Json.{Text}
@@ -28,7 +30,8 @@ abbrev pub is_combined : Data → Bool
 is_combined s =
     is_some (get (codes "if") s)
     || (is_some (get (codes "allOf") s)
-    || (is_some (get (codes "anyOf") s) || (is_some (get (codes "oneOf") s) || (is_some (get (codes "$ref") s) || accepts_everything (get (codes "not") s)))))
+    || (is_some (get (codes "anyOf") s) || (is_some (get (codes "oneOf") s) ||
+    (is_some (get (codes "$ref") s) || accepts_everything (get (codes "not") s)))))
 
 abbrev pub is_text : Text → Option Text → Bool
 is_text t None = false

@@ -1,5 +1,6 @@
 -- The references and the floats of an object as members are put into it.
-use Rattle.std.proofs.Common.{◌≡◌, List, [], ◌∷◌, ◌++◌, Bool, true, false, Ordering, Less, Equal, Greater, refl, sym, ap, ◌∙◌, nat_cmp, true≢false}
+use Rattle.std.proofs.Common.{◌≡◌, List, [], ◌∷◌, ◌++◌, Bool, true, false, Ordering, Less, Equal, Greater, refl, sym}
+use Rattle.std.proofs.Common.{ap, ◌∙◌, nat_cmp, true≢false}
 use Rattle.std.specs.Prelude.{codes, bytes_eq, if◌then◌else◌, ◌||◌}
 use Rattle.std.specs.Ordering.{match_ordering}
 use Rattle.std.specs.Cmp.Lexicographic.{slice_cmp}
@@ -19,7 +20,8 @@ nil-parts : (xs ys : List Data) → xs ++ ys ≡ [] → (xs ≡ []) × (ys ≡ [
 nil-parts [] ys h = (refl, h)
 nil-parts (x ∷ xs) ys h = cc
 
-pub found_in_keywords-put : (k : Text) (d : Data) (ms : Members) → found_under k d ≡ [] → found_in_keywords ms ≡ [] → found_in_keywords (put k d ms) ≡ []
+pub found_in_keywords-put : (k : Text) (d : Data) (ms : Members) → found_under k d ≡ [] → found_in_keywords ms ≡ []
+    → found_in_keywords (put k d ms) ≡ []
 unfolding found_in
 found_in_keywords-put k d no_members here all = rw here
 found_in_keywords-put k d (member l e ms) here all = go (slice_cmp nat_cmp k l) refl (found_in_keywords-put k d ms here parts.1)
@@ -27,7 +29,8 @@ found_in_keywords-put k d (member l e ms) here all = go (slice_cmp nat_cmp k l) 
     parts : (found_under l e ≡ []) × (found_in_keywords ms ≡ [])
     parts = nil-parts (found_under l e) (found_in_keywords ms) all
 
-    go : (o : Ordering) → slice_cmp nat_cmp k l ≡ o → found_in_keywords (put k d ms) ≡ [] → found_in_keywords (match_ordering o (member k d (member l e ms)) (member l d ms) (member l e (put k d ms))) ≡ []
+    go : (o : Ordering) → slice_cmp nat_cmp k l ≡ o → found_in_keywords (put k d ms) ≡ []
+        → found_in_keywords (match_ordering o (member k d (member l e ms)) (member l d ms) (member l e (put k d ms))) ≡ []
     go Less is later = rw here all
     go Equal is later = rw (ap (λ x. found_under x d) (sym (exact_bytes k l is)) ∙ here) parts.1
     go Greater is later = rw parts.0 later
@@ -36,14 +39,16 @@ either_false : (a b : Bool) → a || b ≡ false → (a ≡ false) × (b ≡ fal
 either_false true b h = absurd (true≢false h)
 either_false false b h = (refl, h)
 
-pub members_have_float-put : (k : Text) (d : Data) (ms : Members) → has_float d ≡ false → members_have_float ms ≡ false → members_have_float (put k d ms) ≡ false
+pub members_have_float-put : (k : Text) (d : Data) (ms : Members) → has_float d ≡ false → members_have_float ms ≡ false
+    → members_have_float (put k d ms) ≡ false
 members_have_float-put k d no_members here all = rw here
 members_have_float-put k d (member l e ms) here all = go (slice_cmp nat_cmp k l) (members_have_float-put k d ms here parts.1)
   where
     parts : (has_float e ≡ false) × (members_have_float ms ≡ false)
     parts = either_false (has_float e) (members_have_float ms) all
 
-    go : (o : Ordering) → members_have_float (put k d ms) ≡ false → members_have_float (match_ordering o (member k d (member l e ms)) (member l d ms) (member l e (put k d ms))) ≡ false
+    go : (o : Ordering) → members_have_float (put k d ms) ≡ false → members_have_float
+        (match_ordering o (member k d (member l e ms)) (member l d ms) (member l e (put k d ms))) ≡ false
     go Less later = rw here all
     go Equal later = rw here parts.1
     go Greater later = rw parts.0 later

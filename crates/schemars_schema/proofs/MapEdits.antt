@@ -16,15 +16,18 @@ either_members : (b c : Bool) (xs ys : List Entry) → b ≡ c → members_view 
 either_members true c xs ys same = rw (← same) refl
 either_members false c xs ys same = rw (← same) refl
 
-pub members_view-remove_entry : (k : List ℕ) (es : List Entry) → members_view (remove_entry (is_at (λ l. slice_cmp nat_cmp k (string_bytes l))) es) ≡ without k (members_view es)
+pub members_view-remove_entry : (k : List ℕ) (es : List Entry) → members_view
+    (remove_entry (is_at (λ l. slice_cmp nat_cmp k (string_bytes l))) es) ≡ without k (members_view es)
 members_view-remove_entry k [] = refl
 members_view-remove_entry k (e ∷ es) =
     either_members _ (bytes_eq k (string_bytes e.0)) es _ (is_eq-slice_cmp k (string_bytes e.0)) ∙ rw (members_view-remove_entry k es) refl
 
-pub members_view-set_value : (k : List ℕ) (es : List Entry) (v : Value) → members_view (set_value (is_at (λ l. slice_cmp nat_cmp k (string_bytes l))) es v) ≡ replaced k (view v) (members_view es)
+pub members_view-set_value : (k : List ℕ) (es : List Entry) (v : Value)
+    → members_view (set_value (is_at (λ l. slice_cmp nat_cmp k (string_bytes l))) es v) ≡ replaced k (view v) (members_view es)
 members_view-set_value k [] v = refl
 members_view-set_value k (e ∷ es) v =
-    either_members _ (bytes_eq k (string_bytes e.0)) ((e.0, v) ∷ es) _ (is_eq-slice_cmp k (string_bytes e.0)) ∙ rw (members_view-set_value k es v) refl
+    either_members _ (bytes_eq k (string_bytes e.0)) ((e.0, v) ∷ es) _ (is_eq-slice_cmp k (string_bytes e.0))
+    ∙ rw (members_view-set_value k es v) refl
 
 pub object-as_object : (d : Data) (ms : Members) → Some ms ≡ as_object d → d ≡ object ms
 object-as_object (object ns) ms e = cc

@@ -1,5 +1,6 @@
 -- What an object says depends on what stands under its keywords alone.
-use Rattle.std.proofs.Common.{◌≡◌, List, [], ◌∷◌, Option, Some, None, Bool, true, false, Ordering, Less, Equal, Greater, refl, sym, ap, ◌∙◌, option_map, is_eq, true≢false}
+use Rattle.std.proofs.Common.{◌≡◌, List, [], ◌∷◌, Option, Some, None, Bool, true, false, Ordering, Less, Equal, Greater}
+use Rattle.std.proofs.Common.{refl, sym, ap, ◌∙◌, option_map, is_eq, true≢false}
 use Rattle.std.proofs.Math.Path.{fun_ext}
 use Rattle.std.specs.Prelude.{bytes_eq, if◌then◌else◌, ◌||◌, ◌&&◌, not}
 use Rattle.std.specs.Ordering.{match_ordering}
@@ -13,21 +14,25 @@ use Rattle.serde_json.proofs.Views.{get_member-put_other}
 use Rattle.schemars_json.specs.Json.{Text}
 use Rattle.schemars_schema.specs.SchemaData.{IsSchema}
 use Rattle.schemars_json.specs.OrderedText.{is_listed}
-use Rattle.schemars_schema.specs.Acceptance.{Context, Judge, Reading, Raw, judge, read_data, read_members, reading_at, keywords, all_keywords}
+use Rattle.schemars_schema.specs.Acceptance.{Context, Judge, Reading, Raw, judge, read_data, read_members, reading_at}
+use Rattle.schemars_schema.specs.Acceptance.{keywords, all_keywords}
 use Rattle.schemars_schema.specs.Annotations.{is_annotation, keyword_names}
 
-found : (o : Ordering) (b : Bool) (e : Reading) (rest : Option Reading) → is_eq o ≡ b → (if b then Some e else rest) ≡ match_ordering o rest (Some e) rest
+found : (o : Ordering) (b : Bool) (e : Reading) (rest : Option Reading) → is_eq o ≡ b
+    → (if b then Some e else rest) ≡ match_ordering o rest (Some e) rest
 found Less b e rest is = rw (← is)
 found Equal b e rest is = rw (← is)
 found Greater b e rest is = rw (← is)
 
-mapped : (o : Ordering) (f : Data → Reading) (a b c : Option Data) → match_ordering o (option_map f a) (option_map f b) (option_map f c) ≡ option_map f (match_ordering o a b c)
+mapped : (o : Ordering) (f : Data → Reading) (a b c : Option Data) → match_ordering o (option_map f a) (option_map f b) (option_map f c)
+    ≡ option_map f (match_ordering o a b c)
 mapped Less f a b c = refl
 mapped Equal f a b c = refl
 mapped Greater f a b c = refl
 
 -- the members read are the members, read
-pub reading_at-members : (c : Context) (ms : Members) (k : Text) → reading_at (read_members c ms) k ≡ option_map (read_data c) (get_member k ms)
+pub reading_at-members : (c : Context) (ms : Members) (k : Text) → reading_at (read_members c ms) k
+    ≡ option_map (read_data c) (get_member k ms)
 unfolding read_data
 reading_at-members c no_members k = refl
 reading_at-members c (member l d ms) k =
@@ -74,7 +79,8 @@ at_keywords-agree g h e k = go (is_listed k keyword_names) refl
 pub says-agree : (c : Context) (g h : Raw) → ((k : Text) → IsKeyword k → g k ≡ h k) → says c g ≡ says c h
 says-agree c g h e = sym (says-at_keywords c g) ∙ (ap (says c) (fun_ext (at_keywords-agree g h e)) ∙ says-at_keywords c h)
 
-pub judge-agree : (c : Context) (ms ns : Members) → ((k : Text) → IsKeyword k → get_member k ms ≡ get_member k ns) → judge c (object ms) ≡ judge c (object ns)
+pub judge-agree : (c : Context) (ms ns : Members) → ((k : Text) → IsKeyword k → get_member k ms ≡ get_member k ns)
+    → judge c (object ms) ≡ judge c (object ns)
 judge-agree c ms ns e = judge-object c ms ∙ (says-agree c (λ k. get_member k ms) (λ k. get_member k ns) e ∙ sym (judge-object c ns))
 
 -- ---- annotations are no keywords
@@ -99,7 +105,8 @@ listed_plain k (l ∷ ls) all is = go (bytes_eq k l) refl is (listed_plain k ls 
     parts : (not (is_annotation l) ≡ true) × (without_annotations ls ≡ true)
     parts = and-parts (not (is_annotation l)) (without_annotations ls) all
 
-    go : (b : Bool) → bytes_eq k l ≡ b → b || is_listed k ls ≡ true → (is_listed k ls ≡ true → is_annotation k ≡ false) → is_annotation k ≡ false
+    go : (b : Bool) → bytes_eq k l ≡ b → b || is_listed k ls ≡ true → (is_listed k ls ≡ true → is_annotation k ≡ false)
+        → is_annotation k ≡ false
     go true same is later = rw ((bytes_eq-Decides k l).0 same) (not-true (is_annotation l) parts.0)
     go false same is later = later is
 

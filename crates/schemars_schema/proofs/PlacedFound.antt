@@ -1,5 +1,7 @@
 -- What a pointer leads to once members were put at it.
-use Rattle.std.proofs.Common.{◌≡◌, ℕ, ◌<◌, List, [], ◌∷◌, ◌++◌, length, map, Option, Some, None, option_map, option_and_then, Bool, true, false, cond, Ordering, Less, Equal, Greater, nat_cmp, is_eq, refl, sym, ap, ◌∙◌, arith, append-nil, append_assoc, true≢false}
+use Rattle.std.proofs.Common.{◌≡◌, ℕ, ◌<◌, List, [], ◌∷◌, ◌++◌, length, map, Option, Some, None, option_map}
+use Rattle.std.proofs.Common.{option_and_then, Bool, true, false, cond, Ordering, Less, Equal, Greater, nat_cmp, is_eq}
+use Rattle.std.proofs.Common.{refl, sym, ap, ◌∙◌, arith, append-nil, append_assoc, true≢false}
 use Rattle.std.specs.Prelude.{◌==◌, if◌then◌else◌, bytes_eq, Result, Ok, Err, IfOk, IsTrue}
 use Rattle.std.specs.Cmp.Lexicographic.{slice_cmp}
 use Rattle.std.specs.Ordering.{match_ordering}
@@ -57,20 +59,26 @@ unfolding walk
 walk-follow part [] d = rw (append-nil part) (sym (only_step (step part d)))
 walk-follow part (x ∷ rest) d = go (x == 47) (λ e. walk-follow [] rest e) (walk-follow (part ++ x ∷ []) rest d)
   where
-    go : (b : Bool) → ((e : Data) → walk [] rest e ≡ follow (onto [] (cut rest)) e) → walk (part ++ x ∷ []) rest d ≡ follow (onto (part ++ x ∷ []) (cut rest)) d
-        → (if b then option_and_then (walk [] rest) (step part d) else walk (part ++ x ∷ []) rest d) ≡ follow (onto part (cond b ([] ∷ cut rest) (onto_first x (cut rest)))) d
+    go : (b : Bool) → ((e : Data) → walk [] rest e ≡ follow (onto [] (cut rest)) e)
+        → walk (part ++ x ∷ []) rest d ≡ follow (onto (part ++ x ∷ []) (cut rest)) d
+        → (if b then option_and_then (walk [] rest) (step part d) else walk (part ++ x ∷ []) rest d)
+        ≡ follow (onto part (cond b ([] ∷ cut rest) (onto_first x (cut rest)))) d
     go true now later =
-        rw (append-nil part) (each_step (step part d) (walk [] rest) (follow (cut rest)) (λ e. now e ∙ ap (λ l. follow l e) (onto_nothing (cut rest) (some_parts rest))))
+        rw (append-nil part) (each_step (step part d) (walk [] rest) (follow (cut rest))
+        (λ e. now e ∙ ap (λ l. follow l e) (onto_nothing (cut rest) (some_parts rest))))
     go false now later = rw (onto_one part x (cut rest)) later
 
 -- ---- members that were put
 
 get_member-replaced : (k : Text) (x y : Data) (ms : Members) → get_member k ms ≡ Some y → get_member k (replaced k x ms) ≡ Some x
 get_member-replaced k x y no_members found = cc
-get_member-replaced k x y (member l e ms) found = go (slice_cmp nat_cmp k l) (bytes_eq k l) refl (is_eq-slice_cmp k l) found (get_member-replaced k x y ms)
+get_member-replaced k x y (member l e ms) found = go (slice_cmp nat_cmp k l) (bytes_eq k l) refl (is_eq-slice_cmp k l) found
+    (get_member-replaced k x y ms)
   where
-    go : (o : Ordering) (b : Bool) → slice_cmp nat_cmp k l ≡ o → is_eq o ≡ b → match_ordering o (get_member k ms) (Some e) (get_member k ms) ≡ Some y
-        → (get_member k ms ≡ Some y → get_member k (replaced k x ms) ≡ Some x) → get_member k (if b then member l x ms else member l e (replaced k x ms)) ≡ Some x
+    go : (o : Ordering) (b : Bool) → slice_cmp nat_cmp k l ≡ o → is_eq o ≡ b
+        → match_ordering o (get_member k ms) (Some e) (get_member k ms) ≡ Some y
+        → (get_member k ms ≡ Some y → get_member k (replaced k x ms) ≡ Some x)
+        → get_member k (if b then member l x ms else member l e (replaced k x ms)) ≡ Some x
     go Less true is same found later = absurd (true≢false (sym same))
     go Less false is same found later = rw is (later found)
     go Equal true is same found later = rw is refl
@@ -78,17 +86,20 @@ get_member-replaced k x y (member l e ms) found = go (slice_cmp nat_cmp k l) (by
     go Greater true is same found later = absurd (true≢false (sym same))
     go Greater false is same found later = rw is (later found)
 
-followed_made : (parts : List Text) (new : Members) (d : Data) → placed (map unescape parts) new None ≡ Some d → follow parts d ≡ Some (object new)
+followed_made : (parts : List Text) (new : Members) (d : Data) → placed (map unescape parts) new None ≡ Some d
+    → follow parts d ≡ Some (object new)
 followed_made [] new d h = sym h
 followed_made (part ∷ parts) new d h = go (placed (map unescape parts) new None) (λ x is. followed_made parts new x is) h
   where
-    go : (o : Option Data) → ((x : Data) → o ≡ Some x → follow parts x ≡ Some (object new)) → option_map (λ x. object (put (unescape part) x no_members)) o ≡ Some d → follow (part ∷ parts) d ≡ Some (object new)
+    go : (o : Option Data) → ((x : Data) → o ≡ Some x → follow parts x ≡ Some (object new))
+        → option_map (λ x. object (put (unescape part) x no_members)) o ≡ Some d → follow (part ∷ parts) d ≡ Some (object new)
     go None later h = cc
     go (Some x) later h =
         let made : d ≡ object (put (unescape part) x no_members) = cc in
         rw (made, get_member-put (unescape part) x no_members) (later x refl)
 
-followed : (parts : List Text) (new : Members) (d e : Data) → placed (map unescape parts) new (Some d) ≡ Some e → follow parts e ≡ placed [] new (follow parts d)
+followed : (parts : List Text) (new : Members) (d e : Data) → placed (map unescape parts) new (Some d) ≡ Some e
+    → follow parts e ≡ placed [] new (follow parts d)
 followed [] new d e h = sym h
 followed (part ∷ parts) new null e h = cc
 followed (part ∷ parts) new (boolean b) e h = cc
@@ -97,21 +108,25 @@ followed (part ∷ parts) new (string s) e h = cc
 followed (part ∷ parts) new (array ds) e h = cc
 followed (part ∷ parts) new (object ms) e h = go (get_member (unescape part) ms) refl (λ y x is. followed parts new y x is) h
   where
-    made : (o : Option Data) → placed (map unescape parts) new None ≡ o → option_map (λ x. object (put (unescape part) x ms)) o ≡ Some e → follow (part ∷ parts) e ≡ Some (object new)
+    made : (o : Option Data) → placed (map unescape parts) new None ≡ o → option_map (λ x. object (put (unescape part) x ms)) o ≡ Some e
+        → follow (part ∷ parts) e ≡ Some (object new)
     made None is h = cc
     made (Some x) is h =
         let whole : e ≡ object (put (unescape part) x ms) = cc in
         rw (whole, get_member-put (unescape part) x ms) (followed_made parts new x is)
 
-    written : (y : Data) (o : Option Data) → get_member (unescape part) ms ≡ Some y → ((x : Data) → o ≡ Some x → follow parts x ≡ placed [] new (follow parts y))
+    written : (y : Data) (o : Option Data) → get_member (unescape part) ms ≡ Some y
+        → ((x : Data) → o ≡ Some x → follow parts x ≡ placed [] new (follow parts y))
         → option_map (λ x. object (replaced (unescape part) x ms)) o ≡ Some e → follow (part ∷ parts) e ≡ placed [] new (follow parts y)
     written y None found later h = cc
     written y (Some x) found later h =
         let whole : e ≡ object (replaced (unescape part) x ms) = cc in
         rw (whole, get_member-replaced (unescape part) x y ms found) (later x refl)
 
-    go : (o : Option Data) → get_member (unescape part) ms ≡ o → ((y x : Data) → placed (map unescape parts) new (Some y) ≡ Some x → follow parts x ≡ placed [] new (follow parts y))
-        → onward (map unescape parts) (unescape part) new ms o ≡ Some e → follow (part ∷ parts) e ≡ placed [] new (option_and_then (follow parts) o)
+    go : (o : Option Data) → get_member (unescape part) ms ≡ o → ((y x : Data) → placed (map unescape parts) new (Some y) ≡ Some x
+        → follow parts x ≡ placed [] new (follow parts y))
+        → onward (map unescape parts) (unescape part) new ms o ≡ Some e
+        → follow (part ∷ parts) e ≡ placed [] new (option_and_then (follow parts) o)
     go None is later h = made (placed (map unescape parts) new None) refl h
     go (Some y) is later h = written y (placed (map unescape parts) new (Some y)) is (later y) h
 
@@ -130,16 +145,19 @@ pointer-placed_at (x ∷ y ∷ rest) new d e h = go (x == 47) h
     go false h = cc
 
 -- where nothing stood, they stand alone
-pub pointer-placed_new : (p : Text) (new : Members) (d e : Data) → pointer p d ≡ None → placed_at p new d ≡ Some e → pointer p e ≡ Some (object new)
+pub pointer-placed_new : (p : Text) (new : Members) (d e : Data) → pointer p d ≡ None → placed_at p new d ≡ Some e
+    → pointer p e ≡ Some (object new)
 pointer-placed_new p new d e none h = pointer-placed_at p new d e h ∙ rw none refl
 
 -- ---- the same of what is pointed to in an object
 
-mapped_object : (o : Option Data) (f : Data → Members) (e : Data) → option_map (λ x. object (f x)) o ≡ Some e → (ns : Members) × (e ≡ object ns)
+mapped_object : (o : Option Data) (f : Data → Members) (e : Data) → option_map (λ x. object (f x)) o ≡ Some e
+    → (ns : Members) × (e ≡ object ns)
 mapped_object None f e h = cc
 mapped_object (Some x) f e h = (f x, cc)
 
-placed_object : (ts : List Text) (new ms : Members) (e : Data) → placed ts new (Some (object ms)) ≡ Some e → (ns : Members) × (e ≡ object ns)
+placed_object : (ts : List Text) (new ms : Members) (e : Data) → placed ts new (Some (object ms)) ≡ Some e
+    → (ns : Members) × (e ≡ object ns)
 placed_object [] new ms e h = (put_members new ms, cc)
 placed_object (t ∷ ts) new ms e h = go (get_member t ms) h
   where
@@ -150,12 +168,14 @@ placed_object (t ∷ ts) new ms e h = go (get_member t ms) h
 object_pointed : (p : Text) (ms : Members) → pointed_in (47 ∷ p) (object ms) ≡ pointer (47 ∷ p) (object ms)
 object_pointed p ms = refl
 
-in_object : (p : Text) (ts : List Text) (new ms : Members) (e : Data) → placed_at (47 ∷ p) new (object ms) ≡ Some e → placed ts new (Some (object ms)) ≡ Some e → pointed_in (47 ∷ p) e ≡ placed [] new (pointed_in (47 ∷ p) (object ms))
+in_object : (p : Text) (ts : List Text) (new ms : Members) (e : Data) → placed_at (47 ∷ p) new (object ms) ≡ Some e
+    → placed ts new (Some (object ms)) ≡ Some e → pointed_in (47 ∷ p) e ≡ placed [] new (pointed_in (47 ∷ p) (object ms))
 in_object p ts new ms e h part =
     let is = placed_object ts new ms e part in
     rw (is.1) (rw (is.1) at (pointer-placed_at (47 ∷ p) new (object ms) e h))
 
-pub pointed-placed_at : (p : Text) (new : Members) (d e : Data) → placed_at p new d ≡ Some e → pointed_in p e ≡ placed [] new (pointed_in p d)
+pub pointed-placed_at : (p : Text) (new : Members) (d e : Data) → placed_at p new d ≡ Some e
+    → pointed_in p e ≡ placed [] new (pointed_in p d)
 pointed-placed_at [] new d e h = cc
 pointed-placed_at (x ∷ []) new d e h = cc
 pointed-placed_at (x ∷ y ∷ rest) new d e h = go (x == 47) refl h
@@ -163,7 +183,8 @@ pointed-placed_at (x ∷ y ∷ rest) new d e h = go (x == 47) refl h
     other : (d : Data) → as_object d ≡ None → placed (tokens_in (y ∷ rest)) new (Some d) ≡ Some e → ⊥
     other d none h = let refused = placed_other (tokens_in (y ∷ rest)) new d none in cc
 
-    at_slash : (d : Data) → placed (tokens_in (y ∷ rest)) new (Some d) ≡ Some e → pointed_in (47 ∷ y ∷ rest) e ≡ placed [] new (pointed_in (47 ∷ y ∷ rest) d)
+    at_slash : (d : Data) → placed (tokens_in (y ∷ rest)) new (Some d) ≡ Some e
+        → pointed_in (47 ∷ y ∷ rest) e ≡ placed [] new (pointed_in (47 ∷ y ∷ rest) d)
     at_slash null h = absurd (other null refl h)
     at_slash (boolean b) h = absurd (other (boolean b) refl h)
     at_slash (number n) h = absurd (other (number n) refl h)
@@ -171,12 +192,14 @@ pointed-placed_at (x ∷ y ∷ rest) new d e h = go (x == 47) refl h
     at_slash (array ds) h = absurd (other (array ds) refl h)
     at_slash (object ms) h = in_object (y ∷ rest) (tokens_in (y ∷ rest)) new ms e h h
 
-    go : (b : Bool) → (x == 47) ≡ b → option_and_then (λ tokens. placed tokens new (Some d)) (if b then Some (tokens_in (y ∷ rest)) else None) ≡ Some e
+    go : (b : Bool) → (x == 47) ≡ b → option_and_then (λ tokens. placed tokens new (Some d))
+        (if b then Some (tokens_in (y ∷ rest)) else None) ≡ Some e
         → pointed_in (x ∷ y ∷ rest) e ≡ placed [] new (pointed_in (x ∷ y ∷ rest) d)
     go true is h = let slash : x ≡ 47 = eqb-true x 47 is in rw slash (at_slash d h)
     go false is h = cc
 
-pub found_there : (r : Result Bool AllocError) (p : Text) (new : Members) (d e : Data) → IfOk r (λ done. placed_at p new d ≡ (if done then Some e else None))
+pub found_there : (r : Result Bool AllocError) (p : Text) (new : Members) (d e : Data)
+    → IfOk r (λ done. placed_at p new d ≡ (if done then Some e else None))
     → IfOk r (λ done. IsTrue done → pointed_in p e ≡ placed [] new (pointed_in p d))
 found_there (Err x) p new d e h = h
 found_there (Ok true) p new d e h = λ t. pointed-placed_at p new d e h

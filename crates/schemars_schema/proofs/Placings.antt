@@ -1,5 +1,6 @@
 -- Members put into an object at a pointer, a token at a time.
-use Rattle.std.proofs.Common.{◌≡◌, ◌≢◌, ◌<◌, List, [], ◌∷◌, ◌++◌, length, map, Option, Some, None, option_map, Bool, true, false, refl, ap, ◌∙◌, arith, append-nil, length-append, ne_eqb, inl, inr, ◌⊎◌}
+use Rattle.std.proofs.Common.{◌≡◌, ◌≢◌, ◌<◌, List, [], ◌∷◌, ◌++◌, length, map, Option, Some, None, option_map, Bool}
+use Rattle.std.proofs.Common.{true, false, refl, ap, ◌∙◌, arith, append-nil, length-append, ne_eqb, inl, inr, ◌⊎◌}
 use Rattle.std.specs.Prelude.{◌==◌, All, if◌then◌else◌, codes, IsUtf8}
 use Rattle.std.specs.List.{slice_split}
 use Rattle.std.proofs.lemmas.List.Splits.{slice_split_none, slice_split_at}
@@ -28,13 +29,15 @@ below_nothing (x ∷ rest) other = rw (ne_eqb x 47 (λ e. other rest (ap (λ y. 
 no_slashes : (xs : Text) → All (λ b. b ≢ 47) xs → All (λ b. (b == 47) ≡ false) xs
 no_slashes xs h = λ k d less. ne_eqb _ 47 (h k d less)
 
-pub below_first : (p tokens token below : Text) → p ≡ 47 ∷ tokens → IsFirstToken tokens token below → tokens_below p ≡ unescape token ∷ tokens_below below
+pub below_first : (p tokens token below : Text) → p ≡ 47 ∷ tokens → IsFirstToken tokens token below
+    → tokens_below p ≡ unescape token ∷ tokens_below below
 below_first p tokens token below is h = rw (is, h.whole) (go below h.next)
   where
     cut : Text → List Text
     cut xs = slice_split (λ b. b == 47) xs
 
-    go : (below : Text) → (below ≡ []) ⊎ ((rest : Text) × (below ≡ 47 ∷ rest)) → tokens_in (token ++ below) ≡ unescape token ∷ tokens_below below
+    go : (below : Text) → (below ≡ []) ⊎ ((rest : Text) × (below ≡ 47 ∷ rest))
+        → tokens_in (token ++ below) ≡ unescape token ∷ tokens_below below
     go [] next = rw (append-nil token) (ap (map unescape) (slice_split_none (λ b. b == 47) token (no_slashes token h.one)))
     go (x ∷ rest) (inl none) = cc
     go (x ∷ rest) (inr more) =
@@ -51,10 +54,12 @@ abbrev pub onward : List Text → Text → Members → Members → Option Data �
 onward ts t new ms None = option_map (λ d. object (put t d ms)) (placed ts new None)
 onward ts t new ms (Some e) = option_map (λ d. object (replaced t d ms)) (placed ts new (Some e))
 
-pub placed_nested : (all ts : List Text) (t : Text) (new : Members) (d : Data) → all ≡ t ∷ ts → placed ts new None ≡ Some d → placed all new None ≡ Some (object (put t d no_members))
+pub placed_nested : (all ts : List Text) (t : Text) (new : Members) (d : Data) → all ≡ t ∷ ts → placed ts new None ≡ Some d
+    → placed all new None ≡ Some (object (put t d no_members))
 placed_nested all ts t new d is made = rw (is, made) refl
 
-pub placed_missing : (all ts : List Text) (t : Text) (new ms : Members) (d : Data) → all ≡ t ∷ ts → get_member t ms ≡ None → placed ts new None ≡ Some d → placed all new (Some (object ms)) ≡ Some (object (put t d ms))
+pub placed_missing : (all ts : List Text) (t : Text) (new ms : Members) (d : Data) → all ≡ t ∷ ts → get_member t ms ≡ None
+    → placed ts new None ≡ Some d → placed all new (Some (object ms)) ≡ Some (object (put t d ms))
 placed_missing all ts t new ms d is missing made = rw is (go (get_member t ms) missing)
   where
     go : (o : Option Data) → o ≡ None → onward ts t new ms o ≡ Some (object (put t d ms))
@@ -75,19 +80,22 @@ placed_other (t ∷ ts) new (string s) h = refl
 placed_other (t ∷ ts) new (array ds) h = refl
 placed_other (t ∷ ts) new (object ms) h = cc
 
-pub placed_refused : (all ts : List Text) (t : Text) (new ms : Members) (d : Data) → all ≡ t ∷ ts → get_member t ms ≡ Some d → as_object d ≡ None → placed all new (Some (object ms)) ≡ None
+pub placed_refused : (all ts : List Text) (t : Text) (new ms : Members) (d : Data) → all ≡ t ∷ ts → get_member t ms ≡ Some d
+    → as_object d ≡ None → placed all new (Some (object ms)) ≡ None
 placed_refused all ts t new ms d is found other = rw is (go (get_member t ms) found)
   where
     go : (o : Option Data) → o ≡ Some d → onward ts t new ms o ≡ None
     go None e = cc
     go (Some x) e = let same : x ≡ d = cc in rw (same, placed_other ts new d other) refl
 
-pub placed_inside : (r : Result Bool AllocError) (all ts : List Text) (t : Text) (new ms inner after now : Members) → all ≡ t ∷ ts → get_member t ms ≡ Some (object inner) → now ≡ replaced t (object after) ms
+pub placed_inside : (r : Result Bool AllocError) (all ts : List Text) (t : Text) (new ms inner after now : Members) → all ≡ t ∷ ts
+    → get_member t ms ≡ Some (object inner) → now ≡ replaced t (object after) ms
     → IfOk r (λ done. placed ts new (Some (object inner)) ≡ (if done then Some (object after) else None))
     → IfOk r (λ done. placed all new (Some (object ms)) ≡ (if done then Some (object now) else None))
 placed_inside r all ts t new ms inner after now is found write h = rw is (go r (get_member t ms) found h)
   where
-    go : (r : Result Bool AllocError) (o : Option Data) → o ≡ Some (object inner) → IfOk r (λ done. placed ts new (Some (object inner)) ≡ (if done then Some (object after) else None))
+    go : (r : Result Bool AllocError) (o : Option Data) → o ≡ Some (object inner)
+        → IfOk r (λ done. placed ts new (Some (object inner)) ≡ (if done then Some (object after) else None))
         → IfOk r (λ done. onward ts t new ms o ≡ (if done then Some (object now) else None))
     go r None e h = cc
     go (Err x) (Some d) e h = h
@@ -108,33 +116,42 @@ tokens-components : tokens_of (codes "/components/schemas") ≡ Some (codes "com
 unfolding serde_json_on_literals
 tokens-components = refl
 
-placed_at-one : (p key : Text) (new ms : Members) → tokens_of p ≡ Some (key ∷ []) → get_member key ms ≡ None → placed_at p new (object ms) ≡ Some (object (put key (object new) ms))
+placed_at-one : (p key : Text) (new ms : Members) → tokens_of p ≡ Some (key ∷ []) → get_member key ms ≡ None
+    → placed_at p new (object ms) ≡ Some (object (put key (object new) ms))
 placed_at-one p key new ms is missing = rw is (placed_missing (key ∷ []) [] key new ms (object new) refl missing refl)
 
 placed_at-two : (p key below : Text) (new ms : Members) → tokens_of p ≡ Some (key ∷ below ∷ []) → get_member key ms ≡ None
     → placed_at p new (object ms) ≡ Some (object (put key (object (member below (object new) no_members)) ms))
-placed_at-two p key below new ms is missing = rw is (placed_missing (key ∷ below ∷ []) (below ∷ []) key new ms (object (member below (object new) no_members)) refl missing refl)
+placed_at-two p key below new ms is missing = rw is (placed_missing (key ∷ below ∷ []) (below ∷ []) key new ms
+    (object (member below (object new) no_members)) refl missing refl)
 
 -- members put where no definitions stand yet
-pub placed_at-defs : (new ms : Members) → get_member (codes "$defs") ms ≡ None → placed_at (codes "/$defs") new (object ms) ≡ Some (object (put (codes "$defs") (object new) ms))
+pub placed_at-defs : (new ms : Members) → get_member (codes "$defs") ms ≡ None
+    → placed_at (codes "/$defs") new (object ms) ≡ Some (object (put (codes "$defs") (object new) ms))
 placed_at-defs new ms missing = placed_at-one (codes "/$defs") (codes "$defs") new ms tokens-defs missing
 
-pub placed_at-definitions : (new ms : Members) → get_member (codes "definitions") ms ≡ None → placed_at (codes "/definitions") new (object ms) ≡ Some (object (put (codes "definitions") (object new) ms))
+pub placed_at-definitions : (new ms : Members) → get_member (codes "definitions") ms ≡ None
+    → placed_at (codes "/definitions") new (object ms) ≡ Some (object (put (codes "definitions") (object new) ms))
 placed_at-definitions new ms missing = placed_at-one (codes "/definitions") (codes "definitions") new ms tokens-definitions missing
 
 pub placed_at-components : (new ms : Members) → get_member (codes "components") ms ≡ None
-    → placed_at (codes "/components/schemas") new (object ms) ≡ Some (object (put (codes "components") (object (member (codes "schemas") (object new) no_members)) ms))
-placed_at-components new ms missing = placed_at-two (codes "/components/schemas") (codes "components") (codes "schemas") new ms tokens-components missing
+    → placed_at (codes "/components/schemas") new (object ms) ≡ Some (object
+    (put (codes "components") (object (member (codes "schemas") (object new) no_members)) ms))
+placed_at-components new ms missing = placed_at-two (codes "/components/schemas") (codes "components") (codes "schemas") new ms
+    tokens-components missing
 
 -- and in an object without members
-pub placed_at-defs_alone : (new : Members) → placed_at (codes "/$defs") new (object no_members) ≡ Some (object (member (codes "$defs") (object new) no_members))
+pub placed_at-defs_alone : (new : Members) → placed_at (codes "/$defs") new (object no_members)
+    ≡ Some (object (member (codes "$defs") (object new) no_members))
 placed_at-defs_alone new = placed_at-defs new no_members refl
 
-pub placed_at-definitions_alone : (new : Members) → placed_at (codes "/definitions") new (object no_members) ≡ Some (object (member (codes "definitions") (object new) no_members))
+pub placed_at-definitions_alone : (new : Members) → placed_at (codes "/definitions") new (object no_members)
+    ≡ Some (object (member (codes "definitions") (object new) no_members))
 placed_at-definitions_alone new = placed_at-definitions new no_members refl
 
 pub placed_at-components_alone : (new : Members)
-    → placed_at (codes "/components/schemas") new (object no_members) ≡ Some (object (member (codes "components") (object (member (codes "schemas") (object new) no_members)) no_members))
+    → placed_at (codes "/components/schemas") new (object no_members)
+    ≡ Some (object (member (codes "components") (object (member (codes "schemas") (object new) no_members)) no_members))
 placed_at-components_alone new = placed_at-components new no_members refl
 
 -- what the pointers lead to
@@ -142,11 +159,13 @@ pub pointer-defs : (ms : Members) (d : Data) → get_member (codes "$defs") ms �
 unfolding serde_json_on_literals
 pointer-defs ms d is = is
 
-pub pointer-definitions : (ms : Members) (d : Data) → get_member (codes "definitions") ms ≡ Some d → pointer (codes "/definitions") (object ms) ≡ Some d
+pub pointer-definitions : (ms : Members) (d : Data) → get_member (codes "definitions") ms ≡ Some d
+    → pointer (codes "/definitions") (object ms) ≡ Some d
 unfolding serde_json_on_literals
 pointer-definitions ms d is = is
 
-pub pointer-components : (ms parts : Members) (d : Data) → get_member (codes "components") ms ≡ Some (object parts) → get_member (codes "schemas") parts ≡ Some d → pointer (codes "/components/schemas") (object ms) ≡ Some d
+pub pointer-components : (ms parts : Members) (d : Data) → get_member (codes "components") ms ≡ Some (object parts)
+    → get_member (codes "schemas") parts ≡ Some d → pointer (codes "/components/schemas") (object ms) ≡ Some d
 unfolding serde_json_on_literals
 pointer-components ms parts d outer inner = rw outer inner
 
@@ -169,13 +188,16 @@ plain-components = record { ascii = refl; no_escape = refl }
 pub lookup-of_pointer : (p : Text) (document : Data) → IsPlain p → lookup (35 ∷ p) document ≡ pointer p document
 lookup-of_pointer p document plain = lookup-ascii p document plain.ascii plain.no_escape
 
-pub lookup-place : (p : Text) (document : Data) (new : Members) → IsPlain p → pointer p document ≡ Some (object new) → lookup (35 ∷ p) document ≡ Some (object new)
+pub lookup-place : (p : Text) (document : Data) (new : Members) → IsPlain p → pointer p document ≡ Some (object new)
+    → lookup (35 ∷ p) document ≡ Some (object new)
 lookup-place p document new plain is = lookup-of_pointer p document plain ∙ is
 
-pub count-place : (p : Text) (document : Data) (new : Members) → pointer p document ≡ Some (object new) → count_of_definitions p document ≡ members_len new
+pub count-place : (p : Text) (document : Data) (new : Members) → pointer p document ≡ Some (object new)
+    → count_of_definitions p document ≡ members_len new
 count-place p document new is = rw (is, count_of_definitions) refl
 
-pub lookup-definition : (p name : Text) (document : Data) (new : Members) → IsPlain p → pointer p document ≡ Some (object new) → IsUtf8 name → lookup (35 ∷ p ++ 47 ∷ encoded name) document ≡ get_member name new
+pub lookup-definition : (p name : Text) (document : Data) (new : Members) → IsPlain p → pointer p document ≡ Some (object new)
+    → IsUtf8 name → lookup (35 ∷ p ++ 47 ∷ encoded name) document ≡ get_member name new
 lookup-definition p name document new plain is text = lookup-encoded (35 ∷ p) name document new text (lookup-place p document new plain is)
 
 pub schema_only-schema : (d : Data) → IsSchema d → schema_only d ≡ Some d
@@ -186,10 +208,12 @@ schema_only-schema (number n) is = absurd is
 schema_only-schema (string s) is = absurd is
 schema_only-schema (array ds) is = absurd is
 
-pub resolved-definition : (p name : Text) (document d : Data) (new : Members) → IsPlain p → pointer p document ≡ Some (object new) → IsUtf8 name → get_member name new ≡ Some d → IsSchema d
+pub resolved-definition : (p name : Text) (document d : Data) (new : Members) → IsPlain p → pointer p document ≡ Some (object new)
+    → IsUtf8 name → get_member name new ≡ Some d → IsSchema d
     → resolved document (35 ∷ p ++ 47 ∷ encoded name) ≡ Some d
 unfolding resolved
-resolved-definition p name document d new plain is text found schema = rw (lookup-definition p name document new plain is text, found) (schema_only-schema d schema)
+resolved-definition p name document d new plain is text found schema =
+    rw (lookup-definition p name document new plain is text, found) (schema_only-schema d schema)
 
 pub lookup-whole : (document : Data) → lookup (codes "#") document ≡ Some document
 lookup-whole document = lookup-ascii [] document refl refl

@@ -1,5 +1,7 @@
 -- Pointers, a token at a time.
-use Rattle.std.proofs.Common.{◌≡◌, ◌≢◌, ℕ, suc, ◌+◌, ◌*◌, ◌<◌, List, [], ◌∷◌, ◌++◌, length, get_or, take, drop, Option, Some, None, Bool, true, false, refl, sym, ap, ◌∙◌, arith, true≢false, option_and_then, append-nil, append_assoc, length-append, ne_eqb, inl, inr, ◌⊎◌}
+use Rattle.std.proofs.Common.{◌≡◌, ◌≢◌, ℕ, suc, ◌+◌, ◌*◌, ◌<◌, List, [], ◌∷◌, ◌++◌, length, get_or, take, drop, Option}
+use Rattle.std.proofs.Common.{Some, None, Bool, true, false, refl, sym, ap, ◌∙◌, arith, true≢false, option_and_then}
+use Rattle.std.proofs.Common.{append-nil, append_assoc, length-append, ne_eqb, inl, inr, ◌⊎◌}
 use Rattle.std.specs.Prelude.{◌==◌, ◌&&◌, if◌then◌else◌, All, IsUtf8}
 use Rattle.std.proofs.lemmas.List.{drop_more, take-append-drop, get_or-take, length-take}
 use Rattle.std.proofs.lemmas.Grind.{get_or_default_zero}
@@ -38,7 +40,8 @@ first_token_alone bs h = record {
   next = inl refl;
 }
 
-pub first_token_before : (bs token below : Text) (k : ℕ) → k < length bs → get_or bs k 0 ≡ 47 → ((i : ℕ) → i < k → get_or bs i 0 ≢ 47) → token ≡ take k bs → below ≡ drop k bs → IsFirstToken bs token below
+pub first_token_before : (bs token below : Text) (k : ℕ) → k < length bs → get_or bs k 0 ≡ 47 → ((i : ℕ) → i < k → get_or bs i 0 ≢ 47)
+    → token ≡ take k bs → below ≡ drop k bs → IsFirstToken bs token below
 first_token_before bs token below k less is before first rest = record {
   whole = rw (first, rest) (sym (take-append-drop k bs));
   one = rw first (λ i d small e.
@@ -52,12 +55,15 @@ all_found : (o : Option Data) → option_and_then (pointer []) o ≡ o
 all_found None = refl
 all_found (Some d) = refl
 
-pub pointer-first : (tokens token below : Text) (ms : Members) → IsFirstToken tokens token below → pointer (47 ∷ tokens) (object ms) ≡ option_and_then (pointer below) (get_member (unescape token) ms)
+pub pointer-first : (tokens token below : Text) (ms : Members) → IsFirstToken tokens token below
+    → pointer (47 ∷ tokens) (object ms) ≡ option_and_then (pointer below) (get_member (unescape token) ms)
 pointer-first tokens token below ms h =
     rw (h.whole) (go below h.next)
   where
-    go : (below : Text) → (below ≡ []) ⊎ ((rest : Text) × (below ≡ 47 ∷ rest)) → walk [] (token ++ below) (object ms) ≡ option_and_then (pointer below) (get_member (unescape token) ms)
-    go [] next = rw (append-nil token) (walk_last token (object ms) (each_lacks token h.one) ∙ sym (all_found (get_member (unescape token) ms)))
+    go : (below : Text) → (below ≡ []) ⊎ ((rest : Text) × (below ≡ 47 ∷ rest))
+        → walk [] (token ++ below) (object ms) ≡ option_and_then (pointer below) (get_member (unescape token) ms)
+    go [] next = rw (append-nil token) (walk_last token (object ms) (each_lacks token h.one)
+        ∙ sym (all_found (get_member (unescape token) ms)))
     go (x ∷ rest) (inl none) = cc
     go (x ∷ rest) (inr more) = let slash : x ≡ 47 = cc in rw (slash) (walk_part token rest (object ms) (each_lacks token h.one))
 
@@ -70,9 +76,11 @@ some_decoded : (x : ℕ) (xs : List ℕ) → percent_decoded (x ∷ xs) ≢ Some
 unfolding percent_decoded percent_decoded_bytes
 some_decoded x [] e = let same = text_some (x ∷ []) [] e in cc
 some_decoded x (y ∷ []) e = let same = text_some (x ∷ y ∷ []) [] e in cc
-some_decoded x (y ∷ z ∷ rest) e = go (x == 37 && (is_hex_digit y && is_hex_digit z)) (text_some (percent_decoded_bytes (x ∷ y ∷ z ∷ rest)) [] e)
+some_decoded x (y ∷ z ∷ rest) e = go (x == 37 && (is_hex_digit y && is_hex_digit z))
+    (text_some (percent_decoded_bytes (x ∷ y ∷ z ∷ rest)) [] e)
   where
-    go : (b : Bool) → [] ≡ (if b then (16 * hex_value y + hex_value z) ∷ percent_decoded_bytes rest else x ∷ percent_decoded_bytes (y ∷ z ∷ rest)) → ⊥
+    go : (b : Bool) → [] ≡ (if b then (16 * hex_value y + hex_value z) ∷ percent_decoded_bytes rest else
+        x ∷ percent_decoded_bytes (y ∷ z ∷ rest)) → ⊥
     go true e = cc
     go false e = cc
 
@@ -116,12 +124,15 @@ inside-no_text p d h = none_in p d (λ ms. pointed-text p (object ms) ∙ rw h r
 
 pub inside-other : (p t : Text) (d : Data) → pointer_text p ≡ Some t → ((rest : Text) → t ≢ 47 ∷ rest) → pointed_inside p d ≡ None
 inside-other p [] d h other = rw (text_whole p h) refl
-inside-other p (x ∷ t) d h other = none_in p d (λ ms. pointed-text p (object ms) ∙ rw (h, ne_eqb x 47 (λ e. other t (ap (λ y. y ∷ t) e))) refl)
+inside-other p (x ∷ t) d h other = none_in p d (λ ms. pointed-text p (object ms)
+    ∙ rw (h, ne_eqb x 47 (λ e. other t (ap (λ y. y ∷ t) e))) refl)
 
-pub inside-first : (p tokens token below : Text) (d : Data) → pointer_text p ≡ Some (47 ∷ tokens) → IsFirstToken tokens token below → pointed_inside p d ≡ option_and_then (pointer below) (get (unescape token) d)
+pub inside-first : (p tokens token below : Text) (d : Data) → pointer_text p ≡ Some (47 ∷ tokens) → IsFirstToken tokens token below
+    → pointed_inside p d ≡ option_and_then (pointer below) (get (unescape token) d)
 inside-first p tokens token below d h first = go (is_whole p) refl d
   where
-    go : (b : Bool) → is_whole p ≡ b → (d : Data) → (if b then None else pointed_in p d) ≡ option_and_then (pointer below) (get (unescape token) d)
+    go : (b : Bool) → is_whole p ≡ b → (d : Data) → (if b then None else pointed_in p d)
+        ≡ option_and_then (pointer below) (get (unescape token) d)
     go true is d = let both = sym (whole_text p is) ∙ h in cc
     go false is null = refl
     go false is (boolean b) = refl
@@ -131,7 +142,8 @@ inside-first p tokens token below d h first = go (is_whole p) refl d
     go false is (object ms) = pointed-text p (object ms) ∙ rw h (pointer-first tokens token below ms first)
 
 -- where it is the whole that is lent, or nothing is an object
-pub pointed_in-text : (p : Text) (d : Data) (ms : Members) → d ≡ object ms → pointed_in p d ≡ option_and_then (λ t. pointer t d) (pointer_text p)
+pub pointed_in-text : (p : Text) (d : Data) (ms : Members) → d ≡ object ms
+    → pointed_in p d ≡ option_and_then (λ t. pointer t d) (pointer_text p)
 pointed_in-text p d ms is = rw is (pointed-text p (object ms))
 
 pub pointed_in-none : (p : Text) (d : Data) → as_object d ≡ None → pointed_in p d ≡ None
@@ -148,7 +160,8 @@ pub unescape_over : (xs rest : List ℕ) → Lacks 126 xs → unescape (xs ++ 12
 unfolding unescape
 unescape_over [] rest h = refl
 unescape_over (x ∷ []) rest h = rw (ne_eqb x 126 (h 0 (omega arith))) refl
-unescape_over (x ∷ y ∷ xs) rest h = rw (ne_eqb x 126 (h 0 (omega arith))) (ap (λ l. x ∷ l) (unescape_over (y ∷ xs) rest (λ i less. h (suc i) (omega arith))))
+unescape_over (x ∷ y ∷ xs) rest h = rw (ne_eqb x 126 (h 0 (omega arith)))
+    (ap (λ l. x ∷ l) (unescape_over (y ∷ xs) rest (λ i less. h (suc i) (omega arith))))
 
 pub unescape_tilde : (rest : List ℕ) → unescape (126 ∷ 48 ∷ rest) ≡ 126 ∷ unescape rest
 unfolding unescape
@@ -158,7 +171,8 @@ pub unescape_slash : (rest : List ℕ) → unescape (126 ∷ 49 ∷ rest) ≡ 47
 unfolding unescape
 unescape_slash rest = refl
 
-pub unescape_alone : (rest : List ℕ) → ((more : List ℕ) → rest ≢ 48 ∷ more) → ((more : List ℕ) → rest ≢ 49 ∷ more) → unescape (126 ∷ rest) ≡ 126 ∷ unescape rest
+pub unescape_alone : (rest : List ℕ) → ((more : List ℕ) → rest ≢ 48 ∷ more) → ((more : List ℕ) → rest ≢ 49 ∷ more)
+    → unescape (126 ∷ rest) ≡ 126 ∷ unescape rest
 unfolding unescape
 unescape_alone [] h k = refl
 unescape_alone (x ∷ rest) h k = rw (ne_eqb x 49 (λ e. k rest (ap (λ y. y ∷ rest) e)), ne_eqb x 48 (λ e. h rest (ap (λ y. y ∷ rest) e))) refl
@@ -174,5 +188,7 @@ utf8_after xs rest x low text =
     rw later at (IsUtf8-drop bs (length xs + 1) text (IsCharBoundary-after_ascii bs (length xs) text within (omega arith)))
 
 -- the key goes on by the text before a `~` and by what the `~` stands for
-pub key_goes_on : (key before one rest tail whole key_2 key_3 : List ℕ) → key_2 ≡ key ++ before → key_3 ≡ key_2 ++ one → tail ≡ before ++ (one ++ rest) → key ++ tail ≡ whole → key_3 ++ rest ≡ whole
-key_goes_on key before one rest tail whole key_2 key_3 e f g h = rw (f, e, append_assoc (key ++ before) one rest, append_assoc key before (one ++ rest), ← g) h
+pub key_goes_on : (key before one rest tail whole key_2 key_3 : List ℕ) → key_2 ≡ key ++ before → key_3 ≡ key_2 ++ one
+    → tail ≡ before ++ (one ++ rest) → key ++ tail ≡ whole → key_3 ++ rest ≡ whole
+key_goes_on key before one rest tail whole key_2 key_3 e f g h = rw
+    (f, e, append_assoc (key ++ before) one rest, append_assoc key before (one ++ rest), ← g) h

@@ -3,7 +3,8 @@ use Rattle.std.proofs.Common.{◌≡◌, ℕ, None, Bool, true, false, refl}
 use Rattle.serde_json.specs.Data.{Data, null, boolean, number, string, array, object}
 use Rattle.schemars_schema.specs.SchemaData.{IsSchema, members_in}
 use Rattle.schemars_schema.specs.Verdict.{Yes}
-use Rattle.schemars_schema.specs.Acceptance.{Dialect, Patterns, accepts, read_data, all_keywords, items_say, const_says, unevaluated_properties_say}
+use Rattle.schemars_schema.specs.Acceptance.{Dialect, Patterns, accepts, read_data, all_keywords, items_say, const_says}
+use Rattle.schemars_schema.specs.Acceptance.{unevaluated_properties_say}
 use Rattle.schemars_json.specs.Json.{Text}
 
 items_none : (reads : Bool) (v : Data) → items_say reads None None None v ≡ Yes
@@ -18,15 +19,18 @@ unevaluated_none : (reads : Bool) (judged : Text → Bool) (v : Data) → uneval
 unevaluated_none true judged v = refl
 unevaluated_none false judged v = refl
 
-pub accepts-members_in : (dialect : Dialect) (document : Data) (patterns : Patterns) (n : ℕ) (s v : Data) → IsSchema s → accepts dialect document patterns n (object (members_in s)) v ≡ accepts dialect document patterns n s v
+pub accepts-members_in : (dialect : Dialect) (document : Data) (patterns : Patterns) (n : ℕ) (s v : Data) → IsSchema s
+    → accepts dialect document patterns n (object (members_in s)) v ≡ accepts dialect document patterns n s v
 unfolding read_data all_keywords
 accepts-members_in dialect document patterns n (object ms) v is = refl
-accepts-members_in dialect document patterns n (boolean b) v is = go dialect.judges_siblings dialect.reads_prefix_items dialect.reads_nullable dialect.reads_const dialect.reads_unevaluated b
+accepts-members_in dialect document patterns n (boolean b) v is = go dialect.judges_siblings dialect.reads_prefix_items
+    dialect.reads_nullable dialect.reads_const dialect.reads_unevaluated b
   where
     switched : Bool → Bool → Bool → Bool → Bool → Dialect
     switched p q r t u = record { judges_siblings = p; reads_prefix_items = q; reads_nullable = r; reads_const = t; reads_unevaluated = u }
 
-    go : (p q r t u b : Bool) → accepts (switched p q r t u) document patterns n (object (members_in (boolean b))) v ≡ accepts (switched p q r t u) document patterns n (boolean b) v
+    go : (p q r t u b : Bool) → accepts (switched p q r t u) document patterns n (object (members_in (boolean b))) v
+        ≡ accepts (switched p q r t u) document patterns n (boolean b) v
     go true q r t u true = rw (items_none q v, const_none t v, unevaluated_none u _ v)
     go true q r t u false = rw (items_none q v, const_none t v, unevaluated_none u _ v)
     go false q r t u true = rw (items_none q v, const_none t v, unevaluated_none u _ v)

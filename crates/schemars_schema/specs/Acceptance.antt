@@ -1,7 +1,11 @@
--- Which values a schema accepts: the keywords of JSON Schema Draft 7, 2019-09 and 2020-12 and of OpenAPI 3.0, as far as this project reads them. Other keywords, and keywords
+-- Which values a schema accepts: the keywords of JSON Schema Draft 7, 2019-09 and 2020-12 and of OpenAPI 3.0, as far as
+-- this project reads them. Other keywords, and keywords
 -- whose value has the wrong form, say nothing.
-use Rattle.std.specs.Prelude.{ℕ, zero, suc, ◌+◌, ◌*◌, ◌&&◌, ◌||◌, ℤ, List, [], ◌∷◌, map, Bool, true, false, not, nat_le, int_le, if◌then◌else◌, is_some, Option, Some, None, option_and_then, option_map, codes, length, bytes_eq}
-use Rattle.serde_json.specs.Data.{Data, null, boolean, number, unsigned, string, array, object, Items, no_items, item, Members, no_members, member, depth}
+use Rattle.std.specs.Prelude.{ℕ, zero, suc, ◌+◌, ◌*◌, ◌&&◌, ◌||◌, ℤ, List, [], ◌∷◌, map, Bool, true, false, not, nat_le}
+use Rattle.std.specs.Prelude.{int_le, if◌then◌else◌, is_some, Option, Some, None, option_and_then, option_map, codes}
+use Rattle.std.specs.Prelude.{length, bytes_eq}
+use Rattle.serde_json.specs.Data.{Data, null, boolean, number, unsigned, string, array, object, Items, no_items, item}
+use Rattle.serde_json.specs.Data.{Members, no_members, member, depth}
 use Rattle.serde_json.specs.Find.{get_member, as_integer, as_str, as_bool, as_number, as_array, as_object, pointer}
 use Rattle.serde_json.specs.Events.{items_len, members_len}
 use Rattle.schemars_schema.specs.Verdict.{Verdict, Yes, No, Open, verdict, both, opposite, all_of, any_of, one_of, is_yes}
@@ -22,16 +26,40 @@ pub record Dialect : Type 0 where
   pub reads_unevaluated : Bool
 
 abbrev pub draft2020_12 : Dialect
-draft2020_12 = record { judges_siblings = true; reads_prefix_items = true; reads_nullable = false; reads_const = true; reads_unevaluated = true }
+draft2020_12 = record {
+  judges_siblings = true;
+  reads_prefix_items = true;
+  reads_nullable = false;
+  reads_const = true;
+  reads_unevaluated = true;
+}
 
 abbrev pub draft2019_09 : Dialect
-draft2019_09 = record { judges_siblings = true; reads_prefix_items = false; reads_nullable = false; reads_const = true; reads_unevaluated = true }
+draft2019_09 = record {
+  judges_siblings = true;
+  reads_prefix_items = false;
+  reads_nullable = false;
+  reads_const = true;
+  reads_unevaluated = true;
+}
 
 abbrev pub draft07 : Dialect
-draft07 = record { judges_siblings = false; reads_prefix_items = false; reads_nullable = false; reads_const = true; reads_unevaluated = false }
+draft07 = record {
+  judges_siblings = false;
+  reads_prefix_items = false;
+  reads_nullable = false;
+  reads_const = true;
+  reads_unevaluated = false;
+}
 
 abbrev pub openapi3 : Dialect
-openapi3 = record { judges_siblings = false; reads_prefix_items = false; reads_nullable = true; reads_const = false; reads_unevaluated = false }
+openapi3 = record {
+  judges_siblings = false;
+  reads_prefix_items = false;
+  reads_nullable = true;
+  reads_const = false;
+  reads_unevaluated = false;
+}
 
 -- a reading of patterns: the pairs of a pattern and a text that matches it
 abbrev pub Patterns : Type 0
@@ -137,7 +165,8 @@ type_fits false nullable ts v = is_of_some_type ts v
 type_fits true nullable ts v = is_listed (codes "null") ts || (is_of_some_type ts v || (is_true nullable && is_null v))
 
 abbrev pub type_says : Bool → Option Data → Option Data → Test
-type_says reads_nullable type nullable v = where_some type (λ x. where_some (types_in x) (λ ts. verdict (type_fits reads_nullable nullable ts v)))
+type_says reads_nullable type nullable v = where_some type (λ x. where_some (types_in x)
+    (λ ts. verdict (type_fits reads_nullable nullable ts v)))
 
 abbrev pub const_says : Bool → Option Data → Test
 const_says false const v = Yes
@@ -162,10 +191,12 @@ count_of_number (array ds) = None
 count_of_number (object ms) = None
 
 abbrev pub minimum_says : Option Data → Test
-minimum_says minimum v = where_some minimum (λ x. where_some (whole_number v) (λ n. where_some (whole_number x) (λ m. verdict (int_le m n))))
+minimum_says minimum v = where_some minimum (λ x. where_some (whole_number v)
+    (λ n. where_some (whole_number x) (λ m. verdict (int_le m n))))
 
 abbrev pub maximum_says : Option Data → Test
-maximum_says maximum v = where_some maximum (λ x. where_some (whole_number v) (λ n. where_some (whole_number x) (λ m. verdict (int_le n m))))
+maximum_says maximum v = where_some maximum (λ x. where_some (whole_number v)
+    (λ n. where_some (whole_number x) (λ m. verdict (int_le n m))))
 
 -- a byte that doesn't continue a code point of UTF-8 begins one
 abbrev pub begins_code_point : ℕ → Bool
@@ -176,24 +207,30 @@ code_points [] = 0
 code_points (b ∷ bs) = if begins_code_point b then suc (code_points bs) else code_points bs
 
 abbrev pub min_length_says : Option Data → Test
-min_length_says least v = where_some least (λ x. where_some (as_str v) (λ s. where_some (count_of_number x) (λ m. verdict (nat_le m (code_points s)))))
+min_length_says least v = where_some least (λ x. where_some (as_str v)
+    (λ s. where_some (count_of_number x) (λ m. verdict (nat_le m (code_points s)))))
 
 abbrev pub max_length_says : Option Data → Test
-max_length_says most v = where_some most (λ x. where_some (as_str v) (λ s. where_some (count_of_number x) (λ m. verdict (nat_le (code_points s) m))))
+max_length_says most v = where_some most (λ x. where_some (as_str v)
+    (λ s. where_some (count_of_number x) (λ m. verdict (nat_le (code_points s) m))))
 
 abbrev pub pattern_says : Patterns → Option Data → Test
-pattern_says patterns pattern v = where_some pattern (λ x. where_some (as_str v) (λ s. where_some (as_str x) (λ p. verdict (matches patterns p s))))
+pattern_says patterns pattern v = where_some pattern (λ x. where_some (as_str v)
+    (λ s. where_some (as_str x) (λ p. verdict (matches patterns p s))))
 
 -- ---- keywords for lists
 
 abbrev pub min_items_says : Option Data → Test
-min_items_says least v = where_some least (λ x. where_some (as_array v) (λ vs. where_some (count_of_number x) (λ m. verdict (nat_le m (items_len vs)))))
+min_items_says least v = where_some least (λ x. where_some (as_array v)
+    (λ vs. where_some (count_of_number x) (λ m. verdict (nat_le m (items_len vs)))))
 
 abbrev pub max_items_says : Option Data → Test
-max_items_says most v = where_some most (λ x. where_some (as_array v) (λ vs. where_some (count_of_number x) (λ m. verdict (nat_le (items_len vs) m))))
+max_items_says most v = where_some most (λ x. where_some (as_array v)
+    (λ vs. where_some (count_of_number x) (λ m. verdict (nat_le (items_len vs) m))))
 
 abbrev pub unique_items_says : Option Data → Test
-unique_items_says unique v = where_some unique (λ x. where_some (as_array v) (λ vs. where_some (as_bool x) (λ b. verdict (not b || are_distinct vs))))
+unique_items_says unique v = where_some unique (λ x. where_some (as_array v)
+    (λ vs. where_some (as_bool x) (λ b. verdict (not b || are_distinct vs))))
 
 abbrev pub by_position : List Judge → Items → Verdict
 by_position [] vs = Yes
@@ -230,7 +267,8 @@ have_all [] ms = true
 have_all (k ∷ ks) ms = is_some (get_member k ms) && have_all ks ms
 
 abbrev pub required_says : Option Data → Test
-required_says required v = where_some required (λ x. where_some (as_object v) (λ ms. where_some (option_and_then texts_in (as_array x)) (λ ks. verdict (have_all ks ms))))
+required_says required v = where_some required (λ x. where_some (as_object v)
+    (λ ms. where_some (option_and_then texts_in (as_array x)) (λ ks. verdict (have_all ks ms))))
 
 abbrev pub named_in : Option Reading → List (Text × Judge)
 named_in map = elim (option_and_then (λ x. x.named) map) [ None ↦ [] | Some ss ↦ ss ]
@@ -250,7 +288,8 @@ matches_some patterns (s ∷ ss) k = matches patterns s.0 k || matches_some patt
 
 -- `properties` and `patternProperties` judge these members
 abbrev pub is_covered : Patterns → Option Reading → Option Reading → Text → Bool
-is_covered patterns properties by_pattern k = is_some (schema_named k (named_in properties)) || matches_some patterns (named_in by_pattern) k
+is_covered patterns properties by_pattern k = is_some (schema_named k (named_in properties)) || matches_some patterns
+    (named_in by_pattern) k
 
 abbrev pub each_member : (Text → Data → Verdict) → Members → Verdict
 each_member says no_members = Yes
@@ -258,7 +297,8 @@ each_member says (member k w ms) = both (says k w) (each_member says ms)
 
 abbrev pub properties_say : Option Reading → Test
 properties_say properties v =
-    where_some properties (λ x. where_some (as_object v) (λ ms. where_some x.named (λ ss. each_member (λ k w. where_some (schema_named k ss) (λ s. s.fits w)) ms)))
+    where_some properties (λ x. where_some (as_object v) (λ ms. where_some x.named
+    (λ ss. each_member (λ k w. where_some (schema_named k ss) (λ s. s.fits w)) ms)))
 
 abbrev pub pattern_properties_say : Patterns → Option Reading → Test
 pattern_properties_say patterns by_pattern v =
@@ -267,7 +307,8 @@ pattern_properties_say patterns by_pattern v =
 -- the members that are not covered
 abbrev pub additional_properties_say : (Text → Bool) → Option Reading → Test
 additional_properties_say covered additional v =
-    where_some additional (λ x. where_some (as_object v) (λ ms. where_some x.schema (λ s. each_member (λ k w. if covered k then Yes else s.fits w) ms)))
+    where_some additional (λ x. where_some (as_object v) (λ ms. where_some x.schema
+    (λ s. each_member (λ k w. if covered k then Yes else s.fits w) ms)))
 
 abbrev pub unevaluated_properties_say : Bool → (Text → Bool) → Option Reading → Test
 unevaluated_properties_say false judged unevaluated v = Yes
@@ -297,7 +338,8 @@ abbrev pub judged_by_list : Option Reading → Data → Text → Bool
 judged_by_list list v k = elim (option_and_then (λ x. x.listed) list) [ None ↦ false | Some ss ↦ judged_by_some ss v k ]
 
 abbrev pub judged_by_reference : (Text → Judge) → Option Data → Data → Text → Bool
-judged_by_reference follow reference v k = elim (option_and_then as_str reference) [ None ↦ false | Some name ↦ judged_by (follow name) v k ]
+judged_by_reference follow reference v k = elim (option_and_then as_str reference)
+    [ None ↦ false | Some name ↦ judged_by (follow name) v k ]
 
 -- a schema there judges all that is left
 abbrev pub stands_schema : Option Reading → Bool
@@ -333,7 +375,8 @@ all_keywords c raw read = record {
       ∷ required_says (raw (codes "required")) v
       ∷ properties_say (read (codes "properties")) v
       ∷ pattern_properties_say c.patterns (read (codes "patternProperties")) v
-      ∷ additional_properties_say (is_covered c.patterns (read (codes "properties")) (read (codes "patternProperties"))) (read (codes "additionalProperties")) v
+      ∷ additional_properties_say (is_covered c.patterns (read (codes "properties")) (read (codes "patternProperties")))
+      (read (codes "additionalProperties")) v
       ∷ each_says all_of (read (codes "allOf")) v
       ∷ each_says any_of (read (codes "anyOf")) v
       ∷ each_says one_of (read (codes "oneOf")) v
@@ -344,14 +387,18 @@ all_keywords c raw read = record {
 }
 
 abbrev pub reference_alone : Context → Raw → Judge
-reference_alone c raw = record { fits = reference_says c.follow (raw (codes "$ref")); judges = judged_by_reference c.follow (raw (codes "$ref")) }
+reference_alone c raw = record {
+  fits = reference_says c.follow (raw (codes "$ref"));
+  judges = judged_by_reference c.follow (raw (codes "$ref"));
+}
 
 -- a reference is a text under `$ref`; where siblings are not judged, it stands alone
 abbrev pub is_reference : Option Data → Bool
 is_reference reference = is_some (option_and_then as_str reference)
 
 abbrev pub keywords : Context → Raw → Readings → Judge
-keywords c raw read = if not c.dialect.judges_siblings && is_reference (raw (codes "$ref")) then reference_alone c raw else all_keywords c raw read
+keywords c raw read = if not c.dialect.judges_siblings && is_reference (raw (codes "$ref")) then reference_alone c raw else
+    all_keywords c raw read
 
 abbrev pub both_some : {A B C : Type 0} → (A → B → C) → Option A → Option B → Option C
 both_some f None y = None
@@ -380,7 +427,11 @@ unfoldable mutual
   read_data c (number n) = no_reading
   read_data c (string s) = no_reading
   read_data c (array ds) = record { schema = None; listed = read_items c ds; named = None }
-  read_data c (object ms) = record { schema = Some (keywords c (λ k. get_member k ms) (reading_at (read_members c ms))); listed = None; named = all_named (read_members c ms) }
+  read_data c (object ms) = record {
+    schema = Some (keywords c (λ k. get_member k ms) (reading_at (read_members c ms)));
+    listed = None;
+    named = all_named (read_members c ms);
+  }
 
   pub read_items : Context → Items → Option (List Judge)
   read_items c no_items = Some []

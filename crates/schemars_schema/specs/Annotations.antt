@@ -7,7 +7,8 @@ use Rattle.schemars_json.specs.OrderedText.{is_listed}
 
 abbrev pub is_annotation : Text → Bool
 is_annotation k =
-    is_listed k (codes "title" ∷ codes "description" ∷ codes "format" ∷ codes "default" ∷ codes "examples" ∷ codes "deprecated" ∷ codes "readOnly" ∷ codes "writeOnly" ∷ [])
+    is_listed k (codes "title" ∷ codes "description" ∷ codes "format" ∷ codes "default" ∷ codes "examples" ∷ codes "deprecated"
+    ∷ codes "readOnly" ∷ codes "writeOnly" ∷ [])
     || starts_with nat_eq k (codes "x-")
 
 -- a map of annotations alone
@@ -18,6 +19,9 @@ AreNotes (member k d ms) = (is_annotation k ≡ true) × AreNotes ms
 -- the keywords that are read
 abbrev pub keyword_names : List Text
 keyword_names =
-    codes "$ref" ∷ codes "type" ∷ codes "nullable" ∷ codes "const" ∷ codes "enum" ∷ codes "minimum" ∷ codes "maximum" ∷ codes "minLength" ∷ codes "maxLength" ∷ codes "pattern"
-    ∷ codes "minItems" ∷ codes "maxItems" ∷ codes "uniqueItems" ∷ codes "prefixItems" ∷ codes "items" ∷ codes "additionalItems" ∷ codes "required" ∷ codes "properties"
-    ∷ codes "patternProperties" ∷ codes "additionalProperties" ∷ codes "allOf" ∷ codes "anyOf" ∷ codes "oneOf" ∷ codes "not" ∷ codes "unevaluatedProperties" ∷ []
+    codes "$ref" ∷ codes "type" ∷ codes "nullable" ∷ codes "const" ∷ codes "enum" ∷ codes "minimum" ∷ codes "maximum" ∷ codes "minLength"
+    ∷ codes "maxLength" ∷ codes "pattern"
+    ∷ codes "minItems" ∷ codes "maxItems" ∷ codes "uniqueItems" ∷ codes "prefixItems" ∷ codes "items" ∷ codes "additionalItems"
+    ∷ codes "required" ∷ codes "properties"
+    ∷ codes "patternProperties" ∷ codes "additionalProperties" ∷ codes "allOf" ∷ codes "anyOf" ∷ codes "oneOf" ∷ codes "not"
+    ∷ codes "unevaluatedProperties" ∷ []

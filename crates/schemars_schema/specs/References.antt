@@ -16,7 +16,8 @@ pub data Place : Type 0 where
 
 -- the keywords with a schema, a list of schemas, and schemas by name
 abbrev pub with_schema : List Text
-with_schema = codes "not" ∷ codes "if" ∷ codes "then" ∷ codes "else" ∷ codes "contains" ∷ codes "additionalProperties" ∷ codes "propertyNames" ∷ codes "additionalItems" ∷ []
+with_schema = codes "not" ∷ codes "if" ∷ codes "then" ∷ codes "else" ∷ codes "contains" ∷ codes "additionalProperties"
+    ∷ codes "propertyNames" ∷ codes "additionalItems" ∷ []
 
 abbrev pub with_list : List Text
 with_list = codes "allOf" ∷ codes "anyOf" ∷ codes "oneOf" ∷ codes "prefixItems" ∷ []
@@ -67,7 +68,8 @@ unfoldable mutual
 
   pub found_in_keywords : Members → List Data
   found_in_keywords no_members = []
-  found_in_keywords (member k d ms) = (if bytes_eq k (codes "$ref") then d ∷ [] else at_place (place_under k) (found_in d)) ++ found_in_keywords ms
+  found_in_keywords (member k d ms) = (if bytes_eq k (codes "$ref") then d ∷ [] else at_place (place_under k) (found_in d))
+      ++ found_in_keywords ms
 
 abbrev pub references : Data → List Data
 references d = (found_in d).in_schema

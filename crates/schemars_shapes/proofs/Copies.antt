@@ -7,7 +7,8 @@ use Rattle.serde_json.proofs.Views.{Entry}
 use Rattle.schemars_shapes.specs.declared.shape.Field as src-field
 use Rattle.schemars_shapes.specs.Shape.{field_of}
 
-pub members_view-copied : (es fs : List Entry) → AllZip (λ p q. (string_bytes q.0 ≡ string_bytes p.0) × (view q.1 ≡ view p.1)) es fs → members_view fs ≡ members_view es
+pub members_view-copied : (es fs : List Entry) → AllZip (λ p q. (string_bytes q.0 ≡ string_bytes p.0) × (view q.1 ≡ view p.1)) es fs
+    → members_view fs ≡ members_view es
 members_view-copied [] [] h = refl
 members_view-copied (e ∷ es) (f ∷ fs) h = λ i. member (h.0.0 i) (h.0.1 i) (members_view-copied es fs h.1 i)
 members_view-copied [] (f ∷ fs) h = absurd h

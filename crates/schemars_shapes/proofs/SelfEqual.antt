@@ -3,13 +3,16 @@ use Rattle.std.proofs.Common.{ℕ, ◌≡◌, ◌||◌, Bool, true, false, List,
 use Rattle.std.specs.Cmp.{signed_Decides}
 use Rattle.std.proofs.lemmas.Bool.Decides.{Decides-eqb}
 use Rattle.std.proofs.lemmas.Slice.Eq.{bytes_eq-Decides}
-use Rattle.serde_json.specs.Data.{Num, unsigned, negative, float, Data, null, boolean, number, string, array, object, Items, no_items, item, Members, no_members, member}
+use Rattle.serde_json.specs.Data.{Num, unsigned, negative, float, Data, null, boolean, number, string, array, object}
+use Rattle.serde_json.specs.Data.{Items, no_items, item, Members, no_members, member}
 use Rattle.serde_json.specs.Find.{is_float}
 use Rattle.serde_json.specs.Written.{has_float, items_have_float, members_have_float}
 use Rattle.schemars_json.specs.Json.{num_eq, json_eq, items_eq, members_eq}
 use Rattle.schemars_shapes.specs.declared.shape.IntKind.{IntKind}
 use Rattle.schemars_shapes.specs.IntKind.{kind_eq, kind_number}
-use Rattle.schemars_shapes.specs.Shape.{Field, Shape, Entry, null, bool, int, non_zero, number, text, char, formatted, any, bytes, schema_itself, option, seq, set, array as array_shape, up_to, tuple, struct, newtype}
+use Rattle.schemars_shapes.specs.Shape.{Field, Shape, Entry, null, bool, int, non_zero, number, text, char, formatted}
+use Rattle.schemars_shapes.specs.Shape.{any, bytes, schema_itself, option, seq, set, array as array_shape, up_to, tuple}
+use Rattle.schemars_shapes.specs.Shape.{struct, newtype}
 use Rattle.schemars_shapes.specs.ShapeParts.{bool_eq, field_eq, numbers_eq, list_eq, shape_eq, entry_eq}
 use Rattle.schemars_shapes.specs.Decimals.{fields_have_float, shape_has_float, entry_has_float}
 
@@ -39,19 +42,28 @@ mutual
 
   items_eq-refl : (ds : Items) → items_have_float ds ≡ false → items_eq ds ds ≡ true
   items_eq-refl no_items h = refl
-  items_eq-refl (item d ds) h = let parts = neither (has_float d) (items_have_float ds) h in rw (json_eq-refl d parts.0, items_eq-refl ds parts.1) refl
+  items_eq-refl (item d ds) h = let parts = neither (has_float d) (items_have_float ds) h in
+      rw (json_eq-refl d parts.0, items_eq-refl ds parts.1) refl
 
   members_eq-refl : (ms : Members) → members_have_float ms ≡ false → members_eq ms ms ≡ true
   members_eq-refl no_members h = refl
   members_eq-refl (member k d ms) h =
-      let parts = neither (has_float d) (members_have_float ms) h in rw ((bytes_eq-Decides k k).1 refl, json_eq-refl d parts.0, members_eq-refl ms parts.1) refl
+      let parts = neither (has_float d) (members_have_float ms) h in rw
+      ((bytes_eq-Decides k k).1 refl, json_eq-refl d parts.0, members_eq-refl ms parts.1) refl
 
 field_eq-refl : (f : Field) → members_have_float f.notes ≡ false → field_eq f f ≡ true
-field_eq-refl f h = rw ((bytes_eq-Decides f.name f.name).1 refl, (Decides-eqb f.ty f.ty).1 refl, bool_eq-refl f.required.deserialize, bool_eq-refl f.required.serialize, members_eq-refl f.notes h) refl
+field_eq-refl f h = rw (
+  (bytes_eq-Decides f.name f.name).1 refl,
+  (Decides-eqb f.ty f.ty).1 refl,
+  bool_eq-refl f.required.deserialize,
+  bool_eq-refl f.required.serialize,
+  members_eq-refl f.notes h,
+) refl
 
 list_eq-refl : (fs : List Field) → fields_have_float fs ≡ false → list_eq fs fs ≡ true
 list_eq-refl [] h = refl
-list_eq-refl (f ∷ fs) h = let parts = neither (members_have_float f.notes) (fields_have_float fs) h in rw (field_eq-refl f parts.0, list_eq-refl fs parts.1) refl
+list_eq-refl (f ∷ fs) h = let parts = neither (members_have_float f.notes) (fields_have_float fs) h in
+    rw (field_eq-refl f parts.0, list_eq-refl fs parts.1) refl
 
 kind_eq-refl : (k : IntKind) → kind_eq k k ≡ true
 kind_eq-refl k = (Decides-eqb (kind_number k) (kind_number k)).1 refl
@@ -83,4 +95,5 @@ shape_eq-refl (newtype n) h = rw ((Decides-eqb n n).1 refl) refl
 
 pub entry_eq-refl : (e : Entry) → entry_has_float e ≡ false → entry_eq e e ≡ true
 entry_eq-refl e h =
-    let parts = neither (members_have_float e.notes) (shape_has_float e.shape) h in rw (bool_eq-refl e.inline, shape_eq-refl e.shape parts.1, members_eq-refl e.notes parts.0) refl
+    let parts = neither (members_have_float e.notes) (shape_has_float e.shape) h in
+    rw (bool_eq-refl e.inline, shape_eq-refl e.shape parts.1, members_eq-refl e.notes parts.0) refl

@@ -1,11 +1,14 @@
 -- A shape by what it holds, and when two shapes are equal.
-use Rattle.std.specs.Prelude.{◌≡◌, ℕ, ◌==◌, ◌&&◌, List, [], ◌∷◌, Bool, true, false, not, Option, Some, None, unwrap_or, refl, if◌then◌else◌, bytes_eq}
+use Rattle.std.specs.Prelude.{◌≡◌, ℕ, ◌==◌, ◌&&◌, List, [], ◌∷◌, Bool, true, false, not, Option, Some, None, unwrap_or}
+use Rattle.std.specs.Prelude.{refl, if◌then◌else◌, bytes_eq}
 use Rattle.std.specs.Option.{option_eq}
 use Rattle.schemars_json.specs.Json.{Text, members_eq}
 use Rattle.schemars_shapes.specs.declared.shape.IntKind.{IntKind}
 use Rattle.schemars_shapes.specs.declared.shape.IntKind.TheVariants.{I8}
 use Rattle.schemars_shapes.specs.IntKind.{kind_eq}
-use Rattle.schemars_shapes.specs.Shape.{Required, Field, Shape, Entry, null, bool, int, non_zero, number, text, char, formatted, any, bytes, schema_itself, option, seq, set, array, up_to, tuple, struct, newtype}
+use Rattle.schemars_shapes.specs.Shape.{Required, Field, Shape, Entry, null, bool, int, non_zero, number, text, char}
+use Rattle.schemars_shapes.specs.Shape.{formatted, any, bytes, schema_itself, option, seq, set, array, up_to, tuple}
+use Rattle.schemars_shapes.specs.Shape.{struct, newtype}
 
 -- its place among the shapes
 abbrev pub kind_of : Shape → ℕ

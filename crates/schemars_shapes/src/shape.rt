@@ -2,9 +2,12 @@ ghost use Rattle.std.specs.Prelude.{◌≡◌, ◌==◌, nat_le, find, map, opti
 ghost use Rattle.std.specs.Option.{option_eq};
 ghost use Rattle.std.specs.List.{IsDistinct};
 ghost use Rattle.schemars_shapes.specs.IntKind.{format_of, kind_eq, non_zero_name};
-ghost use Rattle.schemars_shapes.specs.Shape.{shape_of, field_of, fields_view, entry_of, numbers_of, same_value_numbers, names_of, without_notes};
+ghost use Rattle.schemars_shapes.specs.Shape.{shape_of, field_of, fields_view, entry_of, numbers_of};
+ghost use Rattle.schemars_shapes.specs.Shape.{same_value_numbers, names_of, without_notes};
 ghost use Rattle.schemars_shapes.specs.Repeated.{IsRepeated};
-ghost use Rattle.schemars_shapes.specs.ShapeParts.{kind_of, int_kind_in, format_in, part_of, count_in, numbers_in, fields_in, parts_of, holdings_eq, shape_eq, number_eq, numbers_eq, fields_eq, list_eq, field_eq, entry_eq};
+ghost use Rattle.schemars_shapes.specs.ShapeParts.{kind_of, int_kind_in, format_in, part_of, count_in, numbers_in};
+ghost use Rattle.schemars_shapes.specs.ShapeParts.{fields_in, parts_of, holdings_eq, shape_eq, number_eq, numbers_eq};
+ghost use Rattle.schemars_shapes.specs.ShapeParts.{fields_eq, list_eq, field_eq, entry_eq};
 
 use schemars_schema::json_eq_members;
 use serde_json::{Map, Value};

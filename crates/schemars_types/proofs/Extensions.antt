@@ -45,7 +45,8 @@ row_eq-refl : (r : Row) → option_map_or entry_has_float r.entry false ≡ fals
 row_eq-refl r h = rw ((bytes_eq-Decides r.id r.id).1 refl, (bytes_eq-Decides r.name r.name).1 refl, entries_eq-refl r.entry h) refl
 
 -- a table begins with its own first rows
-pub begins-first : (rows first : List Row) → rows_have_float first ≡ false → take (length first) rows ≡ first → begins_with rows first ≡ true
+pub begins-first : (rows first : List Row) → rows_have_float first ≡ false → take (length first) rows ≡ first
+    → begins_with rows first ≡ true
 begins-first rows [] plain is = refl
 begins-first [] (f ∷ first) plain is = cc
 begins-first (r ∷ rows) (f ∷ first) plain is =

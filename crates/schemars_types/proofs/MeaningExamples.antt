@@ -144,19 +144,23 @@ fields =
 member_of : String → Data → Text × Data
 member_of k v = (codes k, v)
 
-required_fields : TellsApart Deserialize (shape.struct fields false) (object_of (member_of "a" (whole 1) ∷ [])) (object_of (member_of "b" (whole 1) ∷ []))
+required_fields : TellsApart Deserialize (shape.struct fields false) (object_of (member_of "a" (whole 1) ∷ []))
+    (object_of (member_of "b" (whole 1) ∷ []))
 unfolding TellsApart has table belongs_within whole fields member_of
 required_fields = (refl, refl)
 
-required_fields_written : TellsApart Serialize (shape.struct fields false) (object_of (member_of "b" (whole 1) ∷ [])) (object_of (member_of "a" (whole 1) ∷ []))
+required_fields_written : TellsApart Serialize (shape.struct fields false) (object_of (member_of "b" (whole 1) ∷ []))
+    (object_of (member_of "a" (whole 1) ∷ []))
 unfolding TellsApart has table belongs_within whole fields member_of
 required_fields_written = (refl, refl)
 
-field_types : TellsApart Deserialize (shape.struct fields false) (object_of (member_of "a" (whole 1) ∷ member_of "c" null ∷ [])) (object_of (member_of "a" (whole 1) ∷ member_of "b" null ∷ []))
+field_types : TellsApart Deserialize (shape.struct fields false) (object_of (member_of "a" (whole 1) ∷ member_of "c" null ∷ []))
+    (object_of (member_of "a" (whole 1) ∷ member_of "b" null ∷ []))
 unfolding TellsApart has table belongs_within whole fields member_of
 field_types = (refl, refl)
 
-closed_structs : TellsApart Deserialize (shape.struct fields true) (object_of (member_of "a" (whole 1) ∷ [])) (object_of (member_of "a" (whole 1) ∷ member_of "c" null ∷ []))
+closed_structs : TellsApart Deserialize (shape.struct fields true) (object_of (member_of "a" (whole 1) ∷ []))
+    (object_of (member_of "a" (whole 1) ∷ member_of "c" null ∷ []))
 unfolding TellsApart has table belongs_within whole fields member_of
 closed_structs = (refl, refl)
 

@@ -1,5 +1,6 @@
 -- What `define` answers for a row that was just reserved.
-use Rattle.std.proofs.Common.{◌≡◌, ◌<◌, ◌≤◌, ◌+◌, ℕ, List, [], ◌∷◌, ◌++◌, length, find, nat_le, Bool, true, false, Option, Some, None, cond, if◌then◌else◌, refl, ap, ◌∙◌, sym, subst, arith, length-append}
+use Rattle.std.proofs.Common.{◌≡◌, ◌<◌, ◌≤◌, ◌+◌, ℕ, List, [], ◌∷◌, ◌++◌, length, find, nat_le, Bool, true, false}
+use Rattle.std.proofs.Common.{Option, Some, None, cond, if◌then◌else◌, refl, ap, ◌∙◌, sym, subst, arith, length-append}
 use Rattle.std.proofs.lemmas.Bool.Decides.{nat_tests}
 use Rattle.std.specs.List.{position_from}
 use Rattle.std.specs.Str.{bytes_eq}
@@ -15,7 +16,8 @@ below_from : (test : Row → Bool) (rows : List Row) (i n : ℕ) → position_fr
 below_from test [] i n found = cc
 below_from test (r ∷ rows) i n found = by (test r) found (below_from test rows (i + 1) n)
   where
-    by : (b : Bool) → cond b (Some i) (position_from test (i + 1) rows) ≡ Some n → (position_from test (i + 1) rows ≡ Some n → n < i + 1 + length rows) → n < i + length (r ∷ rows)
+    by : (b : Bool) → cond b (Some i) (position_from test (i + 1) rows) ≡ Some n
+        → (position_from test (i + 1) rows ≡ Some n → n < i + 1 + length rows) → n < i + length (r ∷ rows)
     by true h rest = let same : i ≡ n = cc in omega arith
     by false h rest = let later : n < i + 1 + length rows = rest h in omega arith
 
@@ -30,23 +32,28 @@ known_in_more : (a b : ℕ) (ns : List ℕ) → a ≤ b → find (λ m. nat_le a
 known_in_more a b [] more known = refl
 known_in_more a b (n ∷ ns) more known = by (nat_le a n) refl known (known_in_more a b ns more)
   where
-    by : (t : Bool) → nat_le a n ≡ t → cond t (Some n) (find (λ m. nat_le a m) ns) ≡ None → (find (λ m. nat_le a m) ns ≡ None → find (λ m. nat_le b m) ns ≡ None) → cond (nat_le b n) (Some n) (find (λ m. nat_le b m) ns) ≡ None
+    by : (t : Bool) → nat_le a n ≡ t → cond t (Some n) (find (λ m. nat_le a m) ns) ≡ None
+        → (find (λ m. nat_le a m) ns ≡ None → find (λ m. nat_le b m) ns ≡ None)
+        → cond (nat_le b n) (Some n) (find (λ m. nat_le b m) ns) ≡ None
     by true e h rest = cc
     by false e h rest = let above : nat_le b n ≡ false = grind (arith, nat_tests) in rw above (rest h)
 
 known_when_reserved : (old : List Row) (r : Row) (s : Shape) → unknown_in old s ≡ None → unknown_in (old ++ r ∷ []) s ≡ None
-known_when_reserved old r s known = known_in_more (length old) (length (old ++ r ∷ [])) (numbers_of s) (omega (arith, length-append old (r ∷ []))) known
+known_when_reserved old r s known = known_in_more (length old) (length (old ++ r ∷ [])) (numbers_of s)
+    (omega (arith, length-append old (r ∷ []))) known
 
 entry_at-past_end : (old : List Row) → entry_at old (length old) ≡ None
 entry_at-past_end [] = refl
 entry_at-past_end (r ∷ old) = entry_at-past_end old
 
-entry_at-joined : (old : List Row) (id name : Text) → entry_at (old ++ (record { id = id; name = name; entry = None }) ∷ []) (length old) ≡ None
+entry_at-joined : (old : List Row) (id name : Text) → entry_at (old ++ (record { id = id; name = name; entry = None }) ∷ []) (length old)
+    ≡ None
 entry_at-joined [] id name = refl
 entry_at-joined (r ∷ old) id name = entry_at-joined old id name
 
 -- with all numbers known, another entry alone is refused
-refusal_of-known : (rows : List Row) (n : ℕ) (e : Entry) → n < length rows → unknown_in rows e.shape ≡ None → refusal_of rows n e ≡ (if holds_another rows n e then Some (AlreadyDefined n) else None)
+refusal_of-known : (rows : List Row) (n : ℕ) (e : Entry) → n < length rows → unknown_in rows e.shape ≡ None
+    → refusal_of rows n e ≡ (if holds_another rows n e then Some (AlreadyDefined n) else None)
 refusal_of-known rows n e below known = rw (nat_le-above (length rows) n below, known)
 
 module _ (id name : Text) (e : Entry) (old : List Row) (n : ℕ) (known : unknown_in old e.shape ≡ None) where
@@ -68,10 +75,12 @@ module _ (id name : Text) (e : Entry) (old : List Row) (n : ℕ) (known : unknow
       ∙ rw undefined
 
   -- what is refused was so before the id was reserved, which left the table as it was
-  pub refused-reserved : (err : TypesError) → place_of id (reserved id name old) ≡ Some n → refusal_of (reserved id name old) n e ≡ Some err → (reserved id name old ≡ old) × Refuses id e old err
+  pub refused-reserved : (err : TypesError) → place_of id (reserved id name old) ≡ Some n
+      → refusal_of (reserved id name old) n e ≡ Some err → (reserved id name old ≡ old) × Refuses id e old err
   refused-reserved err number refused = by (place_of id old) refl
     where
-      taken : (b : Bool) → holds_another old n e ≡ b → place_of id old ≡ Some n → (if b then Some (AlreadyDefined n) else None) ≡ Some err → Refuses id e old err
+      taken : (b : Bool) → holds_another old n e ≡ b → place_of id old ≡ Some n
+          → (if b then Some (AlreadyDefined n) else None) ≡ Some err → Refuses id e old err
       taken true another there is = let same : AlreadyDefined n ≡ err = cc in subst (Refuses id e old) same (known, there, another)
       taken false another there is = cc
 
@@ -79,11 +88,15 @@ module _ (id name : Text) (e : Entry) (old : List Row) (n : ℕ) (known : unknow
       by None none = let never : None ≡ Some err = sym (refusal_of-new none number) ∙ refused in cc
       by (Some k) at =
           let same : reserved id name old ≡ old = rw at in
-          let there : place_of id old ≡ Some n = ap (place_of id) (sym same) ∙ number in
-          (same, taken (holds_another old n e) refl there (sym (refusal_of-old there) ∙ ap (λ rows. refusal_of rows n e) (sym same) ∙ refused))
+          let there : place_of id old ≡ Some n = ap (place_of id) (sym same) ∙ number in (
+            same,
+            taken (holds_another old n e) refl there (sym (refusal_of-old there) ∙ ap (λ rows. refusal_of rows n e) (sym same)
+                ∙ refused),
+          )
 
   -- and where nothing is refused, no other entry was there
-  pub free-reserved : place_of id (reserved id name old) ≡ Some n → refusal_of (reserved id name old) n e ≡ None → holds_another old n e ≡ false
+  pub free-reserved : place_of id (reserved id name old) ≡ Some n → refusal_of (reserved id name old) n e ≡ None
+      → holds_another old n e ≡ false
   free-reserved number accepted = by (place_of id old) refl
     where
       free : (b : Bool) → (if b then Some (AlreadyDefined n) else None) ≡ None → b ≡ false
@@ -91,7 +104,8 @@ module _ (id name : Text) (e : Entry) (old : List Row) (n : ℕ) (known : unknow
       free false is = refl
 
       by : (o : Option ℕ) → place_of id old ≡ o → holds_another old n e ≡ false
-      by None none = let undefined : entry_at old n ≡ None = ap (entry_at old) (sym (new_number none number)) ∙ entry_at-past_end old in rw undefined
+      by None none = let undefined : entry_at old n ≡ None = ap (entry_at old) (sym (new_number none number)) ∙ entry_at-past_end old in
+          rw undefined
       by (Some k) at =
           let same : reserved id name old ≡ old = rw at in
           let there : place_of id old ≡ Some n = ap (place_of id) (sym same) ∙ number in

@@ -1,5 +1,6 @@
 -- A table as the list of its rows.
-use Rattle.std.specs.Prelude.{ℕ, zero, suc, ◌++◌, List, [], ◌∷◌, Bool, false, not, nat_le, length, find, Option, Some, None, is_some, slice_get, option_and_then, if◌then◌else◌, bytes_eq}
+use Rattle.std.specs.Prelude.{ℕ, zero, suc, ◌++◌, List, [], ◌∷◌, Bool, false, not, nat_le, length, find, Option, Some}
+use Rattle.std.specs.Prelude.{None, is_some, slice_get, option_and_then, if◌then◌else◌, bytes_eq}
 use Rattle.std.specs.List.{position_from}
 use Rattle.std.specs.Option.{option_map_or}
 use Rattle.schemars_json.specs.Json.{Text}

@@ -1,6 +1,7 @@
 ghost use Rattle.std.specs.Prelude.{◌≡◌, false, codes, None, IfOk, OnErr, IfErr, string_bytes};
 ghost use Rattle.schemars_shapes.specs.IntKind.{format_of, non_zero_name};
-ghost use Rattle.schemars_types.specs.Names.{non_zero_id, option_id, option_name, seq_id, seq_name, set_id, set_name, array_id, array_name, up_to_id, up_to_name};
+ghost use Rattle.schemars_types.specs.Names.{non_zero_id, option_id, option_name, seq_id, seq_name, set_id, set_name};
+ghost use Rattle.schemars_types.specs.Names.{array_id, array_name, up_to_id, up_to_name};
 ghost use Rattle.schemars_shapes.specs.Shape.{Shape as shape, shape_of, in_place, array_of, without_notes};
 ghost use Rattle.schemars_types.specs.Rows.{id_at, name_at, unknown_in};
 ghost use Rattle.schemars_types.specs.Refusals.{Registers, Refuses};

@@ -1,4 +1,6 @@
-ghost use Rattle.std.specs.Prelude.{◌≡◌, ◌≢◌, ◌<◌, ◌↔◌, ◌&&◌, [], length, take, map, false, bytes_eq, None, Some, IsTrue, IsSome, IsOk, IfOk, OnOk, OnErr, IfErr, Err, option_map, string_bytes, slice_get};
+ghost use Rattle.std.specs.Prelude.{◌≡◌, ◌≢◌, ◌<◌, ◌↔◌, ◌&&◌, [], length, take, map, false, bytes_eq, None, Some};
+ghost use Rattle.std.specs.Prelude.{IsTrue, IsSome, IsOk, IfOk, OnOk, OnErr, IfErr, Err, option_map, string_bytes};
+ghost use Rattle.std.specs.Prelude.{slice_get};
 ghost use Rattle.schemars_shapes.specs.Shape.{entry_of, shape_of};
 ghost use Rattle.schemars_types.specs.Rows.{place_of, entry_at, unknown_in, reserved, defined};
 ghost use Rattle.schemars_types.specs.Edges.{RefersWithin};

@@ -6,4 +6,5 @@ use Rattle.schemagen_input.specs.Input.{are_none}
 use Rattle.schemagen_input.proofs.input.are_bare.Given as goal
 
 abbrev pub invariant-loop-field : goal.invariant-loop-field
-invariant-loop-field l = list_all (λ f. are_none f.notes) (map field_of (drop l.field-index l.fields)) ≡ list_all (λ f. are_none f.notes) (map field_of l.fields)
+invariant-loop-field l = list_all (λ f. are_none f.notes) (map field_of (drop l.field-index l.fields))
+    ≡ list_all (λ f. are_none f.notes) (map field_of l.fields)

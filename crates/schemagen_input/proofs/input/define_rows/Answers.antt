@@ -10,15 +10,18 @@ use Rattle.schemagen_input.proofs.input.define_rows.Goals as goal
 pub returns-then-not-is_bare-clause-bad : goal.returns-then-not-is_bare-clause-bad
 returns-then-not-is_bare-clause-bad c = λ _.
     let noted : is_bare (entry_of c.in_ok-entry.entry) ≡ false = cc in
-    defining_is_not_bare _ _ _ _ c.index-rows-n.result (entry_of c.in_ok-entry.entry) c.index-rows-n.is c.loop-n-test.true c.loop-n.invariant c.in_ok-entry.ensures.ok noted
+    defining_is_not_bare _ _ _ _ c.index-rows-n.result (entry_of c.in_ok-entry.entry) c.index-rows-n.is c.loop-n-test.true
+    c.loop-n.invariant c.in_ok-entry.ensures.ok noted
 
 pub returns-in_err-define-clause-bad : goal.returns-in_err-define-clause-bad
 returns-in_err-define-clause-bad c =
     let refused : fitting_after (length c.args.types) [] (items_view c.args.rows.now) ≡ None =
-    defining_is_refused _ _ _ _ c.index-rows-n.result (entry_of c.in_ok-entry.entry) _ c.index-rows-n.is c.loop-n-test.true c.loop-n.invariant c.in_ok-entry.ensures.ok (sym c.in_err-define.ensures.refused) in
+    defining_is_refused _ _ _ _ c.index-rows-n.result (entry_of c.in_ok-entry.entry) _ c.index-rows-n.is c.loop-n-test.true
+    c.loop-n.invariant c.in_ok-entry.ensures.ok (sym c.in_err-define.ensures.refused) in
     search rules
 
 pub loop-n-preserved : goal.loop-n-preserved
 loop-n-preserved c =
     let bare : is_bare (entry_of c.in_ok-entry.entry) ≡ true = cc in
-    defining_goes_on _ _ _ _ _ c.index-rows-n.result (entry_of c.in_ok-entry.entry) c.index-rows-n.is c.loop-n-test.true c.loop-n.invariant c.in_ok-entry.ensures.ok bare (sym c.in_ok-define.ensures.refused) c.in_ok-define.ensures.ok
+    defining_goes_on _ _ _ _ _ c.index-rows-n.result (entry_of c.in_ok-entry.entry) c.index-rows-n.is c.loop-n-test.true
+    c.loop-n.invariant c.in_ok-entry.ensures.ok bare (sym c.in_ok-define.ensures.refused) c.in_ok-define.ensures.ok

@@ -6,4 +6,5 @@ use Rattle.schemagen_input.specs.Input.{fields_in}
 use Rattle.schemagen_input.proofs.input.fields_in.Given as goal
 
 abbrev pub invariant-loop-value : goal.invariant-loop-value
-invariant-loop-value l = fields_in (items_view l.values) ≡ option_map (λ fs. map field_of l.fields.items ++ fs) (fields_in (items_view (drop l.value-index l.values)))
+invariant-loop-value l = fields_in (items_view l.values) ≡ option_map (λ fs. map field_of l.fields.items ++ fs)
+    (fields_in (items_view (drop l.value-index l.values)))

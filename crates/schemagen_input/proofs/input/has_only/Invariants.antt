@@ -5,4 +5,5 @@ use Rattle.schemagen_input.specs.Input.{are_listed}
 use Rattle.schemagen_input.proofs.input.has_only.Given as goal
 
 abbrev pub invariant-loop-name : goal.invariant-loop-name
-invariant-loop-name l = are_listed (map (λ n. n.now) l.names) (members_view l.name-iterator) ≡ are_listed (map (λ n. n.now) l.names) (members_view l.initial.name-iterator)
+invariant-loop-name l = are_listed (map (λ n. n.now) l.names) (members_view l.name-iterator)
+    ≡ are_listed (map (λ n. n.now) l.names) (members_view l.initial.name-iterator)

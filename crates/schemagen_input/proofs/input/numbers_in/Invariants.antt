@@ -5,4 +5,5 @@ use Rattle.schemagen_input.specs.Input.{numbers_in}
 use Rattle.schemagen_input.proofs.input.numbers_in.Given as goal
 
 abbrev pub invariant-loop-value : goal.invariant-loop-value
-invariant-loop-value l = numbers_in (items_view l.values) ≡ option_map (λ ns. l.numbers.items ++ ns) (numbers_in (items_view (drop l.value-index l.values)))
+invariant-loop-value l = numbers_in (items_view l.values) ≡ option_map (λ ns. l.numbers.items ++ ns)
+    (numbers_in (items_view (drop l.value-index l.values)))

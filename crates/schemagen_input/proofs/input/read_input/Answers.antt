@@ -16,7 +16,8 @@ returns-in_err-types-clause-bad c =
     let only : has_only (codes "types" ∷ codes "root" ∷ []) (view c.args.value.now) ≡ true = cc in
     let parts = input_of-parts (view c.args.value.now) _ _ only (sym c.in-Some-Some.ensures) (sym c.in-Some-Some.ensures') in
     let bad : c.in_err-types.field-0.0 ≡ BadTable → input_of (view c.args.value.now) ≡ None =
-    λ b. parts ∙ tabled-not_reserved (items_view c.in-Some-Some.rows.now.items) c.in-Some-Some.root (rw (sym c.deref.ensures.value) (c.in_err-types.ensures.bad b)) in
+    λ b. parts ∙ tabled-not_reserved (items_view c.in-Some-Some.rows.now.items) c.in-Some-Some.root
+    (rw (sym c.deref.ensures.value) (c.in_err-types.ensures.bad b)) in
     let p = err_from_is_err_and c.from_residual.result c.from_residual.ensures.1 in
     rw (p.1, p.2) bad
 
@@ -25,7 +26,8 @@ returns-in_err-types-2-clause-bad c =
     let only : has_only (codes "types" ∷ codes "root" ∷ []) (view c.args.value.now) ≡ true = cc in
     let parts = input_of-parts (view c.args.value.now) _ _ only (sym c.in-Some-Some.ensures) (sym c.in-Some-Some.ensures') in
     let bad : c.in_err-types-2.field-0.0 ≡ BadTable → input_of (view c.args.value.now) ≡ None =
-    λ b. parts ∙ tabled-not_fitting (items_view c.in-Some-Some.rows.now.items) c.in-Some-Some.root c.in_ok-types.types (rw (sym c.deref.ensures.value) (c.in_ok-types.ensures.ok)) (rw (sym c.deref-2.ensures.value) (c.in_err-types-2.ensures.bad b)) in
+    λ b. parts ∙ tabled-not_fitting (items_view c.in-Some-Some.rows.now.items) c.in-Some-Some.root c.in_ok-types.types
+    (rw (sym c.deref.ensures.value) (c.in_ok-types.ensures.ok)) (rw (sym c.deref-2.ensures.value) (c.in_err-types-2.ensures.bad b)) in
     let p = err_from_is_err_and c.from_residual-in_err-types-2.result c.from_residual-in_err-types-2.ensures.1 in
     rw (p.1, p.2) bad
 
@@ -34,5 +36,6 @@ returns-clause-ok c =
     let only : has_only (codes "types" ∷ codes "root" ∷ []) (view c.args.value.now) ≡ true = cc in
     let parts = input_of-parts (view c.args.value.now) _ _ only (sym c.in-Some-Some.ensures) (sym c.in-Some-Some.ensures') in
     let small : c.in-Some-Some.root < length c.in_ok-types-2.types = omega arith in
-    let done = tabled-done (items_view c.in-Some-Some.rows.now.items) c.in-Some-Some.root c.in_ok-types.types c.in_ok-types-2.types (rw (sym c.deref.ensures.value) c.in_ok-types.ensures.ok) (rw (sym c.deref-2.ensures.value) c.in_ok-types-2.ensures.ok) in
+    let done = tabled-done (items_view c.in-Some-Some.rows.now.items) c.in-Some-Some.root c.in_ok-types.types c.in_ok-types-2.types
+    (rw (sym c.deref.ensures.value) c.in_ok-types.ensures.ok) (rw (sym c.deref-2.ensures.value) c.in_ok-types-2.ensures.ok) in
     parts ∙ done ∙ rw (below c.in-Some-Some.root (length c.in_ok-types-2.types) small)

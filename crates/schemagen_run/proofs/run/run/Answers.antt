@@ -35,18 +35,21 @@ pub returns-in_err-types-clause-accepted : goal.returns-in_err-types-clause-acce
 returns-in_err-types-clause-accepted g c = λ _ bytes known text.
     let told = c.in_err-types.ensures in
     let outside : IsOutside c.in_err-types.field-0.0 =
-    read_outside bytes _ _ c.in_err-types.field-0.0 known text told.faults (λ e. told.not_json (ap Err e)) (λ e. told.bad_table (ap Err e)) in
+    read_outside bytes _ _ c.in_err-types.field-0.0 known text told.faults (λ e. told.not_json (ap Err e))
+    (λ e. told.bad_table (ap Err e)) in
     search rules
 
 pub returns-in_err-line-clause-faulty : goal.returns-in_err-line-clause-faulty
 returns-in_err-line-clause-faulty g c =
     let faulty = read_is_faulty _ _ _ _ c.in_err-line.field-0.0 c.in_ok-types.ensures.ok c.in_err-line.ensures.refused in
-    refused_alike (g.S.Source.left c.args.source.now) (g.S.Source.left c.read_table.new.source) c.from_residual-in_err-line.result c.in_err-line.field-0.0 c.from_residual-in_err-line.ensures.1 faulty
+    refused_alike (g.S.Source.left c.args.source.now) (g.S.Source.left c.read_table.new.source) c.from_residual-in_err-line.result
+    c.in_err-line.field-0.0 c.from_residual-in_err-line.ensures.1 faulty
 
 pub returns-in_err-line-clause-accepted : goal.returns-in_err-line-clause-accepted
 returns-in_err-line-clause-accepted g c = λ _ bytes known text.
     let given = gave bytes _ _ known c.in_ok-types.ensures.ok in
-    let memory : c.in_err-line.field-0.0 ≡ Refused OUT_OF_MEMORY = c.in_err-line.ensures.only_memory (read_is_accepted bytes _ _ given text) in
+    let memory : c.in_err-line.field-0.0 ≡ Refused OUT_OF_MEMORY = c.in_err-line.ensures.only_memory
+    (read_is_accepted bytes _ _ given text) in
     search rules
 
 pub returns-clause-done : goal.returns-clause-done

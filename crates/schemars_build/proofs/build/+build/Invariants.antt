@@ -38,8 +38,10 @@ invariant-parts_in_order-loop-part l = record {
   step : Step (plan_of l.plan) l.fn.work l.work;
   fewer : missing (plan_of l.plan).rows l.plan.contract l.work ≤ missing (plan_of l.plan).rows l.plan.contract l.fn.work;
   written : ArePartsWritten (IsWritten (Refers (plan_of l.plan) (not l.in_definition) l.work)
-      (Describes (plan_of l.plan).rows (contract_of l.plan.contract) (Refers (plan_of l.plan) (not l.in_definition) l.work) (height (plan_of l.plan).rows l.n))) (take l.part-index l.parts) (map view l.items.items);
-  reached : IsPlainTable (plan_of l.plan).rows → AreReached (plan_of l.plan) l.in_definition l.fn.work l.work (found_in_items (items_view l.items.items));
+      (Describes (plan_of l.plan).rows (contract_of l.plan.contract) (Refers (plan_of l.plan) (not l.in_definition) l.work)
+      (height (plan_of l.plan).rows l.n))) (take l.part-index l.parts) (map view l.items.items);
+  reached : IsPlainTable (plan_of l.plan).rows → AreReached (plan_of l.plan) l.in_definition l.fn.work l.work
+      (found_in_items (items_view l.items.items));
 }
 
 abbrev pub invariant-properties-loop-field : goal.invariant-properties-loop-field
@@ -48,7 +50,8 @@ invariant-properties-loop-field l = record {
   step : Step (plan_of l.plan) l.fn.work l.work;
   fewer : missing (plan_of l.plan).rows l.plan.contract l.work ≤ missing (plan_of l.plan).rows l.plan.contract l.fn.work;
   written : ArePropertiesOf (IsWritten (Refers (plan_of l.plan) (not l.in_definition) l.work)
-      (Describes (plan_of l.plan).rows (contract_of l.plan.contract) (Refers (plan_of l.plan) (not l.in_definition) l.work) (height (plan_of l.plan).rows l.n))) (map field_of (take l.field-index l.fields)) (members_view l.properties.entries);
+      (Describes (plan_of l.plan).rows (contract_of l.plan.contract) (Refers (plan_of l.plan) (not l.in_definition) l.work)
+      (height (plan_of l.plan).rows l.n))) (map field_of (take l.field-index l.fields)) (members_view l.properties.entries);
   reached : IsPlainTable (plan_of l.plan).rows → AreDistinct (map field_of l.fields) → AreNoted (map field_of l.fields)
       → AreReached (plan_of l.plan) l.in_definition l.fn.work l.work (found_in_members (members_view l.properties.entries));
 }

@@ -14,5 +14,6 @@ returns c =
     let ended : drop c.loop-field.field-index fields ≡ [] = drop_all c.loop-field.field-index fields c.loop-field-test.false in
     let all : map view c.loop-field.names.items ≡ map string (required_names (contract_of c.args.contract) (map field_of fields)) =
     sym (append-nil (map view c.loop-field.names.items))
-    ∙ (ap (λ fs. map view c.loop-field.names.items ++ map string (required_names (contract_of c.args.contract) (map field_of fs))) (sym ended) ∙ c.loop-field.invariant) in
+    ∙ (ap (λ fs. map view c.loop-field.names.items ++ map string (required_names (contract_of c.args.contract) (map field_of fs)))
+    (sym ended) ∙ c.loop-field.invariant) in
     items_view-texts c.loop-field.names.items (required_names (contract_of c.args.contract) (map field_of fields)) all

@@ -17,9 +17,14 @@ returns-in_err-document-clause-refused c =
     let path : c.stripped-path.result.now ≡ (plan_of s None).path = search rules in
     let definitions : members_view c.take_definitions-definitions.result.entries ≡ c.titled_document.new.work.definitions = search rules in
     let Q : State → Type 0 = λ x. CannotPlace x c.args.n in
-    let told : (e ≡ OutOfMemory) ⊎ ((e ≡ DefinitionsPath) × CannotPlace c.args.generator c.args.n) = elim c.in_err-document.ensures.refused [
+    let told : (e ≡ OutOfMemory) ⊎ ((e ≡ DefinitionsPath) × CannotPlace c.args.generator c.args.n) =
+    elim c.in_err-document.ensures.refused [
       | inl same ↦ inl same
-      | inr h ↦ inr (h.0, subst Q c.generator.view_is (cannot_place s c.args.n c.generator.inside.work c.titled_document.new.work c.in_ok-own.own _ _ c.generator.invariant.2 c.in_ok-own.ensures.step c.in_ok-own.ensures.titled path definitions h.1))
+      | inr h ↦ inr (
+        h.0,
+        subst Q c.generator.view_is (cannot_place s c.args.n c.generator.inside.work c.titled_document.new.work
+            c.in_ok-own.own _ _ c.generator.invariant.2 c.in_ok-own.ensures.step c.in_ok-own.ensures.titled path definitions h.1),
+      )
     ] in
     let P : GenerateError → Type 0 = λ x. (x ≡ OutOfMemory) ⊎ ((x ≡ DefinitionsPath) × CannotPlace c.args.generator c.args.n) in
     err_told c.from_residual-in_err-document.result P _ c.from_residual-in_err-document.ensures.1 (λ x is. subst P (sym is) told)
@@ -31,5 +36,6 @@ returns-clause-root c =
     let path : c.stripped-path.result.now ≡ (plan_of s None).path = search rules in
     let definitions : members_view c.take_definitions-definitions.result.entries ≡ w.definitions = search rules in
     let P : State → Type 0 = λ x. IsRootOf x c.args.n w c.in_ok-document.document in
-    let made = root_of s c.args.n c.generator.inside.work w c.in_ok-own.own c.in_ok-document.document _ _ c.generator.invariant.2 c.in_ok-own.ensures.step c.in_ok-own.ensures.titled path definitions c.in_ok-document.ensures.ok in
+    let made = root_of s c.args.n c.generator.inside.work w c.in_ok-own.own c.in_ok-document.document _ _ c.generator.invariant.2
+    c.in_ok-own.ensures.step c.in_ok-own.ensures.titled path definitions c.in_ok-document.ensures.ok in
     (w, subst P c.generator.view_is made, subst HasKeysOnce definitions c.in_ok-document.ensures.once, c.keep.ensures.one_to_one)

@@ -4,7 +4,8 @@ use Rattle.schemars_generate.proofs.Paths.{hash_gone, no_hash}
 use Rattle.schemars_generate.proofs.generate.without_hash.Goals as goal
 
 pub returns-in-Some : goal.returns-in-Some
-returns-in-Some c = sym (hash_gone c.args.path.now c.in-Some.rest.now (strip_prefix_char 35 c.args.path.now (Some c.in-Some.rest) c.in-Some.ensures.cases (omega arith)))
+returns-in-Some c = sym (hash_gone c.args.path.now c.in-Some.rest.now
+    (strip_prefix_char 35 c.args.path.now (Some c.in-Some.rest) c.in-Some.ensures.cases (omega arith)))
 
 pub returns-in-None : goal.returns-in-None
 returns-in-None c = sym (no_hash c.args.path.now (strip_prefix_char 35 c.args.path.now None c.in-None.ensures.cases (omega arith)))

@@ -6,7 +6,8 @@ use Rattle.schemars_generate.proofs.generate.without_slash.Goals as goal
 
 pub returns-in-Some : goal.returns-in-Some
 returns-in-Some c =
-    sym (ap without_slash (strip_suffix_char 47 c.args.path.now (Some c.in-Some.front) c.in-Some.ensures.cases (omega arith)) ∙ slash_gone c.in-Some.front.now)
+    sym (ap without_slash (strip_suffix_char 47 c.args.path.now (Some c.in-Some.front) c.in-Some.ensures.cases (omega arith))
+    ∙ slash_gone c.in-Some.front.now)
 
 pub returns-in-None : goal.returns-in-None
 returns-in-None c = sym (no_slash c.args.path.now (strip_suffix_char 47 c.args.path.now None c.in-None.ensures.cases (omega arith)))

@@ -5,15 +5,18 @@ use Rattle.schemars_json.proofs.Encodings.{all_stay, some_change, token_decodes,
 use Rattle.schemars_json.proofs.encoding.encode_ref_name.Goals as goal
 
 pub returns-then-all_stay-clause-encoded : goal.returns-then-all_stay-clause-encoded
-returns-then-all_stay-clause-encoded c = sym (all_stay c.args.name.now (rw c.as_bytes.ensures.value at (sym c.all_stay.ensures ∙ c.if-all_stay.true)))
+returns-then-all_stay-clause-encoded c = sym (all_stay c.args.name.now
+    (rw c.as_bytes.ensures.value at (sym c.all_stay.ensures ∙ c.if-all_stay.true)))
 
 pub returns-then-all_stay-clause-decodes : goal.returns-then-all_stay-clause-decodes
 returns-then-all_stay-clause-decodes c =
-    token_decodes c.args.name.now c.args.name.now c.utf8.name (sym (all_stay c.args.name.now (rw c.as_bytes.ensures.value at (sym c.all_stay.ensures ∙ c.if-all_stay.true))))
+    token_decodes c.args.name.now c.args.name.now c.utf8.name (sym (all_stay c.args.name.now
+    (rw c.as_bytes.ensures.value at (sym c.all_stay.ensures ∙ c.if-all_stay.true))))
 
 pub returns-then-all_stay-clause-leads_to_member : goal.returns-then-all_stay-clause-leads_to_member
 returns-then-all_stay-clause-leads_to_member c =
-    token_leads c.args.name.now c.args.name.now c.utf8.name (sym (all_stay c.args.name.now (rw c.as_bytes.ensures.value at (sym c.all_stay.ensures ∙ c.if-all_stay.true))))
+    token_leads c.args.name.now c.args.name.now c.utf8.name (sym (all_stay c.args.name.now
+    (rw c.as_bytes.ensures.value at (sym c.all_stay.ensures ∙ c.if-all_stay.true))))
 
 pub returns-in_err-token-clause-borrows : goal.returns-in_err-token-clause-borrows
 returns-in_err-token-clause-borrows c = λ same.

@@ -7,11 +7,13 @@ use Rattle.schemars_json.proofs.encoding.percent_decode.Goals as goal
 
 pub returns-then-not-has_escape-clause-decoded : goal.returns-then-not-has_escape-clause-decoded
 returns-then-not-has_escape-clause-decoded c =
-    sym (percent_decoded-plain c.args.text.now c.utf8.text (rw c.as_bytes.ensures.value at (sym c.has_escape.ensures ∙ c.if-not-has_escape.true)))
+    sym (percent_decoded-plain c.args.text.now c.utf8.text (rw c.as_bytes.ensures.value at
+    (sym c.has_escape.ensures ∙ c.if-not-has_escape.true)))
 
 pub returns-in_err-bytes-clause-borrows : goal.returns-in_err-bytes-clause-borrows
 returns-in_err-bytes-clause-borrows c = λ same.
-    absurd (percent_decoded-changed c.args.text.now (rw c.as_bytes.ensures.value at (sym c.has_escape.ensures ∙ c.if-not-has_escape.false)) same)
+    absurd (percent_decoded-changed c.args.text.now (rw c.as_bytes.ensures.value at
+    (sym c.has_escape.ensures ∙ c.if-not-has_escape.false)) same)
 
 pub returns-in-Ok-clause-decoded : goal.returns-in-Ok-clause-decoded
 returns-in-Ok-clause-decoded c =

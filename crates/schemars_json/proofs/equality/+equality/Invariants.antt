@@ -7,7 +7,8 @@ use Rattle.schemars_json.proofs.equality.+equality.Given as goal
 
 abbrev pub invariant-items_eq-loop-item : goal.invariant-items_eq-loop-item
 invariant-items_eq-loop-item l =
-    items_eq (items_view (drop l.item-index l.a.items)) (items_view (iter_rest l.others)) ≡ items_eq (items_view l.a.items) (items_view l.b.items)
+    items_eq (items_view (drop l.item-index l.a.items)) (items_view (iter_rest l.others))
+    ≡ items_eq (items_view l.a.items) (items_view l.b.items)
 
 abbrev pub invariant-json_eq_members-loop-key : goal.invariant-json_eq_members-loop-key
 invariant-json_eq_members-loop-key l =

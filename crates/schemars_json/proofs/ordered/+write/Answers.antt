@@ -20,7 +20,12 @@ write_value-returns-in_ok-token-in-Object-2 t c =
 pub write_members-returns-in_ok-write_keywords-in-Schema-2 : goal.write_members-returns-in_ok-write_keywords-in-Schema-2
 write_members-returns-in_ok-write_keywords-in-Schema-2 t c = λ none.
     let ws = member_texts SchemaLayout (members_view c.args.members.now.entries) in
-    rw (c.in_ok-write_keywords-in-Schema-2.ensures none, c.in_ok-write_others-in-Schema.ensures none, c.in_ok-write_keywords-in-Schema.ensures none, c.in-Schema.is)
+    rw (
+      c.in_ok-write_keywords-in-Schema-2.ensures none,
+      c.in_ok-write_others-in-Schema.ensures none,
+      c.in_ok-write_keywords-in-Schema.ensures none,
+      c.in-Schema.is,
+    )
     (with_groups c.args.out.now (each_written_at first_keywords ws) (others ws) (each_written_at last_keywords ws))
 
 pub write_keywords-loop-keyword-preserved : goal.write_keywords-loop-keyword-preserved
@@ -29,7 +34,9 @@ write_keywords-loop-keyword-preserved t c = λ none.
     let before = c.loop-keyword.invariant none in
     elim c.match-get.branch [
       | write_keywords-in-Some+in_ok-write_member w ↦
-          rw w.out-is (keyword_found c.loop-keyword.out w.write_member.new.out c.args.keywords.now c.loop-keyword.keyword-index _ w.in-Some.value.now es _ c.loop-keyword-test.true w.in-Some.ensures.value w.in_ok-write_member.ensures none before)
+          rw w.out-is (keyword_found c.loop-keyword.out w.write_member.new.out c.args.keywords.now c.loop-keyword.keyword-index _
+          w.in-Some.value.now es _ c.loop-keyword-test.true w.in-Some.ensures.value w.in_ok-write_member.ensures none before)
       | write_keywords-in_default w ↦
-          rw w.out-is (keyword_missing c.loop-keyword.out c.args.keywords.now c.loop-keyword.keyword-index _ es _ c.loop-keyword-test.true w.in_default.ensures.value before)
+          rw w.out-is (keyword_missing c.loop-keyword.out c.args.keywords.now c.loop-keyword.keyword-index _ es _
+          c.loop-keyword-test.true w.in_default.ensures.value before)
     ]

@@ -5,4 +5,5 @@ use Rattle.schemars_schema.specs.SchemaData.{put_members}
 use Rattle.schemars_schema.proofs.placing.put_members.Given as goal
 
 abbrev pub invariant-loop-key : goal.invariant-loop-key
-invariant-loop-key l = put_members (members_view l.key-iterator) (members_view l.into.entries) ≡ put_members (members_view l.fn.members.entries) (members_view l.fn.into.entries)
+invariant-loop-key l = put_members (members_view l.key-iterator) (members_view l.into.entries)
+    ≡ put_members (members_view l.fn.members.entries) (members_view l.fn.into.entries)

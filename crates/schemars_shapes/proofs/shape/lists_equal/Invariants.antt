@@ -6,4 +6,5 @@ use Rattle.schemars_shapes.specs.ShapeParts.{list_eq}
 use Rattle.schemars_shapes.proofs.shape.lists_equal.Given as goal
 
 abbrev pub invariant-loop-field : goal.invariant-loop-field
-invariant-loop-field l = list_eq (map field_of (drop l.field-index l.a)) (map field_of (iter_rest l.others)) ≡ list_eq (map field_of l.a) (map field_of l.b)
+invariant-loop-field l = list_eq (map field_of (drop l.field-index l.a)) (map field_of (iter_rest l.others))
+    ≡ list_eq (map field_of l.a) (map field_of l.b)

@@ -10,7 +10,8 @@ returns-clause-headline c =
     let s = c.args.self in
     let root = c.in_ok-document.ensures.root in
     let P : State → Type 0 = λ x. IsChecked x.rows in
-    λ own path. root_means s c.args.n root.0 c.in_ok-document.document (subst P c.self.view_is c.self.invariant.0) root.1 root.2 root.3 own path
+    λ own path. root_means s c.args.n root.0 c.in_ok-document.document (subst P c.self.view_is c.self.invariant.0) root.1 root.2 root.3
+    own path
 
 pub returns-clause-whole : goal.returns-clause-whole
 returns-clause-whole c =

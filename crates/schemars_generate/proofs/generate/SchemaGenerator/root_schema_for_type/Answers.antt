@@ -17,7 +17,8 @@ returns-clause-headline c =
     let d = c.in_ok-document.document in
     let n = c.args.n in
     let root = c.in_ok-document.ensures.root in
-    let P : State → Type 0 = λ x. HasOwnDefinitions x → IsDraftPath (plan_of x None).path → Headline x.rows (contract_of x.settings.contract) (plan_of x None).path n d in
+    let P : State → Type 0 = λ x. HasOwnDefinitions x → IsDraftPath (plan_of x None).path
+    → Headline x.rows (contract_of x.settings.contract) (plan_of x None).path n d in
     subst P c.self.view_is (λ own path. root_means s n root.0 d c.self.invariant.0 root.1 root.2 root.3 own path)
 
 pub returns-clause-own : goal.returns-clause-own

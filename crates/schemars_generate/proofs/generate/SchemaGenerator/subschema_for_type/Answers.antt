@@ -26,7 +26,8 @@ returns-clause-own c =
     let new = state_of c.self.inside.settings c.self.inside.types c.part_of.new.work in
     let P : Work → Type 0 = λ w. Step (plan_of s None) w c.part_of.new.work in
     let Q : Work → Type 0 = λ w. Step (plan_of s None) (work_of s) w in
-    let step : Step (plan_of s None) (work_of s) (work_of new) = subst Q c.in_ok-schema.ensures.between (subst P c.self.invariant.2 c.in_ok-schema.ensures.step) in
+    let step : Step (plan_of s None) (work_of s) (work_of new) = subst Q c.in_ok-schema.ensures.between
+    (subst P c.self.invariant.2 c.in_ok-schema.ensures.step) in
     λ own. part_own s new refl step (subst HasOwnDefinitions (sym c.self.view_is) own)
 
 pub returns-clause-means : goal.returns-clause-means
@@ -34,16 +35,19 @@ returns-clause-means c =
     let new = state_of c.self.inside.settings c.self.inside.types c.part_of.new.work in
     let P : Work → Type 0 = λ w. IsSubschema (plan_of new None) false w c.args.n c.in_ok-schema.schema in
     λ own.
-    subschema_headline new c.args.n false (depth_in_place new.rows c.args.n) c.in_ok-schema.schema c.self.invariant.0 c.in_ok-schema.ensures.one_to_one (returns-clause-own c own)
+    subschema_headline new c.args.n false (depth_in_place new.rows c.args.n) c.in_ok-schema.schema c.self.invariant.0
+    c.in_ok-schema.ensures.one_to_one (returns-clause-own c own)
     (subst P c.in_ok-schema.ensures.between c.in_ok-schema.ensures.part)
 
 pub returns-clause-reference : goal.returns-clause-reference
 returns-clause-reference c =
     let new = state_of c.self.inside.settings c.self.inside.types c.part_of.new.work in
     let P : Work → Type 0 = λ w. IsSubschema (plan_of new None) false w c.args.n c.in_ok-schema.schema in
-    let Q : State → Type 0 = λ x. is_inline_at x.rows c.args.n ≡ false → (name : List ℕ) × (name_of c.args.n x.settings.contract new.names ≡ Some name) × IsKey name new.definitions
+    let Q : State → Type 0 = λ x. is_inline_at x.rows c.args.n ≡ false
+    → (name : List ℕ) × (name_of c.args.n x.settings.contract new.names ≡ Some name) × IsKey name new.definitions
     × (c.in_ok-schema.schema ≡ reference (reference_to (plan_of x None).path name)) in
-    subst Q c.self.view_is (λ apart. reference_of_part new c.args.n c.in_ok-schema.schema (subst P c.in_ok-schema.ensures.between c.in_ok-schema.ensures.part) apart)
+    subst Q c.self.view_is (λ apart. reference_of_part new c.args.n c.in_ok-schema.schema
+    (subst P c.in_ok-schema.ensures.between c.in_ok-schema.ensures.part) apart)
 
 pub returns-clause-reached : goal.returns-clause-reached
 returns-clause-reached c =

@@ -11,5 +11,6 @@ returns-in_ok-u64 c = λ _.
 
 pub returns-in_ok-i64 : goal.returns-in_ok-i64
 returns-in_ok-i64 c = λ _.
-    let tokens : c.i64.new.self.tokens ≡ c.self.inside.writer.tokens ++ number (signed_decimal c.in-Some-as_i64.below_zero) ∷ [] = search rules in
+    let tokens : c.i64.new.self.tokens ≡ c.self.inside.writer.tokens ++ number (signed_decimal c.in-Some-as_i64.below_zero) ∷ [] =
+    search rules in
     rw (number_text_of_i64 _ _ (sym c.in-Some-as_i64.ensures), ← c.self.view_is) (output_of_push _ _ _ tokens)

@@ -10,4 +10,5 @@ returns-clause-len c =
     ∙ ap length c.self.view_is
 
 pub returns-clause-one_to_one : goal.returns-clause-one_to_one
-returns-clause-one_to_one c = subst IsOneToOne c.self.view_is (one_to_one c.self.inside.owners.keys c.self.inside.given.keys c.self.invariant c.len.ensures.unique)
+returns-clause-one_to_one c = subst IsOneToOne c.self.view_is (one_to_one c.self.inside.owners.keys c.self.inside.given.keys
+    c.self.invariant c.len.ensures.unique)

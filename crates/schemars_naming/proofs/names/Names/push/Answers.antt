@@ -1,4 +1,5 @@
-use Rattle.std.proofs.Common.{◌≡◌, ◌++◌, ◌∷◌, [], List, Bool, false, if◌then◌else◌, length, string_bytes, length-append, ap, ◌∙◌, sym, arith}
+use Rattle.std.proofs.Common.{◌≡◌, ◌++◌, ◌∷◌, [], List, Bool, false, if◌then◌else◌, length, string_bytes, length-append}
+use Rattle.std.proofs.Common.{ap, ◌∙◌, sym, arith}
 use Rattle.std.specs.List.{list_any}
 use Rattle.std.specs.String.{string_eq}
 use Rattle.schemars_naming.specs.declared.names.Owner.{Owner}
@@ -8,13 +9,17 @@ use Rattle.schemars_naming.proofs.NamingLemmas.{is_owner, no_owner, is_used-nami
 use Rattle.schemars_naming.proofs.names.Names.push.Goals as goal
 
 -- the sets after both joined
-joined_owners : (c : goal.In_ok-insert-2) → c.insert-2.new.self.keys ≡ c.self.inside.owners.keys ++ (record { row = c.args.n; contract = c.args.contract }) ∷ []
+joined_owners : (c : goal.In_ok-insert-2) → c.insert-2.new.self.keys
+    ≡ c.self.inside.owners.keys ++ (record { row = c.args.n; contract = c.args.contract }) ∷ []
 joined_owners c =
     let none : list_any (is_owner c.args.n c.args.contract) c.self.inside.owners.keys ≡ false =
-    no_owner c.args.n c.args.contract c.self.inside.owners.keys c.self.inside.given.keys c.self.invariant (ap (name_of c.args.n c.args.contract) c.self.view_is ∙ c.requires.unnamed) in
-    let absent : list_any (is_owner c.args.n c.args.contract) c.reserve.new.self.keys ≡ false = ap (list_any (is_owner c.args.n c.args.contract)) c.reserve.ensures.keys ∙ none in
+    no_owner c.args.n c.args.contract c.self.inside.owners.keys c.self.inside.given.keys c.self.invariant
+    (ap (name_of c.args.n c.args.contract) c.self.view_is ∙ c.requires.unnamed) in
+    let absent : list_any (is_owner c.args.n c.args.contract) c.reserve.new.self.keys ≡ false =
+    ap (list_any (is_owner c.args.n c.args.contract)) c.reserve.ensures.keys ∙ none in
     c.in_ok-insert-2.ensures.keys
-    ∙ ap (λ (b : Bool). if b then c.reserve.new.self.keys else c.reserve.new.self.keys ++ (record { row = c.args.n; contract = c.args.contract }) ∷ []) absent
+    ∙ ap (λ (b : Bool). if b then c.reserve.new.self.keys else c.reserve.new.self.keys
+    ++ (record { row = c.args.n; contract = c.args.contract }) ∷ []) absent
     ∙ ap (λ (os : List Owner). os ++ (record { row = c.args.n; contract = c.args.contract }) ∷ []) c.reserve.ensures.keys
 
 joined_names : (c : goal.In_ok-insert-2) → c.insert.new.self.keys ≡ c.self.inside.given.keys ++ c.args.name ∷ []
@@ -28,11 +33,19 @@ joined_names c =
 pub invariant_of-self-2 : goal.invariant_of-self-2
 invariant_of-self-2 c =
     ap length (joined_owners c)
-    ∙ omega (arith, c.self.invariant, length-append c.self.inside.owners.keys ((record { row = c.args.n; contract = c.args.contract }) ∷ []), length-append c.self.inside.given.keys (c.args.name ∷ []))
+    ∙ omega (
+      arith,
+      c.self.invariant,
+      length-append c.self.inside.owners.keys
+          ((record { row = c.args.n; contract = c.args.contract }) ∷ []),
+      length-append c.self.inside.given.keys (c.args.name ∷ []),
+    )
     ∙ sym (ap length (joined_names c))
 
 pub returns-clause-ok : goal.returns-clause-ok
 returns-clause-ok c =
     (λ i. naming_of (joined_owners c i) (joined_names c i))
-    ∙ naming_of-push c.self.inside.owners.keys c.self.inside.given.keys (record { row = c.args.n; contract = c.args.contract }) c.args.name c.self.invariant
-    ∙ ap (λ (names : Naming). names ++ (record { row = c.args.n; contract = c.args.contract; name = string_bytes c.args.name }) ∷ []) c.self.view_is
+    ∙ naming_of-push c.self.inside.owners.keys c.self.inside.given.keys (record { row = c.args.n; contract = c.args.contract })
+    c.args.name c.self.invariant
+    ∙ ap (λ (names : Naming). names ++ (record { row = c.args.n; contract = c.args.contract; name = string_bytes c.args.name }) ∷ [])
+    c.self.view_is

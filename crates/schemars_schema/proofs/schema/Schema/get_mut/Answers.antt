@@ -12,7 +12,8 @@ returns-in-Some c =
     let is = object-as_object c.args.self.now (members_view c.in-Some.members.now.entries) c.in-Some.ensures.value in (
       (
         refl,
-        λ w. when_some _ (ap object (c.member_mut.follows.holds w) ∙ ap (λ d. object (replaced c.args.key.now (view w) (members_in d))) (sym is)),
+        λ w. when_some _ (ap object (c.member_mut.follows.holds w) ∙ ap (λ d. object (replaced c.args.key.now (view w) (members_in d)))
+            (sym is)),
         ap object c.member_mut.follows.holds-at-none ∙ sym is,
       ),
       rw is c.member_mut.ensures.value,

@@ -10,5 +10,6 @@ pub returns-in-Some-clause-found : goal.returns-in-Some-clause-found
 returns-in-Some-clause-found c =
     let new = members_view c.args.members.entries in
     let after = object (members_view c.place.new.into.entries) in
-    let merged : IfOk c.place.result (λ done. placed_at c.args.pointer.now new c.args.self.now ≡ (if done then Some after else None)) = search rules in
+    let merged : IfOk c.place.result (λ done. placed_at c.args.pointer.now new c.args.self.now ≡ (if done then Some after else None)) =
+    search rules in
     found_there c.place.result c.args.pointer.now new c.args.self.now after merged

@@ -5,4 +5,5 @@ use Rattle.schemars_shapes.proofs.shape.Fields.first_unknown.Given as goal
 
 abbrev pub invariant-loop-field : goal.invariant-loop-field
 invariant-loop-field l =
-    find (λ n. nat_le l.len n) (map (λ f. f.ty) (map field_of (drop l.field-index l.self.list.items))) ≡ find (λ n. nat_le l.len n) (map (λ f. f.ty) (map field_of l.self.list.items))
+    find (λ n. nat_le l.len n) (map (λ f. f.ty) (map field_of (drop l.field-index l.self.list.items)))
+    ≡ find (λ n. nat_le l.len n) (map (λ f. f.ty) (map field_of l.self.list.items))

@@ -8,7 +8,8 @@ use Rattle.schemars_types.proofs.Accepted.{none_repeated, least_repeated, direct
 use Rattle.schemars_types.proofs.table.Types.check.Goals as goal
 
 -- the name that is told
-repeated : (c : goal.In-Some-2) → IsLeast (HasRepeated c.args.self.now) c.in-Some-2.n × IsRepeated (names_at c.args.self.now c.in-Some-2.n) (string_bytes c.in-Some-2.name)
+repeated : (c : goal.In-Some-2) → IsLeast (HasRepeated c.args.self.now) c.in-Some-2.n
+    × IsRepeated (names_at c.args.self.now c.in-Some-2.n) (string_bytes c.in-Some-2.name)
 repeated c =
     let found = MatchOption-at_some _ _ _ c.in-Some-2.is c.in_ok-n.ensures in
     (least_repeated c.args.self.now c.in-Some-2.n (string_bytes c.in-Some-2.name) found.0 found.1, found.1)
@@ -24,7 +25,11 @@ direct : (c : goal.In-Some-3) → IsLeast (OnDirectCycle c.args.self.now) c.in-S
 direct c = MatchOption-at_some _ _ _ c.in-Some-3.is (direct_cycles c.args.self.now c.in_ok-n-2.field-0 c.in_ok-n-2.ensures)
 
 pub returns-in-Some-3-clause-refused : goal.returns-in-Some-3-clause-refused
-returns-in-Some-3-clause-refused c = inr (c.in_default.ensures.first, none_repeated c.args.self.now (MatchOption-at_none _ _ c.in_default-2.is c.in_ok-n.ensures), direct c)
+returns-in-Some-3-clause-refused c = inr (
+  c.in_default.ensures.first,
+  none_repeated c.args.self.now (MatchOption-at_none _ _ c.in_default-2.is c.in_ok-n.ensures),
+  direct c,
+)
 
 pub returns-in-Some-3-clause-only_memory : goal.returns-in-Some-3-clause-only_memory
 returns-in-Some-3-clause-only_memory c = λ a. absurd (a.direct c.in-Some-3.n (direct c).0)

@@ -9,12 +9,14 @@ use Rattle.schemars_types.proofs.table.Types.register_row.Goals as goal
 
 -- what the refusal of `define` says of the table as it was
 refusal : (c : goal.After-from_residual-in_err-define)
-    → (reserved (string_bytes c.args.id) (string_bytes c.args.name) c.args.self.now ≡ c.args.self.now) × Refuses (string_bytes c.args.id) (without_notes c.args.inline (shape_of c.args.shape)) c.args.self.now c.in_err-define.field-0.0
+    → (reserved (string_bytes c.args.id) (string_bytes c.args.name) c.args.self.now ≡ c.args.self.now)
+    × Refuses (string_bytes c.args.id) (without_notes c.args.inline (shape_of c.args.shape)) c.args.self.now c.in_err-define.field-0.0
 refusal c =
     let id = string_bytes c.args.id in
     let name = string_bytes c.args.name in
     let e : Entry = without_notes c.args.inline (shape_of c.args.shape) in
-    let refused : Some c.in_err-define.field-0.0 ≡ refusal_of c.reserve.new.self c.in_ok-n.n e = c.in_err-define.ensures.refused ∙ ap (refusal_of c.reserve.new.self c.in_ok-n.n) c.without_notes-entry.ensures in
+    let refused : Some c.in_err-define.field-0.0 ≡ refusal_of c.reserve.new.self c.in_ok-n.n e =
+    c.in_err-define.ensures.refused ∙ ap (refusal_of c.reserve.new.self c.in_ok-n.n) c.without_notes-entry.ensures in
     refused-reserved id name e c.args.self.now c.in_ok-n.n c.requires c.in_err-define.field-0.0
     (ap (place_of id) (sym c.in_ok-n.ensures.ok) ∙ c.in_ok-n.ensures.number)
     (ap (λ rows. refusal_of rows c.in_ok-n.n e) (sym c.in_ok-n.ensures.ok) ∙ sym refused)
@@ -34,8 +36,10 @@ returns-clause-ok c =
     let id = string_bytes c.args.id in
     let name = string_bytes c.args.name in
     let e : Entry = without_notes c.args.inline (shape_of c.args.shape) in
-    let accepted : refusal_of c.reserve.new.self c.in_ok-n.n e ≡ None = ap (refusal_of c.reserve.new.self c.in_ok-n.n) (sym c.without_notes-entry.ensures) ∙ sym c.in_ok-define.ensures.refused in
-    let table : c.define.new.self ≡ defined c.in_ok-n.n e c.reserve.new.self = c.in_ok-define.ensures.ok ∙ ap (λ f. defined c.in_ok-n.n f c.reserve.new.self) c.without_notes-entry.ensures in
+    let accepted : refusal_of c.reserve.new.self c.in_ok-n.n e ≡ None =
+    ap (refusal_of c.reserve.new.self c.in_ok-n.n) (sym c.without_notes-entry.ensures) ∙ sym c.in_ok-define.ensures.refused in
+    let table : c.define.new.self ≡ defined c.in_ok-n.n e c.reserve.new.self =
+    c.in_ok-define.ensures.ok ∙ ap (λ f. defined c.in_ok-n.n f c.reserve.new.self) c.without_notes-entry.ensures in
     record {
       number = ap (place_of id) table ∙ place_of-defined id c.in_ok-n.n e c.reserve.new.self ∙ c.in_ok-n.ensures.number;
       table = table ∙ ap (defined c.in_ok-n.n e) c.in_ok-n.ensures.ok;

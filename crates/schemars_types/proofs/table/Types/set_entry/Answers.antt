@@ -16,7 +16,8 @@ invariant_of-self c =
     ap (λ slot. map row_of (set_value_at c.self.inside.slots.entries c.args.n slot)) c.define.ensures
     ∙ map-set_value_at c.self.inside.slots.entries c.args.n c.index_mut.result.now c.args.entry there
     ∙ ap (defined c.args.n (entry_of c.args.entry)) c.self.view_is in
-    subst RefersWithin (sym rows) (within_defined c.args.n (entry_of c.args.entry) c.args.self.now c.requires.known (subst RefersWithin c.self.view_is c.self.invariant))
+    subst RefersWithin (sym rows) (within_defined c.args.n (entry_of c.args.entry) c.args.self.now c.requires.known
+    (subst RefersWithin c.self.view_is c.self.invariant))
 
 pub returns : goal.returns
 returns c =
