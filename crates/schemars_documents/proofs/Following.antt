@@ -16,7 +16,9 @@ use Rattle.schemars_rewrite.proofs.Nulls.{nullable-schema}
 use Rattle.schemars_shapes.specs.Shape.{Entry}
 use Rattle.schemars_types.specs.Rows.{Row, entry_at}
 use Rattle.schemars_types.specs.Meaning.{Contract, has_shape, belongs_within}
-use Rattle.schemars_documents.specs.Documents.{IsOwnDocument, IsWritten, Describes, reference}
+use Rattle.schemars_documents.specs.Documents.{reference}
+use Rattle.schemars_documents.specs.Describes.{IsOwnDocument, IsWritten, Describes}
+use Rattle.schemars_documents.proofs.ByShape.{own_document}
 use Rattle.schemars_documents.specs.PlainTable.{IsPlainEntry, IsPlainTable}
 use Rattle.schemars_documents.proofs.Notes.{judge-annotated, nullable-annotated}
 use Rattle.schemars_documents.proofs.Meanings.{IsSame, Inside, shape_nullable, shape_says}
@@ -87,8 +89,9 @@ module _ (rows : List Row) (contract : Contract) (Refers : ℕ → Text → Type
   own_nullable : (d : ℕ) → ((j : ℕ) (t : Data) → In d j t → IsNullable t) → (o : Option Entry) → IsPlainEntry o → (t : Data)
       → IsOwnDocument (In d) contract o t → IsNullable t
   own_nullable d ready None noted t is = absurd is
-  own_nullable d ready (Some e) noted t is = rw is.2 (nullable-annotated e.notes is.0 noted.0
-      (shape_nullable (In d) contract ready e.shape is.0 is.1))
+  own_nullable d ready (Some e) noted t is =
+      let own = own_document (In d) contract e t is in
+      rw own.2 (nullable-annotated e.notes own.0 noted.0 (shape_nullable (In d) contract ready e.shape own.0 own.1))
 
   written_by : (d : ℕ) → ((j : ℕ) (t : Data) → Describes rows contract Refers d j t → IsNullable t) → (j : ℕ) (t : Data) → In d j t
       → IsNullable t
@@ -213,10 +216,11 @@ module _ (s : Setting) where
       ≡ verdict (elim o [ None ↦ false | Some entry ↦ has_shape contract patterns (belongs_within rows contract patterns m) entry.shape v ])
   own_says n d good said k None at noted t is v json m costs low = absurd is
   own_says n d good said k (Some e) at noted t is v json m costs low =
-      let bare = is.0 in
-      let schema = nullable-schema bare (shape_nullable (W d) contract (ready d) e.shape bare is.1) in
-      rw is.2 (ap (λ j. j.fits v) (judge-annotated patterns (at_most n) e.notes bare noted.0 schema)
-      ∙ shape_says patterns (at_most n) contract (W d) (belongs_within rows contract patterns m) (ready d) e.shape bare noted.1 is.1 v json
+      let own = own_document (W d) contract e t is in
+      let bare = own.0 in
+      let schema = nullable-schema bare (shape_nullable (W d) contract (ready d) e.shape bare own.1) in
+      rw own.2 (ap (λ j. j.fits v) (judge-annotated patterns (at_most n) e.notes bare noted.0 schema)
+      ∙ shape_says patterns (at_most n) contract (W d) (belongs_within rows contract patterns m) (ready d) e.shape bare noted.1 own.1 v json
       (λ j t w a js inside. part_says n d m good said k e at v costs low j t w a js inside))
 
   said : (n : ℕ) → Good n → (d : ℕ) → Said n d

@@ -1,6 +1,8 @@
 pub mod Annotating
+pub mod ByShape
+pub mod Templates
 pub mod Mapping
-pub mod Shapes
+pub mod EachShape
 pub mod Maps
 pub mod Structs
 pub mod Meanings

@@ -18,7 +18,8 @@ use Rattle.schemars_schema.proofs.Verdicts.{both-yes}
 use Rattle.schemars_schema.proofs.Objects.{schema-judge}
 use Rattle.schemars_rewrite.specs.NullLaw.{context2020_12, text_items}
 use Rattle.schemars_rewrite.proofs.Nulls.{or-false}
-use Rattle.schemars_documents.specs.Documents.{Keyword, map_document}
+use Rattle.schemars_documents.specs.Documents.{Keyword}
+use Rattle.schemars_documents.proofs.ByShape.{map_document}
 
 -- ---- the judges under names
 

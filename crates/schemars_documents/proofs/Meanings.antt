@@ -10,15 +10,15 @@ use Rattle.schemars_rewrite.proofs.Nulls.{nullable-schema, nullable-allow_null, 
 use Rattle.schemars_shapes.specs.Shape as shape
 use Rattle.schemars_shapes.specs.Shape.{Shape, Entry, numbers_of}
 use Rattle.schemars_types.specs.Meaning.{Contract, Deserialize, Serialize, has_shape}
-use Rattle.schemars_documents.specs.Documents.{IsDocument}
+use Rattle.schemars_documents.proofs.ByShape.{IsDocument, map_document, tuple_document}
 use Rattle.schemars_documents.specs.PlainTable.{IsPlainShape}
-use Rattle.schemars_documents.proofs.Shapes.{bytes_say, schema_says, null_says, bool_says, number_says, text_says}
-use Rattle.schemars_documents.proofs.Shapes.{formatted_says, char_says, any_says, seq_says, set_says, array_says}
-use Rattle.schemars_documents.proofs.Shapes.{up_to_says, tuple_says, int_says, non_zero_says}
+use Rattle.schemars_documents.proofs.EachShape.{bytes_say, schema_says, null_says, bool_says, number_says, text_says}
+use Rattle.schemars_documents.proofs.EachShape.{formatted_says, char_says, any_says, seq_says, set_says, array_says}
+use Rattle.schemars_documents.proofs.EachShape.{up_to_says, tuple_says, int_says, non_zero_says}
 use Rattle.schemars_documents.proofs.Structs.{struct_says}
 use Rattle.schemars_shapes.specs.declared.shape.IntKind.{IntKind}
 use Rattle.schemars_shapes.specs.declared.shape.IntKind.TheVariants.{I8, I16, I32, I64, I128, Isize, U8, U16, U32, U64, U128, Usize}
-use Rattle.schemars_documents.specs.Documents.{Keyword, int_document, non_zero_document, bytes_document, map_document, tuple_document}
+use Rattle.schemars_documents.specs.Documents.{Keyword, int_document, non_zero_document, bytes_document}
 use Rattle.std.specs.Prelude.{codes}
 
 -- ---- null can be added to each document

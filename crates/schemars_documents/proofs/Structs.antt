@@ -18,7 +18,8 @@ use Rattle.schemars_rewrite.specs.NullLaw.{context2020_12}
 use Rattle.schemars_shapes.specs.Shape.{Field}
 use Rattle.schemars_types.specs.Meaning.{Contract, is_required, field_named, member_fits, every_member, has_required, holds}
 use Rattle.schemars_documents.specs.PlainTable.{IsNoName, AreDistinct, AreNoted}
-use Rattle.schemars_documents.specs.Documents.{annotated, field_keywords, required_names, struct_document, AreWritten}
+use Rattle.schemars_documents.specs.Documents.{annotated, required_names}
+use Rattle.schemars_documents.proofs.ByShape.{field_keywords, struct_document, AreWritten}
 use Rattle.schemars_documents.proofs.Notes.{judge-annotated, annotated-schema}
 use Rattle.schemars_documents.proofs.Maps.{AreEntries, schema_named-judges_in, judges_of, named_says, other_says}
 use Rattle.schemars_documents.proofs.Maps.{judge-map_object, judge-map_other}

@@ -1,4 +1,7 @@
 pub mod ContractOf
 pub mod Documents
-pub mod Properties
+pub mod Template
+pub mod OfShape
+pub mod View
+pub mod Describes
 pub mod PlainTable

@@ -1,4 +1,4 @@
-//! The documents of shapes, from finished subschemas.
+//! Documents without parts, and what is added to a document.
 ghost use Rattle.std.specs.Prelude.{◌≡◌, ◌∷◌, [], None, Some, IfOk, OnOk, OnErr, codes, option_map};
 ghost use Rattle.serde_json.specs.Data.{string, array, object, no_items, item, no_members, put};
 ghost use Rattle.std.specs.Prelude.{map};
@@ -7,17 +7,17 @@ ghost use Rattle.schemars_rewrite.specs.NullLaw.{text_items};
 ghost use Rattle.schemars_shapes.specs.Shape.{shape_of, field_of, required_of};
 ghost use Rattle.schemars_types.specs.Meaning.{is_required};
 ghost use Rattle.schemars_documents.specs.ContractOf.{contract_of};
-ghost use Rattle.schemars_documents.specs.Documents.{byte_document, bytes_document, schema_document, map_of};
-ghost use Rattle.schemars_documents.specs.Documents.{keyword_of_members, keyword_of_items, required_names};
+ghost use Rattle.schemars_documents.specs.Documents.{byte_document, bytes_document, schema_document};
+ghost use Rattle.schemars_documents.specs.Documents.{required_names};
 ghost use Rattle.serde_json.specs.View.{view, members_view};
 ghost use Rattle.schemars_schema.specs.SchemaData.{IsSchema, members_in, inserted, put_all, put_members};
 ghost use Rattle.schemars_documents.specs.Documents.{typed, type_alone, char_document, formatted_document};
-ghost use Rattle.schemars_documents.specs.Documents.{list_document_for, empty_list_document, tuple_document, annotated};
+ghost use Rattle.schemars_documents.specs.Documents.{empty_list_document, annotated};
 ghost use Rattle.schemars_documents.specs.Documents.{with_title, with_meta_schema, root_document};
 
 use crate::contract::Contract;
 use schemars_schema::Schema;
-use schemars_types::{Field, Required, Shape};
+use schemars_types::{Field, Required};
 use serde_json::{Map, Value};
 use std::alloc::{AllocError, Global};
 
@@ -52,28 +52,6 @@ pub fn formatted_document(alloc: Global, format: &str) -> Result<Schema, AllocEr
     Ok(Schema::from(members))
 }
 
-/// A list of these items, of the shape's count, and distinct where the shape is a set.
-pub fn list_document(alloc: Global, shape: &Shape, items: Schema) -> Result<Schema, AllocError>
-    ensures { IfOk result (λ s. s ≡ list_document_for (shape_of shape.now) items) }
-{
-    let mut members = typed(alloc, "array")?;
-    serde_json::put(&mut members, alloc, "items", items.to_value())?;
-    match shape {
-        Shape::Set(_) => {
-            serde_json::put(&mut members, alloc, "uniqueItems", Value::Bool(true))?;
-        }
-        Shape::Array(_, len) => {
-            serde_json::put(&mut members, alloc, "minItems", Value::from(*len))?;
-            serde_json::put(&mut members, alloc, "maxItems", Value::from(*len))?;
-        }
-        Shape::UpTo(_, cap) => {
-            serde_json::put(&mut members, alloc, "maxItems", Value::from(*cap))?;
-        }
-        _ => (),
-    }
-    Ok(Schema::from(members))
-}
-
 /// A list of no items.
 pub fn empty_list_document(alloc: Global) -> Result<Schema, AllocError>
     ensures { IfOk result (λ s. s ≡ empty_list_document) }
@@ -81,78 +59,6 @@ pub fn empty_list_document(alloc: Global) -> Result<Schema, AllocError>
     let mut members = typed(alloc, "array")?;
     serde_json::put(&mut members, alloc, "maxItems", Value::from(0u64))?;
     Ok(Schema::from(members))
-}
-
-/// A list of just these items, each in its place.
-pub fn tuple_document(alloc: Global, items: Vec<Value>) -> Result<Schema, AllocError>
-    ensures { IfOk result (λ s. s ≡ tuple_document (map view items.items)) }
-{
-    if items.is_empty() {
-        let schema = empty_list_document(alloc)?;
-        return Ok(schema);
-    }
-    let count = items.len() as u64;
-    let mut members = typed(alloc, "array")?;
-    serde_json::put(&mut members, alloc, "prefixItems", Value::Array(items))?;
-    serde_json::put(&mut members, alloc, "minItems", Value::from(count))?;
-    serde_json::put(&mut members, alloc, "maxItems", Value::from(count))?;
-    Ok(Schema::from(members))
-}
-
-/// A map with these properties.
-pub fn map_document(
-    alloc: Global,
-    properties: Map<String, Value>,
-    required: Vec<Value>,
-    closed: bool,
-) -> Result<Schema, AllocError>
-    ensures { IfOk result (λ s. s ≡ map_of (members_view properties.entries)
-        (items_view required.items) closed) }
-{
-    let mut members = typed(alloc, "object")?;
-    put_members(&mut members, alloc, properties)?;
-    put_required(&mut members, alloc, required)?;
-    if closed {
-        serde_json::put(
-            &mut members,
-            alloc,
-            "additionalProperties",
-            Value::Bool(false),
-        )?;
-    }
-    Ok(Schema::from(members))
-}
-
-fn put_members(
-    members: &mut Map<String, Value>,
-    alloc: Global,
-    properties: Map<String, Value>,
-) -> Result<(), AllocError>
-    ensures { OnOk result (members_view members.new.entries
-        ≡ put_all (keyword_of_members (codes "properties") (members_view properties.entries))
-        (members_view members.old.entries)) }
-{
-    if properties.is_empty() {
-        return Ok(());
-    }
-    serde_json::put(members, alloc, "properties", Value::Object(properties))?;
-    Ok(())
-}
-
-fn put_required(
-    members: &mut Map<String, Value>,
-    alloc: Global,
-    required: Vec<Value>,
-) -> Result<(), AllocError>
-    ensures { OnOk result (members_view members.new.entries
-        ≡ put_all (keyword_of_items (codes "required") (items_view required.items))
-        (members_view members.old.entries)) }
-{
-    if required.is_empty() {
-        return Ok(());
-    }
-    serde_json::put(members, alloc, "required", Value::Array(required))?;
-    Ok(())
 }
 
 /// Bytes: a list of them, or, where they are read, a text.

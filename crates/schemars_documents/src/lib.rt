@@ -4,5 +4,7 @@
 mod contract;
 pub mod documents;
 pub mod integers;
+pub mod shapes;
+pub mod template;
 
 pub use contract::Contract;

@@ -22,9 +22,10 @@ use Rattle.schemars_shapes.specs.Shape as shape
 use Rattle.schemars_types.specs.Meaning.{Contract, Deserialize, Serialize, is_byte, is_byte_text, has_shape, every_item}
 use Rattle.schemars_types.specs.Meaning.{each_of, holds, least_of, greatest_of, is_at_least, is_at_most, is_zero}
 use Rattle.schemars_documents.specs.Documents.{type_alone, int_keywords, int_document, non_zero_document, char_document}
-use Rattle.schemars_documents.specs.Documents.{formatted_document, seq_document, set_document, array_document}
-use Rattle.schemars_documents.specs.Documents.{up_to_document, empty_list_document, tuple_document, items_from}
-use Rattle.schemars_documents.specs.Documents.{ArePartsWritten, IsArrayDocument, bytes_document, schema_document}
+use Rattle.schemars_documents.specs.Documents.{formatted_document, empty_list_document, bytes_document, schema_document}
+use Rattle.schemars_documents.specs.Describes.{ArePartsWritten}
+use Rattle.schemars_documents.proofs.ByShape.{seq_document, set_document, array_document, up_to_document, tuple_document}
+use Rattle.schemars_documents.proofs.ByShape.{items_from, IsArrayDocument}
 
 module _ (patterns : Patterns) (f : Text → Judge) (contract : Contract) (M : ℕ → Data → Bool) where
   abbrev c : Context
