@@ -38,6 +38,12 @@ count_at key n = said key (number (unsigned n))
 abbrev pub list_template : ℕ → List KeywordTemplate → Template
 list_template n rest = object_with (typed (codes "array") ∷ (codes "items", row n) ∷ rest)
 
+abbrev pub set_template : ℕ → Template
+set_template n = list_template n (said (codes "uniqueItems") (boolean true) ∷ [])
+
+abbrev pub up_to_template : ℕ → ℕ → Template
+up_to_template n cap = list_template n (count_at (codes "maxItems") cap ∷ [])
+
 abbrev pub exactly : ℕ → List KeywordTemplate
 exactly n = count_at (codes "minItems") n ∷ count_at (codes "maxItems") n ∷ []
 
@@ -93,9 +99,9 @@ template_of contract shape.bytes = finished (bytes_document contract)
 template_of contract shape.schema_itself = finished schema_document
 template_of contract (shape.option n) = nullable (row n)
 template_of contract (shape.seq n) = list_template n []
-template_of contract (shape.set n) = list_template n (said (codes "uniqueItems") (boolean true) ∷ [])
+template_of contract (shape.set n) = set_template n
 template_of contract (shape.array n len) = array_template n len
-template_of contract (shape.up_to n cap) = list_template n (count_at (codes "maxItems") cap ∷ [])
+template_of contract (shape.up_to n cap) = up_to_template n cap
 template_of contract (shape.tuple ns) = tuple_template ns
 template_of contract (shape.struct xs closed) = struct_template contract xs closed
 template_of contract (shape.newtype n) = row n

@@ -5,10 +5,10 @@ ghost use Rattle.serde_json.specs.View.{items_view};
 ghost use Rattle.schemars_shapes.specs.Shape.{shape_of, field_of, entry_of};
 ghost use Rattle.schemars_documents.specs.ContractOf.{contract_of};
 ghost use Rattle.schemars_documents.specs.Documents.{bytes_document};
-ghost use Rattle.schemars_documents.specs.Template.{row, finished};
+ghost use Rattle.schemars_documents.specs.Template.{row, finished, nullable};
 ghost use Rattle.schemars_documents.specs.View.{template_view, keyword_view};
-ghost use Rattle.schemars_documents.specs.OfShape.{object_with, said, typed, exactly, list_template, array_template};
-ghost use Rattle.schemars_documents.specs.OfShape.{tuple_template, property, properties_at, required_at, closed_at};
+ghost use Rattle.schemars_documents.specs.OfShape.{object_with, typed, list_template, set_template, array_template};
+ghost use Rattle.schemars_documents.specs.OfShape.{up_to_template, tuple_template, property, properties_at, required_at, closed_at};
 ghost use Rattle.schemars_documents.specs.OfShape.{map_template, struct_template, template_of, entry_template};
 
 use crate::contract::Contract;
@@ -55,19 +55,14 @@ pub fn template_of<'t>(
         Shape::Any => finished(Schema::from(true)),
         Shape::Bytes => bytes_template(alloc, contract),
         Shape::SchemaItself => finished(schema_document(alloc)?),
-        Shape::Option(some) => Ok(Template::Nullable(Box::new(alloc, Template::Row(*some))?)),
-        Shape::Seq(item) => list_template(alloc, *item, Vec::new(alloc)),
-        Shape::Set(item) => {
-            let distinct = Template::Value(Value::Bool(true));
-            list_template(alloc, *item, vec![in alloc; ("uniqueItems", distinct)]?)
-        }
+        Shape::Option(some) => option_template(alloc, *some),
+        Shape::Seq(item) => seq_template(alloc, *item),
+        Shape::Set(item) => set_template(alloc, *item),
         Shape::Array(item, len) => array_template(alloc, *item, *len),
-        Shape::UpTo(item, cap) => {
-            list_template(alloc, *item, vec![in alloc; ("maxItems", count(*cap))]?)
-        }
+        Shape::UpTo(item, cap) => up_to_template(alloc, *item, *cap),
         Shape::Tuple(parts) => tuple_template(alloc, parts),
         Shape::Struct(fields) => struct_template(alloc, contract, fields),
-        Shape::Newtype(inner) => Ok(Template::Row(*inner)),
+        Shape::Newtype(inner) => Ok(row(*inner)),
     }
 }
 
@@ -96,19 +91,35 @@ fn bytes_template<'t>(alloc: Global, contract: Contract) -> Result<Template<'t>,
     finished(bytes_document(alloc, contract, byte)?)
 }
 
-// A list with these items, and what else is said of it.
-fn list_template<'t>(
-    alloc: Global,
-    item: TypeNo,
-    rest: Vec<(&'t str, Template<'t>)>,
-) -> Result<Template<'t>, AllocError>
-    ensures { IfOk result (λ t. template_view t ≡ list_template item (map keyword_view rest.entry.items)) }
+fn row<'t>(n: TypeNo) -> Template<'t>
+    ensures { template_view result ≡ row n }
 {
-    let mut rest = rest;
-    let mut keywords: Vec<(&'t str, Template<'t>)> = typed(alloc, "array")?;
-    keywords.push(("items", Template::Row(item)))?;
-    keywords.append(&mut rest)?;
-    object_with(alloc, keywords)
+    Template::Row(n)
+}
+
+fn option_template<'t>(alloc: Global, some: TypeNo) -> Result<Template<'t>, AllocError>
+    ensures { IfOk result (λ t. template_view t ≡ nullable (row some)) }
+{
+    Ok(Template::Nullable(Box::new(alloc, Template::Row(some))?))
+}
+
+fn seq_template<'t>(alloc: Global, item: TypeNo) -> Result<Template<'t>, AllocError>
+    ensures { IfOk result (λ t. template_view t ≡ list_template item []) }
+{
+    let array = text(alloc, "array")?;
+    let keys = vec![in alloc; "type", "items"]?;
+    let values = vec![in alloc; array, Template::Row(item)]?;
+    Ok(Template::Object(keys, values))
+}
+
+fn set_template<'t>(alloc: Global, item: TypeNo) -> Result<Template<'t>, AllocError>
+    ensures { IfOk result (λ t. template_view t ≡ set_template item) }
+{
+    let array = text(alloc, "array")?;
+    let distinct = Template::Value(Value::Bool(true));
+    let keys = vec![in alloc; "type", "items", "uniqueItems"]?;
+    let values = vec![in alloc; array, Template::Row(item), distinct]?;
+    Ok(Template::Object(keys, values))
 }
 
 fn array_template<'t>(alloc: Global, item: TypeNo, len: u64) -> Result<Template<'t>, AllocError>
@@ -117,8 +128,19 @@ fn array_template<'t>(alloc: Global, item: TypeNo, len: u64) -> Result<Template<
     if len == 0 {
         return finished(empty_list_document(alloc)?);
     }
-    let counts = vec![in alloc; ("minItems", count(len)), ("maxItems", count(len))]?;
-    list_template(alloc, item, counts)
+    let array = text(alloc, "array")?;
+    let keys = vec![in alloc; "type", "items", "minItems", "maxItems"]?;
+    let values = vec![in alloc; array, Template::Row(item), count(len), count(len)]?;
+    Ok(Template::Object(keys, values))
+}
+
+fn up_to_template<'t>(alloc: Global, item: TypeNo, cap: u64) -> Result<Template<'t>, AllocError>
+    ensures { IfOk result (λ t. template_view t ≡ up_to_template item cap) }
+{
+    let array = text(alloc, "array")?;
+    let keys = vec![in alloc; "type", "items", "maxItems"]?;
+    let values = vec![in alloc; array, Template::Row(item), count(cap)]?;
+    Ok(Template::Object(keys, values))
 }
 
 // A list of one item for each part.
@@ -129,12 +151,11 @@ fn tuple_template<'t>(alloc: Global, parts: &[TypeNo]) -> Result<Template<'t>, A
         return finished(empty_list_document(alloc)?);
     }
     let len = parts.len() as u64;
-    let rows = rows_in_order(alloc, parts)?;
-    let mut keywords: Vec<(&'t str, Template<'t>)> = typed(alloc, "array")?;
-    keywords.push(("prefixItems", Template::List(rows)))?;
-    keywords.push(("minItems", count(len)))?;
-    keywords.push(("maxItems", count(len)))?;
-    object_with(alloc, keywords)
+    let array = text(alloc, "array")?;
+    let items = rows_in_order(alloc, parts)?;
+    let keys = vec![in alloc; "type", "prefixItems", "minItems", "maxItems"]?;
+    let values = vec![in alloc; array, Template::List(items), count(len), count(len)]?;
+    Ok(Template::Object(keys, values))
 }
 
 fn rows_in_order<'t>(alloc: Global, parts: &[TypeNo]) -> Result<Vec<Template<'t>>, AllocError>
