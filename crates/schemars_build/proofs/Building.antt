@@ -1,131 +1,128 @@
--- How the document of a row is built from those of its parts.
-use Rattle.std.proofs.Common.{◌≡◌, ℕ, zero, suc, List, [], ◌∷◌, ◌++◌, Bool, false, Option, Some, None, unwrap_or, refl}
-use Rattle.std.proofs.Common.{ap, sym, ◌∙◌, subst, arith}
-use Rattle.std.specs.Prelude.{◌==◌, if◌then◌else◌}
-use Rattle.std.proofs.lemmas.Bool.Decides.{nat_tests}
-use Rattle.serde_json.specs.Data.{Data, Members, no_members, put}
+-- How the document of a row is built from its parts.
+use Rattle.std.proofs.Common.{◌≡◌, ◌≤◌, ℕ, suc, List, [], ◌∷◌, ◌++◌, Bool, true, not, Option, Some, None, length, refl, ap, sym, ◌∙◌, subst}
+use Rattle.std.proofs.Common.{arith, append_assoc, Contains, All, inr}
+use Rattle.std.specs.Prelude.{if◌then◌else◌}
+use Rattle.std.proofs.lemmas.List.Elements.{Contains-append_right}
+use Rattle.serde_json.specs.Data.{Data}
 use Rattle.schemars_json.specs.Json.{Text}
-use Rattle.schemars_schema.specs.SchemaData.{put_all}
-use Rattle.schemars_rewrite.specs.AllowNull.{allow_null}
-use Rattle.schemars_shapes.specs.Shape as shape
-use Rattle.schemars_shapes.specs.Shape.{Shape, Field, Entry, numbers_of}
+use Rattle.schemars_schema.specs.SchemaData.{IsSchema}
+use Rattle.schemars_schema.specs.References.{references}
+use Rattle.schemars_shapes.specs.Shape.{Entry}
 use Rattle.schemars_types.specs.Rows.{Row, entry_at}
-use Rattle.schemars_types.specs.Edges.{height}
+use Rattle.schemars_types.specs.Edges.{is_inline_at, height}
+use Rattle.schemars_types.specs.Faults.{IsChecked}
 use Rattle.schemars_types.specs.Meaning.{Contract}
 use Rattle.schemars_documents.specs.ContractOf.{contract_of}
-use Rattle.schemars_documents.specs.Documents.{IsDocument, IsOwnDocument, IsWritten, AreWritten, Describes, annotated}
-use Rattle.schemars_documents.specs.Documents.{item_in, list_document_for, ArePartsWritten, field_keywords}
-use Rattle.schemars_build.specs.Parts.{IsSubschema}
-use Rattle.schemars_build.specs.Missing.{StandsIn, depth_in_place}
-use Rattle.schemars_documents.specs.Properties.{ArePropertiesOf}
+use Rattle.schemars_documents.specs.Template.{rows_of, filled}
+use Rattle.schemars_documents.specs.OfShape.{entry_template}
+use Rattle.schemars_documents.specs.Describes.{ArePartsWritten, Fills, IsOwnDocument, IsWritten, Describes, references_of}
+use Rattle.schemars_documents.specs.PlainTable.{IsPlainEntry}
+use Rattle.schemars_documents.proofs.Mapping.{written_map, describes-wider}
+use Rattle.schemars_documents.proofs.ReferencesKept.{Among, among_left}
+use Rattle.schemars_documents.proofs.References.{parts_among, filled_schema}
+use Rattle.schemars_documents.proofs.Rows.{all_rows}
+use Rattle.schemars_documents.proofs.Schemas.{written_schema, parts_schemas, parts_counted}
 use Rattle.schemars_naming.specs.Work.{Plan, Work, Refers, Step}
-use Rattle.schemars_documents.proofs.Mapping.{fields_map, written_map, describes-wider}
+use Rattle.schemars_build.specs.Missing.{StandsIn, depth_in_place}
+use Rattle.schemars_build.specs.Parts.{IsSubschema, IsPart, AreParts, IsOwn}
+use Rattle.schemars_build.proofs.Descending.{stands}
 use Rattle.schemars_build.proofs.Steps.{step_wider, refers-wider}
+use Rattle.schemars_build.proofs.Reaching.{reached_more, reached_trans, nothing_added}
 
 -- ---- parts
 
--- how the parts of row n's document are written
-abbrev pub Written : Plan → Bool → Work → ℕ → ℕ → Data → Type 0
-Written plan free w n = IsWritten (Refers plan free w) (Describes plan.rows (contract_of plan.contract) (Refers plan free w)
-    (height plan.rows n))
-
-pub part : (plan : Plan) (free : Bool) (w : Work) (n m : ℕ) (t : Data) → StandsIn plan.rows n m → IsSubschema plan free w m t
-    → Written plan free w n m t
-part plan free w n m t h is =
-    written_map (Refers plan free w) (Refers plan free w) _ _ (λ j r e. e)
-    (describes-wider plan.rows (contract_of plan.contract) (Refers plan free w) (Refers plan free w) (λ j r e. e)
-    (depth_in_place plan.rows m) (height plan.rows n) h.is_lower) m t is
-
-pub written-wider : (plan : Plan) (free : Bool) (old new : Work) → Step plan old new → (n m : ℕ) (t : Data) → Written plan free old n m t
-    → Written plan free new n m t
-written-wider plan free old new step n m t is =
+-- where more may stand within one another, and more names and definitions are there
+subschema-wider : (plan : Plan) (free : Bool) (old new : Work) → Step plan old new → (d e : ℕ) → d ≤ e → (m : ℕ) (t : Data)
+    → IsSubschema plan free old d m t → IsSubschema plan free new e m t
+subschema-wider plan free old new step d e less m t is =
     let wider = refers-wider plan free old new (step_wider plan old new step) in
     written_map (Refers plan free old) (Refers plan free new) _ _ wider
-    (describes-wider plan.rows (contract_of plan.contract) (Refers plan free old) (Refers plan free new) wider (height plan.rows n)
-    (height plan.rows n) (omega arith)) m t is
+    (describes-wider plan.rows (contract_of plan.contract) (Refers plan free old) (Refers plan free new) wider d e less) m t is
 
--- ---- one shape
+same_work-wider : (plan : Plan) (free : Bool) (w : Work) (d e : ℕ) → d ≤ e → (m : ℕ) (t : Data)
+    → IsSubschema plan free w d m t → IsSubschema plan free w e m t
+same_work-wider plan free w d e less m t is =
+    written_map (Refers plan free w) (Refers plan free w) _ _ (λ j r h. h)
+    (describes-wider plan.rows (contract_of plan.contract) (Refers plan free w) (Refers plan free w) (λ j r h. h) d e less) m t is
 
-no_number : (k : ℕ) → (suc k == 0) ≡ false
-no_number k = grind (arith, nat_tests)
-
-item_of_array : (n len : ℕ) → item_in (shape.array n (suc len)) ≡ Some n
-item_of_array n len = ap (λ b. if b then None else Some n) (no_number len)
-
-some_is : (m n : ℕ) → Some m ≡ Some n → m ≡ n
-some_is m n h = ap (λ o. unwrap_or o 0) h
-
--- the item's row is the only number of a list
-pub item_number : (kind : Shape) (m : ℕ) → item_in kind ≡ Some m → numbers_of kind ≡ m ∷ []
-item_number (shape.seq n) m is = ap (λ k. k ∷ []) (some_is n m is)
-item_number (shape.set n) m is = ap (λ k. k ∷ []) (some_is n m is)
-item_number (shape.array n zero) m is = cc
-item_number (shape.array n (suc len)) m is = ap (λ k. k ∷ []) (some_is n m (sym (item_of_array n len) ∙ is))
-item_number (shape.up_to n most) m is = ap (λ k. k ∷ []) (some_is n m is)
-item_number kind m is = cc
-
-module _ (W : ℕ → Data → Type 0) (contract : Contract) where
-  pub option_document : (m : ℕ) (kind : Shape) (t s : Data) → kind ≡ shape.option m → W m t → s ≡ allow_null t
-      → IsDocument W contract kind s
-  option_document m kind t s is h e = let P : Shape → Type 0 = λ k. IsDocument W contract k s in subst P (sym is) (t, h, e)
-
-  -- the document of a list that may have items
-  pub list_document-of : (kind : Shape) (m : ℕ) (t s : Data) → item_in kind ≡ Some m → W m t → s ≡ list_document_for kind t
-      → IsDocument W contract kind s
-  list_document-of (shape.seq n) m t s is h e = let P : ℕ → Type 0 = λ k. W k t in (t, subst P (sym (some_is n m is)) h, e)
-  list_document-of (shape.set n) m t s is h e = let P : ℕ → Type 0 = λ k. W k t in (t, subst P (sym (some_is n m is)) h, e)
-  list_document-of (shape.array n zero) m t s is h e = cc
-  list_document-of (shape.array n (suc len)) m t s is h e = let P : ℕ → Type 0 = λ k. W k t in
-      (t, subst P (sym (some_is n m (sym (item_of_array n len) ∙ is))) h, e)
-  list_document-of (shape.up_to n most) m t s is h e = let P : ℕ → Type 0 = λ k. W k t in (t, subst P (sym (some_is n m is)) h, e)
-  list_document-of kind m t s is h e = cc
-
-  pub newtype_document : (m : ℕ) (kind : Shape) (s : Data) → kind ≡ shape.newtype m → W m s → IsDocument W contract kind s
-  newtype_document m kind s is h = let P : Shape → Type 0 = λ k. IsDocument W contract k s in subst P (sym is) h
-
-pub own_document-of : (rows : List Row) (contract : Contract) (R : ℕ → Text → Type 0) (depth n : ℕ) (e : Entry) (bare s : Data)
-    → entry_at rows n ≡ Some e
-    → IsDocument (IsWritten R (Describes rows contract R depth)) contract e.shape bare → s ≡ annotated e.notes bare
-    → Describes rows contract R (suc depth) n s
-unfolding Describes
-own_document-of rows contract R depth n e bare s at is same =
-    let P : Option Entry → Type 0 = λ o. IsOwnDocument (IsWritten R (Describes rows contract R depth)) contract o s in
-    subst P (sym at) (bare, is, same)
-
--- ---- parts in order
-
-pub parts_joined : (W V : ℕ → Data → Type 0) → ((j : ℕ) (t : Data) → W j t → V j t) → (ns : List ℕ) (ts : List Data) (n : ℕ) (t : Data)
-    → ArePartsWritten W ns ts → V n t → ArePartsWritten V (ns ++ n ∷ []) (ts ++ t ∷ [])
+parts_joined : (W V : ℕ → Data → Type 0) → ((j : ℕ) (t : Data) → W j t → V j t) → (ms : List ℕ) (ts : List Data) (n : ℕ) (t : Data)
+    → ArePartsWritten W ms ts → V n t → ArePartsWritten V (ms ++ n ∷ []) (ts ++ t ∷ [])
 parts_joined W V more [] ts n t h w = rw h (w, refl)
 parts_joined W V more (m ∷ ms) [] n t h w = absurd h
 parts_joined W V more (m ∷ ms) (u ∷ us) n t h w = (more m u h.0, parts_joined W V more ms us n t h.1 w)
 
--- ---- structs
+references_joined : (ts : List Data) (t : Data) → references_of (ts ++ t ∷ []) ≡ references_of ts ++ (references t ++ [])
+references_joined [] t = refl
+references_joined (u ∷ ts) t = ap (λ xs. references u ++ xs) (references_joined ts t)
+    ∙ sym (append_assoc (references u) (references_of ts) (references t ++ []))
 
-pub no_properties : (W : ℕ → Data → Type 0) → ArePropertiesOf W [] no_members
-no_properties W = record { schemas = []; written = refl; members_are = refl }
+kept : (ts : List Data) (t : Data) → Among (references_of ts) (references_of (ts ++ t ∷ []))
+kept ts t = let P : List Data → Type 0 = λ xs. Among (references_of ts) xs in
+    subst P (sym (references_joined ts t)) (among_left (references_of ts) (references t ++ []))
 
-fields_joined : (W : ℕ → Data → Type 0) (xs : List Field) (ts : List Data) (x : Field) (t : Data) → AreWritten W xs ts → W x.ty t
-    → AreWritten W (xs ++ x ∷ []) (ts ++ t ∷ [])
-fields_joined W [] ts x t h w = rw h (w, refl)
-fields_joined W (y ∷ ys) [] x t h w = absurd h
-fields_joined W (y ∷ ys) (u ∷ us) x t h w = (h.0, fields_joined W ys us x t h.1 w)
+has : (ts : List Data) (t : Data) → Among (references t) (references_of (ts ++ t ∷ []))
+has ts t = let P : List Data → Type 0 = λ xs. Among (references t) xs in
+    subst P (sym (references_joined ts t)) (λ x h. Contains-append_right (references_of ts) (references t ++ []) x
+    (among_left (references t) [] x h))
 
-keywords_joined : (W : ℕ → Data → Type 0) (xs : List Field) (ts : List Data) (x : Field) (t : Data) → AreWritten W xs ts
-    → (ms : Members) → put_all (field_keywords (xs ++ x ∷ []) (ts ++ t ∷ [])) ms
-    ≡ put x.name (annotated x.notes t) (put_all (field_keywords xs ts) ms)
-keywords_joined W [] ts x t h ms = rw h
-keywords_joined W (y ∷ ys) [] x t h ms = absurd h
-keywords_joined W (y ∷ ys) (u ∷ us) x t h ms = keywords_joined W ys us x t h.1 (put y.name (annotated y.notes u) ms)
+pub no_parts : (plan : Plan) (inside : Bool) (w : Work) (n : ℕ) → AreParts plan inside w w n [] []
+no_parts plan inside w n = record { written = refl; reached = λ plain. nothing_added plan inside w [] }
 
--- one field more, where the others may be written in more ways
-pub properties_joined : (V W : ℕ → Data → Type 0) → ((j : ℕ) (t : Data) → V j t → W j t)
-    → (xs : List Field) (x : Field) (t s : Data) (ms ns : Members) → ArePropertiesOf V xs ms → W x.ty t → s ≡ annotated x.notes t
-    → ns ≡ put x.name s ms → ArePropertiesOf W (xs ++ x ∷ []) ns
-properties_joined V W more xs x t s ms ns h w same e =
-    let written = fields_map V W more xs h.schemas h.written in
-    record {
-      schemas = h.schemas ++ t ∷ [];
-      written = fields_joined W xs h.schemas x t written w;
-      members_are = e ∙ (λ i. put x.name (same i) (h.members_are i)) ∙ sym (keywords_joined W xs h.schemas x t written no_members);
-    }
+-- one part more
+pub parts_more : (plan : Plan) (inside : Bool) (start old new : Work) (n : ℕ) (ms : List ℕ) (ts : List Data) (m : ℕ) (t : Data)
+    → Step plan start old → Step plan old new → StandsIn plan.rows n m
+    → AreParts plan inside start old n ms ts → IsPart plan inside old new m t
+    → AreParts plan inside start new n (ms ++ m ∷ []) (ts ++ t ∷ [])
+parts_more plan inside start old new n ms ts m t before step stands all one = record {
+  written = parts_joined (IsSubschema plan (not inside) old (height plan.rows n)) (IsSubschema plan (not inside) new (height plan.rows n))
+      (subschema-wider plan (not inside) old new step (height plan.rows n) (height plan.rows n) (omega arith)) ms ts m t all.written
+      (same_work-wider plan (not inside) new (depth_in_place plan.rows m) (height plan.rows n) stands.is_lower m t one.written);
+  reached = λ plain. reached_trans plan inside start old new (references_of ts) (references t) (references_of (ts ++ t ∷ [])) before step
+      (kept ts t) (has ts t) (all.reached plain) (one.reached plain);
+}
+
+-- ---- the whole document
+
+described : (rows : List Row) (contract : Contract) (R : ℕ → Text → Type 0) (depth n : ℕ) (e : Entry) (s : Data) → entry_at rows n ≡ Some e
+    → Fills (IsWritten R (Describes rows contract R depth)) (entry_template contract e) s → Describes rows contract R (suc depth) n s
+unfolding Describes
+described rows contract R depth n e s at is =
+    let P : Option Entry → Type 0 = λ o. IsOwnDocument (IsWritten R (Describes rows contract R depth)) contract o s in
+    subst P (sym at) is
+
+pub filled_by_parts : (plan : Plan) (inside : Bool) (old new : Work) (n : ℕ) (e : Entry) (ts : List Data)
+    → AreParts plan inside old new n (rows_of (entry_template (contract_of plan.contract) e)) ts
+    → IsSchema (filled (entry_template (contract_of plan.contract) e) ts)
+filled_by_parts plan inside old new n e ts all =
+    filled_schema (contract_of plan.contract) e ts (parts_schemas (IsSubschema plan (not inside) new (height plan.rows n))
+    (written_schema plan.rows (contract_of plan.contract) (Refers plan (not inside) new) (height plan.rows n)) _ ts all.written)
+
+pub own_of_parts : (plan : Plan) (inside : Bool) (old new : Work) (n : ℕ) (e : Entry) (ts : List Data) (s : Data)
+    → entry_at plan.rows n ≡ Some e → AreParts plan inside old new n (rows_of (entry_template (contract_of plan.contract) e)) ts
+    → s ≡ filled (entry_template (contract_of plan.contract) e) ts → IsOwn plan inside old new n s
+own_of_parts plan inside old new n e ts s at all is = record {
+  describes = described plan.rows (contract_of plan.contract) (Refers plan (not inside) new) (height plan.rows n) n e s at
+      (record { parts = ts; written = all.written; is = is });
+  reached = λ plain.
+      let P : Option Entry → Type 0 = λ o. IsPlainEntry o in
+      let Q : Data → Type 0 = λ d. Among (references_of ts) (references d) in
+      let among : Among (references_of ts) (references s) = subst Q (sym is)
+      (parts_among (contract_of plan.contract) e (subst P at (plain n)) ts (sym (parts_counted _ _ ts all.written))) in
+      reached_more plan inside old new (references_of ts) (references s) among (all.reached plain);
+}
+
+pub stand_rows : (plan : Plan) (n : ℕ) (e : Entry) → IsChecked plan.rows → entry_at plan.rows n ≡ Some e
+    → All (StandsIn plan.rows n) (rows_of (entry_template (contract_of plan.contract) e))
+stand_rows plan n e checked at =
+    all_rows (StandsIn plan.rows n) (contract_of plan.contract) e.shape (stands plan.rows n e checked at)
+
+-- a row in place
+pub in_place : (plan : Plan) (inside : Bool) (old new : Work) (n : ℕ) (s : Data) → is_inline_at plan.rows n ≡ true
+    → IsOwn plan inside old new n s → IsPart plan inside old new n s
+in_place plan inside old new n s inline own = record {
+  written =
+      let P : ℕ → Type 0 = λ d. Describes plan.rows (contract_of plan.contract) (Refers plan (not inside) new) d n s in
+      let deep : depth_in_place plan.rows n ≡ suc (height plan.rows n) = ap (λ b. if b then suc (height plan.rows n) else 0) inline in
+      inr (subst P (sym deep) own.describes);
+  reached = own.reached;
+}

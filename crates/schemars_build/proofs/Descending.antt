@@ -25,11 +25,8 @@ left_of_subschema p w n = missing p.rows p.contract w * width p.rows + (4 * dept
 abbrev pub left_of_own_document : Plan → Work → ℕ → ℕ
 left_of_own_document p w n = missing p.rows p.contract w * width p.rows + (4 * height p.rows n + 4)
 
-abbrev pub left_of_document : Plan → Work → ℕ → ℕ
-left_of_document p w n = missing p.rows p.contract w * width p.rows + (4 * height p.rows n + 3)
-
-abbrev pub left_of_properties : Plan → Work → ℕ → ℕ
-left_of_properties p w n = missing p.rows p.contract w * width p.rows + (4 * height p.rows n + 2)
+abbrev pub left_of_subschemas : Plan → Work → ℕ → ℕ
+left_of_subschemas p w n = missing p.rows p.contract w * width p.rows + (4 * height p.rows n + 2)
 
 -- ---- the rows that stand in a document
 
@@ -49,19 +46,6 @@ stands rows n e h at = λ k d less. one (get_or (numbers_of e.shape) k d)
     one m is =
         let there : Contains (numbers_at rows n) m = subst (λ (ms : List ℕ). Contains ms m) (sym numbers) is in
         record { is_known = h.within.within n m there; is_lower = lower m there (is_inline_at rows m) refl }
-
-pub stands_one : (rows : List Row) (n m : ℕ) (ms : List ℕ) → ms ≡ m ∷ [] → All (StandsIn rows n) ms → StandsIn rows n m
-stands_one rows n m ms is h = let P : List ℕ → Type 0 = λ xs. All (StandsIn rows n) xs in subst P is h 0 0 (omega arith)
-
-pub stands_field : (rows : List Row) (n : ℕ) (fs : List src.Field) (i : ℕ) (d : src.Field)
-    → All (StandsIn rows n) (map (λ f. f.ty) (map field_of fs)) → i < length fs → StandsIn rows n (get_or fs i d).ty
-stands_field rows n fs i d h less =
-    let Q : ℕ → Type 0 = λ m. StandsIn rows n m in
-    let inner : i < length (map field_of fs) = simp length-map less in
-    let outer : i < length (map (λ f. f.ty) (map field_of fs)) = simp length-map less in
-    let there : get_or (map (λ f. f.ty) (map field_of fs)) i 0 ≡ (get_or fs i d).ty =
-    get_or-map (λ f. f.ty) (map field_of fs) i (field_of d) 0 inner ∙ ap (λ f. f.ty) (get_or-map field_of fs i d (field_of d) less) in
-    subst Q there (h i 0 outer)
 
 -- ---- one step down
 

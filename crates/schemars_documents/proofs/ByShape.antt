@@ -17,6 +17,7 @@ use Rattle.schemars_documents.specs.Documents.{schema_document, required_names, 
 use Rattle.schemars_documents.specs.Template.{row, rows_of, rows_in, filled, filled_in, keyed}
 use Rattle.schemars_documents.specs.OfShape.{templates_of, property, map_template, template_of, entry_template}
 use Rattle.schemars_documents.specs.Describes.{ArePartsWritten, Fills}
+use Rattle.schemars_documents.proofs.Rows.{rows_at, rows_same}
 
 -- ---- lists
 
@@ -120,9 +121,6 @@ module _ (W : ℕ → Data → Type 0) where
 
   -- ---- fields
 
-  abbrev rows_at : List Field → List ℕ
-  rows_at xs = rows_in (templates_of (map (λ e. e.1) (map property xs)))
-
   abbrev keywords_at : List Field → List Data → List Keyword
   keywords_at xs ts = keyed (map (λ e. e.0) (map property xs)) (filled_in (templates_of (map (λ e. e.1) (map property xs))) ts)
 
@@ -169,10 +167,6 @@ module _ (W : ℕ → Data → Type 0) where
       by_keywords (k ∷ ks) true h = more (k ∷ ks) true (fields_fill xs ts (without_end (rows_at xs) ts h.1)) h.0 refl
 
   -- ---- rows in order
-
-  rows_same : (ns : List ℕ) → rows_in (templates_of (map row ns)) ≡ ns
-  rows_same [] = refl
-  rows_same (n ∷ ns) = ap (λ ms. n ∷ ms) (rows_same ns)
 
   items_same : (ns : List ℕ) (ts : List Data) → Fit ns ts → items_of (filled_in (templates_of (map row ns)) ts) ≡ items_from ts
   items_same [] ts h = ap items_from (sym h)

@@ -1,4 +1,5 @@
 pub mod Annotating
+pub mod Rows
 pub mod ByShape
 pub mod Templates
 pub mod Mapping
@@ -7,4 +8,7 @@ pub mod Maps
 pub mod Structs
 pub mod Meanings
 pub mod Notes
+pub mod ReferencesKept
+pub mod References
+pub mod Schemas
 pub mod Following

@@ -1,7 +1,8 @@
 -- Which documents belong to a row of a table.
-use Rattle.std.specs.Prelude.{◌≡◌, ◌⊎◌, ℕ, zero, suc, List, [], ◌∷◌, Option, Some, None}
+use Rattle.std.specs.Prelude.{◌≡◌, ◌⊎◌, ℕ, zero, suc, List, [], ◌∷◌, ◌++◌, Option, Some, None}
 use Rattle.serde_json.specs.Data.{Data}
 use Rattle.schemars_json.specs.Json.{Text}
+use Rattle.schemars_schema.specs.References.{references}
 use Rattle.schemars_shapes.specs.Shape.{Entry}
 use Rattle.schemars_types.specs.Rows.{Row, entry_at}
 use Rattle.schemars_types.specs.Meaning.{Contract}
@@ -34,3 +35,8 @@ unfoldable pub Describes : List Row → Contract → (ℕ → Text → Type 0) �
 Describes rows contract Refers zero n s = ⊥
 Describes rows contract Refers (suc depth) n s =
     IsOwnDocument (IsWritten Refers (Describes rows contract Refers depth)) contract (entry_at rows n) s
+
+-- the references of several schemas
+abbrev pub references_of : List Data → List Data
+references_of [] = []
+references_of (t ∷ ts) = references t ++ references_of ts

@@ -1,0 +1,312 @@
+-- Which references stay as members are put in, as a schema is given notes and as null is allowed.
+use Rattle.std.proofs.Common.{◌≡◌, inl, inr, List, [], ◌∷◌, ◌++◌, Bool, true, false, Option, Some, None}
+use Rattle.std.proofs.Common.{Ordering, Less, Equal, Greater, nat_cmp, refl, sym, ap, ◌∙◌, subst, Contains}
+use Rattle.std.proofs.Common.{append_assoc, append-nil, true≢false}
+use Rattle.std.specs.Prelude.{codes, bytes_eq, if◌then◌else◌}
+use Rattle.std.specs.Ordering.{match_ordering}
+use Rattle.std.specs.Cmp.Lexicographic.{slice_cmp}
+use Rattle.std.proofs.lemmas.Map.Lookups.{exact_bytes}
+use Rattle.std.proofs.lemmas.Slice.Eq.{bytes_eq-Decides}
+use Rattle.std.proofs.lemmas.List.Elements.{Contains-append_left, Contains-append_right, Contains-append_cases}
+use Rattle.serde_json.specs.Data.{Data, null, boolean, number, string, array, object, no_items, item, Members}
+use Rattle.serde_json.specs.Data.{no_members, member, put}
+use Rattle.serde_json.specs.Find.{get_member}
+use Rattle.serde_json.proofs.Views.{get_member-put_other}
+use Rattle.schemars_json.specs.Json.{Text}
+use Rattle.schemars_schema.specs.SchemaData.{IsSchema, put_members, members_in}
+use Rattle.schemars_schema.specs.Annotations.{AreNotes}
+use Rattle.schemars_schema.specs.Edits.{without}
+use Rattle.schemars_schema.specs.Acceptance.{is_null}
+use Rattle.schemars_schema.specs.References.{found_in, found_in_members, found_in_keywords, references}
+use Rattle.schemars_schema.proofs.Contents.{found_under, found_under-annotation}
+use Rattle.schemars_rewrite.specs.AllowNull.{is_null_choice, is_combined, or_null, allow_null, type_with_null}
+use Rattle.schemars_rewrite.specs.AllowNull.{null_in_type, enum_with_null, null_in_enum, const_or_null, null_in_const}
+use Rattle.schemars_rewrite.specs.AllowNull.{null_in_values}
+use Rattle.schemars_documents.specs.Documents.{annotated}
+
+-- ---- references among others
+
+abbrev pub Among : List Data → List Data → Type 0
+Among xs ys = (x : Data) → Contains xs x → Contains ys x
+
+pub among_left : (xs ys : List Data) → Among xs (xs ++ ys)
+among_left xs ys x h = Contains-append_left xs ys x h
+
+pub among_right : (xs ys : List Data) → Among ys (xs ++ ys)
+among_right xs ys x h = Contains-append_right xs ys x h
+
+pub among_append : (xs ys zs ws : List Data) → Among xs zs → Among ys ws → Among (xs ++ ys) (zs ++ ws)
+among_append xs ys zs ws first second x h = elim (Contains-append_cases xs ys x h) [
+  | inl a ↦ Contains-append_left zs ws x (first x a)
+  | inr b ↦ Contains-append_right zs ws x (second x b)
+]
+
+pub among_equal : (xs ys : List Data) → xs ≡ ys → Among xs ys
+among_equal xs ys e = subst (Among xs) e (λ x h. h)
+
+among_swap : (xs ys zs : List Data) → Among (xs ++ (ys ++ zs)) (ys ++ (xs ++ zs))
+among_swap xs ys zs x h = elim (Contains-append_cases xs (ys ++ zs) x h) [
+  | inl a ↦ among_right ys (xs ++ zs) x (among_left xs zs x a)
+  | inr b ↦ among_append ys zs ys (xs ++ zs) (λ y g. g) (among_right xs zs) x b
+]
+
+pub among_more : (xs ys zs : List Data) → Among (xs ++ zs) ((xs ++ ys) ++ zs)
+among_more xs ys zs = among_append xs zs (xs ++ ys) zs (among_left xs ys) (λ x h. h)
+
+-- the same references, perhaps in another order; that the first are among the second is shown only where Q holds
+module _ (Q : Type 0) where
+  abbrev pub Alike : List Data → List Data → Type 0
+  Alike xs ys = (Q → Among xs ys) × Among ys xs
+
+  pub alike_equal : (xs ys : List Data) → xs ≡ ys → Alike xs ys
+  alike_equal xs ys e = (λ q. among_equal xs ys e, among_equal ys xs (sym e))
+
+  pub alike_same : (xs : List Data) → Alike xs xs
+  alike_same xs = alike_equal xs xs refl
+
+  pub alike_nothing : (xs ys : List Data) → xs ≡ [] → Alike (xs ++ ys) ys
+  alike_nothing xs ys none = alike_equal (xs ++ ys) ys (ap (λ zs. zs ++ ys) none)
+
+  pub alike_trans : (xs ys zs : List Data) → Alike xs ys → Alike ys zs → Alike xs zs
+  alike_trans xs ys zs f g = (λ q x h. g.0 q x (f.0 q x h), λ x h. f.1 x (g.1 x h))
+
+  pub alike_append : (xs ys zs ws : List Data) → Alike xs zs → Alike ys ws → Alike (xs ++ ys) (zs ++ ws)
+  alike_append xs ys zs ws f g = (λ q. among_append xs ys zs ws (f.0 q) (g.0 q), among_append zs ws xs ys f.1 g.1)
+
+  alike_swap : (xs ys zs : List Data) → Alike (xs ++ (ys ++ zs)) (ys ++ (xs ++ zs))
+  alike_swap xs ys zs = (λ q. among_swap xs ys zs, among_swap ys xs zs)
+
+  -- ---- members under new keys
+
+  pub keywords-new : (k : Text) (d : Data) (ms : Members) → get_member k ms ≡ None
+      → Alike (found_in_keywords (put k d ms)) (found_under k d ++ found_in_keywords ms)
+  unfolding found_in
+  keywords-new k d no_members new = alike_same (found_under k d ++ [])
+  keywords-new k d (member l e ms) new = go (slice_cmp nat_cmp k l) new (keywords-new k d ms)
+    where
+      go : (o : Ordering) → match_ordering o (get_member k ms) (Some e) (get_member k ms) ≡ None
+          → (get_member k ms ≡ None → Alike (found_in_keywords (put k d ms)) (found_under k d ++ found_in_keywords ms))
+          → Alike (found_in_keywords (match_ordering o (member k d (member l e ms)) (member l d ms) (member l e (put k d ms))))
+          (found_under k d ++ found_in_keywords (member l e ms))
+      go Less new later = alike_same (found_under k d ++ found_in_keywords (member l e ms))
+      go Equal new later = cc
+      go Greater new later = alike_trans (found_under l e ++ found_in_keywords (put k d ms))
+          (found_under l e ++ (found_under k d ++ found_in_keywords ms))
+          (found_under k d ++ (found_under l e ++ found_in_keywords ms))
+          (alike_append (found_under l e) (found_in_keywords (put k d ms)) (found_under l e) (found_under k d ++ found_in_keywords ms)
+          (alike_same (found_under l e)) (later new))
+          (alike_swap (found_under l e) (found_under k d) (found_in_keywords ms))
+
+  pub members-new : (k : Text) (d : Data) (ms : Members) → get_member k ms ≡ None
+      → Alike (found_in_members (put k d ms)) (references d ++ found_in_members ms)
+  unfolding found_in
+  members-new k d no_members new = alike_same (references d ++ [])
+  members-new k d (member l e ms) new = go (slice_cmp nat_cmp k l) new (members-new k d ms)
+    where
+      go : (o : Ordering) → match_ordering o (get_member k ms) (Some e) (get_member k ms) ≡ None
+          → (get_member k ms ≡ None → Alike (found_in_members (put k d ms)) (references d ++ found_in_members ms))
+          → Alike (found_in_members (match_ordering o (member k d (member l e ms)) (member l d ms) (member l e (put k d ms))))
+          (references d ++ found_in_members (member l e ms))
+      go Less new later = alike_same (references d ++ found_in_members (member l e ms))
+      go Equal new later = cc
+      go Greater new later = alike_trans (references e ++ found_in_members (put k d ms))
+          (references e ++ (references d ++ found_in_members ms))
+          (references d ++ (references e ++ found_in_members ms))
+          (alike_append (references e) (found_in_members (put k d ms)) (references e) (references d ++ found_in_members ms)
+          (alike_same (references e)) (later new))
+          (alike_swap (references e) (references d) (found_in_members ms))
+
+  -- what was put in under a new key, before the rest
+  pub alike_turn : (new here old after all : List Data) → Alike new (here ++ old) → Alike (here ++ after) all
+      → Alike (new ++ after) (old ++ all)
+  alike_turn new here old after all f g =
+      alike_trans (new ++ after) ((here ++ old) ++ after) (old ++ all)
+      (alike_append new after (here ++ old) after f (alike_same after))
+      (alike_trans ((here ++ old) ++ after) (here ++ (old ++ after)) (old ++ all)
+      (alike_equal ((here ++ old) ++ after) (here ++ (old ++ after)) (append_assoc here old after))
+      (alike_trans (here ++ (old ++ after)) (old ++ (here ++ after)) (old ++ all) (alike_swap here old after)
+      (alike_append old (here ++ after) old all (alike_same old) g)))
+
+-- where the key is new
+pub members-kept : (k : Text) (d : Data) (ms : Members) → get_member k ms ≡ None
+    → Among (found_in_members ms) (found_in_members (put k d ms))
+members-kept k d ms new x h = (members-new ⊥ k d ms new).1 x (among_right (references d) (found_in_members ms) x h)
+
+pub members-has : (k : Text) (d : Data) (ms : Members) → Among (references d) (found_in_members (put k d ms))
+unfolding found_in
+members-has k d no_members = among_left (references d) []
+members-has k d (member l e ms) = go (slice_cmp nat_cmp k l) (members-has k d ms)
+  where
+    go : (o : Ordering) → Among (references d) (found_in_members (put k d ms))
+        → Among (references d) (found_in_members (match_ordering o (member k d (member l e ms)) (member l d ms) (member l e (put k d ms))))
+    go Less later = among_left (references d) (found_in_members (member l e ms))
+    go Equal later = among_left (references d) (found_in_members ms)
+    go Greater later = λ x h. Contains-append_right (references e) (found_in_members (put k d ms)) x (later x h)
+
+-- ---- where no reference stands under the key
+
+keywords-put : (k : Text) (d : Data) (ms : Members) → ((e : Data) → found_under k e ≡ [])
+    → found_in_keywords (put k d ms) ≡ found_in_keywords ms
+unfolding found_in
+keywords-put k d no_members none = rw (none d) refl
+keywords-put k d (member l e ms) none = go (slice_cmp nat_cmp k l) refl (keywords-put k d ms none)
+  where
+    go : (o : Ordering) → slice_cmp nat_cmp k l ≡ o → found_in_keywords (put k d ms) ≡ found_in_keywords ms
+        → found_in_keywords (match_ordering o (member k d (member l e ms)) (member l d ms) (member l e (put k d ms)))
+        ≡ found_in_keywords (member l e ms)
+    go Less is later = ap (λ xs. xs ++ found_in_keywords (member l e ms)) (none d)
+    go Equal is later =
+        let nothing : (f : Data) → found_under l f ≡ [] = λ f. ap (λ x. found_under x f) (sym (exact_bytes k l is)) ∙ none f in
+        ap (λ xs. xs ++ found_in_keywords ms) (nothing d ∙ sym (nothing e))
+    go Greater is later = ap (λ xs. found_under l e ++ xs) later
+
+keywords-removed : (k : Text) (ms : Members) → ((e : Data) → found_under k e ≡ [])
+    → found_in_keywords (without k ms) ≡ found_in_keywords ms
+unfolding found_in
+keywords-removed k no_members none = refl
+keywords-removed k (member l e ms) none = go (bytes_eq k l) refl (keywords-removed k ms none)
+  where
+    go : (b : Bool) → bytes_eq k l ≡ b → found_in_keywords (without k ms) ≡ found_in_keywords ms
+        → found_in_keywords (if b then ms else member l e (without k ms)) ≡ found_in_keywords (member l e ms)
+    go true is later =
+        let nothing : found_under l e ≡ [] = ap (λ x. found_under x e) (sym ((bytes_eq-Decides k l).0 is)) ∙ none e in
+        ap (λ xs. xs ++ found_in_keywords ms) (sym nothing)
+    go false is later = ap (λ xs. found_under l e ++ xs) later
+
+pub keywords-kept : (k : Text) (d : Data) (ms : Members) → ((e : Data) → found_under k e ≡ [])
+    → Among (found_in_keywords ms) (found_in_keywords (put k d ms))
+keywords-kept k d ms none = among_equal (found_in_keywords ms) (found_in_keywords (put k d ms)) (sym (keywords-put k d ms none))
+
+pub keywords-without : (k : Text) (ms : Members) → ((e : Data) → found_under k e ≡ [])
+    → Among (found_in_keywords ms) (found_in_keywords (without k ms))
+keywords-without k ms none = among_equal (found_in_keywords ms) (found_in_keywords (without k ms)) (sym (keywords-removed k ms none))
+
+-- ---- notes
+
+references-members_in : (s : Data) → found_in_keywords (members_in s) ≡ references s
+unfolding found_in
+references-members_in null = refl
+references-members_in (boolean true) = refl
+references-members_in (boolean false) = refl
+references-members_in (number n) = refl
+references-members_in (string t) = refl
+references-members_in (array ds) = refl
+references-members_in (object ms) = refl
+
+references-put_members : (notes ms : Members) → AreNotes notes → found_in_keywords (put_members notes ms) ≡ found_in_keywords ms
+references-put_members no_members ms h = refl
+references-put_members (member k d notes) ms h =
+    references-put_members notes (put k d ms) h.1 ∙ keywords-put k d ms (λ e. found_under-annotation k e h.0)
+
+pub references-annotated : (notes : Members) (s : Data) → AreNotes notes → references (annotated notes s) ≡ references s
+unfolding found_in
+references-annotated no_members s h = refl
+references-annotated (member k d notes) s h = references-put_members (member k d notes) (members_in s) h ∙ references-members_in s
+
+pub among_members_in : (s : Data) → Among (references s) (found_in_keywords (members_in s))
+among_members_in s = among_equal (references s) (found_in_keywords (members_in s)) (sym (references-members_in s))
+
+pub among_annotated : (notes : Members) (s : Data) → AreNotes notes → Among (references s) (references (annotated notes s))
+among_annotated notes s h = among_equal (references s) (references (annotated notes s)) (sym (references-annotated notes s h))
+
+-- ---- null
+
+references-null_in_type : (o : Option Data) (ms : Members) → found_in_keywords (null_in_type o ms) ≡ found_in_keywords ms
+references-null_in_type None ms = refl
+references-null_in_type (Some d) ms = keywords-put (codes "type") (type_with_null d) ms (λ e. refl)
+
+references-null_in_enum : (o : Option Data) (ms : Members) → found_in_keywords (null_in_enum o ms) ≡ found_in_keywords ms
+references-null_in_enum None ms = refl
+references-null_in_enum (Some d) ms = keywords-put (codes "enum") (enum_with_null d) ms (λ e. refl)
+
+references-null_in_const : (o : Option Data) (ms : Members) → found_in_keywords (null_in_const o ms) ≡ found_in_keywords ms
+references-null_in_const None ms = references-null_in_enum (get_member (codes "enum") ms) ms
+references-null_in_const (Some c) ms = go (is_null c)
+  where
+    go : (b : Bool) → found_in_keywords (if b then ms else const_or_null c ms) ≡ found_in_keywords ms
+    go true = refl
+    go false =
+        keywords-put (codes "enum") (array (item c (item null no_items))) (without (codes "const") ms) (λ e. refl)
+        ∙ keywords-removed (codes "const") ms (λ e. refl)
+
+references-or_null : (s : Data) → references (or_null s) ≡ references s
+unfolding found_in
+references-or_null s = append-nil (references s ++ []) ∙ append-nil (references s)
+
+pub references-allow_null : (s : Data) → references (allow_null s) ≡ references s
+unfolding found_in
+references-allow_null null = refl
+references-allow_null (boolean true) = refl
+references-allow_null (boolean false) = refl
+references-allow_null (number n) = refl
+references-allow_null (string t) = refl
+references-allow_null (array ds) = refl
+references-allow_null (object ms) = go (is_null_choice (object ms)) (is_combined (object ms))
+  where
+    typed : Members
+    typed = null_in_type (get_member (codes "type") ms) ms
+
+    go : (stays b : Bool) → references (if stays then object ms else if b then or_null (object ms) else
+        object (null_in_values (null_in_type (get_member (codes "type") ms) ms))) ≡ references (object ms)
+    go true b = refl
+    go false true = references-or_null (object ms)
+    go false false = references-null_in_const (get_member (codes "const") typed) typed
+        ∙ references-null_in_type (get_member (codes "type") ms) ms
+
+pub among_allow_null : (s : Data) → Among (references s) (references (allow_null s))
+among_allow_null s = among_equal (references s) (references (allow_null s)) (sym (references-allow_null s))
+
+pub allow_null-schema : (s : Data) → IsSchema s → IsSchema (allow_null s)
+allow_null-schema null h = h
+allow_null-schema (boolean true) h = tt
+allow_null-schema (boolean false) h = tt
+allow_null-schema (number n) h = h
+allow_null-schema (string t) h = h
+allow_null-schema (array ds) h = h
+allow_null-schema (object ms) h = go (is_null_choice (object ms)) (is_combined (object ms))
+  where
+    go : (stays b : Bool) → IsSchema (if stays then object ms else if b then or_null (object ms) else
+        object (null_in_values (null_in_type (get_member (codes "type") ms) ms)))
+    go true b = tt
+    go false true = tt
+    go false false = tt
+
+-- ---- in a list
+
+pub in_list_of_schema : (t : Data) → IsSchema t → (found_in t).in_list ≡ []
+unfolding found_in
+in_list_of_schema (boolean b) h = refl
+in_list_of_schema (object ms) h = refl
+in_list_of_schema null h = absurd h
+in_list_of_schema (number n) h = absurd h
+in_list_of_schema (string s) h = absurd h
+in_list_of_schema (array ds) h = absurd h
+
+-- ---- keys that are all different
+
+-- no key is this one
+abbrev pub IsNoKey : Text → List Text → Type 0
+IsNoKey k [] = Unit {0}
+IsNoKey k (l ∷ ls) = (bytes_eq l k ≡ false) × IsNoKey k ls
+
+-- the keys are all different
+abbrev pub AreApart : List Text → Type 0
+AreApart [] = Unit {0}
+AreApart (k ∷ ks) = IsNoKey k ks × AreApart ks
+
+-- nothing stands under these keys
+abbrev pub AreNew : List Text → Members → Type 0
+AreNew [] ms = Unit {0}
+AreNew (k ∷ ks) ms = (get_member k ms ≡ None) × AreNew ks ms
+
+apart : (k l : Text) → bytes_eq l k ≡ false → l ≡ k → ⊥
+apart k l e same = true≢false (sym ((bytes_eq-Decides l k).1 same) ∙ e)
+
+pub still_new : (k : Text) (d : Data) (ks : List Text) (ms : Members) → IsNoKey k ks → AreNew ks ms → AreNew ks (put k d ms)
+still_new k d [] ms other new = tt
+still_new k d (l ∷ ls) ms other new =
+    (get_member-put_other l k d ms (apart k l other.0) ∙ new.0, still_new k d ls ms other.1 new.1)
+
+pub none_there : (ks : List Text) → AreNew ks no_members
+none_there [] = tt
+none_there (k ∷ ks) = (refl, none_there ks)
