@@ -58,11 +58,12 @@ pub struct Types {
 impl Model for Types {
     ghost use Rattle.std.specs.Prelude.{List, map};
     ghost use Rattle.schemars_types.specs.Rows.{Row};
-    ghost use Rattle.schemars_types.specs.RowCode.{rows_code};
+    ghost use Rattle.std.specs.Coded.{codes};
+    ghost use Rattle.schemars_schema.specs.DataCode.{members_code};
 
     ghost Value = { List Row };
 
-    ghost coded = { rows_code };
+    ghost coded = { Prim.hlevel (codes, members_code) };
 
     ghost use Rattle.schemars_types.specs.Slots.{row_of};
     ghost use Rattle.schemars_types.specs.Edges.{RefersWithin};
