@@ -1,48 +1,14 @@
 -- The kinds of integers: when two are the same, and the names of their types.
-use Rattle.std.specs.Prelude.{◌≡◌, ℕ, ◌==◌, Bool, codes, refl, if◌then◌else◌}
+use Rattle.std.specs.Prelude.{Bool, codes}
+use denote.Enum.Bare.{sameb}
 use Rattle.schemars_json.specs.Json.{Text}
+use Rattle.schemars_shapes.specs.contracts.shape.IntKind.{the_type}
 use Rattle.schemars_shapes.specs.declared.shape.IntKind.{IntKind}
 use Rattle.schemars_shapes.specs.declared.shape.IntKind.TheVariants.{I8, I16, I32, I64, I128, Isize, U8, U16, U32, U64, U128, Usize}
 
--- its place among the kinds
-abbrev pub kind_number : IntKind → ℕ
-kind_number I8 = 0
-kind_number I16 = 1
-kind_number I32 = 2
-kind_number I64 = 3
-kind_number I128 = 4
-kind_number Isize = 5
-kind_number U8 = 6
-kind_number U16 = 7
-kind_number U32 = 8
-kind_number U64 = 9
-kind_number U128 = 10
-kind_number Usize = 11
-
+-- they are one variant
 abbrev pub kind_eq : IntKind → IntKind → Bool
-kind_eq a b = kind_number a == kind_number b
-
--- the kind at a place, and `Usize` past the end
-abbrev pub kind_at : ℕ → IntKind
-kind_at n =
-    if n == 0 then I8 else (if n == 1 then I16 else (if n == 2 then I32
-    else (if n == 3 then I64 else (if n == 4 then I128 else (if n == 5 then Isize
-    else (if n == 6 then U8 else (if n == 7 then U16 else (if n == 8 then U32
-    else (if n == 9 then U64 else (if n == 10 then U128 else Usize))))))))))
-
-pub kind_at-kind_number : (k : IntKind) → kind_at (kind_number k) ≡ k
-kind_at-kind_number I8 = refl
-kind_at-kind_number I16 = refl
-kind_at-kind_number I32 = refl
-kind_at-kind_number I64 = refl
-kind_at-kind_number I128 = refl
-kind_at-kind_number Isize = refl
-kind_at-kind_number U8 = refl
-kind_at-kind_number U16 = refl
-kind_at-kind_number U32 = refl
-kind_at-kind_number U64 = refl
-kind_at-kind_number U128 = refl
-kind_at-kind_number Usize = refl
+kind_eq = sameb the_type
 
 -- the format of the schema, which is also the name of the type
 abbrev pub format_of : IntKind → Text

@@ -1,5 +1,5 @@
 pub mod IntKind
 pub mod Shape
-pub mod ShapeParts
+pub mod Equality
 pub mod Repeated
 pub mod Decimals
