@@ -1,12 +1,11 @@
 //! What documents are made into.
-ghost use Rattle.std.specs.Prelude.{ℕ, List, true, false, map, ◌≡◌, ◌∷◌, ◌++◌, ◌||◌, [], None, Some, length, Contains};
-ghost use Rattle.std.specs.Prelude.{IfOk, OnOk, OnErr, option_map, is_some, string_bytes};
+ghost use Rattle.std.specs.Prelude.{ℕ, List, true, false, map, ◌≡◌, ◌∷◌, ◌++◌, ◌||◌, [], None, Some, length};
+ghost use Rattle.std.specs.Prelude.{IfOk, OnOk, OnErr, is_some, string_bytes};
 ghost use Rattle.serde_json.specs.Data.{boolean, put, no_members};
 ghost use Rattle.serde_json.specs.Find.{get_member, as_object};
 ghost use Rattle.schemars_schema.specs.SchemaData.{members_in};
 ghost use Rattle.serde_json.specs.View.{members_view};
 ghost use Rattle.schemars_schema.specs.Edits.{replaced};
-ghost use Rattle.schemars_types.specs.Rows.{name_at};
 ghost use Rattle.schemars_naming.specs.Naming.{name_of, IsOneToOne};
 ghost use Rattle.schemars_documents.specs.declared.contract.Contract.{Contract};
 ghost use Rattle.schemars_naming.specs.Work.{GivesNames, undone, without_all};
@@ -34,14 +33,15 @@ pub struct Work {
 
 impl Model for Work {
     ghost use Rattle.std.specs.Prelude.{◌≡◌, ◌≤◌, true, map, length, is_some, string_bytes};
+    ghost use Rattle.std.specs.Coded.{codes};
     ghost use Rattle.serde_json.specs.Find.{as_object};
     ghost use Rattle.schemars_schema.specs.SchemaData.{members_in};
+    ghost use Rattle.schemars_schema.specs.DataCode.{members_code};
     ghost use Rattle.schemars_naming.specs.Work as specs;
-    ghost use Rattle.schemars_naming.specs.WorkCode.{work_code};
 
     ghost Value = { specs.Work };
 
-    ghost coded = { work_code };
+    ghost coded = { Prim.hlevel (codes, members_code) };
 
     ghost view = { λ w. record {
       names = w.names;

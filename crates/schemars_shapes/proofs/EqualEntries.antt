@@ -1,7 +1,6 @@
 -- Equal entries are the same entry.
-use Rattle.std.proofs.Common.{◌≡◌, ◌==◌, ◌&&◌, ℕ, Bool, true, false, not, if◌then◌else◌, List, [], ◌∷◌, Option, Some}
-use Rattle.std.proofs.Common.{None, refl, ap, sym, ◌∙◌, true≢false}
-use Rattle.std.specs.Option.{option_eq}
+use Rattle.std.proofs.Common.{◌≡◌, ◌==◌, ◌&&◌, ℕ, Bool, true, false, not, if◌then◌else◌, List, [], ◌∷◌, refl, ap, sym, true≢false}
+use denote.Enum.Bare.{same_true}
 use Rattle.std.specs.Cmp.{signed_Decides}
 use Rattle.std.specs.Str.{bytes_eq}
 use Rattle.std.proofs.lemmas.Bool.Decides.{Decides-eqb}
@@ -9,12 +8,13 @@ use Rattle.std.proofs.lemmas.Slice.Eq.{bytes_eq-Decides}
 use Rattle.serde_json.specs.Data.{Num, unsigned, negative, Data, null, boolean, number, string, array, object, Items}
 use Rattle.serde_json.specs.Data.{no_items, item, Members, no_members, member}
 use Rattle.schemars_json.specs.Json.{num_eq, json_eq, items_eq, members_eq}
+use Rattle.schemars_shapes.specs.contracts.shape.IntKind.{the_type}
 use Rattle.schemars_shapes.specs.declared.shape.IntKind.{IntKind}
-use Rattle.schemars_shapes.specs.IntKind.{kind_eq, kind_number, kind_at, kind_at-kind_number}
-use Rattle.schemars_shapes.specs.Shape.{Required, Field, Shape, Entry}
-use Rattle.schemars_shapes.specs.ShapeParts.{parts_of, parts_eq, shape_from, shape_from-parts_of, bool_eq, required_eq}
-use Rattle.schemars_shapes.specs.ShapeParts.{field_eq, list_eq, fields_eq, pair_eq, number_eq, numbers_eq, shape_eq}
-use Rattle.schemars_shapes.specs.ShapeParts.{entry_eq}
+use Rattle.schemars_shapes.specs.IntKind.{kind_eq}
+use Rattle.schemars_shapes.specs.Shape.{Required, Field, Shape, Entry, null, bool, int, non_zero, number}
+use Rattle.schemars_shapes.specs.Shape.{text, char, formatted, any, bytes, schema_itself, option, seq, set}
+use Rattle.schemars_shapes.specs.Shape.{array as array_shape, up_to, tuple, struct, newtype}
+use Rattle.schemars_shapes.specs.Equality.{bool_eq, required_eq, field_eq, list_eq, shape_eq, entry_eq}
 
 and_left : (a b : Bool) → (a && b) ≡ true → a ≡ true
 and_left true b h = refl
@@ -62,7 +62,7 @@ mutual
   same_members ms ns h = cc
 
 same_kind : (k l : IntKind) → kind_eq k l ≡ true → k ≡ l
-same_kind k l h = sym (kind_at-kind_number k) ∙ ap kind_at ((Decides-eqb (kind_number k) (kind_number l)).0 h) ∙ kind_at-kind_number l
+same_kind k l h = same_true the_type tt k l h
 
 same_required : (a b : Required) → required_eq a b ≡ true → a ≡ b
 same_required a b h =
@@ -94,51 +94,35 @@ same_list (f ∷ fs) (g ∷ gs) h = λ i. same_field f g (and_left (field_eq f g
     ∷ same_list fs gs (and_right (field_eq f g) (list_eq fs gs) h) i
 same_list fs gs h = cc
 
-same_fields : (a b : List Field × Bool) → fields_eq a b ≡ true → a ≡ b
-same_fields a b h = λ i. (
-  same_list a.0 b.0 (and_right (bool_eq a.1 b.1) (list_eq a.0 b.0) h) i,
-  same_bool a.1 b.1 (and_left (bool_eq a.1 b.1) (list_eq a.0 b.0) h) i,
-)
-
-same_option : {A : Type 0} (test : A → A → Bool) → ((a b : A) → test a b ≡ true → a ≡ b) → (x y : Option A) → option_eq test x y ≡ true
-    → x ≡ y
-same_option test same None None h = refl
-same_option test same (Some a) (Some b) h = ap Some (same a b h)
-same_option test same x y h = cc
-
-same_number : (m n : ℕ) → number_eq m n ≡ true → m ≡ n
+same_number : (m n : ℕ) → (m == n) ≡ true → m ≡ n
 same_number m n h = (Decides-eqb m n).0 h
 
-same_numbers : (ms ns : List ℕ) → numbers_eq ms ns ≡ true → ms ≡ ns
-same_numbers [] [] h = refl
-same_numbers (m ∷ ms) (n ∷ ns) h = λ i. same_number m n (and_left (m == n) (numbers_eq ms ns) h) i
-    ∷ same_numbers ms ns (and_right (m == n) (numbers_eq ms ns) h) i
-same_numbers ms ns h = cc
-
--- a test that equal values alone pass
-abbrev Decided : {A : Type 0} → (A → A → Bool) → Type 0
-Decided {A} test = (a b : A) → test a b ≡ true → a ≡ b
-
-same_pair : {A B : Type 0} (first : A → A → Bool) (second : B → B → Bool) → Decided first → Decided second → Decided (pair_eq first second)
-same_pair first second one two p q h = λ i. (
-  one p.0 q.0 (and_left (first p.0 q.0) (second p.1 q.1) h) i,
-  two p.1 q.1 (and_right (first p.0 q.0) (second p.1 q.1) h) i,
-)
-
-same_format : Decided (option_eq bytes_eq)
-same_format = same_option bytes_eq (λ a b. (bytes_eq-Decides a b).0)
-
-same_row : Decided (option_eq number_eq)
-same_row = same_option number_eq same_number
-
-same_parts : Decided parts_eq
-same_parts =
-    same_pair _ _ same_number (same_pair _ _ (same_option kind_eq same_kind)
-    (same_pair _ _ same_format (same_pair _ _ same_row (same_pair _ _ same_row
-    (same_pair _ _ (same_option numbers_eq same_numbers) (same_option fields_eq same_fields))))))
+same_two : (l m n o : ℕ) → (l == m && n == o) ≡ true → (l ≡ m) × (n ≡ o)
+same_two l m n o h = (same_number l m (and_left (l == m) (n == o) h), same_number n o (and_right (l == m) (n == o) h))
 
 same_shape : (s t : Shape) → shape_eq s t ≡ true → s ≡ t
-same_shape s t h = sym (shape_from-parts_of s) ∙ ap shape_from (same_parts (parts_of s) (parts_of t) h) ∙ shape_from-parts_of t
+same_shape null null h = refl
+same_shape bool bool h = refl
+same_shape (int k) (int l) h = ap int (same_kind k l h)
+same_shape (non_zero k) (non_zero l) h = ap non_zero (same_kind k l h)
+same_shape number number h = refl
+same_shape text text h = refl
+same_shape char char h = refl
+same_shape (formatted f) (formatted g) h = ap formatted ((bytes_eq-Decides f g).0 h)
+same_shape any any h = refl
+same_shape bytes bytes h = refl
+same_shape schema_itself schema_itself h = refl
+same_shape (option m) (option n) h = ap option (same_number m n h)
+same_shape (seq m) (seq n) h = ap seq (same_number m n h)
+same_shape (set m) (set n) h = ap set (same_number m n h)
+same_shape (array_shape m len) (array_shape n count) h = let both = same_two m n len count h in λ i. array_shape (both.0 i) (both.1 i)
+same_shape (up_to m len) (up_to n count) h = let both = same_two m n len count h in λ i. up_to (both.0 i) (both.1 i)
+same_shape (tuple ms) (tuple ns) h = ap tuple ((bytes_eq-Decides ms ns).0 h)
+same_shape (struct fs closed) (struct gs sealed) h = λ i. struct
+    (same_list fs gs (and_right (bool_eq closed sealed) (list_eq fs gs) h) i)
+    (same_bool closed sealed (and_left (bool_eq closed sealed) (list_eq fs gs) h) i)
+same_shape (newtype m) (newtype n) h = ap newtype (same_number m n h)
+same_shape s t h = cc
 
 pub same_entry : (a b : Entry) → entry_eq a b ≡ true → a ≡ b
 same_entry a b h =

@@ -1,5 +1,6 @@
 -- An entry without decimals equals itself.
-use Rattle.std.proofs.Common.{ℕ, ◌≡◌, ◌||◌, Bool, true, false, List, [], ◌∷◌, refl, true≢false}
+use Rattle.std.proofs.Common.{◌≡◌, ◌||◌, Bool, true, false, List, [], ◌∷◌, refl, true≢false}
+use denote.Enum.Bare.{true_same}
 use Rattle.std.specs.Cmp.{signed_Decides}
 use Rattle.std.proofs.lemmas.Bool.Decides.{Decides-eqb}
 use Rattle.std.proofs.lemmas.Slice.Eq.{bytes_eq-Decides}
@@ -8,12 +9,13 @@ use Rattle.serde_json.specs.Data.{Items, no_items, item, Members, no_members, me
 use Rattle.serde_json.specs.Find.{is_float}
 use Rattle.serde_json.specs.Written.{has_float, items_have_float, members_have_float}
 use Rattle.schemars_json.specs.Json.{num_eq, json_eq, items_eq, members_eq}
+use Rattle.schemars_shapes.specs.contracts.shape.IntKind.{the_type}
 use Rattle.schemars_shapes.specs.declared.shape.IntKind.{IntKind}
-use Rattle.schemars_shapes.specs.IntKind.{kind_eq, kind_number}
+use Rattle.schemars_shapes.specs.IntKind.{kind_eq}
 use Rattle.schemars_shapes.specs.Shape.{Field, Shape, Entry, null, bool, int, non_zero, number, text, char, formatted}
 use Rattle.schemars_shapes.specs.Shape.{any, bytes, schema_itself, option, seq, set, array as array_shape, up_to, tuple}
 use Rattle.schemars_shapes.specs.Shape.{struct, newtype}
-use Rattle.schemars_shapes.specs.ShapeParts.{bool_eq, field_eq, numbers_eq, list_eq, shape_eq, entry_eq}
+use Rattle.schemars_shapes.specs.Equality.{bool_eq, field_eq, list_eq, shape_eq, entry_eq}
 use Rattle.schemars_shapes.specs.Decimals.{fields_have_float, shape_has_float, entry_has_float}
 
 pub neither : (a b : Bool) → a || b ≡ false → (a ≡ false) × (b ≡ false)
@@ -66,11 +68,7 @@ list_eq-refl (f ∷ fs) h = let parts = neither (members_have_float f.notes) (fi
     rw (field_eq-refl f parts.0, list_eq-refl fs parts.1) refl
 
 kind_eq-refl : (k : IntKind) → kind_eq k k ≡ true
-kind_eq-refl k = (Decides-eqb (kind_number k) (kind_number k)).1 refl
-
-numbers_eq-refl : (ns : List ℕ) → numbers_eq ns ns ≡ true
-numbers_eq-refl [] = refl
-numbers_eq-refl (n ∷ ns) = rw ((Decides-eqb n n).1 refl, numbers_eq-refl ns) refl
+kind_eq-refl k = true_same the_type k k refl
 
 shape_eq-refl : (s : Shape) → shape_has_float s ≡ false → shape_eq s s ≡ true
 shape_eq-refl null h = refl
@@ -89,7 +87,7 @@ shape_eq-refl (seq n) h = rw ((Decides-eqb n n).1 refl) refl
 shape_eq-refl (set n) h = rw ((Decides-eqb n n).1 refl) refl
 shape_eq-refl (array_shape n len) h = rw ((Decides-eqb n n).1 refl, (Decides-eqb len len).1 refl) refl
 shape_eq-refl (up_to n cap) h = rw ((Decides-eqb n n).1 refl, (Decides-eqb cap cap).1 refl) refl
-shape_eq-refl (tuple ns) h = rw (numbers_eq-refl ns) refl
+shape_eq-refl (tuple ns) h = rw ((bytes_eq-Decides ns ns).1 refl) refl
 shape_eq-refl (struct list closed) h = rw (bool_eq-refl closed, list_eq-refl list h) refl
 shape_eq-refl (newtype n) h = rw ((Decides-eqb n n).1 refl) refl
 

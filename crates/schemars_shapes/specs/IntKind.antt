@@ -1,75 +1,44 @@
--- The kinds of integers: when two are the same, and the names of their types.
-use Rattle.std.specs.Prelude.{◌≡◌, ℕ, ◌==◌, Bool, codes, refl, if◌then◌else◌}
+-- The kinds of integers: when two are the same, and what is known of each.
+use Rattle.std.specs.Prelude.{ℤ, pos, negsuc, Bool, Option, Some, None, codes}
+use denote.Enum.Bare.{sameb}
 use Rattle.schemars_json.specs.Json.{Text}
+use Rattle.schemars_shapes.specs.contracts.shape.IntKind.{the_type}
 use Rattle.schemars_shapes.specs.declared.shape.IntKind.{IntKind}
 use Rattle.schemars_shapes.specs.declared.shape.IntKind.TheVariants.{I8, I16, I32, I64, I128, Isize, U8, U16, U32, U64, U128, Usize}
 
--- its place among the kinds
-abbrev pub kind_number : IntKind → ℕ
-kind_number I8 = 0
-kind_number I16 = 1
-kind_number I32 = 2
-kind_number I64 = 3
-kind_number I128 = 4
-kind_number Isize = 5
-kind_number U8 = 6
-kind_number U16 = 7
-kind_number U32 = 8
-kind_number U64 = 9
-kind_number U128 = 10
-kind_number Usize = 11
-
+-- they are one variant
 abbrev pub kind_eq : IntKind → IntKind → Bool
-kind_eq a b = kind_number a == kind_number b
+kind_eq = sameb the_type
 
--- the kind at a place, and `Usize` past the end
-abbrev pub kind_at : ℕ → IntKind
-kind_at n =
-    if n == 0 then I8 else (if n == 1 then I16 else (if n == 2 then I32
-    else (if n == 3 then I64 else (if n == 4 then I128 else (if n == 5 then Isize
-    else (if n == 6 then U8 else (if n == 7 then U16 else (if n == 8 then U32
-    else (if n == 9 then U64 else (if n == 10 then U128 else Usize))))))))))
+pub record Facts : Type 0 where
+  -- the format of the schema, which is also the name of the type
+  pub format : Text
+  -- the name of the type of this kind without 0
+  pub non_zero_name : Text
+  -- the bounds that the schema says; kinds of 32 bits and more have no bounds but 0
+  pub least : Option ℤ
+  pub greatest : Option ℤ
 
-pub kind_at-kind_number : (k : IntKind) → kind_at (kind_number k) ≡ k
-kind_at-kind_number I8 = refl
-kind_at-kind_number I16 = refl
-kind_at-kind_number I32 = refl
-kind_at-kind_number I64 = refl
-kind_at-kind_number I128 = refl
-kind_at-kind_number Isize = refl
-kind_at-kind_number U8 = refl
-kind_at-kind_number U16 = refl
-kind_at-kind_number U32 = refl
-kind_at-kind_number U64 = refl
-kind_at-kind_number U128 = refl
-kind_at-kind_number Usize = refl
+abbrev facts : Text → Text → Option ℤ → Option ℤ → Facts
+facts format non_zero_name least greatest =
+    record { format = format; non_zero_name = non_zero_name; least = least; greatest = greatest }
 
--- the format of the schema, which is also the name of the type
+abbrev pub facts_of : IntKind → Facts
+facts_of I8 = facts (codes "int8") (codes "NonZeroI8") (Some (negsuc 127)) (Some (pos 127))
+facts_of I16 = facts (codes "int16") (codes "NonZeroI16") (Some (negsuc 32767)) (Some (pos 32767))
+facts_of I32 = facts (codes "int32") (codes "NonZeroI32") None None
+facts_of I64 = facts (codes "int64") (codes "NonZeroI64") None None
+facts_of I128 = facts (codes "int128") (codes "NonZeroI128") None None
+facts_of Isize = facts (codes "int") (codes "NonZeroIsize") None None
+facts_of U8 = facts (codes "uint8") (codes "NonZeroU8") (Some (pos 0)) (Some (pos 255))
+facts_of U16 = facts (codes "uint16") (codes "NonZeroU16") (Some (pos 0)) (Some (pos 65535))
+facts_of U32 = facts (codes "uint32") (codes "NonZeroU32") (Some (pos 0)) None
+facts_of U64 = facts (codes "uint64") (codes "NonZeroU64") (Some (pos 0)) None
+facts_of U128 = facts (codes "uint128") (codes "NonZeroU128") (Some (pos 0)) None
+facts_of Usize = facts (codes "uint") (codes "NonZeroUsize") (Some (pos 0)) None
+
 abbrev pub format_of : IntKind → Text
-format_of I8 = codes "int8"
-format_of I16 = codes "int16"
-format_of I32 = codes "int32"
-format_of I64 = codes "int64"
-format_of I128 = codes "int128"
-format_of Isize = codes "int"
-format_of U8 = codes "uint8"
-format_of U16 = codes "uint16"
-format_of U32 = codes "uint32"
-format_of U64 = codes "uint64"
-format_of U128 = codes "uint128"
-format_of Usize = codes "uint"
+format_of k = (facts_of k).format
 
--- the name of the type of this kind without 0
 abbrev pub non_zero_name : IntKind → Text
-non_zero_name I8 = codes "NonZeroI8"
-non_zero_name I16 = codes "NonZeroI16"
-non_zero_name I32 = codes "NonZeroI32"
-non_zero_name I64 = codes "NonZeroI64"
-non_zero_name I128 = codes "NonZeroI128"
-non_zero_name Isize = codes "NonZeroIsize"
-non_zero_name U8 = codes "NonZeroU8"
-non_zero_name U16 = codes "NonZeroU16"
-non_zero_name U32 = codes "NonZeroU32"
-non_zero_name U64 = codes "NonZeroU64"
-non_zero_name U128 = codes "NonZeroU128"
-non_zero_name Usize = codes "NonZeroUsize"
+non_zero_name k = (facts_of k).non_zero_name

@@ -1,6 +1,5 @@
 pub mod IntKind
 pub mod Shape
-pub mod ShapeParts
-pub mod EntryCode
+pub mod Equality
 pub mod Repeated
 pub mod Decimals

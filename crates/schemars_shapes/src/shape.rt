@@ -1,13 +1,10 @@
-ghost use Rattle.std.specs.Prelude.{◌≡◌, ◌==◌, nat_le, find, map, option_map, bytes_eq, string_bytes, IfOk, MatchOption};
-ghost use Rattle.std.specs.Option.{option_eq};
+ghost use Rattle.std.specs.Prelude.{◌≡◌, ◌&&◌, nat_le, find, map, bytes_eq, string_bytes, IfOk, MatchOption};
 ghost use Rattle.std.specs.List.{IsDistinct};
-ghost use Rattle.schemars_shapes.specs.IntKind.{format_of, kind_eq, non_zero_name};
+ghost use Rattle.schemars_shapes.specs.IntKind.{format_of, non_zero_name};
 ghost use Rattle.schemars_shapes.specs.Shape.{shape_of, field_of, fields_view, entry_of, numbers_of};
 ghost use Rattle.schemars_shapes.specs.Shape.{same_value_numbers, names_of, without_notes};
 ghost use Rattle.schemars_shapes.specs.Repeated.{IsRepeated};
-ghost use Rattle.schemars_shapes.specs.ShapeParts.{kind_of, int_kind_in, format_in, part_of, count_in, numbers_in};
-ghost use Rattle.schemars_shapes.specs.ShapeParts.{fields_in, parts_of, holdings_eq, shape_eq, number_eq, numbers_eq};
-ghost use Rattle.schemars_shapes.specs.ShapeParts.{fields_eq, list_eq, field_eq, entry_eq};
+ghost use Rattle.schemars_shapes.specs.Equality.{shape_eq, list_eq, field_eq, bool_eq, entry_eq};
 
 use schemars_schema::json_eq_members;
 use serde_json::{Map, Value};
@@ -150,12 +147,12 @@ impl Shape {
         ensures { result ≡ find (λ n. nat_le len n) (numbers_of (shape_of self.now)) }
     {
         match self {
+            Shape::Option(n) | Shape::Newtype(n) => first_unknown(&[*n], len),
+            Shape::Seq(n) | Shape::Set(n) => first_unknown(&[*n], len),
+            Shape::Array(n, _) | Shape::UpTo(n, _) => first_unknown(&[*n], len),
             Shape::Tuple(parts) => first_unknown(parts, len),
             Shape::Struct(fields) => fields.first_unknown(len),
-            _ => match self.part() {
-                Some(n) if len <= n => Some(n),
-                _ => None,
-            },
+            _ => None,
         }
     }
 
@@ -164,12 +161,12 @@ impl Shape {
         ensures { IfOk result (λ v. v.items ≡ numbers_of (shape_of self.now)) }
     {
         match self {
+            Shape::Option(n) | Shape::Newtype(n) => Ok(vec![in alloc; *n]?),
+            Shape::Seq(n) | Shape::Set(n) => Ok(vec![in alloc; *n]?),
+            Shape::Array(n, _) | Shape::UpTo(n, _) => Ok(vec![in alloc; *n]?),
             Shape::Tuple(parts) => parts.clone(),
             Shape::Struct(fields) => fields.numbers(alloc),
-            _ => match self.part() {
-                Some(n) => Ok(vec![in alloc; n]?),
-                None => Ok(Vec::new(alloc)),
-            },
+            _ => Ok(Vec::new(alloc)),
         }
     }
 
@@ -194,152 +191,29 @@ impl Shape {
         }
     }
 
-    // Which shape it is, as a number of its own.
-    fn kind(&self) -> u8
-        ensures { result ≡ kind_of (shape_of self.now) }
-    {
-        match self {
-            Shape::Null => 0,
-            Shape::Bool => 1,
-            Shape::Int(_) => 2,
-            Shape::NonZero(_) => 3,
-            Shape::Number => 4,
-            Shape::Text => 5,
-            Shape::Char => 6,
-            Shape::Formatted(_) => 7,
-            Shape::Any => 8,
-            Shape::Bytes => 9,
-            Shape::SchemaItself => 10,
-            Shape::Option(_) => 11,
-            Shape::Seq(_) => 12,
-            Shape::Set(_) => 13,
-            Shape::Array(_, _) => 14,
-            Shape::UpTo(_, _) => 15,
-            Shape::Tuple(_) => 16,
-            Shape::Struct(_) => 17,
-            Shape::Newtype(_) => 18,
-        }
-    }
-
-    fn int_kind(&self) -> Option<IntKind>
-        ensures { result ≡ int_kind_in (shape_of self.now) }
-    {
-        match self {
-            Shape::Int(kind) | Shape::NonZero(kind) => Some(*kind),
-            _ => None,
-        }
-    }
-
-    fn format(&self) -> Option<&str>
-        ensures { option_map (λ s. s.now) result ≡ format_in (shape_of self.now) }
-    {
-        match self {
-            Shape::Formatted(format) => Some(format.as_str()),
-            _ => None,
-        }
-    }
-
-    // The row that it is made of, where it is made of one.
-    fn part(&self) -> Option<TypeNo>
-        ensures { result ≡ part_of (shape_of self.now) }
-    {
-        match self {
-            Shape::Option(n) | Shape::Seq(n) | Shape::Set(n) | Shape::Newtype(n) => Some(*n),
-            Shape::Array(n, _) | Shape::UpTo(n, _) => Some(*n),
-            _ => None,
-        }
-    }
-
-    // The number of items that it has, or has at most.
-    fn count(&self) -> Option<u64>
-        ensures { result ≡ count_in (shape_of self.now) }
-    {
-        match self {
-            Shape::Array(_, count) | Shape::UpTo(_, count) => Some(*count),
-            _ => None,
-        }
-    }
-
-    // The rows that stand side by side in it.
-    fn side_by_side(&self) -> Option<&[TypeNo]>
-        ensures { option_map (λ s. s.now) result ≡ numbers_in (shape_of self.now) }
-    {
-        match self {
-            Shape::Tuple(parts) => Some(parts.as_slice()),
-            _ => None,
-        }
-    }
-
-    fn fields(&self) -> Option<&Fields>
-        ensures { option_map (λ f. fields_view f.now) result ≡ fields_in (shape_of self.now) }
-    {
-        match self {
-            Shape::Struct(fields) => Some(fields),
-            _ => None,
-        }
-    }
-
-    // Shapes of one kind are compared by what they hold.
     fn is_equal(&self, other: &Shape) -> bool
         ensures { result ≡ shape_eq (shape_of self.now) (shape_of other.now) }
     {
-        self.kind() == other.kind() && self.holds_same(other)
-    }
-
-    fn holds_same(&self, other: &Shape) -> bool
-        ensures { result ≡ holdings_eq (parts_of (shape_of self.now)).1 (parts_of (shape_of other.now)).1 }
-    {
-        self.has_int_kind(other.int_kind())
-            && self.has_format(other.format())
-            && self.has_part(other.part())
-            && self.has_count(other.count())
-            && self.has_side_by_side(other.side_by_side())
-            && self.has_fields(other.fields())
-    }
-
-    fn has_int_kind(&self, kind: Option<IntKind>) -> bool
-        ensures { result ≡ option_eq kind_eq (int_kind_in (shape_of self.now)) kind }
-    {
-        self.int_kind() == kind
-    }
-
-    fn has_format(&self, format: Option<&str>) -> bool
-        ensures { result ≡ option_eq bytes_eq (format_in (shape_of self.now))
-            (option_map (λ s. s.now) format.entry) }
-    {
-        self.format() == format
-    }
-
-    fn has_part(&self, part: Option<TypeNo>) -> bool
-        ensures { result ≡ option_eq number_eq (part_of (shape_of self.now)) part }
-    {
-        self.part() == part
-    }
-
-    fn has_count(&self, count: Option<u64>) -> bool
-        ensures { result ≡ option_eq number_eq (count_in (shape_of self.now)) count }
-    {
-        self.count() == count
-    }
-
-    fn has_side_by_side(&self, numbers: Option<&[TypeNo]>) -> bool
-        ensures { result ≡ option_eq numbers_eq (numbers_in (shape_of self.now))
-            (option_map (λ s. s.now) numbers.entry) }
-    {
-        match (self.side_by_side(), numbers) {
-            (Some(own), Some(others)) => numbers_equal(own, others),
-            (None, None) => true,
-            _ => false,
-        }
-    }
-
-    fn has_fields(&self, fields: Option<&Fields>) -> bool
-        ensures { result ≡ option_eq fields_eq (fields_in (shape_of self.now))
-            (option_map (λ f. fields_view f.now) fields.entry) }
-    {
-        match (self.fields(), fields) {
-            (Some(own), Some(others)) => own.is_equal(others),
-            (None, None) => true,
+        match (self, other) {
+            (Shape::Null, Shape::Null) => true,
+            (Shape::Bool, Shape::Bool) => true,
+            (Shape::Int(kind), Shape::Int(of_other)) => kind == of_other,
+            (Shape::NonZero(kind), Shape::NonZero(of_other)) => kind == of_other,
+            (Shape::Number, Shape::Number) => true,
+            (Shape::Text, Shape::Text) => true,
+            (Shape::Char, Shape::Char) => true,
+            (Shape::Formatted(format), Shape::Formatted(of_other)) => format == of_other,
+            (Shape::Any, Shape::Any) => true,
+            (Shape::Bytes, Shape::Bytes) => true,
+            (Shape::SchemaItself, Shape::SchemaItself) => true,
+            (Shape::Option(n), Shape::Option(m)) => n == m,
+            (Shape::Seq(n), Shape::Seq(m)) => n == m,
+            (Shape::Set(n), Shape::Set(m)) => n == m,
+            (Shape::Array(n, len), Shape::Array(m, count)) => n == m && len == count,
+            (Shape::UpTo(n, len), Shape::UpTo(m, count)) => n == m && len == count,
+            (Shape::Tuple(parts), Shape::Tuple(of_other)) => parts == of_other,
+            (Shape::Struct(fields), Shape::Struct(of_other)) => fields.is_equal(of_other),
+            (Shape::Newtype(n), Shape::Newtype(m)) => n == m,
             _ => false,
         }
     }
@@ -392,16 +266,11 @@ impl Fields {
 
     // The order of the fields counts.
     fn is_equal(&self, other: &Fields) -> bool
-        ensures { result ≡ fields_eq (fields_view self.now) (fields_view other.now) }
+        ensures { result ≡ (bool_eq self.now.closed other.now.closed
+            && list_eq (fields_view self.now).0 (fields_view other.now).0) }
     {
         self.closed == other.closed && lists_equal(&self.list, &other.list)
     }
-}
-
-fn numbers_equal(a: &[TypeNo], b: &[TypeNo]) -> bool
-    ensures { result ≡ numbers_eq a.now b.now }
-{
-    a == b
 }
 
 fn lists_equal(a: &[Field], b: &[Field]) -> bool

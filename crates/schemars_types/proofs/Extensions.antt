@@ -5,7 +5,7 @@ use Rattle.std.specs.Str.{bytes_eq}
 use Rattle.std.proofs.lemmas.Bool.{and_parts}
 use Rattle.std.proofs.lemmas.Slice.Eq.{bytes_eq-Decides}
 use Rattle.schemars_shapes.specs.Shape.{Entry}
-use Rattle.schemars_shapes.specs.ShapeParts.{entry_eq}
+use Rattle.schemars_shapes.specs.Equality.{entry_eq}
 use Rattle.schemars_shapes.specs.Decimals.{entry_has_float}
 use Rattle.schemars_types.specs.Rows.{Row}
 use Rattle.schemars_types.specs.Extends.{row_eq, begins_with, rows_have_float}

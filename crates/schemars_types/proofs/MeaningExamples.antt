@@ -7,7 +7,7 @@ use Rattle.schemars_json.specs.Json.{Text, json_eq}
 use Rattle.schemars_schema.specs.SchemaData.{object_of}
 use Rattle.schemars_shapes.specs.declared.shape.IntKind.TheVariants.{I8, U8, U128, I64}
 use Rattle.schemars_shapes.specs.Shape as shape
-use Rattle.schemars_shapes.specs.Shape.{Shape, Field, Required, in_place}
+use Rattle.schemars_shapes.specs.Shape.{Shape, Field, in_place}
 use Rattle.schemars_types.specs.Rows.{Row}
 use Rattle.schemars_types.specs.Meaning.{Contract, Deserialize, Serialize, belongs, belongs_within}
 

@@ -2,7 +2,7 @@
 use Rattle.std.specs.Prelude.{List, [], ◌∷◌, Bool, true, false, ◌&&◌, ◌||◌, bytes_eq}
 use Rattle.std.specs.Option.{option_eq, option_map_or}
 use Rattle.schemars_shapes.specs.Decimals.{entry_has_float}
-use Rattle.schemars_shapes.specs.ShapeParts.{entry_eq}
+use Rattle.schemars_shapes.specs.Equality.{entry_eq}
 use Rattle.schemars_types.specs.Rows.{Row}
 
 -- the same id and name, and equal entries, or none

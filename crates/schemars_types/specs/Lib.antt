@@ -1,5 +1,4 @@
 pub mod Rows
-pub mod RowCode
 pub mod Slots
 pub mod Refusals
 pub mod Names

@@ -14,41 +14,19 @@ use Rattle.schemars_shapes.specs.Shape.{formatted, any, bytes, schema_itself, op
 use Rattle.schemars_shapes.specs.Shape.{up_to, tuple, struct, newtype}
 use Rattle.schemars_types.specs.Rows.{Row, entry_at}
 use Rattle.schemars_shapes.specs.declared.shape.IntKind.{IntKind}
-use Rattle.schemars_shapes.specs.declared.shape.IntKind.TheVariants.{I8, I16, I32, I64, I128, Isize, U8, U16, U32, U64, U128, Usize}
+use Rattle.schemars_shapes.specs.declared.shape.IntKind.TheVariants.{U8}
+use Rattle.schemars_shapes.specs.IntKind.{facts_of}
 
 -- whether the values are those that are read or those that are written
 pub data Contract : Type 0 where
   Deserialize : Contract
   Serialize : Contract
 
--- kinds of 32 bits and more have no bounds but 0
 abbrev pub least_of : IntKind → Option ℤ
-least_of I8 = Some (negsuc 127)
-least_of I16 = Some (negsuc 32767)
-least_of I32 = None
-least_of I64 = None
-least_of I128 = None
-least_of Isize = None
-least_of U8 = Some (pos 0)
-least_of U16 = Some (pos 0)
-least_of U32 = Some (pos 0)
-least_of U64 = Some (pos 0)
-least_of U128 = Some (pos 0)
-least_of Usize = Some (pos 0)
+least_of kind = (facts_of kind).least
 
 abbrev pub greatest_of : IntKind → Option ℤ
-greatest_of I8 = Some (pos 127)
-greatest_of I16 = Some (pos 32767)
-greatest_of I32 = None
-greatest_of I64 = None
-greatest_of I128 = None
-greatest_of Isize = None
-greatest_of U8 = Some (pos 255)
-greatest_of U16 = Some (pos 65535)
-greatest_of U32 = None
-greatest_of U64 = None
-greatest_of U128 = None
-greatest_of Usize = None
+greatest_of kind = (facts_of kind).greatest
 
 abbrev pub is_at_least : Option ℤ → ℤ → Bool
 is_at_least None z = true

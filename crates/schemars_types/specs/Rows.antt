@@ -5,7 +5,7 @@ use Rattle.std.specs.List.{position_from}
 use Rattle.std.specs.Option.{option_map_or}
 use Rattle.schemars_json.specs.Json.{Text}
 use Rattle.schemars_shapes.specs.Shape.{Shape, Entry, numbers_of}
-use Rattle.schemars_shapes.specs.ShapeParts.{entry_eq}
+use Rattle.schemars_shapes.specs.Equality.{entry_eq}
 
 pub record Row : Type 0 where
   pub id : Text

@@ -1,6 +1,6 @@
 //! The faults of a table.
-ghost use Rattle.std.specs.Prelude.{◌≡◌, ◌<◌, ◌⊎◌, ℕ, length, map, filter, None, IfOk, OnOk, IfErr, MatchOption};
-ghost use Rattle.std.specs.Prelude.{nat_lt, string_bytes, bytes_eq};
+ghost use Rattle.std.specs.Prelude.{◌≡◌, ◌<◌, ◌⊎◌, ℕ, length, filter, None, IfOk, OnOk, IfErr, MatchOption};
+ghost use Rattle.std.specs.Prelude.{string_bytes, bytes_eq};
 ghost use Rattle.std.specs.List.{IsDistinct};
 ghost use Rattle.schemars_cycles.specs.Walks.{Leads, OnCycle, IsFree, IsLeast};
 ghost use Rattle.schemars_cycles.specs.Search.{HasTargets};

@@ -1,11 +1,11 @@
 ghost use Rattle.std.specs.Prelude.{◌≡◌, ◌≢◌, ◌<◌, ◌↔◌, ◌&&◌, [], length, take, map, false, bytes_eq, None, Some};
-ghost use Rattle.std.specs.Prelude.{IsTrue, IsSome, IsOk, IfOk, OnOk, OnErr, IfErr, Err, option_map, string_bytes};
+ghost use Rattle.std.specs.Prelude.{IsTrue, IfOk, OnOk, OnErr, IfErr, Err, option_map, string_bytes};
 ghost use Rattle.std.specs.Prelude.{slice_get};
 ghost use Rattle.schemars_shapes.specs.Shape.{entry_of, shape_of};
 ghost use Rattle.schemars_types.specs.Rows.{place_of, entry_at, unknown_in, reserved, defined};
 ghost use Rattle.schemars_types.specs.Edges.{RefersWithin};
 ghost use Rattle.schemars_types.specs.Refusals.{first_unknown, refusal_of};
-ghost use Rattle.schemars_shapes.specs.ShapeParts.{entry_eq};
+ghost use Rattle.schemars_shapes.specs.Equality.{entry_eq};
 ghost use Rattle.schemars_types.specs.Extends.{begins_with, rows_have_float};
 ghost use Rattle.schemars_types.specs.Slots.{row_of};
 ghost use Rattle.std.specs.Option.{option_eq};
@@ -58,11 +58,12 @@ pub struct Types {
 impl Model for Types {
     ghost use Rattle.std.specs.Prelude.{List, map};
     ghost use Rattle.schemars_types.specs.Rows.{Row};
-    ghost use Rattle.schemars_types.specs.RowCode.{rows_code};
+    ghost use Rattle.std.specs.Coded.{codes};
+    ghost use Rattle.schemars_schema.specs.DataCode.{members_code};
 
     ghost Value = { List Row };
 
-    ghost coded = { rows_code };
+    ghost coded = { Prim.hlevel (codes, members_code) };
 
     ghost use Rattle.schemars_types.specs.Slots.{row_of};
     ghost use Rattle.schemars_types.specs.Edges.{RefersWithin};

@@ -2,7 +2,7 @@
 use Rattle.std.proofs.Common.{◌≡◌, drop, map}
 use Rattle.std.specs.Slice.Iter.{iter_rest}
 use Rattle.schemars_shapes.specs.Shape.{field_of}
-use Rattle.schemars_shapes.specs.ShapeParts.{list_eq}
+use Rattle.schemars_shapes.specs.Equality.{list_eq}
 use Rattle.schemars_shapes.proofs.shape.lists_equal.Given as goal
 
 abbrev pub invariant-loop-field : goal.invariant-loop-field
