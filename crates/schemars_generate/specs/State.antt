@@ -1,17 +1,13 @@
 -- What settings say, and what a generator holds, as callers see them.
-use Rattle.std.specs.Prelude.{◌≡◌, Contains, ℕ, ◌==◌, List, [], ◌∷◌, false, Option, Some, None, codes, refl, length, if◌then◌else◌}
-use Rattle.std.specs.Coded.{Coded, code_by, coded×, coded_option}
+use Rattle.std.specs.Prelude.{◌≡◌, Contains, ℕ, ◌==◌, List, [], ◌∷◌, false, Option, Some, None, codes, length, if◌then◌else◌}
 use Rattle.serde_json.specs.Data.{Data, string, Members}
 use Rattle.serde_json.specs.Find.{get_member}
 use Rattle.schemars_schema.specs.References.{references}
 use Rattle.schemars_json.specs.Json.{Text}
-use Rattle.schemars_schema.specs.DataCode.{text_code, members_code}
 use Rattle.schemars_types.specs.Rows.{Row}
-use Rattle.schemars_types.specs.RowCode.{rows_code}
 use Rattle.schemars_documents.specs.declared.contract.Contract.{Contract}
 use Rattle.schemars_documents.specs.declared.contract.Contract.TheVariants.{Deserialize}
 use Rattle.schemars_naming.specs.Naming.{Naming}
-use Rattle.schemars_naming.specs.NamingCode.{naming_code, contract_code}
 use Rattle.schemars_naming.specs.Work.{Plan, Work, IsKey, AreDefinitions, reference_to}
 
 pub record Settings : Type 0 where
@@ -70,19 +66,3 @@ ReferencesNameKeys s =
 -- what is there after a root call: where a new definition refers to the root document, which `#` means, none of the new ones stays
 abbrev pub after_root : State → Work → State
 after_root old w = record old { names = w.names; definitions = if w.meets_root then old.definitions else w.definitions }
-
--- ---- codes
-
-abbrev pub settings_code : Coded Settings
-settings_code =
-    code_by (Text × (Option Text × Contract)) (coded× text_code (coded× (coded_option text_code) contract_code))
-    (λ s. (s.definitions_path, (s.meta_schema, s.contract)))
-    (λ p. record { definitions_path = p.0; meta_schema = p.1.0; contract = p.1.1 })
-    (λ _. refl)
-
-abbrev pub state_code : Coded State
-state_code =
-    code_by (Settings × (List Row × (Naming × Members))) (coded× settings_code (coded× rows_code (coded× naming_code members_code)))
-    (λ s. (s.settings, (s.rows, (s.names, s.definitions))))
-    (λ p. record { settings = p.0; rows = p.1.0; names = p.1.1.0; definitions = p.1.1.1 })
-    (λ _. refl)

@@ -98,11 +98,13 @@ pub struct SchemaGenerator {
 
 impl Model for SchemaGenerator {
     ghost use Rattle.std.specs.Prelude.{◌≡◌};
-    ghost use Rattle.schemars_generate.specs.State.{State, state_code, work_of};
+    ghost use Rattle.std.specs.Coded.{codes};
+    ghost use Rattle.schemars_schema.specs.DataCode.{members_code};
+    ghost use Rattle.schemars_generate.specs.State.{State, work_of};
 
     ghost Value = { State };
 
-    ghost coded = { state_code };
+    ghost coded = { Prim.hlevel (codes, members_code) };
 
     ghost use Rattle.schemars_generate.specs.Settings.{settings_of};
     ghost use Rattle.schemars_types.specs.Faults.{IsChecked};
