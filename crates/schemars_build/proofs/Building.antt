@@ -24,7 +24,7 @@ use Rattle.schemars_documents.proofs.Rows.{all_rows}
 use Rattle.schemars_documents.proofs.Schemas.{written_schema, parts_schemas, parts_counted}
 use Rattle.schemars_naming.specs.Work.{Plan, Work, Refers, Step}
 use Rattle.schemars_build.specs.Missing.{StandsIn, depth_in_place}
-use Rattle.schemars_build.specs.Parts.{IsSubschema, IsPart, AreParts, IsOwn}
+use Rattle.schemars_build.specs.Parts.{IsWrittenWithin, IsPart, AreParts, IsOwn}
 use Rattle.schemars_build.proofs.Descending.{stands}
 use Rattle.schemars_build.proofs.Steps.{step_wider, refers-wider}
 use Rattle.schemars_build.proofs.Reaching.{reached_more, reached_trans, nothing_added}
@@ -33,14 +33,14 @@ use Rattle.schemars_build.proofs.Reaching.{reached_more, reached_trans, nothing_
 
 -- where more may stand within one another, and more names and definitions are there
 subschema-wider : (plan : Plan) (free : Bool) (old new : Work) → Step plan old new → (d e : ℕ) → d ≤ e → (m : ℕ) (t : Data)
-    → IsSubschema plan free old d m t → IsSubschema plan free new e m t
+    → IsWrittenWithin plan free old d m t → IsWrittenWithin plan free new e m t
 subschema-wider plan free old new step d e less m t is =
     let wider = refers-wider plan free old new (step_wider plan old new step) in
     written_map (Refers plan free old) (Refers plan free new) _ _ wider
     (describes-wider plan.rows (contract_of plan.contract) (Refers plan free old) (Refers plan free new) wider d e less) m t is
 
 same_work-wider : (plan : Plan) (free : Bool) (w : Work) (d e : ℕ) → d ≤ e → (m : ℕ) (t : Data)
-    → IsSubschema plan free w d m t → IsSubschema plan free w e m t
+    → IsWrittenWithin plan free w d m t → IsWrittenWithin plan free w e m t
 same_work-wider plan free w d e less m t is =
     written_map (Refers plan free w) (Refers plan free w) _ _ (λ j r h. h)
     (describes-wider plan.rows (contract_of plan.contract) (Refers plan free w) (Refers plan free w) (λ j r h. h) d e less) m t is
@@ -74,7 +74,7 @@ pub parts_more : (plan : Plan) (inside : Bool) (start old new : Work) (n : ℕ) 
     → AreParts plan inside start old n ms ts → IsPart plan inside old new m t
     → AreParts plan inside start new n (ms ++ m ∷ []) (ts ++ t ∷ [])
 parts_more plan inside start old new n ms ts m t before step stands all one = record {
-  written = parts_joined (IsSubschema plan (not inside) old (height plan.rows n)) (IsSubschema plan (not inside) new (height plan.rows n))
+  written = parts_joined (IsWrittenWithin plan (not inside) old (height plan.rows n)) (IsWrittenWithin plan (not inside) new (height plan.rows n))
       (subschema-wider plan (not inside) old new step (height plan.rows n) (height plan.rows n) (omega arith)) ms ts m t all.written
       (same_work-wider plan (not inside) new (depth_in_place plan.rows m) (height plan.rows n) stands.is_lower m t one.written);
   reached = λ plain. reached_trans plan inside start old new (references_of ts) (references t) (references_of (ts ++ t ∷ [])) before step
@@ -94,7 +94,7 @@ pub filled_by_parts : (plan : Plan) (inside : Bool) (old new : Work) (n : ℕ) (
     → AreParts plan inside old new n (rows_of (entry_template (contract_of plan.contract) e)) ts
     → IsSchema (filled (entry_template (contract_of plan.contract) e) ts)
 filled_by_parts plan inside old new n e ts all =
-    filled_schema (contract_of plan.contract) e ts (parts_schemas (IsSubschema plan (not inside) new (height plan.rows n))
+    filled_schema (contract_of plan.contract) e ts (parts_schemas (IsWrittenWithin plan (not inside) new (height plan.rows n))
     (written_schema plan.rows (contract_of plan.contract) (Refers plan (not inside) new) (height plan.rows n)) _ ts all.written)
 
 pub own_of_parts : (plan : Plan) (inside : Bool) (old new : Work) (n : ℕ) (e : Entry) (ts : List Data) (s : Data)

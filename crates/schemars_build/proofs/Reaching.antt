@@ -1,16 +1,15 @@
 -- What a part of a call adds is reached from the references that it makes.
 use Rattle.std.proofs.Common.{◌≡◌, inl, inr, ℕ, List, [], ◌∷◌, Bool, true, false, Option, Some, None, refl, sym, ap, ◌∙◌}
 use Rattle.std.proofs.Common.{arith, subst, Contains, true≢false}
-use Rattle.std.specs.Prelude.{codes, is_some, if◌then◌else◌, ◌⊎◌, ◌||◌}
+use Rattle.std.specs.Prelude.{codes, ◌⊎◌, ◌||◌}
 use Rattle.serde_json.specs.Data.{Data, boolean, string, Members, put}
 use Rattle.serde_json.specs.Find.{get_member}
 use Rattle.serde_json.proofs.Views.{get_member-put, get_member-put_other}
 use Rattle.schemars_json.specs.Json.{Text}
-use Rattle.schemars_schema.specs.SchemaData.{members_in}
 use Rattle.schemars_schema.specs.Edits.{replaced}
-use Rattle.schemars_schema.specs.References.{found_in, found_in_keywords, references}
-use Rattle.schemars_documents.specs.Documents.{with_title, with_meta_schema, root_document, reference}
-use Rattle.schemars_documents.proofs.ReferencesKept.{Among, keywords-kept, among_members_in}
+use Rattle.schemars_schema.specs.References.{found_in, references}
+use Rattle.schemars_documents.specs.Documents.{root_document, reference}
+use Rattle.schemars_documents.proofs.ReferencesKept.{Among, among_equal, references-root}
 use Rattle.schemars_build.specs.Reached.{IsReached, by_reference, by_definition, IsRootMet, AreReached}
 use Rattle.schemars_documents.specs.declared.contract.Contract.{Contract}
 use Rattle.schemars_naming.specs.Naming.{Naming, name_of}
@@ -229,18 +228,5 @@ reached_root plan inside old = record {
 
 -- ---- a root document
 
-among_title : (name : Text) (ms : Members) → Among (found_in_keywords ms) (found_in_keywords (with_title name ms))
-among_title name ms = go (is_some (get_member (codes "title") ms))
-  where
-    go : (b : Bool) → Among (found_in_keywords ms) (found_in_keywords (if b then ms else put (codes "title") (string name) ms))
-    go true = λ x h. h
-    go false = keywords-kept (codes "title") (string name) ms (λ e. refl)
-
-among_meta_schema : (uri : Option Text) (ms : Members) → Among (found_in_keywords ms) (found_in_keywords (with_meta_schema uri ms))
-among_meta_schema None ms = λ x h. h
-among_meta_schema (Some uri) ms = keywords-kept (codes "$schema") (string uri) ms (λ e. refl)
-
 pub among_root : (name : Text) (uri : Option Text) (s : Data) → Among (references s) (references (root_document name uri s))
-unfolding found_in
-among_root name uri s = λ x h. among_meta_schema uri (with_title name (members_in s)) x
-    (among_title name (members_in s) x (among_members_in s x h))
+among_root name uri s = among_equal (references s) (references (root_document name uri s)) (sym (references-root name uri s))

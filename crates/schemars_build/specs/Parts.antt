@@ -11,10 +11,13 @@ use Rattle.schemars_naming.specs.Work.{Plan, Work, Refers, IsKey, reference_to}
 use Rattle.schemars_build.specs.Missing.{depth_in_place}
 use Rattle.schemars_build.specs.Reached.{AreReached}
 
--- a document in place with so many within one another, or a reference
-abbrev pub IsSubschema : Plan → Bool → Work → ℕ → ℕ → Data → Type 0
-IsSubschema plan free w depth =
+-- a document in place, with so many within one another, or a reference
+abbrev pub IsWrittenWithin : Plan → Bool → Work → ℕ → ℕ → Data → Type 0
+IsWrittenWithin plan free w depth =
     IsWritten (Refers plan free w) (Describes plan.rows (contract_of plan.contract) (Refers plan free w) depth)
+
+abbrev pub IsSubschema : Plan → Bool → Work → ℕ → Data → Type 0
+IsSubschema plan free w n = IsWrittenWithin plan free w (depth_in_place plan.rows n) n
 
 -- what joins is reached from these references
 abbrev pub AreNeeded : Plan → Bool → Work → Work → List Data → Type 0
@@ -22,12 +25,12 @@ AreNeeded plan inside old new from = IsPlainTable plan.rows → AreReached plan 
 
 -- a part: row n in place, or a reference to it
 pub record IsPart (plan : Plan) (inside : Bool) (old new : Work) (n : ℕ) (s : Data) : Type 0 where
-  pub written : IsSubschema plan (not inside) new (depth_in_place plan.rows n) n s
+  pub written : IsSubschema plan (not inside) new n s
   pub reached : AreNeeded plan inside old new (references s)
 
 -- the parts of row n's document, for these rows
 pub record AreParts (plan : Plan) (inside : Bool) (old new : Work) (n : ℕ) (ms : List ℕ) (ts : List Data) : Type 0 where
-  pub written : ArePartsWritten (IsSubschema plan (not inside) new (height plan.rows n)) ms ts
+  pub written : ArePartsWritten (IsWrittenWithin plan (not inside) new (height plan.rows n)) ms ts
   pub reached : AreNeeded plan inside old new (references_of ts)
 
 -- the document of row n

@@ -2,7 +2,7 @@
 use Rattle.std.proofs.Common.{◌≡◌, inl, inr, List, [], ◌∷◌, ◌++◌, Bool, true, false, Option, Some, None}
 use Rattle.std.proofs.Common.{Ordering, Less, Equal, Greater, nat_cmp, refl, sym, ap, ◌∙◌, subst, Contains}
 use Rattle.std.proofs.Common.{append_assoc, append-nil, true≢false}
-use Rattle.std.specs.Prelude.{codes, bytes_eq, if◌then◌else◌}
+use Rattle.std.specs.Prelude.{codes, bytes_eq, is_some, if◌then◌else◌}
 use Rattle.std.specs.Ordering.{match_ordering}
 use Rattle.std.specs.Cmp.Lexicographic.{slice_cmp}
 use Rattle.std.proofs.lemmas.Map.Lookups.{exact_bytes}
@@ -22,7 +22,7 @@ use Rattle.schemars_schema.proofs.Contents.{found_under, found_under-annotation}
 use Rattle.schemars_rewrite.specs.AllowNull.{is_null_choice, is_combined, or_null, allow_null, type_with_null}
 use Rattle.schemars_rewrite.specs.AllowNull.{null_in_type, enum_with_null, null_in_enum, const_or_null, null_in_const}
 use Rattle.schemars_rewrite.specs.AllowNull.{null_in_values}
-use Rattle.schemars_documents.specs.Documents.{annotated}
+use Rattle.schemars_documents.specs.Documents.{annotated, with_title, with_meta_schema, root_document}
 
 -- ---- references among others
 
@@ -210,6 +210,24 @@ pub among_annotated : (notes : Members) (s : Data) → AreNotes notes → Among 
 among_annotated notes s h = among_equal (references s) (references (annotated notes s)) (sym (references-annotated notes s h))
 
 -- ---- null
+
+-- ---- a root document
+
+references-title : (name : Text) (ms : Members) → found_in_keywords (with_title name ms) ≡ found_in_keywords ms
+references-title name ms = go (is_some (get_member (codes "title") ms))
+  where
+    go : (b : Bool) → found_in_keywords (if b then ms else put (codes "title") (string name) ms) ≡ found_in_keywords ms
+    go true = refl
+    go false = keywords-put (codes "title") (string name) ms (λ e. refl)
+
+references-meta_schema : (uri : Option Text) (ms : Members) → found_in_keywords (with_meta_schema uri ms) ≡ found_in_keywords ms
+references-meta_schema None ms = refl
+references-meta_schema (Some uri) ms = keywords-put (codes "$schema") (string uri) ms (λ e. refl)
+
+pub references-root : (name : Text) (uri : Option Text) (s : Data) → references (root_document name uri s) ≡ references s
+unfolding found_in
+references-root name uri s = references-meta_schema uri (with_title name (members_in s))
+    ∙ (references-title name (members_in s) ∙ references-members_in s)
 
 references-null_in_type : (o : Option Data) (ms : Members) → found_in_keywords (null_in_type o ms) ≡ found_in_keywords ms
 references-null_in_type None ms = refl

@@ -18,7 +18,8 @@ use Rattle.schemars_types.specs.Faults.{IsChecked}
 use Rattle.schemars_types.specs.Meaning.{Contract}
 use Rattle.schemars_documents.specs.ContractOf.{contract_of}
 use Rattle.schemars_naming.specs.Naming.{name_of, IsOneToOne}
-use Rattle.schemars_documents.specs.Documents.{IsOwnDocument, IsWritten, Describes, reference, root_document}
+use Rattle.schemars_documents.specs.Documents.{reference, root_document}
+use Rattle.schemars_documents.specs.Describes.{IsOwnDocument, IsWritten, Describes}
 use Rattle.schemars_generate.specs.Keys.{HasKeysOnce}
 use Rattle.schemars_documents.specs.PlainTable.{IsPlainTable, HasNoFloat}
 use Rattle.schemars_naming.specs.Work.{Plan, Work, IsKey, StandsApart, Refers, IsDefinition, Step, reference_to}

@@ -19,7 +19,7 @@ use Rattle.schemars_shapes.specs.Shape.{Shape, Entry, numbers_of, same_value_num
 use Rattle.schemars_types.specs.Rows.{Row, entry_at}
 use Rattle.schemars_types.specs.Edges.{numbers_at, same_value_numbers_at, rank}
 use Rattle.schemars_types.specs.Faults.{IsChecked}
-use Rattle.schemars_documents.specs.Documents.{IsWritten, Describes}
+use Rattle.schemars_documents.specs.Describes.{IsWritten, Describes}
 use Rattle.schemars_documents.specs.PlainTable.{IsPlainTable}
 use Rattle.schemars_documents.specs.ContractOf.{contract_of}
 use Rattle.schemars_naming.specs.Naming.{Naming, IsOneToOne, name_of}

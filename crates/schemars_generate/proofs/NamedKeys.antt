@@ -13,7 +13,7 @@ use Rattle.schemars_documents.specs.PlainTable.{IsPlainTable}
 use Rattle.schemars_naming.specs.Work.{IsKey, Refers, reference_to}
 use Rattle.schemars_generate.specs.State.{State, plan_of, work_of, HasOwnDefinitions, ReferencesNameKeys}
 use Rattle.schemars_generate.proofs.Keys.{key_here, key_later, key_cases}
-use Rattle.schemars_generate.proofs.Resolving.{all_pass, described_resolved}
+use Rattle.schemars_generate.proofs.Resolving.{resolve-each, described_resolved}
 
 -- whether this is the reference of one of these keys
 names_key : Text → Members → Data → Bool
@@ -58,26 +58,13 @@ key_named path (member k d ms) r h = elim (or_cases (option_map_or (bytes_eq (re
     text (array ds) is = cc
     text (object members) is = cc
 
-both : (a b : Bool) → a && b ≡ true → (a ≡ true) × (b ≡ true)
-both true b e = (refl, e)
-both false b e = absurd (true≢false (sym e))
-
-all_pass-at : (test : Data → Bool) (xs : List Data) (x : Data) (i : ℕ) → all_pass test xs ≡ true → i < length xs → get_or xs i x ≡ x
-    → test x ≡ true
-all_pass-at test [] x i all less is = absurd (omega (arith, less))
-all_pass-at test (y ∷ ys) x zero all less is = ap test (sym is) ∙ (both (test y) (all_pass test ys) all).0
-all_pass-at test (y ∷ ys) x (suc i) all less is = all_pass-at test ys x i (both (test y) (all_pass test ys) all).1 (omega (arith, less)) is
-
-all_pass-each : (test : Data → Bool) (xs : List Data) (x : Data) → all_pass test xs ≡ true → Contains xs x → test x ≡ true
-all_pass-each test xs x all h = all_pass-at test xs x h.0 all h.1 h.2
-
 -- each reference in a definition names a key, where the definitions are the generator's own
 pub references_name_keys : (s : State) → HasOwnDefinitions s → IsPlainTable s.rows → ReferencesNameKeys s
 references_name_keys s own plain k d r found among =
     let definition = own k d found in
     let all = (described_resolved test s.rows (contract_of s.settings.contract) (Refers (plan_of s None) false (work_of s)) plain leads
     definition.depth definition.row d definition.describes).1 in
-    key_named (plan_of s None).path s.definitions r (all_pass-each test (references d) r all among)
+    key_named (plan_of s None).path s.definitions r (resolve-each test (references d) r all among)
   where
     test : Data → Bool
     test = names_key (plan_of s None).path s.definitions

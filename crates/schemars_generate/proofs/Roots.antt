@@ -13,7 +13,8 @@ use Rattle.schemars_rewrite.specs.NullLaw.{context2020_12}
 use Rattle.schemars_types.specs.Rows.{name_at}
 use Rattle.schemars_types.specs.Edges.{height}
 use Rattle.schemars_types.specs.Faults.{IsChecked}
-use Rattle.schemars_documents.specs.Documents.{IsWritten, Describes, root_document}
+use Rattle.schemars_documents.specs.Documents.{root_document}
+use Rattle.schemars_documents.specs.Describes.{IsWritten, Describes}
 use Rattle.schemars_documents.specs.PlainTable.{IsPlainTable}
 use Rattle.schemars_documents.specs.ContractOf.{contract_of}
 use Rattle.schemars_naming.specs.Naming.{IsOneToOne}

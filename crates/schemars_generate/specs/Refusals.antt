@@ -15,7 +15,8 @@ use Rattle.schemars_generate.specs.declared.error.GenerateError.TheVariants.{Dir
 use Rattle.schemars_generate.specs.declared.error.GenerateError.TheVariants.{NotAnExtension, UnknownType}
 use Rattle.schemars_generate.specs.declared.error.GenerateError.TheVariants.{DefinitionsPath}
 use Rattle.schemars_documents.specs.ContractOf.{contract_of}
-use Rattle.schemars_documents.specs.Documents.{Describes, root_document}
+use Rattle.schemars_documents.specs.Documents.{root_document}
+use Rattle.schemars_documents.specs.Describes.{Describes}
 use Rattle.schemars_naming.specs.Work.{Work, Refers, Step}
 use Rattle.schemars_generate.specs.State.{State, plan_of, work_of}
 use Rattle.schemars_generate.specs.Headline.{with_definitions}

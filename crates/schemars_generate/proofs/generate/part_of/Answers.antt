@@ -18,7 +18,7 @@ returns-in-Ok-clause-part c =
     c.args.n c.in-Ok.schema in
     let Q : Work → Type 0 = λ x. IsSubschema (plan_of s None) false x c.args.n c.in-Ok.schema in
     subst Q (sym c.keep.ensures.kept) (part_kept s (record s { names = w.names; definitions = w.definitions }) w c.args.n c.in-Ok.schema
-    refl (subst P path c.in-Ok.ensures.written))
+    refl (subst P path c.in-Ok.ensures.is.written))
 
 pub returns-in-Ok-clause-step : goal.returns-in-Ok-clause-step
 returns-in-Ok-clause-step c =
@@ -44,4 +44,4 @@ returns-in-Ok-clause-reached c = λ plain.
     c.args.work.now w from in
     let Q : Work → Type 0 = λ x. AreReached (plan_of s None) true c.args.work.now x from in
     subst Q (sym c.keep.ensures.kept) (reached_kept (plan_of s None) true s c.args.work.now w from
-    (subst P path (c.in-Ok.ensures.reached plain)))
+    (subst P path (c.in-Ok.ensures.is.reached plain)))

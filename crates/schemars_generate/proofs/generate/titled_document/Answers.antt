@@ -4,7 +4,8 @@ use Rattle.schemars_schema.specs.References.{references}
 use Rattle.schemars_types.specs.Rows.{name_at}
 use Rattle.schemars_types.specs.Edges.{height}
 use Rattle.schemars_documents.specs.ContractOf.{contract_of}
-use Rattle.schemars_documents.specs.Documents.{Describes, root_document}
+use Rattle.schemars_documents.specs.Documents.{root_document}
+use Rattle.schemars_documents.specs.Describes.{Describes}
 use Rattle.schemars_documents.specs.PlainTable.{IsPlainTable}
 use Rattle.schemars_naming.specs.Work.{Plan, Refers}
 use Rattle.schemars_build.specs.Reached.{AreReached}
@@ -22,7 +23,7 @@ returns-clause-titled c =
     let at : Text → Plan = λ p. record { rows = s.rows; contract = s.settings.contract; path = p; root = Some n } in
     let P : Text → Type 0 = λ p. Describes s.rows (contract_of s.settings.contract) (Refers (at p) true w) (suc (height s.rows n)) n own in
     let Q : Text → Type 0 = λ p. IsPlainTable s.rows → AreReached (at p) false c.args.work.now w (references own) in
-    let reached : Q (plan_of s None).path = subst Q path c.in_ok-schema.ensures.reached in
-    let describes : P (plan_of s None).path = subst P path c.in_ok-schema.ensures.describes in
+    let reached : Q (plan_of s None).path = subst Q path c.in_ok-schema.ensures.is.reached in
+    let describes : P (plan_of s None).path = subst P path c.in_ok-schema.ensures.is.describes in
     let is_root : c.make_root.new.schema ≡ root_document (name_at s.rows n) s.settings.meta_schema own = search rules in
     record { own = own; describes = describes; is_root = is_root; reached = reached }
