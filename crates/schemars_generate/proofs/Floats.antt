@@ -22,10 +22,14 @@ use Rattle.schemars_shapes.specs.Shape as shape
 use Rattle.schemars_shapes.specs.Shape.{Shape, Entry, Field}
 use Rattle.schemars_types.specs.Rows.{Row, entry_at}
 use Rattle.schemars_types.specs.Meaning.{Contract, Deserialize, Serialize}
-use Rattle.schemars_documents.specs.Documents.{IsDocument, IsOwnDocument, Describes, annotated, with_title}
+use Rattle.schemars_documents.specs.Documents.{annotated, with_title}
+use Rattle.schemars_documents.specs.Describes.{IsOwnDocument, Describes}
+use Rattle.schemars_documents.proofs.ByShape.{IsDocument, own_document}
 use Rattle.schemars_documents.specs.Documents.{with_meta_schema, root_document, int_document, non_zero_document}
-use Rattle.schemars_documents.specs.Documents.{Keyword, bytes_document, map_document, field_keywords, AreWritten}
-use Rattle.schemars_documents.specs.Documents.{ArePartsWritten, items_from, tuple_document, IsWritten}
+use Rattle.schemars_documents.specs.Documents.{Keyword, bytes_document}
+use Rattle.schemars_documents.proofs.ByShape.{map_document, field_keywords, AreWritten}
+use Rattle.schemars_documents.specs.Describes.{ArePartsWritten, IsWritten}
+use Rattle.schemars_documents.proofs.ByShape.{items_from, tuple_document}
 use Rattle.schemars_documents.specs.PlainTable.{FieldsHaveNoFloat, ShapeHasNoFloat, EntryHasNoFloat, HasNoFloat}
 use Rattle.schemars_schema.specs.Edits.{without, replaced}
 use Rattle.schemars_schema.specs.Placing.{placed, placed_at, tokens_of}
@@ -269,8 +273,9 @@ shape_whole W contract whole (shape.newtype j) n s is = whole j s is
 own_whole : (W : ℕ → Data → Type 0) (contract : Contract) → ((j : ℕ) (t : Data) → W j t → IsWhole t) → (o : Option Entry)
     → EntryHasNoFloat o → (s : Data) → IsOwnDocument W contract o s → IsWhole s
 own_whole W contract whole None noted s is = absurd is
-own_whole W contract whole (Some e) noted s is = rw is.2 (whole_annotated e.notes is.0 noted.0
-    (shape_whole W contract whole e.shape noted.1 is.0 is.1))
+own_whole W contract whole (Some e) noted s is =
+    let own = own_document W contract e s is in
+    rw own.2 (whole_annotated e.notes own.0 noted.0 (shape_whole W contract whole e.shape noted.1 own.0 own.1))
 
 module _ (rows : List Row) (contract : Contract) (Refers : ℕ → Text → Type 0) (none : HasNoFloat rows) where
   written_by : (d : ℕ) → ((j : ℕ) (t : Data) → Describes rows contract Refers d j t → IsWhole t) → (j : ℕ) (t : Data)

@@ -23,13 +23,20 @@ use Rattle.schemars_shapes.specs.Shape as shape
 use Rattle.schemars_shapes.specs.Shape.{Shape, Entry}
 use Rattle.schemars_types.specs.Rows.{Row, entry_at}
 use Rattle.schemars_types.specs.Meaning.{Contract, least_of, greatest_of}
-use Rattle.schemars_documents.specs.Documents.{Keyword, IsDocument, IsOwnDocument, IsWritten, Describes, annotated}
+use Rattle.schemars_documents.specs.Documents.{Keyword, annotated}
+use Rattle.schemars_documents.specs.Describes.{IsOwnDocument, IsWritten, Describes}
+use Rattle.schemars_documents.proofs.ByShape.{IsDocument, own_document}
 use Rattle.schemars_documents.specs.Documents.{with_title, with_meta_schema, root_document, int_keywords, int_document}
-use Rattle.schemars_documents.specs.Documents.{non_zero_document, is_signed, map_document, properties_keyword}
-use Rattle.schemars_documents.specs.Documents.{required_keyword, closed_keyword, typed, type_alone, char_document}
-use Rattle.schemars_documents.specs.Documents.{formatted_document, bytes_document, schema_document, seq_document}
-use Rattle.schemars_documents.specs.Documents.{field_keywords, required_names, reference, set_document, array_document}
-use Rattle.schemars_documents.specs.Documents.{up_to_document, empty_list_document, tuple_document}
+use Rattle.schemars_documents.specs.Documents.{non_zero_document, is_signed}
+use Rattle.schemars_documents.proofs.ByShape.{map_document, properties_keyword}
+use Rattle.schemars_documents.specs.Documents.{typed, type_alone, char_document}
+use Rattle.schemars_documents.proofs.ByShape.{required_keyword, closed_keyword}
+use Rattle.schemars_documents.specs.Documents.{formatted_document, bytes_document, schema_document}
+use Rattle.schemars_documents.proofs.ByShape.{seq_document}
+use Rattle.schemars_documents.specs.Documents.{required_names, reference}
+use Rattle.schemars_documents.proofs.ByShape.{field_keywords, set_document, array_document}
+use Rattle.schemars_documents.specs.Documents.{empty_list_document}
+use Rattle.schemars_documents.proofs.ByShape.{up_to_document, tuple_document}
 use Rattle.schemars_documents.specs.PlainTable.{IsPlainEntry, IsPlainTable}
 use Rattle.schemars_generate.proofs.Keys.{IsDefinitionsKey, IsOther, other_apart, annotation_other}
 
@@ -215,8 +222,9 @@ module _ (key : Text) (is_key : IsDefinitionsKey key) where
   own_lacks : (W : ℕ → Data → Type 0) (contract : Contract) → ((j : ℕ) (t : Data) → W j t → LacksIn t) → (o : Option Entry)
       → IsPlainEntry o → (s : Data) → IsOwnDocument W contract o s → LacksIn s
   own_lacks W contract all None plain s is = absurd is
-  own_lacks W contract all (Some e) plain s is = rw is.2 (lacks_annotated e.notes is.0 plain.0
-      (shape_lacks W contract all e.shape is.0 is.1))
+  own_lacks W contract all (Some e) plain s is =
+      let own = own_document W contract e s is in
+      rw own.2 (lacks_annotated e.notes own.0 plain.0 (shape_lacks W contract all e.shape own.0 own.1))
 
   module _ (rows : List Row) (contract : Contract) (Refers : ℕ → Text → Type 0) (plain : IsPlainTable rows) where
     written_lacks : (d : ℕ) → ((j : ℕ) (t : Data) → Describes rows contract Refers d j t → LacksIn t) → (j : ℕ) (t : Data)

@@ -5,7 +5,7 @@ use Rattle.std.specs.Prelude.{◌&&◌}
 use Rattle.std.specs.Ordering.{match_ordering}
 use Rattle.std.specs.Cmp.Lexicographic.{slice_cmp}
 use Rattle.std.proofs.lemmas.Map.Lookups.{exact_bytes}
-use Rattle.std.proofs.lemmas.List.Elements.{Contains-later}
+use Rattle.std.proofs.lemmas.List.Elements.{Contains-append_right}
 use Rattle.serde_json.specs.Data.{Data, string, object, Members, no_members, member, put}
 use Rattle.schemars_json.specs.Json.{Text}
 use Rattle.schemars_schema.specs.SchemaData.{IsSchema}
@@ -49,7 +49,7 @@ module _ (test : Data → Bool) where
   each-resolve : (xs : List Data) → ((x : Data) → Contains xs x → test x ≡ true) → Resolve xs
   each-resolve [] all = refl
   each-resolve (x ∷ xs) all =
-      rw (all x (0, omega arith, refl), each-resolve xs (λ y h. all y (Contains-later x y xs h)))
+      rw (all x (0, omega arith, refl), each-resolve xs (λ y h. all y (Contains-append_right (x ∷ []) xs y h)))
 
   resolve-among : (xs ys : List Data) → Among xs ys → Resolve ys → Resolve xs
   resolve-among xs ys among all = each-resolve xs (λ x h. resolve-each ys x all (among x h))
