@@ -54,22 +54,39 @@ pub fn answer(alloc: Global, words: &str, input: &str) -> Result<String, AllocEr
 
 fn answer_to(alloc: Global, call: &str, argument: &str, input: &str) -> Result<String, NoAnswer> {
     if call == "deserialize" {
-        let schema: Schema = serde_json::from_str(alloc, input)?;
-        return Ok(schema.to_ordered_string(alloc)?);
+        return deserialized(alloc, input);
     }
     let value = Value::from_str(alloc, input)?;
+    answer_about(alloc, call, argument, &value)
+}
+
+fn answer_about(
+    alloc: Global,
+    call: &str,
+    argument: &str,
+    value: &Value,
+) -> Result<String, NoAnswer> {
     match call {
         "try_from" => try_from(alloc, value),
         "from_value" => from_value(alloc, value),
-        "is_schema" => Ok(text_of_bool(alloc, Schema::is_schema(&value))?),
-        "json_eq" => equal(alloc, &value),
-        "json_eq_members" => members_equal(alloc, &value),
-        "encode_ref_name" => encoded(alloc, &value),
-        "percent_decode" => decoded(alloc, &value),
-        "new_ref" => reference(alloc, &value),
-        "fault" => fault(alloc, &value),
+        "is_schema" => is_schema(alloc, value),
+        "json_eq" => equal(alloc, value),
+        "json_eq_members" => members_equal(alloc, value),
+        "encode_ref_name" => encoded(alloc, value),
+        "percent_decode" => decoded(alloc, value),
+        "new_ref" => reference(alloc, value),
+        "fault" => fault(alloc, value),
         _ => schemas::answer(alloc, call, argument, value),
     }
+}
+
+fn deserialized(alloc: Global, input: &str) -> Result<String, NoAnswer> {
+    let schema: Schema = serde_json::from_str(alloc, input)?;
+    Ok(schema.to_ordered_string(alloc)?)
+}
+
+fn is_schema(alloc: Global, value: &Value) -> Result<String, NoAnswer> {
+    Ok(text_of_bool(alloc, Schema::is_schema(value))?)
 }
 
 /// A truth value's text.
@@ -85,8 +102,8 @@ pub fn pair_in(value: &Value) -> Result<(&Value, &Value), NoAnswer> {
     }
 }
 
-fn try_from(alloc: Global, value: Value) -> Result<String, NoAnswer> {
-    match Schema::try_from(value) {
+fn try_from(alloc: Global, value: &Value) -> Result<String, NoAnswer> {
+    match Schema::try_from(value.clone()?) {
         Ok(schema) => Ok(schema.to_ordered_string(alloc)?),
         Err(refused) => refusal(alloc, &refused),
     }
@@ -99,8 +116,8 @@ fn refusal(alloc: Global, refused: &NotASchema) -> Result<String, NoAnswer> {
     Ok(format!(in alloc; "{} {refused} {value}", refused.code())?)
 }
 
-fn from_value(alloc: Global, value: Value) -> Result<String, NoAnswer> {
-    let schema: Schema = serde_json::from_value(alloc, value)?;
+fn from_value(alloc: Global, value: &Value) -> Result<String, NoAnswer> {
+    let schema: Schema = serde_json::from_value(alloc, value.clone()?)?;
     Ok(schema.to_ordered_string(alloc)?)
 }
 

@@ -1,42 +1,50 @@
 //! What calls answer that change a schema, and what the schema then is.
 use crate::calls::{NoAnswer, pair_in};
-use crate::schemas::{schema_in, text_of};
+use crate::schemas::{look, schema_in, text_of};
 use schemars_rewrite::builders::allow_null;
 use schemars_schema::Schema;
 use serde_json::{Map, Value};
 use std::alloc::Global;
 use std::mem;
 
-/// What a call answers to this schema.
+/// What a call answers to this schema, which it may change.
 pub fn answer(
     alloc: Global,
     call: &str,
     argument: &str,
-    mut schema: Schema,
+    schema: &mut Schema,
 ) -> Result<String, NoAnswer> {
     match call {
-        "allow_null" => {
-            allow_null(alloc, &mut schema)?;
-            Ok(schema.to_ordered_string(alloc)?)
-        }
-        "clone" => cloned(alloc, &mut schema, argument),
-        "ensure_object" => {
-            let members = schema.ensure_object(alloc)?;
-            insert_null(alloc, members, argument)?;
-            Ok(schema.to_ordered_string(alloc)?)
-        }
-        "as_object_mut" => as_object_mut(alloc, &mut schema, argument),
-        "get_mut" => {
-            let old = replaced(schema.get_mut(argument));
-            taken(alloc, old, &schema)
-        }
-        "pointer_mut" => {
-            let old = replaced(schema.pointer_mut(alloc, argument)?);
-            taken(alloc, old, &schema)
-        }
-        "remove" => remove(alloc, &mut schema, argument),
-        _ => Err(NoAnswer::NoCall),
+        "allow_null" => with_null(alloc, schema),
+        "clone" => cloned(alloc, schema, argument),
+        "ensure_object" => ensure_object(alloc, schema, argument),
+        "as_object_mut" => as_object_mut(alloc, schema, argument),
+        "get_mut" => get_mut(alloc, schema, argument),
+        "pointer_mut" => pointer_mut(alloc, schema, argument),
+        "remove" => remove(alloc, schema, argument),
+        _ => look(alloc, call, argument, schema),
     }
+}
+
+fn with_null(alloc: Global, schema: &mut Schema) -> Result<String, NoAnswer> {
+    allow_null(alloc, schema)?;
+    Ok(schema.to_ordered_string(alloc)?)
+}
+
+fn ensure_object(alloc: Global, schema: &mut Schema, key: &str) -> Result<String, NoAnswer> {
+    let members = schema.ensure_object(alloc)?;
+    insert_null(alloc, members, key)?;
+    Ok(schema.to_ordered_string(alloc)?)
+}
+
+fn get_mut(alloc: Global, schema: &mut Schema, key: &str) -> Result<String, NoAnswer> {
+    let old = replaced(schema.get_mut(key));
+    taken(alloc, old, schema)
+}
+
+fn pointer_mut(alloc: Global, schema: &mut Schema, pointer: &str) -> Result<String, NoAnswer> {
+    let old = replaced(schema.pointer_mut(alloc, pointer)?);
+    taken(alloc, old, schema)
 }
 
 // A copy of the schema, from which a member is then removed.
@@ -85,21 +93,39 @@ fn remove(alloc: Global, schema: &mut Schema, key: &str) -> Result<String, NoAns
 /// Inserts the second value of a list into its first.
 pub fn insert(alloc: Global, key: &str, value: &Value) -> Result<String, NoAnswer> {
     let (first, second) = pair_in(value)?;
-    let mut schema = schema_in(first.clone()?)?;
-    let key = String::from_str(alloc, key)?;
-    let old = schema.insert(alloc, key, second.clone()?)?;
+    let mut schema = schema_in(first)?;
+    let old = inserted(alloc, &mut schema, key, second)?;
     taken(alloc, old, &schema)
+}
+
+fn inserted(
+    alloc: Global,
+    schema: &mut Schema,
+    key: &str,
+    value: &Value,
+) -> Result<Option<Value>, NoAnswer> {
+    let key = String::from_str(alloc, key)?;
+    Ok(schema.insert(alloc, key, value.clone()?)?)
 }
 
 /// Puts the members of a list's second value into its first. What is then there is open where it
 /// can't.
 pub fn merge_at(alloc: Global, pointer: &str, value: &Value) -> Result<String, NoAnswer> {
     let (first, second) = pair_in(value)?;
-    let mut schema = schema_in(first.clone()?)?;
-    let Value::Object(members) = second.clone()? else {
+    let mut schema = schema_in(first)?;
+    merged_at(alloc, &mut schema, pointer, second)
+}
+
+fn merged_at(
+    alloc: Global,
+    schema: &mut Schema,
+    pointer: &str,
+    value: &Value,
+) -> Result<String, NoAnswer> {
+    let Value::Object(members) = value else {
         return Err(NoAnswer::BadInput);
     };
-    if schema.merge_at(alloc, pointer, members)? {
+    if schema.merge_at(alloc, pointer, members.clone()?)? {
         Ok(schema.to_ordered_string(alloc)?)
     } else {
         Ok(String::from_str(alloc, "false")?)

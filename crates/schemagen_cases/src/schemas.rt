@@ -5,9 +5,9 @@ use schemars_schema::Schema;
 use serde_json::Value;
 use std::alloc::{AllocError, Global};
 
-/// The schema that a value is.
-pub fn schema_in(value: Value) -> Result<Schema, NoAnswer> {
-    match Schema::try_from(value) {
+/// The schema that a value is, in a copy.
+pub fn schema_in(value: &Value) -> Result<Schema, NoAnswer> {
+    match Schema::try_from(value.clone()?) {
         Ok(schema) => Ok(schema),
         Err(_) => Err(NoAnswer::BadInput),
     }
@@ -22,30 +22,46 @@ pub fn text_of(alloc: Global, value: Option<&Value>) -> Result<String, AllocErro
 }
 
 /// What a call answers to this value.
-pub fn answer(alloc: Global, call: &str, argument: &str, value: Value) -> Result<String, NoAnswer> {
-    match call {
-        "insert" => edits::insert(alloc, argument, &value),
-        "merge_at" => edits::merge_at(alloc, argument, &value),
-        _ => answer_of(alloc, call, argument, schema_in(value)?),
-    }
-}
-
-fn answer_of(
+pub fn answer(
     alloc: Global,
     call: &str,
     argument: &str,
-    schema: Schema,
+    value: &Value,
+) -> Result<String, NoAnswer> {
+    match call {
+        "insert" => edits::insert(alloc, argument, value),
+        "merge_at" => edits::merge_at(alloc, argument, value),
+        "to_value" => to_value(alloc, value),
+        _ => answer_of(alloc, call, argument, value),
+    }
+}
+
+fn answer_of(alloc: Global, call: &str, argument: &str, value: &Value) -> Result<String, NoAnswer> {
+    let mut schema = schema_in(value)?;
+    edits::answer(alloc, call, argument, &mut schema)
+}
+
+/// What a call answers that only looks at this schema.
+pub fn look(
+    alloc: Global,
+    call: &str,
+    argument: &str,
+    schema: &Schema,
 ) -> Result<String, NoAnswer> {
     match call {
         "to_ordered_string" => Ok(schema.to_ordered_string(alloc)?),
-        "serialize" => Ok(serde_json::to_string(alloc, &schema)?),
-        "as_bool" => as_bool(alloc, &schema),
-        "as_object" => as_object(alloc, &schema),
+        "serialize" => Ok(serde_json::to_string(alloc, schema)?),
+        "as_bool" => as_bool(alloc, schema),
+        "as_object" => as_object(alloc, schema),
         "get" => Ok(text_of(alloc, schema.get(argument))?),
-        "pointer" => pointer(alloc, &schema, argument),
-        "to_value" => Ok(schema.to_value().to_string(alloc)?),
-        _ => edits::answer(alloc, call, argument, schema),
+        "pointer" => pointer(alloc, schema, argument),
+        _ => Err(NoAnswer::NoCall),
     }
+}
+
+fn to_value(alloc: Global, value: &Value) -> Result<String, NoAnswer> {
+    let schema = schema_in(value)?;
+    Ok(schema.to_value().to_string(alloc)?)
 }
 
 fn as_bool(alloc: Global, schema: &Schema) -> Result<String, NoAnswer> {

@@ -66,7 +66,7 @@ fn finds(alloc: Global, types: &Types, code: u32, row: TypeNo, field: &str) -> b
 fn tables_are_checked(rt: HostRuntime) -> Result<(), Fail> {
     for (text, code, row, field) in TABLES {
         let types = table_of(rt.alloc(), text)?;
-        assert!(rt; finds(rt.alloc(), &types, code, row, field), "{text}");
+        expect(finds(rt.alloc(), &types, code, row, field), text)?;
     }
     Ok(())
 }

@@ -112,11 +112,8 @@ fn write_definition(
     generator: &mut SchemaGenerator,
     name: &str,
 ) -> Result<Schema, GenerateError> {
-    let name = owned(alloc, name)?;
-    match generator.definitions_mut().insert(name, Value::Bool(true)) {
-        Ok(_) => Ok(Schema::from(true)),
-        Err(_) => Err(GenerateError::OutOfMemory),
-    }
+    serde_json::put(generator.definitions_mut(), alloc, name, Value::Bool(true))?;
+    Ok(Schema::from(true))
 }
 
 fn path_of(alloc: Global, generator: &SchemaGenerator) -> Result<Schema, GenerateError> {
@@ -153,10 +150,15 @@ fn answer(
     }
 }
 
+// A refusal's number and name.
+fn refusal(alloc: Global, error: &GenerateError) -> Result<String, AllocError> {
+    format!(in alloc; "{} {error}", error.code())
+}
+
 fn told(alloc: Global, answer: Result<Schema, GenerateError>) -> Result<String, AllocError> {
     match answer {
         Ok(schema) => schema.to_ordered_string(alloc),
-        Err(error) => format!(in alloc; "{} {error}", error.code()),
+        Err(error) => refusal(alloc, &error),
     }
 }
 
@@ -309,7 +311,7 @@ fn notes_are_written(rt: HostRuntime) -> Result<(), Fail> {
 
 #[test]
 fn want_of_memory_is_told(rt: HostRuntime) -> Result<(), Fail> {
-    let told = told(rt.alloc(), Err(GenerateError::OutOfMemory))?;
+    let told = refusal(rt.alloc(), &GenerateError::OutOfMemory)?;
     assert_eq!(rt; told.as_str(), "1 OutOfMemory");
     Ok(())
 }

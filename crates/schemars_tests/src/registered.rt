@@ -91,6 +91,19 @@ fn formatted(
 
 fn made(alloc: Global, types: &mut Types, call: &str, of: TypeNo) -> Result<TypeNo, TypesError> {
     match call {
+        "option" => types.option(alloc, of),
+        "seq" => types.seq(alloc, of),
+        "set" => types.set(alloc, of),
+        "pair" => types.array(alloc, of, 2),
+        "up_to_8" => types.up_to(alloc, of, 8),
+        "empty" => types.array(alloc, of, 0),
+        _ => made_of_none(alloc, types, call),
+    }
+}
+
+// A row that leads to no other.
+fn made_of_none(alloc: Global, types: &mut Types, call: &str) -> Result<TypeNo, TypesError> {
+    match call {
         "null" => types.null(alloc),
         "bool" => types.bool(alloc),
         "number" => types.number(alloc),
@@ -99,25 +112,25 @@ fn made(alloc: Global, types: &mut Types, call: &str, of: TypeNo) -> Result<Type
         "text" => types.text(alloc),
         "bytes" => types.bytes(alloc),
         "schema" => types.schema(alloc),
-        "date" => formatted(alloc, types, "jiff::Date", "Date", "date"),
-        "option" => types.option(alloc, of),
-        "seq" => types.seq(alloc, of),
-        "set" => types.set(alloc, of),
-        "pair" => types.array(alloc, of, 2),
-        "up_to_8" => types.up_to(alloc, of, 8),
-        _ => types.array(alloc, of, 0),
+        _ => formatted(alloc, types, "jiff::Date", "Date", "date"),
     }
+}
+
+fn stands(types: &Types, row: TypeNo, inline: bool) -> bool {
+    match types.entry(row) {
+        Some(entry) => entry.inline == inline,
+        None => false,
+    }
+}
+
+fn is_named(types: &Types, row: TypeNo, id: &str, name: &str) -> bool {
+    types.find(id) == Some(row) && types.id(row) == Some(id) && types.name(row) == Some(name)
 }
 
 // Whether the row has this id and name, and stands by name where its text is that of a definition.
 fn is_row(types: &Types, row: TypeNo, id: &str, name: &str) -> bool {
     let by_name = id == "bytes::Bytes" || id == "schemars::Schema";
-    let stands = match types.entry(row) {
-        Some(entry) => entry.inline != by_name,
-        None => false,
-    };
-    let is_found = types.find(id) == Some(row) && types.id(row) == Some(id);
-    is_found && stands && types.name(row) == Some(name)
+    is_named(types, row, id, name) && stands(types, row, !by_name)
 }
 
 fn expect_kinds(alloc: Global, types: &mut Types) -> Result<(), Fail> {
