@@ -1,35 +1,35 @@
 -- A document has no float but those of its notes.
-use Rattle.std.proofs.Common.{◌≡◌, ℕ, zero, suc, List, [], ◌∷◌, Option, Some, None, Bool, true, false, refl, ◌∙◌}
-use Rattle.std.proofs.Common.{true≢false, Ordering, Less, Equal, Greater, nat_cmp, inl, inr}
+use Rattle.std.proofs.Common.{◌≡◌, ℕ, zero, suc, ℤ, pos, negsuc, List, [], ◌∷◌, ◌++◌, map, Option, Some, None, Bool, true, false}
+use Rattle.std.proofs.Common.{refl, true≢false, Ordering, Less, Equal, Greater, nat_cmp, inl, inr}
 use Rattle.std.specs.Prelude.{codes, is_some, if◌then◌else◌, ◌||◌, bytes_eq, option_map, option_and_then}
 use Rattle.std.specs.Ordering.{match_ordering}
 use Rattle.std.specs.Cmp.Lexicographic.{slice_cmp}
+use Rattle.std.specs.List.{AllByRecursion}
 use Rattle.serde_json.specs.Data.{Data, null, boolean, number, string, array, object, Items, no_items, item, Members}
 use Rattle.serde_json.specs.Data.{no_members, member, put}
-use Rattle.serde_json.specs.Find.{get_member}
+use Rattle.serde_json.specs.Find.{get_member, of_integer, is_float}
+use Rattle.serde_json.specs.View.{items_of}
 use Rattle.serde_json.specs.Written.{has_float, items_have_float, members_have_float}
 use Rattle.schemars_json.specs.Json.{Text}
-use Rattle.schemars_schema.specs.SchemaData.{put_members, members_in, put_all}
+use Rattle.schemars_schema.specs.SchemaData.{put_members, members_in, put_all, object_of}
 use Rattle.schemars_schema.proofs.Contents.{members_have_float-put}
 use Rattle.schemars_rewrite.specs.AllowNull.{is_null_choice, is_combined, or_null, allow_null, type_with_null}
 use Rattle.schemars_rewrite.specs.AllowNull.{null_in_type, with_item, holds_text, holds_null, enum_with_null}
 use Rattle.schemars_rewrite.specs.AllowNull.{null_in_enum, const_or_null, null_in_const, null_in_values}
 use Rattle.schemars_schema.specs.Acceptance.{is_null}
-use Rattle.schemars_rewrite.specs.NullLaw.{text_items}
-use Rattle.schemars_shapes.specs.declared.shape.IntKind.{IntKind}
-use Rattle.schemars_shapes.specs.declared.shape.IntKind.TheVariants.{I8, I16, I32, I64, I128, Isize, U8, U16, U32, U64, U128, Usize}
+use Rattle.schemars_rewrite.specs.NullLaw.{zero_schema, text_items}
+use Rattle.schemars_shapes.specs.IntKind.{format_of}
 use Rattle.schemars_shapes.specs.Shape as shape
 use Rattle.schemars_shapes.specs.Shape.{Shape, Entry, Field}
 use Rattle.schemars_types.specs.Rows.{Row, entry_at}
-use Rattle.schemars_types.specs.Meaning.{Contract, Deserialize, Serialize}
-use Rattle.schemars_documents.specs.Documents.{annotated, with_title}
-use Rattle.schemars_documents.specs.Describes.{IsOwnDocument, Describes}
-use Rattle.schemars_documents.proofs.ByShape.{IsDocument, own_document}
-use Rattle.schemars_documents.specs.Documents.{with_meta_schema, root_document, int_document, non_zero_document}
-use Rattle.schemars_documents.specs.Documents.{Keyword, bytes_document}
-use Rattle.schemars_documents.proofs.ByShape.{map_document, field_keywords, AreWritten}
-use Rattle.schemars_documents.specs.Describes.{ArePartsWritten, IsWritten}
-use Rattle.schemars_documents.proofs.ByShape.{items_from, tuple_document}
+use Rattle.schemars_types.specs.Meaning.{Contract, Deserialize, Serialize, least_of, greatest_of}
+use Rattle.schemars_documents.specs.Documents.{annotated, with_title, with_meta_schema, root_document, int_keywords}
+use Rattle.schemars_documents.specs.Documents.{is_signed, bytes_document, required_names}
+use Rattle.schemars_documents.specs.Template.{Template, finished, row, list, members, nullable, noted, Templates, no_templates}
+use Rattle.schemars_documents.specs.Template.{template, rows_of, left, keyed, filled, filled_in}
+use Rattle.schemars_documents.specs.OfShape.{KeywordTemplate, templates_of, property, map_template, template_of}
+use Rattle.schemars_documents.specs.OfShape.{entry_template}
+use Rattle.schemars_documents.specs.Describes.{IsOwnDocument, IsWritten, Describes}
 use Rattle.schemars_documents.specs.PlainTable.{FieldsHaveNoFloat, ShapeHasNoFloat, EntryHasNoFloat, HasNoFloat}
 use Rattle.schemars_schema.specs.Edits.{without, replaced}
 use Rattle.schemars_schema.specs.Placing.{placed, placed_at, tokens_of}
@@ -39,6 +39,7 @@ use Rattle.schemars_generate.proofs.Leading.{MayRefer, AllStand}
 use Rattle.schemars_generate.specs.Headline.{with_definitions}
 use Rattle.schemars_generate.specs.Keys.{HasKeysOnce}
 use Rattle.schemars_generate.proofs.Keys.{AllMembers, all_members}
+use Rattle.schemars_generate.proofs.Parts.{either, left_all, first_all, parts_all}
 
 abbrev IsWhole : Data → Type 0
 IsWhole s = has_float s ≡ false
@@ -169,113 +170,119 @@ whole_allow_null (number n) h = h
 whole_allow_null (string t) h = h
 whole_allow_null (array ds) h = h
 
-int_whole : (kind : IntKind) → IsWhole (int_document kind)
-int_whole I8 = refl
-int_whole I16 = refl
-int_whole I32 = refl
-int_whole I64 = refl
-int_whole I128 = refl
-int_whole Isize = refl
-int_whole U8 = refl
-int_whole U16 = refl
-int_whole U32 = refl
-int_whole U64 = refl
-int_whole U128 = refl
-int_whole Usize = refl
+whole_keyed : (ks : List Text) (ds : List Data) (ms : Members) → AllByRecursion IsWhole ds → members_have_float ms ≡ false
+    → members_have_float (put_all (keyed ks ds) ms) ≡ false
+whole_keyed [] ds ms h e = e
+whole_keyed (k ∷ ks) [] ms h e = e
+whole_keyed (k ∷ ks) (d ∷ ds) ms h e = whole_keyed ks ds (put k d ms) h.1 (members_have_float-put k d ms h.0 e)
 
-non_zero_whole : (kind : IntKind) → IsWhole (non_zero_document kind)
-non_zero_whole I8 = refl
-non_zero_whole I16 = refl
-non_zero_whole I32 = refl
-non_zero_whole I64 = refl
-non_zero_whole I128 = refl
-non_zero_whole Isize = refl
-non_zero_whole U8 = refl
-non_zero_whole U16 = refl
-non_zero_whole U32 = refl
-non_zero_whole U64 = refl
-non_zero_whole U128 = refl
-non_zero_whole Usize = refl
+whole_items : (ds : List Data) → AllByRecursion IsWhole ds → items_have_float (items_of ds) ≡ false
+whole_items [] h = refl
+whole_items (d ∷ ds) h = rw h.0 (whole_items ds h.1)
 
-or-false : (a : Bool) → a || false ≡ a
-or-false true = refl
-or-false false = refl
+-- ---- filled templates
 
-abbrev AllWhole : List Keyword → Type 0
-AllWhole [] = Unit {0}
-AllWhole (e ∷ es) = IsWhole e.1 × AllWhole es
+-- neither its finished JSON nor its notes have a float
+abbrev mutual
+  SaysWhole : Template → Type 0
+  SaysWhole (finished d) = IsWhole d
+  SaysWhole (row n) = Unit {0}
+  SaysWhole (list es) = SayWhole es
+  SaysWhole (members ks es) = SayWhole es
+  SaysWhole (nullable t) = SaysWhole t
+  SaysWhole (noted notes t) = (members_have_float notes ≡ false) × SaysWhole t
 
-whole_entries : (es : List Keyword) (ms : Members) → AllWhole es → members_have_float ms ≡ false
-    → members_have_float (put_all es ms) ≡ false
-whole_entries [] ms h e = e
-whole_entries (x ∷ es) ms h e = whole_entries es (put x.0 x.1 ms) h.1 (members_have_float-put x.0 x.1 ms h.0 e)
+  SayWhole : Templates → Type 0
+  SayWhole no_templates = Unit {0}
+  SayWhole (template t es) = SaysWhole t × SayWhole es
 
-whole_texts : (ns : List Text) → items_have_float (text_items ns) ≡ false
-whole_texts [] = refl
-whole_texts (n ∷ ns) = whole_texts ns
+mutual
+  whole_filled : (t : Template) (ts : List Data) → SaysWhole t → AllByRecursion IsWhole ts → IsWhole (filled t ts)
+  whole_filled (finished d) ts is h = is
+  whole_filled (row n) ts is h = first_all IsWhole refl ts h
+  whole_filled (list es) ts is h = whole_items (filled_in es ts) (whole_filled_in es ts is h)
+  whole_filled (members ks es) ts is h = whole_keyed ks (filled_in es ts) no_members (whole_filled_in es ts is h) refl
+  whole_filled (nullable t) ts is h = whole_allow_null (filled t ts) (whole_filled t ts is h)
+  whole_filled (noted notes t) ts is h = whole_annotated notes (filled t ts) is.0 (whole_filled t ts is.1 h)
 
-whole_map : (es : List Keyword) (ns : List Text) (closed : Bool) → members_have_float (put_all es no_members) ≡ false
-    → IsWhole (map_document es ns closed)
-whole_map [] [] false h = refl
-whole_map [] [] true h = refl
-whole_map [] (n ∷ ns) false h = rw (whole_texts ns) refl
-whole_map [] (n ∷ ns) true h = rw (whole_texts ns) refl
-whole_map (e ∷ es) [] false h = rw h refl
-whole_map (e ∷ es) [] true h = rw h refl
-whole_map (e ∷ es) (n ∷ ns) false h = rw (h, whole_texts ns) refl
-whole_map (e ∷ es) (n ∷ ns) true h = rw (h, whole_texts ns) refl
+  whole_filled_in : (es : Templates) (ts : List Data) → SayWhole es → AllByRecursion IsWhole ts → AllByRecursion IsWhole (filled_in es ts)
+  whole_filled_in no_templates ts is h = tt
+  whole_filled_in (template t es) ts is h = (whole_filled t ts is.0 h, whole_filled_in es (left t ts) is.1 (left_all IsWhole t ts h))
 
-fields_whole : (W : ℕ → Data → Type 0) → ((j : ℕ) (t : Data) → W j t → IsWhole t) → (xs : List Field) (ts : List Data)
-    → FieldsHaveNoFloat xs → AreWritten W xs ts → AllWhole (field_keywords xs ts)
-fields_whole W whole [] ts n h = tt
-fields_whole W whole (x ∷ xs) [] n h = tt
-fields_whole W whole (x ∷ xs) (t ∷ ts) n h = (whole_annotated x.notes t n.0 (whole x.ty t h.0), fields_whole W whole xs ts n.1 h.1)
+-- ---- each shape
+
+bound_whole : (z : ℤ) → is_float (of_integer z) ≡ false
+bound_whole (pos n) = refl
+bound_whole (negsuc n) = refl
+
+-- whatever the bounds are
+int_whole : (format : Text) (least greatest : Option ℤ) → IsWhole (object_of (int_keywords format least greatest))
+    × IsWhole (object_of (int_keywords format least greatest ++ (codes "not", zero_schema) ∷ []))
+int_whole format None None = (refl, refl)
+int_whole format None (Some g) = rw (bound_whole g) (refl, refl)
+int_whole format (Some l) None = rw (bound_whole l) (refl, refl)
+int_whole format (Some l) (Some g) = rw (bound_whole l, bound_whole g) (refl, refl)
 
 bytes_whole : (contract : Contract) → IsWhole (bytes_document contract)
 bytes_whole Deserialize = refl
 bytes_whole Serialize = refl
 
-parts_whole : (W : ℕ → Data → Type 0) → ((j : ℕ) (t : Data) → W j t → IsWhole t) → (ns : List ℕ) (ts : List Data)
-    → ArePartsWritten W ns ts → items_have_float (items_from ts) ≡ false
-parts_whole W whole [] ts h = rw h refl
-parts_whole W whole (n ∷ ns) [] h = absurd h
-parts_whole W whole (n ∷ ns) (t ∷ ts) h = rw (whole n t h.0, parts_whole W whole ns ts h.1) refl
+rows_whole : (ns : List ℕ) → SayWhole (templates_of (map row ns))
+rows_whole [] = tt
+rows_whole (n ∷ ns) = (tt, rows_whole ns)
 
-tuple_whole : (ts : List Data) → items_have_float (items_from ts) ≡ false → IsWhole (tuple_document ts)
-tuple_whole [] h = refl
-tuple_whole (t ∷ ts) h = rw h refl
+properties_whole : (xs : List Field) → FieldsHaveNoFloat xs → SayWhole (templates_of (map (λ e. e.1) (map property xs)))
+properties_whole [] h = tt
+properties_whole (x ∷ xs) h = ((h.0, tt), properties_whole xs h.1)
 
-shape_whole : (W : ℕ → Data → Type 0) (contract : Contract) → ((j : ℕ) (t : Data) → W j t → IsWhole t) → (kind : Shape)
-    → ShapeHasNoFloat kind → (s : Data) → IsDocument W contract kind s → IsWhole s
-shape_whole W contract whole shape.null n s is = rw is refl
-shape_whole W contract whole shape.bool n s is = rw is refl
-shape_whole W contract whole (shape.int k) n s is = rw is (int_whole k)
-shape_whole W contract whole (shape.non_zero k) n s is = rw is (non_zero_whole k)
-shape_whole W contract whole shape.number n s is = rw is refl
-shape_whole W contract whole shape.text n s is = rw is refl
-shape_whole W contract whole shape.char n s is = rw is refl
-shape_whole W contract whole (shape.formatted f) n s is = rw is refl
-shape_whole W contract whole shape.any n s is = rw is refl
-shape_whole W contract whole shape.bytes n s is = rw is (bytes_whole contract)
-shape_whole W contract whole shape.schema_itself n s is = rw is refl
-shape_whole W contract whole (shape.option j) n s is = rw is.2 (whole_allow_null is.0 (whole j is.0 is.1))
-shape_whole W contract whole (shape.seq j) n s is = rw is.2 (or-false (has_float is.0) ∙ whole j is.0 is.1)
-shape_whole W contract whole (shape.set j) n s is = rw is.2 (or-false (has_float is.0) ∙ whole j is.0 is.1)
-shape_whole W contract whole (shape.array j zero) n s is = rw is refl
-shape_whole W contract whole (shape.array j (suc len)) n s is = rw is.2 (or-false (has_float is.0) ∙ whole j is.0 is.1)
-shape_whole W contract whole (shape.up_to j cap) n s is = rw is.2 (or-false (has_float is.0) ∙ whole j is.0 is.1)
-shape_whole W contract whole (shape.tuple ns) n s is = rw is.2 (tuple_whole is.0 (parts_whole W whole ns is.0 is.1))
-shape_whole W contract whole (shape.struct xs closed) n s is =
-    rw is.2 (whole_map (field_keywords xs is.0) _ closed (whole_entries (field_keywords xs is.0) no_members
-    (fields_whole W whole xs is.0 n is.1) refl))
-shape_whole W contract whole (shape.newtype j) n s is = whole j s is
+texts_whole : (ns : List Text) → items_have_float (text_items ns) ≡ false
+texts_whole [] = refl
+texts_whole (n ∷ ns) = texts_whole ns
+
+map_whole : (es : List KeywordTemplate) (required : Items) (closed : Bool) → SayWhole (templates_of (map (λ e. e.1) es))
+    → items_have_float required ≡ false → SaysWhole (map_template es required closed)
+map_whole [] no_items false h g = (refl, tt)
+map_whole [] no_items true h g = (refl, (refl, tt))
+map_whole [] (item d ds) false h g = (refl, (g, tt))
+map_whole [] (item d ds) true h g = (refl, (g, (refl, tt)))
+map_whole (e ∷ es) no_items false h g = (refl, (h, tt))
+map_whole (e ∷ es) no_items true h g = (refl, (h, (refl, tt)))
+map_whole (e ∷ es) (item d ds) false h g = (refl, (h, (g, tt)))
+map_whole (e ∷ es) (item d ds) true h g = (refl, (h, (g, (refl, tt))))
+
+shape_whole : (contract : Contract) (kind : Shape) → ShapeHasNoFloat kind → SaysWhole (template_of contract kind)
+shape_whole contract shape.null n = refl
+shape_whole contract shape.bool n = refl
+shape_whole contract (shape.int k) n = (int_whole (format_of k) (least_of k) (greatest_of k)).0
+shape_whole contract (shape.non_zero k) n = either IsWhole (is_signed k) _ _
+    (int_whole (format_of k) (least_of k) (greatest_of k)).1 (int_whole (format_of k) (Some (pos 1)) (greatest_of k)).0
+shape_whole contract shape.number n = refl
+shape_whole contract shape.text n = refl
+shape_whole contract shape.char n = refl
+shape_whole contract (shape.formatted f) n = refl
+shape_whole contract shape.any n = refl
+shape_whole contract shape.bytes n = bytes_whole contract
+shape_whole contract shape.schema_itself n = refl
+shape_whole contract (shape.option j) n = tt
+shape_whole contract (shape.seq j) n = search
+shape_whole contract (shape.set j) n = search
+shape_whole contract (shape.array j zero) n = refl
+shape_whole contract (shape.array j (suc len)) n = search
+shape_whole contract (shape.up_to j cap) n = search
+shape_whole contract (shape.tuple []) n = refl
+shape_whole contract (shape.tuple (j ∷ js)) n = search (rows_whole js)
+shape_whole contract (shape.struct xs closed) n =
+    map_whole (map property xs) (text_items (required_names contract xs)) closed (properties_whole xs n)
+    (texts_whole (required_names contract xs))
+shape_whole contract (shape.newtype j) n = tt
 
 own_whole : (W : ℕ → Data → Type 0) (contract : Contract) → ((j : ℕ) (t : Data) → W j t → IsWhole t) → (o : Option Entry)
     → EntryHasNoFloat o → (s : Data) → IsOwnDocument W contract o s → IsWhole s
-own_whole W contract whole None noted s is = absurd is
-own_whole W contract whole (Some e) noted s is =
-    let own = own_document W contract e s is in
-    rw own.2 (whole_annotated e.notes own.0 noted.0 (shape_whole W contract whole e.shape noted.1 own.0 own.1))
+own_whole W contract whole None none s is = absurd is
+own_whole W contract whole (Some e) none s is =
+    let t = entry_template contract e in
+    rw is.is (whole_filled t is.parts (none.0, shape_whole contract e.shape none.1)
+    (parts_all IsWhole W whole (rows_of t) is.parts is.written))
 
 module _ (rows : List Row) (contract : Contract) (Refers : ℕ → Text → Type 0) (none : HasNoFloat rows) where
   written_by : (d : ℕ) → ((j : ℕ) (t : Data) → Describes rows contract Refers d j t → IsWhole t) → (j : ℕ) (t : Data)

@@ -1,4 +1,5 @@
 pub mod Keys
+pub mod Parts
 pub mod OwnKeys
 pub mod Resolving
 pub mod Floats

@@ -1,13 +1,14 @@
 -- The document of a row has no definitions of its own.
-use Rattle.std.proofs.Common.{◌≡◌, ℕ, zero, suc, ℤ, List, [], ◌∷◌, ◌++◌, Option, Some, None, Bool, true, false, refl, ◌∙◌, pos, inl, inr}
-use Rattle.std.specs.Prelude.{codes, is_some, if◌then◌else◌}
-use Rattle.serde_json.specs.Data.{Data, null, boolean, number, string, array, object, no_items, item, Members, no_members, member, put}
-use Rattle.serde_json.specs.Find.{get_member}
-use Rattle.serde_json.proofs.Views.{get_member-put_other}
-use Rattle.std.proofs.Common.{Ordering, Less, Equal, Greater, nat_cmp}
-use Rattle.std.specs.Prelude.{bytes_eq}
+use Rattle.std.proofs.Common.{◌≡◌, ℕ, zero, suc, ℤ, List, [], ◌∷◌, ◌++◌, map, Option, Some, None, Bool, true, false}
+use Rattle.std.proofs.Common.{refl, ◌∙◌, pos, inl, inr, Ordering, Less, Equal, Greater, nat_cmp}
+use Rattle.std.specs.Prelude.{codes, is_some, if◌then◌else◌, bytes_eq}
 use Rattle.std.specs.Ordering.{match_ordering}
 use Rattle.std.specs.Cmp.Lexicographic.{slice_cmp}
+use Rattle.std.specs.List.{AllByRecursion}
+use Rattle.serde_json.specs.Data.{Data, null, boolean, number, string, array, object, Items, no_items, item, Members, no_members}
+use Rattle.serde_json.specs.Data.{member, put}
+use Rattle.serde_json.specs.Find.{get_member}
+use Rattle.serde_json.proofs.Views.{get_member-put_other}
 use Rattle.schemars_json.specs.Json.{Text}
 use Rattle.schemars_schema.specs.Edits.{without}
 use Rattle.schemars_schema.specs.Acceptance.{is_null}
@@ -16,57 +17,79 @@ use Rattle.schemars_schema.specs.Annotations.{AreNotes}
 use Rattle.schemars_rewrite.specs.AllowNull.{null_schema, is_null_choice, is_combined, or_null, allow_null}
 use Rattle.schemars_rewrite.specs.AllowNull.{type_with_null, null_in_type, enum_with_null, null_in_enum, const_or_null}
 use Rattle.schemars_rewrite.specs.AllowNull.{null_in_const, null_in_values}
-use Rattle.schemars_rewrite.specs.NullLaw.{zero_schema}
-use Rattle.schemars_shapes.specs.declared.shape.IntKind.{IntKind}
+use Rattle.schemars_rewrite.specs.NullLaw.{zero_schema, text_items}
 use Rattle.schemars_shapes.specs.IntKind.{format_of}
 use Rattle.schemars_shapes.specs.Shape as shape
 use Rattle.schemars_shapes.specs.Shape.{Shape, Entry}
 use Rattle.schemars_types.specs.Rows.{Row, entry_at}
 use Rattle.schemars_types.specs.Meaning.{Contract, least_of, greatest_of}
-use Rattle.schemars_documents.specs.Documents.{Keyword, annotated}
+use Rattle.schemars_documents.specs.Documents.{annotated, with_title, with_meta_schema, root_document, int_keywords}
+use Rattle.schemars_documents.specs.Documents.{is_signed, required_names, reference}
+use Rattle.schemars_documents.specs.Template.{Template, finished, row, list, members, nullable, noted, rows_of, keyed}
+use Rattle.schemars_documents.specs.Template.{filled, filled_in}
+use Rattle.schemars_documents.specs.OfShape.{KeywordTemplate, property, map_template, template_of, entry_template}
 use Rattle.schemars_documents.specs.Describes.{IsOwnDocument, IsWritten, Describes}
-use Rattle.schemars_documents.proofs.ByShape.{IsDocument, own_document}
-use Rattle.schemars_documents.specs.Documents.{with_title, with_meta_schema, root_document, int_keywords, int_document}
-use Rattle.schemars_documents.specs.Documents.{non_zero_document, is_signed}
-use Rattle.schemars_documents.proofs.ByShape.{map_document, properties_keyword}
-use Rattle.schemars_documents.specs.Documents.{typed, type_alone, char_document}
-use Rattle.schemars_documents.proofs.ByShape.{required_keyword, closed_keyword}
-use Rattle.schemars_documents.specs.Documents.{formatted_document, bytes_document, schema_document}
-use Rattle.schemars_documents.proofs.ByShape.{seq_document}
-use Rattle.schemars_documents.specs.Documents.{required_names, reference}
-use Rattle.schemars_documents.proofs.ByShape.{field_keywords, set_document, array_document}
-use Rattle.schemars_documents.specs.Documents.{empty_list_document}
-use Rattle.schemars_documents.proofs.ByShape.{up_to_document, tuple_document}
 use Rattle.schemars_documents.specs.PlainTable.{IsPlainEntry, IsPlainTable}
 use Rattle.schemars_generate.proofs.Keys.{IsDefinitionsKey, IsOther, other_apart, annotation_other}
+use Rattle.schemars_generate.proofs.Parts.{either, first_all, parts_all}
 
--- ---- keywords
+-- ---- the keys of a template
 
-abbrev AllOther : List Keyword → Type 0
-AllOther [] = Unit {0}
-AllOther (e ∷ es) = IsOther e.0 × AllOther es
+abbrev HasNeither : Data → Type 0
+HasNeither d = (get_member (codes "$defs") (members_in d) ≡ None) × (get_member (codes "definitions") (members_in d) ≡ None)
 
-append_other : (xs ys : List Keyword) → AllOther xs → AllOther ys → AllOther (xs ++ ys)
-append_other [] ys h g = g
-append_other (x ∷ xs) ys h g = (h.0, append_other xs ys h.1 g)
+-- none of its own keys is one of the two
+abbrev SaysOther : Template → Type 0
+SaysOther (finished d) = HasNeither d
+SaysOther (row n) = Unit {0}
+SaysOther (list es) = Unit {0}
+SaysOther (members ks es) = AllByRecursion IsOther ks
+SaysOther (nullable t) = SaysOther t
+SaysOther (noted notes t) = AreNotes notes × SaysOther t
 
-int_other : (format : Text) (least greatest : Option ℤ) → AllOther (int_keywords format least greatest)
-int_other format None None = (refl, (refl, tt))
-int_other format None (Some z) = (refl, (refl, (refl, tt)))
-int_other format (Some z) None = (refl, (refl, (refl, tt)))
-int_other format (Some z) (Some y) = (refl, (refl, (refl, (refl, tt))))
+-- ---- each shape
 
-properties_other : (es : List Keyword) → AllOther (properties_keyword es)
-properties_other [] = tt
-properties_other (e ∷ es) = (refl, tt)
+-- whatever the bounds are
+int_other : (format : Text) (least greatest : Option ℤ) → HasNeither (object_of (int_keywords format least greatest))
+    × HasNeither (object_of (int_keywords format least greatest ++ (codes "not", zero_schema) ∷ []))
+int_other format None None = ((refl, refl), (refl, refl))
+int_other format None (Some g) = ((refl, refl), (refl, refl))
+int_other format (Some l) None = ((refl, refl), (refl, refl))
+int_other format (Some l) (Some g) = ((refl, refl), (refl, refl))
 
-required_other : (ns : List Text) → AllOther (required_keyword ns)
-required_other [] = tt
-required_other (n ∷ ns) = (refl, tt)
+map_other : (es : List KeywordTemplate) (required : Items) (closed : Bool) → SaysOther (map_template es required closed)
+map_other [] no_items false = search
+map_other [] no_items true = search
+map_other [] (item d ds) false = search
+map_other [] (item d ds) true = search
+map_other (e ∷ es) no_items false = search
+map_other (e ∷ es) no_items true = search
+map_other (e ∷ es) (item d ds) false = search
+map_other (e ∷ es) (item d ds) true = search
 
-closed_other : (closed : Bool) → AllOther (closed_keyword closed)
-closed_other true = (refl, tt)
-closed_other false = tt
+shape_other : (contract : Contract) (kind : Shape) → SaysOther (template_of contract kind)
+shape_other contract shape.null = (refl, refl)
+shape_other contract shape.bool = (refl, refl)
+shape_other contract (shape.int k) = (int_other (format_of k) (least_of k) (greatest_of k)).0
+shape_other contract (shape.non_zero k) = either HasNeither (is_signed k) _ _
+    (int_other (format_of k) (least_of k) (greatest_of k)).1 (int_other (format_of k) (Some (pos 1)) (greatest_of k)).0
+shape_other contract shape.number = (refl, refl)
+shape_other contract shape.text = (refl, refl)
+shape_other contract shape.char = (refl, refl)
+shape_other contract (shape.formatted f) = (refl, refl)
+shape_other contract shape.any = (refl, refl)
+shape_other contract shape.bytes = (refl, refl)
+shape_other contract shape.schema_itself = (refl, refl)
+shape_other contract (shape.option n) = tt
+shape_other contract (shape.seq n) = search
+shape_other contract (shape.set n) = search
+shape_other contract (shape.array n zero) = (refl, refl)
+shape_other contract (shape.array n (suc len)) = search
+shape_other contract (shape.up_to n cap) = search
+shape_other contract (shape.tuple []) = (refl, refl)
+shape_other contract (shape.tuple (n ∷ ns)) = search
+shape_other contract (shape.struct xs closed) = map_other (map property xs) (text_items (required_names contract xs)) closed
+shape_other contract (shape.newtype n) = tt
 
 module _ (key : Text) (is_key : IsDefinitionsKey key) where
   abbrev Lacks : Members → Type 0
@@ -79,59 +102,30 @@ module _ (key : Text) (is_key : IsDefinitionsKey key) where
   lacks-put : (k : Text) (d : Data) (ms : Members) → IsOther k → Lacks ms → Lacks (put k d ms)
   lacks-put k d ms other h = get_member-put_other key k d ms (other_apart key k is_key other) ∙ h
 
-  lacks-put_all : (es : List Keyword) (ms : Members) → AllOther es → Lacks ms → Lacks (put_all es ms)
-  lacks-put_all [] ms others h = h
-  lacks-put_all (e ∷ es) ms others h = lacks-put_all es (put e.0 e.1 ms) others.1 (lacks-put e.0 e.1 ms others.0 h)
-
-  lacks : (es : List Keyword) → AllOther es → Lacks (put_all es no_members)
-  lacks es others = lacks-put_all es no_members others refl
+  lacks-keyed : (ks : List Text) (ds : List Data) (ms : Members) → AllByRecursion IsOther ks → Lacks ms
+      → Lacks (put_all (keyed ks ds) ms)
+  lacks-keyed [] ds ms others h = h
+  lacks-keyed (k ∷ ks) [] ms others h = h
+  lacks-keyed (k ∷ ks) (d ∷ ds) ms others h = lacks-keyed ks ds (put k d ms) others.1 (lacks-put k d ms others.0 h)
 
   -- where both keys are told apart by computation
-  lacks_both : (ms : Members) → get_member (codes "$defs") ms ≡ None → get_member (codes "definitions") ms ≡ None → Lacks ms
-  lacks_both ms a b = go is_key
+  lacks_both : (d : Data) → HasNeither d → LacksIn d
+  lacks_both d h = go is_key
     where
-      go : IsDefinitionsKey key → Lacks ms
-      go (inl is) = rw is a
-      go (inr is) = rw is b
+      go : IsDefinitionsKey key → LacksIn d
+      go (inl is) = rw is h.0
+      go (inr is) = rw is h.1
 
   lacks-put_members : (notes ms : Members) → AreNotes notes → Lacks ms → Lacks (put_members notes ms)
-  lacks-put_members no_members ms noted h = h
-  lacks-put_members (member k d notes) ms noted h = lacks-put_members notes (put k d ms) noted.1
-      (lacks-put k d ms (annotation_other k noted.0) h)
+  lacks-put_members no_members ms are h = h
+  lacks-put_members (member k d notes) ms are h = lacks-put_members notes (put k d ms) are.1
+      (lacks-put k d ms (annotation_other k are.0) h)
 
   lacks_annotated : (notes : Members) (s : Data) → AreNotes notes → LacksIn s → LacksIn (annotated notes s)
-  lacks_annotated no_members s noted h = h
-  lacks_annotated (member k d notes) s noted h = lacks-put_members (member k d notes) (members_in s) noted h
+  lacks_annotated no_members s are h = h
+  lacks_annotated (member k d notes) s are h = lacks-put_members (member k d notes) (members_in s) are h
 
-  -- ---- each shape
-
-  lacks_int : (kind : IntKind) → LacksIn (int_document kind)
-  lacks_int kind = lacks (int_keywords (format_of kind) (least_of kind) (greatest_of kind))
-      (int_other (format_of kind) (least_of kind) (greatest_of kind))
-
-  lacks_non_zero : (kind : IntKind) → LacksIn (non_zero_document kind)
-  lacks_non_zero kind = go (is_signed kind)
-    where
-      go : (b : Bool)
-          → LacksIn (
-          if b then object_of (int_keywords (format_of kind) (least_of kind) (greatest_of kind) ++ (codes "not", zero_schema) ∷ [])
-          else object_of (int_keywords (format_of kind) (Some (pos 1)) (greatest_of kind))
-          )
-      go true =
-          lacks (int_keywords (format_of kind) (least_of kind) (greatest_of kind) ++ (codes "not", zero_schema) ∷ [])
-          (append_other (int_keywords (format_of kind) (least_of kind) (greatest_of kind)) ((codes "not", zero_schema) ∷ [])
-          (int_other (format_of kind) (least_of kind) (greatest_of kind)) (refl, tt))
-      go false = lacks (int_keywords (format_of kind) (Some (pos 1)) (greatest_of kind))
-          (int_other (format_of kind) (Some (pos 1)) (greatest_of kind))
-
-  lacks_map : (es : List Keyword) (ns : List Text) (closed : Bool) → LacksIn (map_document es ns closed)
-  lacks_map es ns closed =
-      let rest : List Keyword = properties_keyword es ++ (required_keyword ns ++ closed_keyword closed) in
-      lacks (typed (codes "object") ∷ rest) (
-        refl,
-        append_other (properties_keyword es) (required_keyword ns ++ closed_keyword closed)
-            (properties_other es) (append_other (required_keyword ns) (closed_keyword closed) (required_other ns) (closed_other closed)),
-      )
+  -- ---- filled templates
 
   lacks_null_in_type : (o : Option Data) (ms : Members) → Lacks ms → Lacks (null_in_type o ms)
   lacks_null_in_type None ms h = h
@@ -171,7 +165,7 @@ module _ (key : Text) (is_key : IsDefinitionsKey key) where
 
   lacks_allow_null : (s : Data) → LacksIn s → LacksIn (allow_null s)
   lacks_allow_null (boolean true) h = refl
-  lacks_allow_null (boolean false) h = lacks_both (members_in null_schema) refl refl
+  lacks_allow_null (boolean false) h = lacks_both null_schema (refl, refl)
   lacks_allow_null (object ms) h = go (is_null_choice (object ms)) (is_combined (object ms))
     where
       typed_members : Members
@@ -180,7 +174,7 @@ module _ (key : Text) (is_key : IsDefinitionsKey key) where
       go : (stays b : Bool) → LacksIn (if stays then object ms else if b then or_null (object ms) else
           object (null_in_values (null_in_type (get_member (codes "type") ms) ms)))
       go true b = h
-      go false true = lacks_both (members_in (or_null (object ms))) refl refl
+      go false true = lacks_both (or_null (object ms)) (refl, refl)
       go false false = lacks_null_in_const (get_member (codes "const") typed_members) typed_members
           (lacks_null_in_type (get_member (codes "type") ms) ms h)
   lacks_allow_null null h = refl
@@ -188,48 +182,26 @@ module _ (key : Text) (is_key : IsDefinitionsKey key) where
   lacks_allow_null (string t) h = refl
   lacks_allow_null (array ds) h = refl
 
-  lacks_bytes : (contract : Contract) → LacksIn (bytes_document contract)
-  lacks_bytes contract = lacks_both (members_in (bytes_document contract)) refl refl
-
-  lacks_tuple : (ts : List Data) → LacksIn (tuple_document ts)
-  lacks_tuple [] = lacks_both (members_in empty_list_document) refl refl
-  lacks_tuple (t ∷ ts) = lacks_both (members_in (tuple_document (t ∷ ts))) refl refl
-
-  shape_lacks : (W : ℕ → Data → Type 0) (contract : Contract) → ((j : ℕ) (t : Data) → W j t → LacksIn t) → (kind : Shape) (s : Data)
-      → IsDocument W contract kind s → LacksIn s
-  shape_lacks W contract all shape.null s is = rw is (lacks_both (members_in (type_alone (codes "null"))) refl refl)
-  shape_lacks W contract all shape.bool s is = rw is (lacks_both (members_in (type_alone (codes "boolean"))) refl refl)
-  shape_lacks W contract all (shape.int k) s is = rw is (lacks_int k)
-  shape_lacks W contract all (shape.non_zero k) s is = rw is (lacks_non_zero k)
-  shape_lacks W contract all shape.number s is = rw is (lacks_both (members_in (type_alone (codes "number"))) refl refl)
-  shape_lacks W contract all shape.text s is = rw is (lacks_both (members_in (type_alone (codes "string"))) refl refl)
-  shape_lacks W contract all shape.char s is = rw is (lacks_both (members_in char_document) refl refl)
-  shape_lacks W contract all (shape.formatted f) s is = rw is (lacks_both (members_in (formatted_document f)) refl refl)
-  shape_lacks W contract all shape.any s is = rw is refl
-  shape_lacks W contract all shape.bytes s is = rw is (lacks_bytes contract)
-  shape_lacks W contract all shape.schema_itself s is = rw is (lacks_both (members_in schema_document) refl refl)
-  shape_lacks W contract all (shape.option n) s is = rw is.2 (lacks_allow_null is.0 (all n is.0 is.1))
-  shape_lacks W contract all (shape.seq n) s is = rw is.2 (lacks_both (members_in (seq_document is.0)) refl refl)
-  shape_lacks W contract all (shape.set n) s is = rw is.2 (lacks_both (members_in (set_document is.0)) refl refl)
-  shape_lacks W contract all (shape.array n zero) s is = rw is (lacks_both (members_in empty_list_document) refl refl)
-  shape_lacks W contract all (shape.array n (suc len)) s is = rw is.2 (lacks_both (members_in (array_document (suc len) is.0)) refl refl)
-  shape_lacks W contract all (shape.up_to n cap) s is = rw is.2 (lacks_both (members_in (up_to_document cap is.0)) refl refl)
-  shape_lacks W contract all (shape.tuple ns) s is = rw is.2 (lacks_tuple is.0)
-  shape_lacks W contract all (shape.struct xs closed) s is = rw is.2
-      (lacks_map (field_keywords xs is.0) (required_names contract xs) closed)
-  shape_lacks W contract all (shape.newtype n) s is = all n s is
+  lacks_filled : (t : Template) (ts : List Data) → SaysOther t → AllByRecursion LacksIn ts → LacksIn (filled t ts)
+  lacks_filled (finished d) ts is h = lacks_both d is
+  lacks_filled (row n) ts is h = first_all LacksIn refl ts h
+  lacks_filled (list es) ts is h = refl
+  lacks_filled (members ks es) ts is h = lacks-keyed ks (filled_in es ts) no_members is refl
+  lacks_filled (nullable t) ts is h = lacks_allow_null (filled t ts) (lacks_filled t ts is h)
+  lacks_filled (noted notes t) ts is h = lacks_annotated notes (filled t ts) is.0 (lacks_filled t ts is.1 h)
 
   own_lacks : (W : ℕ → Data → Type 0) (contract : Contract) → ((j : ℕ) (t : Data) → W j t → LacksIn t) → (o : Option Entry)
       → IsPlainEntry o → (s : Data) → IsOwnDocument W contract o s → LacksIn s
   own_lacks W contract all None plain s is = absurd is
   own_lacks W contract all (Some e) plain s is =
-      let own = own_document W contract e s is in
-      rw own.2 (lacks_annotated e.notes own.0 plain.0 (shape_lacks W contract all e.shape own.0 own.1))
+      let t = entry_template contract e in
+      rw is.is (lacks_filled t is.parts (plain.0, shape_other contract e.shape)
+      (parts_all LacksIn W all (rows_of t) is.parts is.written))
 
   module _ (rows : List Row) (contract : Contract) (Refers : ℕ → Text → Type 0) (plain : IsPlainTable rows) where
     written_lacks : (d : ℕ) → ((j : ℕ) (t : Data) → Describes rows contract Refers d j t → LacksIn t) → (j : ℕ) (t : Data)
         → IsWritten Refers (Describes rows contract Refers d) j t → LacksIn t
-    written_lacks d own j t (inl h) = rw h.2 (lacks_both (members_in (reference h.0)) refl refl)
+    written_lacks d own j t (inl h) = rw h.2 (lacks_both (reference h.0) (refl, refl))
     written_lacks d own j t (inr h) = own j t h
 
     described_lacks : (d n : ℕ) (t : Data) → Describes rows contract Refers d n t → LacksIn t
