@@ -5,7 +5,7 @@ use Rattle.schemars_json.specs.Json.{Text}
 use Rattle.schemars_schema.specs.References.{references}
 use Rattle.schemars_types.specs.Edges.{height}
 use Rattle.schemars_documents.specs.ContractOf.{contract_of}
-use Rattle.schemars_documents.specs.Describes.{Describes, IsWritten, ArePartsWritten, references_of}
+use Rattle.schemars_templates.specs.Describes.{Describes, IsWritten, ArePartsWritten, references_of}
 use Rattle.schemars_documents.specs.PlainTable.{IsPlainTable}
 use Rattle.schemars_naming.specs.Work.{Plan, Work, Refers, IsKey, reference_to}
 use Rattle.schemars_build.specs.Missing.{depth_in_place}

@@ -1,14 +1,2 @@
 pub mod Annotating
-pub mod Rows
-pub mod ByShape
-pub mod Templates
-pub mod Mapping
-pub mod EachShape
-pub mod Maps
-pub mod Structs
-pub mod Meanings
-pub mod Notes
-pub mod ReferencesKept
-pub mod References
-pub mod Schemas
-pub mod Following
+pub mod Texts

@@ -1,10 +1,8 @@
-//! The documents of shapes, from finished subschemas, and what they say.
+//! Documents without parts, and what is added to a document.
 #![tactic(auto)]
 
 mod contract;
 pub mod documents;
 pub mod integers;
-pub mod shapes;
-pub mod template;
 
 pub use contract::Contract;

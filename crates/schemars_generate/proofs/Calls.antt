@@ -19,7 +19,7 @@ use Rattle.schemars_types.specs.Meaning.{Contract}
 use Rattle.schemars_documents.specs.ContractOf.{contract_of}
 use Rattle.schemars_naming.specs.Naming.{name_of, IsOneToOne}
 use Rattle.schemars_documents.specs.Documents.{reference, root_document}
-use Rattle.schemars_documents.specs.Describes.{IsOwnDocument, IsWritten, Describes}
+use Rattle.schemars_templates.specs.Describes.{IsOwnDocument, IsWritten, Describes}
 use Rattle.schemars_generate.specs.Keys.{HasKeysOnce}
 use Rattle.schemars_documents.specs.PlainTable.{IsPlainTable, HasNoFloat}
 use Rattle.schemars_naming.specs.Work.{Plan, Work, IsKey, StandsApart, Refers, IsDefinition, Step, reference_to}
@@ -28,7 +28,7 @@ use Rattle.schemars_generate.specs.Headline.{Headline, IsDraftPath, IsRootOf, Is
 use Rattle.schemars_build.specs.Parts.{IsSubschema}
 use Rattle.schemars_build.specs.Missing.{depth_in_place}
 use Rattle.schemars_generate.specs.Refusals.{CannotPlace}
-use Rattle.schemars_documents.proofs.Mapping.{own_map, written_map, describes-wider}
+use Rattle.schemars_templates.proofs.Mapping.{own_map, written_map, describes-wider}
 use Rattle.schemars_schema.specs.References.{references}
 use Rattle.schemars_build.specs.Reached.{AreReached}
 use Rattle.schemars_build.proofs.Steps.{Wider, step_wider, definition-wider}

@@ -25,11 +25,11 @@ use Rattle.schemars_types.specs.Rows.{Row, entry_at}
 use Rattle.schemars_types.specs.Meaning.{Contract, Deserialize, Serialize, least_of, greatest_of}
 use Rattle.schemars_documents.specs.Documents.{annotated, with_title, with_meta_schema, root_document, int_keywords}
 use Rattle.schemars_documents.specs.Documents.{is_signed, bytes_document, required_names}
-use Rattle.schemars_documents.specs.Template.{Template, finished, row, list, members, nullable, noted, Templates, no_templates}
-use Rattle.schemars_documents.specs.Template.{template, rows_of, left, keyed, filled, filled_in}
-use Rattle.schemars_documents.specs.OfShape.{KeywordTemplate, templates_of, property, map_template, template_of}
-use Rattle.schemars_documents.specs.OfShape.{entry_template}
-use Rattle.schemars_documents.specs.Describes.{IsOwnDocument, IsWritten, Describes}
+use Rattle.schemars_templates.specs.Template.{Template, finished, row, list, members, nullable, noted, Templates, no_templates}
+use Rattle.schemars_templates.specs.Template.{template, rows_of, left, keyed, filled, filled_in}
+use Rattle.schemars_templates.specs.OfShape.{KeywordTemplate, templates_of, property, map_template, template_of}
+use Rattle.schemars_templates.specs.OfShape.{entry_template}
+use Rattle.schemars_templates.specs.Describes.{IsOwnDocument, IsWritten, Describes}
 use Rattle.schemars_documents.specs.PlainTable.{FieldsHaveNoFloat, ShapeHasNoFloat, EntryHasNoFloat, HasNoFloat}
 use Rattle.schemars_schema.specs.Edits.{without, replaced}
 use Rattle.schemars_schema.specs.Placing.{placed, placed_at, tokens_of}

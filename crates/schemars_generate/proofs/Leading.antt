@@ -19,16 +19,16 @@ use Rattle.schemars_shapes.specs.Shape.{Shape, Entry, numbers_of, same_value_num
 use Rattle.schemars_types.specs.Rows.{Row, entry_at}
 use Rattle.schemars_types.specs.Edges.{numbers_at, same_value_numbers_at, rank}
 use Rattle.schemars_types.specs.Faults.{IsChecked}
-use Rattle.schemars_documents.specs.Describes.{IsWritten, Describes}
+use Rattle.schemars_templates.specs.Describes.{IsWritten, Describes}
 use Rattle.schemars_documents.specs.PlainTable.{IsPlainTable}
 use Rattle.schemars_documents.specs.ContractOf.{contract_of}
 use Rattle.schemars_naming.specs.Naming.{Naming, IsOneToOne, name_of}
 use Rattle.schemars_naming.specs.Work.{Plan, Work, IsKey, Refers, IsDefinition, reference_to}
 use Rattle.schemars_generate.specs.Headline.{AcceptsItsValues}
 use Rattle.schemars_generate.proofs.Keys.{key_here, key_later, key_cases}
-use Rattle.schemars_documents.proofs.Mapping.{describes-wider, written_map}
-use Rattle.schemars_documents.proofs.Meanings.{IsSame}
-use Rattle.schemars_documents.proofs.Following.{References, InList, Setting, written_says, described_schema}
+use Rattle.schemars_templates.proofs.Mapping.{describes-wider, written_map}
+use Rattle.schemars_templates.proofs.Meanings.{IsSame}
+use Rattle.schemars_templates.proofs.Following.{References, InList, Setting, written_says, described_schema}
 
 -- ---- ranks
 

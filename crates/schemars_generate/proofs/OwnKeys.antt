@@ -25,10 +25,10 @@ use Rattle.schemars_types.specs.Rows.{Row, entry_at}
 use Rattle.schemars_types.specs.Meaning.{Contract, least_of, greatest_of}
 use Rattle.schemars_documents.specs.Documents.{annotated, with_title, with_meta_schema, root_document, int_keywords}
 use Rattle.schemars_documents.specs.Documents.{is_signed, required_names, reference}
-use Rattle.schemars_documents.specs.Template.{Template, finished, row, list, members, nullable, noted, rows_of, keyed}
-use Rattle.schemars_documents.specs.Template.{filled, filled_in}
-use Rattle.schemars_documents.specs.OfShape.{KeywordTemplate, property, map_template, template_of, entry_template}
-use Rattle.schemars_documents.specs.Describes.{IsOwnDocument, IsWritten, Describes}
+use Rattle.schemars_templates.specs.Template.{Template, finished, row, list, members, nullable, noted, rows_of, keyed}
+use Rattle.schemars_templates.specs.Template.{filled, filled_in}
+use Rattle.schemars_templates.specs.OfShape.{KeywordTemplate, property, map_template, template_of, entry_template}
+use Rattle.schemars_templates.specs.Describes.{IsOwnDocument, IsWritten, Describes}
 use Rattle.schemars_documents.specs.PlainTable.{IsPlainEntry, IsPlainTable}
 use Rattle.schemars_generate.proofs.Keys.{IsDefinitionsKey, IsOther, other_apart, annotation_other}
 use Rattle.schemars_generate.proofs.Parts.{either, first_all, parts_all}

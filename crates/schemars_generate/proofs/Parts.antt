@@ -3,9 +3,9 @@ use Rattle.std.proofs.Common.{ℕ, List, [], ◌∷◌}
 use Rattle.std.specs.Prelude.{Bool, true, false, if◌then◌else◌}
 use Rattle.std.specs.List.{AllByRecursion}
 use Rattle.serde_json.specs.Data.{Data, boolean}
-use Rattle.schemars_documents.specs.Template.{Template, finished, row, list, members, nullable, noted, Templates, no_templates}
-use Rattle.schemars_documents.specs.Template.{template, first, behind, left, left_in}
-use Rattle.schemars_documents.specs.Describes.{ArePartsWritten}
+use Rattle.schemars_templates.specs.Template.{Template, finished, row, list, members, nullable, noted, Templates, no_templates}
+use Rattle.schemars_templates.specs.Template.{template, first, behind, left, left_in}
+use Rattle.schemars_templates.specs.Describes.{ArePartsWritten}
 
 module _ (P : Data → Type 0) where
   pub either : (b : Bool) (d e : Data) → P d → P e → P (if b then d else e)

@@ -14,19 +14,19 @@ use Rattle.schemars_types.specs.Rows.{name_at}
 use Rattle.schemars_types.specs.Edges.{height}
 use Rattle.schemars_types.specs.Faults.{IsChecked}
 use Rattle.schemars_documents.specs.Documents.{root_document}
-use Rattle.schemars_documents.specs.Describes.{IsWritten, Describes}
+use Rattle.schemars_templates.specs.Describes.{IsWritten, Describes}
 use Rattle.schemars_documents.specs.PlainTable.{IsPlainTable}
 use Rattle.schemars_documents.specs.ContractOf.{contract_of}
 use Rattle.schemars_naming.specs.Naming.{IsOneToOne}
 use Rattle.schemars_naming.specs.Work.{Plan, Work, Refers}
 use Rattle.schemars_generate.specs.State.{State, plan_of, work_of, HasOwnDefinitions}
 use Rattle.schemars_generate.specs.Headline.{IsRootOf, MeansItsTypeIn, Headline, SubschemaHeadline, IsDraftPath, with_definitions}
-use Rattle.schemars_documents.proofs.Notes.{judge-root}
+use Rattle.schemars_templates.proofs.Notes.{judge-root}
 use Rattle.schemars_generate.specs.Keys.{HasKeysOnce}
 use Rattle.schemars_generate.proofs.Keys.{all_members, IsDefinitionsKey}
 use Rattle.schemars_generate.proofs.OwnKeys.{no_definitions_in}
-use Rattle.schemars_documents.proofs.Mapping.{describes-wider, written_map}
-use Rattle.schemars_documents.proofs.Following.{described_schema}
+use Rattle.schemars_templates.proofs.Mapping.{describes-wider, written_map}
+use Rattle.schemars_templates.proofs.Following.{described_schema}
 use Rattle.schemars_generate.proofs.Resolving.{all_pass-resolve, Resolve, AllResolve, described_resolved}
 use Rattle.schemars_generate.proofs.Resolving.{written_resolved, root_resolved, placed_resolved}
 use Rattle.schemars_generate.proofs.Leading.{HoldsDefinitions, IsItsRoot, MayRefer, AllStand, stands_now, refers_may}

@@ -13,7 +13,7 @@ use Rattle.schemars_types.specs.Meaning.{Contract, belongs}
 use Rattle.schemars_documents.specs.PlainTable.{IsPlainTable}
 use Rattle.schemars_documents.specs.ContractOf.{contract_of}
 use Rattle.schemars_documents.specs.Documents.{root_document}
-use Rattle.schemars_documents.specs.Describes.{Describes}
+use Rattle.schemars_templates.specs.Describes.{Describes}
 use Rattle.schemars_naming.specs.Work.{Work, Refers, Step}
 use Rattle.schemars_build.specs.Reached.{AreReached}
 use Rattle.schemars_generate.specs.State.{State, plan_of, work_of}

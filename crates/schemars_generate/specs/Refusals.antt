@@ -16,7 +16,7 @@ use Rattle.schemars_generate.specs.declared.error.GenerateError.TheVariants.{Not
 use Rattle.schemars_generate.specs.declared.error.GenerateError.TheVariants.{DefinitionsPath}
 use Rattle.schemars_documents.specs.ContractOf.{contract_of}
 use Rattle.schemars_documents.specs.Documents.{root_document}
-use Rattle.schemars_documents.specs.Describes.{Describes}
+use Rattle.schemars_templates.specs.Describes.{Describes}
 use Rattle.schemars_naming.specs.Work.{Work, Refers, Step}
 use Rattle.schemars_generate.specs.State.{State, plan_of, work_of}
 use Rattle.schemars_generate.specs.Headline.{with_definitions}

@@ -12,7 +12,7 @@ use Rattle.schemars_types.specs.Edges.{is_inline_at}
 use Rattle.schemars_documents.specs.declared.contract.Contract.{Contract}
 use Rattle.schemars_documents.specs.ContractOf.{contract_of}
 use Rattle.schemars_naming.specs.Naming.{Named, Naming, name_of, IsFirstUnused}
-use Rattle.schemars_documents.specs.Describes.{Describes}
+use Rattle.schemars_templates.specs.Describes.{Describes}
 
 -- what stays the same during a call: the table, whose values the documents are for, where the definitions stand, and
 -- the row whose root document is made

@@ -16,8 +16,8 @@ use Rattle.schemars_types.specs.Edges.{is_inline_at, height}
 use Rattle.schemars_documents.specs.ContractOf.{contract_of}
 use Rattle.schemars_documents.specs.Documents.{reference}
 use Rattle.schemars_schema.specs.SchemaData.{IsSchema}
-use Rattle.schemars_documents.specs.Template.{Template, rows_of, filled}
-use Rattle.schemars_documents.specs.OfShape.{entry_template}
+use Rattle.schemars_templates.specs.Template.{Template, rows_of, filled}
+use Rattle.schemars_templates.specs.OfShape.{entry_template}
 use Rattle.schemars_naming.specs.Naming.{name_of}
 use Rattle.schemars_naming.specs.Work.{Work, Step, undone, reference_to}
 use Rattle.schemars_naming.proofs.Given.{gives-keeps}

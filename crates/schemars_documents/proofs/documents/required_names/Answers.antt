@@ -5,7 +5,7 @@ use Rattle.serde_json.specs.View.{view}
 use Rattle.schemars_shapes.specs.Shape.{field_of}
 use Rattle.schemars_documents.specs.ContractOf.{contract_of}
 use Rattle.schemars_documents.specs.Documents.{required_names}
-use Rattle.schemars_documents.proofs.Mapping.{items_view-texts}
+use Rattle.schemars_documents.proofs.Texts.{items_view-texts}
 use Rattle.schemars_documents.proofs.documents.required_names.Goals as goal
 
 pub returns : goal.returns

@@ -5,7 +5,7 @@ use Rattle.schemars_types.specs.Rows.{name_at}
 use Rattle.schemars_types.specs.Edges.{height}
 use Rattle.schemars_documents.specs.ContractOf.{contract_of}
 use Rattle.schemars_documents.specs.Documents.{root_document}
-use Rattle.schemars_documents.specs.Describes.{Describes}
+use Rattle.schemars_templates.specs.Describes.{Describes}
 use Rattle.schemars_documents.specs.PlainTable.{IsPlainTable}
 use Rattle.schemars_naming.specs.Work.{Plan, Refers}
 use Rattle.schemars_build.specs.Reached.{AreReached}

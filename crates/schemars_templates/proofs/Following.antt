@@ -1,0 +1,271 @@
+-- A document accepts just what belongs to its row, through references and rows that lead back to themselves.
+use Rattle.std.proofs.Common.{◌≡◌, ◌⊎◌, inl, inr, ℕ, zero, suc, ◌+◌, ◌*◌, ◌<◌, ◌≤◌, List, [], ◌∷◌, Option, Some, None}
+use Rattle.std.proofs.Common.{Bool, true, false, refl, sym, ap, ◌∙◌, arith, add-one, true≢false}
+use Rattle.std.specs.Prelude.{nat_lt, if◌then◌else◌, length}
+use Rattle.std.proofs.Math.Nat.{mul-le-mul_right}
+use Rattle.std.proofs.lemmas.Bool.Decides.{nat_tests}
+use Rattle.serde_json.specs.Data.{Data, depth}
+use Rattle.schemars_schema.specs.Verdict.{verdict}
+use Rattle.schemars_json.specs.Json.{Text, IsJson}
+use Rattle.schemars_schema.specs.SchemaData.{IsSchema}
+use Rattle.schemars_schema.specs.Lookup.{resolved}
+use Rattle.schemars_schema.specs.Acceptance.{Patterns, Judge, draft2020_12, judge, read_data, all_keywords, follow}
+use Rattle.schemars_schema.proofs.Verdicts.{both-yes}
+use Rattle.schemars_rewrite.specs.NullLaw.{IsNullable, context2020_12}
+use Rattle.schemars_rewrite.proofs.Nulls.{nullable-schema}
+use Rattle.schemars_shapes.specs.Shape.{Entry}
+use Rattle.schemars_types.specs.Rows.{Row, entry_at}
+use Rattle.schemars_types.specs.Meaning.{Contract, has_shape, belongs_within}
+use Rattle.schemars_documents.specs.Documents.{reference}
+use Rattle.schemars_templates.specs.Describes.{IsOwnDocument, IsWritten, Describes}
+use Rattle.schemars_templates.proofs.ByShape.{own_document}
+use Rattle.schemars_documents.specs.PlainTable.{IsPlainEntry, IsPlainTable}
+use Rattle.schemars_templates.proofs.Notes.{judge-annotated, nullable-annotated}
+use Rattle.schemars_templates.proofs.Meanings.{IsSame, Inside, shape_nullable, shape_says}
+
+-- ---- the references of a document
+
+-- rows, each with a reference to it
+abbrev pub References : Type 0
+References = List (ℕ × Text)
+
+-- r is a reference to row n
+abbrev pub InList : References → ℕ → Text → Type 0
+InList [] n r = ⊥
+InList (x ∷ xs) n r = ((x.0 ≡ n) × (x.1 ≡ r)) ⊎ InList xs n r
+
+-- ---- counting down
+
+closer : (a b h r : ℕ) → a < b → r < h → a * h + r < b * h
+closer a b h r less small = grind (arith, mul-le-mul_right)
+
+-- how many of the rows that are referred to rank below r
+lower : (ℕ → ℕ) → ℕ → References → ℕ
+lower rank r [] = 0
+lower rank r (x ∷ xs) = (if nat_lt (rank x.0) r then 1 else 0) + lower rank r xs
+
+step_up : (x a b : ℕ) → a ≤ b → (if nat_lt x a then 1 else 0) ≤ (if nat_lt x b then 1 else 0)
+step_up x a b h = grind (arith, nat_tests)
+
+step_in : (x b : ℕ) → x < b → (if nat_lt x x then 1 else 0) < (if nat_lt x b then 1 else 0)
+step_in x b h = grind (arith, nat_tests)
+
+lower_few : (rank : ℕ → ℕ) (r : ℕ) (xs : References) → lower rank r xs ≤ length xs
+unfolding lower
+lower_few rank r [] = omega arith
+lower_few rank r (x ∷ xs) = go (nat_lt (rank x.0) r) (lower_few rank r xs)
+  where
+    go : (b : Bool) → lower rank r xs ≤ length xs → (if b then 1 else 0) + lower rank r xs ≤ suc (length xs)
+    go true h = omega arith
+    go false h = omega arith
+
+lower_more : (rank : ℕ → ℕ) (a b : ℕ) (xs : References) → a ≤ b → lower rank a xs ≤ lower rank b xs
+unfolding lower
+lower_more rank a b [] h = omega arith
+lower_more rank a b (x ∷ xs) h = let e = step_up (rank x.0) a b h in let t = lower_more rank a b xs h in omega arith
+
+-- a row that is referred to counts at higher ranks alone
+lower_most : (rank : ℕ → ℕ) (j b : ℕ) (r : Text) (xs : References) → InList xs j r → rank j < b → lower rank (rank j) xs < lower rank b xs
+unfolding lower
+lower_most rank j b r [] is h = absurd is
+lower_most rank j b r (x ∷ xs) (inl is) h =
+    let a = step_in (rank j) b h in
+    let more = lower_more rank (rank j) b xs (omega arith) in
+    rw (is.0) (omega arith)
+lower_most rank j b r (x ∷ xs) (inr is) h =
+    let a = step_up (rank x.0) (rank j) b (omega arith) in
+    let more = lower_most rank j b r xs is h in
+    omega arith
+
+-- ---- each document of a plain table is one to which null can be added
+
+module _ (rows : List Row) (contract : Contract) (Refers : ℕ → Text → Type 0) (plain : IsPlainTable rows) where
+  abbrev In : ℕ → ℕ → Data → Type 0
+  In d = IsWritten Refers (Describes rows contract Refers d)
+
+  reference_nullable : (r : Text) → IsNullable (reference r)
+  reference_nullable r = inl (record { combined = refl; offers = λ stays. absurd (true≢false (sym stays)) })
+
+  own_nullable : (d : ℕ) → ((j : ℕ) (t : Data) → In d j t → IsNullable t) → (o : Option Entry) → IsPlainEntry o → (t : Data)
+      → IsOwnDocument (In d) contract o t → IsNullable t
+  own_nullable d ready None noted t is = absurd is
+  own_nullable d ready (Some e) noted t is =
+      let own = own_document (In d) contract e t is in
+      rw own.2 (nullable-annotated e.notes own.0 noted.0 (shape_nullable (In d) contract ready e.shape own.0 own.1))
+
+  written_by : (d : ℕ) → ((j : ℕ) (t : Data) → Describes rows contract Refers d j t → IsNullable t) → (j : ℕ) (t : Data) → In d j t
+      → IsNullable t
+  written_by d own j t (inl h) = rw h.2 (reference_nullable h.0)
+  written_by d own j t (inr h) = own j t h
+
+  pub described_nullable : (d n : ℕ) (t : Data) → Describes rows contract Refers d n t → IsNullable t
+  unfolding Describes
+  described_nullable zero n t h = absurd h
+  described_nullable (suc d) n t h = own_nullable d (written_by d (described_nullable d)) (entry_at rows n) (plain n) t h
+
+  pub written_nullable : (d n : ℕ) (t : Data) → In d n t → IsNullable t
+  written_nullable d n t h = written_by d (described_nullable d) n t h
+
+  pub described_schema : (d n : ℕ) (t : Data) → Describes rows contract Refers d n t → IsSchema t
+  described_schema d n t h = nullable-schema t (described_nullable d n t h)
+
+-- ---- what is given: a plain table whose ranks fall where a part has the row's own values, and a document in which
+-- each reference leads to what says the same as its row's document
+
+pub record Setting : Type 0 where
+  pub rows : List Row
+  pub contract : Contract
+  pub patterns : Patterns
+  pub document : Data
+  pub refs : References
+  pub resolves : (j : ℕ) (r : Text) → InList refs j r
+      → (found : Data) × (s : Data) × (d : ℕ) × (resolved document r ≡ Some found)
+      × ((f : Text → Judge) → judge (context2020_12 patterns f) found ≡ judge (context2020_12 patterns f) s)
+      × Describes rows contract (InList refs) d j s
+  pub plain : IsPlainTable rows
+  pub rank : ℕ → ℕ
+  pub ranks : ℕ
+  pub low_rank : (n : ℕ) (e : Entry) → entry_at rows n ≡ Some e → rank n < ranks
+  pub ranked : (n : ℕ) (e : Entry) (j : ℕ) → entry_at rows n ≡ Some e → IsSame e.shape j → rank j < rank n
+
+module _ (s : Setting) where
+  open s use {rows, contract, patterns, document, refs, rank, ranks}
+
+  abbrev D : ℕ → ℕ → Data → Type 0
+  D = Describes rows contract (InList refs)
+
+  abbrev W : ℕ → ℕ → Data → Type 0
+  W d = IsWritten (InList refs) (D d)
+
+  described_entry : (d n : ℕ) (t : Data) → D d n t → (e : Entry) × (entry_at rows n ≡ Some e)
+  unfolding Describes
+  described_entry zero n t h = absurd h
+  described_entry (suc d) n t h = go (entry_at rows n) refl h
+    where
+      go : (o : Option Entry) → entry_at rows n ≡ o → IsOwnDocument (W d) contract o t → (e : Entry) × (entry_at rows n ≡ Some e)
+      go None at is = absurd is
+      go (Some e) at is = (e, at)
+
+  described_low : (d n : ℕ) (t : Data) → D d n t → rank n < ranks
+  described_low d n t h = let e = described_entry d n t h in s.low_rank n e.0 e.1
+
+  referred_low : (j : ℕ) (r : Text) → InList refs j r → rank j < ranks
+  referred_low j r is = let to = s.resolves j r is in described_low to.2 j to.1 to.5
+
+  hops : ℕ → ℕ
+  hops n = lower rank (rank n) refs
+
+  most_hops : ℕ
+  most_hops = suc (length refs)
+
+  few_hops : (n : ℕ) → hops n < most_hops
+  unfolding hops most_hops
+  few_hops n = let e = lower_few rank (rank n) refs in omega arith
+
+  abbrev ready : (d j : ℕ) (t : Data) → W d j t → IsNullable t
+  ready = written_nullable rows contract (InList refs) s.plain
+
+  -- ---- by references still allowed, and by depth
+
+  abbrev at_most : ℕ → Text → Judge
+  at_most n = follow draft2020_12 document patterns n
+
+  abbrev Good : ℕ → Type 0
+  Good n =
+      (j : ℕ) (r : Text) → InList refs j r → (w : Data) → IsJson w → (m : ℕ) → depth w * most_hops + hops j < n
+      → depth w * ranks + rank j < m
+      → (at_most n r).fits w ≡ verdict (belongs_within rows contract patterns m j w)
+
+  abbrev Said : ℕ → ℕ → Type 0
+  Said n d =
+      (k : ℕ) (t : Data) → D d k t → (v : Data) → IsJson v → (m : ℕ) → depth v * most_hops + hops k ≤ n → depth v * ranks + rank k < m
+      → (judge (context2020_12 patterns (at_most n)) t).fits v ≡ verdict (belongs_within rows contract patterns m k v)
+
+  reference_says : (f : Text → Judge) (r : Text) (v : Data) → (judge (context2020_12 patterns f) (reference r)).fits v ≡ (f r).fits v
+  unfolding read_data all_keywords
+  reference_says f r v = both-yes ((f r).fits v)
+
+  part_says : (n d m : ℕ) → Good n → Said n d → (k : ℕ) (e : Entry) → entry_at rows k ≡ Some e → (v : Data)
+      → depth v * most_hops + hops k ≤ n → depth v * ranks + rank k < suc m
+      → (j : ℕ) (t w : Data) → W d j t → IsJson w → Inside e.shape v j w
+      → (judge (context2020_12 patterns (at_most n)) t).fits w ≡ verdict (belongs_within rows contract patterns m j w)
+  unfolding hops
+  part_says n d m good said k e is v costs low j t w (inl (r, is_ref, same_t)) json (inl less) =
+      let a = closer (depth w) (depth v) most_hops (hops j) less (few_hops j) in
+      let b = closer (depth w) (depth v) ranks (rank j) less (referred_low j r is_ref) in
+      rw (same_t, reference_says) (good j r is_ref w json m (omega arith) (omega arith))
+  part_says n d m good said k e is v costs low j t w (inl (r, is_ref, same_t)) json (inr same) =
+      let b = s.ranked k e j is same.0 in
+      let a = lower_most rank j (rank k) r refs is_ref b in
+      let same_depth : depth w ≡ depth v = ap depth same.1 in
+      rw (same_t, reference_says) (good j r is_ref w json m (rw same_depth (omega arith)) (rw same_depth (omega arith)))
+  part_says n d m good said k e is v costs low j t w (inr h) json (inl less) =
+      let a = closer (depth w) (depth v) most_hops (hops j) less (few_hops j) in
+      let b = closer (depth w) (depth v) ranks (rank j) less (described_low d j t h) in
+      said j t h w json m (omega arith) (omega arith)
+  part_says n d m good said k e is v costs low j t w (inr h) json (inr same) =
+      let b = s.ranked k e j is same.0 in
+      let a = lower_more rank (rank j) (rank k) refs (omega arith) in
+      let same_depth : depth w ≡ depth v = ap depth same.1 in
+      said j t h w json m (rw same_depth (omega arith)) (rw same_depth (omega arith))
+
+  own_says : (n d : ℕ) → Good n → Said n d → (k : ℕ) (o : Option Entry) → entry_at rows k ≡ o → IsPlainEntry o → (t : Data)
+      → IsOwnDocument (W d) contract o t → (v : Data) → IsJson v → (m : ℕ)
+      → depth v * most_hops + hops k ≤ n → depth v * ranks + rank k < suc m
+      → (judge (context2020_12 patterns (at_most n)) t).fits v
+      ≡ verdict (elim o [ None ↦ false | Some entry ↦ has_shape contract patterns (belongs_within rows contract patterns m) entry.shape v ])
+  own_says n d good said k None at noted t is v json m costs low = absurd is
+  own_says n d good said k (Some e) at noted t is v json m costs low =
+      let own = own_document (W d) contract e t is in
+      let bare = own.0 in
+      let schema = nullable-schema bare (shape_nullable (W d) contract (ready d) e.shape bare own.1) in
+      rw own.2 (ap (λ j. j.fits v) (judge-annotated patterns (at_most n) e.notes bare noted.0 schema)
+      ∙ shape_says patterns (at_most n) contract (W d) (belongs_within rows contract patterns m) (ready d) e.shape bare noted.1 own.1 v json
+      (λ j t w a js inside. part_says n d m good said k e at v costs low j t w a js inside))
+
+  said : (n : ℕ) → Good n → (d : ℕ) → Said n d
+  unfolding Describes belongs_within
+  said n good zero k t h v json m costs low = absurd h
+  said n good (suc d) k t h v json zero costs low = absurd (omega arith)
+  said n good (suc d) k t h v json (suc m) costs low = own_says n d good (said n good d) k (entry_at rows k) refl (s.plain k) t h v json
+      m costs low
+
+  followed : (n : ℕ) (r : Text) (t : Data) → resolved document r ≡ Some t
+      → at_most (suc n) r ≡ judge (context2020_12 patterns (at_most n)) t
+  unfolding follow
+  followed n r t e = rw (e, follow)
+
+  good : (n : ℕ) → Good n
+  good zero j r is w json m costs low = absurd (omega arith)
+  good (suc n) j r is w json m costs low =
+      let to = s.resolves j r is in
+      ap (λ p. p.fits w) (followed n r to.0 to.3 ∙ to.4 (at_most n)) ∙ said n (good n) to.2 j to.1 to.5 w json m (omega arith) low
+
+  within : (a h r n : ℕ) → r < h → (a + 1) * h ≤ n → a * h + r ≤ n
+  within a h r n small less = omega arith
+
+  -- from the bound on, a document says what its row means
+  pub describes_says : (d k : ℕ) (t : Data) → D d k t → (v : Data) → IsJson v → (n m : ℕ) → (depth v + 1) * (length refs + 1) ≤ n
+      → (depth v + 1) * ranks ≤ m
+      → (judge (context2020_12 patterns (at_most n)) t).fits v ≡ verdict (belongs_within rows contract patterns m k v)
+  unfolding most_hops
+  describes_says d k t h v json n m enough steps =
+      let low = described_low d k t h in
+      let few : hops k < length refs + 1 = rw add-one (few_hops k) in
+      let a : depth v * most_hops + hops k ≤ n = rw (← add-one) (within (depth v) (length refs + 1) (hops k) n few enough) in
+      said n (good n) d k t h v json m a (omega arith)
+
+  strictly : (a h r n : ℕ) → r < h → (a + 1) * h ≤ n → a * h + r < n
+  strictly a h r n small less = omega arith
+
+  -- and so does a reference to it
+  pub written_says : (d k : ℕ) (t : Data) → W d k t → (v : Data) → IsJson v → (n m : ℕ) → (depth v + 1) * (length refs + 1) ≤ n
+      → (depth v + 1) * ranks ≤ m
+      → (judge (context2020_12 patterns (at_most n)) t).fits v ≡ verdict (belongs_within rows contract patterns m k v)
+  unfolding most_hops
+  written_says d k t (inr h) v json n m enough steps = describes_says d k t h v json n m enough steps
+  written_says d k t (inl h) v json n m enough steps =
+      let low = referred_low k h.0 h.1 in
+      let wide : (depth v + 1) * most_hops ≤ n = rw (add-one (length refs)) at enough in
+      let a : depth v * most_hops + hops k < n = strictly (depth v) most_hops (hops k) n (few_hops k) wide in
+      rw (h.2, reference_says) (good n k h.0 h.1 v json m a (omega arith))

@@ -1,0 +1,188 @@
+-- What the document of a map with named members says under 2020-12.
+use Rattle.std.proofs.Common.{◌≡◌, List, [], ◌∷◌, Option, Some, None, Bool, true, false, Ordering, Less, Equal, Greater}
+use Rattle.std.proofs.Common.{nat_cmp, is_eq, refl, sym, ap, ◌∙◌, option_map}
+use Rattle.std.specs.Prelude.{codes, bytes_eq, if◌then◌else◌, is_some}
+use Rattle.std.specs.Ordering.{match_ordering}
+use Rattle.std.specs.Cmp.Lexicographic.{slice_cmp}
+use Rattle.std.proofs.lemmas.Map.Text.{is_eq-slice_cmp}
+use Rattle.serde_json.specs.Data.{Data, null, boolean, number, string, array, object, Members, no_members, member, put}
+use Rattle.serde_json.specs.Find.{get_member}
+use Rattle.schemars_schema.specs.Verdict.{Verdict, Yes, No, both, verdict}
+use Rattle.schemars_json.specs.Json.{Text}
+use Rattle.schemars_schema.specs.SchemaData.{IsSchema, object_of, put_all}
+use Rattle.schemars_schema.specs.Acceptance.{Patterns, Judge, Context, Reading, judge, read_data, read_members}
+use Rattle.schemars_schema.specs.Acceptance.{all_keywords, all_named, schema_named, each_member, where_some, have_all}
+use Rattle.schemars_schema.specs.Acceptance.{texts_in, type_says, required_says, properties_say}
+use Rattle.schemars_schema.specs.Acceptance.{additional_properties_say, is_covered}
+use Rattle.schemars_schema.proofs.Verdicts.{both-yes}
+use Rattle.schemars_schema.proofs.Objects.{schema-judge}
+use Rattle.schemars_rewrite.specs.NullLaw.{context2020_12, text_items}
+use Rattle.schemars_rewrite.proofs.Nulls.{or-false}
+use Rattle.schemars_documents.specs.Documents.{Keyword}
+use Rattle.schemars_templates.proofs.ByShape.{map_document}
+
+-- ---- the judges under names
+
+pub judges_in : Context → Members → List (Text × Judge)
+judges_in c no_members = []
+judges_in c (member k d ms) = (k, judge c d) ∷ judges_in c ms
+
+abbrev pub AreSchemas : Members → Type 0
+AreSchemas no_members = Unit {0}
+AreSchemas (member k d ms) = IsSchema d × AreSchemas ms
+
+all_named-schemas : (c : Context) (ms : Members) → AreSchemas ms → all_named (read_members c ms) ≡ Some (judges_in c ms)
+unfolding read_data judges_in
+all_named-schemas c no_members h = refl
+all_named-schemas c (member k d ms) h = rw (schema-judge c d h.0, all_named-schemas c ms h.1)
+
+judge_found : (o : Ordering) (b : Bool) (p : Judge) (rest : Option Judge) → is_eq o ≡ b
+    → (if b then Some p else rest) ≡ match_ordering o rest (Some p) rest
+judge_found Less b p rest is = rw (← is)
+judge_found Equal b p rest is = rw (← is)
+judge_found Greater b p rest is = rw (← is)
+
+mapped : (o : Ordering) (f : Data → Judge) (a b c : Option Data) → match_ordering o (option_map f a) (option_map f b) (option_map f c)
+    ≡ option_map f (match_ordering o a b c)
+mapped Less f a b c = refl
+mapped Equal f a b c = refl
+mapped Greater f a b c = refl
+
+pub schema_named-judges_in : (c : Context) (ms : Members) (k : Text)
+    → schema_named k (judges_in c ms) ≡ option_map (judge c) (get_member k ms)
+unfolding judges_in
+schema_named-judges_in c no_members k = refl
+schema_named-judges_in c (member l d ms) k =
+    judge_found (slice_cmp nat_cmp k l) (bytes_eq k l) (judge c d) _ (is_eq-slice_cmp k l)
+    ∙ rw (schema_named-judges_in c ms k) (mapped (slice_cmp nat_cmp k l) (judge c) (get_member k ms) (Some d) (get_member k ms))
+
+AreSchemas-match : (o : Ordering) (a b c : Members) → AreSchemas a → AreSchemas b → AreSchemas c → AreSchemas (match_ordering o a b c)
+AreSchemas-match Less a b c x y z = x
+AreSchemas-match Equal a b c x y z = y
+AreSchemas-match Greater a b c x y z = z
+
+AreSchemas-put : (k : Text) (d : Data) (ms : Members) → IsSchema d → AreSchemas ms → AreSchemas (put k d ms)
+AreSchemas-put k d no_members i h = (i, tt)
+AreSchemas-put k d (member l e ms) i h = AreSchemas-match (slice_cmp nat_cmp k l) _ _ _ (i, h) (i, h.1) (h.0, AreSchemas-put k d ms i h.1)
+
+-- schemas under names
+abbrev pub AreEntries : List Keyword → Type 0
+AreEntries [] = Unit {0}
+AreEntries (e ∷ es) = IsSchema e.1 × AreEntries es
+
+AreSchemas-put_all : (es : List Keyword) (ms : Members) → AreEntries es → AreSchemas ms → AreSchemas (put_all es ms)
+AreSchemas-put_all [] ms h i = i
+AreSchemas-put_all (e ∷ es) ms h i = AreSchemas-put_all es (put e.0 e.1 ms) h.1 (AreSchemas-put e.0 e.1 ms h.0 i)
+
+-- ---- the keywords that are there or not
+
+required_value : List Text → Option Data
+required_value [] = None
+required_value (n ∷ ns) = Some (array (text_items (n ∷ ns)))
+
+properties_value : Context → List Keyword → Option Reading
+properties_value c [] = None
+properties_value c (e ∷ es) = Some (read_data c (object_of (e ∷ es)))
+
+closed_value : Context → Bool → Option Reading
+closed_value c false = None
+closed_value c true = Some (read_data c (boolean false))
+
+texts_in-text_items : (ns : List Text) → texts_in (text_items ns) ≡ Some ns
+texts_in-text_items [] = refl
+texts_in-text_items (n ∷ ns) = rw (texts_in-text_items ns)
+
+each_yes : (ms : Members) → each_member (λ k w. Yes) ms ≡ Yes
+each_yes no_members = refl
+each_yes (member k w ms) = each_yes ms
+
+each_agree : (p q : Text → Data → Verdict) → ((k : Text) (w : Data) → p k w ≡ q k w) → (ms : Members) → each_member p ms ≡ each_member q ms
+each_agree p q same no_members = refl
+each_agree p q same (member k w ms) = rw (same k w, each_agree p q same ms)
+
+module _ (patterns : Patterns) (f : Text → Judge) where
+  abbrev c : Context
+  c = context2020_12 patterns f
+
+  map_says : List Keyword → List Text → Bool → Data → Verdict
+  map_says es ns closed v =
+      both (type_says false (Some (string (codes "object"))) None v)
+      (both (required_says (required_value ns) v)
+      (both (properties_say (properties_value c es) v) (additional_properties_say (is_covered patterns (properties_value c es) None)
+      (closed_value c closed) v)))
+
+  judge-map : (es : List Keyword) (ns : List Text) (closed : Bool) (v : Data)
+      → (judge c (map_document es ns closed)).fits v ≡ map_says es ns closed v
+  unfolding read_data all_keywords map_says required_value properties_value closed_value
+  judge-map [] [] false v = refl
+  judge-map [] [] true v = rw both-yes refl
+  judge-map [] (n ∷ ns) false v = refl
+  judge-map [] (n ∷ ns) true v = rw both-yes refl
+  judge-map (e ∷ es) [] false v = refl
+  judge-map (e ∷ es) [] true v = rw both-yes refl
+  judge-map (e ∷ es) (n ∷ ns) false v = refl
+  judge-map (e ∷ es) (n ∷ ns) true v = rw both-yes refl
+
+  abbrev pub judges_of : List Keyword → List (Text × Judge)
+  judges_of es = judges_in c (put_all es no_members)
+
+  -- a member that has a schema under its name fits it
+  abbrev pub named_says : List (Text × Judge) → Text → Data → Verdict
+  named_says ss k w = where_some (schema_named k ss) (λ s. s.fits w)
+
+  abbrev pub other_says : Bool → List (Text × Judge) → Text → Data → Verdict
+  other_says false ss k w = Yes
+  other_says true ss k w = if is_some (schema_named k ss) then Yes else No
+
+  required_part : (ns : List Text) (ms : Members) → required_says (required_value ns) (object ms) ≡ verdict (have_all ns ms)
+  unfolding required_value
+  required_part [] ms = refl
+  required_part (n ∷ ns) ms = rw (texts_in-text_items ns)
+
+  named_part : (es : List Keyword) → AreEntries es → (ms : Members) → properties_say (properties_value c es) (object ms)
+      ≡ each_member (named_says (judges_of es)) ms
+  unfolding properties_value read_data judges_in
+  named_part [] h ms = sym (each_yes ms)
+  named_part (e ∷ es) h ms = rw (all_named-schemas c (put_all (e ∷ es) no_members) (AreSchemas-put_all (e ∷ es) no_members h tt))
+
+  covered : (e : Keyword) (es : List Keyword) → AreEntries (e ∷ es) → (k : Text)
+      → is_covered patterns (properties_value c (e ∷ es)) None k ≡ is_some (schema_named k (judges_of (e ∷ es)))
+  unfolding properties_value read_data judges_in
+  covered e es h k = rw (all_named-schemas c (put_all (e ∷ es) no_members) (AreSchemas-put_all (e ∷ es) no_members h tt)) (or-false _)
+
+  other_part : (es : List Keyword) (closed : Bool) → AreEntries es → (ms : Members)
+      → additional_properties_say (is_covered patterns (properties_value c es) None) (closed_value c closed) (object ms)
+      ≡ each_member (other_says closed (judges_of es)) ms
+  unfolding properties_value closed_value read_data judges_in
+  other_part es false h ms = sym (each_yes ms)
+  other_part [] true h ms = refl
+  other_part (e ∷ es) true h ms = each_agree _ _ (λ k w. ap (λ b. if b then Yes else No) (covered e es h k)) ms
+
+  pub judge-map_object : (es : List Keyword) (ns : List Text) (closed : Bool) → AreEntries es → (ms : Members)
+      → (judge c (map_document es ns closed)).fits (object ms) ≡ both (verdict (have_all ns ms))
+      (both (each_member (named_says (judges_of es)) ms) (each_member (other_says closed (judges_of es)) ms))
+  unfolding map_says
+  judge-map_object es ns closed h ms = judge-map es ns closed (object ms)
+      ∙ rw (required_part ns ms, named_part es h ms, other_part es closed h ms)
+
+  abbrev pub IsNoMap : Data → Type 0
+  IsNoMap null = Unit {0}
+  IsNoMap (boolean b) = Unit {0}
+  IsNoMap (number n) = Unit {0}
+  IsNoMap (string s) = Unit {0}
+  IsNoMap (array ds) = Unit {0}
+  IsNoMap (object ms) = ⊥
+
+  silent : {A : Type 0} (o : Option A) → where_some o (λ x. Yes) ≡ Yes
+  silent None = refl
+  silent (Some x) = refl
+
+  pub judge-map_other : (es : List Keyword) (ns : List Text) (closed : Bool) (v : Data) → IsNoMap v
+      → (judge c (map_document es ns closed)).fits v ≡ No
+  unfolding map_says
+  judge-map_other es ns closed (object ms) h = absurd h
+  judge-map_other es ns closed null h = judge-map es ns closed null ∙ simp silent
+  judge-map_other es ns closed (boolean b) h = judge-map es ns closed (boolean b) ∙ simp silent
+  judge-map_other es ns closed (number n) h = judge-map es ns closed (number n) ∙ simp silent
+  judge-map_other es ns closed (string t) h = judge-map es ns closed (string t) ∙ simp silent
+  judge-map_other es ns closed (array vs) h = judge-map es ns closed (array vs) ∙ simp silent

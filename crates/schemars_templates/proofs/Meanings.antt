@@ -1,0 +1,173 @@
+-- In a table in order, a document of a row accepts just the values that belong to it.
+use Rattle.std.proofs.Common.{◌≡◌, ◌⊎◌, ℕ, zero, suc, ◌<◌, inl, inr, List, [], ◌∷◌, Bool, true, false, refl}
+use Rattle.serde_json.specs.Data.{Data, depth}
+use Rattle.schemars_schema.specs.Verdict.{verdict}
+use Rattle.schemars_json.specs.Json.{Text, IsJson}
+use Rattle.schemars_schema.specs.SchemaData.{IsSchema}
+use Rattle.schemars_schema.specs.Acceptance.{Patterns, Judge, Context, judge}
+use Rattle.schemars_rewrite.specs.NullLaw.{IsNullable, context2020_12}
+use Rattle.schemars_rewrite.proofs.Nulls.{nullable-schema, nullable-allow_null, allow_null-says}
+use Rattle.schemars_shapes.specs.Shape as shape
+use Rattle.schemars_shapes.specs.Shape.{Shape, Entry, numbers_of}
+use Rattle.schemars_types.specs.Meaning.{Contract, Deserialize, Serialize, has_shape}
+use Rattle.schemars_templates.proofs.ByShape.{IsDocument, map_document, tuple_document}
+use Rattle.schemars_documents.specs.PlainTable.{IsPlainShape}
+use Rattle.schemars_templates.proofs.EachShape.{bytes_say, schema_says, null_says, bool_says, number_says, text_says}
+use Rattle.schemars_templates.proofs.EachShape.{formatted_says, char_says, any_says, seq_says, set_says, array_says}
+use Rattle.schemars_templates.proofs.EachShape.{up_to_says, tuple_says, int_says, non_zero_says}
+use Rattle.schemars_templates.proofs.Structs.{struct_says}
+use Rattle.schemars_shapes.specs.declared.shape.IntKind.{IntKind}
+use Rattle.schemars_shapes.specs.declared.shape.IntKind.TheVariants.{I8, I16, I32, I64, I128, Isize, U8, U16, U32, U64, U128, Usize}
+use Rattle.schemars_documents.specs.Documents.{Keyword, int_document, non_zero_document, bytes_document}
+use Rattle.std.specs.Prelude.{codes}
+
+-- ---- null can be added to each document
+
+int_nullable : (kind : IntKind) → IsNullable (int_document kind)
+int_nullable I8 = inr (record { alone = refl; type_form = refl; no_const = refl; not_form = inl refl })
+int_nullable I16 = inr (record { alone = refl; type_form = refl; no_const = refl; not_form = inl refl })
+int_nullable I32 = inr (record { alone = refl; type_form = refl; no_const = refl; not_form = inl refl })
+int_nullable I64 = inr (record { alone = refl; type_form = refl; no_const = refl; not_form = inl refl })
+int_nullable I128 = inr (record { alone = refl; type_form = refl; no_const = refl; not_form = inl refl })
+int_nullable Isize = inr (record { alone = refl; type_form = refl; no_const = refl; not_form = inl refl })
+int_nullable U8 = inr (record { alone = refl; type_form = refl; no_const = refl; not_form = inl refl })
+int_nullable U16 = inr (record { alone = refl; type_form = refl; no_const = refl; not_form = inl refl })
+int_nullable U32 = inr (record { alone = refl; type_form = refl; no_const = refl; not_form = inl refl })
+int_nullable U64 = inr (record { alone = refl; type_form = refl; no_const = refl; not_form = inl refl })
+int_nullable U128 = inr (record { alone = refl; type_form = refl; no_const = refl; not_form = inl refl })
+int_nullable Usize = inr (record { alone = refl; type_form = refl; no_const = refl; not_form = inl refl })
+
+non_zero_nullable : (kind : IntKind) → IsNullable (non_zero_document kind)
+non_zero_nullable I8 = inr (record { alone = refl; type_form = refl; no_const = refl; not_form = inr refl })
+non_zero_nullable I16 = inr (record { alone = refl; type_form = refl; no_const = refl; not_form = inr refl })
+non_zero_nullable I32 = inr (record { alone = refl; type_form = refl; no_const = refl; not_form = inr refl })
+non_zero_nullable I64 = inr (record { alone = refl; type_form = refl; no_const = refl; not_form = inr refl })
+non_zero_nullable I128 = inr (record { alone = refl; type_form = refl; no_const = refl; not_form = inr refl })
+non_zero_nullable Isize = inr (record { alone = refl; type_form = refl; no_const = refl; not_form = inr refl })
+non_zero_nullable U8 = inr (record { alone = refl; type_form = refl; no_const = refl; not_form = inl refl })
+non_zero_nullable U16 = inr (record { alone = refl; type_form = refl; no_const = refl; not_form = inl refl })
+non_zero_nullable U32 = inr (record { alone = refl; type_form = refl; no_const = refl; not_form = inl refl })
+non_zero_nullable U64 = inr (record { alone = refl; type_form = refl; no_const = refl; not_form = inl refl })
+non_zero_nullable U128 = inr (record { alone = refl; type_form = refl; no_const = refl; not_form = inl refl })
+non_zero_nullable Usize = inr (record { alone = refl; type_form = refl; no_const = refl; not_form = inl refl })
+
+bytes_nullable : (contract : Contract) → IsNullable (bytes_document contract)
+bytes_nullable Deserialize = inr (record {
+  alone = refl;
+  type_form = (codes "array" ∷ codes "string" ∷ [], refl, refl);
+  no_const = refl;
+  not_form = inl refl;
+})
+bytes_nullable Serialize = inr (record { alone = refl; type_form = refl; no_const = refl; not_form = inl refl })
+
+map_nullable : (es : List Keyword) (ns : List Text) (closed : Bool) → IsNullable (map_document es ns closed)
+map_nullable [] [] false = inr (record { alone = refl; type_form = refl; no_const = refl; not_form = inl refl })
+map_nullable [] [] true = inr (record { alone = refl; type_form = refl; no_const = refl; not_form = inl refl })
+map_nullable [] (n ∷ ns) false = inr (record { alone = refl; type_form = refl; no_const = refl; not_form = inl refl })
+map_nullable [] (n ∷ ns) true = inr (record { alone = refl; type_form = refl; no_const = refl; not_form = inl refl })
+map_nullable (e ∷ es) [] false = inr (record { alone = refl; type_form = refl; no_const = refl; not_form = inl refl })
+map_nullable (e ∷ es) [] true = inr (record { alone = refl; type_form = refl; no_const = refl; not_form = inl refl })
+map_nullable (e ∷ es) (n ∷ ns) false = inr (record { alone = refl; type_form = refl; no_const = refl; not_form = inl refl })
+map_nullable (e ∷ es) (n ∷ ns) true = inr (record { alone = refl; type_form = refl; no_const = refl; not_form = inl refl })
+
+tuple_nullable : (ts : List Data) → IsNullable (tuple_document ts)
+tuple_nullable [] = inr (record { alone = refl; type_form = refl; no_const = refl; not_form = inl refl })
+tuple_nullable (t ∷ ts) = inr (record { alone = refl; type_form = refl; no_const = refl; not_form = inl refl })
+
+module _ (W : ℕ → Data → Type 0) (contract : Contract) (ready : (j : ℕ) (t : Data) → W j t → IsNullable t) where
+  pub shape_nullable : (kind : Shape) (s : Data) → IsDocument W contract kind s → IsNullable s
+  shape_nullable shape.null s is = rw is (inr (record { alone = refl; type_form = refl; no_const = refl; not_form = inl refl }))
+  shape_nullable shape.bool s is = rw is (inr (record { alone = refl; type_form = refl; no_const = refl; not_form = inl refl }))
+  shape_nullable (shape.int k) s is = rw is (int_nullable k)
+  shape_nullable (shape.non_zero k) s is = rw is (non_zero_nullable k)
+  shape_nullable shape.number s is = rw is (inr (record { alone = refl; type_form = refl; no_const = refl; not_form = inl refl }))
+  shape_nullable shape.text s is = rw is (inr (record { alone = refl; type_form = refl; no_const = refl; not_form = inl refl }))
+  shape_nullable shape.char s is = rw is (inr (record { alone = refl; type_form = refl; no_const = refl; not_form = inl refl }))
+  shape_nullable (shape.formatted f) s is = rw is (inr (record { alone = refl; type_form = refl; no_const = refl; not_form = inl refl }))
+  shape_nullable shape.any s is = rw is tt
+  shape_nullable shape.bytes s is = rw is (bytes_nullable contract)
+  shape_nullable shape.schema_itself s is = rw is (inr (record {
+    alone = refl;
+    type_form = (codes "object" ∷ codes "boolean" ∷ [], refl, refl);
+    no_const = refl;
+    not_form = inl refl;
+  }))
+  shape_nullable (shape.option n) s is = rw is.2 (nullable-allow_null is.0 (ready n is.0 is.1))
+  shape_nullable (shape.struct xs closed) s is = rw is.2 (map_nullable _ _ closed)
+  shape_nullable (shape.newtype n) s is = ready n s is
+  shape_nullable (shape.seq n) s is = rw is.2 (inr (record { alone = refl; type_form = refl; no_const = refl; not_form = inl refl }))
+  shape_nullable (shape.set n) s is = rw is.2 (inr (record { alone = refl; type_form = refl; no_const = refl; not_form = inl refl }))
+  shape_nullable (shape.array n zero) s is = rw is (inr (record { alone = refl; type_form = refl; no_const = refl; not_form = inl refl }))
+  shape_nullable (shape.array n (suc len)) s is = rw is.2 (inr (record
+      { alone = refl; type_form = refl; no_const = refl; not_form = inl refl }))
+  shape_nullable (shape.up_to n cap) s is = rw is.2 (inr (record { alone = refl; type_form = refl; no_const = refl; not_form = inl refl }))
+  shape_nullable (shape.tuple ns) s is = rw is.2 (tuple_nullable is.0)
+
+-- ---- one shape
+
+-- the parts whose values are the value itself
+abbrev pub IsSame : Shape → ℕ → Type 0
+IsSame shape.null j = ⊥
+IsSame shape.bool j = ⊥
+IsSame (shape.int k) j = ⊥
+IsSame (shape.non_zero k) j = ⊥
+IsSame shape.number j = ⊥
+IsSame shape.text j = ⊥
+IsSame shape.char j = ⊥
+IsSame (shape.formatted g) j = ⊥
+IsSame shape.any j = ⊥
+IsSame shape.bytes j = ⊥
+IsSame shape.schema_itself j = ⊥
+IsSame (shape.option n) j = j ≡ n
+IsSame (shape.seq n) j = ⊥
+IsSame (shape.set n) j = ⊥
+IsSame (shape.array n len) j = ⊥
+IsSame (shape.up_to n cap) j = ⊥
+IsSame (shape.tuple ns) j = ⊥
+IsSame (shape.struct xs closed) j = ⊥
+IsSame (shape.newtype n) j = j ≡ n
+
+-- where a part is asked: inside the value, or of the value itself
+abbrev pub Inside : Shape → Data → ℕ → Data → Type 0
+Inside kind v j w = (depth w < depth v) ⊎ (IsSame kind j × (w ≡ v))
+
+module _ (patterns : Patterns) (f : Text → Judge) (contract : Contract) (W : ℕ → Data → Type 0) (M : ℕ → Data → Bool)
+    (ready : (j : ℕ) (t : Data) → W j t → IsNullable t) where
+  abbrev c : Context
+  c = context2020_12 patterns f
+
+  abbrev Agrees : Shape → Data → Type 0
+  Agrees kind v = (j : ℕ) (t w : Data) → W j t → IsJson w → Inside kind v j w → (judge c t).fits w ≡ verdict (M j w)
+
+  abbrev schemas : (j : ℕ) (t : Data) → W j t → IsSchema t
+  schemas j t is = nullable-schema t (ready j t is)
+
+  pub shape_says : (kind : Shape) (s : Data) → IsPlainShape kind → IsDocument W contract kind s → (v : Data) → IsJson v → Agrees kind v
+      → (judge c s).fits v ≡ verdict (has_shape contract patterns M kind v)
+  shape_says shape.null s p is v json agree = rw is (null_says patterns f contract M v)
+  shape_says shape.bool s p is v json agree = rw is (bool_says patterns f contract M v)
+  shape_says (shape.int k) s p is v json agree = rw is (int_says patterns f contract M k v)
+  shape_says (shape.non_zero k) s p is v json agree = rw is (non_zero_says patterns f contract M k v json)
+  shape_says shape.number s p is v json agree = rw is (number_says patterns f contract M v)
+  shape_says shape.text s p is v json agree = rw is (text_says patterns f contract M v)
+  shape_says shape.char s p is v json agree = rw is (char_says patterns f contract M v)
+  shape_says (shape.formatted g) s p is v json agree = rw is (formatted_says patterns f contract M g v)
+  shape_says shape.any s p is v json agree = rw is (any_says patterns f contract M v)
+  shape_says shape.bytes s p is v json agree = rw is (bytes_say patterns f contract M v)
+  shape_says shape.schema_itself s p is v json agree = rw is (schema_says patterns f contract M v)
+  shape_says (shape.option j) s p is v json agree = rw is.2 (allow_null-says patterns f is.0 (ready j is.0 is.1) v (M j v)
+      (agree j is.0 v is.1 json (inr (refl, refl))))
+  shape_says (shape.seq j) s p is v json agree = rw is.2 (seq_says patterns f contract M j is.0 (schemas j is.0 is.1) v json
+      (λ w js less. agree j is.0 w is.1 js (inl less)))
+  shape_says (shape.set j) s p is v json agree = rw is.2 (set_says patterns f contract M j is.0 (schemas j is.0 is.1) v json
+      (λ w js less. agree j is.0 w is.1 js (inl less)))
+  shape_says (shape.array j len) s p is v json agree = array_says patterns f contract M W schemas j len s is v json
+      (λ t w a js less. agree j t w a js (inl less))
+  shape_says (shape.up_to j cap) s p is v json agree = rw is.2 (up_to_says patterns f contract M j cap is.0 (schemas j is.0 is.1) v json
+      (λ w js less. agree j is.0 w is.1 js (inl less)))
+  shape_says (shape.tuple ns) s p is v json agree = rw is.2 (tuple_says patterns f contract M W schemas ns is.0 is.1 v json
+      (λ j t w a js less. agree j t w a js (inl less)))
+  shape_says (shape.struct xs closed) s p is v json agree =
+      rw is.2 (struct_says patterns f contract W M schemas xs is.0 closed p.0 p.1 is.1 v json
+      (λ j t w a js less. agree j t w a js (inl less)))
+  shape_says (shape.newtype j) s p is v json agree = agree j s v is json (inr (refl, refl))

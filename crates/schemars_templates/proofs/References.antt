@@ -1,0 +1,391 @@
+-- The references of a filled template are those of its parts.
+use Rattle.std.proofs.Common.{◌≡◌, ℕ, zero, suc, ◌-◌, List, [], ◌∷◌, ◌++◌, length, map, Bool, true, false, Option, Some, None}
+use Rattle.std.proofs.Common.{refl, ap, ◌∙◌, arith, subst, Contains, append_assoc, append-nil, length-append, ℤ, pos}
+use Rattle.std.specs.Prelude.{codes, bytes_eq, if◌then◌else◌}
+use Rattle.std.proofs.lemmas.List.{nil_from_length}
+use Rattle.std.proofs.lemmas.List.Elements.{Contains-append_left}
+use Rattle.serde_json.specs.Data.{Data, Items, no_items, item, Members, no_members, put}
+use Rattle.serde_json.specs.View.{items_of}
+use Rattle.schemars_json.specs.Json.{Text}
+use Rattle.schemars_schema.specs.SchemaData.{put_all, IsSchema, object_of}
+use Rattle.schemars_schema.specs.Annotations.{AreNotes}
+use Rattle.schemars_schema.specs.References.{Place, NoSchemas, OneSchema, SchemaList, SchemaOrList, SchemasByName, place_under}
+use Rattle.schemars_schema.specs.References.{at_place, found_in, found_in_members, found_in_items, found_in_keywords, references}
+use Rattle.schemars_schema.proofs.Contents.{found_under}
+use Rattle.schemars_rewrite.specs.NullLaw.{zero_schema, text_items}
+use Rattle.schemars_shapes.specs.Shape as shape
+use Rattle.schemars_shapes.specs.Shape.{Shape, Field, Entry}
+use Rattle.schemars_shapes.specs.IntKind.{format_of}
+use Rattle.schemars_types.specs.Meaning.{Contract, Deserialize, Serialize, least_of, greatest_of}
+use Rattle.schemars_documents.specs.Documents.{int_keywords, is_signed, required_names, bytes_document}
+use Rattle.schemars_documents.specs.PlainTable.{IsNoName, AreDistinct, AreNoted, IsPlainShape, IsPlainEntry}
+use Rattle.schemars_templates.specs.Template.{Template, finished, row, list, members, nullable, noted, Templates, no_templates}
+use Rattle.schemars_templates.specs.Template.{template, rows_of, rows_in, first, behind, left, left_in, keyed, filled, filled_in}
+use Rattle.schemars_templates.specs.OfShape.{KeywordTemplate, templates_of, object_with, property, map_template, template_of}
+use Rattle.schemars_templates.specs.OfShape.{entry_template}
+use Rattle.schemars_templates.specs.Describes.{references_of}
+use Rattle.schemars_templates.proofs.Notes.{annotated-schema}
+use Rattle.schemars_templates.proofs.ReferencesKept.{Among, among_more, Alike, alike_equal, alike_same, alike_nothing}
+use Rattle.schemars_templates.proofs.ReferencesKept.{alike_trans, alike_append, alike_turn, keywords-new, members-new}
+use Rattle.schemars_templates.proofs.ReferencesKept.{references-annotated, references-allow_null, allow_null-schema}
+use Rattle.schemars_templates.proofs.ReferencesKept.{in_list_of_schema, IsNoKey, AreApart, AreNew, still_new, none_there}
+
+abbrev pub AreSchemas : List Data → Type 0
+AreSchemas [] = Unit {0}
+AreSchemas (t ∷ ts) = IsSchema t × AreSchemas ts
+
+-- ---- where nodes stand in a template
+
+-- it has no rows, so that it leaves each part
+abbrev pub TakesNone : Template → Type 0
+TakesNone t = (ts : List Data) → left t ts ≡ ts
+
+-- its document is a schema, where those of its rows are
+abbrev pub MakesSchema : Template → Type 0
+MakesSchema (finished d) = IsSchema d
+MakesSchema (row n) = Unit {0}
+MakesSchema (list es) = ⊥
+MakesSchema (members ks es) = Unit {0}
+MakesSchema (nullable t) = MakesSchema t
+MakesSchema (noted notes t) = MakesSchema t
+
+-- what may stand under a keyword: under `$ref`, or else in a place of this kind
+abbrev pub StandsAt : Bool → Place → Template → Type 0 → Type 0 → Type 0 → Type 0
+StandsAt true p t Schema Schemas Named = ⊥
+StandsAt false NoSchemas t Schema Schemas Named = TakesNone t
+StandsAt false OneSchema t Schema Schemas Named = Schema
+StandsAt false SchemaList t Schema Schemas Named = Schemas
+StandsAt false SchemaOrList t Schema Schemas Named = MakesSchema t × Schema
+StandsAt false SchemasByName t Schema Schemas Named = Named
+
+-- read as a schema, as a list of schemas, as schemas by name; finished JSON has no references there, and keys are all different
+abbrev mutual
+  pub AsSchema : Template → Type 0
+  AsSchema (finished d) = references d ≡ []
+  AsSchema (row n) = Unit {0}
+  AsSchema (list es) = ⊥
+  AsSchema (members ks es) = AreAtKeys es ks × AreApart ks
+  AsSchema (nullable t) = AsSchema t
+  AsSchema (noted notes t) = AreNotes notes × AsSchema t
+
+  pub AsList : Template → Type 0
+  AsList (finished d) = (found_in d).in_list ≡ []
+  AsList (row n) = ⊥
+  AsList (list es) = AreItems es
+  AsList (members ks es) = ⊥
+  AsList (nullable t) = ⊥
+  AsList (noted notes t) = ⊥
+
+  pub AsNamed : Template → Type 0
+  AsNamed (finished d) = (found_in d).by_name ≡ []
+  AsNamed (row n) = ⊥
+  AsNamed (list es) = ⊥
+  AsNamed (members ks es) = AreNamed es ks × AreApart ks
+  AsNamed (nullable t) = ⊥
+  AsNamed (noted notes t) = ⊥
+
+  pub AreItems : Templates → Type 0
+  AreItems no_templates = Unit {0}
+  AreItems (template t es) = AsSchema t × AreItems es
+
+  pub AreNamed : Templates → List Text → Type 0
+  AreNamed no_templates ks = Unit {0}
+  AreNamed (template t es) [] = ⊥
+  AreNamed (template t es) (k ∷ ks) = AsSchema t × AreNamed es ks
+
+  pub AreAtKeys : Templates → List Text → Type 0
+  AreAtKeys no_templates ks = Unit {0}
+  AreAtKeys (template t es) [] = ⊥
+  AreAtKeys (template t es) (k ∷ ks) =
+      StandsAt (bytes_eq k (codes "$ref")) (place_under k) t (AsSchema t) (AsList t) (AsNamed t) × AreAtKeys es ks
+
+-- ---- parts that are schemas
+
+behind_schemas : (ts : List Data) → AreSchemas ts → AreSchemas (behind ts)
+behind_schemas [] h = h
+behind_schemas (t ∷ ts) h = h.1
+
+mutual
+  left_schemas : (t : Template) (ts : List Data) → AreSchemas ts → AreSchemas (left t ts)
+  left_schemas (finished d) ts h = h
+  left_schemas (row n) ts h = behind_schemas ts h
+  left_schemas (list es) ts h = left_in_schemas es ts h
+  left_schemas (members ks es) ts h = left_in_schemas es ts h
+  left_schemas (nullable t) ts h = left_schemas t ts h
+  left_schemas (noted notes t) ts h = left_schemas t ts h
+
+  left_in_schemas : (es : Templates) (ts : List Data) → AreSchemas ts → AreSchemas (left_in es ts)
+  left_in_schemas no_templates ts h = h
+  left_in_schemas (template t es) ts h = left_in_schemas es (left t ts) (left_schemas t ts h)
+
+first_schema : (ts : List Data) → AreSchemas ts → IsSchema (first ts)
+first_schema [] h = tt
+first_schema (t ∷ ts) h = h.0
+
+made_schema : (t : Template) (ts : List Data) → AreSchemas ts → MakesSchema t → IsSchema (filled t ts)
+made_schema (finished d) ts h is = is
+made_schema (row n) ts h is = first_schema ts h
+made_schema (list es) ts h is = absurd is
+made_schema (members ks es) ts h is = tt
+made_schema (nullable t) ts h is = allow_null-schema (filled t ts) (made_schema t ts h is)
+made_schema (noted notes t) ts h is = annotated-schema notes (filled t ts) (made_schema t ts h is)
+
+-- ---- the references of a node, and of the parts that it leaves
+
+-- where Q holds, the parts are schemas; elsewhere one direction alone is shown
+module _ (Q : Type 0) where
+  -- what is found in the node, with the references of the parts that are left
+  abbrev Keeps : List Data → Template → List Data → Type 0
+  Keeps found t ts = Alike Q (found ++ references_of (left t ts)) (references_of ts)
+
+  at_items : (t : Template) (ts : List Data) → (Q → AreSchemas ts) → MakesSchema t → Keeps (references (filled t ts)) t ts
+      → Keeps (references (filled t ts) ++ (found_in (filled t ts)).in_list) t ts
+  at_items t ts h made all =
+      let s = filled t ts in
+      let rest = references_of (left t ts) in
+      let one : IsSchema s → references s ++ (found_in s).in_list ≡ references s =
+      λ is. ap (λ xs. references s ++ xs) (in_list_of_schema s is) ∙ append-nil (references s) in (
+        λ q x has. all.0 q x (subst (λ xs. Contains (xs ++ rest) x) (one (made_schema t ts (h q) made)) has),
+        λ x has. among_more (references s) (found_in s).in_list rest x (all.1 x has),
+      )
+
+  at_key : (b : Bool) (p : Place) (t : Template) (ts : List Data) (Schema Schemas Named : Type 0) → (Q → AreSchemas ts)
+      → (Schema → Keeps (references (filled t ts)) t ts) → (Schemas → Keeps (found_in (filled t ts)).in_list t ts)
+      → (Named → Keeps (found_in (filled t ts)).by_name t ts) → StandsAt b p t Schema Schemas Named
+      → Keeps (if b then filled t ts ∷ [] else at_place p (found_in (filled t ts))) t ts
+  at_key true p t ts Schema Schemas Named h f g n is = absurd is
+  at_key false NoSchemas t ts Schema Schemas Named h f g n is =
+      alike_equal Q (references_of (left t ts)) (references_of ts) (ap references_of (is ts))
+  at_key false OneSchema t ts Schema Schemas Named h f g n is = f is
+  at_key false SchemaList t ts Schema Schemas Named h f g n is = g is
+  at_key false SchemaOrList t ts Schema Schemas Named h f g n is = at_items t ts h is.0 (f is.1)
+  at_key false SchemasByName t ts Schema Schemas Named h f g n is = n is
+
+  mutual
+    unfolding found_in
+
+    as_schema : (t : Template) (ts : List Data) → (Q → AreSchemas ts) → AsSchema t → Keeps (references (filled t ts)) t ts
+    as_schema (finished d) ts h is = alike_nothing Q (references d) (references_of ts) is
+    as_schema (row n) [] h is = alike_same Q []
+    as_schema (row n) (t ∷ ts) h is = alike_same Q (references t ++ references_of ts)
+    as_schema (list es) ts h is = absurd is
+    as_schema (members ks es) ts h is = at_keys es ks ts no_members h is.0 is.1 (none_there ks)
+    as_schema (nullable t) ts h is = rw (references-allow_null (filled t ts)) (as_schema t ts h is)
+    as_schema (noted notes t) ts h is = rw (references-annotated notes (filled t ts) is.0) (as_schema t ts h is.1)
+
+    as_list : (t : Template) (ts : List Data) → (Q → AreSchemas ts) → AsList t → Keeps (found_in (filled t ts)).in_list t ts
+    as_list (finished d) ts h is = alike_nothing Q (found_in d).in_list (references_of ts) is
+    as_list (row n) ts h is = absurd is
+    as_list (list es) ts h is = as_items es ts h is
+    as_list (members ks es) ts h is = absurd is
+    as_list (nullable t) ts h is = absurd is
+    as_list (noted notes t) ts h is = absurd is
+
+    as_named : (t : Template) (ts : List Data) → (Q → AreSchemas ts) → AsNamed t → Keeps (found_in (filled t ts)).by_name t ts
+    as_named (finished d) ts h is = alike_nothing Q (found_in d).by_name (references_of ts) is
+    as_named (row n) ts h is = absurd is
+    as_named (list es) ts h is = absurd is
+    as_named (members ks es) ts h is = by_names es ks ts no_members h is.0 is.1 (none_there ks)
+    as_named (nullable t) ts h is = absurd is
+    as_named (noted notes t) ts h is = absurd is
+
+    as_items : (es : Templates) (ts : List Data) → (Q → AreSchemas ts) → AreItems es
+        → Alike Q (found_in_items (items_of (filled_in es ts)) ++ references_of (left_in es ts)) (references_of ts)
+    as_items no_templates ts h is = alike_same Q (references_of ts)
+    as_items (template t es) ts h is =
+        let here = references (filled t ts) in
+        let later = found_in_items (items_of (filled_in es (left t ts))) in
+        let rest = references_of (left_in es (left t ts)) in
+        alike_trans Q ((here ++ later) ++ rest) (here ++ (later ++ rest)) (references_of ts)
+        (alike_equal Q ((here ++ later) ++ rest) (here ++ (later ++ rest)) (append_assoc here later rest))
+        (alike_trans Q (here ++ (later ++ rest)) (here ++ references_of (left t ts)) (references_of ts)
+        (alike_append Q here (later ++ rest) here (references_of (left t ts)) (alike_same Q here)
+        (as_items es (left t ts) (λ q. left_schemas t ts (h q)) is.1))
+        (as_schema t ts h is.0))
+
+    by_names : (es : Templates) (ks : List Text) (ts : List Data) (ms : Members) → (Q → AreSchemas ts) → AreNamed es ks → AreApart ks
+        → AreNew ks ms → Alike Q (found_in_members (put_all (keyed ks (filled_in es ts)) ms) ++ references_of (left_in es ts))
+        (found_in_members ms ++ references_of ts)
+    by_names no_templates [] ts ms h is other new = alike_same Q (found_in_members ms ++ references_of ts)
+    by_names no_templates (k ∷ ks) ts ms h is other new = alike_same Q (found_in_members ms ++ references_of ts)
+    by_names (template t es) [] ts ms h is other new = absurd is
+    by_names (template t es) (k ∷ ks) ts ms h is other new =
+        let s = filled t ts in
+        let more = put k s ms in
+        alike_trans Q (found_in_members (put_all (keyed ks (filled_in es (left t ts))) more) ++ references_of (left_in es (left t ts)))
+        (found_in_members more ++ references_of (left t ts)) (found_in_members ms ++ references_of ts)
+        (by_names es ks (left t ts) more (λ q. left_schemas t ts (h q)) is.1 other.1 (still_new k s ks ms other.0 new.1))
+        (alike_turn Q (found_in_members more) (references s) (found_in_members ms) (references_of (left t ts)) (references_of ts)
+        (members-new Q k s ms new.0) (as_schema t ts h is.0))
+
+    at_keys : (es : Templates) (ks : List Text) (ts : List Data) (ms : Members) → (Q → AreSchemas ts) → AreAtKeys es ks → AreApart ks
+        → AreNew ks ms → Alike Q (found_in_keywords (put_all (keyed ks (filled_in es ts)) ms) ++ references_of (left_in es ts))
+        (found_in_keywords ms ++ references_of ts)
+    at_keys no_templates [] ts ms h is other new = alike_same Q (found_in_keywords ms ++ references_of ts)
+    at_keys no_templates (k ∷ ks) ts ms h is other new = alike_same Q (found_in_keywords ms ++ references_of ts)
+    at_keys (template t es) [] ts ms h is other new = absurd is
+    at_keys (template t es) (k ∷ ks) ts ms h is other new =
+        let s = filled t ts in
+        let more = put k s ms in
+        alike_trans Q (found_in_keywords (put_all (keyed ks (filled_in es (left t ts))) more) ++ references_of (left_in es (left t ts)))
+        (found_in_keywords more ++ references_of (left t ts)) (found_in_keywords ms ++ references_of ts)
+        (at_keys es ks (left t ts) more (λ q. left_schemas t ts (h q)) is.1 other.1 (still_new k s ks ms other.0 new.1))
+        (alike_turn Q (found_in_keywords more) (found_under k s) (found_in_keywords ms) (references_of (left t ts)) (references_of ts)
+        (keywords-new Q k s ms new.0) (at_key (bytes_eq k (codes "$ref")) (place_under k) t ts (AsSchema t) (AsList t) (AsNamed t) h
+        (as_schema t ts h) (as_list t ts h) (as_named t ts h) is.0))
+
+-- ---- how many parts are left
+
+length-behind : (ts : List Data) → length (behind ts) ≡ length ts - 1
+length-behind [] = refl
+length-behind (t ∷ ts) = omega arith
+
+mutual
+  length-left : (t : Template) (ts : List Data) → length (left t ts) ≡ length ts - length (rows_of t)
+  length-left (finished d) ts = omega arith
+  length-left (row n) ts = length-behind ts
+  length-left (list es) ts = length-left_in es ts
+  length-left (members ks es) ts = length-left_in es ts
+  length-left (nullable t) ts = length-left t ts
+  length-left (noted notes t) ts = length-left t ts
+
+  length-left_in : (es : Templates) (ts : List Data) → length (left_in es ts) ≡ length ts - length (rows_in es)
+  length-left_in no_templates ts = omega arith
+  length-left_in (template t es) ts =
+      omega (arith, length-left_in es (left t ts), length-left t ts, length-append (rows_of t) (rows_in es))
+
+none_left : (t : Template) (ts : List Data) → length ts ≡ length (rows_of t) → left t ts ≡ []
+none_left t ts e = nil_from_length (left t ts) (omega (arith, length-left t ts))
+
+-- ---- each shape
+
+-- whatever the bounds are
+int_silent : (format : Text) (least greatest : Option ℤ) → references (object_of (int_keywords format least greatest)) ≡ []
+unfolding found_in
+int_silent format None None = refl
+int_silent format None (Some g) = refl
+int_silent format (Some l) None = refl
+int_silent format (Some l) (Some g) = refl
+
+not_zero_silent : (format : Text) (least greatest : Option ℤ)
+    → references (object_of (int_keywords format least greatest ++ (codes "not", zero_schema) ∷ [])) ≡ []
+unfolding found_in
+not_zero_silent format None None = refl
+not_zero_silent format None (Some g) = refl
+not_zero_silent format (Some l) None = refl
+not_zero_silent format (Some l) (Some g) = refl
+
+bytes_silent : (contract : Contract) → references (bytes_document contract) ≡ []
+unfolding found_in
+bytes_silent Deserialize = refl
+bytes_silent Serialize = refl
+
+rows_as_items : (ns : List ℕ) → AreItems (templates_of (map row ns))
+rows_as_items [] = tt
+rows_as_items (n ∷ ns) = (tt, rows_as_items ns)
+
+no_name-key : (k : Text) (xs : List Field) → IsNoName k xs → IsNoKey k (map (λ e. e.0) (map property xs))
+no_name-key k [] h = tt
+no_name-key k (x ∷ xs) h = (h.0, no_name-key k xs h.1)
+
+names_apart : (xs : List Field) → AreDistinct xs → AreApart (map (λ e. e.0) (map property xs))
+names_apart [] h = tt
+names_apart (x ∷ xs) h = (no_name-key x.name xs h.0, names_apart xs h.1)
+
+properties_named : (xs : List Field) → AreNoted xs
+    → AreNamed (templates_of (map (λ e. e.1) (map property xs))) (map (λ e. e.0) (map property xs))
+properties_named [] h = tt
+properties_named (x ∷ xs) h = ((h.0, tt), properties_named xs h.1)
+
+map_as_schema : (es : List KeywordTemplate) (required : Items) (closed : Bool) → AsNamed (object_with es)
+    → AsSchema (map_template es required closed)
+unfolding found_in
+map_as_schema [] no_items false h = search h
+map_as_schema [] no_items true h = search h
+map_as_schema [] (item d ds) false h = search h
+map_as_schema [] (item d ds) true h = search h
+map_as_schema (e ∷ es) no_items false h = search h
+map_as_schema (e ∷ es) no_items true h = search h
+map_as_schema (e ∷ es) (item d ds) false h = search h
+map_as_schema (e ∷ es) (item d ds) true h = search h
+
+shape_as_schema : (contract : Contract) (kind : Shape) → IsPlainShape kind → AsSchema (template_of contract kind)
+unfolding found_in
+shape_as_schema contract shape.null p = refl
+shape_as_schema contract shape.bool p = refl
+shape_as_schema contract (shape.int kind) p = int_silent (format_of kind) (least_of kind) (greatest_of kind)
+shape_as_schema contract (shape.non_zero kind) p = go (is_signed kind)
+  where
+    go : (b : Bool) → references (if b
+        then object_of (int_keywords (format_of kind) (least_of kind) (greatest_of kind) ++ (codes "not", zero_schema) ∷ [])
+        else object_of (int_keywords (format_of kind) (Some (pos 1)) (greatest_of kind))) ≡ []
+    go true = not_zero_silent (format_of kind) (least_of kind) (greatest_of kind)
+    go false = int_silent (format_of kind) (Some (pos 1)) (greatest_of kind)
+shape_as_schema contract shape.number p = refl
+shape_as_schema contract shape.text p = refl
+shape_as_schema contract shape.char p = refl
+shape_as_schema contract (shape.formatted format) p = refl
+shape_as_schema contract shape.any p = refl
+shape_as_schema contract shape.bytes p = bytes_silent contract
+shape_as_schema contract shape.schema_itself p = refl
+shape_as_schema contract (shape.option n) p = tt
+shape_as_schema contract (shape.seq n) p = search
+shape_as_schema contract (shape.set n) p = search
+shape_as_schema contract (shape.array n zero) p = refl
+shape_as_schema contract (shape.array n (suc len)) p = search
+shape_as_schema contract (shape.up_to n most) p = search
+shape_as_schema contract (shape.tuple []) p = refl
+shape_as_schema contract (shape.tuple (n ∷ ns)) p = search (rows_as_items ns)
+shape_as_schema contract (shape.struct xs closed) p =
+    map_as_schema (map property xs) (text_items (required_names contract xs)) closed (properties_named xs p.1, names_apart xs p.0)
+shape_as_schema contract (shape.newtype n) p = tt
+
+non_zero_makes : (b : Bool) (d e : Data) → IsSchema d → IsSchema e → IsSchema (if b then d else e)
+non_zero_makes true d e h g = h
+non_zero_makes false d e h g = g
+
+shape_makes : (contract : Contract) (kind : Shape) → MakesSchema (template_of contract kind)
+shape_makes contract shape.null = tt
+shape_makes contract shape.bool = tt
+shape_makes contract (shape.int kind) = tt
+shape_makes contract (shape.non_zero kind) = non_zero_makes (is_signed kind) _ _ tt tt
+shape_makes contract shape.number = tt
+shape_makes contract shape.text = tt
+shape_makes contract shape.char = tt
+shape_makes contract (shape.formatted format) = tt
+shape_makes contract shape.any = tt
+shape_makes contract shape.bytes = tt
+shape_makes contract shape.schema_itself = tt
+shape_makes contract (shape.option n) = tt
+shape_makes contract (shape.seq n) = tt
+shape_makes contract (shape.set n) = tt
+shape_makes contract (shape.array n zero) = tt
+shape_makes contract (shape.array n (suc len)) = tt
+shape_makes contract (shape.up_to n cap) = tt
+shape_makes contract (shape.tuple []) = tt
+shape_makes contract (shape.tuple (n ∷ ns)) = tt
+shape_makes contract (shape.struct xs closed) = tt
+shape_makes contract (shape.newtype n) = tt
+
+-- ---- a row's document
+
+-- each reference of a row's document stands in one of its parts
+pub among_parts : (contract : Contract) (e : Entry) → IsPlainEntry (Some e) → (ts : List Data) → AreSchemas ts
+    → Among (references (filled (entry_template contract e) ts)) (references_of ts)
+among_parts contract e p ts schemas x h =
+    let t = entry_template contract e in
+    (as_schema (AreSchemas ts) t ts (λ q. q) (p.0, shape_as_schema contract e.shape p.1)).0 schemas x
+    (Contains-append_left (references (filled t ts)) (references_of (left t ts)) x h)
+
+-- each reference of a part stands in the document
+pub parts_among : (contract : Contract) (e : Entry) → IsPlainEntry (Some e) → (ts : List Data)
+    → length ts ≡ length (rows_of (entry_template contract e))
+    → Among (references_of ts) (references (filled (entry_template contract e) ts))
+parts_among contract e p ts long x h =
+    let t = entry_template contract e in
+    let all = (as_schema ⊥ t ts (λ q. absurd q) (p.0, shape_as_schema contract e.shape p.1)).1 x h in
+    subst (λ xs. Contains xs x) (ap (λ us. references (filled t ts) ++ references_of us) (none_left t ts long)
+    ∙ append-nil (references (filled t ts))) all
+
+pub filled_schema : (contract : Contract) (e : Entry) (ts : List Data) → AreSchemas ts → IsSchema (filled (entry_template contract e) ts)
+filled_schema contract e ts h = made_schema (entry_template contract e) ts h (shape_makes contract e.shape)

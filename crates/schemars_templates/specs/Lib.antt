@@ -1,0 +1,4 @@
+pub mod Template
+pub mod OfShape
+pub mod View
+pub mod Describes

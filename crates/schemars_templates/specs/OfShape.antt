@@ -1,0 +1,111 @@
+-- The document of each shape, as a template.
+use Rattle.std.specs.Prelude.{ℕ, zero, suc, List, [], ◌∷◌, ◌++◌, length, map, Bool, true, false, if◌then◌else◌, codes}
+use Rattle.serde_json.specs.Data.{Data, boolean, number, unsigned, string, array, Items, item, no_items}
+use Rattle.schemars_json.specs.Json.{Text}
+use Rattle.schemars_rewrite.specs.NullLaw.{text_items}
+use Rattle.schemars_shapes.specs.Shape as shape
+use Rattle.schemars_shapes.specs.Shape.{Shape, Field, Entry}
+use Rattle.schemars_types.specs.Meaning.{Contract}
+use Rattle.schemars_documents.specs.Documents.{type_alone, int_document, non_zero_document, char_document}
+use Rattle.schemars_documents.specs.Documents.{formatted_document, empty_list_document, bytes_document, schema_document}
+use Rattle.schemars_documents.specs.Documents.{required_names}
+use Rattle.schemars_templates.specs.Template.{Template, finished, row, list, members, nullable, noted, Templates}
+use Rattle.schemars_templates.specs.Template.{no_templates, template}
+
+abbrev pub templates_of : List Template → Templates
+templates_of [] = no_templates
+templates_of (t ∷ ts) = template t (templates_of ts)
+
+abbrev pub KeywordTemplate : Type 0
+KeywordTemplate = Text × Template
+
+-- an object with these keywords
+abbrev pub object_with : List KeywordTemplate → Template
+object_with es = members (map (λ e. e.0) es) (templates_of (map (λ e. e.1) es))
+
+abbrev pub said : Text → Data → KeywordTemplate
+said key d = (key, finished d)
+
+abbrev pub typed : Text → KeywordTemplate
+typed name = said (codes "type") (string name)
+
+abbrev pub count_at : Text → ℕ → KeywordTemplate
+count_at key n = said key (number (unsigned n))
+
+-- ---- lists
+
+-- a list with these items, and what else is said of it
+abbrev pub list_template : ℕ → List KeywordTemplate → Template
+list_template n rest = object_with (typed (codes "array") ∷ (codes "items", row n) ∷ rest)
+
+abbrev pub set_template : ℕ → Template
+set_template n = list_template n (said (codes "uniqueItems") (boolean true) ∷ [])
+
+abbrev pub up_to_template : ℕ → ℕ → Template
+up_to_template n cap = list_template n (count_at (codes "maxItems") cap ∷ [])
+
+abbrev pub exactly : ℕ → List KeywordTemplate
+exactly n = count_at (codes "minItems") n ∷ count_at (codes "maxItems") n ∷ []
+
+-- a list of no items is so whatever they would be
+abbrev pub array_template : ℕ → ℕ → Template
+array_template n zero = finished empty_list_document
+array_template n (suc len) = list_template n (exactly (suc len))
+
+-- a list of one item for each part
+abbrev pub tuple_template : List ℕ → Template
+tuple_template [] = finished empty_list_document
+tuple_template (n ∷ ns) =
+    object_with (typed (codes "array") ∷ (codes "prefixItems", list (templates_of (map row (n ∷ ns)))) ∷ exactly (length (n ∷ ns)))
+
+-- ---- structs
+
+abbrev pub property : Field → KeywordTemplate
+property x = (x.name, noted x.notes (row x.ty))
+
+abbrev pub properties_at : List KeywordTemplate → List KeywordTemplate
+properties_at [] = []
+properties_at (e ∷ es) = (codes "properties", object_with (e ∷ es)) ∷ []
+
+abbrev pub required_at : Items → List KeywordTemplate
+required_at no_items = []
+required_at (item d ds) = said (codes "required") (array (item d ds)) ∷ []
+
+abbrev pub closed_at : Bool → List KeywordTemplate
+closed_at false = []
+closed_at true = said (codes "additionalProperties") (boolean false) ∷ []
+
+-- a map with these properties
+abbrev pub map_template : List KeywordTemplate → Items → Bool → Template
+map_template properties required closed =
+    object_with (typed (codes "object") ∷ (properties_at properties ++ (required_at required ++ closed_at closed)))
+
+abbrev pub struct_template : Contract → List Field → Bool → Template
+struct_template contract xs closed = map_template (map property xs) (text_items (required_names contract xs)) closed
+
+-- ---- by shape
+
+abbrev pub template_of : Contract → Shape → Template
+template_of contract shape.null = finished (type_alone (codes "null"))
+template_of contract shape.bool = finished (type_alone (codes "boolean"))
+template_of contract (shape.int kind) = finished (int_document kind)
+template_of contract (shape.non_zero kind) = finished (non_zero_document kind)
+template_of contract shape.number = finished (type_alone (codes "number"))
+template_of contract shape.text = finished (type_alone (codes "string"))
+template_of contract shape.char = finished char_document
+template_of contract (shape.formatted format) = finished (formatted_document format)
+template_of contract shape.any = finished (boolean true)
+template_of contract shape.bytes = finished (bytes_document contract)
+template_of contract shape.schema_itself = finished schema_document
+template_of contract (shape.option n) = nullable (row n)
+template_of contract (shape.seq n) = list_template n []
+template_of contract (shape.set n) = set_template n
+template_of contract (shape.array n len) = array_template n len
+template_of contract (shape.up_to n cap) = up_to_template n cap
+template_of contract (shape.tuple ns) = tuple_template ns
+template_of contract (shape.struct xs closed) = struct_template contract xs closed
+template_of contract (shape.newtype n) = row n
+
+-- a row's document, with its notes
+abbrev pub entry_template : Contract → Entry → Template
+entry_template contract e = noted e.notes (template_of contract e.shape)

@@ -1,0 +1,28 @@
+-- What a template says, apart from where it lies in memory.
+use Rattle.std.specs.Prelude.{List, [], ◌∷◌, map}
+use Rattle.std.specs.Borrow.{Bor}
+use Rattle.serde_json.specs.View.{view, members_view}
+use Rattle.schemars_json.specs.Json.{Text}
+use Rattle.schemars_templates.specs.Template as spec
+use Rattle.schemars_templates.specs.Template.{Templates, no_templates, template}
+use Rattle.schemars_templates.specs.OfShape.{KeywordTemplate, templates_of}
+use Rattle.schemars_templates.specs.declared.template.Template.{Template, fold-Template}
+use Rattle.schemars_templates.specs.declared.template.Template.TheOpen.{Template-F}
+
+-- one node, whose inner templates are seen already
+abbrev pub node_view : Template-F spec.Template → spec.Template
+node_view (Template-F.Value v) = spec.finished (view v)
+node_view (Template-F.Row n) = spec.row n
+node_view (Template-F.List v) = spec.list (templates_of v.items)
+node_view (Template-F.Object keys v) = spec.members (map (λ k. k.now) keys.items) (templates_of v.items)
+node_view (Template-F.Nullable t) = spec.nullable t.value
+node_view (Template-F.Noted notes t) = spec.noted (members_view notes.now.entries) t.value
+
+abbrev pub template_view : Template → spec.Template
+template_view = fold-Template spec.Template node_view
+
+abbrev pub templates_view : List Template → Templates
+templates_view ts = templates_of (map template_view ts)
+
+abbrev pub keyword_view : Bor Text × Template → KeywordTemplate
+keyword_view e = (e.0.now, template_view e.1)

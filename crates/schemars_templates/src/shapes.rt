@@ -1,0 +1,282 @@
+//! The template of each shape.
+ghost use Rattle.std.specs.Prelude.{◌≡◌, ◌∷◌, ◌++◌, [], codes, map, IfOk, OnOk};
+ghost use Rattle.serde_json.specs.Data.{string, number, unsigned, boolean};
+ghost use Rattle.serde_json.specs.View.{items_view};
+ghost use Rattle.schemars_shapes.specs.Shape.{shape_of, field_of, entry_of};
+ghost use Rattle.schemars_documents.specs.ContractOf.{contract_of};
+ghost use Rattle.schemars_documents.specs.Documents.{bytes_document};
+ghost use Rattle.schemars_templates.specs.Template.{row, finished, nullable};
+ghost use Rattle.schemars_templates.specs.View.{template_view, keyword_view};
+ghost use Rattle.schemars_templates.specs.OfShape.{object_with, typed, list_template, set_template, array_template};
+ghost use Rattle.schemars_templates.specs.OfShape.{up_to_template, tuple_template, property, properties_at, required_at, closed_at};
+ghost use Rattle.schemars_templates.specs.OfShape.{map_template, struct_template, template_of, entry_template};
+
+use schemars_documents::Contract;
+use schemars_documents::documents::{
+    bytes_document, char_document, empty_list_document, formatted_document, required_names,
+    schema_document, type_alone,
+};
+use schemars_documents::integers::{int_document, non_zero_document};
+use crate::template::Template;
+use schemars_schema::Schema;
+use schemars_types::{Field, Fields, IntKind, Shape, TypeEntry, TypeNo};
+use serde_json::Value;
+use std::alloc::{AllocError, Global};
+
+/// The template of a row's document, with its notes.
+pub fn entry_template<'t>(
+    alloc: Global,
+    contract: Contract,
+    entry: &'t TypeEntry,
+) -> Result<Template<'t>, AllocError>
+    ensures { IfOk result (λ t. template_view t ≡ entry_template (contract_of contract) (entry_of entry.now)) }
+{
+    let bare = template_of(alloc, contract, &entry.shape)?;
+    Ok(Template::Noted(&entry.notes, Box::new(alloc, bare)?))
+}
+
+/// The template of a shape's document.
+pub fn template_of<'t>(
+    alloc: Global,
+    contract: Contract,
+    shape: &'t Shape,
+) -> Result<Template<'t>, AllocError>
+    ensures { IfOk result (λ t. template_view t ≡ template_of (contract_of contract) (shape_of shape.now)) }
+{
+    match shape {
+        Shape::Null => finished(type_alone(alloc, "null")?),
+        Shape::Bool => finished(type_alone(alloc, "boolean")?),
+        Shape::Int(kind) => finished(int_document(alloc, *kind)?),
+        Shape::NonZero(kind) => finished(non_zero_document(alloc, *kind)?),
+        Shape::Number => finished(type_alone(alloc, "number")?),
+        Shape::Text => finished(type_alone(alloc, "string")?),
+        Shape::Char => finished(char_document(alloc)?),
+        Shape::Formatted(format) => finished(formatted_document(alloc, format)?),
+        Shape::Any => finished(Schema::from(true)),
+        Shape::Bytes => bytes_template(alloc, contract),
+        Shape::SchemaItself => finished(schema_document(alloc)?),
+        Shape::Option(some) => option_template(alloc, *some),
+        Shape::Seq(item) => seq_template(alloc, *item),
+        Shape::Set(item) => set_template(alloc, *item),
+        Shape::Array(item, len) => array_template(alloc, *item, *len),
+        Shape::UpTo(item, cap) => up_to_template(alloc, *item, *cap),
+        Shape::Tuple(parts) => tuple_template(alloc, parts),
+        Shape::Struct(fields) => struct_template(alloc, contract, fields),
+        Shape::Newtype(inner) => Ok(row(*inner)),
+    }
+}
+
+fn finished<'t>(schema: Schema) -> Result<Template<'t>, AllocError>
+    ensures { IfOk result (λ t. template_view t ≡ finished schema) }
+{
+    Ok(Template::Value(schema.to_value()))
+}
+
+fn text<'t>(alloc: Global, text: &str) -> Result<Template<'t>, AllocError>
+    ensures { IfOk result (λ t. template_view t ≡ finished (string text.now)) }
+{
+    Ok(Template::Value(Value::try_from_str(alloc, text)?))
+}
+
+fn count<'t>(n: u64) -> Template<'t>
+    ensures { template_view result ≡ finished (number (unsigned n)) }
+{
+    Template::Value(Value::from(n))
+}
+
+fn bytes_template<'t>(alloc: Global, contract: Contract) -> Result<Template<'t>, AllocError>
+    ensures { IfOk result (λ t. template_view t ≡ finished (bytes_document (contract_of contract))) }
+{
+    let byte = int_document(alloc, IntKind::U8)?;
+    finished(bytes_document(alloc, contract, byte)?)
+}
+
+fn row<'t>(n: TypeNo) -> Template<'t>
+    ensures { template_view result ≡ row n }
+{
+    Template::Row(n)
+}
+
+fn option_template<'t>(alloc: Global, some: TypeNo) -> Result<Template<'t>, AllocError>
+    ensures { IfOk result (λ t. template_view t ≡ nullable (row some)) }
+{
+    Ok(Template::Nullable(Box::new(alloc, Template::Row(some))?))
+}
+
+fn seq_template<'t>(alloc: Global, item: TypeNo) -> Result<Template<'t>, AllocError>
+    ensures { IfOk result (λ t. template_view t ≡ list_template item []) }
+{
+    let array = text(alloc, "array")?;
+    let keys = vec![in alloc; "type", "items"]?;
+    let values = vec![in alloc; array, Template::Row(item)]?;
+    Ok(Template::Object(keys, values))
+}
+
+fn set_template<'t>(alloc: Global, item: TypeNo) -> Result<Template<'t>, AllocError>
+    ensures { IfOk result (λ t. template_view t ≡ set_template item) }
+{
+    let array = text(alloc, "array")?;
+    let distinct = Template::Value(Value::Bool(true));
+    let keys = vec![in alloc; "type", "items", "uniqueItems"]?;
+    let values = vec![in alloc; array, Template::Row(item), distinct]?;
+    Ok(Template::Object(keys, values))
+}
+
+fn array_template<'t>(alloc: Global, item: TypeNo, len: u64) -> Result<Template<'t>, AllocError>
+    ensures { IfOk result (λ t. template_view t ≡ array_template item len) }
+{
+    if len == 0 {
+        return finished(empty_list_document(alloc)?);
+    }
+    let array = text(alloc, "array")?;
+    let keys = vec![in alloc; "type", "items", "minItems", "maxItems"]?;
+    let values = vec![in alloc; array, Template::Row(item), count(len), count(len)]?;
+    Ok(Template::Object(keys, values))
+}
+
+fn up_to_template<'t>(alloc: Global, item: TypeNo, cap: u64) -> Result<Template<'t>, AllocError>
+    ensures { IfOk result (λ t. template_view t ≡ up_to_template item cap) }
+{
+    let array = text(alloc, "array")?;
+    let keys = vec![in alloc; "type", "items", "maxItems"]?;
+    let values = vec![in alloc; array, Template::Row(item), count(cap)]?;
+    Ok(Template::Object(keys, values))
+}
+
+// A list of one item for each part.
+fn tuple_template<'t>(alloc: Global, parts: &[TypeNo]) -> Result<Template<'t>, AllocError>
+    ensures { IfOk result (λ t. template_view t ≡ tuple_template parts.now) }
+{
+    if parts.is_empty() {
+        return finished(empty_list_document(alloc)?);
+    }
+    let len = parts.len() as u64;
+    let array = text(alloc, "array")?;
+    let items = rows_in_order(alloc, parts)?;
+    let keys = vec![in alloc; "type", "prefixItems", "minItems", "maxItems"]?;
+    let values = vec![in alloc; array, Template::List(items), count(len), count(len)]?;
+    Ok(Template::Object(keys, values))
+}
+
+fn rows_in_order<'t>(alloc: Global, parts: &[TypeNo]) -> Result<Vec<Template<'t>>, AllocError>
+    ensures { IfOk result (λ v. map template_view v.items ≡ map row parts.now) }
+{
+    let mut rows = Vec::new(alloc);
+    for part in parts {
+        rows.push(Template::Row(*part))?;
+    }
+    Ok(rows)
+}
+
+fn struct_template<'t>(
+    alloc: Global,
+    contract: Contract,
+    fields: &'t Fields,
+) -> Result<Template<'t>, AllocError>
+    ensures { IfOk result (λ t. template_view t
+        ≡ struct_template (contract_of contract) (map field_of fields.now.list.items) fields.now.closed) }
+{
+    let properties = properties(alloc, &fields.list)?;
+    let required = required_names(alloc, contract, &fields.list)?;
+    map_template(alloc, properties, required, fields.closed)
+}
+
+// The fields' schemas under their names, each with its notes.
+fn properties<'t>(
+    alloc: Global,
+    fields: &'t [Field],
+) -> Result<Vec<(&'t str, Template<'t>)>, AllocError>
+    ensures { IfOk result (λ v. map keyword_view v.items ≡ map property (map field_of fields.now)) }
+{
+    let mut properties = Vec::new(alloc);
+    for field in fields {
+        let row = Box::new(alloc, Template::Row(field.ty))?;
+        properties.push((field.name.as_str(), Template::Noted(&field.notes, row)))?;
+    }
+    Ok(properties)
+}
+
+// A map with these properties.
+fn map_template<'t>(
+    alloc: Global,
+    properties: Vec<(&'t str, Template<'t>)>,
+    required: Vec<Value>,
+    closed: bool,
+) -> Result<Template<'t>, AllocError>
+    ensures { IfOk result (λ t. template_view t
+        ≡ map_template (map keyword_view properties.entry.items) (items_view required.items) closed) }
+{
+    let mut keywords: Vec<(&'t str, Template<'t>)> = typed(alloc, "object")?;
+    add_properties(alloc, &mut keywords, properties)?;
+    add_required(&mut keywords, required)?;
+    add_closed(&mut keywords, closed)?;
+    object_with(alloc, keywords)
+}
+
+fn typed<'t>(alloc: Global, name: &str) -> Result<Vec<(&'t str, Template<'t>)>, AllocError>
+    ensures { IfOk result (λ v. map keyword_view v.items ≡ typed name.now ∷ []) }
+{
+    let name = text(alloc, name)?;
+    let mut keywords: Vec<(&'t str, Template<'t>)> = Vec::new(alloc);
+    keywords.push(("type", name))?;
+    Ok(keywords)
+}
+
+fn add_properties<'t>(
+    alloc: Global,
+    keywords: &mut Vec<(&'t str, Template<'t>)>,
+    properties: Vec<(&'t str, Template<'t>)>,
+) -> Result<(), AllocError>
+    ensures { OnOk result (map keyword_view keywords.new.items
+        ≡ map keyword_view keywords.old.items ++ properties_at (map keyword_view properties.entry.items)) }
+{
+    if properties.is_empty() {
+        return Ok(());
+    }
+    let properties = object_with(alloc, properties)?;
+    keywords.push(("properties", properties))?;
+    Ok(())
+}
+
+fn add_required<'t>(
+    keywords: &mut Vec<(&'t str, Template<'t>)>,
+    required: Vec<Value>,
+) -> Result<(), AllocError>
+    ensures { OnOk result (map keyword_view keywords.new.items
+        ≡ map keyword_view keywords.old.items ++ required_at (items_view required.items)) }
+{
+    if required.is_empty() {
+        return Ok(());
+    }
+    keywords.push(("required", Template::Value(Value::Array(required))))?;
+    Ok(())
+}
+
+fn add_closed<'t>(
+    keywords: &mut Vec<(&'t str, Template<'t>)>,
+    closed: bool,
+) -> Result<(), AllocError>
+    ensures { OnOk result (map keyword_view keywords.new.items
+        ≡ map keyword_view keywords.old.items ++ closed_at closed) }
+{
+    if closed {
+        keywords.push(("additionalProperties", Template::Value(Value::Bool(false))))?;
+    }
+    Ok(())
+}
+
+// An object with these keywords.
+fn object_with<'t>(
+    alloc: Global,
+    keywords: Vec<(&'t str, Template<'t>)>,
+) -> Result<Template<'t>, AllocError>
+    ensures { IfOk result (λ t. template_view t ≡ object_with (map keyword_view keywords.entry.items)) }
+{
+    let mut keys = Vec::new(alloc);
+    let mut values = Vec::new(alloc);
+    for (key, value) in keywords {
+        keys.push(key)?;
+        values.push(value)?;
+    }
+    Ok(Template::Object(keys, values))
+}
