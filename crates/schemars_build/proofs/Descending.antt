@@ -1,12 +1,11 @@
 -- How the recursion that makes documents goes down.
-use Rattle.std.proofs.Common.{◌≡◌, ◌<◌, ◌≤◌, ◌+◌, ◌*◌, ℕ, suc, List, [], ◌∷◌, length, map, Bool, true, false, Some}
-use Rattle.std.proofs.Common.{refl, ap, ◌∙◌, sym, subst, arith, All, get_or, Contains}
+use Rattle.std.proofs.Common.{◌≡◌, ◌<◌, ◌≤◌, ◌+◌, ◌*◌, ℕ, suc, List, [], length, Bool, true, false, Some}
+use Rattle.std.proofs.Common.{refl, ap, sym, subst, arith, All, get_or, Contains}
 use Rattle.std.specs.Prelude.{if◌then◌else◌}
 use Rattle.std.specs.Option.{option_map_or}
 use Rattle.std.proofs.Math.Nat.{mul-le-mul_right}
-use Rattle.std.proofs.lemmas.List.{get_or-map, length-map, get_or_default}
-use Rattle.schemars_shapes.specs.declared.shape.Field as src
-use Rattle.schemars_shapes.specs.Shape.{Entry, numbers_of, field_of}
+use Rattle.std.proofs.lemmas.List.{get_or_default}
+use Rattle.schemars_shapes.specs.Shape.{Entry, numbers_of}
 use Rattle.schemars_types.specs.Rows.{Row, entry_at}
 use Rattle.schemars_types.specs.Edges.{numbers_at, is_inline_at, height}
 use Rattle.schemars_types.specs.Faults.{IsChecked}

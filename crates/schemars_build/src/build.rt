@@ -9,11 +9,11 @@ ghost use Rattle.schemars_build.specs.Plans.{plan_of};
 ghost use Rattle.schemars_build.specs.Parts.{IsPart, AreParts, IsOwn, IsMade};
 
 use schemars_documents::Contract;
-use schemars_templates::shapes::entry_template;
-use schemars_templates::template::fill;
 use schemars_naming::work::Work;
 use schemars_schema::Schema;
 use schemars_schema::encoding::encode_ref_name;
+use schemars_templates::shapes::entry_template;
+use schemars_templates::template::fill;
 use schemars_types::{TypeNo, Types};
 use std::alloc::{AllocError, Global};
 use std::collections::VecDeque;

@@ -1,10 +1,7 @@
 -- What describes a row where its parts may be written in more ways, and how lists become items.
-use Rattle.std.proofs.Common.{◌≡◌, inl, inr, ◌≤◌, ℕ, zero, suc, List, [], ◌∷◌, Option, Some, None, map, refl, ap, ◌∙◌, arith}
-use Rattle.serde_json.specs.View.{view, items_of, items_view}
-use Rattle.serde_json.specs.declared.value.Value.{Value}
-use Rattle.serde_json.specs.Data.{Data, string, item}
+use Rattle.std.proofs.Common.{inl, inr, ◌≤◌, ℕ, zero, suc, List, [], ◌∷◌, Option, Some, None, arith}
+use Rattle.serde_json.specs.Data.{Data}
 use Rattle.schemars_json.specs.Json.{Text}
-use Rattle.schemars_rewrite.specs.NullLaw.{text_items}
 use Rattle.schemars_shapes.specs.Shape.{Entry}
 use Rattle.schemars_types.specs.Rows.{Row, entry_at}
 use Rattle.schemars_types.specs.Meaning.{Contract}

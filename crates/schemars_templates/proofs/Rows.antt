@@ -1,5 +1,5 @@
 -- The rows that stand in a shape's template are those of the shape.
-use Rattle.std.proofs.Common.{◌≡◌, ◌<◌, ℕ, zero, suc, List, [], ◌∷◌, ◌++◌, Bool, true, false, map, refl, sym, ap, ◌∙◌, subst}
+use Rattle.std.proofs.Common.{◌≡◌, ℕ, zero, suc, List, [], ◌∷◌, Bool, true, false, map, refl, sym, ap, ◌∙◌, subst}
 use Rattle.std.proofs.Common.{append-nil, arith, All}
 use Rattle.schemars_json.specs.Json.{Text}
 use Rattle.schemars_rewrite.specs.NullLaw.{text_items}

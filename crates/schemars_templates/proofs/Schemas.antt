@@ -1,5 +1,5 @@
 -- What describes a row is a schema.
-use Rattle.std.proofs.Common.{◌≡◌, inl, inr, ℕ, zero, suc, List, [], ◌∷◌, length, Option, Some, None, refl, sym, ap, subst}
+use Rattle.std.proofs.Common.{◌≡◌, inl, inr, ℕ, zero, suc, List, [], ◌∷◌, length, Option, Some, None, sym, ap, subst}
 use Rattle.serde_json.specs.Data.{Data}
 use Rattle.schemars_json.specs.Json.{Text}
 use Rattle.schemars_schema.specs.SchemaData.{IsSchema}

@@ -1,5 +1,5 @@
 -- The document of each shape, as a template.
-use Rattle.std.specs.Prelude.{ℕ, zero, suc, List, [], ◌∷◌, ◌++◌, length, map, Bool, true, false, if◌then◌else◌, codes}
+use Rattle.std.specs.Prelude.{ℕ, zero, suc, List, [], ◌∷◌, ◌++◌, length, map, Bool, true, false, codes}
 use Rattle.serde_json.specs.Data.{Data, boolean, number, unsigned, string, array, Items, item, no_items}
 use Rattle.schemars_json.specs.Json.{Text}
 use Rattle.schemars_rewrite.specs.NullLaw.{text_items}

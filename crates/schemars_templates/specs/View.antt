@@ -1,5 +1,5 @@
 -- What a template says, apart from where it lies in memory.
-use Rattle.std.specs.Prelude.{List, [], ◌∷◌, map}
+use Rattle.std.specs.Prelude.{List, map}
 use Rattle.std.specs.Borrow.{Bor}
 use Rattle.serde_json.specs.View.{view, members_view}
 use Rattle.schemars_json.specs.Json.{Text}

@@ -11,13 +11,13 @@ ghost use Rattle.schemars_templates.specs.OfShape.{object_with, typed, list_temp
 ghost use Rattle.schemars_templates.specs.OfShape.{up_to_template, tuple_template, property, properties_at, required_at, closed_at};
 ghost use Rattle.schemars_templates.specs.OfShape.{map_template, struct_template, template_of, entry_template};
 
+use crate::template::Template;
 use schemars_documents::Contract;
 use schemars_documents::documents::{
     bytes_document, char_document, empty_list_document, formatted_document, required_names,
     schema_document, type_alone,
 };
 use schemars_documents::integers::{int_document, non_zero_document};
-use crate::template::Template;
 use schemars_schema::Schema;
 use schemars_types::{Field, Fields, IntKind, Shape, TypeEntry, TypeNo};
 use serde_json::Value;

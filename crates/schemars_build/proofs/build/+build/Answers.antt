@@ -1,18 +1,18 @@
-use Rattle.std.proofs.Common.{◌≡◌, ◌≢◌, ◌<◌, ◌≤◌, ◌+◌, ◌++◌, ◌∷◌, [], ℕ, List, Option, Bool, false, length, take, true, inl, inr}
+use Rattle.std.proofs.Common.{◌≡◌, ◌≢◌, ◌<◌, ◌+◌, ◌++◌, ◌∷◌, [], ℕ, List, Option, Bool, false, length, take, true, inl, inr}
 use Rattle.std.proofs.Common.{Some, None, refl, ap, sym, ◌∙◌, subst, arith, rules, string_bytes, All, get_or, not, is_some, eqb}
 use Rattle.std.proofs.Common.{true≢false}
 use Rattle.std.specs.Prelude.{◌||◌, codes}
 use Rattle.std.specs.Option.{option_map_or, option_eq}
 use Rattle.std.proofs.lemmas.Bool.{eqb-true}
 use Rattle.std.proofs.lemmas.Bool.Decides.{nat_tests}
-use Rattle.std.proofs.lemmas.List.{take_all, take_more}
+use Rattle.std.proofs.lemmas.List.{take_more}
 use Rattle.std.proofs.lemmas.Str.{IsUtf8-string_bytes}
-use Rattle.serde_json.specs.Data.{Data, boolean, string, put}
+use Rattle.serde_json.specs.Data.{Data, boolean, string}
 use Rattle.serde_json.specs.Find.{get_member}
 use Rattle.serde_json.proofs.Views.{get_member-put}
 use Rattle.schemars_schema.specs.References.{references}
-use Rattle.schemars_shapes.specs.Shape.{Entry, entry_of, numbers_of}
-use Rattle.schemars_types.specs.Edges.{is_inline_at, height}
+use Rattle.schemars_shapes.specs.Shape.{entry_of}
+use Rattle.schemars_types.specs.Edges.{is_inline_at}
 use Rattle.schemars_documents.specs.ContractOf.{contract_of}
 use Rattle.schemars_documents.specs.Documents.{reference}
 use Rattle.schemars_schema.specs.SchemaData.{IsSchema}
@@ -22,15 +22,15 @@ use Rattle.schemars_naming.specs.Naming.{name_of}
 use Rattle.schemars_naming.specs.Work.{Work, Step, undone, reference_to}
 use Rattle.schemars_naming.proofs.Given.{gives-keeps}
 use Rattle.schemars_build.specs.Missing.{StandsIn, missing}
-use Rattle.schemars_build.specs.Parts.{IsPart, AreParts, IsOwn, IsMade}
+use Rattle.schemars_build.specs.Parts.{IsPart, AreParts, IsMade}
 use Rattle.schemars_build.specs.Plans.{plan_of}
 use Rattle.schemars_build.specs.Reached.{AreReached}
-use Rattle.schemars_build.proofs.Building.{no_parts, parts_more, filled_by_parts, own_of_parts, in_place, stand_rows}
+use Rattle.schemars_build.proofs.Building.{parts_more, filled_by_parts, own_of_parts, in_place, stand_rows}
 use Rattle.schemars_build.proofs.Descending.{left_of_subschema, left_of_own_document, left_of_subschemas, left_of_define}
-use Rattle.schemars_build.proofs.Descending.{stands, to_part, to_define, to_definition}
+use Rattle.schemars_build.proofs.Descending.{to_part, to_define, to_definition}
 use Rattle.schemars_build.proofs.Reaching.{reached_defines, reached_by_name, reached_root, nothing_added}
 use Rattle.schemars_build.proofs.Steps.{begun_with, finished_with, begun-fewer, undone-begun, undone-finished}
-use Rattle.schemars_build.proofs.Steps.{begun-contains, finished-found, key-found, step_trans, step_meet, step_names}
+use Rattle.schemars_build.proofs.Steps.{begun-contains, finished-found, key-found, step_trans, step_names}
 use Rattle.schemars_build.proofs.Steps.{step_defines, step_wider, missing-wider}
 use Rattle.schemars_build.proofs.build.+build.Goals as goal
 
