@@ -74,7 +74,8 @@ pub parts_more : (plan : Plan) (inside : Bool) (start old new : Work) (n : ℕ) 
     → AreParts plan inside start old n ms ts → IsPart plan inside old new m t
     → AreParts plan inside start new n (ms ++ m ∷ []) (ts ++ t ∷ [])
 parts_more plan inside start old new n ms ts m t before step stands all one = record {
-  written = parts_joined (IsWrittenWithin plan (not inside) old (height plan.rows n)) (IsWrittenWithin plan (not inside) new (height plan.rows n))
+  written = parts_joined (IsWrittenWithin plan (not inside) old (height plan.rows n))
+      (IsWrittenWithin plan (not inside) new (height plan.rows n))
       (subschema-wider plan (not inside) old new step (height plan.rows n) (height plan.rows n) (omega arith)) ms ts m t all.written
       (same_work-wider plan (not inside) new (depth_in_place plan.rows m) (height plan.rows n) stands.is_lower m t one.written);
   reached = λ plain. reached_trans plan inside start old new (references_of ts) (references t) (references_of (ts ++ t ∷ [])) before step

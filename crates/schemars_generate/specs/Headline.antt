@@ -16,7 +16,7 @@ use Rattle.schemars_documents.specs.Documents.{root_document}
 use Rattle.schemars_templates.specs.Describes.{Describes}
 use Rattle.schemars_naming.specs.Work.{Work, Refers, Step}
 use Rattle.schemars_build.specs.Reached.{AreReached}
-use Rattle.schemars_generate.specs.State.{State, plan_of, work_of}
+use Rattle.schemars_generate.specs.State.{State, path_of, plan_of, work_of, HasOwnDefinitions}
 
 -- under every reading of patterns, from the bound on, the schema in this document accepts a JSON value exactly when it
 -- belongs to the row, and never leaves it open
@@ -38,6 +38,11 @@ Headline rows contract path n document = IsPlainTable rows → MeansItsType rows
 -- the paths of the drafts, and those of all dialects
 abbrev pub IsDraftPath : Text → Type 0
 IsDraftPath path = (path ≡ codes "/$defs") ⊎ (path ≡ codes "/definitions")
+
+-- that of a generator whose definitions are its own
+abbrev pub RootHeadline : State → ℕ → Data → Type 0
+RootHeadline s n document =
+    HasOwnDefinitions s → IsDraftPath (path_of s) → Headline s.rows (contract_of s.settings.contract) (path_of s) n document
 
 abbrev pub IsKnownPath : Text → Type 0
 IsKnownPath path = IsDraftPath path ⊎ (path ≡ codes "/components/schemas")
@@ -81,5 +86,5 @@ pub record MeansItsTypeIn (rows : List Row) (contract : Contract) (path : Text) 
 -- in each document that holds the definitions at the path
 abbrev pub SubschemaHeadline : State → ℕ → Data → Type 0
 SubschemaHeadline s n schema =
-    IsPlainTable s.rows → IsKnownPath (plan_of s None).path → (document : Data) → IsHolding (plan_of s None).path s.definitions document
-    → MeansItsTypeIn s.rows (contract_of s.settings.contract) (plan_of s None).path n s.definitions document schema
+    IsPlainTable s.rows → IsKnownPath (path_of s) → (document : Data) → IsHolding (path_of s) s.definitions document
+    → MeansItsTypeIn s.rows (contract_of s.settings.contract) (path_of s) n s.definitions document schema

@@ -44,13 +44,17 @@ without_slash (x ∷ y ∷ rest) = x ∷ without_slash (y ∷ rest)
 abbrev pub stripped : Text → Text
 stripped path = without_slash (without_hash path)
 
+-- where the definitions of a generator stand
+abbrev pub path_of : State → Text
+path_of s = stripped s.settings.definitions_path
+
 -- ---- between calls
 
 abbrev pub work_of : State → Work
 work_of s = record { names = s.names; definitions = s.definitions; begun = []; kept = length s.names; meets_root = false }
 
 abbrev pub plan_of : State → Option ℕ → Plan
-plan_of s root = record { rows = s.rows; contract = s.settings.contract; path = stripped s.settings.definitions_path; root = root }
+plan_of s root = record { rows = s.rows; contract = s.settings.contract; path = path_of s; root = root }
 
 -- each definition is the document of the row of its name, with references to other definitions alone: so it is where
 -- the caller changed none
@@ -61,7 +65,7 @@ HasOwnDefinitions s = AreDefinitions (plan_of s None) (work_of s)
 abbrev pub ReferencesNameKeys : State → Type 0
 ReferencesNameKeys s =
     (k : Text) (d r : Data) → get_member k s.definitions ≡ Some d → Contains (references d) r
-    → (name : Text) × IsKey name s.definitions × (r ≡ string (reference_to (plan_of s None).path name))
+    → (name : Text) × IsKey name s.definitions × (r ≡ string (reference_to (path_of s) name))
 
 -- what is there after a root call: where a new definition refers to the root document, which `#` means, none of the new ones stays
 abbrev pub after_root : State → Work → State

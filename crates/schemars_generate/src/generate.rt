@@ -7,24 +7,23 @@ ghost use Rattle.serde_json.specs.Written.{has_float};
 ghost use Rattle.serde_json.specs.Rows.{map_row};
 ghost use Rattle.std.specs.Borrow.{Lends, sem};
 ghost use Rattle.schemars_schema.specs.References.{references};
-ghost use Rattle.schemars_types.specs.Edges.{is_inline_at};
 ghost use Rattle.schemars_types.specs.Extends.{begins_with};
 ghost use Rattle.schemars_types.specs.Faults.{IsAccepted, IsChecked};
-ghost use Rattle.schemars_documents.specs.Documents.{reference};
-ghost use Rattle.schemars_generate.specs.Headline.{Headline, SubschemaHeadline, IsRootOf, IsTitledRoot, IsDraftPath, with_definitions};
+ghost use Rattle.schemars_generate.specs.Headline.{RootHeadline, SubschemaHeadline, IsRootOf, IsTitledRoot, IsDraftPath};
+ghost use Rattle.schemars_generate.specs.Headline.{with_definitions};
+ghost use Rattle.schemars_generate.specs.Calls.{IsPartOf, IsReferenceOf, Adds, IsNeeded, IsRootCall, IsLastRootCall};
 ghost use Rattle.schemars_build.specs.Parts.{IsSubschema};
-ghost use Rattle.schemars_documents.specs.ContractOf.{contract_of};
-ghost use Rattle.schemars_naming.specs.Naming.{IsOneToOne, name_of};
+ghost use Rattle.schemars_naming.specs.Naming.{IsOneToOne};
 ghost use Rattle.schemars_documents.specs.PlainTable.{IsPlainTable, HasNoFloat};
 ghost use Rattle.schemars_build.specs.Reached.{AreReached};
 ghost use Rattle.schemars_generate.specs.Refusals.{HasFault, CannotPlace};
 ghost use Rattle.schemars_generate.specs.Keys.{HasKeysOnce};
 ghost use Rattle.schemars_generate.specs.Settings.{settings_of, state_of};
-ghost use Rattle.schemars_generate.specs.State.{State, settings2020_12, plan_of, plan_of as state_plan, work_of};
+ghost use Rattle.schemars_generate.specs.State.{State, settings2020_12, path_of, plan_of as state_plan, work_of};
 ghost use Rattle.schemars_generate.specs.State.{after_root, stripped, without_hash, without_slash, HasOwnDefinitions};
 ghost use Rattle.schemars_generate.specs.State.{ReferencesNameKeys};
 ghost use Rattle.schemars_naming.specs.Work as specs;
-ghost use Rattle.schemars_naming.specs.Work.{Step, IsKey, reference_to, undone};
+ghost use Rattle.schemars_naming.specs.Work.{Step, undone};
 
 use crate::error::GenerateError;
 use schemars_build::build::{Plan, own_document, subschema};
@@ -251,13 +250,10 @@ impl SchemaGenerator {
     /// Refusals: `UnknownType(n)` where the table has no row `n`, and want of memory.
     pub fn subschema_for_type(&mut self, alloc: Global, n: TypeNo) -> Result<Schema, GenerateError>
         ensures means { IfOk result (λ s. HasOwnDefinitions self.old → SubschemaHeadline self.new n s) }
-        ensures part { IfOk result (IsSubschema (plan_of self.new None) false (work_of self.new) n) }
-        ensures reference { IfOk result (λ s. is_inline_at self.old.rows n ≡ false → (name : List ℕ)
-            × (name_of n self.old.settings.contract self.new.names ≡ Some name)
-            × IsKey name self.new.definitions × (s ≡ reference (reference_to (plan_of self.old None).path name))) }
-        ensures step { OnOk result (Step (plan_of self.old None) (work_of self.old) (work_of self.new)) }
-        ensures reached { IfOk result (λ s. IsPlainTable self.old.rows
-            → AreReached (plan_of self.old None) true (work_of self.old) (work_of self.new) (references s)) }
+        ensures part { IfOk result (IsPartOf self.new n) }
+        ensures reference { IfOk result (IsReferenceOf self.old self.new n) }
+        ensures step { OnOk result (Adds self.old self.new) }
+        ensures reached { IfOk result (λ s. IsNeeded self.old self.new (references s)) }
         ensures own { HasOwnDefinitions self.old → HasOwnDefinitions self.new }
         ensures keys { HasOwnDefinitions self.old → IsPlainTable self.new.rows → ReferencesNameKeys self.new }
         ensures rest { self.new ≡ record self.old { names = self.new.names; definitions = self.new.definitions } }
@@ -280,16 +276,15 @@ impl SchemaGenerator {
         alloc: Global,
         n: TypeNo,
     ) -> Result<Schema, GenerateError>
-        ensures headline { IfOk result (λ d. HasOwnDefinitions self.old → IsDraftPath (plan_of self.old None).path
-            → Headline self.old.rows (contract_of self.old.settings.contract) (plan_of self.old None).path n d) }
-        ensures root { IfOk result (λ d. (w : specs.Work) × IsRootOf self.old n w d × (self.new ≡ after_root self.old w)) }
+        ensures headline { IfOk result (RootHeadline self.old n) }
+        ensures root { IfOk result (IsRootCall self.old n self.new) }
         ensures own { HasOwnDefinitions self.old → HasOwnDefinitions self.new }
         ensures keys { HasOwnDefinitions self.old → IsPlainTable self.new.rows → ReferencesNameKeys self.new }
         ensures whole { IfOk result (λ d. HasNoFloat self.old.rows → HasOwnDefinitions self.old → has_float d ≡ false) }
         ensures unknown { (result ≡ Err (GenerateError.UnknownType n)) ↔ (length self.old.rows ≤ n) }
         ensures refused { IfErr result (λ e. (e ≡ GenerateError.OutOfMemory) ⊎ (e ≡ GenerateError.UnknownType n)
             ⊎ ((e ≡ GenerateError.DefinitionsPath) × CannotPlace self.old n)) }
-        ensures only_memory { IsPlainTable self.old.rows → IsDraftPath (plan_of self.old None).path → n < length self.old.rows
+        ensures only_memory { IsPlainTable self.old.rows → IsDraftPath (path_of self.old) → n < length self.old.rows
             → IfErr result (λ e. e ≡ GenerateError.OutOfMemory) }
         ensures err { OnErr result (self.new ≡ self.old) }
     {
@@ -304,14 +299,13 @@ impl SchemaGenerator {
         alloc: Global,
         n: TypeNo,
     ) -> Result<Schema, GenerateError>
-        ensures headline { IfOk result (λ d. HasOwnDefinitions self → IsDraftPath (plan_of self None).path
-            → Headline self.rows (contract_of self.settings.contract) (plan_of self None).path n d) }
-        ensures root { IfOk result (λ d. (w : specs.Work) × IsRootOf self n w d) }
+        ensures headline { IfOk result (RootHeadline self n) }
+        ensures root { IfOk result (IsLastRootCall self n) }
         ensures whole { IfOk result (λ d. HasNoFloat self.rows → HasOwnDefinitions self → has_float d ≡ false) }
         ensures unknown { (result ≡ Err (GenerateError.UnknownType n)) ↔ (length self.rows ≤ n) }
         ensures refused { IfErr result (λ e. (e ≡ GenerateError.OutOfMemory) ⊎ (e ≡ GenerateError.UnknownType n)
             ⊎ ((e ≡ GenerateError.DefinitionsPath) × CannotPlace self n)) }
-        ensures only_memory { IsPlainTable self.rows → IsDraftPath (plan_of self None).path → n < length self.rows
+        ensures only_memory { IsPlainTable self.rows → IsDraftPath (path_of self) → n < length self.rows
             → IfErr result (λ e. e ≡ GenerateError.OutOfMemory) }
     {
         self.known(n)?;

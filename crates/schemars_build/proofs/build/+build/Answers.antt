@@ -182,7 +182,9 @@ define-returns-clause-is t c =
     let Q : Work → Type 0 = λ w. IsMade plan old w k in
     subst Q (sym finished) (record {
       defined = (d, finished-found plan old mid k d step);
-      reached = λ plain. reached_defines plan old mid k d none (step.stays k (boolean false) (get_member-put k (boolean false) old.definitions))
+      reached = λ plain.
+          let begins = step.stays k (boolean false) (get_member-put k (boolean false) old.definitions) in
+          reached_defines plan old mid k d none begins
           (subst P begun (c.in_ok-definition.ensures.is.reached plain));
     })
 

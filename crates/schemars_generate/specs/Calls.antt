@@ -1,0 +1,39 @@
+-- What the calls of a generator answer and add, by what it holds before and after.
+use Rattle.std.specs.Prelude.{◌≡◌, ℕ, List, true, false, Some, None}
+use Rattle.serde_json.specs.Data.{Data}
+use Rattle.schemars_json.specs.Json.{Text}
+use Rattle.schemars_types.specs.Edges.{is_inline_at}
+use Rattle.schemars_documents.specs.Documents.{reference}
+use Rattle.schemars_documents.specs.PlainTable.{IsPlainTable}
+use Rattle.schemars_naming.specs.Naming.{name_of}
+use Rattle.schemars_naming.specs.Work.{Work, Step, IsKey, reference_to}
+use Rattle.schemars_build.specs.Parts.{IsSubschema}
+use Rattle.schemars_build.specs.Reached.{AreReached}
+use Rattle.schemars_generate.specs.Headline.{IsRootOf}
+use Rattle.schemars_generate.specs.State.{State, path_of, plan_of, work_of, after_root}
+
+-- row n where it is a part: its own document in place, or a reference
+abbrev pub IsPartOf : State → ℕ → Data → Type 0
+IsPartOf s n d = IsSubschema (plan_of s None) false (work_of s) n d
+
+-- the reference to the definition of row n, where the row is not written in place
+abbrev pub IsReferenceOf : State → State → ℕ → Data → Type 0
+IsReferenceOf old new n d =
+    is_inline_at old.rows n ≡ false
+    → (name : Text) × (name_of n old.settings.contract new.names ≡ Some name) × IsKey name new.definitions
+    × (d ≡ reference (reference_to (path_of old) name))
+
+-- what joins: names by the rule of names, and definitions of the rows of these names
+abbrev pub Adds : State → State → Type 0
+Adds old new = Step (plan_of old None) (work_of old) (work_of new)
+
+-- where notes are annotations, all that joins is reached from these references
+abbrev pub IsNeeded : State → State → List Data → Type 0
+IsNeeded old new from = IsPlainTable old.rows → AreReached (plan_of old None) true (work_of old) (work_of new) from
+
+-- the root document of row n, and what the generator holds after the call
+abbrev pub IsRootCall : State → ℕ → State → Data → Type 0
+IsRootCall old n new d = (w : Work) × IsRootOf old n w d × (new ≡ after_root old w)
+
+abbrev pub IsLastRootCall : State → ℕ → Data → Type 0
+IsLastRootCall old n d = (w : Work) × IsRootOf old n w d
