@@ -42,6 +42,10 @@ IsPlainShape (shape.up_to n cap) = Unit {0}
 IsPlainShape (shape.tuple ns) = Unit {0}
 IsPlainShape (shape.struct xs closed) = AreDistinct xs × AreNoted xs
 IsPlainShape (shape.newtype n) = Unit {0}
+IsPlainShape (shape.result t e) = Unit {0}
+IsPlainShape (shape.bound n) = Unit {0}
+IsPlainShape (shape.range n) = Unit {0}
+IsPlainShape (shape.either l r) = Unit {0}
 
 abbrev pub IsPlainEntry : Option Entry → Type 0
 IsPlainEntry None = Unit {0}
@@ -77,6 +81,10 @@ ShapeHasNoFloat (shape.up_to n cap) = Unit {0}
 ShapeHasNoFloat (shape.tuple ns) = Unit {0}
 ShapeHasNoFloat (shape.struct xs closed) = FieldsHaveNoFloat xs
 ShapeHasNoFloat (shape.newtype n) = Unit {0}
+ShapeHasNoFloat (shape.result t e) = Unit {0}
+ShapeHasNoFloat (shape.bound n) = Unit {0}
+ShapeHasNoFloat (shape.range n) = Unit {0}
+ShapeHasNoFloat (shape.either l r) = Unit {0}
 
 abbrev pub EntryHasNoFloat : Option Entry → Type 0
 EntryHasNoFloat None = Unit {0}

@@ -1,2 +1,3 @@
 pub mod AllowNull
 pub mod NullLaw
+pub mod Variants

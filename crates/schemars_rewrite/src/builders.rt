@@ -11,6 +11,7 @@ ghost use Rattle.schemars_rewrite.specs.AllowNull.{is_text, holds_text, with_ite
 ghost use Rattle.schemars_rewrite.specs.AllowNull.{enum_with_null, null_in_enum, const_or_null, null_in_values};
 ghost use Rattle.schemars_rewrite.specs.AllowNull.{or_null};
 ghost use Rattle.schemars_rewrite.specs.NullLaw.{IsNullable, AcceptsNullToo};
+ghost use Rattle.schemars_rewrite.specs.Variants.{unit_variant};
 ghost use Rattle.std.specs.Prelude.{None};
 ghost use Rattle.serde_json.specs.Find.{as_bool};
 
@@ -32,6 +33,18 @@ pub fn allow_null(alloc: Global, schema: &mut Schema) -> Result<(), AllocError>
 {
     make_nullable(alloc, schema)?;
     Ok(())
+}
+
+/// The schema of an enum's unit variant: its name as a text, and nothing else.
+pub fn new_unit_enum_variant(alloc: Global, variant: &str) -> Result<Schema, AllocError>
+    ensures { IfOk result (λ s. s ≡ unit_variant variant.now) }
+{
+    let mut members = Map::new(alloc);
+    let text = Value::try_from_str(alloc, "string")?;
+    serde_json::put(&mut members, alloc, "type", text)?;
+    let name = Value::try_from_str(alloc, variant)?;
+    serde_json::put(&mut members, alloc, "const", name)?;
+    Ok(Schema::from(members))
 }
 
 fn make_nullable(alloc: Global, schema: &mut Schema) -> Result<(), AllocError>

@@ -13,7 +13,7 @@ use Rattle.schemars_shapes.specs.declared.shape.IntKind.{IntKind}
 use Rattle.schemars_shapes.specs.IntKind.{kind_eq}
 use Rattle.schemars_shapes.specs.Shape.{Required, Field, Shape, Entry, null, bool, int, non_zero, number}
 use Rattle.schemars_shapes.specs.Shape.{text, char, formatted, any, bytes, schema_itself, option, seq, set}
-use Rattle.schemars_shapes.specs.Shape.{array as array_shape, up_to, tuple, struct, newtype}
+use Rattle.schemars_shapes.specs.Shape.{array as array_shape, up_to, tuple, struct, newtype, result, bound, range, either}
 use Rattle.schemars_shapes.specs.Equality.{bool_eq, required_eq, field_eq, list_eq, shape_eq, entry_eq}
 
 and_left : (a b : Bool) → (a && b) ≡ true → a ≡ true
@@ -122,6 +122,10 @@ same_shape (struct fs closed) (struct gs sealed) h = λ i. struct
     (same_list fs gs (and_right (bool_eq closed sealed) (list_eq fs gs) h) i)
     (same_bool closed sealed (and_left (bool_eq closed sealed) (list_eq fs gs) h) i)
 same_shape (newtype m) (newtype n) h = ap newtype (same_number m n h)
+same_shape (result m e) (result n f) h = let both = same_two m n e f h in λ i. result (both.0 i) (both.1 i)
+same_shape (bound m) (bound n) h = ap bound (same_number m n h)
+same_shape (range m) (range n) h = ap range (same_number m n h)
+same_shape (either m e) (either n f) h = let both = same_two m n e f h in λ i. either (both.0 i) (both.1 i)
 same_shape s t h = cc
 
 pub same_entry : (a b : Entry) → entry_eq a b ≡ true → a ≡ b

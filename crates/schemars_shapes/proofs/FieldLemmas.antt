@@ -143,3 +143,7 @@ distinct_unless_struct (src.Array n len) other = tt
 distinct_unless_struct (src.UpTo n cap) other = tt
 distinct_unless_struct (src.Tuple ns) other = tt
 distinct_unless_struct (src.Newtype n) other = tt
+distinct_unless_struct (src.Result ok err) other = tt
+distinct_unless_struct (src.Bound n) other = tt
+distinct_unless_struct (src.Range n) other = tt
+distinct_unless_struct (src.Either left right) other = tt

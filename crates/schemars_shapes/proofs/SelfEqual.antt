@@ -14,7 +14,7 @@ use Rattle.schemars_shapes.specs.declared.shape.IntKind.{IntKind}
 use Rattle.schemars_shapes.specs.IntKind.{kind_eq}
 use Rattle.schemars_shapes.specs.Shape.{Field, Shape, Entry, null, bool, int, non_zero, number, text, char, formatted}
 use Rattle.schemars_shapes.specs.Shape.{any, bytes, schema_itself, option, seq, set, array as array_shape, up_to, tuple}
-use Rattle.schemars_shapes.specs.Shape.{struct, newtype}
+use Rattle.schemars_shapes.specs.Shape.{struct, newtype, result, bound, range, either}
 use Rattle.schemars_shapes.specs.Equality.{bool_eq, field_eq, list_eq, shape_eq, entry_eq}
 use Rattle.schemars_shapes.specs.Decimals.{fields_have_float, shape_has_float, entry_has_float}
 
@@ -90,6 +90,10 @@ shape_eq-refl (up_to n cap) h = rw ((Decides-eqb n n).1 refl, (Decides-eqb cap c
 shape_eq-refl (tuple ns) h = rw ((bytes_eq-Decides ns ns).1 refl) refl
 shape_eq-refl (struct list closed) h = rw (bool_eq-refl closed, list_eq-refl list h) refl
 shape_eq-refl (newtype n) h = rw ((Decides-eqb n n).1 refl) refl
+shape_eq-refl (result n m) h = rw ((Decides-eqb n n).1 refl, (Decides-eqb m m).1 refl) refl
+shape_eq-refl (bound n) h = rw ((Decides-eqb n n).1 refl) refl
+shape_eq-refl (range n) h = rw ((Decides-eqb n n).1 refl) refl
+shape_eq-refl (either n m) h = rw ((Decides-eqb n n).1 refl, (Decides-eqb m m).1 refl) refl
 
 pub entry_eq-refl : (e : Entry) → entry_has_float e ≡ false → entry_eq e e ≡ true
 entry_eq-refl e h =

@@ -5,7 +5,7 @@ use Rattle.schemars_json.specs.Json.{members_eq}
 use Rattle.schemars_shapes.specs.IntKind.{kind_eq}
 use Rattle.schemars_shapes.specs.Shape.{Required, Field, Shape, Entry, null, bool, int, non_zero, number, text, char}
 use Rattle.schemars_shapes.specs.Shape.{formatted, any, bytes, schema_itself, option, seq, set, array, up_to, tuple}
-use Rattle.schemars_shapes.specs.Shape.{struct, newtype}
+use Rattle.schemars_shapes.specs.Shape.{struct, newtype, result, bound, range, either}
 
 abbrev pub bool_eq : Bool → Bool → Bool
 bool_eq a b = if a then b else not b
@@ -41,6 +41,10 @@ shape_eq (up_to m len) (up_to n count) = (m == n) && (len == count)
 shape_eq (tuple ms) (tuple ns) = pointwise nat_eq ms ns
 shape_eq (struct fs closed) (struct gs sealed) = bool_eq closed sealed && list_eq fs gs
 shape_eq (newtype m) (newtype n) = m == n
+shape_eq (result m e) (result n f) = (m == n) && (e == f)
+shape_eq (bound m) (bound n) = m == n
+shape_eq (range m) (range n) = m == n
+shape_eq (either m e) (either n f) = (m == n) && (e == f)
 shape_eq _ _ = false
 
 abbrev pub entry_eq : Entry → Entry → Bool

@@ -23,7 +23,7 @@ pub record Field : Type 0 where
   pub notes : Members
 
 -- Numbers are those of rows. An array has just so many items, and `up_to` has so many at most. A struct has fields, in order, and may
--- be closed to other keys.
+-- be closed to other keys. A result has the row of `Ok` first, and `either` that of `Left`.
 pub data Shape : Type 0 where
   null : Shape
   bool : Shape
@@ -44,6 +44,10 @@ pub data Shape : Type 0 where
   tuple : List ℕ → Shape
   struct : List Field → Bool → Shape
   newtype : ℕ → Shape
+  result : ℕ → ℕ → Shape
+  bound : ℕ → Shape
+  range : ℕ → Shape
+  either : ℕ → ℕ → Shape
 
 pub record Entry : Type 0 where
   pub inline : Bool
@@ -80,6 +84,10 @@ shape_of (src.UpTo n cap) = up_to n cap
 shape_of (src.Tuple parts) = tuple parts.items
 shape_of (src.Struct fields) = struct (fields_view fields).0 (fields_view fields).1
 shape_of (src.Newtype n) = newtype n
+shape_of (src.Result ok err) = result ok err
+shape_of (src.Bound n) = bound n
+shape_of (src.Range n) = range n
+shape_of (src.Either left right) = either left right
 
 abbrev pub entry_of : src-entry.TypeEntry → Entry
 entry_of e = record { inline = e.inline; notes = members_view e.notes.entries; shape = shape_of e.shape }
@@ -90,6 +98,10 @@ array_of n len = if len == 0 then tuple [] else array n len
 
 abbrev pub without_notes : Bool → Shape → Entry
 without_notes inline s = record { inline = inline; notes = no_members; shape = s }
+
+-- a field that has to be there, without notes
+abbrev pub needed : Text → ℕ → Field
+needed name n = record { name = name; ty = n; required = record { deserialize = true; serialize = true }; notes = no_members }
 
 -- written in place, without notes
 abbrev pub in_place : Shape → Entry
@@ -105,6 +117,10 @@ numbers_of (up_to n cap) = n ∷ []
 numbers_of (tuple ns) = ns
 numbers_of (struct list closed) = map (λ f. f.ty) list
 numbers_of (newtype n) = n ∷ []
+numbers_of (result ok err) = ok ∷ err ∷ []
+numbers_of (bound n) = n ∷ []
+numbers_of (range n) = n ∷ []
+numbers_of (either left right) = left ∷ right ∷ []
 numbers_of _ = []
 
 -- the rows whose values a shape has itself

@@ -44,6 +44,10 @@ impl Clone for Shape {
             Shape::Tuple(parts) => Shape::Tuple(parts.clone()?),
             Shape::Struct(fields) => Shape::Struct(fields.clone()?),
             Shape::Newtype(n) => Shape::Newtype(*n),
+            Shape::Result(ok, err) => Shape::Result(*ok, *err),
+            Shape::Bound(n) => Shape::Bound(*n),
+            Shape::Range(n) => Shape::Range(*n),
+            Shape::Either(left, right) => Shape::Either(*left, *right),
         })
     }
 }

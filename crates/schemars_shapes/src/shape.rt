@@ -114,6 +114,14 @@ pub enum Shape {
     Struct(Fields),
     /// a value of this row
     Newtype(TypeNo),
+    /// a map with `Ok` of the first row, or one with `Err` of the second, and not both
+    Result(TypeNo, TypeNo),
+    /// a map with `Included` or one with `Excluded` of this row, and not both, or the text `Unbounded`
+    Bound(TypeNo),
+    /// a map with `start` and `end` of this row
+    Range(TypeNo),
+    /// a map with one key: `Left` of the first row, or `Right` of the second
+    Either(TypeNo, TypeNo),
 }
 
 /// The fields of a struct.
@@ -150,6 +158,8 @@ impl Shape {
             Shape::Option(n) | Shape::Newtype(n) => first_unknown(&[*n], len),
             Shape::Seq(n) | Shape::Set(n) => first_unknown(&[*n], len),
             Shape::Array(n, _) | Shape::UpTo(n, _) => first_unknown(&[*n], len),
+            Shape::Bound(n) | Shape::Range(n) => first_unknown(&[*n], len),
+            Shape::Result(n, m) | Shape::Either(n, m) => first_unknown(&[*n, *m], len),
             Shape::Tuple(parts) => first_unknown(parts, len),
             Shape::Struct(fields) => fields.first_unknown(len),
             _ => None,
@@ -164,6 +174,8 @@ impl Shape {
             Shape::Option(n) | Shape::Newtype(n) => Ok(vec![in alloc; *n]?),
             Shape::Seq(n) | Shape::Set(n) => Ok(vec![in alloc; *n]?),
             Shape::Array(n, _) | Shape::UpTo(n, _) => Ok(vec![in alloc; *n]?),
+            Shape::Bound(n) | Shape::Range(n) => Ok(vec![in alloc; *n]?),
+            Shape::Result(n, m) | Shape::Either(n, m) => Ok(vec![in alloc; *n, *m]?),
             Shape::Tuple(parts) => parts.clone(),
             Shape::Struct(fields) => fields.numbers(alloc),
             _ => Ok(Vec::new(alloc)),
@@ -214,6 +226,10 @@ impl Shape {
             (Shape::Tuple(parts), Shape::Tuple(of_other)) => parts == of_other,
             (Shape::Struct(fields), Shape::Struct(of_other)) => fields.is_equal(of_other),
             (Shape::Newtype(n), Shape::Newtype(m)) => n == m,
+            (Shape::Result(a, b), Shape::Result(c, d)) => a == c && b == d,
+            (Shape::Bound(n), Shape::Bound(m)) => n == m,
+            (Shape::Range(n), Shape::Range(m)) => n == m,
+            (Shape::Either(a, b), Shape::Either(c, d)) => a == c && b == d,
             _ => false,
         }
     }

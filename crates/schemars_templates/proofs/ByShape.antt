@@ -8,6 +8,7 @@ use Rattle.schemars_json.specs.Json.{Text}
 use Rattle.schemars_schema.specs.SchemaData.{object_of}
 use Rattle.schemars_rewrite.specs.AllowNull.{allow_null}
 use Rattle.schemars_rewrite.specs.NullLaw.{text_items}
+use Rattle.schemars_rewrite.specs.Variants.{unit_variant}
 use Rattle.schemars_shapes.specs.Shape as shape
 use Rattle.schemars_shapes.specs.Shape.{Shape, Field, Entry}
 use Rattle.schemars_types.specs.Meaning.{Contract}
@@ -76,6 +77,32 @@ field_keywords (x ∷ xs) (t ∷ ts) = (x.name, annotated x.notes t) ∷ field_k
 abbrev pub struct_document : Contract → List Field → List Data → Bool → Data
 struct_document contract fields ts closed = map_document (field_keywords fields ts) (required_names contract fields) closed
 
+-- ---- choices
+
+abbrev pub one_of_document : List Data → Data
+one_of_document ts = object_of ((codes "oneOf", array (items_from ts)) ∷ [])
+
+-- a map with this member, which has to be there
+abbrev pub member_document : Bool → Text → Data → Data
+member_document closed name t = map_document ((name, t) ∷ []) (name ∷ []) closed
+
+abbrev pub result_document : Data → Data → Data
+result_document t e = one_of_document (member_document false (codes "Ok") t ∷ member_document false (codes "Err") e ∷ [])
+
+abbrev pub bound_document : Data → Data → Data
+bound_document t e = one_of_document
+    (member_document false (codes "Included") t ∷ member_document false (codes "Excluded") e ∷ unit_variant (codes "Unbounded") ∷ [])
+
+abbrev pub range_document : Data → Data → Data
+range_document s e = map_document ((codes "start", s) ∷ (codes "end", e) ∷ []) (codes "start" ∷ codes "end" ∷ []) false
+
+abbrev pub either_document : Data → Data → Data
+either_document l r = one_of_document (member_document true (codes "Left") l ∷ member_document true (codes "Right") r ∷ [])
+
+-- two schemas, and what is made of them
+abbrev pub IsOfTwo : (Data → Type 0) → (Data → Type 0) → (Data → Data → Data) → Data → Type 0
+IsOfTwo P Q document s = (t : Data) × (e : Data) × P t × Q e × (s ≡ document t e)
+
 -- ---- by shape, where `Written n` says how row n may be written
 
 abbrev pub AreWritten : (ℕ → Data → Type 0) → List Field → List Data → Type 0
@@ -109,6 +136,10 @@ IsDocument Written contract (shape.tuple ns) s = (ts : List Data) × ArePartsWri
 IsDocument Written contract (shape.struct fields closed) s = (ts : List Data) × AreWritten Written fields ts
     × (s ≡ struct_document contract fields ts closed)
 IsDocument Written contract (shape.newtype n) s = Written n s
+IsDocument Written contract (shape.result a b) s = IsOfTwo (Written a) (Written b) result_document s
+IsDocument Written contract (shape.bound n) s = IsOfTwo (Written n) (Written n) bound_document s
+IsDocument Written contract (shape.range n) s = IsOfTwo (Written n) (Written n) range_document s
+IsDocument Written contract (shape.either a b) s = IsOfTwo (Written a) (Written b) either_document s
 
 -- ---- what fills a template
 
@@ -222,6 +253,18 @@ module _ (W : ℕ → Data → Type 0) where
       (all.0, all.1, e ∙ all.2)
   fills contract (shape.newtype n) s [] h e = absurd h
   fills contract (shape.newtype n) s (t ∷ ts) h e = subst (W n) (sym e) h.0
+  fills contract (shape.result a b) s [] h e = absurd h
+  fills contract (shape.result a b) s (t ∷ []) h e = absurd h.1
+  fills contract (shape.result a b) s (t ∷ u ∷ ts) h e = (t, u, h.0, h.1.0, e)
+  fills contract (shape.bound n) s [] h e = absurd h
+  fills contract (shape.bound n) s (t ∷ []) h e = absurd h.1
+  fills contract (shape.bound n) s (t ∷ u ∷ ts) h e = (t, u, h.0, h.1.0, e)
+  fills contract (shape.range n) s [] h e = absurd h
+  fills contract (shape.range n) s (t ∷ []) h e = absurd h.1
+  fills contract (shape.range n) s (t ∷ u ∷ ts) h e = (t, u, h.0, h.1.0, e)
+  fills contract (shape.either a b) s [] h e = absurd h
+  fills contract (shape.either a b) s (t ∷ []) h e = absurd h.1
+  fills contract (shape.either a b) s (t ∷ u ∷ ts) h e = (t, u, h.0, h.1.0, e)
 
   pub by_shape : (contract : Contract) (kind : Shape) (s : Data) → Fills W (template_of contract kind) s → IsDocument W contract kind s
   by_shape contract kind s h = fills contract kind s h.parts h.written h.is

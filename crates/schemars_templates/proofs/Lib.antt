@@ -1,5 +1,6 @@
 pub mod Rows
 pub mod ByShape
+pub mod Choices
 pub mod Templates
 pub mod Mapping
 pub mod EachShape

@@ -1,5 +1,5 @@
 -- In a table in order, a document of a row accepts just the values that belong to it.
-use Rattle.std.proofs.Common.{◌≡◌, ◌⊎◌, ℕ, zero, suc, ◌<◌, inl, inr, List, [], ◌∷◌, Bool, true, false, refl}
+use Rattle.std.proofs.Common.{◌≡◌, ◌⊎◌, ℕ, zero, suc, ◌<◌, inl, inr, List, [], ◌∷◌, Bool, true, false, refl, sym, true≢false}
 use Rattle.serde_json.specs.Data.{Data, depth}
 use Rattle.schemars_schema.specs.Verdict.{verdict}
 use Rattle.schemars_json.specs.Json.{Text, IsJson}
@@ -10,12 +10,14 @@ use Rattle.schemars_rewrite.proofs.Nulls.{nullable-schema, nullable-allow_null, 
 use Rattle.schemars_shapes.specs.Shape as shape
 use Rattle.schemars_shapes.specs.Shape.{Shape, Entry, numbers_of}
 use Rattle.schemars_types.specs.Meaning.{Contract, Deserialize, Serialize, has_shape}
-use Rattle.schemars_templates.proofs.ByShape.{IsDocument, map_document, tuple_document}
+use Rattle.schemars_rewrite.specs.Variants.{unit_variant}
+use Rattle.schemars_templates.proofs.ByShape.{IsDocument, map_document, tuple_document, one_of_document, member_document}
 use Rattle.schemars_documents.specs.PlainTable.{IsPlainShape}
 use Rattle.schemars_templates.proofs.EachShape.{bytes_say, schema_says, null_says, bool_says, number_says, text_says}
 use Rattle.schemars_templates.proofs.EachShape.{formatted_says, char_says, any_says, seq_says, set_says, array_says}
 use Rattle.schemars_templates.proofs.EachShape.{up_to_says, tuple_says, int_says, non_zero_says}
 use Rattle.schemars_templates.proofs.Structs.{struct_says}
+use Rattle.schemars_templates.proofs.Choices.{result_says, bound_says, range_says, either_says}
 use Rattle.schemars_shapes.specs.declared.shape.IntKind.{IntKind}
 use Rattle.schemars_shapes.specs.declared.shape.IntKind.TheVariants.{I8, I16, I32, I64, I128, Isize, U8, U16, U32, U64, U128, Usize}
 use Rattle.schemars_documents.specs.Documents.{Keyword, int_document, non_zero_document, bytes_document}
@@ -74,6 +76,9 @@ tuple_nullable : (ts : List Data) → IsNullable (tuple_document ts)
 tuple_nullable [] = inr (record { alone = refl; type_form = refl; no_const = refl; not_form = inl refl })
 tuple_nullable (t ∷ ts) = inr (record { alone = refl; type_form = refl; no_const = refl; not_form = inl refl })
 
+one_of_nullable : (ts : List Data) (s : Data) → s ≡ one_of_document ts → IsNullable s
+one_of_nullable ts s is = rw is (inl (record { combined = refl; offers = λ stays. absurd (true≢false (sym stays)) }))
+
 module _ (W : ℕ → Data → Type 0) (contract : Contract) (ready : (j : ℕ) (t : Data) → W j t → IsNullable t) where
   pub shape_nullable : (kind : Shape) (s : Data) → IsDocument W contract kind s → IsNullable s
   shape_nullable shape.null s is = rw is (inr (record { alone = refl; type_form = refl; no_const = refl; not_form = inl refl }))
@@ -102,6 +107,15 @@ module _ (W : ℕ → Data → Type 0) (contract : Contract) (ready : (j : ℕ) 
       { alone = refl; type_form = refl; no_const = refl; not_form = inl refl }))
   shape_nullable (shape.up_to n cap) s is = rw is.2 (inr (record { alone = refl; type_form = refl; no_const = refl; not_form = inl refl }))
   shape_nullable (shape.tuple ns) s is = rw is.2 (tuple_nullable is.0)
+  shape_nullable (shape.result a b) s is =
+      one_of_nullable (member_document false (codes "Ok") is.0 ∷ member_document false (codes "Err") is.1 ∷ []) s is.4
+  shape_nullable (shape.bound n) s is =
+      one_of_nullable (member_document false (codes "Included") is.0 ∷ member_document false (codes "Excluded") is.1
+      ∷ unit_variant (codes "Unbounded") ∷ []) s is.4
+  shape_nullable (shape.range n) s is =
+      rw is.4 (map_nullable ((codes "start", is.0) ∷ (codes "end", is.1) ∷ []) (codes "start" ∷ codes "end" ∷ []) false)
+  shape_nullable (shape.either a b) s is =
+      one_of_nullable (member_document true (codes "Left") is.0 ∷ member_document true (codes "Right") is.1 ∷ []) s is.4
 
 -- ---- one shape
 
@@ -126,6 +140,10 @@ IsSame (shape.up_to n cap) j = ⊥
 IsSame (shape.tuple ns) j = ⊥
 IsSame (shape.struct xs closed) j = ⊥
 IsSame (shape.newtype n) j = j ≡ n
+IsSame (shape.result a b) j = ⊥
+IsSame (shape.bound n) j = ⊥
+IsSame (shape.range n) j = ⊥
+IsSame (shape.either a b) j = ⊥
 
 -- where a part is asked: inside the value, or of the value itself
 abbrev pub Inside : Shape → Data → ℕ → Data → Type 0
@@ -171,3 +189,11 @@ module _ (patterns : Patterns) (f : Text → Judge) (contract : Contract) (W : �
       rw is.2 (struct_says patterns f contract W M schemas xs is.0 closed p.0 p.1 is.1 v json
       (λ j t w a js less. agree j t w a js (inl less)))
   shape_says (shape.newtype j) s p is v json agree = agree j s v is json (inr (refl, refl))
+  shape_says (shape.result a b) s p is v json agree = rw is.4 (result_says patterns f contract M W schemas v json
+      (λ j t w x js less. agree j t w x js (inl less)) a b is.0 is.1 is.2 is.3)
+  shape_says (shape.bound n) s p is v json agree = rw is.4 (bound_says patterns f contract M W schemas v json
+      (λ j t w x js less. agree j t w x js (inl less)) n is.0 is.1 is.2 is.3)
+  shape_says (shape.range n) s p is v json agree = rw is.4 (range_says patterns f contract M W schemas v json
+      (λ j t w x js less. agree j t w x js (inl less)) n is.0 is.1 is.2 is.3)
+  shape_says (shape.either a b) s p is v json agree = rw is.4 (either_says patterns f contract M W schemas v json
+      (λ j t w x js less. agree j t w x js (inl less)) a b is.0 is.1 is.2 is.3)

@@ -339,6 +339,10 @@ shape_as_schema contract (shape.tuple (n ∷ ns)) p = search (rows_as_items ns)
 shape_as_schema contract (shape.struct xs closed) p =
     map_as_schema (map property xs) (text_items (required_names contract xs)) closed (properties_named xs p.1, names_apart xs p.0)
 shape_as_schema contract (shape.newtype n) p = tt
+shape_as_schema contract (shape.result a b) p = search
+shape_as_schema contract (shape.bound n) p = search
+shape_as_schema contract (shape.range n) p = search
+shape_as_schema contract (shape.either a b) p = search
 
 non_zero_makes : (b : Bool) (d e : Data) → IsSchema d → IsSchema e → IsSchema (if b then d else e)
 non_zero_makes true d e h g = h
@@ -366,6 +370,10 @@ shape_makes contract (shape.tuple []) = tt
 shape_makes contract (shape.tuple (n ∷ ns)) = tt
 shape_makes contract (shape.struct xs closed) = tt
 shape_makes contract (shape.newtype n) = tt
+shape_makes contract (shape.result a b) = tt
+shape_makes contract (shape.bound n) = tt
+shape_makes contract (shape.range n) = tt
+shape_makes contract (shape.either a b) = tt
 
 -- ---- a row's document
 

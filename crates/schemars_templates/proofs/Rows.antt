@@ -37,6 +37,11 @@ module _ (P : ℕ → Type 0) where
   nothing : All P []
   nothing = λ k d less. absurd (omega (arith, less))
 
+  twice : (n : ℕ) → All P (n ∷ []) → All P (n ∷ n ∷ [])
+  twice n h zero d less = h zero d (omega arith)
+  twice n h (suc zero) d less = h zero d (omega arith)
+  twice n h (suc (suc k)) d less = absurd (omega (arith, less))
+
   pub all_rows : (contract : Contract) (kind : Shape) → All P (numbers_of kind) → All P (rows_of (template_of contract kind))
   all_rows contract shape.null h = nothing
   all_rows contract shape.bool h = nothing
@@ -62,3 +67,7 @@ module _ (P : ℕ → Type 0) where
   all_rows contract (shape.struct xs closed) h =
       let Q : List ℕ → Type 0 = λ ms. All P ms in subst Q (sym (map_rows xs (required_names contract xs) closed)) h
   all_rows contract (shape.newtype n) h = h
+  all_rows contract (shape.result a b) h = h
+  all_rows contract (shape.bound n) h = twice n h
+  all_rows contract (shape.range n) h = twice n h
+  all_rows contract (shape.either a b) h = h

@@ -3,6 +3,7 @@ use Rattle.std.specs.Prelude.{ℕ, zero, suc, List, [], ◌∷◌, ◌++◌, len
 use Rattle.serde_json.specs.Data.{Data, boolean, number, unsigned, string, array, Items, item, no_items}
 use Rattle.schemars_json.specs.Json.{Text}
 use Rattle.schemars_rewrite.specs.NullLaw.{text_items}
+use Rattle.schemars_rewrite.specs.Variants.{unit_variant}
 use Rattle.schemars_shapes.specs.Shape as shape
 use Rattle.schemars_shapes.specs.Shape.{Shape, Field, Entry}
 use Rattle.schemars_types.specs.Meaning.{Contract}
@@ -83,6 +84,29 @@ map_template properties required closed =
 abbrev pub struct_template : Contract → List Field → Bool → Template
 struct_template contract xs closed = map_template (map property xs) (text_items (required_names contract xs)) closed
 
+-- ---- choices
+
+-- just one of these
+abbrev pub one_of : List Template → Template
+one_of ts = object_with ((codes "oneOf", list (templates_of ts)) ∷ [])
+
+-- a map with this member, which has to be there
+abbrev pub member_template : Bool → Text → ℕ → Template
+member_template closed name n = map_template ((name, row n) ∷ []) (text_items (name ∷ [])) closed
+
+abbrev pub result_template : ℕ → ℕ → Template
+result_template t e = one_of (member_template false (codes "Ok") t ∷ member_template false (codes "Err") e ∷ [])
+
+abbrev pub bound_template : ℕ → Template
+bound_template n = one_of (member_template false (codes "Included") n ∷ member_template false (codes "Excluded") n
+    ∷ finished (unit_variant (codes "Unbounded")) ∷ [])
+
+abbrev pub range_template : ℕ → Template
+range_template n = map_template ((codes "start", row n) ∷ (codes "end", row n) ∷ []) (text_items (codes "start" ∷ codes "end" ∷ [])) false
+
+abbrev pub either_template : ℕ → ℕ → Template
+either_template l r = one_of (member_template true (codes "Left") l ∷ member_template true (codes "Right") r ∷ [])
+
 -- ---- by shape
 
 abbrev pub template_of : Contract → Shape → Template
@@ -105,6 +129,10 @@ template_of contract (shape.up_to n cap) = up_to_template n cap
 template_of contract (shape.tuple ns) = tuple_template ns
 template_of contract (shape.struct xs closed) = struct_template contract xs closed
 template_of contract (shape.newtype n) = row n
+template_of contract (shape.result t e) = result_template t e
+template_of contract (shape.bound n) = bound_template n
+template_of contract (shape.range n) = range_template n
+template_of contract (shape.either l r) = either_template l r
 
 -- a row's document, with its notes
 abbrev pub entry_template : Contract → Entry → Template

@@ -10,6 +10,8 @@ ghost use Rattle.schemars_templates.specs.View.{template_view, keyword_view};
 ghost use Rattle.schemars_templates.specs.OfShape.{object_with, typed, list_template, set_template, array_template};
 ghost use Rattle.schemars_templates.specs.OfShape.{up_to_template, tuple_template, property, properties_at, required_at, closed_at};
 ghost use Rattle.schemars_templates.specs.OfShape.{map_template, struct_template, template_of, entry_template};
+ghost use Rattle.schemars_templates.specs.OfShape.{one_of, member_template, result_template, bound_template, range_template};
+ghost use Rattle.schemars_templates.specs.OfShape.{either_template};
 
 use crate::template::Template;
 use schemars_documents::Contract;
@@ -18,6 +20,7 @@ use schemars_documents::documents::{
     schema_document, type_alone,
 };
 use schemars_documents::integers::{int_document, non_zero_document};
+use schemars_rewrite::builders::new_unit_enum_variant;
 use schemars_schema::Schema;
 use schemars_types::{Field, Fields, IntKind, Shape, TypeEntry, TypeNo};
 use serde_json::Value;
@@ -63,6 +66,10 @@ pub fn template_of<'t>(
         Shape::Tuple(parts) => tuple_template(alloc, parts),
         Shape::Struct(fields) => struct_template(alloc, contract, fields),
         Shape::Newtype(inner) => Ok(row(*inner)),
+        Shape::Result(ok, err) => result_template(alloc, *ok, *err),
+        Shape::Bound(n) => bound_template(alloc, *n),
+        Shape::Range(n) => range_template(alloc, *n),
+        Shape::Either(left, right) => either_template(alloc, *left, *right),
     }
 }
 
@@ -194,6 +201,76 @@ fn properties<'t>(
         properties.push((field.name.as_str(), Template::Noted(&field.notes, row)))?;
     }
     Ok(properties)
+}
+
+fn result_template<'t>(
+    alloc: Global,
+    ok: TypeNo,
+    err: TypeNo,
+) -> Result<Template<'t>, AllocError>
+    ensures { IfOk result (λ t. template_view t ≡ result_template ok err) }
+{
+    let ok = member_template(alloc, "Ok", ok, false)?;
+    let err = member_template(alloc, "Err", err, false)?;
+    let choices: Vec<Template<'t>> = vec![in alloc; ok, err]?;
+    one_of(alloc, choices)
+}
+
+fn bound_template<'t>(alloc: Global, n: TypeNo) -> Result<Template<'t>, AllocError>
+    ensures { IfOk result (λ t. template_view t ≡ bound_template n) }
+{
+    let included = member_template(alloc, "Included", n, false)?;
+    let excluded = member_template(alloc, "Excluded", n, false)?;
+    let unbounded = finished(new_unit_enum_variant(alloc, "Unbounded")?)?;
+    let choices: Vec<Template<'t>> = vec![in alloc; included, excluded, unbounded]?;
+    one_of(alloc, choices)
+}
+
+fn range_template<'t>(alloc: Global, n: TypeNo) -> Result<Template<'t>, AllocError>
+    ensures { IfOk result (λ t. template_view t ≡ range_template n) }
+{
+    let properties: Vec<(&'t str, Template<'t>)> =
+        vec![in alloc; ("start", Template::Row(n)), ("end", Template::Row(n))]?;
+    let start = Value::try_from_str(alloc, "start")?;
+    let end = Value::try_from_str(alloc, "end")?;
+    let required = vec![in alloc; start, end]?;
+    map_template(alloc, properties, required, false)
+}
+
+fn either_template<'t>(
+    alloc: Global,
+    left: TypeNo,
+    right: TypeNo,
+) -> Result<Template<'t>, AllocError>
+    ensures { IfOk result (λ t. template_view t ≡ either_template left right) }
+{
+    let left = member_template(alloc, "Left", left, true)?;
+    let right = member_template(alloc, "Right", right, true)?;
+    let choices: Vec<Template<'t>> = vec![in alloc; left, right]?;
+    one_of(alloc, choices)
+}
+
+// A map with this member, which has to be there.
+fn member_template<'t>(
+    alloc: Global,
+    name: &'t str,
+    n: TypeNo,
+    closed: bool,
+) -> Result<Template<'t>, AllocError>
+    ensures { IfOk result (λ t. template_view t ≡ member_template closed name.now n) }
+{
+    let properties: Vec<(&'t str, Template<'t>)> = vec![in alloc; (name, Template::Row(n))]?;
+    let required = vec![in alloc; Value::try_from_str(alloc, name)?]?;
+    map_template(alloc, properties, required, closed)
+}
+
+// Just one of these.
+fn one_of<'t>(alloc: Global, choices: Vec<Template<'t>>) -> Result<Template<'t>, AllocError>
+    ensures { IfOk result (λ t. template_view t ≡ one_of (map template_view choices.entry.items)) }
+{
+    let keys = vec![in alloc; "oneOf"]?;
+    let values = vec![in alloc; Template::List(choices)]?;
+    Ok(Template::Object(keys, values))
 }
 
 // A map with these properties.

@@ -167,3 +167,28 @@ closed_structs = (refl, refl)
 structs_are_maps : has Deserialize (shape.struct [] false) (array no_items) ≡ false
 unfolding has table belongs_within
 structs_are_maps = refl
+
+-- `Ok` of bytes, or `Err` of bytes
+results : TellsApart Deserialize (shape.result 0 0) (object_of (member_of "Ok" (whole 1) ∷ member_of "Err" (text "x") ∷ []))
+    (object_of (member_of "Ok" (whole 1) ∷ member_of "Err" (whole 2) ∷ []))
+unfolding TellsApart has table belongs_within whole text member_of
+results = (refl, refl)
+
+bounds : TellsApart Deserialize (shape.bound 0) (text "Unbounded") (text "Included")
+unfolding TellsApart has table belongs_within text
+bounds = (refl, refl)
+
+one_bound : TellsApart Deserialize (shape.bound 0) (object_of (member_of "Excluded" (whole 1) ∷ member_of "z" null ∷ []))
+    (object_of (member_of "Excluded" (whole 1) ∷ member_of "Included" (whole 1) ∷ []))
+unfolding TellsApart has table belongs_within whole member_of
+one_bound = (refl, refl)
+
+ranges : TellsApart Deserialize (shape.range 0) (object_of (member_of "end" (whole 1) ∷ member_of "start" (whole 2) ∷ []))
+    (object_of (member_of "end" (whole 1) ∷ []))
+unfolding TellsApart has table belongs_within whole member_of
+ranges = (refl, refl)
+
+one_of_two : TellsApart Deserialize (shape.either 0 0) (object_of (member_of "Right" (whole 1) ∷ []))
+    (object_of (member_of "Right" (whole 1) ∷ member_of "z" null ∷ []))
+unfolding TellsApart has table belongs_within whole member_of
+one_of_two = (refl, refl)

@@ -1,6 +1,6 @@
 -- Which JSON values belong to a type of a table.
 use Rattle.std.specs.Prelude.{ℕ, zero, suc, ◌+◌, ◌*◌, ◌&&◌, ◌||◌, ◌==◌, ℤ, pos, negsuc, List, [], ◌∷◌, length, find}
-use Rattle.std.specs.Prelude.{Bool, true, false, not, int_le, nat_le, Option, Some, None, is_some, bytes_eq}
+use Rattle.std.specs.Prelude.{Bool, true, false, not, int_le, nat_le, Option, Some, None, is_some, bytes_eq, if◌then◌else◌, codes}
 use Rattle.std.specs.List.{list_all}
 use Rattle.std.specs.Option.{option_map_or}
 use Rattle.serde_json.specs.Data.{Data, Items, no_items, item, Members, no_members, member, depth}
@@ -11,7 +11,7 @@ use Rattle.schemars_schema.specs.SchemaData.{is_schema}
 use Rattle.schemars_schema.specs.Acceptance.{Patterns, is_null, whole_number, code_points}
 use Rattle.schemars_shapes.specs.Shape.{Required, Field, Shape, null, bool, int, non_zero, number, text, char}
 use Rattle.schemars_shapes.specs.Shape.{formatted, any, bytes, schema_itself, option, seq, set, array as array_shape}
-use Rattle.schemars_shapes.specs.Shape.{up_to, tuple, struct, newtype}
+use Rattle.schemars_shapes.specs.Shape.{up_to, tuple, struct, newtype, result, bound, range, either, needed}
 use Rattle.schemars_types.specs.Rows.{Row, entry_at}
 use Rattle.schemars_shapes.specs.declared.shape.IntKind.{IntKind}
 use Rattle.schemars_shapes.specs.declared.shape.IntKind.TheVariants.{U8}
@@ -84,6 +84,22 @@ member_fits part list closed k v = option_map_or (λ f. part f.ty v) (field_name
 abbrev pub has_required : Contract → List Field → Members → Bool
 has_required contract list ms = list_all (λ f. not (is_required contract f.required) || is_some (get_member f.name ms)) list
 
+-- a map with these fields
+abbrev pub has_fields : Contract → (ℕ → Data → Bool) → List Field → Bool → Data → Bool
+has_fields contract part list closed v =
+    holds (as_object v) (λ ms. every_member (member_fits part list closed) ms && has_required contract list ms)
+
+abbrev pub none : List Bool → Bool
+none [] = true
+none (b ∷ bs) = not b && none bs
+
+abbrev pub exactly_one : List Bool → Bool
+exactly_one [] = false
+exactly_one (b ∷ bs) = if b then none bs else exactly_one bs
+
+abbrev pub is_text : Text → Data → Bool
+is_text t v = holds (as_str v) (bytes_eq t)
+
 -- the values of a shape, where `part` says which values the rows inside it have
 abbrev pub has_shape : Contract → Patterns → (ℕ → Data → Bool) → Shape → Data → Bool
 has_shape contract patterns part null v = is_null v
@@ -103,9 +119,16 @@ has_shape contract patterns part (set n) v = holds (as_array v) (λ vs. are_dist
 has_shape contract patterns part (array_shape n len) v = holds (as_array v) (λ vs. (items_len vs == len) && every_item (part n) vs)
 has_shape contract patterns part (up_to n cap) v = holds (as_array v) (λ vs. nat_le (items_len vs) cap && every_item (part n) vs)
 has_shape contract patterns part (tuple ns) v = holds (as_array v) (each_of part ns)
-has_shape contract patterns part (struct list closed) v =
-    holds (as_object v) (λ ms. every_member (member_fits part list closed) ms && has_required contract list ms)
+has_shape contract patterns part (struct list closed) v = has_fields contract part list closed v
 has_shape contract patterns part (newtype n) v = part n v
+has_shape contract patterns part (result t e) v = exactly_one
+    (has_fields contract part (needed (codes "Ok") t ∷ []) false v ∷ has_fields contract part (needed (codes "Err") e ∷ []) false v ∷ [])
+has_shape contract patterns part (bound n) v = exactly_one
+    (has_fields contract part (needed (codes "Included") n ∷ []) false v ∷
+    has_fields contract part (needed (codes "Excluded") n ∷ []) false v ∷ is_text (codes "Unbounded") v ∷ [])
+has_shape contract patterns part (range n) v = has_fields contract part (needed (codes "start") n ∷ needed (codes "end") n ∷ []) false v
+has_shape contract patterns part (either l r) v = exactly_one
+    (has_fields contract part (needed (codes "Left") l ∷ []) true v ∷ has_fields contract part (needed (codes "Right") r ∷ []) true v ∷ [])
 
 -- row n has the value; a row is asked at most `steps` deep
 unfoldable pub belongs_within : List Row → Contract → Patterns → ℕ → ℕ → Data → Bool

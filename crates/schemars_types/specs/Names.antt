@@ -38,3 +38,27 @@ up_to_id id cap = codes "[" ++ (id ++ (codes "; up to " ++ (decimal cap ++ codes
 
 abbrev pub up_to_name : Text → ℕ → Text
 up_to_name name cap = codes "Array_up_to_size_" ++ (decimal cap ++ (codes "_of_" ++ name))
+
+abbrev pub result_id : Text → Text → Text
+result_id value error = codes "Result<" ++ (value ++ (codes ", " ++ (error ++ codes ">")))
+
+abbrev pub result_name : Text → Text → Text
+result_name value error = codes "Result_of_" ++ (value ++ (codes "_or_" ++ error))
+
+abbrev pub bound_id : Text → Text
+bound_id id = codes "Bound<" ++ (id ++ codes ">")
+
+abbrev pub bound_name : Text → Text
+bound_name name = codes "Bound_of_" ++ name
+
+abbrev pub range_id : Text → Text
+range_id id = codes "Range<" ++ (id ++ codes ">")
+
+abbrev pub range_name : Text → Text
+range_name name = codes "Range_of_" ++ name
+
+abbrev pub either_id : Text → Text → Text
+either_id left right = codes "either::Either<" ++ (left ++ (codes ", " ++ (right ++ codes ">")))
+
+abbrev pub either_name : Text → Text → Text
+either_name left right = codes "Either_" ++ (left ++ (codes "_or_" ++ right))

@@ -1,7 +1,8 @@
 ghost use Rattle.std.specs.Prelude.{◌≡◌, false, codes, None, IfOk, OnErr, IfErr, string_bytes};
 ghost use Rattle.schemars_shapes.specs.IntKind.{format_of, non_zero_name};
 ghost use Rattle.schemars_types.specs.Names.{non_zero_id, option_id, option_name, seq_id, seq_name, set_id, set_name};
-ghost use Rattle.schemars_types.specs.Names.{array_id, array_name, up_to_id, up_to_name};
+ghost use Rattle.schemars_types.specs.Names.{array_id, array_name, up_to_id, up_to_name, result_id, result_name};
+ghost use Rattle.schemars_types.specs.Names.{bound_id, bound_name, range_id, range_name, either_id, either_name};
 ghost use Rattle.schemars_shapes.specs.Shape.{Shape as shape, shape_of, in_place, array_of, without_notes};
 ghost use Rattle.schemars_types.specs.Rows.{id_at, name_at, unknown_in};
 ghost use Rattle.schemars_types.specs.Refusals.{Registers, Refuses};
@@ -14,9 +15,9 @@ use std::alloc::Global;
 /// Rows of common types.
 ///
 /// Each call answers the number of the type's row, which has no notes. It adds the row unless it is
-/// there. Rows are written in place but for those of bytes and of schemas. `AlreadyDefined` says that
-/// another entry stands under the id, and `UnknownType` that `n` is no row's number. After a refusal
-/// the table is as before.
+/// there. Rows are written in place but for those of bytes, schemas, results, bounds and ranges.
+/// `AlreadyDefined` says that another entry stands under the id, and `UnknownType` has the first of
+/// the numbers that is no row's. After a refusal the table is as before.
 impl Types {
     /// The type of null.
     pub fn null(&mut self, alloc: Global) -> Result<TypeNo, TypesError>
@@ -229,6 +230,89 @@ impl Types {
         let id = format!(in alloc; "[{id}; up to {cap}]")?;
         let name = format!(in alloc; "Array_up_to_size_{cap}_of_{name}")?;
         self.register_row(alloc, id, name, true, Shape::UpTo(n, cap))
+    }
+
+    /// The type of maps with `Ok` of row `value`, or with `Err` of row `error`, and not both.
+    pub fn result(
+        &mut self,
+        alloc: Global,
+        value: TypeNo,
+        error: TypeNo,
+    ) -> Result<TypeNo, TypesError>
+        ensures ok { IfOk result (Registers (result_id (id_at self.old value) (id_at self.old error))
+            (result_name (name_at self.old value) (name_at self.old error))
+            (without_notes false (shape.result value error)) self.old self.new) }
+        ensures err { OnErr result (self.new ≡ self.old) }
+        ensures refused { IfErr result (Refuses (result_id (id_at self.old value) (id_at self.old error))
+            (without_notes false (shape.result value error)) self.old) }
+    {
+        let (Some(value_id), Some(value_name)) = (self.id(value), self.name(value)) else {
+            return Err(TypesError::UnknownType(value));
+        };
+        let (Some(error_id), Some(error_name)) = (self.id(error), self.name(error)) else {
+            return Err(TypesError::UnknownType(error));
+        };
+        let id = format!(in alloc; "Result<{value_id}, {error_id}>")?;
+        let name = format!(in alloc; "Result_of_{value_name}_or_{error_name}")?;
+        self.register_row(alloc, id, name, false, Shape::Result(value, error))
+    }
+
+    /// The type of bounds: maps with `Included` or with `Excluded` of row `n`, and not both, and
+    /// the text `Unbounded`.
+    pub fn bound(&mut self, alloc: Global, n: TypeNo) -> Result<TypeNo, TypesError>
+        ensures ok { IfOk result (Registers (bound_id (id_at self.old n)) (bound_name (name_at self.old n))
+            (without_notes false (shape.bound n)) self.old self.new) }
+        ensures err { OnErr result (self.new ≡ self.old) }
+        ensures refused { IfErr result
+            (Refuses (bound_id (id_at self.old n)) (without_notes false (shape.bound n)) self.old) }
+    {
+        let (Some(id), Some(name)) = (self.id(n), self.name(n)) else {
+            return Err(TypesError::UnknownType(n));
+        };
+        let id = format!(in alloc; "Bound<{id}>")?;
+        let name = format!(in alloc; "Bound_of_{name}")?;
+        self.register_row(alloc, id, name, false, Shape::Bound(n))
+    }
+
+    /// The type of maps with `start` and `end` of row `n`.
+    pub fn range(&mut self, alloc: Global, n: TypeNo) -> Result<TypeNo, TypesError>
+        ensures ok { IfOk result (Registers (range_id (id_at self.old n)) (range_name (name_at self.old n))
+            (without_notes false (shape.range n)) self.old self.new) }
+        ensures err { OnErr result (self.new ≡ self.old) }
+        ensures refused { IfErr result
+            (Refuses (range_id (id_at self.old n)) (without_notes false (shape.range n)) self.old) }
+    {
+        let (Some(id), Some(name)) = (self.id(n), self.name(n)) else {
+            return Err(TypesError::UnknownType(n));
+        };
+        let id = format!(in alloc; "Range<{id}>")?;
+        let name = format!(in alloc; "Range_of_{name}")?;
+        self.register_row(alloc, id, name, false, Shape::Range(n))
+    }
+
+    /// The type of maps with one key: `Left` of row `left`, or `Right` of row `right`.
+    pub fn either(
+        &mut self,
+        alloc: Global,
+        left: TypeNo,
+        right: TypeNo,
+    ) -> Result<TypeNo, TypesError>
+        ensures ok { IfOk result (Registers (either_id (id_at self.old left) (id_at self.old right))
+            (either_name (name_at self.old left) (name_at self.old right))
+            (in_place (shape.either left right)) self.old self.new) }
+        ensures err { OnErr result (self.new ≡ self.old) }
+        ensures refused { IfErr result (Refuses (either_id (id_at self.old left) (id_at self.old right))
+            (in_place (shape.either left right)) self.old) }
+    {
+        let (Some(left_id), Some(left_name)) = (self.id(left), self.name(left)) else {
+            return Err(TypesError::UnknownType(left));
+        };
+        let (Some(right_id), Some(right_name)) = (self.id(right), self.name(right)) else {
+            return Err(TypesError::UnknownType(right));
+        };
+        let id = format!(in alloc; "either::Either<{left_id}, {right_id}>")?;
+        let name = format!(in alloc; "Either_{left_name}_or_{right_name}")?;
+        self.register_row(alloc, id, name, true, Shape::Either(left, right))
     }
 
     // Reserves and defines a row. Its shape refers to rows of the table alone, so a new row is never

@@ -1,0 +1,118 @@
+-- What a choice of documents says under 2020-12, and the documents of maps with members that have to be there.
+use Rattle.std.proofs.Common.{◌≡◌, ℕ, ◌<◌, List, [], ◌∷◌, map, Option, Some, None, Bool, true, false, refl, sym, ap, ◌∙◌}
+use Rattle.std.specs.Prelude.{codes, if◌then◌else◌, not, ◌&&◌, bytes_eq, is_some}
+use Rattle.serde_json.specs.Data.{Data, null, boolean, number, string, array, object, depth}
+use Rattle.schemars_schema.specs.Verdict.{Verdict, Yes, No, both, verdict, opposite, none_of, one_of}
+use Rattle.schemars_json.specs.Json.{Text, IsJson, json_eq}
+use Rattle.schemars_schema.specs.SchemaData.{IsSchema}
+use Rattle.schemars_schema.specs.Acceptance.{Patterns, Judge, Context, judge, read_data, read_items, all_keywords}
+use Rattle.schemars_schema.proofs.Verdicts.{both-yes, both-verdict}
+use Rattle.schemars_schema.proofs.Objects.{schema-judge}
+use Rattle.schemars_rewrite.specs.NullLaw.{context2020_12}
+use Rattle.schemars_rewrite.specs.Variants.{unit_variant}
+use Rattle.schemars_shapes.specs.Shape as shape
+use Rattle.schemars_shapes.specs.Shape.{Shape, needed}
+use Rattle.schemars_types.specs.Meaning.{Contract, Deserialize, Serialize, has_shape, has_fields, exactly_one, none, is_text}
+use Rattle.schemars_templates.proofs.ByShape.{items_from, one_of_document, member_document, range_document}
+use Rattle.schemars_templates.proofs.ByShape.{result_document, bound_document, either_document}
+use Rattle.schemars_templates.proofs.Structs.{struct_says}
+
+none_verdict : (bs : List Bool) → none_of (map verdict bs) ≡ verdict (none bs)
+none_verdict [] = refl
+none_verdict (b ∷ bs) = rw (none_verdict bs) (go b (none bs))
+  where
+    go : (a b : Bool) → both (opposite (verdict a)) (verdict b) ≡ verdict (not a && b)
+    go true true = refl
+    go true false = refl
+    go false b = refl
+
+one_verdict : (bs : List Bool) → one_of (map verdict bs) ≡ verdict (exactly_one bs)
+one_verdict [] = refl
+one_verdict (true ∷ bs) = none_verdict bs
+one_verdict (false ∷ bs) = one_verdict bs
+
+module _ (patterns : Patterns) (f : Text → Judge) (contract : Contract) (M : ℕ → Data → Bool) where
+  abbrev c : Context
+  c = context2020_12 patterns f
+
+  -- schemas, and what each says of a value
+  abbrev Say : List Data → List Bool → Data → Type 0
+  Say [] [] v = Unit {0}
+  Say [] (b ∷ bs) v = ⊥
+  Say (t ∷ ts) [] v = ⊥
+  Say (t ∷ ts) (b ∷ bs) v = IsSchema t × ((judge c t).fits v ≡ verdict b) × Say ts bs v
+
+  choices_read : (ts : List Data) (bs : List Bool) (v : Data) → Say ts bs v → read_items c (items_from ts) ≡ Some (map (judge c) ts)
+  unfolding read_data
+  choices_read [] bs v h = refl
+  choices_read (t ∷ ts) [] v h = absurd h
+  choices_read (t ∷ ts) (b ∷ bs) v h = rw (schema-judge c t h.0, choices_read ts bs v h.2) refl
+
+  each_choice : (ts : List Data) (bs : List Bool) (v : Data) → Say ts bs v
+      → map (λ (s : Judge). s.fits v) (map (judge c) ts) ≡ map verdict bs
+  each_choice [] [] v h = refl
+  each_choice [] (b ∷ bs) v h = absurd h
+  each_choice (t ∷ ts) [] v h = absurd h
+  each_choice (t ∷ ts) (b ∷ bs) v h = λ i. h.1 i ∷ each_choice ts bs v h.2 i
+
+  pub one_of_says : (ts : List Data) (bs : List Bool) (v : Data) → Say ts bs v
+      → (judge c (one_of_document ts)).fits v ≡ verdict (exactly_one bs)
+  unfolding read_data all_keywords
+  one_of_says ts bs v h = rw (choices_read ts bs v h) (both-yes _ ∙ (ap one_of (each_choice ts bs v h) ∙ one_verdict bs))
+
+  pub unit_says : (name : Text) (v : Data) → (judge c (unit_variant name)).fits v ≡ verdict (is_text name v)
+  unfolding read_data all_keywords json_eq
+  unit_says name null = refl
+  unit_says name (boolean b) = refl
+  unit_says name (number n) = refl
+  unit_says name (string s) = both-yes _
+  unit_says name (array vs) = refl
+  unit_says name (object ms) = refl
+
+  module _ (W : ℕ → Data → Type 0) (schemas : (j : ℕ) (t : Data) → W j t → IsSchema t) (v : Data) (json : IsJson v)
+      (agree : (j : ℕ) (t w : Data) → W j t → IsJson w → depth w < depth v → (judge c t).fits w ≡ verdict (M j w)) where
+    abbrev has : Bool → Text → ℕ → Bool
+    has closed name n = has_fields contract M (needed name n ∷ []) closed v
+
+    member_says : (closed : Bool) (name : Text) (n : ℕ) (t : Data) → W n t
+        → (judge c (member_document closed name t)).fits v ≡ verdict (has_fields contract M (needed name n ∷ []) closed v)
+    member_says closed name n t h = go contract
+      where
+        go : (k : Contract) → (judge c (member_document closed name t)).fits v ≡ verdict (has_fields k M (needed name n ∷ []) closed v)
+        go Deserialize = struct_says patterns f Deserialize W M schemas (needed name n ∷ []) (t ∷ []) closed (tt, tt) (tt, tt) (h, refl) v
+            json agree
+        go Serialize = struct_says patterns f Serialize W M schemas (needed name n ∷ []) (t ∷ []) closed (tt, tt) (tt, tt) (h, refl) v
+            json agree
+
+    pub range_says : (n : ℕ) (s e : Data) → W n s → W n e
+        → (judge c (range_document s e)).fits v ≡ verdict (has_shape contract patterns M (shape.range n) v)
+    range_says n s e g h = go contract
+      where
+        go : (k : Contract) → (judge c (range_document s e)).fits v ≡ verdict (has_shape k patterns M (shape.range n) v)
+        go Deserialize = struct_says patterns f Deserialize W M schemas (needed (codes "start") n ∷ needed (codes "end") n ∷ [])
+            (s ∷ e ∷ []) false ((refl, tt), (tt, tt)) (tt, (tt, tt)) (g, (h, refl)) v json agree
+        go Serialize = struct_says patterns f Serialize W M schemas (needed (codes "start") n ∷ needed (codes "end") n ∷ [])
+            (s ∷ e ∷ []) false ((refl, tt), (tt, tt)) (tt, (tt, tt)) (g, (h, refl)) v json agree
+
+    pub result_says : (a b : ℕ) (t e : Data) → W a t → W b e
+        → (judge c (result_document t e)).fits v ≡ verdict (has_shape contract patterns M (shape.result a b) v)
+    result_says a b t e g h =
+        one_of_says (member_document false (codes "Ok") t ∷ member_document false (codes "Err") e ∷ [])
+        (has false (codes "Ok") a ∷ has false (codes "Err") b ∷ []) v
+        (tt, member_says false (codes "Ok") a t g, (tt, member_says false (codes "Err") b e h, tt))
+
+    pub either_says : (a b : ℕ) (t e : Data) → W a t → W b e
+        → (judge c (either_document t e)).fits v ≡ verdict (has_shape contract patterns M (shape.either a b) v)
+    either_says a b t e g h =
+        one_of_says (member_document true (codes "Left") t ∷ member_document true (codes "Right") e ∷ [])
+        (has true (codes "Left") a ∷ has true (codes "Right") b ∷ []) v
+        (tt, member_says true (codes "Left") a t g, (tt, member_says true (codes "Right") b e h, tt))
+
+    pub bound_says : (n : ℕ) (t e : Data) → W n t → W n e
+        → (judge c (bound_document t e)).fits v ≡ verdict (has_shape contract patterns M (shape.bound n) v)
+    bound_says n t e g h =
+        one_of_says (member_document false (codes "Included") t ∷ member_document false (codes "Excluded") e
+        ∷ unit_variant (codes "Unbounded") ∷ [])
+        (has false (codes "Included") n ∷ has false (codes "Excluded") n ∷ is_text (codes "Unbounded") v ∷ []) v
+        (tt, member_says false (codes "Included") n t g, (tt, member_says false (codes "Excluded") n e h,
+        (tt, unit_says (codes "Unbounded") v, tt)))
