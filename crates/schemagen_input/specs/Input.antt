@@ -11,7 +11,8 @@ use Rattle.schemars_shapes.specs.declared.shape.IntKind.{IntKind}
 use Rattle.schemars_shapes.specs.declared.shape.IntKind.TheVariants.{I8, I16, I32, I64, I128, Isize, U8, U16, U32, U64, U128, Usize}
 use Rattle.schemars_shapes.specs.Shape.{Required, Field, Shape, Entry, null as null_shape, bool, int, non_zero}
 use Rattle.schemars_shapes.specs.Shape.{number as number_shape, text, char, formatted, any, bytes, schema_itself}
-use Rattle.schemars_shapes.specs.Shape.{option, seq, set, array as array_shape, up_to, tuple, struct, newtype}
+use Rattle.schemars_shapes.specs.Shape.{option, seq, set, array as array_shape, up_to, tuple, struct, newtype, result, bound, range}
+use Rattle.schemars_shapes.specs.Shape.{either}
 use Rattle.schemars_shapes.specs.Shape.{numbers_of}
 use Rattle.schemars_types.specs.Rows.{Row, with_entry}
 
@@ -137,12 +138,32 @@ array_in d = option_map (λ p. array_shape p.0 p.1) (counted_in (codes "len") d)
 abbrev pub up_to_in : Data → Option Shape
 up_to_in d = option_map (λ p. up_to p.0 p.1) (counted_in (codes "cap") d)
 
+-- two rows under these names
+abbrev pub two_in : Text → Text → Data → Option (ℕ × ℕ)
+two_in first second d =
+    if has_only (first ∷ second ∷ []) d
+    then option_and_then (λ m. option_map (λ n. (m, n)) (needed number_in second d)) (needed number_in first d)
+    else None
+
+abbrev pub result_in : Data → Option Shape
+result_in d = option_map (λ p. result p.0 p.1) (two_in (codes "ok") (codes "err") d)
+
+abbrev pub either_in : Data → Option Shape
+either_in d = option_map (λ p. either p.0 p.1) (two_in (codes "left") (codes "right") d)
+
+-- maps with fixed members, by the kind that this name tells
+abbrev pub fixed_under : Text → Data → Option Shape
+fixed_under name d =
+    if bytes_eq name (codes "bound") then option_map bound (number_in d) else
+    (if bytes_eq name (codes "range") then option_map range (number_in d)
+    else (if bytes_eq name (codes "result") then result_in d else (if bytes_eq name (codes "either") then either_in d else None)))
+
 -- lists, by the kind that this name tells
 abbrev pub list_under : Text → Data → Option Shape
 list_under name d =
     if bytes_eq name (codes "seq") then option_map seq (number_in d) else (if bytes_eq name (codes "set") then option_map set (number_in d)
     else (if bytes_eq name (codes "array") then array_in d else (if bytes_eq name (codes "up_to") then up_to_in d
-    else (if bytes_eq name (codes "tuple") then tuple_in d else None))))
+    else (if bytes_eq name (codes "tuple") then tuple_in d else fixed_under name d))))
 
 -- other shapes without fields
 abbrev pub plain_under : Text → Data → Option Shape

@@ -7,7 +7,7 @@ ghost use Rattle.schemars_json.specs.OrderedText.{is_listed};
 ghost use Rattle.schemagen_input.specs.Input.{has_only, lone_in, number_in, notes_in, kind_named, kind_in, required};
 ghost use Rattle.schemagen_input.specs.Input.{required_each, required_in, field_in, fields_in, list_in, struct_in};
 ghost use Rattle.schemagen_input.specs.Input.{counted_in, array_in, up_to_in, numbers_in, tuple_in, list_under};
-ghost use Rattle.schemagen_input.specs.Input.{plain_under};
+ghost use Rattle.schemagen_input.specs.Input.{plain_under, two_in, result_in, either_in, fixed_under};
 ghost use Rattle.schemagen_input.specs.Input.{shape_named, shape_under, shape_in, entry_in, optional, needed};
 ghost use Rattle.schemagen_input.specs.Input.{heading_in, unentered, are_none, are_fields_bare, is_bare, input_of};
 ghost use Rattle.schemagen_input.specs.Reading.{as_input, headings_in, reserved_after, fitting_after};
@@ -379,8 +379,47 @@ fn list_under(alloc: Global, name: &str, value: &Value) -> Result<Option<Shape>,
         "array" => array_in(value),
         "up_to" => up_to_in(value),
         "tuple" => tuple_in(alloc, value)?,
-        _ => None,
+        _ => fixed_under(name, value),
     })
+}
+
+// Two rows under these names.
+fn two_in(value: &Value, first: &str, second: &str) -> Option<(TypeNo, TypeNo)>
+    ensures { result ≡ two_in first.now second.now (view value.now) }
+{
+    if !has_only(value, &[first, second]) {
+        return None;
+    }
+    let m = number_of(value, first)?;
+    let n = number_of(value, second)?;
+    Some((m, n))
+}
+
+fn result_in(value: &Value) -> Option<Shape>
+    ensures { option_map shape_of result ≡ result_in (view value.now) }
+{
+    let (ok, err) = two_in(value, "ok", "err")?;
+    Some(Shape::Result(ok, err))
+}
+
+fn either_in(value: &Value) -> Option<Shape>
+    ensures { option_map shape_of result ≡ either_in (view value.now) }
+{
+    let (left, right) = two_in(value, "left", "right")?;
+    Some(Shape::Either(left, right))
+}
+
+// A map with fixed members, of the kind that this name tells.
+fn fixed_under(name: &str, value: &Value) -> Option<Shape>
+    ensures { option_map shape_of result ≡ fixed_under name.now (view value.now) }
+{
+    match name {
+        "bound" => number_in(value).map(Shape::Bound),
+        "range" => number_in(value).map(Shape::Range),
+        "result" => result_in(value),
+        "either" => either_in(value),
+        _ => None,
+    }
 }
 
 fn format_in(alloc: Global, value: &Value) -> Result<Option<Shape>, AllocError>

@@ -94,6 +94,10 @@ shape_without_float (shape.array n len) h = tt
 shape_without_float (shape.up_to n cap) h = tt
 shape_without_float (shape.tuple ns) h = tt
 shape_without_float (shape.newtype n) h = tt
+shape_without_float (shape.result a b) h = tt
+shape_without_float (shape.bound n) h = tt
+shape_without_float (shape.range n) h = tt
+shape_without_float (shape.either a b) h = tt
 
 -- ---- names of fields
 
@@ -133,6 +137,10 @@ plain_shape (shape.array n len) h differ = tt
 plain_shape (shape.up_to n cap) h differ = tt
 plain_shape (shape.tuple ns) h differ = tt
 plain_shape (shape.newtype n) h differ = tt
+plain_shape (shape.result a b) h differ = tt
+plain_shape (shape.bound n) h differ = tt
+plain_shape (shape.range n) h differ = tt
+plain_shape (shape.either a b) h differ = tt
 
 -- ---- the table
 

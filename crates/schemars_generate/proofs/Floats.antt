@@ -275,6 +275,10 @@ shape_whole contract (shape.struct xs closed) n =
     map_whole (map property xs) (text_items (required_names contract xs)) closed (properties_whole xs n)
     (texts_whole (required_names contract xs))
 shape_whole contract (shape.newtype j) n = tt
+shape_whole contract (shape.result a b) n = search
+shape_whole contract (shape.bound j) n = search
+shape_whole contract (shape.range j) n = search
+shape_whole contract (shape.either a b) n = search
 
 own_whole : (W : ℕ → Data → Type 0) (contract : Contract) → ((j : ℕ) (t : Data) → W j t → IsWhole t) → (o : Option Entry)
     → EntryHasNoFloat o → (s : Data) → IsOwnDocument W contract o s → IsWhole s

@@ -61,6 +61,10 @@ same_number (shape.array i len) j same = absurd same
 same_number (shape.up_to i cap) j same = absurd same
 same_number (shape.tuple ns) j same = absurd same
 same_number (shape.struct xs closed) j same = absurd same
+same_number (shape.result a b) j same = absurd same
+same_number (shape.bound i) j same = absurd same
+same_number (shape.range i) j same = absurd same
+same_number (shape.either a b) j same = absurd same
 
 rank_below : (rows : List Row) → IsChecked rows → (n : ℕ) (e : Entry) (j : ℕ) → entry_at rows n ≡ Some e → IsSame e.shape j
     → rank rows j < rank rows n

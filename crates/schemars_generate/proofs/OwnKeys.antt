@@ -90,6 +90,10 @@ shape_other contract (shape.tuple []) = (refl, refl)
 shape_other contract (shape.tuple (n ∷ ns)) = search
 shape_other contract (shape.struct xs closed) = map_other (map property xs) (text_items (required_names contract xs)) closed
 shape_other contract (shape.newtype n) = tt
+shape_other contract (shape.result a b) = search
+shape_other contract (shape.bound n) = search
+shape_other contract (shape.range n) = search
+shape_other contract (shape.either a b) = search
 
 module _ (key : Text) (is_key : IsDefinitionsKey key) where
   abbrev Lacks : Members → Type 0
