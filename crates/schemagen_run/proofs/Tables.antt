@@ -18,12 +18,12 @@ use Rattle.schemars_shapes.specs.Shape.{Field, Entry, Shape, numbers_of, names_o
 use Rattle.schemars_types.specs.Rows.{Row, entry_at}
 use Rattle.schemars_types.specs.Faults.{IsChecked}
 use Rattle.schemars_documents.specs.declared.contract.Contract.{Contract}
-use Rattle.schemars_generate.specs.Headline.{Headline, IsRootOf, IsDraftPath}
+use Rattle.schemars_headline.specs.Headline.{Headline, IsRootOf, IsDraftPath}
 use Rattle.schemars_documents.specs.ContractOf.{contract_of}
 use Rattle.schemars_documents.specs.PlainTable.{IsNoName, AreDistinct, AreNoted, IsPlainShape, IsPlainEntry}
 use Rattle.schemars_documents.specs.PlainTable.{IsPlainTable, FieldsHaveNoFloat, ShapeHasNoFloat, EntryHasNoFloat}
 use Rattle.schemars_documents.specs.PlainTable.{HasNoFloat}
-use Rattle.schemars_generate.specs.State.{Settings, State, plan_of, HasOwnDefinitions}
+use Rattle.schemars_headline.specs.State.{Settings, State, plan_of, HasOwnDefinitions}
 use Rattle.schemars_naming.specs.Work.{Work}
 use Rattle.schemagen_input.specs.Input.{input_of, has_only, needed, number_in, rows_in, all_differ, ids_of, are_none}
 use Rattle.schemagen_input.specs.Input.{are_fields_bare, is_bare, refers_within, fits, all_fit, is_table}

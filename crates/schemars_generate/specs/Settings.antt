@@ -2,7 +2,7 @@
 use Rattle.std.specs.Prelude.{List, option_map}
 use Rattle.std.specs.Cow.{cow_str_bytes}
 use Rattle.schemars_types.specs.Rows.{Row}
-use Rattle.schemars_generate.specs.State.{State, Settings}
+use Rattle.schemars_headline.specs.State.{State, Settings}
 use Rattle.schemars_naming.specs.Work.{Work}
 use Rattle.schemars_generate.specs.declared.generate.SchemaSettings as src
 

@@ -9,19 +9,19 @@ ghost use Rattle.std.specs.Borrow.{Lends, sem};
 ghost use Rattle.schemars_schema.specs.References.{references};
 ghost use Rattle.schemars_types.specs.Extends.{begins_with};
 ghost use Rattle.schemars_types.specs.Faults.{IsAccepted, IsChecked};
-ghost use Rattle.schemars_generate.specs.Headline.{RootHeadline, SubschemaHeadline, IsRootOf, IsTitledRoot, IsDraftPath};
-ghost use Rattle.schemars_generate.specs.Headline.{with_definitions};
-ghost use Rattle.schemars_generate.specs.Calls.{IsPartOf, IsReferenceOf, Adds, IsNeeded, IsRootCall, IsLastRootCall};
+ghost use Rattle.schemars_headline.specs.Headline.{RootHeadline, SubschemaHeadline, IsRootOf, IsTitledRoot, IsDraftPath};
+ghost use Rattle.schemars_headline.specs.Headline.{CannotPlace, with_definitions};
+ghost use Rattle.schemars_headline.specs.Calls.{IsPartOf, IsReferenceOf, Adds, IsNeeded, IsRootCall, IsLastRootCall};
 ghost use Rattle.schemars_build.specs.Parts.{IsSubschema};
 ghost use Rattle.schemars_naming.specs.Naming.{IsOneToOne};
 ghost use Rattle.schemars_documents.specs.PlainTable.{IsPlainTable, HasNoFloat};
 ghost use Rattle.schemars_build.specs.Reached.{AreReached};
-ghost use Rattle.schemars_generate.specs.Refusals.{HasFault, CannotPlace};
-ghost use Rattle.schemars_generate.specs.Keys.{HasKeysOnce};
+ghost use Rattle.schemars_generate.specs.Refusals.{HasFault};
+ghost use Rattle.schemars_headline.specs.Keys.{HasKeysOnce};
 ghost use Rattle.schemars_generate.specs.Settings.{settings_of, state_of};
-ghost use Rattle.schemars_generate.specs.State.{State, settings2020_12, path_of, plan_of as state_plan, work_of};
-ghost use Rattle.schemars_generate.specs.State.{after_root, stripped, without_hash, without_slash, HasOwnDefinitions};
-ghost use Rattle.schemars_generate.specs.State.{ReferencesNameKeys};
+ghost use Rattle.schemars_headline.specs.State.{State, settings2020_12, path_of, plan_of as state_plan, work_of};
+ghost use Rattle.schemars_headline.specs.State.{after_root, stripped, without_hash, without_slash, HasOwnDefinitions};
+ghost use Rattle.schemars_headline.specs.State.{ReferencesNameKeys};
 ghost use Rattle.schemars_naming.specs.Work as specs;
 ghost use Rattle.schemars_naming.specs.Work.{Step, undone};
 
@@ -99,7 +99,7 @@ impl Model for SchemaGenerator {
     ghost use Rattle.std.specs.Prelude.{◌≡◌};
     ghost use Rattle.std.specs.Coded.{codes};
     ghost use Rattle.schemars_schema.specs.DataCode.{members_code};
-    ghost use Rattle.schemars_generate.specs.State.{State, work_of};
+    ghost use Rattle.schemars_headline.specs.State.{State, work_of};
 
     ghost Value = { State };
 
@@ -127,7 +127,7 @@ impl Model for SchemaGenerator {
 
 impl SchemaGenerator {
     ghost use Rattle.schemars_generate.specs.Settings.{settings_of};
-    ghost use Rattle.schemars_generate.specs.State.{State};
+    ghost use Rattle.schemars_headline.specs.State.{State};
     ghost use Rattle.schemars_generate.specs.contracts.generate.SchemaGenerator.{the_row};
 
     /// A generator over an empty table.

@@ -1,7 +1,7 @@
 -- The settings are for the values of the contract.
 use Rattle.std.proofs.Common.{ap, sym, ◌∙◌}
 use Rattle.schemars_documents.specs.declared.contract.Contract.TheVariants.{Serialize}
-use Rattle.schemars_generate.specs.State.{Settings}
+use Rattle.schemars_headline.specs.State.{Settings}
 use Rattle.schemagen_run.specs.Run.{settings_for}
 use Rattle.schemagen_run.proofs.run.settings_for.Goals as goal
 

@@ -1,13 +1,12 @@
 use Rattle.std.proofs.Common.{◌≡◌, ◌⊎◌, inl, inr, None, sym, subst, rules}
 use Rattle.serde_json.specs.View.{members_view}
-use Rattle.schemars_generate.specs.Headline.{IsRootOf}
-use Rattle.schemars_generate.specs.Keys.{HasKeysOnce}
-use Rattle.schemars_generate.specs.Refusals.{CannotPlace}
+use Rattle.schemars_headline.specs.Headline.{IsRootOf, CannotPlace}
+use Rattle.schemars_headline.specs.Keys.{HasKeysOnce}
 use Rattle.schemars_generate.specs.Settings.{state_of}
-use Rattle.schemars_generate.specs.State.{State, plan_of}
+use Rattle.schemars_headline.specs.State.{State, plan_of}
 use Rattle.schemars_generate.specs.declared.error.GenerateError.{GenerateError}
 use Rattle.schemars_generate.specs.declared.error.GenerateError.TheVariants.{OutOfMemory, DefinitionsPath}
-use Rattle.schemars_generate.proofs.Calls.{cannot_place, root_of, err_told}
+use Rattle.schemars_headline.proofs.Calls.{cannot_place, root_of, err_told}
 use Rattle.schemars_generate.proofs.generate.last_document.Goals as goal
 
 pub returns-in_err-document-clause-refused : goal.returns-in_err-document-clause-refused

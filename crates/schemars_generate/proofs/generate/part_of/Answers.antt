@@ -2,11 +2,11 @@ use Rattle.std.proofs.Common.{◌≡◌, None, true, false, refl, sym, subst, ru
 use Rattle.schemars_json.specs.Json.{Text}
 use Rattle.schemars_build.specs.Parts.{IsSubschema}
 use Rattle.schemars_generate.specs.Settings.{state_of}
-use Rattle.schemars_generate.specs.State.{plan_of, work_of}
+use Rattle.schemars_headline.specs.State.{plan_of, work_of}
 use Rattle.schemars_naming.specs.Work.{Work, Step}
 use Rattle.schemars_schema.specs.References.{references}
 use Rattle.schemars_build.specs.Reached.{AreReached}
-use Rattle.schemars_generate.proofs.Calls.{part_kept, step_kept, reached_kept}
+use Rattle.schemars_headline.proofs.Calls.{part_kept, step_kept, reached_kept}
 use Rattle.schemars_generate.proofs.generate.part_of.Goals as goal
 
 pub returns-in-Ok-clause-part : goal.returns-in-Ok-clause-part

@@ -1,7 +1,7 @@
 use Rattle.std.proofs.Common.{inr, Some, None, refl, ap, ◌∙◌}
 use Rattle.std.specs.Prelude.{if◌then◌else◌}
-use Rattle.schemars_generate.proofs.Keys.{map_once}
-use Rattle.schemars_generate.proofs.Calls.{some_definitions}
+use Rattle.schemars_headline.proofs.Keys.{map_once}
+use Rattle.schemars_headline.proofs.Calls.{some_definitions}
 use Rattle.schemars_generate.proofs.generate.place.Goals as goal
 
 pub returns-then-len-eq0-clause-once : goal.returns-then-len-eq0-clause-once

@@ -10,7 +10,7 @@ use Rattle.schemars_documents.specs.PlainTable.{IsPlainTable}
 use Rattle.schemars_naming.specs.Work.{Plan, Refers}
 use Rattle.schemars_build.specs.Reached.{AreReached}
 use Rattle.schemars_generate.specs.Settings.{state_of}
-use Rattle.schemars_generate.specs.State.{plan_of}
+use Rattle.schemars_headline.specs.State.{plan_of}
 use Rattle.schemars_generate.proofs.generate.titled_document.Goals as goal
 
 pub returns-clause-titled : goal.returns-clause-titled

@@ -1,6 +1,6 @@
 use Rattle.std.proofs.Common.{None, Some, sym, arith}
 use Rattle.std.proofs.lemmas.Str.Pattern.{strip_prefix_char}
-use Rattle.schemars_generate.proofs.Paths.{hash_gone, no_hash}
+use Rattle.schemars_headline.proofs.Paths.{hash_gone, no_hash}
 use Rattle.schemars_generate.proofs.generate.without_hash.Goals as goal
 
 pub returns-in-Some : goal.returns-in-Some

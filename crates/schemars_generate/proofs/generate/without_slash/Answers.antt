@@ -1,7 +1,7 @@
 use Rattle.std.proofs.Common.{None, Some, sym, ap, ◌∙◌, arith}
 use Rattle.std.proofs.lemmas.Str.Pattern.{strip_suffix_char}
-use Rattle.schemars_generate.specs.State.{without_slash}
-use Rattle.schemars_generate.proofs.Paths.{slash_gone, no_slash}
+use Rattle.schemars_headline.specs.State.{without_slash}
+use Rattle.schemars_headline.proofs.Paths.{slash_gone, no_slash}
 use Rattle.schemars_generate.proofs.generate.without_slash.Goals as goal
 
 pub returns-in-Some : goal.returns-in-Some

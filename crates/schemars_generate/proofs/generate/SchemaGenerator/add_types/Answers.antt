@@ -1,8 +1,8 @@
 use Rattle.std.proofs.Common.{◌≡◌, length, take, sym, subst, rules}
 use Rattle.schemars_generate.specs.Settings.{state_of}
-use Rattle.schemars_generate.specs.State.{HasOwnDefinitions}
-use Rattle.schemars_generate.proofs.Calls.{more_types_own}
-use Rattle.schemars_generate.proofs.NamedKeys.{references_name_keys}
+use Rattle.schemars_headline.specs.State.{HasOwnDefinitions}
+use Rattle.schemars_headline.proofs.Calls.{more_types_own}
+use Rattle.schemars_headline.proofs.NamedKeys.{references_name_keys}
 use Rattle.schemars_generate.proofs.generate.SchemaGenerator.add_types.Goals as goal
 
 pub returns-clause-own : goal.returns-clause-own

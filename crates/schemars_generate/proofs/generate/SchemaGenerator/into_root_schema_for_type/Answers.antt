@@ -1,8 +1,8 @@
 use Rattle.std.proofs.Common.{◌≡◌, inl, inr, subst, rules}
 use Rattle.schemars_types.specs.Faults.{IsChecked}
-use Rattle.schemars_generate.specs.State.{State}
+use Rattle.schemars_headline.specs.State.{State}
 use Rattle.schemars_generate.specs.declared.error.GenerateError.TheVariants.{OutOfMemory}
-use Rattle.schemars_generate.proofs.Calls.{root_means, root_is_whole, always_placed}
+use Rattle.schemars_headline.proofs.Calls.{root_means, root_is_whole, always_placed}
 use Rattle.schemars_generate.proofs.generate.SchemaGenerator.into_root_schema_for_type.Goals as goal
 
 pub returns-clause-headline : goal.returns-clause-headline

@@ -2,9 +2,9 @@ use Rattle.std.proofs.Common.{◌≡◌, sym, subst, refl}
 use Rattle.schemars_types.specs.Faults.{IsChecked}
 use Rattle.schemars_naming.specs.Naming.{IsOneToOne}
 use Rattle.schemars_generate.specs.Settings.{state_of}
-use Rattle.schemars_generate.specs.State.{work_of}
+use Rattle.schemars_headline.specs.State.{work_of}
 use Rattle.schemars_naming.specs.Work.{Work}
-use Rattle.schemars_generate.proofs.Calls.{checked_nothing, one_to_one-none}
+use Rattle.schemars_headline.proofs.Calls.{checked_nothing, one_to_one-none}
 use Rattle.schemars_generate.proofs.generate.SchemaGenerator.new.Goals as goal
 
 pub invariant_of-result : goal.invariant_of-result

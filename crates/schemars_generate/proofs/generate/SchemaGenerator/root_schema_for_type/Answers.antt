@@ -1,14 +1,14 @@
 use Rattle.std.proofs.Common.{◌≡◌, inl, inr, sym, subst, rules, false, None}
 use Rattle.serde_json.specs.Written.{has_float}
-use Rattle.schemars_generate.specs.Headline.{Headline, IsDraftPath}
+use Rattle.schemars_headline.specs.Headline.{Headline, IsDraftPath}
 use Rattle.schemars_documents.specs.ContractOf.{contract_of}
 use Rattle.schemars_documents.specs.PlainTable.{IsPlainTable, HasNoFloat}
 use Rattle.schemars_generate.specs.Settings.{state_of}
-use Rattle.schemars_generate.specs.State.{State, plan_of, HasOwnDefinitions}
+use Rattle.schemars_headline.specs.State.{State, plan_of, HasOwnDefinitions}
 use Rattle.schemars_naming.specs.Work.{Work}
 use Rattle.schemars_generate.specs.declared.error.GenerateError.TheVariants.{OutOfMemory}
-use Rattle.schemars_generate.proofs.Calls.{root_means, root_is_whole, after_root_own, always_placed}
-use Rattle.schemars_generate.proofs.NamedKeys.{references_name_keys}
+use Rattle.schemars_headline.proofs.Calls.{root_means, root_is_whole, after_root_own, always_placed}
+use Rattle.schemars_headline.proofs.NamedKeys.{references_name_keys}
 use Rattle.schemars_generate.proofs.generate.SchemaGenerator.root_schema_for_type.Goals as goal
 
 pub returns-clause-headline : goal.returns-clause-headline

@@ -8,11 +8,11 @@ use Rattle.schemars_naming.specs.Naming.{name_of}
 use Rattle.schemars_documents.specs.PlainTable.{IsPlainTable}
 use Rattle.schemars_build.specs.Reached.{AreReached}
 use Rattle.schemars_generate.specs.Settings.{state_of}
-use Rattle.schemars_generate.specs.State.{State, plan_of, work_of, HasOwnDefinitions}
+use Rattle.schemars_headline.specs.State.{State, plan_of, work_of, HasOwnDefinitions}
 use Rattle.schemars_naming.specs.Work.{Work, Step, IsKey, reference_to}
-use Rattle.schemars_generate.proofs.Calls.{part_own, reference_of_part}
-use Rattle.schemars_generate.proofs.NamedKeys.{references_name_keys}
-use Rattle.schemars_generate.proofs.Roots.{subschema_headline}
+use Rattle.schemars_headline.proofs.Calls.{part_own, reference_of_part}
+use Rattle.schemars_headline.proofs.NamedKeys.{references_name_keys}
+use Rattle.schemars_headline.proofs.Roots.{subschema_headline}
 use Rattle.schemars_generate.proofs.generate.SchemaGenerator.subschema_for_type.Goals as goal
 
 pub returns-in_err-schema-clause-own : goal.returns-in_err-schema-clause-own

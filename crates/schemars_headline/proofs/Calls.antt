@@ -20,21 +20,20 @@ use Rattle.schemars_documents.specs.ContractOf.{contract_of}
 use Rattle.schemars_naming.specs.Naming.{name_of, IsOneToOne}
 use Rattle.schemars_documents.specs.Documents.{reference, root_document}
 use Rattle.schemars_templates.specs.Describes.{IsOwnDocument, IsWritten, Describes}
-use Rattle.schemars_generate.specs.Keys.{HasKeysOnce}
+use Rattle.schemars_headline.specs.Keys.{HasKeysOnce}
 use Rattle.schemars_documents.specs.PlainTable.{IsPlainTable, HasNoFloat}
 use Rattle.schemars_naming.specs.Work.{Plan, Work, IsKey, StandsApart, Refers, IsDefinition, Step, reference_to}
-use Rattle.schemars_generate.specs.State.{State, plan_of, work_of, after_root, HasOwnDefinitions}
-use Rattle.schemars_generate.specs.Headline.{Headline, IsDraftPath, IsRootOf, IsTitledRoot, with_definitions}
+use Rattle.schemars_headline.specs.State.{State, plan_of, work_of, after_root, HasOwnDefinitions}
+use Rattle.schemars_headline.specs.Headline.{Headline, IsDraftPath, IsRootOf, IsTitledRoot, CannotPlace, with_definitions}
 use Rattle.schemars_build.specs.Parts.{IsSubschema}
 use Rattle.schemars_build.specs.Missing.{depth_in_place}
-use Rattle.schemars_generate.specs.Refusals.{CannotPlace}
 use Rattle.schemars_templates.proofs.Mapping.{own_map, written_map, describes-wider}
 use Rattle.schemars_schema.specs.References.{references}
 use Rattle.schemars_build.specs.Reached.{AreReached}
 use Rattle.schemars_build.proofs.Steps.{Wider, step_wider, definition-wider}
-use Rattle.schemars_generate.proofs.Leading.{Stands, AllStand, stands_now, stands_before}
-use Rattle.schemars_generate.proofs.Floats.{described_whole, root_whole, definitions_whole, whole_with_definitions}
-use Rattle.schemars_generate.proofs.Roots.{root_placed, root_call_means}
+use Rattle.schemars_headline.proofs.Leading.{Stands, AllStand, stands_now, stands_before}
+use Rattle.schemars_headline.proofs.Floats.{described_whole, root_whole, definitions_whole, whole_with_definitions}
+use Rattle.schemars_headline.proofs.Roots.{root_placed, root_call_means}
 
 -- ---- definitions between calls
 

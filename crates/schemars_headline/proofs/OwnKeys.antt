@@ -30,8 +30,8 @@ use Rattle.schemars_templates.specs.Template.{filled, filled_in}
 use Rattle.schemars_templates.specs.OfShape.{KeywordTemplate, property, map_template, template_of, entry_template}
 use Rattle.schemars_templates.specs.Describes.{IsOwnDocument, IsWritten, Describes}
 use Rattle.schemars_documents.specs.PlainTable.{IsPlainEntry, IsPlainTable}
-use Rattle.schemars_generate.proofs.Keys.{IsDefinitionsKey, IsOther, other_apart, annotation_other}
-use Rattle.schemars_generate.proofs.Parts.{either, first_all, parts_all}
+use Rattle.schemars_headline.proofs.Keys.{IsDefinitionsKey, IsOther, other_apart, annotation_other}
+use Rattle.schemars_headline.proofs.Parts.{either, first_all, parts_all}
 
 -- ---- the keys of a template
 

@@ -35,11 +35,11 @@ use Rattle.schemars_schema.specs.Edits.{without, replaced}
 use Rattle.schemars_schema.specs.Placing.{placed, placed_at, tokens_of}
 use Rattle.schemars_documents.specs.ContractOf.{contract_of}
 use Rattle.schemars_naming.specs.Work.{Plan, Work}
-use Rattle.schemars_generate.proofs.Leading.{MayRefer, AllStand}
-use Rattle.schemars_generate.specs.Headline.{with_definitions}
-use Rattle.schemars_generate.specs.Keys.{HasKeysOnce}
-use Rattle.schemars_generate.proofs.Keys.{AllMembers, all_members}
-use Rattle.schemars_generate.proofs.Parts.{either, left_all, first_all, parts_all}
+use Rattle.schemars_headline.proofs.Leading.{MayRefer, AllStand}
+use Rattle.schemars_headline.specs.Headline.{with_definitions}
+use Rattle.schemars_headline.specs.Keys.{HasKeysOnce}
+use Rattle.schemars_headline.proofs.Keys.{AllMembers, all_members}
+use Rattle.schemars_headline.proofs.Parts.{either, left_all, first_all, parts_all}
 
 abbrev IsWhole : Data → Type 0
 IsWhole s = has_float s ≡ false

@@ -10,9 +10,9 @@ use Rattle.schemars_json.specs.Encoding.{lookup}
 use Rattle.schemars_schema.specs.Acceptance.{count_of_definitions}
 use Rattle.schemars_schema.specs.Placing.{placed, placed_at}
 use Rattle.schemars_json.proofs.Encodings.{lookup-ascii}
-use Rattle.schemars_generate.specs.Headline.{IsDraftPath, IsKnownPath, IsHolding, with_definitions}
-use Rattle.schemars_generate.proofs.Keys.{IsDefinitionsKey}
-use Rattle.schemars_generate.proofs.Leading.{HoldsDefinitions, holds_at}
+use Rattle.schemars_headline.specs.Headline.{IsDraftPath, IsKnownPath, IsHolding, with_definitions}
+use Rattle.schemars_headline.proofs.Keys.{IsDefinitionsKey}
+use Rattle.schemars_headline.proofs.Leading.{HoldsDefinitions, holds_at}
 
 -- the key to which a draft's path leads
 abbrev pub StandsAt : Text → Text → Type 0

@@ -9,8 +9,8 @@ use Rattle.schemars_naming.specs.Naming.{name_of}
 use Rattle.schemars_naming.specs.Work.{Work, Step, IsKey, reference_to}
 use Rattle.schemars_build.specs.Parts.{IsSubschema}
 use Rattle.schemars_build.specs.Reached.{AreReached}
-use Rattle.schemars_generate.specs.Headline.{IsRootOf}
-use Rattle.schemars_generate.specs.State.{State, path_of, plan_of, work_of, after_root}
+use Rattle.schemars_headline.specs.Headline.{IsRootOf}
+use Rattle.schemars_headline.specs.State.{State, path_of, plan_of, work_of, after_root}
 
 -- row n where it is a part: its own document in place, or a reference
 abbrev pub IsPartOf : State → ℕ → Data → Type 0

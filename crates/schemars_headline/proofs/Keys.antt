@@ -18,7 +18,7 @@ use Rattle.schemars_json.specs.Json.{Text}
 use Rattle.schemars_json.specs.OrderedText.{is_listed}
 use Rattle.schemars_schema.specs.Annotations.{is_annotation}
 use Rattle.schemars_schema.proofs.Objects.{annotation-not_listed}
-use Rattle.schemars_generate.specs.Keys.{HasKeysOnce}
+use Rattle.schemars_headline.specs.Keys.{HasKeysOnce}
 use Rattle.schemars_naming.specs.Work.{IsKey}
 
 -- ---- which keys there are

@@ -11,9 +11,9 @@ use Rattle.schemars_schema.specs.References.{references}
 use Rattle.schemars_documents.specs.ContractOf.{contract_of}
 use Rattle.schemars_documents.specs.PlainTable.{IsPlainTable}
 use Rattle.schemars_naming.specs.Work.{IsKey, Refers, reference_to}
-use Rattle.schemars_generate.specs.State.{State, plan_of, work_of, HasOwnDefinitions, ReferencesNameKeys}
-use Rattle.schemars_generate.proofs.Keys.{key_here, key_later, key_cases}
-use Rattle.schemars_generate.proofs.Resolving.{resolve-each, described_resolved}
+use Rattle.schemars_headline.specs.State.{State, plan_of, work_of, HasOwnDefinitions, ReferencesNameKeys}
+use Rattle.schemars_headline.proofs.Keys.{key_here, key_later, key_cases}
+use Rattle.schemars_headline.proofs.Resolving.{resolve-each, described_resolved}
 
 -- whether this is the reference of one of these keys
 names_key : Text → Members → Data → Bool

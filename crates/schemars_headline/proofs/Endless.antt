@@ -18,7 +18,7 @@ use Rattle.schemars_types.specs.Edges.{DirectEdge, SameValueEdge, names_at}
 use Rattle.schemars_types.specs.Faults.{IsUndefined, HasRepeated, IsAccepted}
 use Rattle.schemars_types.specs.Meaning.{Contract, Deserialize, Serialize, belongs_within, every_member, member_fits, is_required}
 use Rattle.schemars_types.proofs.Accepted.{never_repeated}
-use Rattle.schemars_generate.specs.Headline.{MeansItsType}
+use Rattle.schemars_headline.specs.Headline.{MeansItsType}
 
 abbrev next : Field
 next = record { name = codes "n"; ty = 0; required = record { deserialize = true; serialize = true }; notes = no_members }

@@ -19,7 +19,7 @@ use Rattle.schemars_templates.specs.Describes.{ArePartsWritten, IsOwnDocument, I
 use Rattle.schemars_documents.specs.PlainTable.{IsPlainEntry, IsPlainTable}
 use Rattle.schemars_templates.proofs.ReferencesKept.{Among, references-root}
 use Rattle.schemars_templates.proofs.References.{AreSchemas, among_parts, filled_schema}
-use Rattle.schemars_generate.proofs.Keys.{AllMembers, IsDefinitionsKey}
+use Rattle.schemars_headline.proofs.Keys.{AllMembers, IsDefinitionsKey}
 
 -- all of these references pass a test
 abbrev pub all_pass : (Data → Bool) → List Data → Bool

@@ -16,7 +16,7 @@ use Rattle.schemars_documents.specs.Documents.{root_document}
 use Rattle.schemars_templates.specs.Describes.{Describes}
 use Rattle.schemars_naming.specs.Work.{Work, Refers, Step}
 use Rattle.schemars_build.specs.Reached.{AreReached}
-use Rattle.schemars_generate.specs.State.{State, path_of, plan_of, work_of, HasOwnDefinitions}
+use Rattle.schemars_headline.specs.State.{State, path_of, plan_of, work_of, HasOwnDefinitions}
 
 -- under every reading of patterns, from the bound on, the schema in this document accepts a JSON value exactly when it
 -- belongs to the row, and never leaves it open
@@ -68,6 +68,17 @@ pub record IsRootOf (old : State) (n : ℕ) (work : Work) (document : Data) : Ty
       (suc (height old.rows n)) n own
   pub is_root : with_definitions (plan_of old (Some n)).path work.definitions
       (root_document (name_at old.rows n) old.settings.meta_schema own) ≡ Some document
+  pub reached : IsPlainTable old.rows → AreReached (plan_of old (Some n)) false (work_of old) work (references own)
+
+-- a root document of row n whose definitions can't be placed, where all that joined is reached from it
+pub record CannotPlace (old : State) (n : ℕ) : Type 0 where
+  pub work : Work
+  pub step : Step (plan_of old (Some n)) (work_of old) work
+  pub own : Data
+  pub describes : Describes old.rows (contract_of old.settings.contract) (Refers (plan_of old (Some n)) true work)
+      (suc (height old.rows n)) n own
+  pub no_place : with_definitions (plan_of old (Some n)).path work.definitions
+      (root_document (name_at old.rows n) old.settings.meta_schema own) ≡ None
   pub reached : IsPlainTable old.rows → AreReached (plan_of old (Some n)) false (work_of old) work (references own)
 
 -- ---- subschemas

@@ -1,0 +1,4 @@
+pub mod Keys
+pub mod State
+pub mod Headline
+pub mod Calls
