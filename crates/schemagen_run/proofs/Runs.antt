@@ -7,7 +7,12 @@ use Rattle.std.proofs.lemmas.Slice.Eq.{bytes_eq-Decides}
 use Rattle.schemars_documents.specs.declared.contract.Contract.TheVariants.{Deserialize, Serialize}
 use Rattle.std.specs.Result.{IsErrAnd}
 use Rattle.schemars_types.specs.Rows.{Row}
-use Rattle.schemars_types.specs.Faults.{IsAccepted}
+use Rattle.schemars_types.specs.Faults.{IsAccepted, Refusal}
+use Rattle.schemars_types.specs.declared.error.TypesError as types
+use Rattle.schemars_types.specs.declared.error.TypesError.TheVariants as of_types
+use Rattle.schemars_generate.specs.declared.error.GenerateError.{GenerateError}
+use Rattle.schemars_generate.specs.declared.error.GenerateError.TheVariants.{OutOfMemory}
+use Rattle.schemars_generate.specs.Refusals.{code_of, error_of, HasFault}
 use Rattle.schemagen_run.specs.declared.fault.Fault.{Fault}
 use Rattle.schemagen_run.specs.declared.fault.Fault.TheVariants.{Refused}
 use Rattle.schemagen_run.specs.declared.fault.TheConstants.{OUT_OF_MEMORY, NOT_JSON, BAD_TABLE}
@@ -105,3 +110,27 @@ pub refused_alike : (old new : Option (List ℕ)) (result : Result (Unit {0}) Fa
     → IfErr result (λ f. IsTableFault f → GivesAll old new (IsFaultyTable f))
 refused_alike old new (Ok done) e same faulty = tt
 refused_alike old new (Err f) e same faulty = subst (λ (x : Fault). IsTableFault x → GivesAll old new (IsFaultyTable x)) (sym same) faulty
+
+-- ---- refusals of the generator
+
+-- a refusal of the generator, told by its number
+pub told : (rows : List Row) (e : GenerateError) (f : Fault) → (e ≡ OutOfMemory) ⊎ HasFault rows e → f ≡ Refused (code_of e)
+    → (f ≡ Refused OUT_OF_MEMORY) ⊎ Tells rows f
+told rows e f (inl memory) same = inl (same ∙ ap (λ (x : GenerateError). Refused (code_of x)) memory)
+told rows e f (inr fault) same = inr (e, fault, same)
+
+-- is a fault of a table
+pub of_table : (rows : List Row) (e : GenerateError) (f : Fault) → (e ≡ OutOfMemory) ⊎ HasFault rows e → f ≡ Refused (code_of e)
+    → (f ≡ Refused OUT_OF_MEMORY) ⊎ IsTableFault f
+of_table rows e f (inl memory) same = inl (same ∙ ap (λ (x : GenerateError). Refused (code_of x)) memory)
+of_table rows e f (inr fault) same = inr
+    (by fault.fault fault.refusal (same ∙ ap (λ (x : GenerateError). Refused (code_of x)) fault.is_told))
+  where
+    by : (t : types.TypesError) → Refusal rows t → f ≡ Refused (code_of (error_of t)) → IsTableFault f
+    by (of_types.UndefinedType n) refusal is = inl is
+    by (of_types.RepeatedName n name) refusal is = inr (inl is)
+    by (of_types.DirectCycle n) refusal is = inr (inr (inl is))
+    by (of_types.EmptyCycle n) refusal is = inr (inr (inr is))
+    by of_types.OutOfMemory refusal is = absurd refusal
+    by (of_types.AlreadyDefined n) refusal is = absurd refusal
+    by (of_types.UnknownType n) refusal is = absurd refusal
