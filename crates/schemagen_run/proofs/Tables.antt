@@ -1,5 +1,5 @@
 -- What the generator asks of a table holds of each input.
-use Rattle.std.proofs.Common.{◌≡◌, ◌<◌, ℕ, zero, suc, nat_lt, List, [], ◌∷◌, ◌++◌, length, map, Bool, true, false, ◌&&◌}
+use Rattle.std.proofs.Common.{◌≡◌, ◌<◌, ℕ, zero, suc, nat_lt, List, [], ◌∷◌, length, map, Bool, true, false, ◌&&◌}
 use Rattle.std.proofs.Common.{Option, Some, None, refl, ap, ◌∙◌, sym, subst, inl, true≢false, Result, Ok, Err, IfOk}
 use Rattle.std.proofs.Common.{arith}
 use Rattle.std.specs.Str.{bytes_eq}
@@ -178,8 +178,8 @@ has_own_definitions : (contract : Contract) (rows : List Row) → HasOwnDefiniti
 has_own_definitions contract rows name d there = cc
 
 -- what the generator answers is the root document of the row
-pub is_document : {E : Type 0} (r : Result Data E) (s : State) (contract : Contract) (rows : List Row) (root : ℕ) → is_table rows root ≡ true
-    → IsChecked rows → s ≡ fresh contract rows → IfOk r (RootHeadline s root) → IfOk r (IsLastRootCall s root)
+pub is_document : {E : Type 0} (r : Result Data E) (s : State) (contract : Contract) (rows : List Row) (root : ℕ)
+    → is_table rows root ≡ true → IsChecked rows → s ≡ fresh contract rows → IfOk r (RootHeadline s root) → IfOk r (IsLastRootCall s root)
     → IfOk r (IsDocumentOf contract rows root)
 is_document (Err e) s contract rows root table checked same means made = tt
 is_document (Ok document) s contract rows root table checked same means made =
@@ -189,8 +189,8 @@ is_document (Ok document) s contract rows root table checked same means made =
     )
 
 -- without a float
-pub is_whole : {E : Type 0} (r : Result Data E) (s : State) (contract : Contract) (rows : List Row) (root : ℕ) → is_table rows root ≡ true
-    → s ≡ fresh contract rows → IfOk r (λ d. HasNoFloat s.rows → HasOwnDefinitions s → has_float d ≡ false)
+pub is_whole : {E : Type 0} (r : Result Data E) (s : State) (contract : Contract) (rows : List Row) (root : ℕ)
+    → is_table rows root ≡ true → s ≡ fresh contract rows → IfOk r (λ d. HasNoFloat s.rows → HasOwnDefinitions s → has_float d ≡ false)
     → IfOk r (λ d. has_float d ≡ false)
 is_whole (Err e) s contract rows root table same whole = tt
 is_whole (Ok document) s contract rows root table same whole =

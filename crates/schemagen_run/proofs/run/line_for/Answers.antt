@@ -1,5 +1,5 @@
 -- The document has a text, and a refusal of the generator is told by its number.
-use Rattle.std.proofs.Common.{◌≡◌, ◌∙◌, ◌++◌, ◌∷◌, [], ℕ, List, string_bytes, ap, inl}
+use Rattle.std.proofs.Common.{◌≡◌, ◌∙◌, ◌++◌, ◌∷◌, [], ℕ, List, string_bytes, ap}
 use Rattle.schemars_generate.specs.declared.error.GenerateError.{GenerateError}
 use Rattle.schemars_generate.specs.Refusals.{code_of}
 use Rattle.schemagen_run.specs.declared.fault.Fault.TheVariants.{Refused}
