@@ -2,7 +2,7 @@
 use Rattle.std.proofs.Common.{◌≡◌, ◌+◌, ◌<◌, ◌≤◌, ℕ, zero, suc, nat_lt, nat_le, List, [], ◌∷◌, ◌++◌, length, get_or}
 use Rattle.std.proofs.Common.{drop, map, slice_get, Bool, true, false, not, ◌&&◌, ◌||◌, Option, Some, None, option_map}
 use Rattle.std.proofs.Common.{option_and_then, is_some, cond, codes, refl, ap, ◌∙◌, sym, arith, append_assoc}
-use Rattle.std.proofs.Common.{append-nil, add-one, true≢false, String, IsTrue, ◌↔◌}
+use Rattle.std.proofs.Common.{append-nil, add-one, true≢false, subst, String, IsTrue, ◌↔◌}
 use Rattle.std.specs.List.{list_all, list_any, position_from, find}
 use Rattle.std.specs.Option.{option_map_or}
 use Rattle.std.specs.Str.{bytes_eq}
@@ -23,9 +23,9 @@ use Rattle.schemars_types.specs.Rows.{Row, place_of, with_entry, defined, reserv
 use Rattle.schemars_types.specs.Refusals.{refusal_of}
 use Rattle.schemars_types.specs.declared.error.TypesError.{TypesError}
 use Rattle.schemars_types.specs.declared.error.TypesError.TheVariants.{UnknownType, AlreadyDefined}
-use Rattle.schemagen_input.specs.Input.{input_of, number_in, unentered, has_only, needed, row_names, heading_in}
+use Rattle.schemagen_input.specs.Input.{table_in, number_in, unentered, has_only, needed, row_names, heading_in}
 use Rattle.schemagen_input.specs.Input.{entry_in, row_in, rows_in, all_differ, ids_of, are_none, is_bare, refers_within}
-use Rattle.schemagen_input.specs.Input.{fits, all_fit, is_table}
+use Rattle.schemagen_input.specs.Input.{fits, all_fit, is_complete}
 use Rattle.schemagen_input.specs.Reading.{headings_in, reserved_after, fitting_after}
 
 -- ---- options
@@ -427,9 +427,9 @@ defining_ends rows count n types past before =
 
 -- ---- the whole
 
--- the table and the root that these rows are
+-- the table that these rows are, and the number for its root
 abbrev pub tabled : Items → ℕ → Option (List Row × ℕ)
-tabled ds root = option_and_then (λ rows. cond (is_table rows root) (Some (rows, root)) None) (rows_in ds)
+tabled ds root = option_and_then (λ rows. cond (is_complete rows) (Some (rows, root)) None) (rows_in ds)
 
 same_ids : (ds : Items) (rs hs : List Row) → rows_in ds ≡ Some rs → headings_in ds ≡ Some hs → ids_of rs ≡ ids_of hs
 same_ids no_items rs hs e f = cc
@@ -475,7 +475,7 @@ tabled-not_reserved ds root none = by (headings_in ds) refl none
     refuted false rs e = refl
 
     with_rows : (hs : List Row) (o : Option (List Row)) → rows_in ds ≡ o → headings_in ds ≡ Some hs → all_differ (ids_of hs) ≡ false
-        → option_and_then {U = List Row × ℕ} (λ rows. cond (is_table rows root) (Some (rows, root)) None) o ≡ None
+        → option_and_then {U = List Row × ℕ} (λ rows. cond (is_complete rows) (Some (rows, root)) None) o ≡ None
     with_rows hs None e f again = refl
     with_rows hs (Some rs) e f again = rw (same_ids ds rs hs e f, again)
 
@@ -505,17 +505,16 @@ tabled-not_fitting ds root headings reserved none =
 
     by : (o : Option (List Row)) → rows_in ds ≡ o → headings_in ds ≡ Some headings
         → option_and_then (λ rs. cond (all_fit (length headings) rs) (Some rs) None) o ≡ None
-        → option_and_then {U = List Row × ℕ} (λ rows. cond (is_table rows root) (Some (rows, root)) None) o ≡ None
+        → option_and_then {U = List Row × ℕ} (λ rows. cond (is_complete rows) (Some (rows, root)) None) o ≡ None
     by None is hs e = refl
     by (Some rs) is hs e =
         let many = same_length rs headings (same_ids ds rs headings is hs) in
         rw (many, refuted (all_fit (length headings) rs) rs e, both_false (all_differ (ids_of rs)))
 
--- the rows and the root, where nothing was refused
-pub tabled-done : (ds : Items) (root : ℕ) (headings rows : List Row) → reserved_after [] ds ≡ Some headings
-    → fitting_after (length headings) [] ds ≡ Some rows
-    → tabled ds root ≡ cond (nat_lt root (length rows)) (Some (rows, root)) None
-tabled-done ds root headings rows reserved fitting =
+-- the rows, where nothing was refused
+pub rows_done : (ds : Items) (headings rows : List Row) → reserved_after [] ds ≡ Some headings
+    → fitting_after (length headings) [] ds ≡ Some rows → (rows_in ds ≡ Some rows) × (is_complete rows ≡ true)
+rows_done ds headings rows reserved fitting =
     let first = then_some (λ rs. cond (all_differ (ids_of rs)) (Some rs) None) (headings_in ds) headings reserved in
     let second = then_some (λ rs. cond (all_fit (length headings) rs) (Some rs) None) (rows_in ds) rows fitting in
     let differ = kept (all_differ (ids_of first.0)) first.0 headings first.2 in
@@ -523,11 +522,16 @@ tabled-done ds root headings rows reserved fitting =
     let ids = same_ids ds second.0 first.0 second.1 first.1 in
     let many : length second.0 ≡ length headings = same_length second.0 first.0 ids ∙ ap length differ.1 in
     let all : all_fit (length second.0) second.0 ≡ true = ap (λ (k : ℕ). all_fit k second.0) many ∙ fit.0 in
-    rw (second.1, ids, differ.0, all, fit.1)
+    let complete : is_complete second.0 ≡ true = rw (ids, differ.0, all) in
+    (second.1 ∙ ap Some fit.1, subst (λ (rs : List Row). is_complete rs ≡ true) fit.1 complete)
   where
     kept : (b : Bool) (xs ys : List Row) → cond b (Some xs) None ≡ Some ys → (b ≡ true) × (xs ≡ ys)
     kept true xs ys e = (refl, cc)
     kept false xs ys e = cc
+
+pub tabled-done : (ds : Items) (root : ℕ) (rows : List Row) → (rows_in ds ≡ Some rows) × (is_complete rows ≡ true)
+    → tabled ds root ≡ Some (rows, root)
+tabled-done ds root rows done = rw (done.0, done.1)
 
 pub are_none-members_view : (es : List (String Global × Value)) (b : Bool) → (IsTrue b ↔ (length es ≡ 0)) → b ≡ are_none (members_view es)
 are_none-members_view [] true e = refl
@@ -545,13 +549,13 @@ noted_field fs i f b is here empty has =
     ∙ ap (λ (g : src-field.Field). list_all (λ h. are_none h.notes) (map field_of (g ∷ drop (suc i) fs))) (sym is) ∙ rw noted
 
 -- the parts of an input
-pub input_of-parts : (d : Data) (ds : Items) (root : ℕ) → has_only (codes "types" ∷ codes "root" ∷ []) d ≡ true
+pub table_in-parts : (d : Data) (ds : Items) (root : ℕ) → has_only (codes "types" ∷ codes "root" ∷ []) d ≡ true
     → needed as_array (codes "types") d ≡ Some ds → needed number_in (codes "root") d ≡ Some root
-    → input_of d ≡ tabled ds root
-input_of-parts d ds root only rows number = rw (only, number) (rows_of (get (codes "types") d) rows)
+    → table_in d ≡ tabled ds root
+table_in-parts d ds root only rows number = rw (only, number) (rows_of (get (codes "types") d) rows)
   where
     rows_of : (o : Option Data) → option_and_then as_array o ≡ Some ds
-        → option_and_then {U = List Row × ℕ} (λ rs. cond (is_table rs root) (Some (rs, root)) None)
+        → option_and_then {U = List Row × ℕ} (λ rs. cond (is_complete rs) (Some (rs, root)) None)
         (option_and_then (λ e. option_and_then rows_in (as_array e)) o) ≡ tabled ds root
     rows_of None e = cc
     rows_of (Some e) f = rw f

@@ -250,14 +250,22 @@ fits count e = is_bare e && refers_within count e
 abbrev pub all_fit : ℕ → List Row → Bool
 all_fit count rows = list_all (λ r. option_map_or (fits count) r.entry false) rows
 
--- A table that has the root: the ids all differ, every number in an entry is a row's, and there are no notes.
-abbrev pub is_table : List Row → ℕ → Bool
-is_table rows root = all_differ (ids_of rows) && (all_fit (length rows) rows && nat_lt root (length rows))
+-- The rows of a table: the ids all differ, every number in an entry is a row's, and there are no notes.
+abbrev pub is_complete : List Row → Bool
+is_complete rows = all_differ (ids_of rows) && all_fit (length rows) rows
 
--- the rows and the root that a value says
-abbrev pub input_of : Data → Option (List Row × ℕ)
-input_of d =
+-- the rows that a value says, and the number that it says for the root
+abbrev pub table_in : Data → Option (List Row × ℕ)
+table_in d =
     if has_only (codes "types" ∷ codes "root" ∷ []) d
-    then option_and_then (λ rows. option_and_then (λ root. if is_table rows root then Some (rows, root) else None)
+    then option_and_then (λ rows. option_and_then (λ root. if is_complete rows then Some (rows, root) else None)
     (needed number_in (codes "root") d)) (needed (λ e. option_and_then rows_in (as_array e)) (codes "types") d)
     else None
+
+-- a table that has the root
+abbrev pub is_table : List Row → ℕ → Bool
+is_table rows root = is_complete rows && nat_lt root (length rows)
+
+-- the rows and the root that a value says: the root is one of the rows
+abbrev pub input_of : Data → Option (List Row × ℕ)
+input_of d = option_and_then (λ t. if nat_lt t.1 (length t.0) then Some t else None) (table_in d)

@@ -9,7 +9,7 @@ ghost use Rattle.schemagen_input.specs.Input.{required_each, required_in, field_
 ghost use Rattle.schemagen_input.specs.Input.{counted_in, array_in, up_to_in, numbers_in, tuple_in, list_under};
 ghost use Rattle.schemagen_input.specs.Input.{plain_under, two_in, result_in, either_in, fixed_under};
 ghost use Rattle.schemagen_input.specs.Input.{shape_named, shape_under, shape_in, entry_in, optional, needed};
-ghost use Rattle.schemagen_input.specs.Input.{heading_in, unentered, are_none, are_fields_bare, is_bare, input_of};
+ghost use Rattle.schemagen_input.specs.Input.{heading_in, unentered, are_none, are_fields_bare, is_bare, is_complete, table_in};
 ghost use Rattle.schemagen_input.specs.Reading.{as_input, headings_in, reserved_after, fitting_after};
 ghost use Rattle.serde_json.specs.Find.{as_bool, as_str, as_array};
 
@@ -24,7 +24,7 @@ use std::alloc::{AllocError, AllocFailed, Global};
 pub enum InputError {
     /// Memory ran out.
     OutOfMemory,
-    /// The value is no table with a root.
+    /// The value is no table with a number for its root.
     BadTable,
 }
 
@@ -551,15 +551,16 @@ fn items_in<'v>(value: &'v Value, name: &str) -> Option<&'v Vec<Value>>
     value.get(name)?.as_array()
 }
 
-/// The table that a value says, and its root.
+/// The table that a value says, and the number that it says for the root.
 ///
-/// The value is an object with the members `types`, a list of rows, and `root`, the number of one
-/// of them. A row has the members `id`, `name` and `shape`, and may have `inline` and `notes`. No
-/// two rows have one id, and each number in a shape is a row's: the row's own, or one before or
-/// behind it. No row and no field has notes.
+/// The value is an object with the members `types`, a list of rows, and `root`, a number. Whether
+/// that is a row's is not asked here. A row has the members `id`, `name` and `shape`, and may have
+/// `inline` and `notes`. No two rows have one id, and each number in a shape is a row's: the row's
+/// own, or one before or behind it. No row and no field has notes.
 pub fn read_input(alloc: Global, value: &Value) -> Result<(Types, TypeNo), InputError>
-    ensures ok { IfOk result (λ t. input_of (view value.now) ≡ Some (t.0, t.1)) }
-    ensures bad { IfErr result (λ e. e ≡ InputError.BadTable → input_of (view value.now) ≡ None) }
+    ensures ok { IfOk result (λ t. table_in (view value.now) ≡ Some (t.0, t.1)) }
+    ensures complete { IfOk result (λ t. is_complete t.0 ≡ true) }
+    ensures bad { IfErr result (λ e. e ≡ InputError.BadTable → table_in (view value.now) ≡ None) }
 {
     if !has_only(value, &["types", "root"]) {
         return Err(InputError::BadTable);
@@ -569,8 +570,5 @@ pub fn read_input(alloc: Global, value: &Value) -> Result<(Types, TypeNo), Input
     };
     let types = reserve_rows(alloc, rows)?;
     let types = define_rows(alloc, types, rows)?;
-    if root >= types.len() {
-        return Err(InputError::BadTable);
-    }
     Ok((types, root))
 }

@@ -1,3 +1,4 @@
 -- The lemmas of the proofs.
+pub mod Results
 pub mod Tables
 pub mod Runs

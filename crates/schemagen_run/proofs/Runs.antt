@@ -1,20 +1,26 @@
 -- Which words a run knows, and what it refuses.
-use Rattle.std.proofs.Common.{◌≡◌, ◌⊎◌, inl, inr, ℕ, List, [], ◌∷◌, ◌++◌, append-nil, subst, Option, Some, None, Result}
-use Rattle.std.proofs.Common.{Ok, Err, IfErr, length, get_or, ◌&&◌, true, String, Global, string_bytes, codes, sym, ap}
+use Rattle.std.proofs.Common.{◌≡◌, ◌⊎◌, inl, inr, ℕ, List, [], ◌∷◌, ◌++◌, append-nil, subst, Option, Some, None}
+use Rattle.std.proofs.Common.{length, get_or, ◌&&◌, true, String, Global, string_bytes, codes, sym, ap}
 use Rattle.std.proofs.Common.{◌∙◌, arith}
 use Rattle.std.specs.Str.{bytes_eq}
 use Rattle.std.proofs.lemmas.Slice.Eq.{bytes_eq-Decides}
 use Rattle.schemars_documents.specs.declared.contract.Contract.TheVariants.{Deserialize, Serialize}
-use Rattle.std.specs.Result.{IsErrAnd}
 use Rattle.schemars_types.specs.Rows.{Row}
-use Rattle.schemars_types.specs.Faults.{IsAccepted}
+use Rattle.schemars_types.specs.Faults.{IsAccepted, Refusal}
+use Rattle.schemars_types.specs.declared.error.TypesError as types
+use Rattle.schemars_types.specs.declared.error.TypesError.TheVariants as of_types
+use Rattle.schemars_generate.specs.declared.error.GenerateError.{GenerateError}
+use Rattle.schemars_generate.specs.declared.error.GenerateError.TheVariants.{OutOfMemory}
+use Rattle.schemars_generate.specs.Refusals.{code_of, error_of, HasFault}
 use Rattle.schemagen_run.specs.declared.fault.Fault.{Fault}
 use Rattle.schemagen_run.specs.declared.fault.Fault.TheVariants.{Refused}
-use Rattle.schemagen_run.specs.declared.fault.TheConstants.{OUT_OF_MEMORY, NOT_JSON, BAD_TABLE}
-use Rattle.schemagen_run.specs.Fault.{IsReadFault, IsTableFault, IsOutside}
+use Rattle.schemagen_run.specs.declared.fault.TheConstants.{OUT_OF_MEMORY, NOT_JSON, BAD_TABLE, WRITE}
+use Rattle.schemagen_run.specs.Fault.{IsReadFault, IsTableFault, IsOutside, IsFault}
 use Rattle.schemagen_input.specs.Input.{input_of}
 use Rattle.schemagen_run.specs.Run.{AskFor, GivesAll, IsNoJson, IsBadTable, IsTableText, IsAcceptedText, IsFaultyTable, Tells}
 use Rattle.schemagen_run.proofs.Tables.{both}
+use Rattle.std.proofs.Common.{Bool, false, nat_lt, ◌||◌, true≢false}
+use Rattle.schemagen_run.specs.declared.fault.Fault.TheVariants.{Usage}
 
 is_word : (a u : String Global) (t : List ℕ) → a ≡ u → bytes_eq (string_bytes a) t ≡ true → string_bytes u ≡ t
 is_word a u t same is = ap string_bytes (sym same) ∙ (bytes_eq-Decides (string_bytes a) t).0 is
@@ -99,9 +105,77 @@ pub read_is_faulty : (rows : List Row) (root : ℕ) (old new : Option (List ℕ)
 read_is_faulty rows root old new e given (inl memory) fault = absurd (memory_is_not_of_table e memory fault)
 read_is_faulty rows root old new e (bytes, consumed, end, text) (inr told) fault = (bytes, consumed, end, (rows, (root, text, told)))
 
--- the same refusal is passed on
-pub refused_alike : (old new : Option (List ℕ)) (result : Result (Unit {0}) Fault) (e : Fault) → IsErrAnd result (λ f. f ≡ e)
-    → (IsTableFault e → GivesAll old new (IsFaultyTable e))
-    → IfErr result (λ f. IsTableFault f → GivesAll old new (IsFaultyTable f))
-refused_alike old new (Ok done) e same faulty = tt
-refused_alike old new (Err f) e same faulty = subst (λ (x : Fault). IsTableFault x → GivesAll old new (IsFaultyTable x)) (sym same) faulty
+-- a refusal of a line
+pub refused_is_fault : (e : Fault) → (e ≡ Refused OUT_OF_MEMORY) ⊎ IsTableFault e → IsFault e
+refused_is_fault e (inl memory) = inr (inl (inl memory))
+refused_is_fault e (inr table) = inr (inr (inl table))
+
+-- ---- refusals of the generator
+
+-- a refusal of the generator, told by its number
+pub told : (rows : List Row) (e : GenerateError) (f : Fault) → (e ≡ OutOfMemory) ⊎ HasFault rows e → f ≡ Refused (code_of e)
+    → (f ≡ Refused OUT_OF_MEMORY) ⊎ Tells rows f
+told rows e f (inl memory) same = inl (same ∙ ap (λ (x : GenerateError). Refused (code_of x)) memory)
+told rows e f (inr fault) same = inr (e, fault, same)
+
+-- is a fault of a table
+pub of_table : (rows : List Row) (e : GenerateError) (f : Fault) → (e ≡ OutOfMemory) ⊎ HasFault rows e → f ≡ Refused (code_of e)
+    → (f ≡ Refused OUT_OF_MEMORY) ⊎ IsTableFault f
+of_table rows e f (inl memory) same = inl (same ∙ ap (λ (x : GenerateError). Refused (code_of x)) memory)
+of_table rows e f (inr fault) same = inr
+    (by fault.fault fault.refusal (same ∙ ap (λ (x : GenerateError). Refused (code_of x)) fault.is_told))
+  where
+    by : (t : types.TypesError) → Refusal rows t → f ≡ Refused (code_of (error_of t)) → IsTableFault f
+    by (of_types.UndefinedType n) refusal is = inl is
+    by (of_types.RepeatedName n name) refusal is = inr (inl is)
+    by (of_types.DirectCycle n) refusal is = inr (inr (inl is))
+    by (of_types.EmptyCycle n) refusal is = inr (inr (inr is))
+    by of_types.OutOfMemory refusal is = absurd refusal
+    by (of_types.AlreadyDefined n) refusal is = absurd refusal
+    by (of_types.UnknownType n) refusal is = absurd refusal
+
+-- ---- one fault is no other
+
+is_read_fault : Fault → Bool
+is_read_fault Usage = false
+is_read_fault (Refused n) = nat_lt n 2 || (nat_lt 19 n && nat_lt n 24)
+
+of_reading : (e : Fault) → IsReadFault e → is_read_fault e ≡ true
+unfolding is_read_fault
+of_reading e (inl is) = ap is_read_fault is
+of_reading e (inr (inl is)) = ap is_read_fault is
+of_reading e (inr (inr (inl is))) = ap is_read_fault is
+of_reading e (inr (inr (inr is))) = ap is_read_fault is
+
+of_no_reading : (e : Fault) → IsTableFault e → is_read_fault e ≡ false
+unfolding is_read_fault
+of_no_reading e (inl is) = ap is_read_fault is
+of_no_reading e (inr (inl is)) = ap is_read_fault is
+of_no_reading e (inr (inr (inl is))) = ap is_read_fault is
+of_no_reading e (inr (inr (inr is))) = ap is_read_fault is
+
+pub read_is_of_no_table : (e : Fault) → IsReadFault e → IsTableFault e → ⊥
+read_is_of_no_table e read table = true≢false (sym (of_reading e read) ∙ of_no_reading e table)
+
+pub read_is_no_usage : (e : Fault) → IsReadFault e → e ≡ Usage → ⊥
+unfolding is_read_fault
+read_is_no_usage e read is = true≢false (sym (of_reading e read) ∙ ap is_read_fault is)
+
+pub read_is_no_write : (e : Fault) → IsReadFault e → e ≡ Refused WRITE → ⊥
+unfolding is_read_fault
+read_is_no_write e read is = true≢false (sym (of_reading e read) ∙ ap is_read_fault is)
+
+abbrev pub is_line_fault : Fault → Bool
+is_line_fault Usage = false
+is_line_fault (Refused n) = nat_lt n 6
+
+of_line : (e : Fault) → (e ≡ Refused OUT_OF_MEMORY) ⊎ IsTableFault e → is_line_fault e ≡ true
+of_line e (inl is) = ap is_line_fault is
+of_line e (inr (inl is)) = ap is_line_fault is
+of_line e (inr (inr (inl is))) = ap is_line_fault is
+of_line e (inr (inr (inr (inl is)))) = ap is_line_fault is
+of_line e (inr (inr (inr (inr is)))) = ap is_line_fault is
+
+-- a refusal of the table that was read is none of these
+pub line_is_no_other : (e f : Fault) → (e ≡ Refused OUT_OF_MEMORY) ⊎ IsTableFault e → is_line_fault f ≡ false → e ≡ f → ⊥
+line_is_no_other e f line other is = true≢false (sym (of_line e line) ∙ ap is_line_fault is ∙ other)

@@ -1,44 +1,42 @@
 -- What the generator asks of a table holds of each input.
-use Rattle.std.proofs.Common.{◌≡◌, ◌<◌, ℕ, zero, suc, nat_lt, List, [], ◌∷◌, ◌++◌, length, map, Bool, true, false, ◌&&◌}
-use Rattle.std.proofs.Common.{Option, Some, None, option_and_then, cond, codes, refl, ap, ◌∙◌, sym, subst, inl}
-use Rattle.std.proofs.Common.{true≢false}
+use Rattle.std.proofs.Common.{◌≡◌, ◌<◌, ℕ, zero, suc, nat_lt, List, [], ◌∷◌, length, map, Bool, true, false, ◌&&◌}
+use Rattle.std.proofs.Common.{Option, Some, None, refl, ap, ◌∙◌, sym, subst, inl, true≢false, Result, Ok, Err, IfOk}
+use Rattle.std.proofs.Common.{arith}
 use Rattle.std.specs.Str.{bytes_eq}
+use Rattle.std.proofs.lemmas.Bool.Decides.{nat_tests}
 use Rattle.std.proofs.lemmas.Slice.Eq.{bytes_eq-Decides}
 use Rattle.std.specs.List.{list_all, AllByRecursion, IsDistinct}
 use Rattle.std.specs.Option.{option_map_or}
 use borrow.Author.Tests.{ltb-true}
 use Rattle.serde_json.specs.Data.{Data, Members, no_members, member}
-use Rattle.serde_json.specs.Find.{as_array}
 use Rattle.serde_json.specs.Written.{has_float, members_have_float}
 use Rattle.schemars_json.specs.Json.{Text}
-use Rattle.schemars_json.specs.OrderedText.{ordered_text}
 use Rattle.schemars_schema.specs.Annotations.{AreNotes}
 use Rattle.schemars_shapes.specs.Shape as shape
 use Rattle.schemars_shapes.specs.Shape.{Field, Entry, Shape, numbers_of, names_of}
 use Rattle.schemars_types.specs.Rows.{Row, entry_at}
 use Rattle.schemars_types.specs.Faults.{IsChecked}
 use Rattle.schemars_documents.specs.declared.contract.Contract.{Contract}
-use Rattle.schemars_headline.specs.Headline.{Headline, IsRootOf, IsDraftPath}
-use Rattle.schemars_documents.specs.ContractOf.{contract_of}
+use Rattle.schemars_headline.specs.Headline.{RootHeadline, IsDraftPath}
+use Rattle.schemars_headline.specs.Calls.{IsLastRootCall}
 use Rattle.schemars_documents.specs.PlainTable.{IsNoName, AreDistinct, AreNoted, IsPlainShape, IsPlainEntry}
 use Rattle.schemars_documents.specs.PlainTable.{IsPlainTable, FieldsHaveNoFloat, ShapeHasNoFloat, EntryHasNoFloat}
 use Rattle.schemars_documents.specs.PlainTable.{HasNoFloat}
-use Rattle.schemars_headline.specs.State.{Settings, State, plan_of, HasOwnDefinitions}
-use Rattle.schemars_naming.specs.Work.{Work}
-use Rattle.schemagen_input.specs.Input.{input_of, has_only, needed, number_in, rows_in, all_differ, ids_of, are_none}
-use Rattle.schemagen_input.specs.Input.{are_fields_bare, is_bare, refers_within, fits, all_fit, is_table}
-use Rattle.schemagen_run.specs.Run.{settings_for, fresh, IsLineOf}
+use Rattle.schemars_headline.specs.State.{Settings, State, path_of, HasOwnDefinitions}
+use Rattle.schemagen_input.specs.Input.{all_differ, ids_of, are_none, are_fields_bare, is_bare, refers_within, fits, all_fit}
+use Rattle.schemagen_input.specs.Input.{is_complete, is_table, table_in, input_of}
+use Rattle.schemagen_run.specs.Run.{settings_for, fresh, IsDocumentOf}
 
 pub both : (a b : Bool) → a && b ≡ true → (a ≡ true) × (b ≡ true)
 both true b e = (refl, e)
 both false b e = cc
 
 all_rows_fit : (rows : List Row) (root : ℕ) → is_table rows root ≡ true → all_fit (length rows) rows ≡ true
-all_rows_fit rows root table = (both (all_fit (length rows) rows) (nat_lt root (length rows)) (both (all_differ (ids_of rows)) _ table).1).0
+all_rows_fit rows root table = (both (all_differ (ids_of rows)) (all_fit (length rows) rows)
+    (both (is_complete rows) (nat_lt root (length rows)) table).0).1
 
 root_is_within : (rows : List Row) (root : ℕ) → is_table rows root ≡ true → root < length rows
-root_is_within rows root table = ltb-true root (length rows) (both (all_fit (length rows) rows) (nat_lt root (length rows))
-    (both (all_differ (ids_of rows)) _ table).1).1
+root_is_within rows root table = ltb-true root (length rows) (both (is_complete rows) (nat_lt root (length rows)) table).1
 
 -- what stands in row n fits
 entry_fits : (count : ℕ) (rows : List Row) (n : ℕ) (e : Entry) → all_fit count rows ≡ true → entry_at rows n ≡ Some e → fits count e ≡ true
@@ -164,26 +162,17 @@ has_no_float rows root table n = by (entry_at rows n) refl
     by (Some e) there = let bare = entry_is_bare rows root n e table there in
         (none_have_float e.notes bare.0, shape_without_float e.shape bare.1)
 
--- what an input gives is a table
-pub input_of-table : (d : Data) (rows : List Row) (root : ℕ) → input_of d ≡ Some (rows, root) → is_table rows root ≡ true
-input_of-table d rows root e = by (has_only (codes "types" ∷ codes "root" ∷ []) d)
-    (needed (λ v. option_and_then rows_in (as_array v)) (codes "types") d) (needed number_in (codes "root") d) e
-  where
-    kept : (rs : List Row) (n : ℕ) (b : Bool) → is_table rs n ≡ b → cond {A = Option (List Row × ℕ)} b (Some (rs, n)) None
-        ≡ Some (rows, root) → is_table rows root ≡ true
-    kept rs n true is h = let same : (rs, n) ≡ (rows, root) = pair_same h in sym (ap (λ (p : List Row × ℕ). is_table p.0 p.1) same) ∙ is
-      where
-        pair_same : {p q : List Row × ℕ} → Some p ≡ Some q → p ≡ q
-        pair_same h = cc
-    kept rs n false is h = cc
+-- ---- the root
 
-    by : (b : Bool) (o : Option (List Row)) (r : Option ℕ)
-        → cond b (option_and_then {U = List Row × ℕ} (λ rs. option_and_then {U = List Row × ℕ}
-        (λ n. cond (is_table rs n) (Some (rs, n)) None) r) o) None ≡ Some (rows, root) → is_table rows root ≡ true
-    by true (Some rs) (Some n) h = kept rs n (is_table rs n) refl h
-    by true (Some rs) None h = cc
-    by true None r h = cc
-    by false o r h = cc
+below : (m n : ℕ) → m < n → nat_lt m n ≡ true
+below m n h = grind (arith, nat_tests)
+
+pub has_root : (rows : List Row) (root count : ℕ) → is_complete rows ≡ true → count ≡ length rows → root < count → is_table rows root ≡ true
+has_root rows root count complete many within = rw (complete, below root (length rows) (omega (arith, many, within)))
+
+pub is_input : (d : Data) (rows : List Row) (root count : ℕ) → table_in d ≡ Some (rows, root) → count ≡ length rows → root < count
+    → input_of d ≡ Some (rows, root)
+is_input d rows root count table many within = rw (table, below root (length rows) (omega (arith, many, within)))
 
 -- ---- a generator over the table
 
@@ -196,31 +185,32 @@ fresh_of s settings contract rows same made =
 has_own_definitions : (contract : Contract) (rows : List Row) → HasOwnDefinitions (fresh contract rows)
 has_own_definitions contract rows name d there = cc
 
--- what the generator says of a document
-abbrev pub Generated : State → ℕ → Data → Type 0
-Generated s root document =
-    (HasOwnDefinitions s → IsDraftPath (plan_of s None).path → Headline s.rows (contract_of s.settings.contract) (plan_of s None).path
-    root document)
-    × ((w : Work) × IsRootOf s root w document) × (HasNoFloat s.rows → HasOwnDefinitions s → has_float document ≡ false)
-
--- the text of a root document, and a newline, is its line
-pub line_of_document : (s : State) (contract : Contract) (rows : List Row) (root : ℕ) (document : Data) (text line : Text)
-    → is_table rows root ≡ true → IsChecked rows → s ≡ fresh contract rows
-    → Generated s root document → (has_float document ≡ false → text ≡ ordered_text document) → line ≡ text ++ 10 ∷ []
-    → IsLineOf contract rows root line
-line_of_document s contract rows root document text line table checked same generated written ends =
-    let here : Generated (fresh contract rows) root document = subst (λ (t : State). Generated t root document) same generated in
-    let own = has_own_definitions contract rows in (
-      document,
-      (here.1, here.0 own (inl refl) (is_plain_table rows root table checked)),
-      ends ∙ ap (λ (t : Text). t ++ 10 ∷ []) (written (here.2 (has_no_float rows root table) own)),
+-- what the generator answers is the root document of the row
+pub is_document : {E : Type 0} (r : Result Data E) (s : State) (contract : Contract) (rows : List Row) (root : ℕ)
+    → is_table rows root ≡ true → IsChecked rows → s ≡ fresh contract rows → IfOk r (RootHeadline s root) → IfOk r (IsLastRootCall s root)
+    → IfOk r (IsDocumentOf contract rows root)
+is_document (Err e) s contract rows root table checked same means made = tt
+is_document (Ok document) s contract rows root table checked same means made =
+    let headline : RootHeadline (fresh contract rows) root document = subst (λ (t : State). RootHeadline t root document) same means in (
+      subst (λ (t : State). IsLastRootCall t root document) same made,
+      headline (has_own_definitions contract rows) (inl refl) (is_plain_table rows root table checked),
     )
 
+-- without a float
+pub is_whole : {E : Type 0} (r : Result Data E) (s : State) (contract : Contract) (rows : List Row) (root : ℕ)
+    → is_table rows root ≡ true → s ≡ fresh contract rows → IfOk r (λ d. HasNoFloat s.rows → HasOwnDefinitions s → has_float d ≡ false)
+    → IfOk r (λ d. has_float d ≡ false)
+is_whole (Err e) s contract rows root table same whole = tt
+is_whole (Ok document) s contract rows root table same whole =
+    let here : HasNoFloat rows → HasOwnDefinitions (fresh contract rows) → has_float document ≡ false =
+    subst (λ (t : State). HasNoFloat t.rows → HasOwnDefinitions t → has_float document ≡ false) same whole in
+    here (has_no_float rows root table) (has_own_definitions contract rows)
+
 -- memory is all that its root document may want
-pub root_wants_only_memory : {P : Type 0} (s : State) (contract : Contract) (rows : List Row) (root : ℕ) → is_table rows root ≡ true
+pub wants_only_memory : {P : Type 0} (s : State) (contract : Contract) (rows : List Row) (root : ℕ) → is_table rows root ≡ true
     → IsChecked rows → s ≡ fresh contract rows
-    → (IsPlainTable s.rows → IsDraftPath (plan_of s None).path → root < length s.rows → P) → P
-root_wants_only_memory {P} s contract rows root table checked same only =
-    let here : IsPlainTable rows → IsDraftPath (plan_of (fresh contract rows) None).path → root < length rows → P =
-    subst (λ (t : State). IsPlainTable t.rows → IsDraftPath (plan_of t None).path → root < length t.rows → P) same only in
+    → (IsPlainTable s.rows → IsDraftPath (path_of s) → root < length s.rows → P) → P
+wants_only_memory {P} s contract rows root table checked same only =
+    let here : IsPlainTable rows → IsDraftPath (path_of (fresh contract rows)) → root < length rows → P =
+    subst (λ (t : State). IsPlainTable t.rows → IsDraftPath (path_of t) → root < length t.rows → P) same only in
     here (is_plain_table rows root table checked) (inl refl) (root_is_within rows root table)

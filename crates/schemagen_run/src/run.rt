@@ -1,20 +1,22 @@
 //! A run of the program over its words, a source and a sink.
-ghost use Rattle.std.specs.Prelude.{◌≡◌, ◌≢◌, ◌⊎◌, ◌↔◌, ℕ, List, Some, false, true, Err, IsTrue, IfOk, IfErr, OnOk};
+ghost use Rattle.std.specs.Prelude.{◌≡◌, ◌≢◌, ◌⊎◌, ◌↔◌, ℕ, List, Some, None, false, true, Err, IsTrue, IfOk, IfErr, OnOk};
 ghost use Rattle.std.specs.Prelude.{MatchOption, string_bytes, bytes_eq, codes, ◌&&◌};
 ghost use Rattle.std.specs.Io.KnownBytes.{Appends};
 ghost use Rattle.serde_json.specs.View.{view};
 ghost use Rattle.schemars_types.specs.Faults.{IsAccepted};
+ghost use Rattle.serde_json.specs.Written.{has_float};
 ghost use Rattle.schemars_generate.specs.Settings.{settings_of};
+ghost use Rattle.schemars_generate.specs.Refusals.{HasFault};
 ghost use Rattle.schemagen_run.specs.Streams.{AppendsBeginning};
-ghost use Rattle.schemagen_input.specs.Input.{is_table};
+ghost use Rattle.schemagen_input.specs.Input.{is_table, input_of};
 ghost use Rattle.schemagen_run.specs.Run.{AskFor, AreKnown, GivesAll, IsTextOf, IsNoJson, IsBadTable, IsTableText};
-ghost use Rattle.schemagen_run.specs.Run.{IsAcceptedText, IsFaultyTable, Tells, settings_for, IsLineOf, IsLineFor};
+ghost use Rattle.schemagen_run.specs.Run.{IsAcceptedText, IsFaultyTable, Tells, settings_for, IsDocumentOf, IsLineOf, IsLineFor};
 ghost use Rattle.schemagen_run.specs.Fault.{IsReadFault, IsTableFault, IsOutside, IsFault};
 
 use crate::fault::{BAD_TABLE, Fault, NOT_JSON, OUT_OF_MEMORY, READ, WRITE};
 use crate::streams::{Failed, ReadError, Sink, Source, read_all, write_all};
 use schemagen_input::{InputError, read_input};
-use schemars::{Contract, SchemaGenerator, SchemaSettings};
+use schemars::{Contract, GenerateError, Schema, SchemaGenerator, SchemaSettings};
 use schemars_types::{TypeNo, Types};
 use serde_json::Value;
 use std::alloc::Global;
@@ -114,11 +116,7 @@ fn read_table<S: Source>(alloc: Global, source: &mut S) -> Result<(Types, TypeNo
         Err(ReadError::Failed) => return Err(Fault::Refused(READ)),
     };
     let value = value_of(alloc, &bytes)?;
-    match read_input(alloc, &value) {
-        Ok(input) => Ok(input),
-        Err(InputError::OutOfMemory) => Err(Fault::Refused(OUT_OF_MEMORY)),
-        Err(InputError::BadTable) => Err(Fault::Refused(BAD_TABLE)),
-    }
+    input_of(alloc, &value)
 }
 
 // The value that is written in the bytes.
@@ -136,6 +134,25 @@ fn value_of(alloc: Global, bytes: &[u8]) -> Result<Value, Fault>
         Err(error) if error.is_memory() => Err(Fault::Refused(OUT_OF_MEMORY)),
         Err(_) => Err(Fault::Refused(NOT_JSON)),
     }
+}
+
+// The table that the value says, and its root, which is one of the rows.
+fn input_of(alloc: Global, value: &Value) -> Result<(Types, TypeNo), Fault>
+    ensures ok { IfOk result (λ t. input_of (view value.now) ≡ Some (t.0, t.1)) }
+    ensures table { IfOk result (λ t. is_table t.0 t.1 ≡ true) }
+    ensures bad_table { result ≡ Err (Fault.Refused BAD_TABLE) → input_of (view value.now) ≡ None }
+    ensures faults { IfErr result
+        (λ e. (e ≡ Fault.Refused OUT_OF_MEMORY) ⊎ (e ≡ Fault.Refused BAD_TABLE)) }
+{
+    let (types, root) = match read_input(alloc, value) {
+        Ok(input) => input,
+        Err(InputError::OutOfMemory) => return Err(Fault::Refused(OUT_OF_MEMORY)),
+        Err(InputError::BadTable) => return Err(Fault::Refused(BAD_TABLE)),
+    };
+    if root >= types.len() {
+        return Err(Fault::Refused(BAD_TABLE));
+    }
+    Ok((types, root))
 }
 
 fn settings_for(alloc: Global, contract: Contract) -> SchemaSettings
@@ -157,10 +174,27 @@ fn line_for(alloc: Global, contract: Contract, types: Types, root: TypeNo) -> Re
     ensures faults { IfErr result (λ e. (e ≡ Fault.Refused OUT_OF_MEMORY) ⊎ IsTableFault e) }
     ensures only_memory { IsAccepted types → IfErr result (λ e. e ≡ Fault.Refused OUT_OF_MEMORY) }
 {
-    let settings = settings_for(alloc, contract);
-    let generator = SchemaGenerator::with_types(alloc, settings, types)?;
-    let schema = generator.into_root_schema_for_type(alloc, root)?;
-    let mut line = schema.to_ordered_string(alloc)?;
+    let document = document_of(alloc, contract, types, root)?;
+    let mut line = document.to_ordered_string(alloc)?;
     line.push_str("\n")?;
     Ok(line)
+}
+
+// The root document of this row.
+fn document_of(
+    alloc: Global,
+    contract: Contract,
+    types: Types,
+    root: TypeNo,
+) -> Result<Schema, GenerateError>
+    requires { is_table types root ≡ true }
+    ensures ok { IfOk result (λ d. IsDocumentOf contract types root d) }
+    ensures whole { IfOk result (λ d. has_float d ≡ false) }
+    ensures accepted { OnOk result (IsAccepted types) }
+    ensures refused { IfErr result (λ e. (e ≡ GenerateError.OutOfMemory) ⊎ HasFault types e) }
+    ensures only_memory { IsAccepted types → IfErr result (λ e. e ≡ GenerateError.OutOfMemory) }
+{
+    let settings = settings_for(alloc, contract);
+    let generator = SchemaGenerator::with_types(alloc, settings, types)?;
+    generator.into_root_schema_for_type(alloc, root)
 }

@@ -1,42 +1,39 @@
--- The table suits the generator, and its document has a text.
-use Rattle.std.proofs.Common.{◌≡◌, ◌++◌, ◌∷◌, [], string_bytes, rules}
-use Rattle.schemars_generate.specs.declared.error.GenerateError.TheVariants.{OutOfMemory}
-use Rattle.schemagen_run.proofs.Tables.{line_of_document, root_wants_only_memory, fresh_of}
+-- The document has a text, and a refusal of the generator is told by its number.
+use Rattle.std.proofs.Common.{◌≡◌, ◌∙◌, ◌++◌, ◌∷◌, [], ℕ, List, string_bytes, ap}
+use Rattle.schemars_generate.specs.declared.error.GenerateError.{GenerateError}
+use Rattle.schemars_generate.specs.Refusals.{code_of}
+use Rattle.schemagen_run.specs.declared.fault.Fault.TheVariants.{Refused}
+use Rattle.schemagen_run.proofs.Results.{ok_at_err, err_passed}
+use Rattle.schemagen_run.proofs.Runs.{told, of_table}
 use Rattle.schemagen_run.proofs.run.line_for.Goals as goal
 
-pub returns-clause-ok : goal.returns-clause-ok
-returns-clause-ok c =
+pub returns-in_err-document : goal.returns-in_err-document
+returns-in_err-document c =
+    let e = c.in_err-document.field-0.0 in
+    let why = c.in_err-document.ensures in
+    let r = c.from_residual.result in
+    let passed = c.from_residual.ensures.1 in
+    record {
+      ok = ok_at_err _ _ r passed;
+      accepted = ok_at_err _ _ r passed;
+      refused = err_passed r passed (λ f same. told c.args.types e f why.refused same);
+      faults = err_passed r passed (λ f same. of_table c.args.types e f why.refused same);
+      only_memory = λ accepted. err_passed r passed
+          (λ f same. same ∙ ap (λ (x : GenerateError). Refused (code_of x)) (why.only_memory accepted));
+    }
+
+pub returns : goal.returns
+returns c =
     let newline : string_bytes c.push_str.new.self ≡ string_bytes c.in_ok-line.line ++ 10 ∷ [] = c.in_ok-push_str.ensures.bytes in
-    let made = c.in_ok-schema.ensures in
-    let same = fresh_of c.in_ok-generator.generator _ c.args.contract c.args.types c.settings_for-settings.ensures
-    c.in_ok-generator.ensures.made in
-    line_of_document c.in_ok-generator.generator c.args.contract c.args.types c.args.root c.in_ok-schema.schema _ _ c.requires
-    c.in_ok-generator.ensures.checked same
-    (made.headline, made.root, made.whole) c.in_ok-line.ensures.ordered newline
-
-pub returns-in_err-schema-clause-refused : goal.returns-in_err-schema-clause-refused
-returns-in_err-schema-clause-refused c =
-    let same = fresh_of c.in_ok-generator.generator _ c.args.contract c.args.types c.settings_for-settings.ensures
-    c.in_ok-generator.ensures.made in
-    let memory : c.in_err-schema.field-0.0 ≡ OutOfMemory =
-    root_wants_only_memory c.in_ok-generator.generator c.args.contract c.args.types c.args.root c.requires
-    c.in_ok-generator.ensures.checked same c.in_err-schema.ensures.only_memory in
-    search rules
-
-pub returns-in_err-schema-clause-faults : goal.returns-in_err-schema-clause-faults
-returns-in_err-schema-clause-faults c =
-    let same = fresh_of c.in_ok-generator.generator _ c.args.contract c.args.types c.settings_for-settings.ensures
-    c.in_ok-generator.ensures.made in
-    let memory : c.in_err-schema.field-0.0 ≡ OutOfMemory =
-    root_wants_only_memory c.in_ok-generator.generator c.args.contract c.args.types c.args.root c.requires
-    c.in_ok-generator.ensures.checked same c.in_err-schema.ensures.only_memory in
-    search rules
-
-pub returns-in_err-schema-clause-only_memory : goal.returns-in_err-schema-clause-only_memory
-returns-in_err-schema-clause-only_memory c = λ _.
-    let same = fresh_of c.in_ok-generator.generator _ c.args.contract c.args.types c.settings_for-settings.ensures
-    c.in_ok-generator.ensures.made in
-    let memory : c.in_err-schema.field-0.0 ≡ OutOfMemory =
-    root_wants_only_memory c.in_ok-generator.generator c.args.contract c.args.types c.args.root c.requires
-    c.in_ok-generator.ensures.checked same c.in_err-schema.ensures.only_memory in
-    search rules
+    let document = c.in_ok-document.ensures in
+    record {
+      ok = (
+        c.in_ok-document.document,
+        document.ok,
+        newline ∙ ap (λ (t : List ℕ). t ++ 10 ∷ []) (c.in_ok-line.ensures.ordered document.whole),
+      );
+      accepted = document.accepted;
+      refused = tt;
+      faults = tt;
+      only_memory = λ _. tt;
+    }
