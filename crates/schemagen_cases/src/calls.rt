@@ -4,7 +4,7 @@ use schemagen_run::fault::Fault;
 use schemars_schema::encoding::{encode_ref_name, percent_decode};
 use schemars_schema::{NotASchema, Schema, json_eq, json_eq_members};
 use serde_json::Value;
-use std::alloc::{AllocError, AllocFailed, Global};
+use std::alloc::{AllocError, Global};
 use std::borrow::CowStr;
 
 /// Why there is no answer.
@@ -20,12 +20,6 @@ pub enum NoAnswer {
 
 impl From<AllocError> for NoAnswer {
     fn from(_e: AllocError) -> NoAnswer {
-        NoAnswer::OutOfMemory
-    }
-}
-
-impl<T: Drop> From<AllocFailed<T>> for NoAnswer {
-    fn from(_e: AllocFailed<T>) -> NoAnswer {
         NoAnswer::OutOfMemory
     }
 }
@@ -69,12 +63,9 @@ fn answer_about(
     match call {
         "try_from" => try_from(alloc, value),
         "from_value" => from_value(alloc, value),
-        "is_schema" => is_schema(alloc, value),
-        "json_eq" => equal(alloc, value),
-        "json_eq_members" => members_equal(alloc, value),
-        "encode_ref_name" => encoded(alloc, value),
-        "percent_decode" => decoded(alloc, value),
-        "new_ref" => reference(alloc, value),
+        "is_schema" => text_of_bool(alloc, Some(Schema::is_schema(value))),
+        "json_eq" | "json_eq_members" => text_of_bool(alloc, are_equal(call, value)),
+        "encode_ref_name" | "percent_decode" | "new_ref" => about_text(alloc, call, value),
         "fault" => fault(alloc, value),
         _ => schemas::answer(alloc, call, argument, value),
     }
@@ -85,20 +76,24 @@ fn deserialized(alloc: Global, input: &str) -> Result<String, NoAnswer> {
     Ok(schema.to_ordered_string(alloc)?)
 }
 
-fn is_schema(alloc: Global, value: &Value) -> Result<String, NoAnswer> {
-    Ok(text_of_bool(alloc, Schema::is_schema(value))?)
-}
-
-/// A truth value's text.
-pub fn text_of_bool(alloc: Global, value: bool) -> Result<String, AllocError> {
-    String::from_str(alloc, if value { "true" } else { "false" })
+/// A truth value's text, and `none` where there is none.
+pub fn text_of_bool(alloc: Global, value: Option<bool>) -> Result<String, NoAnswer> {
+    let text = match value {
+        Some(true) => "true",
+        Some(false) => "false",
+        None => "none",
+    };
+    Ok(String::from_str(alloc, text)?)
 }
 
 /// The two values of a list.
-pub fn pair_in(value: &Value) -> Result<(&Value, &Value), NoAnswer> {
-    match value.as_array().map(|items| items.as_slice()) {
-        Some([first, second]) => Ok((first, second)),
-        _ => Err(NoAnswer::BadInput),
+pub fn pair_in(value: &Value) -> Option<(&Value, &Value)> {
+    match value {
+        Value::Array(items) => match items.as_slice() {
+            [first, second] => Some((first, second)),
+            _ => None,
+        },
+        _ => None,
     }
 }
 
@@ -121,22 +116,15 @@ fn from_value(alloc: Global, value: &Value) -> Result<String, NoAnswer> {
     Ok(schema.to_ordered_string(alloc)?)
 }
 
-fn equal(alloc: Global, value: &Value) -> Result<String, NoAnswer> {
-    let (left, right) = pair_in(value)?;
-    Ok(text_of_bool(alloc, json_eq(left, right))?)
-}
-
-fn members_equal(alloc: Global, value: &Value) -> Result<String, NoAnswer> {
+// Whether two values, or two lists of members, are equal.
+fn are_equal(call: &str, value: &Value) -> Option<bool> {
     match pair_in(value)? {
-        (Value::Object(left), Value::Object(right)) => {
-            Ok(text_of_bool(alloc, json_eq_members(left, right))?)
+        (Value::Object(left), Value::Object(right)) if call == "json_eq_members" => {
+            Some(json_eq_members(left, right))
         }
-        _ => Err(NoAnswer::BadInput),
+        (left, right) if call == "json_eq" => Some(json_eq(left, right)),
+        _ => None,
     }
-}
-
-fn text_in(value: &Value) -> Result<&str, NoAnswer> {
-    value.as_str().ok_or(NoAnswer::BadInput)
 }
 
 // Whether a text is borrowed, and the text in quotes.
@@ -149,15 +137,18 @@ fn text_of_cow(alloc: Global, text: CowStr<'_>) -> Result<String, NoAnswer> {
     Ok(format!(in alloc; "{kind} {quoted}")?)
 }
 
-fn encoded(alloc: Global, value: &Value) -> Result<String, NoAnswer> {
-    let token = encode_ref_name(alloc, text_in(value)?)?;
-    text_of_cow(alloc, token)
-}
-
-fn decoded(alloc: Global, value: &Value) -> Result<String, NoAnswer> {
-    match percent_decode(alloc, text_in(value)?)? {
-        Some(text) => text_of_cow(alloc, text),
-        None => Ok(String::from_str(alloc, "none")?),
+fn about_text(alloc: Global, call: &str, value: &Value) -> Result<String, NoAnswer> {
+    let text = value.as_str().ok_or(NoAnswer::BadInput)?;
+    match call {
+        "new_ref" => {
+            let schema = Schema::new_ref(alloc, String::from_str(alloc, text)?)?;
+            Ok(schema.to_ordered_string(alloc)?)
+        }
+        "encode_ref_name" => text_of_cow(alloc, encode_ref_name(alloc, text)?),
+        _ => match percent_decode(alloc, text)? {
+            Some(text) => text_of_cow(alloc, text),
+            None => text_of_bool(alloc, None),
+        },
     }
 }
 
@@ -168,10 +159,4 @@ fn fault(alloc: Global, value: &Value) -> Result<String, NoAnswer> {
         None => Fault::Usage,
     };
     Ok(format!(in alloc; "{fault}, status {}", fault.status())?)
-}
-
-fn reference(alloc: Global, value: &Value) -> Result<String, NoAnswer> {
-    let reference = String::from_str(alloc, text_in(value)?)?;
-    let schema = Schema::new_ref(alloc, reference)?;
-    Ok(schema.to_ordered_string(alloc)?)
 }

@@ -1,10 +1,10 @@
 //! What calls answer that change a schema, and what the schema then is.
-use crate::calls::{NoAnswer, pair_in};
+use crate::calls::{NoAnswer, pair_in, text_of_bool};
 use crate::schemas::{look, schema_in, text_of};
 use schemars_rewrite::builders::allow_null;
 use schemars_schema::Schema;
-use serde_json::{Map, Value};
-use std::alloc::Global;
+use serde_json::{Value, put};
+use std::alloc::{AllocError, Global};
 use std::mem;
 
 /// What a call answers to this schema, which it may change.
@@ -17,11 +17,11 @@ pub fn answer(
     match call {
         "allow_null" => with_null(alloc, schema),
         "clone" => cloned(alloc, schema, argument),
-        "ensure_object" => ensure_object(alloc, schema, argument),
-        "as_object_mut" => as_object_mut(alloc, schema, argument),
-        "get_mut" => get_mut(alloc, schema, argument),
-        "pointer_mut" => pointer_mut(alloc, schema, argument),
-        "remove" => remove(alloc, schema, argument),
+        "ensure_object" | "as_object_mut" => with_member(alloc, call, schema, argument),
+        "get_mut" | "pointer_mut" | "remove" => {
+            let old = taken(alloc, call, schema, argument)?;
+            with_old(alloc, old, schema)
+        }
         _ => look(alloc, call, argument, schema),
     }
 }
@@ -31,22 +31,6 @@ fn with_null(alloc: Global, schema: &mut Schema) -> Result<String, NoAnswer> {
     Ok(schema.to_ordered_string(alloc)?)
 }
 
-fn ensure_object(alloc: Global, schema: &mut Schema, key: &str) -> Result<String, NoAnswer> {
-    let members = schema.ensure_object(alloc)?;
-    insert_null(alloc, members, key)?;
-    Ok(schema.to_ordered_string(alloc)?)
-}
-
-fn get_mut(alloc: Global, schema: &mut Schema, key: &str) -> Result<String, NoAnswer> {
-    let old = replaced(schema.get_mut(key));
-    taken(alloc, old, schema)
-}
-
-fn pointer_mut(alloc: Global, schema: &mut Schema, pointer: &str) -> Result<String, NoAnswer> {
-    let old = replaced(schema.pointer_mut(alloc, pointer)?);
-    taken(alloc, old, schema)
-}
-
 // A copy of the schema, from which a member is then removed.
 fn cloned(alloc: Global, schema: &mut Schema, key: &str) -> Result<String, NoAnswer> {
     let copy = schema.clone()?;
@@ -54,20 +38,22 @@ fn cloned(alloc: Global, schema: &mut Schema, key: &str) -> Result<String, NoAns
     Ok(copy.to_ordered_string(alloc)?)
 }
 
-fn insert_null(alloc: Global, members: &mut Map<String, Value>, key: &str) -> Result<(), NoAnswer> {
-    let key = String::from_str(alloc, key)?;
-    let _ = members.insert(key, Value::Null)?;
-    Ok(())
-}
-
-fn as_object_mut(alloc: Global, schema: &mut Schema, key: &str) -> Result<String, NoAnswer> {
-    match schema.as_object_mut() {
-        Some(members) => {
-            insert_null(alloc, members, key)?;
-            Ok(schema.to_ordered_string(alloc)?)
+// The schema with null at a key, by the members that a call lends.
+fn with_member(
+    alloc: Global,
+    call: &str,
+    schema: &mut Schema,
+    key: &str,
+) -> Result<String, NoAnswer> {
+    if call == "ensure_object" {
+        put(schema.ensure_object(alloc)?, alloc, key, Value::Null)?;
+    } else {
+        match schema.as_object_mut() {
+            Some(members) => put(members, alloc, key, Value::Null)?,
+            None => return text_of_bool(alloc, None),
         }
-        None => Ok(text_of(alloc, None)?),
     }
+    Ok(schema.to_ordered_string(alloc)?)
 }
 
 // The value that stood in a place, where a truth value then stands.
@@ -78,24 +64,40 @@ fn replaced(place: Option<&mut Value>) -> Option<Value> {
     }
 }
 
+// The value that a call takes out, or leads to.
+fn taken(
+    alloc: Global,
+    call: &str,
+    schema: &mut Schema,
+    argument: &str,
+) -> Result<Option<Value>, AllocError> {
+    match call {
+        "get_mut" => Ok(replaced(schema.get_mut(argument))),
+        "pointer_mut" => Ok(replaced(schema.pointer_mut(alloc, argument)?)),
+        _ => Ok(schema.remove(argument)),
+    }
+}
+
 // The value that a call took out or replaced, and the schema after it.
-fn taken(alloc: Global, old: Option<Value>, schema: &Schema) -> Result<String, NoAnswer> {
+fn with_old(alloc: Global, old: Option<Value>, schema: &Schema) -> Result<String, NoAnswer> {
     let old = text_of(alloc, old.as_ref())?;
     let schema = schema.to_ordered_string(alloc)?;
     Ok(format!(in alloc; "{old} {schema}")?)
 }
 
-fn remove(alloc: Global, schema: &mut Schema, key: &str) -> Result<String, NoAnswer> {
-    let old = schema.remove(key);
-    taken(alloc, old, schema)
-}
-
-/// Inserts the second value of a list into its first.
-pub fn insert(alloc: Global, key: &str, value: &Value) -> Result<String, NoAnswer> {
-    let (first, second) = pair_in(value)?;
+/// What a call answers that takes a schema and a value: the two of a list.
+pub fn answer_of_two(
+    alloc: Global,
+    call: &str,
+    argument: &str,
+    value: &Value,
+) -> Result<String, NoAnswer> {
+    let (first, second) = pair_in(value).ok_or(NoAnswer::BadInput)?;
     let mut schema = schema_in(first)?;
-    let old = inserted(alloc, &mut schema, key, second)?;
-    taken(alloc, old, &schema)
+    match call {
+        "insert" => inserted(alloc, &mut schema, argument, second),
+        _ => merged_at(alloc, &mut schema, argument, second),
+    }
 }
 
 fn inserted(
@@ -103,19 +105,13 @@ fn inserted(
     schema: &mut Schema,
     key: &str,
     value: &Value,
-) -> Result<Option<Value>, NoAnswer> {
-    let key = String::from_str(alloc, key)?;
-    Ok(schema.insert(alloc, key, value.clone()?)?)
+) -> Result<String, NoAnswer> {
+    let value = value.clone()?;
+    let old = schema.insert(alloc, String::from_str(alloc, key)?, value)?;
+    with_old(alloc, old, schema)
 }
 
-/// Puts the members of a list's second value into its first. What is then there is open where it
-/// can't.
-pub fn merge_at(alloc: Global, pointer: &str, value: &Value) -> Result<String, NoAnswer> {
-    let (first, second) = pair_in(value)?;
-    let mut schema = schema_in(first)?;
-    merged_at(alloc, &mut schema, pointer, second)
-}
-
+// What is then there is open where the members can't be put there.
 fn merged_at(
     alloc: Global,
     schema: &mut Schema,
@@ -128,6 +124,6 @@ fn merged_at(
     if schema.merge_at(alloc, pointer, members.clone()?)? {
         Ok(schema.to_ordered_string(alloc)?)
     } else {
-        Ok(String::from_str(alloc, "false")?)
+        text_of_bool(alloc, Some(false))
     }
 }

@@ -11,7 +11,7 @@ mod edits;
 mod runs;
 mod schemas;
 
-use crate::cases::{Asked, Tally, work_cases};
+use crate::cases::{Asked, work_cases};
 use std::{fs, io};
 
 // The files, and whom their cases ask.
@@ -25,7 +25,7 @@ const FILES: [(&str, Asked); 4] = [
 fn main(rt: HostRuntime) -> io::Result<()> {
     for (name, asked) in FILES {
         let text = fs::read_to_string(&rt, name)?;
-        let Tally { cases, wrong } = work_cases(&rt, asked, text.as_str())?;
+        let (cases, wrong) = work_cases(&rt, asked, text.as_str())?;
         println!(rt; "{name}: {cases} cases, {wrong} wrong")?;
     }
     Ok(())

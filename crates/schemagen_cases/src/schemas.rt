@@ -29,8 +29,7 @@ pub fn answer(
     value: &Value,
 ) -> Result<String, NoAnswer> {
     match call {
-        "insert" => edits::insert(alloc, argument, value),
-        "merge_at" => edits::merge_at(alloc, argument, value),
+        "insert" | "merge_at" => edits::answer_of_two(alloc, call, argument, value),
         "to_value" => to_value(alloc, value),
         _ => answer_of(alloc, call, argument, value),
     }
@@ -51,10 +50,10 @@ pub fn look(
     match call {
         "to_ordered_string" => Ok(schema.to_ordered_string(alloc)?),
         "serialize" => Ok(serde_json::to_string(alloc, schema)?),
-        "as_bool" => as_bool(alloc, schema),
+        "as_bool" => text_of_bool(alloc, schema.as_bool()),
         "as_object" => as_object(alloc, schema),
         "get" => Ok(text_of(alloc, schema.get(argument))?),
-        "pointer" => pointer(alloc, schema, argument),
+        "pointer" => Ok(text_of(alloc, schema.pointer(alloc, argument)?)?),
         _ => Err(NoAnswer::NoCall),
     }
 }
@@ -64,21 +63,9 @@ fn to_value(alloc: Global, value: &Value) -> Result<String, NoAnswer> {
     Ok(schema.to_value().to_string(alloc)?)
 }
 
-fn as_bool(alloc: Global, schema: &Schema) -> Result<String, NoAnswer> {
-    match schema.as_bool() {
-        Some(truth) => Ok(text_of_bool(alloc, truth)?),
-        None => Ok(text_of(alloc, None)?),
-    }
-}
-
 fn as_object(alloc: Global, schema: &Schema) -> Result<String, NoAnswer> {
     match schema.as_object() {
         Some(members) => Ok(serde_json::to_string(alloc, members)?),
-        None => Ok(text_of(alloc, None)?),
+        None => text_of_bool(alloc, None),
     }
-}
-
-fn pointer(alloc: Global, schema: &Schema, argument: &str) -> Result<String, NoAnswer> {
-    let found = schema.pointer(alloc, argument)?;
-    Ok(text_of(alloc, found)?)
 }
