@@ -17,11 +17,11 @@ use Rattle.schemars_templates.specs.Template.{rows_of, filled}
 use Rattle.schemars_templates.specs.OfShape.{entry_template}
 use Rattle.schemars_templates.specs.Describes.{ArePartsWritten, Fills, IsOwnDocument, IsWritten, Describes, references_of}
 use Rattle.schemars_documents.specs.PlainTable.{IsPlainEntry}
-use Rattle.schemars_templates.proofs.Mapping.{written_map, describes-wider}
-use Rattle.schemars_templates.proofs.ReferencesKept.{Among, among_left}
-use Rattle.schemars_templates.proofs.References.{parts_among, filled_schema}
-use Rattle.schemars_templates.proofs.Rows.{all_rows}
-use Rattle.schemars_templates.proofs.Schemas.{written_schema, parts_schemas, parts_counted}
+use Rattle.schemars_meaning.proofs.Mapping.{written_map, describes-wider}
+use Rattle.schemars_meaning.proofs.ReferencesKept.{Among, among_left}
+use Rattle.schemars_meaning.proofs.References.{parts_among, filled_schema}
+use Rattle.schemars_meaning.proofs.Rows.{all_rows}
+use Rattle.schemars_meaning.proofs.Schemas.{written_schema, parts_schemas, parts_counted}
 use Rattle.schemars_naming.specs.Work.{Plan, Work, Refers, Step}
 use Rattle.schemars_build.specs.Missing.{StandsIn, depth_in_place}
 use Rattle.schemars_build.specs.Parts.{IsWrittenWithin, IsPart, AreParts, IsOwn}

@@ -9,7 +9,7 @@ use Rattle.schemars_json.specs.Json.{Text}
 use Rattle.schemars_schema.specs.Edits.{replaced}
 use Rattle.schemars_schema.specs.References.{found_in, references}
 use Rattle.schemars_documents.specs.Documents.{root_document, reference}
-use Rattle.schemars_templates.proofs.ReferencesKept.{Among, among_equal, references-root}
+use Rattle.schemars_meaning.proofs.ReferencesKept.{Among, among_equal, references-root}
 use Rattle.schemars_build.specs.Reached.{IsReached, by_reference, by_definition, IsRootMet, AreReached}
 use Rattle.schemars_documents.specs.declared.contract.Contract.{Contract}
 use Rattle.schemars_naming.specs.Naming.{Naming, name_of}

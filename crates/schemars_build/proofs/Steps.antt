@@ -21,7 +21,7 @@ use Rattle.schemars_templates.specs.Describes.{Describes}
 use Rattle.schemars_build.specs.Missing.{is_made, missing_below, missing}
 use Rattle.schemars_naming.specs.Work.{Plan, Work, IsKey, Refers, IsDefinition, GivesNames, Step, undone}
 use Rattle.schemars_naming.proofs.Given.{gives-none, gives-trans, gives-keeps}
-use Rattle.schemars_templates.proofs.Mapping.{describes-wider}
+use Rattle.schemars_meaning.proofs.Mapping.{describes-wider}
 use Rattle.schemars_naming.proofs.Members.{without_all-put, without_all-replaced, get_member-replaced, get_member-replaced_other}
 
 -- ---- more names and more keys

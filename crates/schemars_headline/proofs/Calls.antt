@@ -27,7 +27,7 @@ use Rattle.schemars_headline.specs.State.{State, plan_of, work_of, after_root, H
 use Rattle.schemars_headline.specs.Headline.{Headline, IsDraftPath, IsRootOf, IsTitledRoot, CannotPlace, with_definitions}
 use Rattle.schemars_build.specs.Parts.{IsSubschema}
 use Rattle.schemars_build.specs.Missing.{depth_in_place}
-use Rattle.schemars_templates.proofs.Mapping.{own_map, written_map, describes-wider}
+use Rattle.schemars_meaning.proofs.Mapping.{own_map, written_map, describes-wider}
 use Rattle.schemars_schema.specs.References.{references}
 use Rattle.schemars_build.specs.Reached.{AreReached}
 use Rattle.schemars_build.proofs.Steps.{Wider, step_wider, definition-wider}

@@ -26,9 +26,9 @@ use Rattle.schemars_naming.specs.Naming.{Naming, IsOneToOne, name_of}
 use Rattle.schemars_naming.specs.Work.{Plan, Work, IsKey, Refers, IsDefinition, reference_to}
 use Rattle.schemars_headline.specs.Headline.{AcceptsItsValues}
 use Rattle.schemars_headline.proofs.Keys.{key_here, key_later, key_cases}
-use Rattle.schemars_templates.proofs.Mapping.{describes-wider, written_map}
-use Rattle.schemars_templates.proofs.Meanings.{IsSame}
-use Rattle.schemars_templates.proofs.Following.{References, InList, Setting, written_says, described_schema}
+use Rattle.schemars_meaning.proofs.Mapping.{describes-wider, written_map}
+use Rattle.schemars_meaning.proofs.Meanings.{IsSame}
+use Rattle.schemars_meaning.proofs.Following.{References, InList, Setting, written_says, described_schema}
 
 -- ---- ranks
 

@@ -17,8 +17,8 @@ use Rattle.schemars_types.specs.Meaning.{Contract}
 use Rattle.schemars_documents.specs.Documents.{reference, root_document}
 use Rattle.schemars_templates.specs.Describes.{ArePartsWritten, IsOwnDocument, IsWritten, Describes, references_of}
 use Rattle.schemars_documents.specs.PlainTable.{IsPlainEntry, IsPlainTable}
-use Rattle.schemars_templates.proofs.ReferencesKept.{Among, references-root}
-use Rattle.schemars_templates.proofs.References.{AreSchemas, among_parts, filled_schema}
+use Rattle.schemars_meaning.proofs.ReferencesKept.{Among, references-root}
+use Rattle.schemars_meaning.proofs.References.{AreSchemas, among_parts, filled_schema}
 use Rattle.schemars_headline.proofs.Keys.{AllMembers, IsDefinitionsKey}
 
 -- all of these references pass a test

@@ -21,12 +21,12 @@ use Rattle.schemars_naming.specs.Naming.{IsOneToOne}
 use Rattle.schemars_naming.specs.Work.{Plan, Work, Refers}
 use Rattle.schemars_headline.specs.State.{State, plan_of, work_of, HasOwnDefinitions}
 use Rattle.schemars_headline.specs.Headline.{IsRootOf, MeansItsTypeIn, Headline, SubschemaHeadline, IsDraftPath, with_definitions}
-use Rattle.schemars_templates.proofs.Notes.{judge-root}
+use Rattle.schemars_meaning.proofs.Notes.{judge-root}
 use Rattle.schemars_headline.specs.Keys.{HasKeysOnce}
 use Rattle.schemars_headline.proofs.Keys.{all_members, IsDefinitionsKey}
 use Rattle.schemars_headline.proofs.OwnKeys.{no_definitions_in}
-use Rattle.schemars_templates.proofs.Mapping.{describes-wider, written_map}
-use Rattle.schemars_templates.proofs.Following.{described_schema}
+use Rattle.schemars_meaning.proofs.Mapping.{describes-wider, written_map}
+use Rattle.schemars_meaning.proofs.Following.{described_schema}
 use Rattle.schemars_headline.proofs.Resolving.{all_pass-resolve, Resolve, AllResolve, described_resolved}
 use Rattle.schemars_headline.proofs.Resolving.{written_resolved, root_resolved, placed_resolved}
 use Rattle.schemars_headline.proofs.Leading.{HoldsDefinitions, IsItsRoot, MayRefer, AllStand, stands_now, refers_may}

@@ -1,14 +1,1 @@
-pub mod Rows
-pub mod ByShape
-pub mod Choices
 pub mod Templates
-pub mod Mapping
-pub mod EachShape
-pub mod Maps
-pub mod Structs
-pub mod Meanings
-pub mod Notes
-pub mod ReferencesKept
-pub mod References
-pub mod Schemas
-pub mod Following

@@ -5,7 +5,7 @@ use std::alloc::Global;
 use std::test::Fail;
 
 // A constructor, the id of the row that it takes, and the id and the name of the row that it makes.
-const ROWS: [(&str, &str, &str, &str); 17] = [
+const ROWS: [(&str, &str, &str, &str); 21] = [
     ("null", "", "null", "null"),
     ("bool", "", "boolean", "boolean"),
     ("number", "", "Number", "Number"),
@@ -37,6 +37,20 @@ const ROWS: [(&str, &str, &str, &str); 17] = [
         "std::num::NonZeroI8",
         "Option<std::num::NonZeroI8>",
         "Nullable_NonZeroI8",
+    ),
+    (
+        "result",
+        "string",
+        "Result<string, int8>",
+        "Result_of_string_or_int8",
+    ),
+    ("bound", "string", "Bound<string>", "Bound_of_string"),
+    ("range", "string", "Range<string>", "Range_of_string"),
+    (
+        "either",
+        "string",
+        "either::Either<string, int8>",
+        "Either_string_or_int8",
     ),
 ];
 
@@ -97,6 +111,10 @@ fn made(alloc: Global, types: &mut Types, call: &str, of: TypeNo) -> Result<Type
         "pair" => types.array(alloc, of, 2),
         "up_to_8" => types.up_to(alloc, of, 8),
         "empty" => types.array(alloc, of, 0),
+        "result" => types.result(alloc, of, 0),
+        "bound" => types.bound(alloc, of),
+        "range" => types.range(alloc, of),
+        "either" => types.either(alloc, of, 0),
         _ => made_of_none(alloc, types, call),
     }
 }
@@ -129,7 +147,14 @@ fn is_named(types: &Types, row: TypeNo, id: &str, name: &str) -> bool {
 
 // Whether the row has this id and name, and stands by name where its text is that of a definition.
 fn is_row(types: &Types, row: TypeNo, id: &str, name: &str) -> bool {
-    let by_name = id == "bytes::Bytes" || id == "schemars::Schema";
+    let by_name = [
+        "bytes::Bytes",
+        "schemars::Schema",
+        "Result<string, int8>",
+        "Bound<string>",
+        "Range<string>",
+    ];
+    let by_name = by_name.contains(&id);
     is_named(types, row, id, name) && stands(types, row, !by_name)
 }
 
@@ -151,7 +176,7 @@ fn expect_rows(alloc: Global, types: &mut Types) -> Result<(), Fail> {
         let row = made(alloc, types, call, of)?;
         expect(is_row(types, row, id, name), id)?;
     }
-    expect(types.len() == 40, "forty rows")
+    expect(types.len() == 44, "forty-four rows")
 }
 
 #[test]
@@ -165,6 +190,8 @@ fn expect_refused(alloc: Global, types: &mut Types) -> Result<(), Fail> {
     let text = types.text(alloc)?;
     let unknown = code_of(types.option(alloc, 1)) == 8 && code_of(types.seq(alloc, 7)) == 8;
     expect(unknown, "no such rows")?;
+    let second = code_of(types.result(alloc, text, 1)) == 8;
+    expect(second, "no row of errors")?;
     let other = formatted(alloc, types, "string", "Url", "uri");
     expect(code_of(other) == 6, "another entry")?;
     let stays = types.len() == 1 && is_row(types, text, "string", "string");

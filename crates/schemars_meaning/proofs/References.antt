@@ -24,11 +24,11 @@ use Rattle.schemars_templates.specs.Template.{template, rows_of, rows_in, first,
 use Rattle.schemars_templates.specs.OfShape.{KeywordTemplate, templates_of, object_with, property, map_template, template_of}
 use Rattle.schemars_templates.specs.OfShape.{entry_template}
 use Rattle.schemars_templates.specs.Describes.{references_of}
-use Rattle.schemars_templates.proofs.Notes.{annotated-schema}
-use Rattle.schemars_templates.proofs.ReferencesKept.{Among, among_more, Alike, alike_equal, alike_same, alike_nothing}
-use Rattle.schemars_templates.proofs.ReferencesKept.{alike_trans, alike_append, alike_turn, keywords-new, members-new}
-use Rattle.schemars_templates.proofs.ReferencesKept.{references-annotated, references-allow_null, allow_null-schema}
-use Rattle.schemars_templates.proofs.ReferencesKept.{in_list_of_schema, IsNoKey, AreApart, AreNew, still_new, none_there}
+use Rattle.schemars_meaning.proofs.Notes.{annotated-schema}
+use Rattle.schemars_meaning.proofs.ReferencesKept.{Among, among_more, Alike, alike_equal, alike_same, alike_nothing}
+use Rattle.schemars_meaning.proofs.ReferencesKept.{alike_trans, alike_append, alike_turn, keywords-new, members-new}
+use Rattle.schemars_meaning.proofs.ReferencesKept.{references-annotated, references-allow_null, allow_null-schema}
+use Rattle.schemars_meaning.proofs.ReferencesKept.{in_list_of_schema, IsNoKey, AreApart, AreNew, still_new, none_there}
 
 abbrev pub AreSchemas : List Data → Type 0
 AreSchemas [] = Unit {0}

@@ -7,7 +7,7 @@ use Rattle.schemars_shapes.specs.Shape.{Entry}
 use Rattle.schemars_types.specs.Rows.{Row, entry_at}
 use Rattle.schemars_types.specs.Meaning.{Contract}
 use Rattle.schemars_templates.specs.Describes.{ArePartsWritten, IsOwnDocument, IsWritten, Describes}
-use Rattle.schemars_templates.proofs.References.{AreSchemas, filled_schema}
+use Rattle.schemars_meaning.proofs.References.{AreSchemas, filled_schema}
 
 pub parts_schemas : (W : ℕ → Data → Type 0) → ((j : ℕ) (t : Data) → W j t → IsSchema t) → (ns : List ℕ) (ts : List Data)
     → ArePartsWritten W ns ts → AreSchemas ts

@@ -18,10 +18,10 @@ use Rattle.schemars_types.specs.Rows.{Row, entry_at}
 use Rattle.schemars_types.specs.Meaning.{Contract, has_shape, belongs_within}
 use Rattle.schemars_documents.specs.Documents.{reference}
 use Rattle.schemars_templates.specs.Describes.{IsOwnDocument, IsWritten, Describes}
-use Rattle.schemars_templates.proofs.ByShape.{own_document}
+use Rattle.schemars_meaning.proofs.ByShape.{own_document}
 use Rattle.schemars_documents.specs.PlainTable.{IsPlainEntry, IsPlainTable}
-use Rattle.schemars_templates.proofs.Notes.{judge-annotated, nullable-annotated}
-use Rattle.schemars_templates.proofs.Meanings.{IsSame, Inside, shape_nullable, shape_says}
+use Rattle.schemars_meaning.proofs.Notes.{judge-annotated, nullable-annotated}
+use Rattle.schemars_meaning.proofs.Meanings.{IsSame, Inside, shape_nullable, shape_says}
 
 -- ---- the references of a document
 

@@ -18,7 +18,7 @@ use Rattle.schemars_documents.specs.Documents.{schema_document, required_names, 
 use Rattle.schemars_templates.specs.Template.{row, rows_of, rows_in, filled, filled_in, keyed}
 use Rattle.schemars_templates.specs.OfShape.{templates_of, property, map_template, template_of, entry_template}
 use Rattle.schemars_templates.specs.Describes.{ArePartsWritten, Fills}
-use Rattle.schemars_templates.proofs.Rows.{rows_at, rows_same}
+use Rattle.schemars_meaning.proofs.Rows.{rows_at, rows_same}
 
 -- ---- lists
 

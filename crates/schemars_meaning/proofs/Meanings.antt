@@ -11,13 +11,13 @@ use Rattle.schemars_shapes.specs.Shape as shape
 use Rattle.schemars_shapes.specs.Shape.{Shape, Entry, numbers_of}
 use Rattle.schemars_types.specs.Meaning.{Contract, Deserialize, Serialize, has_shape}
 use Rattle.schemars_rewrite.specs.Variants.{unit_variant}
-use Rattle.schemars_templates.proofs.ByShape.{IsDocument, map_document, tuple_document, one_of_document, member_document}
+use Rattle.schemars_meaning.proofs.ByShape.{IsDocument, map_document, tuple_document, one_of_document, member_document}
 use Rattle.schemars_documents.specs.PlainTable.{IsPlainShape}
-use Rattle.schemars_templates.proofs.EachShape.{bytes_say, schema_says, null_says, bool_says, number_says, text_says}
-use Rattle.schemars_templates.proofs.EachShape.{formatted_says, char_says, any_says, seq_says, set_says, array_says}
-use Rattle.schemars_templates.proofs.EachShape.{up_to_says, tuple_says, int_says, non_zero_says}
-use Rattle.schemars_templates.proofs.Structs.{struct_says}
-use Rattle.schemars_templates.proofs.Choices.{result_says, bound_says, range_says, either_says}
+use Rattle.schemars_meaning.proofs.EachShape.{bytes_say, schema_says, null_says, bool_says, number_says, text_says}
+use Rattle.schemars_meaning.proofs.EachShape.{formatted_says, char_says, any_says, seq_says, set_says, array_says}
+use Rattle.schemars_meaning.proofs.EachShape.{up_to_says, tuple_says, int_says, non_zero_says}
+use Rattle.schemars_meaning.proofs.Structs.{struct_says}
+use Rattle.schemars_meaning.proofs.Choices.{result_says, bound_says, range_says, either_says}
 use Rattle.schemars_shapes.specs.declared.shape.IntKind.{IntKind}
 use Rattle.schemars_shapes.specs.declared.shape.IntKind.TheVariants.{I8, I16, I32, I64, I128, Isize, U8, U16, U32, U64, U128, Usize}
 use Rattle.schemars_documents.specs.Documents.{Keyword, int_document, non_zero_document, bytes_document}

@@ -13,9 +13,9 @@ use Rattle.schemars_rewrite.specs.Variants.{unit_variant}
 use Rattle.schemars_shapes.specs.Shape as shape
 use Rattle.schemars_shapes.specs.Shape.{Shape, needed}
 use Rattle.schemars_types.specs.Meaning.{Contract, Deserialize, Serialize, has_shape, has_fields, exactly_one, none, is_text}
-use Rattle.schemars_templates.proofs.ByShape.{items_from, one_of_document, member_document, range_document}
-use Rattle.schemars_templates.proofs.ByShape.{result_document, bound_document, either_document}
-use Rattle.schemars_templates.proofs.Structs.{struct_says}
+use Rattle.schemars_meaning.proofs.ByShape.{items_from, one_of_document, member_document, range_document}
+use Rattle.schemars_meaning.proofs.ByShape.{result_document, bound_document, either_document}
+use Rattle.schemars_meaning.proofs.Structs.{struct_says}
 
 none_verdict : (bs : List Bool) → none_of (map verdict bs) ≡ verdict (none bs)
 none_verdict [] = refl

@@ -19,10 +19,10 @@ use Rattle.schemars_shapes.specs.Shape.{Field}
 use Rattle.schemars_types.specs.Meaning.{Contract, is_required, field_named, member_fits, every_member, has_required, holds}
 use Rattle.schemars_documents.specs.PlainTable.{IsNoName, AreDistinct, AreNoted}
 use Rattle.schemars_documents.specs.Documents.{annotated, required_names}
-use Rattle.schemars_templates.proofs.ByShape.{field_keywords, struct_document, AreWritten}
-use Rattle.schemars_templates.proofs.Notes.{judge-annotated, annotated-schema}
-use Rattle.schemars_templates.proofs.Maps.{AreEntries, schema_named-judges_in, judges_of, named_says, other_says}
-use Rattle.schemars_templates.proofs.Maps.{judge-map_object, judge-map_other}
+use Rattle.schemars_meaning.proofs.ByShape.{field_keywords, struct_document, AreWritten}
+use Rattle.schemars_meaning.proofs.Notes.{judge-annotated, annotated-schema}
+use Rattle.schemars_meaning.proofs.Maps.{AreEntries, schema_named-judges_in, judges_of, named_says, other_says}
+use Rattle.schemars_meaning.proofs.Maps.{judge-map_object, judge-map_other}
 
 both-swap : (x y : Verdict) → both x y ≡ both y x
 both-swap Yes y = sym (both-yes y)

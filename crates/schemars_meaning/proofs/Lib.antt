@@ -1,0 +1,13 @@
+pub mod Rows
+pub mod ByShape
+pub mod Mapping
+pub mod EachShape
+pub mod Maps
+pub mod Structs
+pub mod Choices
+pub mod Meanings
+pub mod Notes
+pub mod ReferencesKept
+pub mod References
+pub mod Schemas
+pub mod Following
