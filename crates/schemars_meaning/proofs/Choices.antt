@@ -113,6 +113,12 @@ module _ (patterns : Patterns) (f : Text → Judge) (contract : Contract) (M : �
     bound_says n t e g h =
         one_of_says (member_document false (codes "Included") t ∷ member_document false (codes "Excluded") e
         ∷ unit_variant (codes "Unbounded") ∷ [])
-        (has false (codes "Included") n ∷ has false (codes "Excluded") n ∷ is_text (codes "Unbounded") v ∷ []) v
-        (tt, member_says false (codes "Included") n t g, (tt, member_says false (codes "Excluded") n e h,
-        (tt, unit_says (codes "Unbounded") v, tt)))
+        (has false (codes "Included") n ∷ has false (codes "Excluded") n ∷ is_text (codes "Unbounded") v ∷ []) v (
+          tt,
+          member_says false (codes "Included") n t g,
+          (
+            tt,
+            member_says false (codes "Excluded") n e h,
+            (tt, unit_says (codes "Unbounded") v, tt),
+          ),
+        )

@@ -203,11 +203,7 @@ fn properties<'t>(
     Ok(properties)
 }
 
-fn result_template<'t>(
-    alloc: Global,
-    ok: TypeNo,
-    err: TypeNo,
-) -> Result<Template<'t>, AllocError>
+fn result_template<'t>(alloc: Global, ok: TypeNo, err: TypeNo) -> Result<Template<'t>, AllocError>
     ensures { IfOk result (λ t. template_view t ≡ result_template ok err) }
 {
     let ok = member_template(alloc, "Ok", ok, false)?;
@@ -229,8 +225,10 @@ fn bound_template<'t>(alloc: Global, n: TypeNo) -> Result<Template<'t>, AllocErr
 fn range_template<'t>(alloc: Global, n: TypeNo) -> Result<Template<'t>, AllocError>
     ensures { IfOk result (λ t. template_view t ≡ range_template n) }
 {
-    let properties: Vec<(&'t str, Template<'t>)> =
-        vec![in alloc; ("start", Template::Row(n)), ("end", Template::Row(n))]?;
+    let properties: Vec<(&'t str, Template<'t>)> = vec![in alloc;
+        ("start", Template::Row(n)),
+        ("end", Template::Row(n)),
+    ]?;
     let start = Value::try_from_str(alloc, "start")?;
     let end = Value::try_from_str(alloc, "end")?;
     let required = vec![in alloc; start, end]?;
