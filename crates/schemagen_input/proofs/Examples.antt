@@ -6,7 +6,8 @@ use Rattle.schemars_json.specs.Json.{Text}
 use Rattle.serde_json.specs.Data.{no_members}
 use Rattle.schemars_shapes.specs.declared.shape.IntKind.TheVariants.{U8, I32, I128}
 use Rattle.schemars_shapes.specs.Shape.{Shape, Field, Required, without_notes, in_place, int, non_zero, formatted, char}
-use Rattle.schemars_shapes.specs.Shape.{option, seq, struct}
+use Rattle.schemars_shapes.specs.Shape.{option, seq, struct, external, untagged, Payload, Variant, no_payload, newtype_payload}
+use Rattle.schemars_shapes.specs.Shape.{tuple_payload, struct_payload}
 use Rattle.schemars_types.specs.Rows.{Row}
 use Rattle.schemagen_input.specs.Input.{input_of, required}
 
@@ -19,6 +20,9 @@ named name shape = record { id = name; name = name; entry = Some (without_notes 
 
 field : Text → ℕ → Required → Field
 field name ty need = record { name = name; ty = ty; required = need; notes = no_members }
+
+variant : Text → Payload → Variant
+variant name payload = record { name = name; payload = payload; notes = no_members }
 
 -- the input that a text says
 said : Text → Option (List Row × ℕ)
@@ -81,6 +85,54 @@ any_row : said
     ≡ Some (named (codes "a") (seq 1) ∷ named (codes "b") (seq 1) ∷ [], 0)
 unfolding serde_json_on_literals said named
 any_row = refl
+
+-- a variant is a unit where nothing else is said
+unit_and_newtype : said
+    (codes "{\"types\":[{\"id\":\"E\",\"name\":\"E\",\"shape\":{\"external\":{\"variants\":[{\"name\":\"A\"},{\"payload\":{\"newtype\":0},\"notes\":{},\"name\":\"B\"}]}}}],\"root\":0}")
+    ≡ Some (named (codes "E") (external (variant (codes "A") no_payload ∷ variant (codes "B") (newtype_payload 0) ∷ [])) ∷ [], 0)
+unfolding serde_json_on_literals said named variant
+unit_and_newtype = refl
+
+other_payloads : said
+    (codes "{\"types\":[{\"id\":\"E\",\"name\":\"E\",\"shape\":{\"untagged\":{\"variants\":[{\"name\":\"A\",\"payload\":\"unit\"},{\"name\":\"B\",\"payload\":{\"tuple\":[0,0]}},{\"name\":\"C\",\"payload\":{\"struct\":{\"closed\":true,\"fields\":[{\"name\":\"b\",\"type\":0}]}}}]}}}],\"root\":0}")
+    ≡ Some (
+      named (codes "E") (untagged (
+          variant (codes "A") no_payload ∷ variant (codes "B") (tuple_payload (0 ∷ 0 ∷ []))
+          ∷ variant (codes "C") (struct_payload (field (codes "b") 0 (required true true) ∷ []) true) ∷ [])) ∷ [],
+      0,
+    )
+unfolding serde_json_on_literals said named field variant
+other_payloads = refl
+
+no_variants : said (codes "{\"types\":[{\"id\":\"E\",\"name\":\"E\",\"shape\":{\"untagged\":{}}}],\"root\":0}")
+    ≡ Some (named (codes "E") (untagged []) ∷ [], 0)
+unfolding serde_json_on_literals said named
+no_variants = refl
+
+another_member_of_a_variant : said
+    (codes "{\"types\":[{\"id\":\"E\",\"name\":\"E\",\"shape\":{\"external\":{\"variants\":[{\"name\":\"A\",\"type\":0}]}}}],\"root\":0}") ≡ None
+unfolding serde_json_on_literals said
+another_member_of_a_variant = refl
+
+unknown_payload : said
+    (codes "{\"types\":[{\"id\":\"E\",\"name\":\"E\",\"shape\":{\"external\":{\"variants\":[{\"name\":\"A\",\"payload\":\"none\"}]}}}],\"root\":0}") ≡ None
+unfolding serde_json_on_literals said
+unknown_payload = refl
+
+variant_with_notes : said
+    (codes "{\"types\":[{\"id\":\"E\",\"name\":\"E\",\"shape\":{\"external\":{\"variants\":[{\"name\":\"A\",\"notes\":{\"title\":\"t\"}}]}}}],\"root\":0}") ≡ None
+unfolding serde_json_on_literals said
+variant_with_notes = refl
+
+field_of_a_variant_with_notes : said
+    (codes "{\"types\":[{\"id\":\"E\",\"name\":\"E\",\"shape\":{\"untagged\":{\"variants\":[{\"name\":\"A\",\"payload\":{\"struct\":{\"fields\":[{\"name\":\"b\",\"type\":0,\"notes\":{\"title\":\"t\"}}]}}}]}}}],\"root\":0}") ≡ None
+unfolding serde_json_on_literals said
+field_of_a_variant_with_notes = refl
+
+variant_of_no_row : said
+    (codes "{\"types\":[{\"id\":\"E\",\"name\":\"E\",\"shape\":{\"untagged\":{\"variants\":[{\"name\":\"A\",\"payload\":{\"newtype\":1}}]}}}],\"root\":0}") ≡ None
+unfolding serde_json_on_literals said
+variant_of_no_row = refl
 
 required_by_one_contract : said
     (codes "{\"types\":[{\"id\":\"a\",\"name\":\"a\",\"shape\":{\"struct\":{\"fields\":[{\"name\":\"b\",\"type\":0,\"required\":{\"serialize\":true}}]}}}],\"root\":0}") ≡ None

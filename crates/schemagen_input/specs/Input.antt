@@ -9,10 +9,11 @@ use Rattle.schemars_json.specs.Json.{Text}
 use Rattle.schemars_json.specs.OrderedText.{is_listed}
 use Rattle.schemars_shapes.specs.declared.shape.IntKind.{IntKind}
 use Rattle.schemars_shapes.specs.declared.shape.IntKind.TheVariants.{I8, I16, I32, I64, I128, Isize, U8, U16, U32, U64, U128, Usize}
-use Rattle.schemars_shapes.specs.Shape.{Required, Field, Shape, Entry, null as null_shape, bool, int, non_zero}
+use Rattle.schemars_shapes.specs.Shape.{Required, Field, Payload, Variant, Shape, Entry, no_payload, newtype_payload, tuple_payload}
+use Rattle.schemars_shapes.specs.Shape.{struct_payload, null as null_shape, bool, int, non_zero}
 use Rattle.schemars_shapes.specs.Shape.{number as number_shape, text, char, formatted, any, bytes, schema_itself}
 use Rattle.schemars_shapes.specs.Shape.{option, seq, set, array as array_shape, up_to, tuple, struct, newtype, result, bound, range}
-use Rattle.schemars_shapes.specs.Shape.{either}
+use Rattle.schemars_shapes.specs.Shape.{either, external, untagged}
 use Rattle.schemars_shapes.specs.Shape.{numbers_of}
 use Rattle.schemars_types.specs.Rows.{Row, with_entry}
 
@@ -101,11 +102,74 @@ fields_in (item d ds) = option_and_then (λ f. option_map (λ fs. f ∷ fs) (fie
 abbrev pub list_in : Data → Option (List Field)
 list_in d = optional [] (λ e. option_and_then fields_in (as_array e)) (codes "fields") d
 
-abbrev pub struct_in : Data → Option Shape
-struct_in d =
+-- the fields, and whether other keys are excluded
+abbrev pub fields_said : Data → Option (List Field × Bool)
+fields_said d =
     if has_only (codes "fields" ∷ codes "closed" ∷ []) d
-    then option_and_then (λ fields. option_map (struct fields) (optional false as_bool (codes "closed") d)) (list_in d)
+    then option_and_then (λ fields. option_map (λ closed. (fields, closed)) (optional false as_bool (codes "closed") d)) (list_in d)
     else None
+
+abbrev pub struct_in : Data → Option Shape
+struct_in d = option_map (λ p. struct p.0 p.1) (fields_said d)
+
+-- ---- lists of rows
+
+abbrev pub numbers_in : Items → Option (List ℕ)
+numbers_in no_items = Some []
+numbers_in (item d ds) = option_and_then (λ n. option_map (λ ns. n ∷ ns) (numbers_in ds)) (number_in d)
+
+abbrev pub parts_in : Data → Option (List ℕ)
+parts_in d = option_and_then numbers_in (as_array d)
+
+-- ---- variants
+
+-- the payload that is said by a text
+abbrev pub payload_named : Text → Option Payload
+payload_named t = if bytes_eq t (codes "unit") then Some no_payload else None
+
+-- and those that are said by an object with this one member
+abbrev pub payload_under : Text → Data → Option Payload
+payload_under name d =
+    if bytes_eq name (codes "newtype") then option_map newtype_payload (number_in d) else
+    (if bytes_eq name (codes "tuple") then option_map tuple_payload (parts_in d)
+    else (if bytes_eq name (codes "struct") then option_map (λ p. struct_payload p.0 p.1) (fields_said d) else None))
+
+abbrev pub payload_in : Data → Option Payload
+payload_in null = None
+payload_in (boolean b) = None
+payload_in (number n) = None
+payload_in (string t) = payload_named t
+payload_in (array ds) = None
+payload_in (object ms) = option_and_then (λ m. payload_under m.0 m.1) (lone_in ms)
+
+abbrev pub variant_keys : List Text
+variant_keys = codes "name" ∷ codes "notes" ∷ codes "payload" ∷ []
+
+-- a variant whose members are known by name: a unit where the payload is missing
+abbrev pub variant_of_members : Data → Option Variant
+variant_of_members d =
+    option_and_then (λ name. option_and_then (λ payload. option_map (λ notes. record { name = name; payload = payload; notes = notes })
+    (notes_in d)) (optional no_payload payload_in (codes "payload") d)) (needed as_str (codes "name") d)
+
+abbrev pub variant_in : Data → Option Variant
+variant_in d = if has_only variant_keys d then variant_of_members d else None
+
+abbrev pub variants_in : Items → Option (List Variant)
+variants_in no_items = Some []
+variants_in (item d ds) = option_and_then (λ x. option_map (λ xs. x ∷ xs) (variants_in ds)) (variant_in d)
+
+-- the variants of an enum: none where they are missing
+abbrev pub enum_in : Data → Option (List Variant)
+enum_in d =
+    if has_only (codes "variants" ∷ []) d
+    then optional [] (λ e. option_and_then variants_in (as_array e)) (codes "variants") d
+    else None
+
+abbrev pub external_in : Data → Option Shape
+external_in d = option_map external (enum_in d)
+
+abbrev pub untagged_in : Data → Option Shape
+untagged_in d = option_map untagged (enum_in d)
 
 -- ---- shapes
 
@@ -118,12 +182,8 @@ shape_named t =
     (if bytes_eq t (codes "any") then Some any
     else (if bytes_eq t (codes "bytes") then Some bytes else (if bytes_eq t (codes "schema") then Some schema_itself else None)))))))
 
-abbrev pub numbers_in : Items → Option (List ℕ)
-numbers_in no_items = Some []
-numbers_in (item d ds) = option_and_then (λ n. option_map (λ ns. n ∷ ns) (numbers_in ds)) (number_in d)
-
 abbrev pub tuple_in : Data → Option Shape
-tuple_in d = option_map tuple (option_and_then numbers_in (as_array d))
+tuple_in d = option_map tuple (parts_in d)
 
 -- the row of a list's items, and their number under this name
 abbrev pub counted_in : Text → Data → Option (ℕ × ℕ)
@@ -165,7 +225,7 @@ list_under name d =
     else (if bytes_eq name (codes "array") then array_in d else (if bytes_eq name (codes "up_to") then up_to_in d
     else (if bytes_eq name (codes "tuple") then tuple_in d else fixed_under name d))))
 
--- other shapes without fields
+-- other shapes without fields and variants
 abbrev pub plain_under : Text → Data → Option Shape
 plain_under name d =
     if bytes_eq name (codes "int") then option_map int (kind_in d) else
@@ -176,7 +236,10 @@ plain_under name d =
 
 -- and those that are said by an object with this one member
 abbrev pub shape_under : Text → Data → Option Shape
-shape_under name d = if bytes_eq name (codes "struct") then struct_in d else plain_under name d
+shape_under name d =
+    if bytes_eq name (codes "struct") then struct_in d else
+    (if bytes_eq name (codes "external") then external_in d
+    else (if bytes_eq name (codes "untagged") then untagged_in d else plain_under name d))
 
 abbrev pub shape_in : Data → Option Shape
 shape_in null = None
@@ -230,12 +293,23 @@ abbrev pub are_none : Members → Bool
 are_none no_members = true
 are_none (member k d ms) = false
 
--- no field of a struct has notes
+-- no field of a variant has notes
+abbrev pub is_payload_bare : Payload → Bool
+is_payload_bare (struct_payload fields closed) = list_all (λ f. are_none f.notes) fields
+is_payload_bare _ = true
+
+-- neither the variant nor a field of it has notes
+abbrev pub is_variant_bare : Variant → Bool
+is_variant_bare x = are_none x.notes && is_payload_bare x.payload
+
+-- no field of a struct has notes, no variant of an enum, and no field of a variant
 abbrev pub are_fields_bare : Shape → Bool
 are_fields_bare (struct fields closed) = list_all (λ f. are_none f.notes) fields
+are_fields_bare (external xs) = list_all is_variant_bare xs
+are_fields_bare (untagged xs) = list_all is_variant_bare xs
 are_fields_bare _ = true
 
--- neither the row nor a field of it has notes
+-- neither the row nor a field or a variant of it has notes
 abbrev pub is_bare : Entry → Bool
 is_bare e = are_none e.notes && are_fields_bare e.shape
 

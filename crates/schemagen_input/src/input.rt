@@ -3,9 +3,12 @@ ghost use Rattle.std.specs.Prelude.{◌≡◌, ◌&&◌, ◌∷◌, [], false, t
 ghost use Rattle.std.specs.List.{list_all};
 ghost use Rattle.serde_json.specs.View.{view, items_view, members_view};
 ghost use Rattle.schemars_shapes.specs.Shape.{shape_of, field_of, fields_view, required_of, entry_of, formatted, struct};
+ghost use Rattle.schemars_shapes.specs.Shape.{no_payload, payload_of, variant_of};
 ghost use Rattle.schemars_json.specs.OrderedText.{is_listed};
 ghost use Rattle.schemagen_input.specs.Input.{has_only, lone_in, number_in, notes_in, kind_named, kind_in, required};
-ghost use Rattle.schemagen_input.specs.Input.{required_each, required_in, field_in, fields_in, list_in, struct_in};
+ghost use Rattle.schemagen_input.specs.Input.{required_each, required_in, field_in, fields_in, list_in, fields_said, struct_in};
+ghost use Rattle.schemagen_input.specs.Input.{parts_in, payload_named, payload_under, payload_in, variant_in, variants_in};
+ghost use Rattle.schemagen_input.specs.Input.{enum_in, external_in, untagged_in, is_payload_bare, is_variant_bare};
 ghost use Rattle.schemagen_input.specs.Input.{counted_in, array_in, up_to_in, numbers_in, tuple_in, list_under};
 ghost use Rattle.schemagen_input.specs.Input.{plain_under, two_in, result_in, either_in, fixed_under};
 ghost use Rattle.schemagen_input.specs.Input.{shape_named, shape_under, shape_in, entry_in, optional, needed};
@@ -14,7 +17,7 @@ ghost use Rattle.schemagen_input.specs.Reading.{as_input, headings_in, reserved_
 ghost use Rattle.serde_json.specs.Find.{as_bool, as_str, as_array};
 
 use schemars_types::{
-    Field, Fields, IntKind, Required, Shape, TypeEntry, TypeNo, Types, TypesError,
+    Field, Fields, IntKind, Payload, Required, Shape, TypeEntry, TypeNo, Types, TypesError, Variant,
 };
 use serde_json::{Map, Value};
 use std::alloc::{AllocError, AllocFailed, Global};
@@ -277,9 +280,9 @@ fn list_in(alloc: Global, value: &Value) -> Result<Vec<Field>, InputError>
     }
 }
 
-fn struct_in(alloc: Global, value: &Value) -> Result<Shape, InputError>
-    ensures ok { IfOk result (λ s. struct_in (view value.now) ≡ Some (shape_of s)) }
-    ensures bad { IfErr result (λ e. e ≡ InputError.BadTable → struct_in (view value.now) ≡ None) }
+fn fields_said(alloc: Global, value: &Value) -> Result<Fields, InputError>
+    ensures ok { IfOk result (λ f. fields_said (view value.now) ≡ Some (fields_view f)) }
+    ensures bad { IfErr result (λ e. e ≡ InputError.BadTable → fields_said (view value.now) ≡ None) }
 {
     if !has_only(value, &["fields", "closed"]) {
         return Err(InputError::BadTable);
@@ -288,7 +291,144 @@ fn struct_in(alloc: Global, value: &Value) -> Result<Shape, InputError>
         return Err(InputError::BadTable);
     };
     let list = list_in(alloc, value)?;
-    Ok(Shape::Struct(Fields { list, closed }))
+    Ok(Fields { list, closed })
+}
+
+fn struct_in(alloc: Global, value: &Value) -> Result<Shape, InputError>
+    ensures ok { IfOk result (λ s. struct_in (view value.now) ≡ Some (shape_of s)) }
+    ensures bad { IfErr result (λ e. e ≡ InputError.BadTable → struct_in (view value.now) ≡ None) }
+{
+    let fields = fields_said(alloc, value)?;
+    Ok(Shape::Struct(fields))
+}
+
+fn payload_named(name: &str) -> Option<Payload>
+    ensures { option_map payload_of result ≡ payload_named name.now }
+{
+    match name {
+        "unit" => Some(Payload::Unit),
+        _ => None,
+    }
+}
+
+// What an object with this one member says that a variant has beside its name.
+fn payload_under(alloc: Global, name: &str, value: &Value) -> Result<Payload, InputError>
+    ensures ok { IfOk result (λ p. payload_under name.now (view value.now) ≡ Some (payload_of p)) }
+    ensures bad { IfErr result
+        (λ e. e ≡ InputError.BadTable → payload_under name.now (view value.now) ≡ None) }
+{
+    match name {
+        "newtype" => match number_in(value) {
+            Some(n) => Ok(Payload::Newtype(n)),
+            None => Err(InputError::BadTable),
+        },
+        "tuple" => match parts_in(alloc, value)? {
+            Some(parts) => Ok(Payload::Tuple(parts)),
+            None => Err(InputError::BadTable),
+        },
+        "struct" => {
+            let fields = fields_said(alloc, value)?;
+            Ok(Payload::Struct(fields))
+        }
+        _ => Err(InputError::BadTable),
+    }
+}
+
+fn payload_in(alloc: Global, value: &Value) -> Result<Payload, InputError>
+    ensures ok { IfOk result (λ p. payload_in (view value.now) ≡ Some (payload_of p)) }
+    ensures bad { IfErr result (λ e. e ≡ InputError.BadTable → payload_in (view value.now) ≡ None) }
+{
+    match value {
+        Value::String(name) => payload_named(name.as_str()).ok_or(InputError::BadTable),
+        Value::Object(members) => {
+            let Some((name, part)) = lone_member(members) else {
+                return Err(InputError::BadTable);
+            };
+            payload_under(alloc, name.as_str(), part)
+        }
+        _ => Err(InputError::BadTable),
+    }
+}
+
+// What a variant says under `payload`; where that is missing, it is a unit.
+fn payload_said(alloc: Global, value: &Value) -> Result<Payload, InputError>
+    ensures ok { IfOk result (λ p. optional no_payload payload_in (codes "payload") (view value.now)
+        ≡ Some (payload_of p)) }
+    ensures bad { IfErr result (λ e. e ≡ InputError.BadTable
+        → optional no_payload payload_in (codes "payload") (view value.now) ≡ None) }
+{
+    match value.get("payload") {
+        None => Ok(Payload::Unit),
+        Some(payload) => payload_in(alloc, payload),
+    }
+}
+
+const VARIANT_KEYS: [&str; 3] = ["name", "notes", "payload"];
+
+fn variant_in(alloc: Global, value: &Value) -> Result<Variant, InputError>
+    ensures ok { IfOk result (λ x. variant_in (view value.now) ≡ Some (variant_of x)) }
+    ensures bad { IfErr result (λ e. e ≡ InputError.BadTable → variant_in (view value.now) ≡ None) }
+{
+    if !has_only(value, &VARIANT_KEYS) {
+        return Err(InputError::BadTable);
+    }
+    let Some(name) = text_in(value, "name") else {
+        return Err(InputError::BadTable);
+    };
+    let notes = notes_in(alloc, value)?;
+    let payload = payload_said(alloc, value)?;
+    let name = String::from_str(alloc, name)?;
+    Ok(Variant {
+        name,
+        notes,
+        payload,
+    })
+}
+
+fn variants_in(alloc: Global, values: &[Value]) -> Result<Vec<Variant>, InputError>
+    ensures ok { IfOk result (λ v. variants_in (items_view values.now) ≡ Some (map variant_of v.items)) }
+    ensures bad { IfErr result
+        (λ e. e ≡ InputError.BadTable → variants_in (items_view values.now) ≡ None) }
+{
+    let mut variants = Vec::new(alloc);
+    for value in values {
+        let variant = variant_in(alloc, value)?;
+        variants.push(variant)?;
+    }
+    Ok(variants)
+}
+
+// The variants of an enum; there are none where they are missing.
+fn enum_in(alloc: Global, value: &Value) -> Result<Vec<Variant>, InputError>
+    ensures ok { IfOk result (λ v. enum_in (view value.now) ≡ Some (map variant_of v.items)) }
+    ensures bad { IfErr result (λ e. e ≡ InputError.BadTable → enum_in (view value.now) ≡ None) }
+{
+    if !has_only(value, &["variants"]) {
+        return Err(InputError::BadTable);
+    }
+    let Some(variants) = value.get("variants") else {
+        return Ok(Vec::new(alloc));
+    };
+    match variants.as_array() {
+        Some(values) => variants_in(alloc, values),
+        None => Err(InputError::BadTable),
+    }
+}
+
+fn external_in(alloc: Global, value: &Value) -> Result<Shape, InputError>
+    ensures ok { IfOk result (λ s. external_in (view value.now) ≡ Some (shape_of s)) }
+    ensures bad { IfErr result (λ e. e ≡ InputError.BadTable → external_in (view value.now) ≡ None) }
+{
+    let variants = enum_in(alloc, value)?;
+    Ok(Shape::External(variants))
+}
+
+fn untagged_in(alloc: Global, value: &Value) -> Result<Shape, InputError>
+    ensures ok { IfOk result (λ s. untagged_in (view value.now) ≡ Some (shape_of s)) }
+    ensures bad { IfErr result (λ e. e ≡ InputError.BadTable → untagged_in (view value.now) ≡ None) }
+{
+    let variants = enum_in(alloc, value)?;
+    Ok(Shape::Untagged(variants))
 }
 
 // The row of a list's items, and their number under this name.
@@ -330,14 +470,21 @@ fn numbers_in(alloc: Global, values: &[Value]) -> Result<Option<Vec<TypeNo>>, Al
     Ok(Some(numbers))
 }
 
+// The rows that a list says.
+fn parts_in(alloc: Global, value: &Value) -> Result<Option<Vec<TypeNo>>, AllocError>
+    ensures { IfOk result (λ r. option_map (λ v. v.items) r ≡ parts_in (view value.now)) }
+{
+    match value.as_array() {
+        Some(values) => numbers_in(alloc, values),
+        None => Ok(None),
+    }
+}
+
 fn tuple_in(alloc: Global, value: &Value) -> Result<Option<Shape>, AllocError>
     ensures { IfOk result (λ s. option_map shape_of s ≡ tuple_in (view value.now)) }
 {
-    let Some(values) = value.as_array() else {
-        return Ok(None);
-    };
-    let numbers = numbers_in(alloc, values)?;
-    Ok(numbers.map(Shape::Tuple))
+    let parts = parts_in(alloc, value)?;
+    Ok(parts.map(Shape::Tuple))
 }
 
 // The shape that an object with this one member says.
@@ -348,6 +495,8 @@ fn shape_under(alloc: Global, name: &str, value: &Value) -> Result<Shape, InputE
 {
     match name {
         "struct" => struct_in(alloc, value),
+        "external" => external_in(alloc, value),
+        "untagged" => untagged_in(alloc, value),
         _ => match plain_under(alloc, name, value)? {
             Some(shape) => Ok(shape),
             None => Err(InputError::BadTable),
@@ -355,7 +504,7 @@ fn shape_under(alloc: Global, name: &str, value: &Value) -> Result<Shape, InputE
     }
 }
 
-// A shape without fields.
+// A shape without fields and variants.
 fn plain_under(alloc: Global, name: &str, value: &Value) -> Result<Option<Shape>, AllocError>
     ensures { IfOk result (λ s. option_map shape_of s ≡ plain_under name.now (view value.now)) }
 {
@@ -490,16 +639,44 @@ fn are_bare(fields: &[Field]) -> bool
     true
 }
 
+fn is_payload_bare(payload: &Payload) -> bool
+    ensures { result ≡ is_payload_bare (payload_of payload.now) }
+{
+    match payload {
+        Payload::Struct(fields) => are_bare(&fields.list),
+        _ => true,
+    }
+}
+
+// Whether neither the variant nor a field of it has notes.
+fn is_variant_bare(variant: &Variant) -> bool
+    ensures { result ≡ is_variant_bare (variant_of variant.now) }
+{
+    variant.notes.is_empty() && is_payload_bare(&variant.payload)
+}
+
+fn are_variants_bare(variants: &[Variant]) -> bool
+    ensures { result ≡ list_all is_variant_bare (map variant_of variants.now) }
+{
+    for variant in variants {
+        if !is_variant_bare(variant) {
+            return false;
+        }
+    }
+    true
+}
+
 fn are_fields_bare(shape: &Shape) -> bool
     ensures { result ≡ are_fields_bare (shape_of shape.now) }
 {
     match shape {
         Shape::Struct(fields) => are_bare(&fields.list),
+        Shape::External(variants) | Shape::Untagged(variants) => are_variants_bare(variants),
         _ => true,
     }
 }
 
-// Whether neither the row nor a field of it has notes.
+// Whether neither the row nor a field or a variant of it has notes.
 fn is_bare(entry: &TypeEntry) -> bool
     ensures { result ≡ is_bare (entry_of entry.now) }
 {
@@ -556,7 +733,7 @@ fn items_in<'v>(value: &'v Value, name: &str) -> Option<&'v Vec<Value>>
 /// The value is an object with the members `types`, a list of rows, and `root`, a number. Whether
 /// that is a row's is not asked here. A row has the members `id`, `name` and `shape`, and may have
 /// `inline` and `notes`. No two rows have one id, and each number in a shape is a row's: the row's
-/// own, or one before or behind it. No row and no field has notes.
+/// own, or one before or behind it. No row, no field and no variant has notes.
 pub fn read_input(alloc: Global, value: &Value) -> Result<(Types, TypeNo), InputError>
     ensures ok { IfOk result (λ t. table_in (view value.now) ≡ Some (t.0, t.1)) }
     ensures complete { IfOk result (λ t. is_complete t.0 ≡ true) }

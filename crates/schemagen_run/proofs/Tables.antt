@@ -13,18 +13,21 @@ use Rattle.serde_json.specs.Written.{has_float, members_have_float}
 use Rattle.schemars_json.specs.Json.{Text}
 use Rattle.schemars_schema.specs.Annotations.{AreNotes}
 use Rattle.schemars_shapes.specs.Shape as shape
-use Rattle.schemars_shapes.specs.Shape.{Field, Entry, Shape, numbers_of, names_of}
+use Rattle.schemars_shapes.specs.Shape.{Field, Entry, Shape, Payload, Variant, no_payload, newtype_payload, tuple_payload, struct_payload}
+use Rattle.schemars_shapes.specs.Shape.{names_of, payload_names}
+use Rattle.schemars_shapes.specs.Repeated.{AreDistinctLists}
 use Rattle.schemars_types.specs.Rows.{Row, entry_at}
 use Rattle.schemars_types.specs.Faults.{IsChecked}
 use Rattle.schemars_documents.specs.declared.contract.Contract.{Contract}
 use Rattle.schemars_headline.specs.Headline.{RootHeadline, IsDraftPath}
 use Rattle.schemars_headline.specs.Calls.{IsLastRootCall}
-use Rattle.schemars_documents.specs.PlainTable.{IsNoName, AreDistinct, AreNoted, IsPlainShape, IsPlainEntry}
-use Rattle.schemars_documents.specs.PlainTable.{IsPlainTable, FieldsHaveNoFloat, ShapeHasNoFloat, EntryHasNoFloat}
-use Rattle.schemars_documents.specs.PlainTable.{HasNoFloat}
+use Rattle.schemars_documents.specs.PlainTable.{IsNoName, AreDistinct, AreNoted, IsNoVariant, AreDistinctVariants}
+use Rattle.schemars_documents.specs.PlainTable.{IsPlainPayload, ArePlainVariants, IsPlainShape, IsPlainEntry, IsPlainTable}
+use Rattle.schemars_documents.specs.PlainTable.{FieldsHaveNoFloat, PayloadHasNoFloat, VariantsHaveNoFloat, ShapeHasNoFloat}
+use Rattle.schemars_documents.specs.PlainTable.{EntryHasNoFloat, HasNoFloat}
 use Rattle.schemars_headline.specs.State.{Settings, State, path_of, HasOwnDefinitions}
-use Rattle.schemagen_input.specs.Input.{all_differ, ids_of, are_none, are_fields_bare, is_bare, refers_within, fits, all_fit}
-use Rattle.schemagen_input.specs.Input.{is_complete, is_table, table_in, input_of}
+use Rattle.schemagen_input.specs.Input.{all_differ, ids_of, are_none, is_payload_bare, is_variant_bare, are_fields_bare, is_bare}
+use Rattle.schemagen_input.specs.Input.{refers_within, fits, all_fit, is_complete, is_table, table_in, input_of}
 use Rattle.schemagen_run.specs.Run.{settings_for, fresh, IsDocumentOf}
 
 pub both : (a b : Bool) → a && b ≡ true → (a ≡ true) × (b ≡ true)
@@ -72,6 +75,19 @@ bare_have_no_float (f ∷ fs) h =
     let parts = both (are_none f.notes) (list_all (λ g. are_none g.notes) fs) h in
     (none_have_float f.notes parts.0, bare_have_no_float fs parts.1)
 
+payload_without_float : (p : Payload) → is_payload_bare p ≡ true → PayloadHasNoFloat p
+payload_without_float no_payload h = tt
+payload_without_float (newtype_payload n) h = tt
+payload_without_float (tuple_payload ns) h = tt
+payload_without_float (struct_payload fields closed) h = bare_have_no_float fields h
+
+variants_without_float : (xs : List Variant) → list_all is_variant_bare xs ≡ true → VariantsHaveNoFloat xs
+variants_without_float [] h = tt
+variants_without_float (x ∷ xs) h =
+    let parts = both (is_variant_bare x) (list_all is_variant_bare xs) h in
+    let own = both (are_none x.notes) (is_payload_bare x.payload) parts.0 in
+    (none_have_float x.notes own.0, payload_without_float x.payload own.1, variants_without_float xs parts.1)
+
 shape_without_float : (s : Shape) → are_fields_bare s ≡ true → ShapeHasNoFloat s
 shape_without_float (shape.struct fields closed) h = bare_have_no_float fields h
 shape_without_float shape.null h = tt
@@ -96,8 +112,10 @@ shape_without_float (shape.result a b) h = tt
 shape_without_float (shape.bound n) h = tt
 shape_without_float (shape.range n) h = tt
 shape_without_float (shape.either a b) h = tt
+shape_without_float (shape.external xs) h = variants_without_float xs h
+shape_without_float (shape.untagged xs) h = variants_without_float xs h
 
--- ---- names of fields
+-- ---- names of fields and of variants
 
 flipped : (a b : Text) → bytes_eq a b ≡ false → bytes_eq b a ≡ false
 flipped a b other = either (bytes_eq b a) refl
@@ -115,8 +133,31 @@ unfolding IsDistinct
 names_are_distinct [] h = tt
 names_are_distinct (f ∷ fs) h = (no_name f.name fs h.0, names_are_distinct fs h.1)
 
-plain_shape : (s : Shape) → are_fields_bare s ≡ true → IsDistinct bytes_eq (names_of s) → IsPlainShape s
-plain_shape (shape.struct fields closed) h differ = (names_are_distinct fields differ, bare_are_noted fields h)
+no_variant : (k : Text) (xs : List Variant) → AllByRecursion (λ t. bytes_eq k t ≡ false) (map (λ x. x.name) xs) → IsNoVariant k xs
+no_variant k [] h = tt
+no_variant k (x ∷ xs) h = (flipped k x.name h.0, no_variant k xs h.1)
+
+variants_are_distinct : (xs : List Variant) → IsDistinct bytes_eq (map (λ x. x.name) xs) → AreDistinctVariants xs
+unfolding IsDistinct
+variants_are_distinct [] h = tt
+variants_are_distinct (x ∷ xs) h = (no_variant x.name xs h.0, variants_are_distinct xs h.1)
+
+plain_payload : (p : Payload) → is_payload_bare p ≡ true → IsDistinct bytes_eq (payload_names p) → IsPlainPayload p
+plain_payload no_payload h differ = tt
+plain_payload (newtype_payload n) h differ = tt
+plain_payload (tuple_payload ns) h differ = tt
+plain_payload (struct_payload fields closed) h differ = (names_are_distinct fields differ, bare_are_noted fields h)
+
+plain_variants : (xs : List Variant) → list_all is_variant_bare xs ≡ true → AreDistinctLists (map (λ x. payload_names x.payload) xs)
+    → ArePlainVariants xs
+plain_variants [] h differ = tt
+plain_variants (x ∷ xs) h differ =
+    let parts = both (is_variant_bare x) (list_all is_variant_bare xs) h in
+    let own = both (are_none x.notes) (is_payload_bare x.payload) parts.0 in
+    (none_are_notes x.notes own.0, plain_payload x.payload own.1 differ.0, plain_variants xs parts.1 differ.1)
+
+plain_shape : (s : Shape) → are_fields_bare s ≡ true → AreDistinctLists (names_of s) → IsPlainShape s
+plain_shape (shape.struct fields closed) h differ = (names_are_distinct fields differ.0, bare_are_noted fields h)
 plain_shape shape.null h differ = tt
 plain_shape shape.bool h differ = tt
 plain_shape (shape.int k) h differ = tt
@@ -139,6 +180,8 @@ plain_shape (shape.result a b) h differ = tt
 plain_shape (shape.bound n) h differ = tt
 plain_shape (shape.range n) h differ = tt
 plain_shape (shape.either a b) h differ = tt
+plain_shape (shape.external xs) h differ = (variants_are_distinct xs differ.0, plain_variants xs h differ.1)
+plain_shape (shape.untagged xs) h differ = plain_variants xs h differ.1
 
 -- ---- the table
 
@@ -151,7 +194,7 @@ is_plain_table rows root table checked n = by (entry_at rows n) refl
         let bare = entry_is_bare rows root n e table there in (
           none_are_notes e.notes bare.0,
           plain_shape e.shape bare.1 (subst
-              (λ (o : Option Entry). IsDistinct bytes_eq (option_map_or (λ f. names_of f.shape) o [])) there (checked.names_differ n)),
+              (λ (o : Option Entry). AreDistinctLists (option_map_or (λ f. names_of f.shape) o [])) there (checked.names_differ n)),
         )
 
 has_no_float : (rows : List Row) (root : ℕ) → is_table rows root ≡ true → HasNoFloat rows

@@ -4,7 +4,7 @@ use Rattle.serde_json.specs.Written.{members_have_float}
 use Rattle.schemars_json.specs.Json.{Text}
 use Rattle.schemars_schema.specs.Annotations.{AreNotes}
 use Rattle.schemars_shapes.specs.Shape as shape
-use Rattle.schemars_shapes.specs.Shape.{Shape, Field, Entry}
+use Rattle.schemars_shapes.specs.Shape.{Shape, Field, Entry, Payload, Variant, no_payload, newtype_payload, tuple_payload, struct_payload}
 use Rattle.schemars_types.specs.Rows.{Row, entry_at}
 
 -- no field has this name
@@ -21,6 +21,31 @@ AreDistinct (x ∷ xs) = IsNoName x.name xs × AreDistinct xs
 abbrev pub AreNoted : List Field → Type 0
 AreNoted [] = Unit {0}
 AreNoted (x ∷ xs) = AreNotes x.notes × AreNoted xs
+
+-- ---- variants
+
+-- no variant has this name
+abbrev pub IsNoVariant : Text → List Variant → Type 0
+IsNoVariant k [] = Unit {0}
+IsNoVariant k (x ∷ xs) = (bytes_eq x.name k ≡ false) × IsNoVariant k xs
+
+-- the names of the variants are all different
+abbrev pub AreDistinctVariants : List Variant → Type 0
+AreDistinctVariants [] = Unit {0}
+AreDistinctVariants (x ∷ xs) = IsNoVariant x.name xs × AreDistinctVariants xs
+
+abbrev pub IsPlainPayload : Payload → Type 0
+IsPlainPayload no_payload = Unit {0}
+IsPlainPayload (newtype_payload n) = Unit {0}
+IsPlainPayload (tuple_payload ns) = Unit {0}
+IsPlainPayload (struct_payload xs closed) = AreDistinct xs × AreNoted xs
+
+-- the notes of each variant and of its fields are annotations
+abbrev pub ArePlainVariants : List Variant → Type 0
+ArePlainVariants [] = Unit {0}
+ArePlainVariants (x ∷ xs) = AreNotes x.notes × IsPlainPayload x.payload × ArePlainVariants xs
+
+-- ---- shapes
 
 abbrev pub IsPlainShape : Shape → Type 0
 IsPlainShape shape.null = Unit {0}
@@ -46,12 +71,15 @@ IsPlainShape (shape.result t e) = Unit {0}
 IsPlainShape (shape.bound n) = Unit {0}
 IsPlainShape (shape.range n) = Unit {0}
 IsPlainShape (shape.either l r) = Unit {0}
+IsPlainShape (shape.external xs) = AreDistinctVariants xs × ArePlainVariants xs
+IsPlainShape (shape.untagged xs) = ArePlainVariants xs
 
 abbrev pub IsPlainEntry : Option Entry → Type 0
 IsPlainEntry None = Unit {0}
 IsPlainEntry (Some e) = AreNotes e.notes × IsPlainShape e.shape
 
--- the notes of rows and fields are annotations alone, and the names of each struct's fields are all different
+-- the notes of rows, fields and variants are annotations alone, and the names of each list of fields are all different, and of the
+-- variants that are tagged by their names
 abbrev pub IsPlainTable : List Row → Type 0
 IsPlainTable rows = (n : ℕ) → IsPlainEntry (entry_at rows n)
 
@@ -60,6 +88,16 @@ IsPlainTable rows = (n : ℕ) → IsPlainEntry (entry_at rows n)
 abbrev pub FieldsHaveNoFloat : List Field → Type 0
 FieldsHaveNoFloat [] = Unit {0}
 FieldsHaveNoFloat (x ∷ xs) = (members_have_float x.notes ≡ false) × FieldsHaveNoFloat xs
+
+abbrev pub PayloadHasNoFloat : Payload → Type 0
+PayloadHasNoFloat no_payload = Unit {0}
+PayloadHasNoFloat (newtype_payload n) = Unit {0}
+PayloadHasNoFloat (tuple_payload ns) = Unit {0}
+PayloadHasNoFloat (struct_payload xs closed) = FieldsHaveNoFloat xs
+
+abbrev pub VariantsHaveNoFloat : List Variant → Type 0
+VariantsHaveNoFloat [] = Unit {0}
+VariantsHaveNoFloat (x ∷ xs) = (members_have_float x.notes ≡ false) × PayloadHasNoFloat x.payload × VariantsHaveNoFloat xs
 
 abbrev pub ShapeHasNoFloat : Shape → Type 0
 ShapeHasNoFloat shape.null = Unit {0}
@@ -85,6 +123,8 @@ ShapeHasNoFloat (shape.result t e) = Unit {0}
 ShapeHasNoFloat (shape.bound n) = Unit {0}
 ShapeHasNoFloat (shape.range n) = Unit {0}
 ShapeHasNoFloat (shape.either l r) = Unit {0}
+ShapeHasNoFloat (shape.external xs) = VariantsHaveNoFloat xs
+ShapeHasNoFloat (shape.untagged xs) = VariantsHaveNoFloat xs
 
 abbrev pub EntryHasNoFloat : Option Entry → Type 0
 EntryHasNoFloat None = Unit {0}

@@ -17,7 +17,7 @@ use Rattle.schemars_cycles.specs.Walks.{Walk, one, then}
 use Rattle.schemars_types.specs.Edges.{DirectEdge, SameValueEdge, names_at}
 use Rattle.schemars_types.specs.Faults.{IsUndefined, HasRepeated, IsAccepted}
 use Rattle.schemars_types.specs.Meaning.{Contract, Deserialize, Serialize, belongs_within, every_member, member_fits, is_required}
-use Rattle.schemars_types.proofs.Accepted.{never_repeated}
+use Rattle.schemars_types.proofs.Accepted.{never_first_repeated}
 use Rattle.schemars_headline.specs.Headline.{MeansItsType}
 
 abbrev next : Field
@@ -51,8 +51,8 @@ is_defined (suc n) u = absurd (omega (arith, u.0))
 
 differ : (n : ℕ) → ¬ HasRepeated endless n
 unfolding IsDistinct
-differ zero h = never_repeated (names_at endless 0) h.0 (tt, tt) h.1
-differ (suc n) h = never_repeated (names_at endless (suc n)) h.0 tt h.1
+differ zero h = never_first_repeated (names_at endless 0) h.0 ((tt, tt), tt) h.1
+differ (suc n) h = never_first_repeated (names_at endless (suc n)) h.0 tt h.1
 
 pub endless_accepted : IsAccepted endless
 endless_accepted = record {

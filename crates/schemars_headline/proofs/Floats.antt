@@ -20,17 +20,19 @@ use Rattle.schemars_schema.specs.Acceptance.{is_null}
 use Rattle.schemars_rewrite.specs.NullLaw.{zero_schema, text_items}
 use Rattle.schemars_shapes.specs.IntKind.{format_of}
 use Rattle.schemars_shapes.specs.Shape as shape
-use Rattle.schemars_shapes.specs.Shape.{Shape, Entry, Field}
+use Rattle.schemars_shapes.specs.Shape.{Shape, Entry, Field, Payload, Variant, no_payload, newtype_payload, tuple_payload, struct_payload}
 use Rattle.schemars_types.specs.Rows.{Row, entry_at}
 use Rattle.schemars_types.specs.Meaning.{Contract, Deserialize, Serialize, least_of, greatest_of}
 use Rattle.schemars_documents.specs.Documents.{annotated, with_title, with_meta_schema, root_document, int_keywords}
 use Rattle.schemars_documents.specs.Documents.{is_signed, bytes_document, required_names}
 use Rattle.schemars_templates.specs.Template.{Template, finished, row, list, members, nullable, noted, Templates, no_templates}
 use Rattle.schemars_templates.specs.Template.{template, rows_of, left, keyed, filled, filled_in}
-use Rattle.schemars_templates.specs.OfShape.{KeywordTemplate, templates_of, property, map_template, template_of}
-use Rattle.schemars_templates.specs.OfShape.{entry_template}
+use Rattle.schemars_templates.specs.OfShape.{KeywordTemplate, templates_of, property, map_template, tuple_template, struct_template}
+use Rattle.schemars_templates.specs.OfShape.{payload_template, named_template, is_bare_unit, bare_units, other_items, choice_of}
+use Rattle.schemars_templates.specs.OfShape.{payload_item, untagged_template, template_of, entry_template}
 use Rattle.schemars_templates.specs.Describes.{IsOwnDocument, IsWritten, Describes}
-use Rattle.schemars_documents.specs.PlainTable.{FieldsHaveNoFloat, ShapeHasNoFloat, EntryHasNoFloat, HasNoFloat}
+use Rattle.schemars_documents.specs.PlainTable.{FieldsHaveNoFloat, PayloadHasNoFloat, VariantsHaveNoFloat, ShapeHasNoFloat}
+use Rattle.schemars_documents.specs.PlainTable.{EntryHasNoFloat, HasNoFloat}
 use Rattle.schemars_schema.specs.Edits.{without, replaced}
 use Rattle.schemars_schema.specs.Placing.{placed, placed_at, tokens_of}
 use Rattle.schemars_documents.specs.ContractOf.{contract_of}
@@ -250,6 +252,56 @@ map_whole (e ∷ es) no_items true h g = (refl, (h, (refl, tt)))
 map_whole (e ∷ es) (item d ds) false h g = (refl, (h, (g, tt)))
 map_whole (e ∷ es) (item d ds) true h g = (refl, (h, (g, (refl, tt))))
 
+tuple_whole : (ns : List ℕ) → SaysWhole (tuple_template ns)
+tuple_whole [] = refl
+tuple_whole (n ∷ ns) = search (rows_whole ns)
+
+struct_whole : (contract : Contract) (xs : List Field) (closed : Bool) → FieldsHaveNoFloat xs
+    → SaysWhole (struct_template contract xs closed)
+struct_whole contract xs closed n =
+    map_whole (map property xs) (text_items (required_names contract xs)) closed (properties_whole xs n)
+    (texts_whole (required_names contract xs))
+
+-- ---- enums
+
+payload_whole : (contract : Contract) (p : Payload) → PayloadHasNoFloat p → SaysWhole (payload_template contract p)
+payload_whole contract no_payload n = refl
+payload_whole contract (newtype_payload j) n = tt
+payload_whole contract (tuple_payload js) n = tuple_whole js
+payload_whole contract (struct_payload xs closed) n = struct_whole contract xs closed n
+
+-- under its name alone
+named_whole : (contract : Contract) (name : Text) (p : Payload) → PayloadHasNoFloat p → SaysWhole (named_template contract name p)
+named_whole contract name no_payload n = refl
+named_whole contract name (newtype_payload j) n = search
+named_whole contract name (tuple_payload js) n = search (tuple_whole js)
+named_whole contract name (struct_payload xs closed) n = search (struct_whole contract xs closed n)
+
+others_whole : (contract : Contract) (xs : List Variant) → VariantsHaveNoFloat xs → SayWhole (templates_of (other_items contract xs))
+others_whole contract [] n = tt
+others_whole contract (x ∷ xs) n = go (is_bare_unit x) (others_whole contract xs n.2)
+  where
+    go : (b : Bool) → SayWhole (templates_of (other_items contract xs)) → SayWhole (templates_of
+        (if b then other_items contract xs else noted x.notes (named_template contract x.name x.payload) ∷ other_items contract xs))
+    go true later = later
+    go false later = ((n.0, named_whole contract x.name x.payload n.1), later)
+
+choice_whole : (ks : List Text) (ts : List Template) → SayWhole (templates_of ts) → SaysWhole (choice_of ks ts)
+choice_whole [] [] n = refl
+choice_whole [] (t ∷ ts) n = (n, tt)
+choice_whole (k ∷ ks) [] n = (refl, (texts_whole (k ∷ ks), tt))
+choice_whole (k ∷ ks) (t ∷ ts) n = (((refl, (texts_whole (k ∷ ks), tt)), n), tt)
+
+items_whole : (contract : Contract) (xs : List Variant) → VariantsHaveNoFloat xs → SayWhole (templates_of (map (payload_item contract) xs))
+items_whole contract [] n = tt
+items_whole contract (x ∷ xs) n = ((n.0, payload_whole contract x.payload n.1), items_whole contract xs n.2)
+
+untagged_whole : (contract : Contract) (xs : List Variant) → VariantsHaveNoFloat xs → SaysWhole (untagged_template contract xs)
+untagged_whole contract [] n = refl
+untagged_whole contract (x ∷ xs) n = (items_whole contract (x ∷ xs) n, tt)
+
+-- ---- by shape
+
 shape_whole : (contract : Contract) (kind : Shape) → ShapeHasNoFloat kind → SaysWhole (template_of contract kind)
 shape_whole contract shape.null n = refl
 shape_whole contract shape.bool n = refl
@@ -269,16 +321,15 @@ shape_whole contract (shape.set j) n = search
 shape_whole contract (shape.array j zero) n = refl
 shape_whole contract (shape.array j (suc len)) n = search
 shape_whole contract (shape.up_to j cap) n = search
-shape_whole contract (shape.tuple []) n = refl
-shape_whole contract (shape.tuple (j ∷ js)) n = search (rows_whole js)
-shape_whole contract (shape.struct xs closed) n =
-    map_whole (map property xs) (text_items (required_names contract xs)) closed (properties_whole xs n)
-    (texts_whole (required_names contract xs))
+shape_whole contract (shape.tuple js) n = tuple_whole js
+shape_whole contract (shape.struct xs closed) n = struct_whole contract xs closed n
 shape_whole contract (shape.newtype j) n = tt
 shape_whole contract (shape.result a b) n = search
 shape_whole contract (shape.bound j) n = search
 shape_whole contract (shape.range j) n = search
 shape_whole contract (shape.either a b) n = search
+shape_whole contract (shape.external xs) n = choice_whole (bare_units xs) (other_items contract xs) (others_whole contract xs n)
+shape_whole contract (shape.untagged xs) n = untagged_whole contract xs n
 
 own_whole : (W : ℕ → Data → Type 0) (contract : Contract) → ((j : ℕ) (t : Data) → W j t → IsWhole t) → (o : Option Entry)
     → EntryHasNoFloat o → (s : Data) → IsOwnDocument W contract o s → IsWhole s

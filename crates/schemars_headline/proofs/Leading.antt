@@ -4,6 +4,7 @@ use Rattle.std.proofs.Common.{Bool, true, false, Contains, length, refl, sym, ap
 use Rattle.std.specs.Prelude.{codes, is_some}
 use Rattle.std.specs.Str.{IsUtf8}
 use Rattle.std.proofs.Math.Nat.{mul-le-mul_left}
+use Rattle.std.proofs.lemmas.List.Elements.{Contains-append_right}
 use Rattle.serde_json.specs.Data.{Data, null, boolean, number, string, array, object, Members, no_members, member, depth}
 use Rattle.serde_json.specs.Find.{get_member}
 use Rattle.serde_json.specs.Events.{members_len}
@@ -15,7 +16,8 @@ use Rattle.schemars_schema.specs.Acceptance.{Patterns, Judge, judge, count_of_de
 use Rattle.schemars_json.proofs.Encodings.{lookup-encoded, lookup-ascii}
 use Rattle.schemars_rewrite.specs.NullLaw.{context2020_12}
 use Rattle.schemars_shapes.specs.Shape as shape
-use Rattle.schemars_shapes.specs.Shape.{Shape, Entry, numbers_of, same_value_numbers}
+use Rattle.schemars_shapes.specs.Shape.{Shape, Entry, Payload, Variant, no_payload, newtype_payload, tuple_payload, struct_payload}
+use Rattle.schemars_shapes.specs.Shape.{payload_numbers, variant_numbers, newtype_numbers, numbers_of, same_value_numbers}
 use Rattle.schemars_types.specs.Rows.{Row, entry_at}
 use Rattle.schemars_types.specs.Edges.{numbers_at, same_value_numbers_at, rank}
 use Rattle.schemars_types.specs.Faults.{IsChecked}
@@ -27,6 +29,7 @@ use Rattle.schemars_naming.specs.Work.{Plan, Work, IsKey, Refers, IsDefinition, 
 use Rattle.schemars_headline.specs.Headline.{AcceptsItsValues}
 use Rattle.schemars_headline.proofs.Keys.{key_here, key_later, key_cases}
 use Rattle.schemars_meaning.proofs.Mapping.{describes-wider, written_map}
+use Rattle.schemars_meaning.proofs.Enums.{IsNewtypeIn}
 use Rattle.schemars_meaning.proofs.Meanings.{IsSame}
 use Rattle.schemars_meaning.proofs.Following.{References, InList, Setting, written_says, described_schema}
 
@@ -39,6 +42,20 @@ entry_low (r ∷ rs) (suc n) e at = omega (arith, entry_low rs n e at)
 
 alone : (m j : ℕ) → j ≡ m → Contains (m ∷ []) j
 alone m j same = (0, omega arith, sym same)
+
+-- the row of a newtype variant that has the value itself is among the numbers of the variants
+newtype_number : (xs : List Variant) (j : ℕ) → IsNewtypeIn j xs → Contains (newtype_numbers xs) j × Contains (variant_numbers xs) j
+newtype_number [] j same = absurd same
+newtype_number (x ∷ xs) j (inl is) = rw is ((0, omega arith, refl), (0, omega arith, refl))
+newtype_number (x ∷ xs) j (inr later) =
+    let among = newtype_number xs j later in
+    (behind x.payload refl among.0, Contains-append_right (payload_numbers x.payload) (variant_numbers xs) j among.1)
+  where
+    behind : (p : Payload) → x.payload ≡ p → Contains (newtype_numbers xs) j → Contains (newtype_numbers (x ∷ xs)) j
+    behind no_payload is c = rw is c
+    behind (newtype_payload n) is c = rw is (Contains-append_right (n ∷ []) (newtype_numbers xs) j c)
+    behind (tuple_payload ns) is c = rw is c
+    behind (struct_payload list closed) is c = rw is c
 
 -- a part that has the row's own values is among its numbers
 same_number : (kind : Shape) (j : ℕ) → IsSame kind j → Contains (same_value_numbers kind) j × Contains (numbers_of kind) j
@@ -65,6 +82,8 @@ same_number (shape.result a b) j same = absurd same
 same_number (shape.bound i) j same = absurd same
 same_number (shape.range i) j same = absurd same
 same_number (shape.either a b) j same = absurd same
+same_number (shape.external xs) j same = absurd same
+same_number (shape.untagged xs) j same = newtype_number xs j same
 
 rank_below : (rows : List Row) → IsChecked rows → (n : ℕ) (e : Entry) (j : ℕ) → entry_at rows n ≡ Some e → IsSame e.shape j
     → rank rows j < rank rows n

@@ -27,7 +27,8 @@ use Rattle.schemars_documents.specs.Documents.{annotated, with_title, with_meta_
 use Rattle.schemars_documents.specs.Documents.{is_signed, required_names, reference}
 use Rattle.schemars_templates.specs.Template.{Template, finished, row, list, members, nullable, noted, rows_of, keyed}
 use Rattle.schemars_templates.specs.Template.{filled, filled_in}
-use Rattle.schemars_templates.specs.OfShape.{KeywordTemplate, property, map_template, template_of, entry_template}
+use Rattle.schemars_templates.specs.OfShape.{KeywordTemplate, property, map_template, bare_units, other_items, choice_of}
+use Rattle.schemars_templates.specs.OfShape.{template_of, entry_template}
 use Rattle.schemars_templates.specs.Describes.{IsOwnDocument, IsWritten, Describes}
 use Rattle.schemars_documents.specs.PlainTable.{IsPlainEntry, IsPlainTable}
 use Rattle.schemars_headline.proofs.Keys.{IsDefinitionsKey, IsOther, other_apart, annotation_other}
@@ -67,6 +68,12 @@ map_other (e ∷ es) no_items true = search
 map_other (e ∷ es) (item d ds) false = search
 map_other (e ∷ es) (item d ds) true = search
 
+choice_other : (ks : List Text) (ts : List Template) → SaysOther (choice_of ks ts)
+choice_other [] [] = (refl, refl)
+choice_other [] (t ∷ ts) = search
+choice_other (k ∷ ks) [] = search
+choice_other (k ∷ ks) (t ∷ ts) = search
+
 shape_other : (contract : Contract) (kind : Shape) → SaysOther (template_of contract kind)
 shape_other contract shape.null = (refl, refl)
 shape_other contract shape.bool = (refl, refl)
@@ -94,6 +101,9 @@ shape_other contract (shape.result a b) = search
 shape_other contract (shape.bound n) = search
 shape_other contract (shape.range n) = search
 shape_other contract (shape.either a b) = search
+shape_other contract (shape.external xs) = choice_other (bare_units xs) (other_items contract xs)
+shape_other contract (shape.untagged []) = (refl, refl)
+shape_other contract (shape.untagged (x ∷ xs)) = search
 
 module _ (key : Text) (is_key : IsDefinitionsKey key) where
   abbrev Lacks : Members → Type 0

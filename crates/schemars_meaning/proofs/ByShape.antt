@@ -17,6 +17,7 @@ use Rattle.schemars_documents.specs.Documents.{formatted_document, count_at, emp
 use Rattle.schemars_documents.specs.Documents.{schema_document, required_names, annotated}
 use Rattle.schemars_templates.specs.Template.{row, rows_of, rows_in, filled, filled_in, keyed}
 use Rattle.schemars_templates.specs.OfShape.{templates_of, property, map_template, template_of, entry_template}
+use Rattle.schemars_templates.specs.OfShape.{external_template, untagged_template}
 use Rattle.schemars_templates.specs.Describes.{ArePartsWritten, Fills}
 use Rattle.schemars_meaning.proofs.Rows.{rows_at, rows_same}
 
@@ -80,7 +81,14 @@ struct_document contract fields ts closed = map_document (field_keywords fields 
 -- ---- choices
 
 abbrev pub one_of_document : List Data → Data
-one_of_document ts = object_of ((codes "oneOf", array (items_from ts)) ∷ [])
+one_of_document ts = object_of ((codes "oneOf", array (items_of ts)) ∷ [])
+
+abbrev pub any_of_document : List Data → Data
+any_of_document ts = object_of ((codes "anyOf", array (items_of ts)) ∷ [])
+
+-- one of these names, as a text
+abbrev pub units_document : List Text → Data
+units_document ks = object_of (typed (codes "string") ∷ (codes "enum", array (text_items ks)) ∷ [])
 
 -- a map with this member, which has to be there
 abbrev pub member_document : Bool → Text → Data → Data
@@ -140,6 +148,8 @@ IsDocument Written contract (shape.result a b) s = IsOfTwo (Written a) (Written 
 IsDocument Written contract (shape.bound n) s = IsOfTwo (Written n) (Written n) bound_document s
 IsDocument Written contract (shape.range n) s = IsOfTwo (Written n) (Written n) range_document s
 IsDocument Written contract (shape.either a b) s = IsOfTwo (Written a) (Written b) either_document s
+IsDocument Written contract (shape.external xs) s = Fills Written (external_template contract xs) s
+IsDocument Written contract (shape.untagged xs) s = Fills Written (untagged_template contract xs) s
 
 -- ---- what fills a template
 
@@ -147,7 +157,7 @@ module _ (W : ℕ → Data → Type 0) where
   abbrev Fit : List ℕ → List Data → Type 0
   Fit = ArePartsWritten W
 
-  without_end : (ns : List ℕ) (ts : List Data) → Fit (ns ++ []) ts → Fit ns ts
+  pub without_end : (ns : List ℕ) (ts : List Data) → Fit (ns ++ []) ts → Fit ns ts
   without_end ns ts h = subst (λ ms. Fit ms ts) (append-nil ns) h
 
   -- ---- fields
@@ -265,6 +275,8 @@ module _ (W : ℕ → Data → Type 0) where
   fills contract (shape.either a b) s [] h e = absurd h
   fills contract (shape.either a b) s (t ∷ []) h e = absurd h.1
   fills contract (shape.either a b) s (t ∷ u ∷ ts) h e = (t, u, h.0, h.1.0, e)
+  fills contract (shape.external xs) s ts h e = record { parts = ts; written = h; is = e }
+  fills contract (shape.untagged xs) s ts h e = record { parts = ts; written = h; is = e }
 
   pub by_shape : (contract : Contract) (kind : Shape) (s : Data) → Fills W (template_of contract kind) s → IsDocument W contract kind s
   by_shape contract kind s h = fills contract kind s h.parts h.written h.is

@@ -1,9 +1,12 @@
 -- What a choice of documents says under 2020-12, and the documents of maps with members that have to be there.
 use Rattle.std.proofs.Common.{◌≡◌, ℕ, ◌<◌, List, [], ◌∷◌, map, Option, Some, None, Bool, true, false, refl, sym, ap, ◌∙◌}
-use Rattle.std.specs.Prelude.{codes, if◌then◌else◌, not, ◌&&◌, bytes_eq, is_some}
+use Rattle.std.specs.Prelude.{codes, if◌then◌else◌, not, ◌&&◌, ◌||◌, bytes_eq, is_some}
 use Rattle.serde_json.specs.Data.{Data, null, boolean, number, string, array, object, depth}
 use Rattle.schemars_schema.specs.Verdict.{Verdict, Yes, No, both, verdict, opposite, none_of, one_of}
-use Rattle.schemars_json.specs.Json.{Text, IsJson, json_eq}
+use Rattle.serde_json.specs.Find.{as_str}
+use Rattle.std.specs.List.{list_any}
+use Rattle.schemars_rewrite.specs.NullLaw.{text_items}
+use Rattle.schemars_json.specs.Json.{Text, IsJson, json_eq, is_among}
 use Rattle.schemars_schema.specs.SchemaData.{IsSchema}
 use Rattle.schemars_schema.specs.Acceptance.{Patterns, Judge, Context, judge, read_data, read_items, all_keywords}
 use Rattle.schemars_schema.proofs.Verdicts.{both-yes, both-verdict}
@@ -13,7 +16,8 @@ use Rattle.schemars_rewrite.specs.Variants.{unit_variant}
 use Rattle.schemars_shapes.specs.Shape as shape
 use Rattle.schemars_shapes.specs.Shape.{Shape, needed}
 use Rattle.schemars_types.specs.Meaning.{Contract, Deserialize, Serialize, has_shape, has_fields, exactly_one, none, is_text}
-use Rattle.schemars_meaning.proofs.ByShape.{items_from, one_of_document, member_document, range_document}
+use Rattle.serde_json.specs.View.{items_of}
+use Rattle.schemars_meaning.proofs.ByShape.{one_of_document, any_of_document, units_document, member_document, range_document}
 use Rattle.schemars_meaning.proofs.ByShape.{result_document, bound_document, either_document}
 use Rattle.schemars_meaning.proofs.Structs.{struct_says}
 
@@ -36,13 +40,13 @@ module _ (patterns : Patterns) (f : Text → Judge) (contract : Contract) (M : �
   c = context2020_12 patterns f
 
   -- schemas, and what each says of a value
-  abbrev Say : List Data → List Bool → Data → Type 0
+  abbrev pub Say : List Data → List Bool → Data → Type 0
   Say [] [] v = Unit {0}
   Say [] (b ∷ bs) v = ⊥
   Say (t ∷ ts) [] v = ⊥
   Say (t ∷ ts) (b ∷ bs) v = IsSchema t × ((judge c t).fits v ≡ verdict b) × Say ts bs v
 
-  choices_read : (ts : List Data) (bs : List Bool) (v : Data) → Say ts bs v → read_items c (items_from ts) ≡ Some (map (judge c) ts)
+  choices_read : (ts : List Data) (bs : List Bool) (v : Data) → Say ts bs v → read_items c (items_of ts) ≡ Some (map (judge c) ts)
   unfolding read_data
   choices_read [] bs v h = refl
   choices_read (t ∷ ts) [] v h = absurd h
@@ -59,6 +63,40 @@ module _ (patterns : Patterns) (f : Text → Judge) (contract : Contract) (M : �
       → (judge c (one_of_document ts)).fits v ≡ verdict (exactly_one bs)
   unfolding read_data all_keywords
   one_of_says ts bs v h = rw (choices_read ts bs v h) (both-yes _ ∙ (ap one_of (each_choice ts bs v h) ∙ one_verdict bs))
+
+  any_verdict : (bs : List Bool) → opposite (verdict (none bs)) ≡ verdict (list_any (λ b. b) bs)
+  any_verdict [] = refl
+  any_verdict (true ∷ bs) = refl
+  any_verdict (false ∷ bs) = any_verdict bs
+
+  pub any_of_says : (ts : List Data) (bs : List Bool) (v : Data) → Say ts bs v
+      → (judge c (any_of_document ts)).fits v ≡ verdict (list_any (λ b. b) bs)
+  unfolding read_data all_keywords
+  any_of_says ts bs v h = rw (choices_read ts bs v h)
+      (both-yes _ ∙ (ap (λ x. opposite (none_of x)) (each_choice ts bs v h) ∙ (ap opposite (none_verdict bs) ∙ any_verdict bs)))
+
+  among : (ks : List Text) (v : Data) → is_among (text_items ks) v ≡ list_any (λ k. is_text k v) ks
+  unfolding json_eq
+  among [] v = refl
+  among (k ∷ ks) null = among ks null
+  among (k ∷ ks) (boolean b) = among ks (boolean b)
+  among (k ∷ ks) (number n) = among ks (number n)
+  among (k ∷ ks) (string s) = ap (λ b. bytes_eq k s || b) (among ks (string s))
+  among (k ∷ ks) (array vs) = among ks (array vs)
+  among (k ∷ ks) (object ms) = among ks (object ms)
+
+  no_text : (ks : List Text) (v : Data) → as_str v ≡ None → list_any (λ k. is_text k v) ks ≡ false
+  no_text [] v h = refl
+  no_text (k ∷ ks) v h = rw h (no_text ks v h)
+
+  pub units_say : (ks : List Text) (v : Data) → (judge c (units_document ks)).fits v ≡ verdict (list_any (λ k. is_text k v) ks)
+  unfolding read_data all_keywords
+  units_say ks null = rw (among ks null, no_text ks null refl) refl
+  units_say ks (boolean b) = rw (among ks (boolean b), no_text ks (boolean b) refl) refl
+  units_say ks (number n) = rw (among ks (number n), no_text ks (number n) refl) refl
+  units_say ks (string s) = rw (among ks (string s)) (both-yes _)
+  units_say ks (array vs) = rw (among ks (array vs), no_text ks (array vs) refl) refl
+  units_say ks (object ms) = rw (among ks (object ms), no_text ks (object ms) refl) refl
 
   pub unit_says : (name : Text) (v : Data) → (judge c (unit_variant name)).fits v ≡ verdict (is_text name v)
   unfolding read_data all_keywords json_eq

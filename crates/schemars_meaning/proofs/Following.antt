@@ -11,8 +11,8 @@ use Rattle.schemars_schema.specs.SchemaData.{IsSchema}
 use Rattle.schemars_schema.specs.Lookup.{resolved}
 use Rattle.schemars_schema.specs.Acceptance.{Patterns, Judge, draft2020_12, judge, read_data, all_keywords, follow}
 use Rattle.schemars_schema.proofs.Verdicts.{both-yes}
-use Rattle.schemars_rewrite.specs.NullLaw.{IsNullable, context2020_12}
-use Rattle.schemars_rewrite.proofs.Nulls.{nullable-schema}
+use Rattle.schemars_rewrite.specs.NullLaw.{context2020_12}
+use Rattle.schemars_rewrite.proofs.Nulls.{IsReady, ready-schema}
 use Rattle.schemars_shapes.specs.Shape.{Entry}
 use Rattle.schemars_types.specs.Rows.{Row, entry_at}
 use Rattle.schemars_types.specs.Meaning.{Contract, has_shape, belongs_within}
@@ -20,8 +20,8 @@ use Rattle.schemars_documents.specs.Documents.{reference}
 use Rattle.schemars_templates.specs.Describes.{IsOwnDocument, IsWritten, Describes}
 use Rattle.schemars_meaning.proofs.ByShape.{own_document}
 use Rattle.schemars_documents.specs.PlainTable.{IsPlainEntry, IsPlainTable}
-use Rattle.schemars_meaning.proofs.Notes.{judge-annotated, nullable-annotated}
-use Rattle.schemars_meaning.proofs.Meanings.{IsSame, Inside, shape_nullable, shape_says}
+use Rattle.schemars_meaning.proofs.Notes.{judge-annotated, ready-annotated}
+use Rattle.schemars_meaning.proofs.Meanings.{IsSame, Inside, shape_ready, shape_says}
 
 -- ---- the references of a document
 
@@ -83,31 +83,31 @@ module _ (rows : List Row) (contract : Contract) (Refers : ℕ → Text → Type
   abbrev In : ℕ → ℕ → Data → Type 0
   In d = IsWritten Refers (Describes rows contract Refers d)
 
-  reference_nullable : (r : Text) → IsNullable (reference r)
-  reference_nullable r = inl (record { combined = refl; offers = λ stays. absurd (true≢false (sym stays)) })
+  reference_ready : (r : Text) → IsReady (reference r)
+  reference_ready r = inl (record { combined = refl; offers = λ stays. absurd (true≢false (sym stays)) }, refl)
 
-  own_nullable : (d : ℕ) → ((j : ℕ) (t : Data) → In d j t → IsNullable t) → (o : Option Entry) → IsPlainEntry o → (t : Data)
-      → IsOwnDocument (In d) contract o t → IsNullable t
-  own_nullable d ready None noted t is = absurd is
-  own_nullable d ready (Some e) noted t is =
+  own_ready : (d : ℕ) → ((j : ℕ) (t : Data) → In d j t → IsReady t) → (o : Option Entry) → IsPlainEntry o → (t : Data)
+      → IsOwnDocument (In d) contract o t → IsReady t
+  own_ready d ready None noted t is = absurd is
+  own_ready d ready (Some e) noted t is =
       let own = own_document (In d) contract e t is in
-      rw own.2 (nullable-annotated e.notes own.0 noted.0 (shape_nullable (In d) contract ready e.shape own.0 own.1))
+      rw own.2 (ready-annotated e.notes own.0 noted.0 (shape_ready (In d) contract ready e.shape own.0 noted.1 own.1))
 
-  written_by : (d : ℕ) → ((j : ℕ) (t : Data) → Describes rows contract Refers d j t → IsNullable t) → (j : ℕ) (t : Data) → In d j t
-      → IsNullable t
-  written_by d own j t (inl h) = rw h.2 (reference_nullable h.0)
+  written_by : (d : ℕ) → ((j : ℕ) (t : Data) → Describes rows contract Refers d j t → IsReady t) → (j : ℕ) (t : Data) → In d j t
+      → IsReady t
+  written_by d own j t (inl h) = rw h.2 (reference_ready h.0)
   written_by d own j t (inr h) = own j t h
 
-  pub described_nullable : (d n : ℕ) (t : Data) → Describes rows contract Refers d n t → IsNullable t
+  pub described_ready : (d n : ℕ) (t : Data) → Describes rows contract Refers d n t → IsReady t
   unfolding Describes
-  described_nullable zero n t h = absurd h
-  described_nullable (suc d) n t h = own_nullable d (written_by d (described_nullable d)) (entry_at rows n) (plain n) t h
+  described_ready zero n t h = absurd h
+  described_ready (suc d) n t h = own_ready d (written_by d (described_ready d)) (entry_at rows n) (plain n) t h
 
-  pub written_nullable : (d n : ℕ) (t : Data) → In d n t → IsNullable t
-  written_nullable d n t h = written_by d (described_nullable d) n t h
+  pub written_ready : (d n : ℕ) (t : Data) → In d n t → IsReady t
+  written_ready d n t h = written_by d (described_ready d) n t h
 
   pub described_schema : (d n : ℕ) (t : Data) → Describes rows contract Refers d n t → IsSchema t
-  described_schema d n t h = nullable-schema t (described_nullable d n t h)
+  described_schema d n t h = ready-schema t (described_ready d n t h)
 
 -- ---- what is given: a plain table whose ranks fall where a part has the row's own values, and a document in which
 -- each reference leads to what says the same as its row's document
@@ -162,8 +162,8 @@ module _ (s : Setting) where
   unfolding hops most_hops
   few_hops n = let e = lower_few rank (rank n) refs in omega arith
 
-  abbrev ready : (d j : ℕ) (t : Data) → W d j t → IsNullable t
-  ready = written_nullable rows contract (InList refs) s.plain
+  abbrev ready : (d j : ℕ) (t : Data) → W d j t → IsReady t
+  ready = written_ready rows contract (InList refs) s.plain
 
   -- ---- by references still allowed, and by depth
 
@@ -218,7 +218,7 @@ module _ (s : Setting) where
   own_says n d good said k (Some e) at noted t is v json m costs low =
       let own = own_document (W d) contract e t is in
       let bare = own.0 in
-      let schema = nullable-schema bare (shape_nullable (W d) contract (ready d) e.shape bare own.1) in
+      let schema = ready-schema bare (shape_ready (W d) contract (ready d) e.shape bare noted.1 own.1) in
       rw own.2 (ap (λ j. j.fits v) (judge-annotated patterns (at_most n) e.notes bare noted.0 schema)
       ∙ shape_says patterns (at_most n) contract (W d) (belongs_within rows contract patterns m) (ready d) e.shape bare noted.1 own.1 v json
       (λ j t w a js inside. part_says n d m good said k e at v costs low j t w a js inside))

@@ -4,7 +4,9 @@ pub mod Mapping
 pub mod EachShape
 pub mod Maps
 pub mod Structs
+pub mod Ready
 pub mod Choices
+pub mod Enums
 pub mod Meanings
 pub mod Notes
 pub mod ReferencesKept

@@ -5,8 +5,10 @@ use Rattle.schemars_schema.specs.Verdict.{verdict}
 use Rattle.schemars_json.specs.Json.{Text, IsJson}
 use Rattle.schemars_schema.specs.SchemaData.{IsSchema}
 use Rattle.schemars_schema.specs.Acceptance.{Patterns, Judge, Context, judge}
-use Rattle.schemars_rewrite.specs.NullLaw.{IsNullable, context2020_12}
-use Rattle.schemars_rewrite.proofs.Nulls.{nullable-schema, nullable-allow_null, allow_null-says}
+use Rattle.schemars_rewrite.specs.NullLaw.{context2020_12}
+use Rattle.schemars_rewrite.proofs.Nulls.{IsReady, ready-schema, ready_nullable, ready-allow_null, allow_null-says}
+use Rattle.schemars_meaning.proofs.Ready.{int_ready, non_zero_ready, bytes_ready, map_ready, tuple_ready, one_of_ready}
+use Rattle.schemars_meaning.proofs.Enums.{IsNewtypeIn, external_ready, untagged_ready, external_says, untagged_says}
 use Rattle.schemars_shapes.specs.Shape as shape
 use Rattle.schemars_shapes.specs.Shape.{Shape, Entry, numbers_of}
 use Rattle.schemars_types.specs.Meaning.{Contract, Deserialize, Serialize, has_shape}
@@ -25,97 +27,45 @@ use Rattle.std.specs.Prelude.{codes}
 
 -- ---- null can be added to each document
 
-int_nullable : (kind : IntKind) → IsNullable (int_document kind)
-int_nullable I8 = inr (record { alone = refl; type_form = refl; no_const = refl; not_form = inl refl })
-int_nullable I16 = inr (record { alone = refl; type_form = refl; no_const = refl; not_form = inl refl })
-int_nullable I32 = inr (record { alone = refl; type_form = refl; no_const = refl; not_form = inl refl })
-int_nullable I64 = inr (record { alone = refl; type_form = refl; no_const = refl; not_form = inl refl })
-int_nullable I128 = inr (record { alone = refl; type_form = refl; no_const = refl; not_form = inl refl })
-int_nullable Isize = inr (record { alone = refl; type_form = refl; no_const = refl; not_form = inl refl })
-int_nullable U8 = inr (record { alone = refl; type_form = refl; no_const = refl; not_form = inl refl })
-int_nullable U16 = inr (record { alone = refl; type_form = refl; no_const = refl; not_form = inl refl })
-int_nullable U32 = inr (record { alone = refl; type_form = refl; no_const = refl; not_form = inl refl })
-int_nullable U64 = inr (record { alone = refl; type_form = refl; no_const = refl; not_form = inl refl })
-int_nullable U128 = inr (record { alone = refl; type_form = refl; no_const = refl; not_form = inl refl })
-int_nullable Usize = inr (record { alone = refl; type_form = refl; no_const = refl; not_form = inl refl })
-
-non_zero_nullable : (kind : IntKind) → IsNullable (non_zero_document kind)
-non_zero_nullable I8 = inr (record { alone = refl; type_form = refl; no_const = refl; not_form = inr refl })
-non_zero_nullable I16 = inr (record { alone = refl; type_form = refl; no_const = refl; not_form = inr refl })
-non_zero_nullable I32 = inr (record { alone = refl; type_form = refl; no_const = refl; not_form = inr refl })
-non_zero_nullable I64 = inr (record { alone = refl; type_form = refl; no_const = refl; not_form = inr refl })
-non_zero_nullable I128 = inr (record { alone = refl; type_form = refl; no_const = refl; not_form = inr refl })
-non_zero_nullable Isize = inr (record { alone = refl; type_form = refl; no_const = refl; not_form = inr refl })
-non_zero_nullable U8 = inr (record { alone = refl; type_form = refl; no_const = refl; not_form = inl refl })
-non_zero_nullable U16 = inr (record { alone = refl; type_form = refl; no_const = refl; not_form = inl refl })
-non_zero_nullable U32 = inr (record { alone = refl; type_form = refl; no_const = refl; not_form = inl refl })
-non_zero_nullable U64 = inr (record { alone = refl; type_form = refl; no_const = refl; not_form = inl refl })
-non_zero_nullable U128 = inr (record { alone = refl; type_form = refl; no_const = refl; not_form = inl refl })
-non_zero_nullable Usize = inr (record { alone = refl; type_form = refl; no_const = refl; not_form = inl refl })
-
-bytes_nullable : (contract : Contract) → IsNullable (bytes_document contract)
-bytes_nullable Deserialize = inr (record {
-  alone = refl;
-  type_form = (codes "array" ∷ codes "string" ∷ [], refl, refl);
-  no_const = refl;
-  not_form = inl refl;
-})
-bytes_nullable Serialize = inr (record { alone = refl; type_form = refl; no_const = refl; not_form = inl refl })
-
-map_nullable : (es : List Keyword) (ns : List Text) (closed : Bool) → IsNullable (map_document es ns closed)
-map_nullable [] [] false = inr (record { alone = refl; type_form = refl; no_const = refl; not_form = inl refl })
-map_nullable [] [] true = inr (record { alone = refl; type_form = refl; no_const = refl; not_form = inl refl })
-map_nullable [] (n ∷ ns) false = inr (record { alone = refl; type_form = refl; no_const = refl; not_form = inl refl })
-map_nullable [] (n ∷ ns) true = inr (record { alone = refl; type_form = refl; no_const = refl; not_form = inl refl })
-map_nullable (e ∷ es) [] false = inr (record { alone = refl; type_form = refl; no_const = refl; not_form = inl refl })
-map_nullable (e ∷ es) [] true = inr (record { alone = refl; type_form = refl; no_const = refl; not_form = inl refl })
-map_nullable (e ∷ es) (n ∷ ns) false = inr (record { alone = refl; type_form = refl; no_const = refl; not_form = inl refl })
-map_nullable (e ∷ es) (n ∷ ns) true = inr (record { alone = refl; type_form = refl; no_const = refl; not_form = inl refl })
-
-tuple_nullable : (ts : List Data) → IsNullable (tuple_document ts)
-tuple_nullable [] = inr (record { alone = refl; type_form = refl; no_const = refl; not_form = inl refl })
-tuple_nullable (t ∷ ts) = inr (record { alone = refl; type_form = refl; no_const = refl; not_form = inl refl })
-
-one_of_nullable : (ts : List Data) (s : Data) → s ≡ one_of_document ts → IsNullable s
-one_of_nullable ts s is = rw is (inl (record { combined = refl; offers = λ stays. absurd (true≢false (sym stays)) }))
-
-module _ (W : ℕ → Data → Type 0) (contract : Contract) (ready : (j : ℕ) (t : Data) → W j t → IsNullable t) where
-  pub shape_nullable : (kind : Shape) (s : Data) → IsDocument W contract kind s → IsNullable s
-  shape_nullable shape.null s is = rw is (inr (record { alone = refl; type_form = refl; no_const = refl; not_form = inl refl }))
-  shape_nullable shape.bool s is = rw is (inr (record { alone = refl; type_form = refl; no_const = refl; not_form = inl refl }))
-  shape_nullable (shape.int k) s is = rw is (int_nullable k)
-  shape_nullable (shape.non_zero k) s is = rw is (non_zero_nullable k)
-  shape_nullable shape.number s is = rw is (inr (record { alone = refl; type_form = refl; no_const = refl; not_form = inl refl }))
-  shape_nullable shape.text s is = rw is (inr (record { alone = refl; type_form = refl; no_const = refl; not_form = inl refl }))
-  shape_nullable shape.char s is = rw is (inr (record { alone = refl; type_form = refl; no_const = refl; not_form = inl refl }))
-  shape_nullable (shape.formatted f) s is = rw is (inr (record { alone = refl; type_form = refl; no_const = refl; not_form = inl refl }))
-  shape_nullable shape.any s is = rw is tt
-  shape_nullable shape.bytes s is = rw is (bytes_nullable contract)
-  shape_nullable shape.schema_itself s is = rw is (inr (record {
+module _ (W : ℕ → Data → Type 0) (contract : Contract) (ready : (j : ℕ) (t : Data) → W j t → IsReady t) where
+  pub shape_ready : (kind : Shape) (s : Data) → IsPlainShape kind → IsDocument W contract kind s → IsReady s
+  shape_ready shape.null s p is = rw is (inr (record { alone = refl; type_form = refl; no_const = refl; not_form = inl refl }))
+  shape_ready shape.bool s p is = rw is (inr (record { alone = refl; type_form = refl; no_const = refl; not_form = inl refl }))
+  shape_ready (shape.int k) s p is = rw is (int_ready k)
+  shape_ready (shape.non_zero k) s p is = rw is (non_zero_ready k)
+  shape_ready shape.number s p is = rw is (inr (record { alone = refl; type_form = refl; no_const = refl; not_form = inl refl }))
+  shape_ready shape.text s p is = rw is (inr (record { alone = refl; type_form = refl; no_const = refl; not_form = inl refl }))
+  shape_ready shape.char s p is = rw is (inr (record { alone = refl; type_form = refl; no_const = refl; not_form = inl refl }))
+  shape_ready (shape.formatted f) s p is = rw is (inr (record { alone = refl; type_form = refl; no_const = refl; not_form = inl refl }))
+  shape_ready shape.any s p is = rw is tt
+  shape_ready shape.bytes s p is = rw is (bytes_ready contract)
+  shape_ready shape.schema_itself s p is = rw is (inr (record {
     alone = refl;
     type_form = (codes "object" ∷ codes "boolean" ∷ [], refl, refl);
     no_const = refl;
     not_form = inl refl;
   }))
-  shape_nullable (shape.option n) s is = rw is.2 (nullable-allow_null is.0 (ready n is.0 is.1))
-  shape_nullable (shape.struct xs closed) s is = rw is.2 (map_nullable _ _ closed)
-  shape_nullable (shape.newtype n) s is = ready n s is
-  shape_nullable (shape.seq n) s is = rw is.2 (inr (record { alone = refl; type_form = refl; no_const = refl; not_form = inl refl }))
-  shape_nullable (shape.set n) s is = rw is.2 (inr (record { alone = refl; type_form = refl; no_const = refl; not_form = inl refl }))
-  shape_nullable (shape.array n zero) s is = rw is (inr (record { alone = refl; type_form = refl; no_const = refl; not_form = inl refl }))
-  shape_nullable (shape.array n (suc len)) s is = rw is.2 (inr (record
+  shape_ready (shape.option n) s p is = rw is.2 (ready-allow_null is.0 (ready n is.0 is.1))
+  shape_ready (shape.struct xs closed) s p is = rw is.2 (map_ready _ _ closed)
+  shape_ready (shape.newtype n) s p is = ready n s is
+  shape_ready (shape.seq n) s p is = rw is.2 (inr (record { alone = refl; type_form = refl; no_const = refl; not_form = inl refl }))
+  shape_ready (shape.set n) s p is = rw is.2 (inr (record { alone = refl; type_form = refl; no_const = refl; not_form = inl refl }))
+  shape_ready (shape.array n zero) s p is = rw is (inr (record { alone = refl; type_form = refl; no_const = refl; not_form = inl refl }))
+  shape_ready (shape.array n (suc len)) s p is = rw is.2 (inr (record
       { alone = refl; type_form = refl; no_const = refl; not_form = inl refl }))
-  shape_nullable (shape.up_to n cap) s is = rw is.2 (inr (record { alone = refl; type_form = refl; no_const = refl; not_form = inl refl }))
-  shape_nullable (shape.tuple ns) s is = rw is.2 (tuple_nullable is.0)
-  shape_nullable (shape.result a b) s is =
-      one_of_nullable (member_document false (codes "Ok") is.0 ∷ member_document false (codes "Err") is.1 ∷ []) s is.4
-  shape_nullable (shape.bound n) s is =
-      one_of_nullable (member_document false (codes "Included") is.0 ∷ member_document false (codes "Excluded") is.1
+  shape_ready (shape.up_to n cap) s p is = rw is.2 (inr (record { alone = refl; type_form = refl; no_const = refl; not_form = inl refl }))
+  shape_ready (shape.tuple ns) s p is = rw is.2 (tuple_ready is.0)
+  shape_ready (shape.result a b) s p is =
+      one_of_ready (member_document false (codes "Ok") is.0 ∷ member_document false (codes "Err") is.1 ∷ []) s is.4
+  shape_ready (shape.bound n) s p is =
+      one_of_ready (member_document false (codes "Included") is.0 ∷ member_document false (codes "Excluded") is.1
       ∷ unit_variant (codes "Unbounded") ∷ []) s is.4
-  shape_nullable (shape.range n) s is =
-      rw is.4 (map_nullable ((codes "start", is.0) ∷ (codes "end", is.1) ∷ []) (codes "start" ∷ codes "end" ∷ []) false)
-  shape_nullable (shape.either a b) s is =
-      one_of_nullable (member_document true (codes "Left") is.0 ∷ member_document true (codes "Right") is.1 ∷ []) s is.4
+  shape_ready (shape.range n) s p is =
+      rw is.4 (map_ready ((codes "start", is.0) ∷ (codes "end", is.1) ∷ []) (codes "start" ∷ codes "end" ∷ []) false)
+  shape_ready (shape.either a b) s p is =
+      one_of_ready (member_document true (codes "Left") is.0 ∷ member_document true (codes "Right") is.1 ∷ []) s is.4
+  shape_ready (shape.external xs) s p is = rw is.is (external_ready W contract ready xs is.parts)
+  shape_ready (shape.untagged xs) s p is = rw is.is (untagged_ready W contract ready xs p is.parts is.written)
 
 -- ---- one shape
 
@@ -144,13 +94,15 @@ IsSame (shape.result a b) j = ⊥
 IsSame (shape.bound n) j = ⊥
 IsSame (shape.range n) j = ⊥
 IsSame (shape.either a b) j = ⊥
+IsSame (shape.external xs) j = ⊥
+IsSame (shape.untagged xs) j = IsNewtypeIn j xs
 
 -- where a part is asked: inside the value, or of the value itself
 abbrev pub Inside : Shape → Data → ℕ → Data → Type 0
 Inside kind v j w = (depth w < depth v) ⊎ (IsSame kind j × (w ≡ v))
 
 module _ (patterns : Patterns) (f : Text → Judge) (contract : Contract) (W : ℕ → Data → Type 0) (M : ℕ → Data → Bool)
-    (ready : (j : ℕ) (t : Data) → W j t → IsNullable t) where
+    (ready : (j : ℕ) (t : Data) → W j t → IsReady t) where
   abbrev c : Context
   c = context2020_12 patterns f
 
@@ -158,7 +110,7 @@ module _ (patterns : Patterns) (f : Text → Judge) (contract : Contract) (W : �
   Agrees kind v = (j : ℕ) (t w : Data) → W j t → IsJson w → Inside kind v j w → (judge c t).fits w ≡ verdict (M j w)
 
   abbrev schemas : (j : ℕ) (t : Data) → W j t → IsSchema t
-  schemas j t is = nullable-schema t (ready j t is)
+  schemas j t is = ready-schema t (ready j t is)
 
   pub shape_says : (kind : Shape) (s : Data) → IsPlainShape kind → IsDocument W contract kind s → (v : Data) → IsJson v → Agrees kind v
       → (judge c s).fits v ≡ verdict (has_shape contract patterns M kind v)
@@ -173,7 +125,7 @@ module _ (patterns : Patterns) (f : Text → Judge) (contract : Contract) (W : �
   shape_says shape.any s p is v json agree = rw is (any_says patterns f contract M v)
   shape_says shape.bytes s p is v json agree = rw is (bytes_say patterns f contract M v)
   shape_says shape.schema_itself s p is v json agree = rw is (schema_says patterns f contract M v)
-  shape_says (shape.option j) s p is v json agree = rw is.2 (allow_null-says patterns f is.0 (ready j is.0 is.1) v (M j v)
+  shape_says (shape.option j) s p is v json agree = rw is.2 (allow_null-says patterns f is.0 (ready_nullable is.0 (ready j is.0 is.1)) v (M j v)
       (agree j is.0 v is.1 json (inr (refl, refl))))
   shape_says (shape.seq j) s p is v json agree = rw is.2 (seq_says patterns f contract M j is.0 (schemas j is.0 is.1) v json
       (λ w js less. agree j is.0 w is.1 js (inl less)))
@@ -197,3 +149,7 @@ module _ (patterns : Patterns) (f : Text → Judge) (contract : Contract) (W : �
       (λ j t w x js less. agree j t w x js (inl less)) n is.0 is.1 is.2 is.3)
   shape_says (shape.either a b) s p is v json agree = rw is.4 (either_says patterns f contract M W schemas v json
       (λ j t w x js less. agree j t w x js (inl less)) a b is.0 is.1 is.2 is.3)
+  shape_says (shape.external xs) s p is v json agree = rw is.is (external_says patterns f contract W M ready v json
+      (λ j t w x js less. agree j t w x js (inl less)) xs p.0 p.1 is.parts is.written)
+  shape_says (shape.untagged xs) s p is v json agree = rw is.is (untagged_says patterns f contract W M ready v json
+      (λ j t w x js less. agree j t w x js (inl less)) xs p (λ n t same x. agree n t v x json (inr (same, refl))) is.parts is.written)

@@ -10,8 +10,8 @@ use Rattle.schemars_schema.specs.Acceptance.{Context, Patterns, Judge, judge, re
 use Rattle.schemars_schema.specs.Annotations.{is_annotation, AreNotes}
 use Rattle.schemars_schema.proofs.Objects.{judge-put, annotation-silent}
 use Rattle.schemars_rewrite.specs.AllowNull.{is_null_choice}
-use Rattle.schemars_rewrite.specs.NullLaw.{IsNullable, context2020_12}
-use Rattle.schemars_rewrite.proofs.Nulls.{choice_key}
+use Rattle.schemars_rewrite.specs.NullLaw.{context2020_12}
+use Rattle.schemars_rewrite.proofs.Nulls.{IsReady, choice_key}
 use Rattle.schemars_documents.specs.Documents.{annotated, with_title, with_meta_schema, root_document}
 
 module _ (patterns : Patterns) (f : Text → Judge) where
@@ -71,20 +71,23 @@ put_members-noted (member k d notes) ms h noted = put_members-noted notes (put k
 noted-not_choice : (ms : Members) → HasNote ms → is_null_choice (object ms) ≡ true → ⊥
 noted-not_choice ms noted stays = true≢false (sym noted.2 ∙ ap is_annotation (choice_key ms stays noted.0 noted.1 noted.3))
 
-nullable-agree : (ms ns : Members) → HasNote ms → ((l : Text) → is_annotation l ≡ false → get_member l ms ≡ get_member l ns)
-    → IsNullable (object ns) → IsNullable (object ms)
-nullable-agree ms ns noted e (inl p) = inl (record {
-  combined = rw (
-    e (codes "if") refl,
-    e (codes "allOf") refl,
-    e (codes "anyOf") refl,
-    e (codes "oneOf") refl,
-    e (codes "$ref") refl,
-    e (codes "not") refl,
-  ) p.combined;
-  offers = λ stays. absurd (noted-not_choice ms noted stays);
-})
-nullable-agree ms ns noted e (inr p) = inr (record {
+ready-agree : (ms ns : Members) → HasNote ms → ((l : Text) → is_annotation l ≡ false → get_member l ms ≡ get_member l ns)
+    → IsReady (object ns) → IsReady (object ms)
+ready-agree ms ns noted e (inl p) = inl (
+  record {
+    combined = rw (
+      e (codes "if") refl,
+      e (codes "allOf") refl,
+      e (codes "anyOf") refl,
+      e (codes "oneOf") refl,
+      e (codes "$ref") refl,
+      e (codes "not") refl,
+    ) p.0.combined;
+    offers = λ stays. absurd (noted-not_choice ms noted stays);
+  },
+  e (codes "type") refl ∙ p.1,
+)
+ready-agree ms ns noted e (inr p) = inr (record {
   alone = rw (
     e (codes "if") refl,
     e (codes "allOf") refl,
@@ -98,22 +101,22 @@ nullable-agree ms ns noted e (inr p) = inr (record {
   not_form = rw (e (codes "not") refl) p.not_form;
 })
 
-nullable-members_in : (s : Data) → IsNullable s → IsNullable (object (members_in s))
-nullable-members_in (boolean true) r = inr (record { alone = refl; type_form = tt; no_const = refl; not_form = inl refl })
-nullable-members_in (boolean false) r = inl (record { combined = refl; offers = λ stays. absurd (true≢false (sym stays)) })
-nullable-members_in (object ms) r = r
-nullable-members_in null r = absurd r
-nullable-members_in (number n) r = absurd r
-nullable-members_in (string s) r = absurd r
-nullable-members_in (array ds) r = absurd r
+ready-members_in : (s : Data) → IsReady s → IsReady (object (members_in s))
+ready-members_in (boolean true) r = inr (record { alone = refl; type_form = tt; no_const = refl; not_form = inl refl })
+ready-members_in (boolean false) r = inl (record { combined = refl; offers = λ stays. absurd (true≢false (sym stays)) }, refl)
+ready-members_in (object ms) r = r
+ready-members_in null r = absurd r
+ready-members_in (number n) r = absurd r
+ready-members_in (string s) r = absurd r
+ready-members_in (array ds) r = absurd r
 
-pub nullable-annotated : (notes : Members) (s : Data) → AreNotes notes → IsNullable s → IsNullable (annotated notes s)
-nullable-annotated no_members s h r = r
-nullable-annotated (member k d notes) s h r =
+pub ready-annotated : (notes : Members) (s : Data) → AreNotes notes → IsReady s → IsReady (annotated notes s)
+ready-annotated no_members s h r = r
+ready-annotated (member k d notes) s h r =
     let noted : HasNote (put_members (member k d notes) (members_in s)) =
     put_members-noted notes (put k d (members_in s)) h.1 (k, d, h.0, get_member-put k d (members_in s)) in
-    nullable-agree (put_members (member k d notes) (members_in s)) (members_in s) noted
-    (λ l e. put_members-other l (member k d notes) (members_in s) e h) (nullable-members_in s r)
+    ready-agree (put_members (member k d notes) (members_in s)) (members_in s) noted
+    (λ l e. put_members-other l (member k d notes) (members_in s) e h) (ready-members_in s r)
 
 pub annotated-schema : (notes : Members) (s : Data) → IsSchema s → IsSchema (annotated notes s)
 annotated-schema no_members s is = is

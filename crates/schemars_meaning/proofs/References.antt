@@ -14,15 +14,17 @@ use Rattle.schemars_schema.specs.References.{at_place, found_in, found_in_member
 use Rattle.schemars_schema.proofs.Contents.{found_under}
 use Rattle.schemars_rewrite.specs.NullLaw.{zero_schema, text_items}
 use Rattle.schemars_shapes.specs.Shape as shape
-use Rattle.schemars_shapes.specs.Shape.{Shape, Field, Entry}
+use Rattle.schemars_shapes.specs.Shape.{Shape, Field, Entry, Payload, Variant, no_payload, newtype_payload, tuple_payload, struct_payload}
 use Rattle.schemars_shapes.specs.IntKind.{format_of}
 use Rattle.schemars_types.specs.Meaning.{Contract, Deserialize, Serialize, least_of, greatest_of}
 use Rattle.schemars_documents.specs.Documents.{int_keywords, is_signed, required_names, bytes_document}
-use Rattle.schemars_documents.specs.PlainTable.{IsNoName, AreDistinct, AreNoted, IsPlainShape, IsPlainEntry}
+use Rattle.schemars_documents.specs.PlainTable.{IsNoName, AreDistinct, AreNoted, IsPlainShape, IsPlainEntry, IsPlainPayload}
+use Rattle.schemars_documents.specs.PlainTable.{ArePlainVariants}
 use Rattle.schemars_templates.specs.Template.{Template, finished, row, list, members, nullable, noted, Templates, no_templates}
 use Rattle.schemars_templates.specs.Template.{template, rows_of, rows_in, first, behind, left, left_in, keyed, filled, filled_in}
 use Rattle.schemars_templates.specs.OfShape.{KeywordTemplate, templates_of, object_with, property, map_template, template_of}
-use Rattle.schemars_templates.specs.OfShape.{entry_template}
+use Rattle.schemars_templates.specs.OfShape.{entry_template, member_template, payload_template, named_template, is_bare_unit, bare_units}
+use Rattle.schemars_templates.specs.OfShape.{other_items, choice_of, payload_item, untagged_template}
 use Rattle.schemars_templates.specs.Describes.{references_of}
 use Rattle.schemars_meaning.proofs.Notes.{annotated-schema}
 use Rattle.schemars_meaning.proofs.ReferencesKept.{Among, among_more, Alike, alike_equal, alike_same, alike_nothing}
@@ -309,6 +311,70 @@ map_as_schema (e ∷ es) no_items true h = search h
 map_as_schema (e ∷ es) (item d ds) false h = search h
 map_as_schema (e ∷ es) (item d ds) true h = search h
 
+-- ---- enums
+
+payload_as_schema : (contract : Contract) (p : Payload) → IsPlainPayload p → AsSchema (payload_template contract p)
+unfolding found_in
+payload_as_schema contract no_payload h = refl
+payload_as_schema contract (newtype_payload n) h = tt
+payload_as_schema contract (tuple_payload []) h = refl
+payload_as_schema contract (tuple_payload (n ∷ ns)) h = search (rows_as_items ns)
+payload_as_schema contract (struct_payload xs closed) h =
+    map_as_schema (map property xs) (text_items (required_names contract xs)) closed (properties_named xs h.1, names_apart xs h.0)
+
+member_as_schema : (name : Text) (t : Template) → AsSchema t → AsSchema (member_template true name t)
+member_as_schema name t h = map_as_schema ((name, t) ∷ []) (text_items (name ∷ [])) true ((h, tt), (tt, tt))
+
+named_as_schema : (contract : Contract) (name : Text) (p : Payload) → IsPlainPayload p → AsSchema (named_template contract name p)
+unfolding found_in
+named_as_schema contract name no_payload h = refl
+named_as_schema contract name (newtype_payload n) h = member_as_schema name (row n) tt
+named_as_schema contract name (tuple_payload ns) h =
+    member_as_schema name (payload_template contract (tuple_payload ns)) (payload_as_schema contract (tuple_payload ns) h)
+named_as_schema contract name (struct_payload xs closed) h =
+    member_as_schema name (payload_template contract (struct_payload xs closed)) (payload_as_schema contract (struct_payload xs closed) h)
+
+others_as_items : (contract : Contract) (xs : List Variant) → ArePlainVariants xs → AreItems (templates_of (other_items contract xs))
+others_as_items contract [] h = tt
+others_as_items contract (x ∷ xs) h =
+    go (is_bare_unit x) (h.0, named_as_schema contract x.name x.payload h.1) (others_as_items contract xs h.2)
+  where
+    go : (b : Bool) → AsSchema (noted x.notes (named_template contract x.name x.payload))
+        → AreItems (templates_of (other_items contract xs))
+        → AreItems (templates_of (if b then other_items contract xs else
+        noted x.notes (named_template contract x.name x.payload) ∷ other_items contract xs))
+    go true own later = later
+    go false own later = (own, later)
+
+choice_as_schema : (ks : List Text) (ts : List Template) → AreItems (templates_of ts) → AsSchema (choice_of ks ts)
+unfolding found_in
+choice_as_schema [] [] h = refl
+choice_as_schema [] (t ∷ ts) h = search h
+choice_as_schema (k ∷ ks) [] h = search
+choice_as_schema (k ∷ ks) (t ∷ ts) h = search h
+
+payloads_as_items : (contract : Contract) (xs : List Variant) → ArePlainVariants xs
+    → AreItems (templates_of (map (payload_item contract) xs))
+payloads_as_items contract [] h = tt
+payloads_as_items contract (x ∷ xs) h = ((h.0, payload_as_schema contract x.payload h.1), payloads_as_items contract xs h.2)
+
+untagged_as_schema : (contract : Contract) (xs : List Variant) → ArePlainVariants xs → AsSchema (untagged_template contract xs)
+unfolding found_in
+untagged_as_schema contract [] h = refl
+untagged_as_schema contract (x ∷ xs) h = search (payloads_as_items contract (x ∷ xs) h)
+
+choice_makes : (ks : List Text) (ts : List Template) → MakesSchema (choice_of ks ts)
+choice_makes [] [] = tt
+choice_makes [] (t ∷ ts) = tt
+choice_makes (k ∷ ks) [] = tt
+choice_makes (k ∷ ks) (t ∷ ts) = tt
+
+untagged_makes : (contract : Contract) (xs : List Variant) → MakesSchema (untagged_template contract xs)
+untagged_makes contract [] = tt
+untagged_makes contract (x ∷ xs) = tt
+
+-- ---- by shape
+
 shape_as_schema : (contract : Contract) (kind : Shape) → IsPlainShape kind → AsSchema (template_of contract kind)
 unfolding found_in
 shape_as_schema contract shape.null p = refl
@@ -343,6 +409,9 @@ shape_as_schema contract (shape.result a b) p = search
 shape_as_schema contract (shape.bound n) p = search
 shape_as_schema contract (shape.range n) p = search
 shape_as_schema contract (shape.either a b) p = search
+shape_as_schema contract (shape.external xs) p =
+    choice_as_schema (bare_units xs) (other_items contract xs) (others_as_items contract xs p.1)
+shape_as_schema contract (shape.untagged xs) p = untagged_as_schema contract xs p
 
 non_zero_makes : (b : Bool) (d e : Data) → IsSchema d → IsSchema e → IsSchema (if b then d else e)
 non_zero_makes true d e h g = h
@@ -374,6 +443,8 @@ shape_makes contract (shape.result a b) = tt
 shape_makes contract (shape.bound n) = tt
 shape_makes contract (shape.range n) = tt
 shape_makes contract (shape.either a b) = tt
+shape_makes contract (shape.external xs) = choice_makes (bare_units xs) (other_items contract xs)
+shape_makes contract (shape.untagged xs) = untagged_makes contract xs
 
 -- ---- a row's document
 

@@ -1,14 +1,19 @@
 -- The rows that stand in a shape's template are those of the shape.
 use Rattle.std.proofs.Common.{◌≡◌, ℕ, zero, suc, List, [], ◌∷◌, Bool, true, false, map, refl, sym, ap, ◌∙◌, subst}
-use Rattle.std.proofs.Common.{append-nil, arith, All}
+use Rattle.std.proofs.Common.{append-nil, arith, All, ◌++◌}
+use Rattle.std.specs.Prelude.{if◌then◌else◌}
+use Rattle.std.proofs.lemmas.List.Elements.{All-append}
 use Rattle.schemars_json.specs.Json.{Text}
 use Rattle.schemars_rewrite.specs.NullLaw.{text_items}
 use Rattle.schemars_shapes.specs.Shape as shape
-use Rattle.schemars_shapes.specs.Shape.{Shape, Field, numbers_of}
+use Rattle.schemars_shapes.specs.Shape.{Shape, Field, Payload, Variant, no_payload, newtype_payload, tuple_payload, struct_payload}
+use Rattle.schemars_shapes.specs.Shape.{numbers_of, payload_numbers, variant_numbers}
 use Rattle.schemars_types.specs.Meaning.{Contract}
 use Rattle.schemars_documents.specs.Documents.{required_names}
-use Rattle.schemars_templates.specs.Template.{row, rows_of, rows_in}
-use Rattle.schemars_templates.specs.OfShape.{templates_of, property, map_template, template_of}
+use Rattle.schemars_templates.specs.Template.{Template, row, noted, rows_of, rows_in}
+use Rattle.schemars_templates.specs.OfShape.{templates_of, property, map_template, tuple_template, struct_template, template_of}
+use Rattle.schemars_templates.specs.OfShape.{payload_template, named_template, is_bare_unit, bare_units, other_items, choice_of}
+use Rattle.schemars_templates.specs.OfShape.{payload_item, untagged_template}
 
 pub rows_same : (ns : List ℕ) → rows_in (templates_of (map row ns)) ≡ ns
 rows_same [] = refl
@@ -42,6 +47,82 @@ module _ (P : ℕ → Type 0) where
   twice n h (suc zero) d less = h zero d (omega arith)
   twice n h (suc (suc k)) d less = absurd (omega (arith, less))
 
+  leading : (m : ℕ) (ms : List ℕ) → P m → All P ms → All P (m ∷ ms)
+  leading m ms p h zero d less = p
+  leading m ms p h (suc k) d less = h k d (omega (arith, less))
+
+  parted : (ms ns : List ℕ) → All P (ms ++ ns) → All P ms × All P ns
+  parted [] ns h = (nothing, h)
+  parted (m ∷ ms) ns h =
+      let later = parted ms ns (λ k d less. h (suc k) d (omega (arith, less))) in
+      (leading m ms (h zero m (omega arith)) later.0, later.1)
+
+  ended : (ms : List ℕ) → All P ms → All P (ms ++ [])
+  ended ms h = let Q : List ℕ → Type 0 = λ ns. All P ns in subst Q (sym (append-nil ms)) h
+
+  tuple_rows : (ns : List ℕ) → All P ns → All P (rows_of (tuple_template ns))
+  tuple_rows [] h = nothing
+  tuple_rows (n ∷ ns) h =
+      let Q : List ℕ → Type 0 = λ ms. All P ms in
+      subst Q (sym (append-nil (rows_in (templates_of (map row (n ∷ ns)))) ∙ rows_same (n ∷ ns))) h
+
+  struct_rows : (contract : Contract) (xs : List Field) (closed : Bool) → All P (map (λ x. x.ty) xs)
+      → All P (rows_of (struct_template contract xs closed))
+  struct_rows contract xs closed h =
+      let Q : List ℕ → Type 0 = λ ms. All P ms in subst Q (sym (map_rows xs (required_names contract xs) closed)) h
+
+  -- ---- enums
+
+  payload_rows : (contract : Contract) (p : Payload) → All P (payload_numbers p) → All P (rows_of (payload_template contract p))
+  payload_rows contract no_payload h = h
+  payload_rows contract (newtype_payload n) h = h
+  payload_rows contract (tuple_payload ns) h = tuple_rows ns h
+  payload_rows contract (struct_payload xs closed) h = struct_rows contract xs closed h
+
+  keyed_rows : (t : Template) → All P (rows_of t) → All P ((rows_of t ++ []) ++ [])
+  keyed_rows t h = ended (rows_of t ++ []) (ended (rows_of t) h)
+
+  named_rows : (contract : Contract) (name : Text) (p : Payload) → All P (payload_numbers p)
+      → All P (rows_of (named_template contract name p))
+  named_rows contract name no_payload h = h
+  named_rows contract name (newtype_payload n) h = keyed_rows (row n) h
+  named_rows contract name (tuple_payload ns) h = keyed_rows (tuple_template ns) (tuple_rows ns h)
+  named_rows contract name (struct_payload xs closed) h =
+      keyed_rows (struct_template contract xs closed) (struct_rows contract xs closed h)
+
+  other_rows : (contract : Contract) (xs : List Variant) → All P (variant_numbers xs)
+      → All P (rows_in (templates_of (other_items contract xs)))
+  other_rows contract [] h = nothing
+  other_rows contract (x ∷ xs) h =
+      let parts = parted (payload_numbers x.payload) (variant_numbers xs) h in
+      go (is_bare_unit x) (named_rows contract x.name x.payload parts.0) (other_rows contract xs parts.1)
+    where
+      go : (b : Bool) → All P (rows_of (named_template contract x.name x.payload))
+          → All P (rows_in (templates_of (other_items contract xs)))
+          → All P (rows_in (templates_of (if b then other_items contract xs else
+          noted x.notes (named_template contract x.name x.payload) ∷ other_items contract xs)))
+      go true own later = later
+      go false own later = All-append P (rows_of (named_template contract x.name x.payload)) _ own later
+
+  choice_rows : (ks : List Text) (ts : List Template) → All P (rows_in (templates_of ts)) → All P (rows_of (choice_of ks ts))
+  choice_rows [] [] h = nothing
+  choice_rows [] (t ∷ ts) h = ended (rows_in (templates_of (t ∷ ts))) h
+  choice_rows (k ∷ ks) [] h = nothing
+  choice_rows (k ∷ ks) (t ∷ ts) h = ended (rows_in (templates_of (t ∷ ts))) h
+
+  items_rows : (contract : Contract) (xs : List Variant) → All P (variant_numbers xs)
+      → All P (rows_in (templates_of (map (payload_item contract) xs)))
+  items_rows contract [] h = nothing
+  items_rows contract (x ∷ xs) h =
+      let parts = parted (payload_numbers x.payload) (variant_numbers xs) h in
+      All-append P (rows_of (payload_template contract x.payload)) _ (payload_rows contract x.payload parts.0)
+      (items_rows contract xs parts.1)
+
+  untagged_rows : (contract : Contract) (xs : List Variant) → All P (variant_numbers xs) → All P (rows_of (untagged_template contract xs))
+  untagged_rows contract [] h = nothing
+  untagged_rows contract (x ∷ xs) h =
+      ended (rows_in (templates_of (map (payload_item contract) (x ∷ xs)))) (items_rows contract (x ∷ xs) h)
+
   pub all_rows : (contract : Contract) (kind : Shape) → All P (numbers_of kind) → All P (rows_of (template_of contract kind))
   all_rows contract shape.null h = nothing
   all_rows contract shape.bool h = nothing
@@ -60,14 +141,13 @@ module _ (P : ℕ → Type 0) where
   all_rows contract (shape.array n zero) h = nothing
   all_rows contract (shape.array n (suc len)) h = h
   all_rows contract (shape.up_to n most) h = h
-  all_rows contract (shape.tuple []) h = nothing
-  all_rows contract (shape.tuple (n ∷ ns)) h =
-      let Q : List ℕ → Type 0 = λ ms. All P ms in
-      subst Q (sym (append-nil (rows_in (templates_of (map row (n ∷ ns)))) ∙ rows_same (n ∷ ns))) h
-  all_rows contract (shape.struct xs closed) h =
-      let Q : List ℕ → Type 0 = λ ms. All P ms in subst Q (sym (map_rows xs (required_names contract xs) closed)) h
+  all_rows contract (shape.tuple ns) h = tuple_rows ns h
+  all_rows contract (shape.struct xs closed) h = struct_rows contract xs closed h
   all_rows contract (shape.newtype n) h = h
   all_rows contract (shape.result a b) h = h
   all_rows contract (shape.bound n) h = twice n h
   all_rows contract (shape.range n) h = twice n h
   all_rows contract (shape.either a b) h = h
+  all_rows contract (shape.external xs) h =
+      choice_rows (bare_units xs) (other_items contract xs) (other_rows contract xs h)
+  all_rows contract (shape.untagged xs) h = untagged_rows contract xs h

@@ -5,18 +5,18 @@ use Rattle.std.specs.Prelude.{codes, bytes_eq, ◌||◌, ◌&&◌, if◌then◌e
 use Rattle.serde_json.specs.Data.{Data, null, boolean, number, string, array, object, Items, no_items, item, Members}
 use Rattle.serde_json.specs.Data.{no_members, member, put}
 use Rattle.serde_json.specs.Find.{get_member}
-use Rattle.serde_json.specs.View.{view, items_view, members_view}
+use Rattle.serde_json.specs.View.{view, items_view, items_of, members_view}
 use Rattle.serde_json.specs.declared.value.Value.{Value}
 use Rattle.std.specs.Prelude.{IsTrue, length}
 use Rattle.std.proofs.Common.{arith, suc}
-use Rattle.std.specs.Prelude.{map}
+use Rattle.std.specs.Prelude.{map, option_and_then}
 use Rattle.std.specs.Cmp.Lexicographic.{slice_cmp}
 use Rattle.std.specs.Ordering.{match_ordering}
 use Rattle.std.proofs.Common.{Ordering, Less, Equal, Greater, nat_cmp, is_eq}
 use Rattle.std.proofs.lemmas.Bool.{eqb-true}
 use Rattle.std.proofs.Math.Bool.{or_assoc}
 use Rattle.std.proofs.lemmas.Map.Text.{is_eq-slice_cmp}
-use Rattle.serde_json.specs.Find.{as_object, as_bool}
+use Rattle.serde_json.specs.Find.{as_object, as_bool, as_str}
 use Rattle.serde_json.specs.Events.{members_len}
 use Rattle.schemars_schema.specs.SchemaData.{members_in}
 use Rattle.schemars_rewrite.specs.AllowNull.{accepts_everything}
@@ -33,6 +33,7 @@ use Rattle.schemars_schema.proofs.Verdicts.{both-yes, either-verdict}
 use Rattle.schemars_schema.proofs.Objects.{schema-judge, judge-object, says, says-agree}
 use Rattle.schemars_rewrite.specs.AllowNull.{null_schema, is_combined, is_null_choice, offers_null, holds_text}
 use Rattle.schemars_rewrite.specs.AllowNull.{holds_null, with_item, type_with_null, null_in_type, enum_with_null}
+use Rattle.schemars_rewrite.specs.AllowNull.{is_text, enum_admits_null, is_null_schema, holds_null_schema}
 use Rattle.schemars_rewrite.specs.AllowNull.{null_in_enum, null_in_const, null_in_values, or_null, allow_null}
 use Rattle.schemars_rewrite.specs.NullLaw.{text_items, HasTypeForm, zero_schema, AcceptsNull, SomeAcceptsNull}
 use Rattle.schemars_rewrite.specs.NullLaw.{OffersNull, IsChoice, IsPlain, IsNullable, context2020_12, AcceptsNullToo}
@@ -309,7 +310,7 @@ alone_parts ms h =
 
 -- ---- a choice that stays
 
-and-parts : (a b : Bool) → a && b ≡ true → (a ≡ true) × (b ≡ true)
+pub and-parts : (a b : Bool) → a && b ≡ true → (a ≡ true) × (b ≡ true)
 and-parts true b h = (refl, h)
 and-parts false b h = absurd (true≢false (sym h))
 
@@ -546,21 +547,109 @@ plain-with_null ms p =
       not_form = rw (at (codes "not") refl refl) p.not_form;
     }
 
-pub nullable-allow_null : (t : Data) → IsNullable t → IsNullable (allow_null t)
-nullable-allow_null (boolean true) r = tt
-nullable-allow_null (boolean false) r = inr (record { alone = refl; type_form = refl; no_const = refl; not_form = inl refl })
-nullable-allow_null (object ms) r = go (is_null_choice (object ms)) (is_combined (object ms)) refl r
+-- a schema to which null can be added, that combines schemas without a type or is plain
+abbrev pub IsReady : Data → Type 0
+IsReady null = ⊥
+IsReady (boolean b) = Unit {0}
+IsReady (number n) = ⊥
+IsReady (string s) = ⊥
+IsReady (array ds) = ⊥
+IsReady (object ms) = (IsChoice ms × (get_member (codes "type") ms ≡ None)) ⊎ IsPlain ms
+
+pub ready_nullable : (t : Data) → IsReady t → IsNullable t
+ready_nullable (boolean b) r = tt
+ready_nullable (object ms) (inl choice) = inl choice.0
+ready_nullable (object ms) (inr p) = inr p
+ready_nullable null r = absurd r
+ready_nullable (number n) r = absurd r
+ready_nullable (string s) r = absurd r
+ready_nullable (array ds) r = absurd r
+
+pub ready-allow_null : (t : Data) → IsReady t → IsReady (allow_null t)
+ready-allow_null (boolean true) r = tt
+ready-allow_null (boolean false) r = inr (record { alone = refl; type_form = refl; no_const = refl; not_form = inl refl })
+ready-allow_null (object ms) r = go (is_null_choice (object ms)) (is_combined (object ms)) refl r
   where
-    go : (s o : Bool) → is_combined (object ms) ≡ o → IsChoice ms ⊎ IsPlain ms
-        → IsNullable (if s then object ms else if o then or_null (object ms) else object (with_null ms))
+    go : (s o : Bool) → is_combined (object ms) ≡ o → IsReady (object ms)
+        → IsReady (if s then object ms else if o then or_null (object ms) else object (with_null ms))
     go true o is h = h
-    go false true is h = inl (record { combined = refl; offers = λ stays. inr (inl (λ patterns follow. of_null patterns follow null)) })
-    go false false is (inl p) = absurd (true≢false (sym p.combined ∙ is))
+    go false true is h = inl (
+      record { combined = refl; offers = λ stays. inr (inl (λ patterns follow. of_null patterns follow null)) },
+      refl,
+    )
+    go false false is (inl p) = absurd (true≢false (sym p.0.combined ∙ is))
     go false false is (inr p) = inr (plain-with_null ms p)
-nullable-allow_null null r = absurd r
-nullable-allow_null (number n) r = absurd r
-nullable-allow_null (string s) r = absurd r
-nullable-allow_null (array ds) r = absurd r
+ready-allow_null null r = absurd r
+ready-allow_null (number n) r = absurd r
+ready-allow_null (string s) r = absurd r
+ready-allow_null (array ds) r = absurd r
+
+kept_type : (d : Option Data) → is_text (codes "null") (option_and_then as_str d) ≡ true → type_plus d ≡ d
+unfolding type_plus
+kept_type (Some (string t)) h = rw h refl
+kept_type None h = absurd (true≢false (sym h))
+kept_type (Some null) h = absurd (true≢false (sym h))
+kept_type (Some (boolean b)) h = absurd (true≢false (sym h))
+kept_type (Some (number n)) h = absurd (true≢false (sym h))
+kept_type (Some (array ds)) h = absurd (true≢false (sym h))
+kept_type (Some (object ms)) h = absurd (true≢false (sym h))
+
+kept_enum : (d : Option Data) → enum_admits_null d ≡ true → enum_plus d ≡ d
+unfolding enum_plus
+kept_enum (Some (array ds)) h = rw h refl
+kept_enum None h = refl
+kept_enum (Some null) h = refl
+kept_enum (Some (boolean b)) h = refl
+kept_enum (Some (number n)) h = refl
+kept_enum (Some (string t)) h = refl
+kept_enum (Some (object ms)) h = refl
+
+-- where the type and the values admit null already, nothing changes
+kept : (g : Raw) → is_text (codes "null") (option_and_then as_str (g (codes "type"))) ≡ true → enum_admits_null (g (codes "enum")) ≡ true
+    → (k : Text) → g k ≡ with_both (type_plus (g (codes "type"))) (enum_plus (g (codes "enum"))) g k
+kept g typed admits k = go (bytes_eq k (codes "type")) (bytes_eq k (codes "enum")) refl refl
+  where
+    go : (b d : Bool) → bytes_eq k (codes "type") ≡ b → bytes_eq k (codes "enum") ≡ d
+        → g k ≡ (if b then type_plus (g (codes "type")) else (if d then enum_plus (g (codes "enum")) else g k))
+    go true d e h = ap g ((bytes_eq-Decides k (codes "type")).0 e) ∙ sym (kept_type (g (codes "type")) typed)
+    go false true e h = ap g ((bytes_eq-Decides k (codes "enum")).0 h) ∙ sym (kept_enum (g (codes "enum")) admits)
+    go false false e h = refl
+
+-- a plain schema whose type is null, and whose values admit it, accepts it
+plain_null : (ms : Members) → IsPlain ms → is_null_schema (object ms) ≡ true → AcceptsNull (object ms)
+plain_null ms p is patterns f =
+    let g : Raw = λ k. get_member k ms in
+    let parts = alone_parts ms p.alone in
+    let said = and-parts _ _ is in
+    let values = and-parts _ _ said.1 in
+    ap (λ j. j.fits null) (judge-object (c patterns f) ms ∙ says-agree (c patterns f) g (nulled patterns f g)
+    (λ k key. kept g said.0 values.1 k))
+    ∙ null_says patterns f g p.type_form p.no_const p.not_form parts.0 parts.1 parts.2 parts.3
+
+pub ready_null : (t : Data) → IsReady t → is_null_schema t ≡ true → AcceptsNull t
+ready_null (boolean b) r is = absurd (true≢false (sym is))
+ready_null (object ms) (inl choice) is =
+    let typed : is_text (codes "null") (option_and_then as_str (get_member (codes "type") ms)) ≡ true = (and-parts _ _ is).0 in
+    absurd (true≢false (sym typed ∙ ap (λ o. is_text (codes "null") (option_and_then as_str o)) choice.1))
+ready_null (object ms) (inr p) is = plain_null ms p is
+ready_null null r is = absurd r
+ready_null (number n) r is = absurd r
+ready_null (string s) r is = absurd r
+ready_null (array ds) r is = absurd r
+
+-- one of such schemas accepts null where one of them is the schema of null
+abbrev pub AreReady : List Data → Type 0
+AreReady [] = Unit {0}
+AreReady (t ∷ ts) = IsReady t × AreReady ts
+
+pub some_accepts_null : (ts : List Data) → AreReady ts → holds_null_schema (items_of ts) ≡ true → SomeAcceptsNull (items_of ts)
+some_accepts_null [] r is = absurd (true≢false (sym is))
+some_accepts_null (t ∷ ts) r is = go (is_null_schema t) refl is (some_accepts_null ts r.1)
+  where
+    go : (b : Bool) → is_null_schema t ≡ b → b || holds_null_schema (items_of ts) ≡ true
+        → (holds_null_schema (items_of ts) ≡ true → SomeAcceptsNull (items_of ts)) → AcceptsNull t ⊎ SomeAcceptsNull (items_of ts)
+    go true e h later = inl (ready_null t r.0 e)
+    go false e h later = inr (later h)
 
 pub nullable-schema : (t : Data) → IsNullable t → IsSchema t
 nullable-schema (boolean b) h = tt
@@ -569,6 +658,9 @@ nullable-schema null h = absurd h
 nullable-schema (number n) h = absurd h
 nullable-schema (string s) h = absurd h
 nullable-schema (array ds) h = absurd h
+
+pub ready-schema : (t : Data) → IsReady t → IsSchema t
+ready-schema t r = nullable-schema t (ready_nullable t r)
 
 -- ---- for the code
 

@@ -5,7 +5,8 @@ use Rattle.serde_json.specs.Data.{member}
 use Rattle.serde_json.specs.View.{view, members_view}
 use Rattle.serde_json.proofs.Views.{Entry}
 use Rattle.schemars_shapes.specs.declared.shape.Field as src-field
-use Rattle.schemars_shapes.specs.Shape.{field_of}
+use Rattle.schemars_shapes.specs.declared.variant.Variant as src-variant
+use Rattle.schemars_shapes.specs.Shape.{field_of, variant_of}
 
 pub members_view-copied : (es fs : List Entry) → AllZip (λ p q. (string_bytes q.0 ≡ string_bytes p.0) × (view q.1 ≡ view p.1)) es fs
     → members_view fs ≡ members_view es
@@ -19,3 +20,10 @@ map-field_of-copied [] [] h = refl
 map-field_of-copied (f ∷ fs) (g ∷ gs) h = λ i. h.0 i ∷ map-field_of-copied fs gs h.1 i
 map-field_of-copied [] (g ∷ gs) h = absurd h
 map-field_of-copied (f ∷ fs) [] h = absurd h
+
+pub map_variant_of_copied : (xs ys : List src-variant.Variant) → AllZip (λ x y. variant_of y ≡ variant_of x) xs ys
+    → map variant_of ys ≡ map variant_of xs
+map_variant_of_copied [] [] h = refl
+map_variant_of_copied (x ∷ xs) (y ∷ ys) h = λ i. h.0 i ∷ map_variant_of_copied xs ys h.1 i
+map_variant_of_copied [] (y ∷ ys) h = absurd h
+map_variant_of_copied (x ∷ xs) [] h = absurd h

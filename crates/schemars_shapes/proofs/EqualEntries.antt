@@ -13,8 +13,9 @@ use Rattle.schemars_shapes.specs.declared.shape.IntKind.{IntKind}
 use Rattle.schemars_shapes.specs.IntKind.{kind_eq}
 use Rattle.schemars_shapes.specs.Shape.{Required, Field, Shape, Entry, null, bool, int, non_zero, number}
 use Rattle.schemars_shapes.specs.Shape.{text, char, formatted, any, bytes, schema_itself, option, seq, set}
-use Rattle.schemars_shapes.specs.Shape.{array as array_shape, up_to, tuple, struct, newtype, result, bound, range, either}
-use Rattle.schemars_shapes.specs.Equality.{bool_eq, required_eq, field_eq, list_eq, shape_eq, entry_eq}
+use Rattle.schemars_shapes.specs.Shape.{array as array_shape, up_to, tuple, struct, newtype, result, bound, range, either, external}
+use Rattle.schemars_shapes.specs.Shape.{untagged, Payload, Variant, no_payload, newtype_payload, tuple_payload, struct_payload}
+use Rattle.schemars_shapes.specs.Equality.{bool_eq, required_eq, field_eq, list_eq, payload_eq, variant_eq, variants_eq, shape_eq, entry_eq}
 
 and_left : (a b : Bool) → (a && b) ≡ true → a ≡ true
 and_left true b h = refl
@@ -100,6 +101,33 @@ same_number m n h = (Decides-eqb m n).0 h
 same_two : (l m n o : ℕ) → (l == m && n == o) ≡ true → (l ≡ m) × (n ≡ o)
 same_two l m n o h = (same_number l m (and_left (l == m) (n == o) h), same_number n o (and_right (l == m) (n == o) h))
 
+same_payload : (p q : Payload) → payload_eq p q ≡ true → p ≡ q
+same_payload no_payload no_payload h = refl
+same_payload (newtype_payload m) (newtype_payload n) h = ap newtype_payload (same_number m n h)
+same_payload (tuple_payload ms) (tuple_payload ns) h = ap tuple_payload ((bytes_eq-Decides ms ns).0 h)
+same_payload (struct_payload fs closed) (struct_payload gs sealed) h = λ i. struct_payload
+    (same_list fs gs (and_right (bool_eq closed sealed) (list_eq fs gs) h) i)
+    (same_bool closed sealed (and_left (bool_eq closed sealed) (list_eq fs gs) h) i)
+same_payload p q h = cc
+
+same_variant : (x y : Variant) → variant_eq x y ≡ true → x ≡ y
+same_variant x y h =
+    let rest : (payload_eq x.payload y.payload && members_eq x.notes y.notes) ≡ true =
+    and_right (bytes_eq x.name y.name) (payload_eq x.payload y.payload && members_eq x.notes y.notes) h in
+    let name : x.name ≡ y.name = (bytes_eq-Decides x.name y.name).0 (and_left (bytes_eq x.name y.name)
+    (payload_eq x.payload y.payload && members_eq x.notes y.notes) h) in
+    let payload : x.payload ≡ y.payload = same_payload x.payload y.payload
+    (and_left (payload_eq x.payload y.payload) (members_eq x.notes y.notes) rest) in
+    let notes : x.notes ≡ y.notes = same_members x.notes y.notes (and_right (payload_eq x.payload y.payload)
+    (members_eq x.notes y.notes) rest) in
+    λ i. record { name = name i; payload = payload i; notes = notes i }
+
+same_variants : (xs ys : List Variant) → variants_eq xs ys ≡ true → xs ≡ ys
+same_variants [] [] h = refl
+same_variants (x ∷ xs) (y ∷ ys) h = λ i. same_variant x y (and_left (variant_eq x y) (variants_eq xs ys) h) i
+    ∷ same_variants xs ys (and_right (variant_eq x y) (variants_eq xs ys) h) i
+same_variants xs ys h = cc
+
 same_shape : (s t : Shape) → shape_eq s t ≡ true → s ≡ t
 same_shape null null h = refl
 same_shape bool bool h = refl
@@ -126,6 +154,8 @@ same_shape (result m e) (result n f) h = let both = same_two m n e f h in λ i. 
 same_shape (bound m) (bound n) h = ap bound (same_number m n h)
 same_shape (range m) (range n) h = ap range (same_number m n h)
 same_shape (either m e) (either n f) h = let both = same_two m n e f h in λ i. either (both.0 i) (both.1 i)
+same_shape (external xs) (external ys) h = ap external (same_variants xs ys h)
+same_shape (untagged xs) (untagged ys) h = ap untagged (same_variants xs ys h)
 same_shape s t h = cc
 
 pub same_entry : (a b : Entry) → entry_eq a b ≡ true → a ≡ b

@@ -1,6 +1,6 @@
 -- What a list of fields refers to, and its names, one after another.
 use Rattle.std.proofs.Common.{◌≡◌, ◌<◌, ◌+◌, ◌||◌, ◌∙◌, ℕ, suc, List, [], ◌∷◌, ◌++◌, Bool, true, false, not, cond, Some}
-use Rattle.std.proofs.Common.{Bor, length, map, take, get_or, slice_get, option_map, Contains, string_bytes, refl, ap}
+use Rattle.std.proofs.Common.{Bor, length, map, take, get_or, option_map, Contains, string_bytes, refl, ap}
 use Rattle.std.proofs.Common.{sym, subst, arith, true≢false}
 use Rattle.std.specs.Cmp.Lexicographic.{slice_cmp}
 use Rattle.std.specs.Ordering.{nat_cmp, is_eq}
@@ -16,9 +16,9 @@ use Rattle.std.proofs.lemmas.Slice.Eq.{bytes_eq-Decides}
 use Rattle.schemars_json.specs.Json.{Text}
 use Rattle.schemars_shapes.specs.declared.shape.Field as src-field
 use Rattle.schemars_shapes.specs.declared.shape.Fields as src-fields
-use Rattle.schemars_shapes.specs.declared.shape.Shape as src-shape
-use Rattle.schemars_shapes.specs.declared.shape.Shape.TheVariants as src
-use Rattle.schemars_shapes.specs.Shape.{field_of, shape_of, names_of}
+use Rattle.schemars_shapes.specs.declared.variant.Payload as src-payload
+use Rattle.schemars_shapes.specs.declared.variant.Payload.TheVariants as payload
+use Rattle.schemars_shapes.specs.Shape.{field_of, payload_of, payload_names}
 use Rattle.schemars_shapes.specs.Repeated.{IsRepeated}
 
 pub map-ty : (fs : List src-field.Field) → map (λ f. f.ty) fs ≡ map (λ f. f.ty) (map field_of fs)
@@ -54,30 +54,33 @@ Contains-from_any q (x ∷ xs) h = by (bytes_eq q x) refl h (Contains-from_any q
     by true e t rest = (0, omega arith, sym ((bytes_eq-Decides q x).0 e))
     by false e t rest = let (k, below, is) = rest t in (suc k, omega arith, is)
 
--- the names of the first fields differ, and a set has just these
-pub record AreMet (fs : List src-field.Field) (i : ℕ) (met : BTreeSet (Bor (List ℕ))) : Type 0 where
-  pub differ : IsDistinct bytes_eq (map name_in (take i fs))
-  pub same : (q : Bor (List ℕ)) → contains (λ x y. slice_cmp nat_cmp x.now y.now) met q
-      ≡ list_any (bytes_eq q.now) (map name_in (take i fs))
+abbrev pub now_of : Bor (List ℕ) → Text
+now_of b = b.now
 
-pub met_none : (fs : List src-field.Field) (met : BTreeSet (Bor (List ℕ))) → met.keys ≡ [] → AreMet fs 0 met
+-- the first names differ, and a set has just these
+pub record AreMet (fs : List (Bor (List ℕ))) (i : ℕ) (met : BTreeSet (Bor (List ℕ))) : Type 0 where
+  pub differ : IsDistinct bytes_eq (map now_of (take i fs))
+  pub same : (q : Bor (List ℕ)) → contains (λ x y. slice_cmp nat_cmp x.now y.now) met q
+      ≡ list_any (bytes_eq q.now) (map now_of (take i fs))
+
+pub met_none : (fs : List (Bor (List ℕ))) (met : BTreeSet (Bor (List ℕ))) → met.keys ≡ [] → AreMet fs 0 met
 unfolding IsDistinct
 met_none fs met empty = record { differ = tt; same = λ q. rw empty refl }
 
-name_more : (fs : List src-field.Field) (i : ℕ) (d : src-field.Field) → i < length fs
-    → map name_in (take (i + 1) fs) ≡ map name_in (take i fs) ++ name_in (get_or fs i d) ∷ []
-name_more fs i d below = map_more name_in fs i d below
+name_more : (fs : List (Bor (List ℕ))) (i : ℕ) (d : Bor (List ℕ)) → i < length fs
+    → map now_of (take (i + 1) fs) ≡ map now_of (take i fs) ++ now_of (get_or fs i d) ∷ []
+name_more fs i d below = map_more now_of fs i d below
 
 pub bytes_eq_comm : (a b : Text) → bytes_eq a b ≡ bytes_eq b a
 bytes_eq_comm a b = nat_list_eq_equiv.symm a b
 
-pub met_more : (fs : List src-field.Field) (i : ℕ) (d : src-field.Field) (name : Bor (List ℕ)) (old new : BTreeSet (Bor (List ℕ)))
-    → i < length fs → name.now ≡ name_in (get_or fs i d) → AreMet fs i old
+pub met_more : (fs : List (Bor (List ℕ))) (i : ℕ) (d name : Bor (List ℕ)) (old new : BTreeSet (Bor (List ℕ)))
+    → i < length fs → name.now ≡ now_of (get_or fs i d) → AreMet fs i old
     → contains (λ x y. slice_cmp nat_cmp x.now y.now) old name ≡ false → Updates (λ x y. slice_cmp nat_cmp x.now y.now) old new name true
     → AreMet fs (i + 1) new
 met_more fs i d name old new below is h absent updates =
-    let before : List Text = map name_in (take i fs) in
-    let grown : map name_in (take (i + 1) fs) ≡ before ++ name.now ∷ [] =
+    let before : List Text = map now_of (take i fs) in
+    let grown : map now_of (take (i + 1) fs) ≡ before ++ name.now ∷ [] =
     name_more fs i d below ∙ ap (λ (n : Text). before ++ n ∷ []) (sym is) in
     record {
       differ = subst (λ (ns : List Text). IsDistinct bytes_eq ns) (sym grown)
@@ -97,18 +100,16 @@ met_more fs i d name old new below is h absent updates =
     either false false true e = refl
     either false false false e = refl
 
-pub repeated_at : (fs : List src-field.Field) (i : ℕ) (d : src-field.Field) (name : Bor (List ℕ)) (met : BTreeSet (Bor (List ℕ)))
-    → i < length fs → name.now ≡ name_in (get_or fs i d) → AreMet fs i met
-    → contains (λ x y. slice_cmp nat_cmp x.now y.now) met name ≡ true → IsRepeated (map (λ f. f.name) (map field_of fs)) name.now
+pub repeated_at : (fs : List (Bor (List ℕ))) (i : ℕ) (d name : Bor (List ℕ)) (met : BTreeSet (Bor (List ℕ)))
+    → i < length fs → name.now ≡ now_of (get_or fs i d) → AreMet fs i met
+    → contains (λ x y. slice_cmp nat_cmp x.now y.now) met name ≡ true → IsRepeated (map now_of fs) name.now
 repeated_at fs i d name met below is h there =
-    let front : take i (map (λ f. f.name) (map field_of fs)) ≡ map name_in (take i fs) =
-    ap (take i) (sym (map-name fs)) ∙ take-map name_in i fs in
+    let front : take i (map now_of fs) ≡ map now_of (take i fs) = take-map now_of i fs in
     record {
       place = i;
-      is_there = ap (λ (ns : List Text). slice_get ns i) (sym (map-name fs)) ∙ slice_get-map name_in fs i
-          ∙ ap (option_map name_in) (slice_get-get_or fs i d below) ∙ ap Some (sym is);
+      is_there = slice_get-map now_of fs i ∙ ap (option_map now_of) (slice_get-get_or fs i d below) ∙ ap Some (sym is);
       is_before = subst (λ (ns : List Text). Contains ns name.now) (sym front)
-          (Contains-from_any name.now (map name_in (take i fs)) (sym (h.same name) ∙ there));
+          (Contains-from_any name.now (map now_of (take i fs)) (sym (h.same name) ∙ there));
       is_first = subst (λ (ns : List Text). IsDistinct bytes_eq ns) (sym front) h.differ;
     }
 
@@ -120,30 +121,11 @@ pub from_not_true : (a b : Bool) → a ≡ not b → a ≡ true → b ≡ false
 from_not_true a true e h = cc
 from_not_true a false e h = refl
 
--- no shape but a struct has names
-pub distinct_unless_struct : (s : src-shape.Shape) → ((fields : src-fields.Fields) → s ≡ src.Struct fields → ⊥)
-    → IsDistinct bytes_eq (names_of (shape_of s))
+-- no payload but a struct has fields
+pub no_fields : (p : src-payload.Payload) → ((fields : src-fields.Fields) → p ≡ payload.Struct fields → ⊥)
+    → IsDistinct bytes_eq (payload_names (payload_of p))
 unfolding IsDistinct
-distinct_unless_struct (src.Struct fields) other = absurd (other fields refl)
-distinct_unless_struct src.Null other = tt
-distinct_unless_struct src.Bool other = tt
-distinct_unless_struct (src.Int k) other = tt
-distinct_unless_struct (src.NonZero k) other = tt
-distinct_unless_struct src.Number other = tt
-distinct_unless_struct src.Text other = tt
-distinct_unless_struct src.Char other = tt
-distinct_unless_struct (src.Formatted f) other = tt
-distinct_unless_struct src.Any other = tt
-distinct_unless_struct src.Bytes other = tt
-distinct_unless_struct src.SchemaItself other = tt
-distinct_unless_struct (src.Option n) other = tt
-distinct_unless_struct (src.Seq n) other = tt
-distinct_unless_struct (src.Set n) other = tt
-distinct_unless_struct (src.Array n len) other = tt
-distinct_unless_struct (src.UpTo n cap) other = tt
-distinct_unless_struct (src.Tuple ns) other = tt
-distinct_unless_struct (src.Newtype n) other = tt
-distinct_unless_struct (src.Result ok err) other = tt
-distinct_unless_struct (src.Bound n) other = tt
-distinct_unless_struct (src.Range n) other = tt
-distinct_unless_struct (src.Either left right) other = tt
+no_fields (payload.Struct fields) other = absurd (other fields refl)
+no_fields payload.Unit other = tt
+no_fields (payload.Newtype n) other = tt
+no_fields (payload.Tuple ns) other = tt

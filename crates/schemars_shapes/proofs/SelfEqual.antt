@@ -14,9 +14,10 @@ use Rattle.schemars_shapes.specs.declared.shape.IntKind.{IntKind}
 use Rattle.schemars_shapes.specs.IntKind.{kind_eq}
 use Rattle.schemars_shapes.specs.Shape.{Field, Shape, Entry, null, bool, int, non_zero, number, text, char, formatted}
 use Rattle.schemars_shapes.specs.Shape.{any, bytes, schema_itself, option, seq, set, array as array_shape, up_to, tuple}
-use Rattle.schemars_shapes.specs.Shape.{struct, newtype, result, bound, range, either}
-use Rattle.schemars_shapes.specs.Equality.{bool_eq, field_eq, list_eq, shape_eq, entry_eq}
-use Rattle.schemars_shapes.specs.Decimals.{fields_have_float, shape_has_float, entry_has_float}
+use Rattle.schemars_shapes.specs.Shape.{struct, newtype, result, bound, range, either, external, untagged, Payload, Variant}
+use Rattle.schemars_shapes.specs.Shape.{no_payload, newtype_payload, tuple_payload, struct_payload}
+use Rattle.schemars_shapes.specs.Equality.{bool_eq, field_eq, list_eq, payload_eq, variants_eq, shape_eq, entry_eq}
+use Rattle.schemars_shapes.specs.Decimals.{fields_have_float, payload_has_float, variants_have_float, shape_has_float, entry_has_float}
 
 pub neither : (a b : Bool) → a || b ≡ false → (a ≡ false) × (b ≡ false)
 neither true b h = absurd (true≢false h)
@@ -70,6 +71,24 @@ list_eq-refl (f ∷ fs) h = let parts = neither (members_have_float f.notes) (fi
 kind_eq-refl : (k : IntKind) → kind_eq k k ≡ true
 kind_eq-refl k = true_same the_type k k refl
 
+payload_eq-refl : (p : Payload) → payload_has_float p ≡ false → payload_eq p p ≡ true
+payload_eq-refl no_payload h = refl
+payload_eq-refl (newtype_payload n) h = rw ((Decides-eqb n n).1 refl) refl
+payload_eq-refl (tuple_payload ns) h = rw ((bytes_eq-Decides ns ns).1 refl) refl
+payload_eq-refl (struct_payload list closed) h = rw (bool_eq-refl closed, list_eq-refl list h) refl
+
+variants_eq-refl : (xs : List Variant) → variants_have_float xs ≡ false → variants_eq xs xs ≡ true
+variants_eq-refl [] h = refl
+variants_eq-refl (x ∷ xs) h =
+    let parts = neither (members_have_float x.notes || payload_has_float x.payload) (variants_have_float xs) h in
+    let own = neither (members_have_float x.notes) (payload_has_float x.payload) parts.0 in
+    rw (
+      (bytes_eq-Decides x.name x.name).1 refl,
+      payload_eq-refl x.payload own.1,
+      members_eq-refl x.notes own.0,
+      variants_eq-refl xs parts.1,
+    ) refl
+
 shape_eq-refl : (s : Shape) → shape_has_float s ≡ false → shape_eq s s ≡ true
 shape_eq-refl null h = refl
 shape_eq-refl bool h = refl
@@ -94,6 +113,8 @@ shape_eq-refl (result n m) h = rw ((Decides-eqb n n).1 refl, (Decides-eqb m m).1
 shape_eq-refl (bound n) h = rw ((Decides-eqb n n).1 refl) refl
 shape_eq-refl (range n) h = rw ((Decides-eqb n n).1 refl) refl
 shape_eq-refl (either n m) h = rw ((Decides-eqb n n).1 refl, (Decides-eqb m m).1 refl) refl
+shape_eq-refl (external xs) h = variants_eq-refl xs h
+shape_eq-refl (untagged xs) h = variants_eq-refl xs h
 
 pub entry_eq-refl : (e : Entry) → entry_has_float e ≡ false → entry_eq e e ≡ true
 entry_eq-refl e h =

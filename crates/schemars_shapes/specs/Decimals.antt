@@ -1,14 +1,24 @@
 -- Entries without decimals in their notes: numbers that are no 64-bit whole numbers.
 use Rattle.std.specs.Prelude.{List, [], ◌∷◌, Bool, false, ◌||◌}
 use Rattle.serde_json.specs.Written.{members_have_float}
-use Rattle.schemars_shapes.specs.Shape.{Shape, Field, Entry, struct}
+use Rattle.schemars_shapes.specs.Shape.{Shape, Field, Entry, Payload, Variant, struct, external, untagged, struct_payload}
 
 abbrev pub fields_have_float : List Field → Bool
 fields_have_float [] = false
 fields_have_float (f ∷ fs) = members_have_float f.notes || fields_have_float fs
 
+abbrev pub payload_has_float : Payload → Bool
+payload_has_float (struct_payload list closed) = fields_have_float list
+payload_has_float _ = false
+
+abbrev pub variants_have_float : List Variant → Bool
+variants_have_float [] = false
+variants_have_float (x ∷ xs) = (members_have_float x.notes || payload_has_float x.payload) || variants_have_float xs
+
 abbrev pub shape_has_float : Shape → Bool
 shape_has_float (struct list closed) = fields_have_float list
+shape_has_float (external xs) = variants_have_float xs
+shape_has_float (untagged xs) = variants_have_float xs
 shape_has_float _ = false
 
 abbrev pub entry_has_float : Entry → Bool

@@ -5,7 +5,8 @@ use Rattle.schemars_json.specs.Json.{members_eq}
 use Rattle.schemars_shapes.specs.IntKind.{kind_eq}
 use Rattle.schemars_shapes.specs.Shape.{Required, Field, Shape, Entry, null, bool, int, non_zero, number, text, char}
 use Rattle.schemars_shapes.specs.Shape.{formatted, any, bytes, schema_itself, option, seq, set, array, up_to, tuple}
-use Rattle.schemars_shapes.specs.Shape.{struct, newtype, result, bound, range, either}
+use Rattle.schemars_shapes.specs.Shape.{struct, newtype, result, bound, range, either, external, untagged, Payload, Variant}
+use Rattle.schemars_shapes.specs.Shape.{no_payload, newtype_payload, tuple_payload, struct_payload}
 
 abbrev pub bool_eq : Bool → Bool → Bool
 bool_eq a b = if a then b else not b
@@ -20,6 +21,20 @@ field_eq a b = bytes_eq a.name b.name && (a.ty == b.ty && (required_eq a.require
 -- the order of the fields counts
 abbrev pub list_eq : List Field → List Field → Bool
 list_eq = pointwise field_eq
+
+abbrev pub payload_eq : Payload → Payload → Bool
+payload_eq no_payload no_payload = true
+payload_eq (newtype_payload m) (newtype_payload n) = m == n
+payload_eq (tuple_payload ms) (tuple_payload ns) = pointwise nat_eq ms ns
+payload_eq (struct_payload fs closed) (struct_payload gs sealed) = bool_eq closed sealed && list_eq fs gs
+payload_eq _ _ = false
+
+abbrev pub variant_eq : Variant → Variant → Bool
+variant_eq a b = bytes_eq a.name b.name && (payload_eq a.payload b.payload && members_eq a.notes b.notes)
+
+-- the order of the variants counts
+abbrev pub variants_eq : List Variant → List Variant → Bool
+variants_eq = pointwise variant_eq
 
 abbrev pub shape_eq : Shape → Shape → Bool
 shape_eq null null = true
@@ -45,6 +60,8 @@ shape_eq (result m e) (result n f) = (m == n) && (e == f)
 shape_eq (bound m) (bound n) = m == n
 shape_eq (range m) (range n) = m == n
 shape_eq (either m e) (either n f) = (m == n) && (e == f)
+shape_eq (external xs) (external ys) = variants_eq xs ys
+shape_eq (untagged xs) (untagged ys) = variants_eq xs ys
 shape_eq _ _ = false
 
 abbrev pub entry_eq : Entry → Entry → Bool

@@ -1,5 +1,5 @@
 -- Lists in which a name stands twice.
-use Rattle.std.specs.Prelude.{◌≡◌, ℕ, List, take, Contains, slice_get, Some, bytes_eq}
+use Rattle.std.specs.Prelude.{◌≡◌, ◌⊎◌, ℕ, List, [], ◌∷◌, take, Contains, slice_get, Some, bytes_eq}
 use Rattle.std.specs.List.{IsDistinct}
 use Rattle.schemars_json.specs.Json.{Text}
 
@@ -9,3 +9,13 @@ pub record IsRepeated (names : List Text) (name : Text) : Type 0 where
   pub is_there : slice_get names place ≡ Some name
   pub is_before : Contains (take place names) name
   pub is_first : IsDistinct bytes_eq (take place names)
+
+-- no name stands twice in one of the lists
+abbrev pub AreDistinctLists : List (List Text) → Type 0
+AreDistinctLists [] = Unit {0}
+AreDistinctLists (names ∷ lists) = IsDistinct bytes_eq names × AreDistinctLists lists
+
+-- and this is the first that does, list after list
+abbrev pub IsFirstRepeated : List (List Text) → Text → Type 0
+IsFirstRepeated [] name = ⊥
+IsFirstRepeated (names ∷ lists) name = IsRepeated names name ⊎ (IsDistinct bytes_eq names × IsFirstRepeated lists name)

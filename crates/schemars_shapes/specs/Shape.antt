@@ -1,5 +1,5 @@
 -- What an entry of a table says: a row's shape, whether it is written in place, and its notes.
-use Rattle.std.specs.Prelude.{ℕ, ◌==◌, if◌then◌else◌, List, [], ◌∷◌, map, Bool, true, string_bytes}
+use Rattle.std.specs.Prelude.{ℕ, ◌==◌, if◌then◌else◌, List, [], ◌∷◌, ◌++◌, map, Bool, true, string_bytes}
 use Rattle.serde_json.specs.Data.{Members, no_members}
 use Rattle.serde_json.specs.View.{members_view}
 use Rattle.schemars_json.specs.Json.{Text}
@@ -8,6 +8,9 @@ use Rattle.schemars_shapes.specs.declared.shape.Required as src-required
 use Rattle.schemars_shapes.specs.declared.shape.Field as src-field
 use Rattle.schemars_shapes.specs.declared.shape.Fields as src-fields
 use Rattle.schemars_shapes.specs.declared.shape.TypeEntry as src-entry
+use Rattle.schemars_shapes.specs.declared.variant.Variant as src-variant
+use Rattle.schemars_shapes.specs.declared.variant.Payload as src-payload
+use Rattle.schemars_shapes.specs.declared.variant.Payload.TheVariants as payload
 use Rattle.schemars_shapes.specs.declared.shape.Shape as src-shape
 use Rattle.schemars_shapes.specs.declared.shape.Shape.TheVariants as src
 
@@ -22,8 +25,21 @@ pub record Field : Type 0 where
   pub required : Required
   pub notes : Members
 
+-- what a variant has beside its name
+pub data Payload : Type 0 where
+  no_payload : Payload
+  newtype_payload : ℕ → Payload
+  tuple_payload : List ℕ → Payload
+  struct_payload : List Field → Bool → Payload
+
+pub record Variant : Type 0 where
+  pub name : Text
+  pub payload : Payload
+  pub notes : Members
+
 -- Numbers are those of rows. An array has just so many items, and `up_to` has so many at most. A struct has fields, in order, and may
--- be closed to other keys. A result has the row of `Ok` first, and `either` that of `Left`.
+-- be closed to other keys. A result has the row of `Ok` first, and `either` that of `Left`. The variants of an enum are tagged by their
+-- names, or by nothing.
 pub data Shape : Type 0 where
   null : Shape
   bool : Shape
@@ -48,6 +64,8 @@ pub data Shape : Type 0 where
   bound : ℕ → Shape
   range : ℕ → Shape
   either : ℕ → ℕ → Shape
+  external : List Variant → Shape
+  untagged : List Variant → Shape
 
 pub record Entry : Type 0 where
   pub inline : Bool
@@ -63,6 +81,15 @@ field_of f = record { name = string_bytes f.name; ty = f.ty; required = required
 -- the fields, and whether other keys are excluded
 abbrev pub fields_view : src-fields.Fields → List Field × Bool
 fields_view fields = (map field_of fields.list.items, fields.closed)
+
+abbrev pub payload_of : src-payload.Payload → Payload
+payload_of payload.Unit = no_payload
+payload_of (payload.Newtype n) = newtype_payload n
+payload_of (payload.Tuple parts) = tuple_payload parts.items
+payload_of (payload.Struct fields) = struct_payload (fields_view fields).0 (fields_view fields).1
+
+abbrev pub variant_of : src-variant.Variant → Variant
+variant_of x = record { name = string_bytes x.name; payload = payload_of x.payload; notes = members_view x.notes.entries }
 
 abbrev pub shape_of : src-shape.Shape → Shape
 shape_of src.Null = null
@@ -88,6 +115,8 @@ shape_of (src.Result ok err) = result ok err
 shape_of (src.Bound n) = bound n
 shape_of (src.Range n) = range n
 shape_of (src.Either left right) = either left right
+shape_of (src.External variants) = external (map variant_of variants.items)
+shape_of (src.Untagged variants) = untagged (map variant_of variants.items)
 
 abbrev pub entry_of : src-entry.TypeEntry → Entry
 entry_of e = record { inline = e.inline; notes = members_view e.notes.entries; shape = shape_of e.shape }
@@ -107,6 +136,16 @@ needed name n = record { name = name; ty = n; required = record { deserialize = 
 abbrev pub in_place : Shape → Entry
 in_place s = without_notes true s
 
+abbrev pub payload_numbers : Payload → List ℕ
+payload_numbers no_payload = []
+payload_numbers (newtype_payload n) = n ∷ []
+payload_numbers (tuple_payload ns) = ns
+payload_numbers (struct_payload list closed) = map (λ f. f.ty) list
+
+abbrev pub variant_numbers : List Variant → List ℕ
+variant_numbers [] = []
+variant_numbers (x ∷ xs) = payload_numbers x.payload ++ variant_numbers xs
+
 -- the rows that a shape refers to, as they are written
 abbrev pub numbers_of : Shape → List ℕ
 numbers_of (option n) = n ∷ []
@@ -121,15 +160,37 @@ numbers_of (result ok err) = ok ∷ err ∷ []
 numbers_of (bound n) = n ∷ []
 numbers_of (range n) = n ∷ []
 numbers_of (either left right) = left ∷ right ∷ []
+numbers_of (external xs) = variant_numbers xs
+numbers_of (untagged xs) = variant_numbers xs
 numbers_of _ = []
+
+abbrev pub newtype_numbers : List Variant → List ℕ
+newtype_numbers [] = []
+newtype_numbers (x ∷ xs) = elim x.payload [
+  | no_payload ↦ newtype_numbers xs
+  | newtype_payload n ↦ n ∷ newtype_numbers xs
+  | tuple_payload ns ↦ newtype_numbers xs
+  | struct_payload list closed ↦ newtype_numbers xs
+]
 
 -- the rows whose values a shape has itself
 abbrev pub same_value_numbers : Shape → List ℕ
 same_value_numbers (option n) = n ∷ []
 same_value_numbers (newtype n) = n ∷ []
+same_value_numbers (untagged xs) = newtype_numbers xs
 same_value_numbers _ = []
 
--- the names in a shape's list of fields, in order
-abbrev pub names_of : Shape → List Text
-names_of (struct list closed) = map (λ f. f.name) list
+-- the names of a variant's fields
+abbrev pub payload_names : Payload → List Text
+payload_names (struct_payload list closed) = map (λ f. f.name) list
+payload_names _ = []
+
+abbrev pub variant_names : List Variant → List (List Text)
+variant_names xs = map (λ x. x.name) xs ∷ map (λ x. payload_names x.payload) xs
+
+-- the lists of names in a shape: those of its fields, or of its variants and then of the fields of each
+abbrev pub names_of : Shape → List (List Text)
+names_of (struct list closed) = map (λ f. f.name) list ∷ []
+names_of (external xs) = variant_names xs
+names_of (untagged xs) = variant_names xs
 names_of _ = []

@@ -1,9 +1,12 @@
 //! Copies that say the same as what they are made of.
+ghost use Rattle.std.specs.Prelude.{◌≡◌, map, IfOk};
+ghost use Rattle.schemars_shapes.specs.Shape.{variant_of};
+
 use crate::shape::{Field, Fields, Shape, TypeEntry};
+use crate::variant::{Payload, Variant};
 use std::alloc::AllocError;
 
 impl Clone for TypeEntry {
-    ghost use Rattle.std.specs.Prelude.{◌≡◌};
     ghost use Rattle.schemars_shapes.specs.Shape.{entry_of};
 
     ghost is_clone = { λ e f. entry_of f ≡ entry_of e };
@@ -18,7 +21,6 @@ impl Clone for TypeEntry {
 }
 
 impl Clone for Shape {
-    ghost use Rattle.std.specs.Prelude.{◌≡◌};
     ghost use Rattle.schemars_shapes.specs.Shape.{shape_of};
 
     ghost is_clone = { λ s t. shape_of t ≡ shape_of s };
@@ -48,12 +50,47 @@ impl Clone for Shape {
             Shape::Bound(n) => Shape::Bound(*n),
             Shape::Range(n) => Shape::Range(*n),
             Shape::Either(left, right) => Shape::Either(*left, *right),
+            Shape::External(variants) => Shape::External(copies(variants)?),
+            Shape::Untagged(variants) => Shape::Untagged(copies(variants)?),
+        })
+    }
+}
+
+#[tactic(auto, using(crate::proofs::Copies::map_variant_of_copied))]
+fn copies(variants: &Vec<Variant>) -> Result<Vec<Variant>, AllocError>
+    ensures { IfOk result (λ v. map variant_of v.items ≡ map variant_of variants.now.items) }
+{
+    variants.clone()
+}
+
+impl Clone for Variant {
+    ghost is_clone = { λ x y. variant_of y ≡ variant_of x };
+
+    fn clone(&self) -> Result<Variant, AllocError> {
+        Ok(Variant {
+            name: self.name.clone()?,
+            notes: self.notes.clone()?,
+            payload: self.payload.clone()?,
+        })
+    }
+}
+
+impl Clone for Payload {
+    ghost use Rattle.schemars_shapes.specs.Shape.{payload_of};
+
+    ghost is_clone = { λ x y. payload_of y ≡ payload_of x };
+
+    fn clone(&self) -> Result<Payload, AllocError> {
+        Ok(match self {
+            Payload::Unit => Payload::Unit,
+            Payload::Newtype(n) => Payload::Newtype(*n),
+            Payload::Tuple(parts) => Payload::Tuple(parts.clone()?),
+            Payload::Struct(fields) => Payload::Struct(fields.clone()?),
         })
     }
 }
 
 impl Clone for Fields {
-    ghost use Rattle.std.specs.Prelude.{◌≡◌};
     ghost use Rattle.schemars_shapes.specs.Shape.{fields_view};
 
     ghost is_clone = { λ f g. fields_view g ≡ fields_view f };
@@ -67,7 +104,6 @@ impl Clone for Fields {
 }
 
 impl Clone for Field {
-    ghost use Rattle.std.specs.Prelude.{◌≡◌};
     ghost use Rattle.schemars_shapes.specs.Shape.{field_of};
 
     ghost is_clone = { λ f g. field_of g ≡ field_of f };

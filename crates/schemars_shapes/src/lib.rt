@@ -3,6 +3,9 @@
 #![tactic(auto)]
 
 mod clone;
+mod names;
 mod shape;
+mod variant;
 
 pub use shape::{Field, Fields, IntKind, Required, Shape, TypeEntry, TypeNo};
+pub use variant::{Payload, Variant};

@@ -1,15 +1,18 @@
-ghost use Rattle.std.specs.Prelude.{◌≡◌, ◌&&◌, nat_le, find, map, bytes_eq, string_bytes, IfOk, MatchOption};
+ghost use Rattle.std.specs.Prelude.{◌≡◌, ◌&&◌, ◌++◌, nat_le, find, map, bytes_eq, string_bytes, IfOk, OnOk, MatchOption};
 ghost use Rattle.std.specs.List.{IsDistinct};
 ghost use Rattle.schemars_shapes.specs.IntKind.{format_of, non_zero_name};
 ghost use Rattle.schemars_shapes.specs.Shape.{shape_of, field_of, fields_view, entry_of, numbers_of};
 ghost use Rattle.schemars_shapes.specs.Shape.{same_value_numbers, names_of, without_notes};
-ghost use Rattle.schemars_shapes.specs.Repeated.{IsRepeated};
+ghost use Rattle.schemars_shapes.specs.Repeated.{IsRepeated, AreDistinctLists, IsFirstRepeated};
 ghost use Rattle.schemars_shapes.specs.Equality.{shape_eq, list_eq, field_eq, bool_eq, entry_eq};
 
+use crate::names::first_repeated;
+use crate::variant::{
+    Variant, first_unknown_in, newtypes_in, numbers_in, repeated_in, variants_equal,
+};
 use schemars_schema::json_eq_members;
 use serde_json::{Map, Value};
 use std::alloc::{AllocError, Global};
-use std::collections::BTreeSet;
 
 /// A row's number in a table.
 pub type TypeNo = usize;
@@ -122,6 +125,10 @@ pub enum Shape {
     Range(TypeNo),
     /// a map with one key: `Left` of the first row, or `Right` of the second
     Either(TypeNo, TypeNo),
+    /// the name of a unit variant, or a map with the name of another as its one key
+    External(Vec<Variant>),
+    /// what a variant has, without its name
+    Untagged(Vec<Variant>),
 }
 
 /// The fields of a struct.
@@ -160,6 +167,9 @@ impl Shape {
             Shape::Array(n, _) | Shape::UpTo(n, _) => first_unknown(&[*n], len),
             Shape::Bound(n) | Shape::Range(n) => first_unknown(&[*n], len),
             Shape::Result(n, m) | Shape::Either(n, m) => first_unknown(&[*n, *m], len),
+            Shape::External(variants) | Shape::Untagged(variants) => first_unknown_in(
+                variants, len,
+            ),
             Shape::Tuple(parts) => first_unknown(parts, len),
             Shape::Struct(fields) => fields.first_unknown(len),
             _ => None,
@@ -176,6 +186,7 @@ impl Shape {
             Shape::Array(n, _) | Shape::UpTo(n, _) => Ok(vec![in alloc; *n]?),
             Shape::Bound(n) | Shape::Range(n) => Ok(vec![in alloc; *n]?),
             Shape::Result(n, m) | Shape::Either(n, m) => Ok(vec![in alloc; *n, *m]?),
+            Shape::External(variants) | Shape::Untagged(variants) => numbers_in(alloc, variants),
             Shape::Tuple(parts) => parts.clone(),
             Shape::Struct(fields) => fields.numbers(alloc),
             _ => Ok(Vec::new(alloc)),
@@ -188,18 +199,26 @@ impl Shape {
     {
         match self {
             Shape::Option(n) | Shape::Newtype(n) => Ok(vec![in alloc; *n]?),
+            Shape::Untagged(variants) => newtypes_in(alloc, variants),
             _ => Ok(Vec::new(alloc)),
         }
     }
 
-    /// The first name in the list of fields that is met a second time.
+    /// The first name that is met a second time: in the list of fields, or in that of variants, or
+    /// else in the list of fields of a variant.
     pub fn repeated_name(&self, alloc: Global) -> Result<Option<String>, AllocError>
-        ensures { IfOk result (λ r. MatchOption r (IsDistinct bytes_eq (names_of (shape_of self.now)))
-            (λ s. IsRepeated (names_of (shape_of self.now)) (string_bytes s))) }
+        ensures { IfOk result (λ r. MatchOption r (AreDistinctLists (names_of (shape_of self.now)))
+            (λ s. IsFirstRepeated (names_of (shape_of self.now)) (string_bytes s))) }
     {
         match self {
             Shape::Struct(fields) => fields.repeated_name(alloc),
-            _ => Ok(None),
+            Shape::External(variants) | Shape::Untagged(variants) => repeated_in(alloc, variants),
+            Shape::Null | Shape::Bool | Shape::Int(_) | Shape::NonZero(_) => Ok(None),
+            Shape::Number | Shape::Text | Shape::Char | Shape::Formatted(_) => Ok(None),
+            Shape::Any | Shape::Bytes | Shape::SchemaItself => Ok(None),
+            Shape::Option(_) | Shape::Newtype(_) | Shape::Seq(_) | Shape::Set(_) => Ok(None),
+            Shape::Array(..) | Shape::UpTo(..) | Shape::Tuple(_) => Ok(None),
+            Shape::Result(..) | Shape::Either(..) | Shape::Bound(_) | Shape::Range(_) => Ok(None),
         }
     }
 
@@ -230,12 +249,14 @@ impl Shape {
             (Shape::Bound(n), Shape::Bound(m)) => n == m,
             (Shape::Range(n), Shape::Range(m)) => n == m,
             (Shape::Either(a, b), Shape::Either(c, d)) => a == c && b == d,
+            (Shape::External(a), Shape::External(b)) => variants_equal(a, b),
+            (Shape::Untagged(a), Shape::Untagged(b)) => variants_equal(a, b),
             _ => false,
         }
     }
 }
 
-fn first_unknown(numbers: &[TypeNo], len: usize) -> Option<TypeNo>
+pub(crate) fn first_unknown(numbers: &[TypeNo], len: usize) -> Option<TypeNo>
     ensures { result ≡ find (λ n. nat_le len n) numbers.now }
 {
     for n in numbers {
@@ -253,23 +274,28 @@ impl Fields {
         self.list.iter().map(|field| field.ty).collect(alloc)
     }
 
-    fn repeated_name(&self, alloc: Global) -> Result<Option<String>, AllocError>
+    pub(crate) fn add_numbers(&self, numbers: &mut Vec<TypeNo>) -> Result<(), AllocError>
+        ensures { OnOk result (numbers.new.items ≡ numbers.old.items ++ map (λ f. f.ty) (map field_of self.now.list.items)) }
+    {
+        for field in &self.list {
+            numbers.push(field.ty)?;
+        }
+        Ok(())
+    }
+
+    pub(crate) fn repeated_name(&self, alloc: Global) -> Result<Option<String>, AllocError>
         ensures { IfOk result (λ r.
             let names = map (λ f. f.name) (map field_of self.now.list.items) in
             MatchOption r (IsDistinct bytes_eq names) (λ s. IsRepeated names (string_bytes s))) }
     {
-        let mut met = BTreeSet::new(alloc);
+        let mut names = Vec::new(alloc);
         for field in &self.list {
-            let name = field.name.as_str();
-            if !met.insert(name)? {
-                let name = String::from_str(alloc, name)?;
-                return Ok(Some(name));
-            }
+            names.push(field.name.as_str())?;
         }
-        Ok(None)
+        first_repeated(alloc, &names)
     }
 
-    fn first_unknown(&self, len: usize) -> Option<TypeNo>
+    pub(crate) fn first_unknown(&self, len: usize) -> Option<TypeNo>
         ensures { result ≡ find (λ n. nat_le len n) (map (λ f. f.ty) (map field_of self.now.list.items)) }
     {
         for field in &self.list {
@@ -281,7 +307,7 @@ impl Fields {
     }
 
     // The order of the fields counts.
-    fn is_equal(&self, other: &Fields) -> bool
+    pub(crate) fn is_equal(&self, other: &Fields) -> bool
         ensures { result ≡ (bool_eq self.now.closed other.now.closed
             && list_eq (fields_view self.now).0 (fields_view other.now).0) }
     {

@@ -1,11 +1,11 @@
 -- The document of each shape, as a template.
-use Rattle.std.specs.Prelude.{ℕ, zero, suc, List, [], ◌∷◌, ◌++◌, length, map, Bool, true, false, codes}
-use Rattle.serde_json.specs.Data.{Data, boolean, number, unsigned, string, array, Items, item, no_items}
+use Rattle.std.specs.Prelude.{ℕ, zero, suc, List, [], ◌∷◌, ◌++◌, length, map, Bool, true, false, if◌then◌else◌, codes}
+use Rattle.serde_json.specs.Data.{Data, boolean, number, unsigned, string, array, Items, item, no_items, Members, no_members, member}
 use Rattle.schemars_json.specs.Json.{Text}
 use Rattle.schemars_rewrite.specs.NullLaw.{text_items}
 use Rattle.schemars_rewrite.specs.Variants.{unit_variant}
 use Rattle.schemars_shapes.specs.Shape as shape
-use Rattle.schemars_shapes.specs.Shape.{Shape, Field, Entry}
+use Rattle.schemars_shapes.specs.Shape.{Shape, Field, Entry, Payload, Variant, no_payload, newtype_payload, tuple_payload, struct_payload}
 use Rattle.schemars_types.specs.Meaning.{Contract}
 use Rattle.schemars_documents.specs.Documents.{type_alone, int_document, non_zero_document, char_document}
 use Rattle.schemars_documents.specs.Documents.{formatted_document, empty_list_document, bytes_document, schema_document}
@@ -90,22 +90,83 @@ struct_template contract xs closed = map_template (map property xs) (text_items 
 abbrev pub one_of : List Template → Template
 one_of ts = object_with ((codes "oneOf", list (templates_of ts)) ∷ [])
 
+-- one of these at least
+abbrev pub any_of : List Template → Template
+any_of ts = object_with ((codes "anyOf", list (templates_of ts)) ∷ [])
+
 -- a map with this member, which has to be there
-abbrev pub member_template : Bool → Text → ℕ → Template
-member_template closed name n = map_template ((name, row n) ∷ []) (text_items (name ∷ [])) closed
+abbrev pub member_template : Bool → Text → Template → Template
+member_template closed name t = map_template ((name, t) ∷ []) (text_items (name ∷ [])) closed
 
 abbrev pub result_template : ℕ → ℕ → Template
-result_template t e = one_of (member_template false (codes "Ok") t ∷ member_template false (codes "Err") e ∷ [])
+result_template t e = one_of (member_template false (codes "Ok") (row t) ∷ member_template false (codes "Err") (row e) ∷ [])
 
 abbrev pub bound_template : ℕ → Template
-bound_template n = one_of (member_template false (codes "Included") n ∷ member_template false (codes "Excluded") n
+bound_template n = one_of (member_template false (codes "Included") (row n) ∷ member_template false (codes "Excluded") (row n)
     ∷ finished (unit_variant (codes "Unbounded")) ∷ [])
 
 abbrev pub range_template : ℕ → Template
 range_template n = map_template ((codes "start", row n) ∷ (codes "end", row n) ∷ []) (text_items (codes "start" ∷ codes "end" ∷ [])) false
 
 abbrev pub either_template : ℕ → ℕ → Template
-either_template l r = one_of (member_template true (codes "Left") l ∷ member_template true (codes "Right") r ∷ [])
+either_template l r = one_of (member_template true (codes "Left") (row l) ∷ member_template true (codes "Right") (row r) ∷ [])
+
+-- ---- enums
+
+abbrev pub payload_template : Contract → Payload → Template
+payload_template contract no_payload = finished (type_alone (codes "null"))
+payload_template contract (newtype_payload n) = row n
+payload_template contract (tuple_payload ns) = tuple_template ns
+payload_template contract (struct_payload xs closed) = struct_template contract xs closed
+
+-- a unit by its name, and another payload under that name alone
+abbrev pub named_template : Contract → Text → Payload → Template
+named_template contract name no_payload = finished (unit_variant name)
+named_template contract name (newtype_payload n) = member_template true name (payload_template contract (newtype_payload n))
+named_template contract name (tuple_payload ns) = member_template true name (payload_template contract (tuple_payload ns))
+named_template contract name (struct_payload xs closed) = member_template true name (payload_template contract (struct_payload xs closed))
+
+-- units without notes share one item
+abbrev pub is_none : Members → Bool
+is_none no_members = true
+is_none (member k d ms) = false
+
+abbrev pub is_bare_unit : Variant → Bool
+is_bare_unit x = elim x.payload [
+  | no_payload ↦ is_none x.notes
+  | newtype_payload n ↦ false
+  | tuple_payload ns ↦ false
+  | struct_payload xs closed ↦ false
+]
+
+abbrev pub bare_units : List Variant → List Text
+bare_units [] = []
+bare_units (x ∷ xs) = if is_bare_unit x then x.name ∷ bare_units xs else bare_units xs
+
+abbrev pub other_items : Contract → List Variant → List Template
+other_items contract [] = []
+other_items contract (x ∷ xs) =
+    if is_bare_unit x then other_items contract xs else noted x.notes (named_template contract x.name x.payload) ∷ other_items contract xs
+
+abbrev pub units_template : List Text → Template
+units_template ks = object_with (typed (codes "string") ∷ said (codes "enum") (array (text_items ks)) ∷ [])
+
+-- the shared item stands first, and alone where there is no other
+abbrev pub choice_of : List Text → List Template → Template
+choice_of [] [] = finished (boolean false)
+choice_of [] (t ∷ ts) = one_of (t ∷ ts)
+choice_of (k ∷ ks) [] = units_template (k ∷ ks)
+choice_of (k ∷ ks) (t ∷ ts) = one_of (units_template (k ∷ ks) ∷ t ∷ ts)
+
+abbrev pub external_template : Contract → List Variant → Template
+external_template contract xs = choice_of (bare_units xs) (other_items contract xs)
+
+abbrev pub payload_item : Contract → Variant → Template
+payload_item contract x = noted x.notes (payload_template contract x.payload)
+
+abbrev pub untagged_template : Contract → List Variant → Template
+untagged_template contract [] = finished (boolean false)
+untagged_template contract (x ∷ xs) = any_of (map (payload_item contract) (x ∷ xs))
 
 -- ---- by shape
 
@@ -133,6 +194,8 @@ template_of contract (shape.result t e) = result_template t e
 template_of contract (shape.bound n) = bound_template n
 template_of contract (shape.range n) = range_template n
 template_of contract (shape.either l r) = either_template l r
+template_of contract (shape.external xs) = external_template contract xs
+template_of contract (shape.untagged xs) = untagged_template contract xs
 
 -- a row's document, with its notes
 abbrev pub entry_template : Contract → Entry → Template

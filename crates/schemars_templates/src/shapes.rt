@@ -1,8 +1,9 @@
 //! The template of each shape.
 ghost use Rattle.std.specs.Prelude.{◌≡◌, ◌∷◌, ◌++◌, [], codes, map, IfOk, OnOk};
-ghost use Rattle.serde_json.specs.Data.{string, number, unsigned, boolean};
+ghost use Rattle.serde_json.specs.Data.{string, number, unsigned, boolean, array};
 ghost use Rattle.serde_json.specs.View.{items_view};
-ghost use Rattle.schemars_shapes.specs.Shape.{shape_of, field_of, entry_of};
+ghost use Rattle.schemars_shapes.specs.Shape.{shape_of, field_of, entry_of, payload_of, variant_of};
+ghost use Rattle.schemars_rewrite.specs.NullLaw.{text_items};
 ghost use Rattle.schemars_documents.specs.ContractOf.{contract_of};
 ghost use Rattle.schemars_documents.specs.Documents.{bytes_document};
 ghost use Rattle.schemars_templates.specs.Template.{row, finished, nullable};
@@ -11,7 +12,9 @@ ghost use Rattle.schemars_templates.specs.OfShape.{object_with, typed, list_temp
 ghost use Rattle.schemars_templates.specs.OfShape.{up_to_template, tuple_template, property, properties_at, required_at, closed_at};
 ghost use Rattle.schemars_templates.specs.OfShape.{map_template, struct_template, template_of, entry_template};
 ghost use Rattle.schemars_templates.specs.OfShape.{one_of, member_template, result_template, bound_template, range_template};
-ghost use Rattle.schemars_templates.specs.OfShape.{either_template};
+ghost use Rattle.schemars_templates.specs.OfShape.{either_template, any_of, said, payload_template, named_template};
+ghost use Rattle.schemars_templates.specs.OfShape.{is_bare_unit, bare_units, other_items, external_template};
+ghost use Rattle.schemars_templates.specs.OfShape.{payload_item, untagged_template};
 
 use crate::template::Template;
 use schemars_documents::Contract;
@@ -22,7 +25,7 @@ use schemars_documents::documents::{
 use schemars_documents::integers::{int_document, non_zero_document};
 use schemars_rewrite::builders::new_unit_enum_variant;
 use schemars_schema::Schema;
-use schemars_types::{Field, Fields, IntKind, Shape, TypeEntry, TypeNo};
+use schemars_types::{Field, Fields, IntKind, Payload, Shape, TypeEntry, TypeNo, Variant};
 use serde_json::Value;
 use std::alloc::{AllocError, Global};
 
@@ -70,6 +73,8 @@ pub fn template_of<'t>(
         Shape::Bound(n) => bound_template(alloc, *n),
         Shape::Range(n) => range_template(alloc, *n),
         Shape::Either(left, right) => either_template(alloc, *left, *right),
+        Shape::External(variants) => external_template(alloc, contract, variants),
+        Shape::Untagged(variants) => untagged_template(alloc, contract, variants),
     }
 }
 
@@ -206,17 +211,17 @@ fn properties<'t>(
 fn result_template<'t>(alloc: Global, ok: TypeNo, err: TypeNo) -> Result<Template<'t>, AllocError>
     ensures { IfOk result (λ t. template_view t ≡ result_template ok err) }
 {
-    let ok = member_template(alloc, "Ok", ok, false)?;
-    let err = member_template(alloc, "Err", err, false)?;
-    let choices: Vec<Template<'t>> = vec![in alloc; ok, err]?;
-    one_of(alloc, choices)
+    let ok = member_template(alloc, "Ok", row(ok), false)?;
+    let err = member_template(alloc, "Err", row(err), false)?;
+    let results: Vec<Template<'t>> = vec![in alloc; ok, err]?;
+    one_of(alloc, results)
 }
 
 fn bound_template<'t>(alloc: Global, n: TypeNo) -> Result<Template<'t>, AllocError>
     ensures { IfOk result (λ t. template_view t ≡ bound_template n) }
 {
-    let included = member_template(alloc, "Included", n, false)?;
-    let excluded = member_template(alloc, "Excluded", n, false)?;
+    let included = member_template(alloc, "Included", row(n), false)?;
+    let excluded = member_template(alloc, "Excluded", row(n), false)?;
     let unbounded = finished(new_unit_enum_variant(alloc, "Unbounded")?)?;
     let choices: Vec<Template<'t>> = vec![in alloc; included, excluded, unbounded]?;
     one_of(alloc, choices)
@@ -242,8 +247,8 @@ fn either_template<'t>(
 ) -> Result<Template<'t>, AllocError>
     ensures { IfOk result (λ t. template_view t ≡ either_template left right) }
 {
-    let left = member_template(alloc, "Left", left, true)?;
-    let right = member_template(alloc, "Right", right, true)?;
+    let left = member_template(alloc, "Left", row(left), true)?;
+    let right = member_template(alloc, "Right", row(right), true)?;
     let choices: Vec<Template<'t>> = vec![in alloc; left, right]?;
     one_of(alloc, choices)
 }
@@ -252,14 +257,179 @@ fn either_template<'t>(
 fn member_template<'t>(
     alloc: Global,
     name: &'t str,
-    n: TypeNo,
+    part: Template<'t>,
     closed: bool,
 ) -> Result<Template<'t>, AllocError>
-    ensures { IfOk result (λ t. template_view t ≡ member_template closed name.now n) }
+    ensures { IfOk result (λ t. template_view t ≡ member_template closed name.now (template_view part.entry)) }
 {
-    let properties: Vec<(&'t str, Template<'t>)> = vec![in alloc; (name, Template::Row(n))]?;
+    let properties: Vec<(&'t str, Template<'t>)> = vec![in alloc; (name, part)]?;
     let required = vec![in alloc; Value::try_from_str(alloc, name)?]?;
     map_template(alloc, properties, required, closed)
+}
+
+// What a variant has beside its name.
+fn payload_template<'t>(
+    alloc: Global,
+    contract: Contract,
+    payload: &'t Payload,
+) -> Result<Template<'t>, AllocError>
+    ensures { IfOk result (λ t. template_view t ≡ payload_template (contract_of contract) (payload_of payload.now)) }
+{
+    match payload {
+        Payload::Unit => finished(type_alone(alloc, "null")?),
+        Payload::Newtype(n) => Ok(row(*n)),
+        Payload::Tuple(parts) => tuple_template(alloc, parts),
+        Payload::Struct(fields) => struct_template(alloc, contract, fields),
+    }
+}
+
+// A unit by its name, and another payload under that name alone.
+fn named_template<'t>(
+    alloc: Global,
+    contract: Contract,
+    name: &'t str,
+    payload: &'t Payload,
+) -> Result<Template<'t>, AllocError>
+    ensures { IfOk result (λ t. template_view t ≡ named_template (contract_of contract) name.now (payload_of payload.now)) }
+{
+    if let Payload::Unit = payload {
+        return finished(new_unit_enum_variant(alloc, name)?);
+    }
+    let part = payload_template(alloc, contract, payload)?;
+    member_template(alloc, name, part, true)
+}
+
+// Whether the variant is a unit without notes.
+fn is_bare_unit(variant: &Variant) -> bool
+    ensures { result ≡ is_bare_unit (variant_of variant.now) }
+{
+    match &variant.payload {
+        Payload::Unit => variant.notes.is_empty(),
+        Payload::Newtype(_) => false,
+        Payload::Tuple(_) => false,
+        Payload::Struct(_) => false,
+    }
+}
+
+fn bare_units(alloc: Global, variants: &[Variant]) -> Result<Vec<Value>, AllocError>
+    ensures { IfOk result (λ v. items_view v.items ≡ text_items (bare_units (map variant_of variants.now))) }
+{
+    let mut names = Vec::new(alloc);
+    for variant in variants {
+        if is_bare_unit(variant) {
+            let name = Value::try_from_str(alloc, variant.name.as_str())?;
+            serde_json::push(&mut names, name)?;
+        }
+    }
+    Ok(names)
+}
+
+// The items of the other variants, each with its notes.
+fn other_items<'t>(
+    alloc: Global,
+    contract: Contract,
+    variants: &'t [Variant],
+) -> Result<Vec<Template<'t>>, AllocError>
+    ensures { IfOk result (λ v. map template_view v.items
+        ≡ other_items (contract_of contract) (map variant_of variants.now)) }
+{
+    let mut items = Vec::new(alloc);
+    for variant in variants {
+        if !is_bare_unit(variant) {
+            let item = named_template(alloc, contract, variant.name.as_str(), &variant.payload)?;
+            items.push(Template::Noted(&variant.notes, Box::new(alloc, item)?))?;
+        }
+    }
+    Ok(items)
+}
+
+fn units_template<'t>(alloc: Global, names: Vec<Value>) -> Result<Template<'t>, AllocError>
+    ensures { IfOk result (λ t. template_view t
+        ≡ object_with (typed (codes "string") ∷ said (codes "enum") (array (items_view names.items)) ∷ [])) }
+{
+    let string = text(alloc, "string")?;
+    let keys = vec![in alloc; "type", "enum"]?;
+    let values = vec![in alloc; string, Template::Value(Value::Array(names))]?;
+    Ok(Template::Object(keys, values))
+}
+
+// The item of the units without notes, if there is one, and the others; it stands alone where there is no other.
+fn external_template<'t>(
+    alloc: Global,
+    contract: Contract,
+    variants: &'t [Variant],
+) -> Result<Template<'t>, AllocError>
+    ensures { IfOk result (λ t. template_view t
+        ≡ external_template (contract_of contract) (map variant_of variants.now)) }
+{
+    let names = bare_units(alloc, variants)?;
+    let others = other_items(alloc, contract, variants)?;
+    if names.is_empty() {
+        if others.is_empty() {
+            return finished(Schema::from(false));
+        }
+        return one_of(alloc, others);
+    }
+    let units = units_template(alloc, names)?;
+    if others.is_empty() {
+        return Ok(units);
+    }
+    let items = led_by(alloc, units, others)?;
+    one_of(alloc, items)
+}
+
+fn led_by<'t>(
+    alloc: Global,
+    first: Template<'t>,
+    mut rest: Vec<Template<'t>>,
+) -> Result<Vec<Template<'t>>, AllocError>
+    ensures { IfOk result (λ v. map template_view v.items
+        ≡ template_view first.entry ∷ map template_view rest.entry.items) }
+{
+    let mut items: Vec<Template<'t>> = vec![in alloc; first]?;
+    items.append(&mut rest)?;
+    Ok(items)
+}
+
+fn untagged_template<'t>(
+    alloc: Global,
+    contract: Contract,
+    variants: &'t [Variant],
+) -> Result<Template<'t>, AllocError>
+    ensures { IfOk result (λ t. template_view t
+        ≡ untagged_template (contract_of contract) (map variant_of variants.now)) }
+{
+    if variants.is_empty() {
+        return finished(Schema::from(false));
+    }
+    let items = payload_items(alloc, contract, variants)?;
+    any_of(alloc, items)
+}
+
+// The payload of each variant, with the variant's notes.
+fn payload_items<'t>(
+    alloc: Global,
+    contract: Contract,
+    variants: &'t [Variant],
+) -> Result<Vec<Template<'t>>, AllocError>
+    ensures { IfOk result (λ v. map template_view v.items
+        ≡ map (payload_item (contract_of contract)) (map variant_of variants.now)) }
+{
+    let mut items = Vec::new(alloc);
+    for variant in variants {
+        let item = payload_template(alloc, contract, &variant.payload)?;
+        items.push(Template::Noted(&variant.notes, Box::new(alloc, item)?))?;
+    }
+    Ok(items)
+}
+
+// One of these at least.
+fn any_of<'t>(alloc: Global, choices: Vec<Template<'t>>) -> Result<Template<'t>, AllocError>
+    ensures { IfOk result (λ t. template_view t ≡ any_of (map template_view choices.entry.items)) }
+{
+    let keys = vec![in alloc; "anyOf"]?;
+    let values = vec![in alloc; Template::List(choices)]?;
+    Ok(Template::Object(keys, values))
 }
 
 // Just one of these.

@@ -5,7 +5,7 @@ use std::alloc::Global;
 use std::test::Fail;
 
 // A constructor, the id of the row that it takes, and the id and the name of the row that it makes.
-const ROWS: [(&str, &str, &str, &str); 21] = [
+const ROWS: [(&str, &str, &str, &str); 23] = [
     ("null", "", "null", "null"),
     ("bool", "", "boolean", "boolean"),
     ("number", "", "Number", "Number"),
@@ -44,6 +44,13 @@ const ROWS: [(&str, &str, &str, &str); 21] = [
         "Result<string, int8>",
         "Result_of_string_or_int8",
     ),
+    (
+        "tuple",
+        "string",
+        "(string,int8)",
+        "Tuple_of_string_and_int8",
+    ),
+    ("unit", "string", "[]", "EmptyArray"),
     ("bound", "string", "Bound<string>", "Bound_of_string"),
     ("range", "string", "Range<string>", "Range_of_string"),
     (
@@ -111,6 +118,8 @@ fn made(alloc: Global, types: &mut Types, call: &str, of: TypeNo) -> Result<Type
         "pair" => types.array(alloc, of, 2),
         "up_to_8" => types.up_to(alloc, of, 8),
         "empty" => types.array(alloc, of, 0),
+        "tuple" => types.tuple(alloc, vec![in alloc; of, 0]?),
+        "unit" => types.tuple(alloc, Vec::new(alloc)),
         "result" => types.result(alloc, of, 0),
         "bound" => types.bound(alloc, of),
         "range" => types.range(alloc, of),
@@ -176,7 +185,7 @@ fn expect_rows(alloc: Global, types: &mut Types) -> Result<(), Fail> {
         let row = made(alloc, types, call, of)?;
         expect(is_row(types, row, id, name), id)?;
     }
-    expect(types.len() == 44, "forty-four rows")
+    expect(types.len() == 45, "forty-five rows")
 }
 
 #[test]

@@ -16,7 +16,7 @@ use Rattle.schemars_cycles.specs.Walks.{Leads, OnCycle, IsFree, IsLeast}
 use Rattle.schemars_types.specs.Edges.{RefersWithin, DirectEdge, SameValueEdge, direct_targets, same_value_targets}
 use Rattle.schemars_types.specs.Edges.{is_inline_at, numbers_at, same_value_numbers_at, height, rank, names_at}
 use Rattle.schemars_types.specs.EdgeKind.{targets_along}
-use Rattle.schemars_shapes.specs.Repeated.{IsRepeated}
+use Rattle.schemars_shapes.specs.Repeated.{IsRepeated, AreDistinctLists, IsFirstRepeated}
 use Rattle.schemars_types.specs.Faults.{IsUndefined, HasRepeated, OnDirectCycle, OnEmptyCycle, IsAccepted, IsChecked}
 use Rattle.schemars_types.specs.declared.check.EdgeKind.TheVariants.{Direct, SameValue}
 use Rattle.schemars_shapes.proofs.FieldLemmas.{Contains-from_any}
@@ -71,19 +71,32 @@ differ_or_repeated names (suc i) below = elim (differ_or_repeated names i (omega
         inl (subst (λ (ns : List Text). IsDistinct bytes_eq ns) (sym grown)
         (IsDistinct-push nat_list_eq_equiv (take i names) (get_or names i []) differ e))
 
-names_differ : (rows : List Row) → IsFree (HasRepeated rows) → (n : ℕ) → IsDistinct bytes_eq (names_at rows n)
-names_differ rows free n = elim (differ_or_repeated (names_at rows n) (length (names_at rows n)) (omega arith)) [
-  | inl differ ↦ subst (λ (ns : List Text). IsDistinct bytes_eq ns) (take_all (length (names_at rows n)) (names_at rows n) (omega arith))
-      differ
-  | inr r ↦ absurd (free n r)
-]
+pub never_first_repeated : (lists : List (List Text)) (name : Text) → AreDistinctLists lists → IsFirstRepeated lists name → ⊥
+never_first_repeated [] name distinct r = r
+never_first_repeated (names ∷ lists) name distinct (inl r) = never_repeated names name distinct.0 r
+never_first_repeated (names ∷ lists) name distinct (inr r) = never_first_repeated lists name distinct.1 r.1
 
-pub differ_undefined : (rows : List Row) (n : ℕ) → entry_at rows n ≡ None → IsDistinct bytes_eq (names_at rows n)
-unfolding IsDistinct
+lists_differ_or_repeated : (lists : List (List Text)) → AreDistinctLists lists ⊎ ((name : Text) × IsFirstRepeated lists name)
+lists_differ_or_repeated [] = inl tt
+lists_differ_or_repeated (names ∷ lists) =
+    elim (differ_or_repeated names (length names) (omega arith)) [ inl differ ↦ behind (all differ) (lists_differ_or_repeated lists) | inr r ↦ inr (r.0, inl r.1) ]
+  where
+    all : IsDistinct bytes_eq (take (length names) names) → IsDistinct bytes_eq names
+    all differ = subst (λ (ns : List Text). IsDistinct bytes_eq ns) (take_all (length names) names (omega arith)) differ
+
+    behind : IsDistinct bytes_eq names → AreDistinctLists lists ⊎ ((name : Text) × IsFirstRepeated lists name)
+        → AreDistinctLists (names ∷ lists) ⊎ ((name : Text) × IsFirstRepeated (names ∷ lists) name)
+    behind differ (inl later) = inl (differ, later)
+    behind differ (inr r) = inr (r.0, inr (differ, r.1))
+
+names_differ : (rows : List Row) → IsFree (HasRepeated rows) → (n : ℕ) → AreDistinctLists (names_at rows n)
+names_differ rows free n = elim (lists_differ_or_repeated (names_at rows n)) [ inl differ ↦ differ | inr r ↦ absurd (free n r) ]
+
+pub differ_undefined : (rows : List Row) (n : ℕ) → entry_at rows n ≡ None → AreDistinctLists (names_at rows n)
 differ_undefined rows n none = rw none tt
 
-pub differ_all : (rows : List Row) (len : ℕ) → length rows ≤ len → ((k : ℕ) → k < len → IsDistinct bytes_eq (names_at rows k)) → (n : ℕ)
-    → IsDistinct bytes_eq (names_at rows n)
+pub differ_all : (rows : List Row) (len : ℕ) → length rows ≤ len → ((k : ℕ) → k < len → AreDistinctLists (names_at rows k)) → (n : ℕ)
+    → AreDistinctLists (names_at rows n)
 differ_all rows len all differ n = elim (cases_lt n (length rows)) [
   | inl below ↦ differ n (omega arith)
   | inr past ↦ differ_undefined
@@ -94,12 +107,12 @@ pub none_from_not_some : {A B : Type 0} (f : A → B) (o : Option A) → is_some
 none_from_not_some f None h = refl
 none_from_not_some f (Some a) h = absurd (true≢false h)
 
-pub none_repeated : (rows : List Row) → ((n : ℕ) → IsDistinct bytes_eq (names_at rows n)) → IsFree (HasRepeated rows)
-none_repeated rows differ n (name, r) = never_repeated (names_at rows n) name (differ n) r
+pub none_repeated : (rows : List Row) → ((n : ℕ) → AreDistinctLists (names_at rows n)) → IsFree (HasRepeated rows)
+none_repeated rows differ n (name, r) = never_first_repeated (names_at rows n) name (differ n) r
 
-pub least_repeated : (rows : List Row) (n : ℕ) (name : Text) → ((k : ℕ) → k < n → IsDistinct bytes_eq (names_at rows k))
-    → IsRepeated (names_at rows n) name → IsLeast (HasRepeated rows) n
-least_repeated rows n name differ r = ((name, r), λ k below (other, s). never_repeated (names_at rows k) other (differ k below) s)
+pub least_repeated : (rows : List Row) (n : ℕ) (name : Text) → ((k : ℕ) → k < n → AreDistinctLists (names_at rows k))
+    → IsFirstRepeated (names_at rows n) name → IsLeast (HasRepeated rows) n
+least_repeated rows n name differ r = ((name, r), λ k below (other, s). never_first_repeated (names_at rows k) other (differ k below) s)
 
 -- ---- edges
 

@@ -6,3 +6,4 @@ pub mod Accepted
 pub mod Copies
 pub mod Within
 mod MeaningExamples
+pub mod Joined

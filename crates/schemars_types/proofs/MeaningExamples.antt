@@ -7,7 +7,7 @@ use Rattle.schemars_json.specs.Json.{Text, json_eq}
 use Rattle.schemars_schema.specs.SchemaData.{object_of}
 use Rattle.schemars_shapes.specs.declared.shape.IntKind.TheVariants.{I8, U8, U128, I64}
 use Rattle.schemars_shapes.specs.Shape as shape
-use Rattle.schemars_shapes.specs.Shape.{Shape, Field, in_place}
+use Rattle.schemars_shapes.specs.Shape.{Shape, Field, Variant, no_payload, newtype_payload, in_place}
 use Rattle.schemars_types.specs.Rows.{Row}
 use Rattle.schemars_types.specs.Meaning.{Contract, Deserialize, Serialize, belongs, belongs_within}
 
@@ -192,3 +192,31 @@ one_of_two : TellsApart Deserialize (shape.either 0 0) (object_of (member_of "Ri
     (object_of (member_of "Right" (whole 1) ∷ member_of "z" null ∷ []))
 unfolding TellsApart has table belongs_within whole member_of
 one_of_two = (refl, refl)
+
+-- a unit, and a byte
+variants : List Variant
+variants =
+    record { name = codes "U"; payload = no_payload; notes = no_members } ∷
+    record { name = codes "V"; payload = newtype_payload 0; notes = no_members } ∷ []
+
+units_by_name : TellsApart Deserialize (shape.external variants) (text "U") (text "V")
+unfolding TellsApart has table belongs_within text variants
+units_by_name = (refl, refl)
+
+variants_by_name : TellsApart Deserialize (shape.external variants) (object_of (member_of "V" (whole 255) ∷ []))
+    (object_of (member_of "V" (whole 255) ∷ member_of "W" null ∷ []))
+unfolding TellsApart has table belongs_within whole variants member_of
+variants_by_name = (refl, refl)
+
+variants_of_other_values : TellsApart Deserialize (shape.untagged variants) null (text "U")
+unfolding TellsApart has table belongs_within text variants
+variants_of_other_values = (refl, refl)
+
+second_variant : TellsApart Deserialize (shape.untagged variants) (whole 255) (whole 256)
+unfolding TellsApart has table belongs_within whole variants
+second_variant = (refl, refl)
+
+-- an enum without variants has no value
+no_variant : (has Deserialize (shape.external []) (text "U") ≡ false) × (has Deserialize (shape.untagged []) null ≡ false)
+unfolding has table belongs_within text
+no_variant = (refl, refl)

@@ -4,7 +4,7 @@ use Rattle.std.specs.List.{IsDistinct}
 use Rattle.schemars_json.specs.Json.{Text}
 use Rattle.schemars_types.specs.Rows.{Row, entry_at}
 use Rattle.schemars_cycles.specs.Walks.{OnCycle, IsFree, IsLeast}
-use Rattle.schemars_shapes.specs.Repeated.{IsRepeated}
+use Rattle.schemars_shapes.specs.Repeated.{AreDistinctLists, IsFirstRepeated}
 use Rattle.schemars_types.specs.Edges.{RefersWithin, DirectEdge, SameValueEdge, height, rank, names_at}
 use Rattle.schemars_types.specs.declared.error.TypesError.{TypesError}
 use Rattle.schemars_types.specs.declared.error.TypesError.TheVariants.{UndefinedType, RepeatedName, DirectCycle, EmptyCycle}
@@ -13,9 +13,9 @@ use Rattle.schemars_types.specs.declared.error.TypesError.TheVariants.{Undefined
 abbrev pub IsUndefined : List Row → ℕ → Type 0
 IsUndefined rows n = (n < length rows) × (entry_at rows n ≡ None)
 
--- row n's list of fields has a name twice
+-- a list of fields or of variants in row n's entry has a name twice
 abbrev pub HasRepeated : List Row → ℕ → Type 0
-HasRepeated rows n = (name : Text) × IsRepeated (names_at rows n) name
+HasRepeated rows n = (name : Text) × IsFirstRepeated (names_at rows n) name
 
 abbrev pub OnDirectCycle : List Row → ℕ → Type 0
 OnDirectCycle rows n = OnCycle (DirectEdge rows) n
@@ -34,18 +34,18 @@ pub record IsAccepted (rows : List Row) : Type 0 where
 abbrev pub Refusal : List Row → TypesError → Type 0
 Refusal rows (UndefinedType n) = IsLeast (IsUndefined rows) n
 Refusal rows (RepeatedName n name) =
-    IsFree (IsUndefined rows) × IsLeast (HasRepeated rows) n × IsRepeated (names_at rows n) (string_bytes name)
+    IsFree (IsUndefined rows) × IsLeast (HasRepeated rows) n × IsFirstRepeated (names_at rows n) (string_bytes name)
 Refusal rows (DirectCycle n) = IsFree (IsUndefined rows) × IsFree (HasRepeated rows) × IsLeast (OnDirectCycle rows) n
 Refusal rows (EmptyCycle n) =
     IsFree (IsUndefined rows) × IsFree (HasRepeated rows) × IsFree (OnDirectCycle rows) × IsLeast (OnEmptyCycle rows) n
 Refusal rows _ = ⊥
 
 -- What follows for a table without faults: every row has its entry, whose numbers are those of rows, no name stands twice in a list of
--- fields, and heights and ranks, which have a bound, fall along the edges.
+-- fields or of variants, and heights and ranks, which have a bound, fall along the edges.
 pub record IsChecked (rows : List Row) : Type 0 where
   pub within : RefersWithin rows
   pub defined : (n : ℕ) → n < length rows → IsSome (entry_at rows n)
-  pub names_differ : (n : ℕ) → IsDistinct bytes_eq (names_at rows n)
+  pub names_differ : (n : ℕ) → AreDistinctLists (names_at rows n)
   pub height_bound : (n : ℕ) → height rows n ≤ length rows
   pub height_falls : (n m : ℕ) → DirectEdge rows n m → height rows m < height rows n
   pub rank_bound : (n : ℕ) → n < length rows → rank rows n < length rows

@@ -1,7 +1,7 @@
 -- Which JSON values belong to a type of a table.
 use Rattle.std.specs.Prelude.{ℕ, zero, suc, ◌+◌, ◌*◌, ◌&&◌, ◌||◌, ◌==◌, ℤ, pos, negsuc, List, [], ◌∷◌, length, find}
 use Rattle.std.specs.Prelude.{Bool, true, false, not, int_le, nat_le, Option, Some, None, is_some, bytes_eq, if◌then◌else◌, codes}
-use Rattle.std.specs.List.{list_all}
+use Rattle.std.specs.List.{list_all, list_any}
 use Rattle.std.specs.Option.{option_map_or}
 use Rattle.serde_json.specs.Data.{Data, Items, no_items, item, Members, no_members, member, depth}
 use Rattle.serde_json.specs.Find.{as_bool, as_number, as_str, as_array, as_object, get_member}
@@ -11,7 +11,8 @@ use Rattle.schemars_schema.specs.SchemaData.{is_schema}
 use Rattle.schemars_schema.specs.Acceptance.{Patterns, is_null, whole_number, code_points}
 use Rattle.schemars_shapes.specs.Shape.{Required, Field, Shape, null, bool, int, non_zero, number, text, char}
 use Rattle.schemars_shapes.specs.Shape.{formatted, any, bytes, schema_itself, option, seq, set, array as array_shape}
-use Rattle.schemars_shapes.specs.Shape.{up_to, tuple, struct, newtype, result, bound, range, either, needed}
+use Rattle.schemars_shapes.specs.Shape.{up_to, tuple, struct, newtype, result, bound, range, either, external, untagged, needed}
+use Rattle.schemars_shapes.specs.Shape.{Payload, Variant, no_payload, newtype_payload, tuple_payload, struct_payload}
 use Rattle.schemars_types.specs.Rows.{Row, entry_at}
 use Rattle.schemars_shapes.specs.declared.shape.IntKind.{IntKind}
 use Rattle.schemars_shapes.specs.declared.shape.IntKind.TheVariants.{U8}
@@ -100,6 +101,26 @@ exactly_one (b ∷ bs) = if b then none bs else exactly_one bs
 abbrev pub is_text : Text → Data → Bool
 is_text t v = holds (as_str v) (bytes_eq t)
 
+-- what a variant has beside its name; null where it has nothing
+abbrev pub has_payload : Contract → (ℕ → Data → Bool) → Payload → Data → Bool
+has_payload contract part no_payload v = is_null v
+has_payload contract part (newtype_payload n) v = part n v
+has_payload contract part (tuple_payload ns) v = holds (as_array v) (each_of part ns)
+has_payload contract part (struct_payload list closed) v = has_fields contract part list closed v
+
+-- a map with this key alone, whose value passes
+abbrev pub is_map_of : Text → (Data → Bool) → Data → Bool
+is_map_of k p v = holds (as_object v) (λ ms. is_some (get_member k ms) && every_member (λ l w. bytes_eq k l && p w) ms)
+
+-- a unit is its name, and another variant a map with its name as key
+abbrev pub has_variant : Contract → (ℕ → Data → Bool) → Data → Variant → Bool
+has_variant contract part v x = elim x.payload [
+  | no_payload ↦ is_text x.name v
+  | newtype_payload n ↦ is_map_of x.name (part n) v
+  | tuple_payload ns ↦ is_map_of x.name (has_payload contract part (tuple_payload ns)) v
+  | struct_payload list closed ↦ is_map_of x.name (has_payload contract part (struct_payload list closed)) v
+]
+
 -- the values of a shape, where `part` says which values the rows inside it have
 abbrev pub has_shape : Contract → Patterns → (ℕ → Data → Bool) → Shape → Data → Bool
 has_shape contract patterns part null v = is_null v
@@ -129,6 +150,8 @@ has_shape contract patterns part (bound n) v = exactly_one
 has_shape contract patterns part (range n) v = has_fields contract part (needed (codes "start") n ∷ needed (codes "end") n ∷ []) false v
 has_shape contract patterns part (either l r) v = exactly_one
     (has_fields contract part (needed (codes "Left") l ∷ []) true v ∷ has_fields contract part (needed (codes "Right") r ∷ []) true v ∷ [])
+has_shape contract patterns part (external xs) v = list_any (has_variant contract part v) xs
+has_shape contract patterns part (untagged xs) v = list_any (λ x. has_payload contract part x.payload v) xs
 
 -- row n has the value; a row is asked at most `steps` deep
 unfoldable pub belongs_within : List Row → Contract → Patterns → ℕ → ℕ → Data → Bool

@@ -1,5 +1,6 @@
 -- The ids and names of types that are made of others.
-use Rattle.std.specs.Prelude.{ℕ, ◌==◌, if◌then◌else◌, ◌++◌, codes}
+use Rattle.std.specs.Prelude.{ℕ, ◌==◌, if◌then◌else◌, ◌++◌, List, [], ◌∷◌, codes}
+use Rattle.std.specs.List.{join_by}
 use Rattle.std.specs.Fmt.{decimal}
 use Rattle.schemars_json.specs.Json.{Text}
 use Rattle.schemars_shapes.specs.declared.shape.IntKind.{IntKind}
@@ -38,6 +39,15 @@ up_to_id id cap = codes "[" ++ (id ++ (codes "; up to " ++ (decimal cap ++ codes
 
 abbrev pub up_to_name : Text → ℕ → Text
 up_to_name name cap = codes "Array_up_to_size_" ++ (decimal cap ++ (codes "_of_" ++ name))
+
+-- of lists without parts there is one type
+abbrev pub tuple_id : List Text → Text
+tuple_id [] = codes "[]"
+tuple_id (t ∷ ts) = codes "(" ++ (join_by (λ id. id) (codes ",") (t ∷ ts) ++ codes ")")
+
+abbrev pub tuple_name : List Text → Text
+tuple_name [] = codes "EmptyArray"
+tuple_name (t ∷ ts) = codes "Tuple_of_" ++ join_by (λ name. name) (codes "_and_") (t ∷ ts)
 
 abbrev pub result_id : Text → Text → Text
 result_id value error = codes "Result<" ++ (value ++ (codes ", " ++ (error ++ codes ">")))

@@ -6,7 +6,7 @@ ghost use Rattle.schemars_cycles.specs.Walks.{Leads, OnCycle, IsFree, IsLeast};
 ghost use Rattle.schemars_cycles.specs.Search.{HasTargets};
 ghost use Rattle.schemars_types.specs.Edges.{RefersWithin, is_inline_at, names_at};
 ghost use Rattle.schemars_types.specs.EdgeKind.{numbers_along, leads_to, targets_along};
-ghost use Rattle.schemars_shapes.specs.Repeated.{IsRepeated};
+ghost use Rattle.schemars_shapes.specs.Repeated.{AreDistinctLists, IsFirstRepeated};
 ghost use Rattle.schemars_types.specs.Faults.{IsUndefined, IsAccepted, IsChecked, Refusal};
 
 use crate::error::TypesError;
@@ -66,9 +66,9 @@ impl Types {
     // The first row with a name twice, and the name.
     fn first_repeated(&self, alloc: Global) -> Result<Option<(TypeNo, String)>, AllocError>
         ensures { IfOk result (λ r.
-            MatchOption r ((n : ℕ) → IsDistinct bytes_eq (names_at self.now n))
-            (λ p. ((k : ℕ) → k < p.0 → IsDistinct bytes_eq (names_at self.now k))
-            × IsRepeated (names_at self.now p.0) (string_bytes p.1))) }
+            MatchOption r ((n : ℕ) → AreDistinctLists (names_at self.now n))
+            (λ p. ((k : ℕ) → k < p.0 → AreDistinctLists (names_at self.now k))
+            × IsFirstRepeated (names_at self.now p.0) (string_bytes p.1))) }
     {
         for n in 0..self.len() {
             if let Some(name) = self.repeated_name(alloc, n)? {
@@ -79,8 +79,8 @@ impl Types {
     }
 
     fn repeated_name(&self, alloc: Global, n: TypeNo) -> Result<Option<String>, AllocError>
-        ensures { IfOk result (λ r. MatchOption r (IsDistinct bytes_eq (names_at self.now n))
-            (λ s. IsRepeated (names_at self.now n) (string_bytes s))) }
+        ensures { IfOk result (λ r. MatchOption r (AreDistinctLists (names_at self.now n))
+            (λ s. IsFirstRepeated (names_at self.now n) (string_bytes s))) }
     {
         match self.entry(n) {
             Some(entry) => entry.shape.repeated_name(alloc),

@@ -1,4 +1,6 @@
-ghost use Rattle.std.specs.Prelude.{◌≡◌, false, codes, None, IfOk, OnErr, IfErr, string_bytes};
+ghost use Rattle.std.specs.Prelude.{◌≡◌, ◌++◌, false, codes, None, IfOk, OnErr, IfErr, string_bytes, map, find, nat_le, length};
+ghost use Rattle.std.specs.List.{join_by};
+ghost use Rattle.schemars_types.specs.Names.{tuple_id, tuple_name};
 ghost use Rattle.schemars_shapes.specs.IntKind.{format_of, non_zero_name};
 ghost use Rattle.schemars_types.specs.Names.{non_zero_id, option_id, option_name, seq_id, seq_name, set_id, set_name};
 ghost use Rattle.schemars_types.specs.Names.{array_id, array_name, up_to_id, up_to_name, result_id, result_name};
@@ -10,7 +12,7 @@ ghost use Rattle.schemars_types.specs.Refusals.{Registers, Refuses};
 use crate::error::TypesError;
 use crate::table::Types;
 use schemars_shapes::{IntKind, Shape, TypeEntry, TypeNo};
-use std::alloc::Global;
+use std::alloc::{AllocError, Global};
 
 /// Rows of common types.
 ///
@@ -230,6 +232,63 @@ impl Types {
         let id = format!(in alloc; "[{id}; up to {cap}]")?;
         let name = format!(in alloc; "Array_up_to_size_{cap}_of_{name}")?;
         self.register_row(alloc, id, name, true, Shape::UpTo(n, cap))
+    }
+
+    /// The type of lists of one value of each of these rows, in their order. Without rows it is that
+    /// of empty lists.
+    pub fn tuple(&mut self, alloc: Global, parts: Vec<TypeNo>) -> Result<TypeNo, TypesError>
+        ensures ok { IfOk result (Registers (tuple_id (map (id_at self.old) parts.items))
+            (tuple_name (map (name_at self.old) parts.items))
+            (in_place (shape.tuple parts.items)) self.old self.new) }
+        ensures err { OnErr result (self.new ≡ self.old) }
+        ensures refused { IfErr result (Refuses (tuple_id (map (id_at self.old) parts.items))
+            (in_place (shape.tuple parts.items)) self.old) }
+    {
+        if parts.is_empty() {
+            return self.register_named(alloc, "[]", "EmptyArray", true, Shape::Tuple(parts));
+        }
+        if let Some(n) = self.first_unknown_in(&parts) {
+            return Err(TypesError::UnknownType(n));
+        }
+        let id = self.tuple_id(alloc, &parts)?;
+        let name = self.tuple_name(alloc, &parts)?;
+        self.register_row(alloc, id, name, true, Shape::Tuple(parts))
+    }
+
+    fn first_unknown_in(&self, numbers: &[TypeNo]) -> Option<TypeNo>
+        ensures { result ≡ find (λ n. nat_le (length self.now) n) numbers.now }
+    {
+        let len = self.len();
+        for n in numbers {
+            if len <= *n {
+                return Some(*n);
+            }
+        }
+        None
+    }
+
+    fn tuple_id(&self, alloc: Global, parts: &[TypeNo]) -> Result<String, AllocError>
+        ensures { IfOk result (λ s. string_bytes s
+            ≡ codes "(" ++ (join_by (λ id. id) (codes ",") (map (id_at self.now) parts.now) ++ codes ")")) }
+    {
+        let mut ids = Vec::new(alloc);
+        for n in parts {
+            ids.push(self.id(*n).unwrap_or(""))?;
+        }
+        let ids = ids.join(alloc, ",")?;
+        format!(in alloc; "({ids})")
+    }
+
+    fn tuple_name(&self, alloc: Global, parts: &[TypeNo]) -> Result<String, AllocError>
+        ensures { IfOk result (λ s. string_bytes s
+            ≡ codes "Tuple_of_" ++ join_by (λ name. name) (codes "_and_") (map (name_at self.now) parts.now)) }
+    {
+        let mut names = Vec::new(alloc);
+        for n in parts {
+            names.push(self.name(*n).unwrap_or(""))?;
+        }
+        let names = names.join(alloc, "_and_")?;
+        format!(in alloc; "Tuple_of_{names}")
     }
 
     /// The type of maps with `Ok` of row `value`, or with `Err` of row `error`, and not both.

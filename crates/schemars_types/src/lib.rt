@@ -7,5 +7,7 @@ mod error;
 mod table;
 
 pub use error::TypesError;
-pub use schemars_shapes::{Field, Fields, IntKind, Required, Shape, TypeEntry, TypeNo};
+pub use schemars_shapes::{
+    Field, Fields, IntKind, Payload, Required, Shape, TypeEntry, TypeNo, Variant,
+};
 pub use table::Types;

@@ -1,6 +1,10 @@
--- The names before differ, and are those in the set.
-use Rattle.schemars_shapes.proofs.FieldLemmas.{AreMet}
+-- The names before, and those of the fields that are left.
+use Rattle.std.proofs.Common.{◌≡◌, ◌++◌, map, drop}
+use Rattle.schemars_shapes.specs.Shape.{field_of}
+use Rattle.schemars_shapes.proofs.FieldLemmas.{now_of}
 use Rattle.schemars_shapes.proofs.shape.Fields.repeated_name.Given as goal
 
 abbrev pub invariant-loop-field : goal.invariant-loop-field
-invariant-loop-field l = AreMet l.self.list.items l.field-index l.met
+invariant-loop-field l =
+    map now_of l.names.items ++ map (λ f. f.name) (map field_of (drop l.field-index l.self.list.items))
+    ≡ map (λ f. f.name) (map field_of l.self.list.items)

@@ -2,14 +2,14 @@ use Rattle.std.proofs.Common.{inr, string_bytes}
 use Rattle.std.proofs.lemmas.Option.{MatchOption-at_some, MatchOption-at_none}
 use Rattle.schemars_cycles.specs.Walks.{IsLeast}
 use Rattle.schemars_types.specs.Edges.{names_at}
-use Rattle.schemars_shapes.specs.Repeated.{IsRepeated}
+use Rattle.schemars_shapes.specs.Repeated.{IsFirstRepeated}
 use Rattle.schemars_types.specs.Faults.{HasRepeated, OnDirectCycle, OnEmptyCycle}
 use Rattle.schemars_types.proofs.Accepted.{none_repeated, least_repeated, direct_cycles, empty_cycles, checked}
 use Rattle.schemars_types.proofs.table.Types.check.Goals as goal
 
 -- the name that is told
 repeated : (c : goal.In-Some-2) → IsLeast (HasRepeated c.args.self.now) c.in-Some-2.n
-    × IsRepeated (names_at c.args.self.now c.in-Some-2.n) (string_bytes c.in-Some-2.name)
+    × IsFirstRepeated (names_at c.args.self.now c.in-Some-2.n) (string_bytes c.in-Some-2.name)
 repeated c =
     let found = MatchOption-at_some _ _ _ c.in-Some-2.is c.in_ok-n.ensures in
     (least_repeated c.args.self.now c.in-Some-2.n (string_bytes c.in-Some-2.name) found.0 found.1, found.1)

@@ -1,0 +1,170 @@
+//! The variants of enums.
+ghost use Rattle.std.specs.Prelude.{◌≡◌, ◌++◌, nat_le, find, map, bytes_eq, string_bytes, IfOk, OnOk, MatchOption};
+ghost use Rattle.std.specs.List.{IsDistinct};
+ghost use Rattle.schemars_shapes.specs.Shape.{payload_of, variant_of, payload_numbers, variant_numbers, newtype_numbers};
+ghost use Rattle.schemars_shapes.specs.Shape.{payload_names, variant_names};
+ghost use Rattle.schemars_shapes.specs.Repeated.{IsRepeated, AreDistinctLists, IsFirstRepeated};
+ghost use Rattle.schemars_shapes.specs.Equality.{payload_eq, variant_eq, variants_eq};
+
+use crate::names::first_repeated;
+use crate::shape::{Fields, TypeNo, first_unknown};
+use schemars_schema::json_eq_members;
+use serde_json::{Map, Value};
+use std::alloc::{AllocError, Global};
+
+/// A variant of an enum.
+#[derive(Drop)]
+pub struct Variant {
+    pub name: String,
+    /// Annotations that are inserted into the variant's schema.
+    pub notes: Map<String, Value>,
+    pub payload: Payload,
+}
+
+/// What a variant has beside its name.
+#[derive(Drop)]
+pub enum Payload {
+    /// nothing
+    Unit,
+    /// a value of this row
+    Newtype(TypeNo),
+    /// a list of one value of each row, in this order
+    Tuple(Vec<TypeNo>),
+    /// a map with these fields
+    Struct(Fields),
+}
+
+impl Payload {
+    fn first_unknown(&self, len: usize) -> Option<TypeNo>
+        ensures { result ≡ find (λ n. nat_le len n) (payload_numbers (payload_of self.now)) }
+    {
+        match self {
+            Payload::Unit => None,
+            Payload::Newtype(n) => first_unknown(&[*n], len),
+            Payload::Tuple(parts) => first_unknown(parts, len),
+            Payload::Struct(fields) => fields.first_unknown(len),
+        }
+    }
+
+    fn add_numbers(&self, numbers: &mut Vec<TypeNo>) -> Result<(), AllocError>
+        ensures { OnOk result (numbers.new.items ≡ numbers.old.items ++ payload_numbers (payload_of self.now)) }
+    {
+        match self {
+            Payload::Unit => Ok(()),
+            Payload::Newtype(n) => Ok(numbers.push(*n)?),
+            Payload::Tuple(parts) => Ok(numbers.extend_from_slice(parts)?),
+            Payload::Struct(fields) => fields.add_numbers(numbers),
+        }
+    }
+
+    // The first name of a field that is met a second time.
+    fn repeated_name(&self, alloc: Global) -> Result<Option<String>, AllocError>
+        ensures { IfOk result (λ r. MatchOption r (IsDistinct bytes_eq (payload_names (payload_of self.now)))
+            (λ s. IsRepeated (payload_names (payload_of self.now)) (string_bytes s))) }
+    {
+        match self {
+            Payload::Struct(fields) => fields.repeated_name(alloc),
+            _ => Ok(None),
+        }
+    }
+
+    fn is_equal(&self, other: &Payload) -> bool
+        ensures { result ≡ payload_eq (payload_of self.now) (payload_of other.now) }
+    {
+        match (self, other) {
+            (Payload::Unit, Payload::Unit) => true,
+            (Payload::Newtype(n), Payload::Newtype(m)) => n == m,
+            (Payload::Tuple(parts), Payload::Tuple(of_other)) => parts == of_other,
+            (Payload::Struct(fields), Payload::Struct(of_other)) => fields.is_equal(of_other),
+            _ => false,
+        }
+    }
+}
+
+impl Variant {
+    fn is_equal(&self, other: &Variant) -> bool
+        ensures { result ≡ variant_eq (variant_of self.now) (variant_of other.now) }
+    {
+        self.name == other.name
+            && self.payload.is_equal(&other.payload)
+            && json_eq_members(&self.notes, &other.notes)
+    }
+}
+
+#[tactic(auto, using(crate::proofs::Numbers::found_here, crate::proofs::Numbers::found_later))]
+pub(crate) fn first_unknown_in(variants: &[Variant], len: usize) -> Option<TypeNo>
+    ensures { result ≡ find (λ n. nat_le len n) (variant_numbers (map variant_of variants.now)) }
+{
+    for variant in variants {
+        if let Some(n) = variant.payload.first_unknown(len) {
+            return Some(n);
+        }
+    }
+    None
+}
+
+pub(crate) fn numbers_in(alloc: Global, variants: &[Variant]) -> Result<Vec<TypeNo>, AllocError>
+    ensures { IfOk result (λ v. v.items ≡ variant_numbers (map variant_of variants.now)) }
+{
+    let mut numbers = Vec::new(alloc);
+    for variant in variants {
+        variant.payload.add_numbers(&mut numbers)?;
+    }
+    Ok(numbers)
+}
+
+// The rows of newtype variants.
+pub(crate) fn newtypes_in(alloc: Global, variants: &[Variant]) -> Result<Vec<TypeNo>, AllocError>
+    ensures { IfOk result (λ v. v.items ≡ newtype_numbers (map variant_of variants.now)) }
+{
+    let mut numbers = Vec::new(alloc);
+    for variant in variants {
+        if let Payload::Newtype(n) = &variant.payload {
+            numbers.push(*n)?;
+        }
+    }
+    Ok(numbers)
+}
+
+// The first name that is met a second time, among the variants, or else among the fields of one.
+pub(crate) fn repeated_in(alloc: Global, variants: &[Variant]) -> Result<Option<String>, AllocError>
+    ensures { IfOk result (λ r. MatchOption r (AreDistinctLists (variant_names (map variant_of variants.now)))
+        (λ s. IsFirstRepeated (variant_names (map variant_of variants.now)) (string_bytes s))) }
+{
+    if let Some(name) = repeated_variant(alloc, variants)? {
+        return Ok(Some(name));
+    }
+    for variant in variants {
+        if let Some(name) = variant.payload.repeated_name(alloc)? {
+            return Ok(Some(name));
+        }
+    }
+    Ok(None)
+}
+
+fn repeated_variant(alloc: Global, variants: &[Variant]) -> Result<Option<String>, AllocError>
+    ensures { IfOk result (λ r. MatchOption r (IsDistinct bytes_eq (map (λ x. x.name) (map variant_of variants.now)))
+        (λ s. IsRepeated (map (λ x. x.name) (map variant_of variants.now)) (string_bytes s))) }
+{
+    let mut names = Vec::new(alloc);
+    for variant in variants {
+        names.push(variant.name.as_str())?;
+    }
+    first_repeated(alloc, &names)
+}
+
+// The order of the variants counts.
+pub(crate) fn variants_equal(a: &[Variant], b: &[Variant]) -> bool
+    ensures { result ≡ variants_eq (map variant_of a.now) (map variant_of b.now) }
+{
+    let mut others = b.iter();
+    for variant in a {
+        let Some(other) = others.next() else {
+            return false;
+        };
+        if !variant.is_equal(other) {
+            return false;
+        }
+    }
+    others.next().is_none()
+}
