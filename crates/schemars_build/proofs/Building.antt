@@ -12,7 +12,7 @@ use Rattle.schemars_types.specs.Rows.{Row, entry_at}
 use Rattle.schemars_types.specs.Edges.{is_inline_at, height}
 use Rattle.schemars_types.specs.Faults.{IsChecked}
 use Rattle.schemars_types.specs.Meaning.{Contract}
-use Rattle.schemars_documents.specs.ContractOf.{contract_of}
+use Rattle.schemars_templates.specs.Basis.{Basis}
 use Rattle.schemars_templates.specs.Template.{rows_of, filled}
 use Rattle.schemars_templates.specs.OfShape.{entry_template}
 use Rattle.schemars_templates.specs.Describes.{ArePartsWritten, Fills, IsOwnDocument, IsWritten, Describes, references_of}
@@ -22,7 +22,7 @@ use Rattle.schemars_meaning.proofs.ReferencesKept.{Among, among_left}
 use Rattle.schemars_meaning.proofs.References.{parts_among, filled_schema}
 use Rattle.schemars_meaning.proofs.Rows.{all_rows}
 use Rattle.schemars_meaning.proofs.Schemas.{written_schema, parts_schemas, parts_counted}
-use Rattle.schemars_naming.specs.Work.{Plan, Work, Refers, Step}
+use Rattle.schemars_naming.specs.Work.{Plan, Work, Refers, Step, basis_of}
 use Rattle.schemars_build.specs.Missing.{StandsIn, depth_in_place}
 use Rattle.schemars_build.specs.Parts.{IsWrittenWithin, IsPart, AreParts, IsOwn}
 use Rattle.schemars_build.proofs.Descending.{stands}
@@ -37,13 +37,13 @@ subschema-wider : (plan : Plan) (free : Bool) (old new : Work) → Step plan old
 subschema-wider plan free old new step d e less m t is =
     let wider = refers-wider plan free old new (step_wider plan old new step) in
     written_map (Refers plan free old) (Refers plan free new) _ _ wider
-    (describes-wider plan.rows (contract_of plan.contract) (Refers plan free old) (Refers plan free new) wider d e less) m t is
+    (describes-wider (basis_of plan) (Refers plan free old) (Refers plan free new) wider d e less) m t is
 
 same_work-wider : (plan : Plan) (free : Bool) (w : Work) (d e : ℕ) → d ≤ e → (m : ℕ) (t : Data)
     → IsWrittenWithin plan free w d m t → IsWrittenWithin plan free w e m t
 same_work-wider plan free w d e less m t is =
     written_map (Refers plan free w) (Refers plan free w) _ _ (λ j r h. h)
-    (describes-wider plan.rows (contract_of plan.contract) (Refers plan free w) (Refers plan free w) (λ j r h. h) d e less) m t is
+    (describes-wider (basis_of plan) (Refers plan free w) (Refers plan free w) (λ j r h. h) d e less) m t is
 
 parts_joined : (W V : ℕ → Data → Type 0) → ((j : ℕ) (t : Data) → W j t → V j t) → (ms : List ℕ) (ts : List Data) (n : ℕ) (t : Data)
     → ArePartsWritten W ms ts → V n t → ArePartsWritten V (ms ++ n ∷ []) (ts ++ t ∷ [])
@@ -84,45 +84,45 @@ parts_more plan inside start old new n ms ts m t before step stands all one = re
 
 -- ---- the whole document
 
-described : (rows : List Row) (contract : Contract) (R : ℕ → Text → Type 0) (depth n : ℕ) (e : Entry) (s : Data) → entry_at rows n ≡ Some e
-    → Fills (IsWritten R (Describes rows contract R depth)) (entry_template contract e) s → Describes rows contract R (suc depth) n s
+described : (basis : Basis) (R : ℕ → Text → Type 0) (depth n : ℕ) (e : Entry) (s : Data) → entry_at basis.rows n ≡ Some e
+    → Fills (IsWritten R (Describes basis R depth)) (entry_template basis e) s → Describes basis R (suc depth) n s
 unfolding Describes
-described rows contract R depth n e s at is =
-    let P : Option Entry → Type 0 = λ o. IsOwnDocument (IsWritten R (Describes rows contract R depth)) contract o s in
+described basis R depth n e s at is =
+    let P : Option Entry → Type 0 = λ o. IsOwnDocument (IsWritten R (Describes basis R depth)) basis o s in
     subst P (sym at) is
 
 pub filled_by_parts : (plan : Plan) (inside : Bool) (old new : Work) (n : ℕ) (e : Entry) (ts : List Data)
-    → AreParts plan inside old new n (rows_of (entry_template (contract_of plan.contract) e)) ts
-    → IsSchema (filled (entry_template (contract_of plan.contract) e) ts)
+    → AreParts plan inside old new n (rows_of (entry_template (basis_of plan) e)) ts
+    → IsSchema (filled (entry_template (basis_of plan) e) ts)
 filled_by_parts plan inside old new n e ts all =
-    filled_schema (contract_of plan.contract) e ts (parts_schemas (IsWrittenWithin plan (not inside) new (height plan.rows n))
-    (written_schema plan.rows (contract_of plan.contract) (Refers plan (not inside) new) (height plan.rows n)) _ ts all.written)
+    filled_schema (basis_of plan) e ts (parts_schemas (IsWrittenWithin plan (not inside) new (height plan.rows n))
+    (written_schema (basis_of plan) (Refers plan (not inside) new) (height plan.rows n)) _ ts all.written)
 
 pub own_of_parts : (plan : Plan) (inside : Bool) (old new : Work) (n : ℕ) (e : Entry) (ts : List Data) (s : Data)
-    → entry_at plan.rows n ≡ Some e → AreParts plan inside old new n (rows_of (entry_template (contract_of plan.contract) e)) ts
-    → s ≡ filled (entry_template (contract_of plan.contract) e) ts → IsOwn plan inside old new n s
+    → entry_at plan.rows n ≡ Some e → AreParts plan inside old new n (rows_of (entry_template (basis_of plan) e)) ts
+    → s ≡ filled (entry_template (basis_of plan) e) ts → IsOwn plan inside old new n s
 own_of_parts plan inside old new n e ts s at all is = record {
-  describes = described plan.rows (contract_of plan.contract) (Refers plan (not inside) new) (height plan.rows n) n e s at
+  describes = described (basis_of plan) (Refers plan (not inside) new) (height plan.rows n) n e s at
       (record { parts = ts; written = all.written; is = is });
   reached = λ plain.
       let P : Option Entry → Type 0 = λ o. IsPlainEntry o in
       let Q : Data → Type 0 = λ d. Among (references_of ts) (references d) in
       let among : Among (references_of ts) (references s) = subst Q (sym is)
-      (parts_among (contract_of plan.contract) e (subst P at (plain n)) ts (sym (parts_counted _ _ ts all.written))) in
+      (parts_among (basis_of plan) e (subst P at (plain n)) ts (sym (parts_counted _ _ ts all.written))) in
       reached_more plan inside old new (references_of ts) (references s) among (all.reached plain);
 }
 
 pub stand_rows : (plan : Plan) (n : ℕ) (e : Entry) → IsChecked plan.rows → entry_at plan.rows n ≡ Some e
-    → All (StandsIn plan.rows n) (rows_of (entry_template (contract_of plan.contract) e))
+    → All (StandsIn plan.rows n) (rows_of (entry_template (basis_of plan) e))
 stand_rows plan n e checked at =
-    all_rows (StandsIn plan.rows n) (contract_of plan.contract) e.shape (stands plan.rows n e checked at)
+    all_rows (StandsIn plan.rows n) (basis_of plan) e.shape (stands plan.rows n e checked at)
 
 -- a row in place
 pub in_place : (plan : Plan) (inside : Bool) (old new : Work) (n : ℕ) (s : Data) → is_inline_at plan.rows n ≡ true
     → IsOwn plan inside old new n s → IsPart plan inside old new n s
 in_place plan inside old new n s inline own = record {
   written =
-      let P : ℕ → Type 0 = λ d. Describes plan.rows (contract_of plan.contract) (Refers plan (not inside) new) d n s in
+      let P : ℕ → Type 0 = λ d. Describes (basis_of plan) (Refers plan (not inside) new) d n s in
       let deep : depth_in_place plan.rows n ≡ suc (height plan.rows n) = ap (λ b. if b then suc (height plan.rows n) else 0) inline in
       inr (subst P (sym deep) own.describes);
   reached = own.reached;

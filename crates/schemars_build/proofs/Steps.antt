@@ -15,11 +15,10 @@ use Rattle.schemars_json.specs.Json.{Text}
 use Rattle.schemars_schema.specs.Edits.{replaced}
 use Rattle.schemars_types.specs.Rows.{Row}
 use Rattle.schemars_documents.specs.declared.contract.Contract.{Contract}
-use Rattle.schemars_documents.specs.ContractOf.{contract_of}
 use Rattle.schemars_naming.specs.Naming.{Naming, name_of}
 use Rattle.schemars_templates.specs.Describes.{Describes}
 use Rattle.schemars_build.specs.Missing.{is_made, missing_below, missing}
-use Rattle.schemars_naming.specs.Work.{Plan, Work, IsKey, Refers, IsDefinition, GivesNames, Step, undone}
+use Rattle.schemars_naming.specs.Work.{Plan, Work, IsKey, Refers, IsDefinition, GivesNames, Step, undone, basis_of}
 use Rattle.schemars_naming.proofs.Given.{gives-none, gives-trans, gives-keeps}
 use Rattle.schemars_meaning.proofs.Mapping.{describes-wider}
 use Rattle.schemars_naming.proofs.Members.{without_all-put, without_all-replaced, get_member-replaced, get_member-replaced_other}
@@ -55,7 +54,7 @@ definition-wider plan old new w k d h = record {
   is_named = w.names h.row k h.is_named;
   is_text = h.is_text;
   depth = h.depth;
-  describes = describes-wider plan.rows (contract_of plan.contract) (Refers plan false old) (Refers plan false new)
+  describes = describes-wider (basis_of plan) (Refers plan false old) (Refers plan false new)
       (refers-wider plan false old new w) h.depth h.depth (omega arith) h.row d h.describes;
 }
 
@@ -131,7 +130,7 @@ same_key {P} q k same apart = go (bytes_eq q k) refl
 
 pub step_defines : (plan : Plan) (old mid : Work) (n : ℕ) (k : Text) (d : Data) (depth : ℕ) → get_member k old.definitions ≡ None
     → IsUtf8 k → Step plan (begun_with old k) mid → name_of n plan.contract mid.names ≡ Some k
-    → Describes plan.rows (contract_of plan.contract) (Refers plan false mid) depth n d → Step plan old (finished_with mid k d)
+    → Describes (basis_of plan) (Refers plan false mid) depth n d → Step plan old (finished_with mid k d)
 step_defines plan old mid n k d depth absent text h named describes = record {
   names = h.names;
   stays = λ q e is. stays q e is (other q e is);
@@ -171,7 +170,7 @@ step_defines plan old mid n k d depth absent text h named describes = record {
       is_named = named;
       is_text = text;
       depth = depth;
-      describes = describes-wider plan.rows (contract_of plan.contract) (Refers plan false mid) (Refers plan false new)
+      describes = describes-wider (basis_of plan) (Refers plan false mid) (Refers plan false new)
           (refers-wider plan false mid new wider) depth depth (omega arith) n d describes;
     }
 

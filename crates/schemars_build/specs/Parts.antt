@@ -4,17 +4,16 @@ use Rattle.serde_json.specs.Data.{Data, string}
 use Rattle.schemars_json.specs.Json.{Text}
 use Rattle.schemars_schema.specs.References.{references}
 use Rattle.schemars_types.specs.Edges.{height}
-use Rattle.schemars_documents.specs.ContractOf.{contract_of}
 use Rattle.schemars_templates.specs.Describes.{Describes, IsWritten, ArePartsWritten, references_of}
 use Rattle.schemars_documents.specs.PlainTable.{IsPlainTable}
-use Rattle.schemars_naming.specs.Work.{Plan, Work, Refers, IsKey, reference_to}
+use Rattle.schemars_naming.specs.Work.{Plan, Work, Refers, IsKey, reference_to, basis_of}
 use Rattle.schemars_build.specs.Missing.{depth_in_place}
 use Rattle.schemars_build.specs.Reached.{AreReached}
 
 -- a document in place, with so many within one another, or a reference
 abbrev pub IsWrittenWithin : Plan → Bool → Work → ℕ → ℕ → Data → Type 0
 IsWrittenWithin plan free w depth =
-    IsWritten (Refers plan free w) (Describes plan.rows (contract_of plan.contract) (Refers plan free w) depth)
+    IsWritten (Refers plan free w) (Describes (basis_of plan) (Refers plan free w) depth)
 
 abbrev pub IsSubschema : Plan → Bool → Work → ℕ → Data → Type 0
 IsSubschema plan free w n = IsWrittenWithin plan free w (depth_in_place plan.rows n) n
@@ -35,7 +34,7 @@ pub record AreParts (plan : Plan) (inside : Bool) (old new : Work) (n : ℕ) (ms
 
 -- the document of row n
 pub record IsOwn (plan : Plan) (inside : Bool) (old new : Work) (n : ℕ) (s : Data) : Type 0 where
-  pub describes : Describes plan.rows (contract_of plan.contract) (Refers plan (not inside) new) (suc (height plan.rows n)) n s
+  pub describes : Describes (basis_of plan) (Refers plan (not inside) new) (suc (height plan.rows n)) n s
   pub reached : AreNeeded plan inside old new (references s)
 
 -- there is a definition of this name

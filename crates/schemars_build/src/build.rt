@@ -12,6 +12,7 @@ use schemars_documents::Contract;
 use schemars_naming::work::Work;
 use schemars_schema::Schema;
 use schemars_schema::encoding::encode_ref_name;
+use schemars_templates::basis::Basis;
 use schemars_templates::shapes::entry_template;
 use schemars_templates::template::fill;
 use schemars_types::{TypeNo, Types};
@@ -23,6 +24,8 @@ use std::collections::VecDeque;
 pub struct Plan<'t> {
     pub types: &'t Types,
     pub contract: Contract,
+    /// whether the variants of an untagged enum have their names as titles
+    pub titles: bool,
     /// where the definitions stand
     pub path: &'t str,
     /// the row whose root document is made
@@ -109,7 +112,12 @@ pub fn own_document(
         Some(entry) => entry,
         None => unreachable!(),
     };
-    let template = entry_template(alloc, plan.contract, entry)?;
+    let basis = Basis {
+        types: plan.types,
+        contract: plan.contract,
+        titles: plan.titles,
+    };
+    let template = entry_template(alloc, &basis, entry)?;
     let rows = template.rows(alloc)?;
     let parts = subschemas(alloc, plan, work, in_definition, n, &rows)?;
     let schema = fill(alloc, template, parts)?;

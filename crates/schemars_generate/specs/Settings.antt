@@ -11,6 +11,7 @@ settings_of s = record {
   definitions_path = cow_str_bytes s.definitions_path;
   meta_schema = option_map cow_str_bytes s.meta_schema;
   contract = s.contract;
+  titles = s.untagged_enum_variant_titles;
 }
 
 abbrev pub state_of : src.SchemaSettings → List Row → Work → State

@@ -47,6 +47,8 @@ pub struct SchemaSettings {
     pub meta_schema: Option<CowStr<'static>>,
     /// Whose values the documents are for.
     pub contract: Contract,
+    /// Whether the variants of an untagged enum have their names as titles.
+    pub untagged_enum_variant_titles: bool,
 }
 
 impl SchemaSettings {
@@ -61,6 +63,7 @@ impl SchemaSettings {
             definitions_path: CowStr::Borrowed("/$defs"),
             meta_schema: Some(CowStr::Borrowed(meta_schemas::DRAFT2020_12)),
             contract: Contract::Deserialize,
+            untagged_enum_variant_titles: false,
         }
     }
 
@@ -347,6 +350,7 @@ fn part_of(
     let plan = Plan {
         types,
         contract: settings.contract,
+        titles: settings.untagged_enum_variant_titles,
         path: stripped(settings.definitions_path.as_str()),
         root: None,
     };
@@ -462,6 +466,7 @@ fn titled_document(
     let plan = Plan {
         types,
         contract: settings.contract,
+        titles: settings.untagged_enum_variant_titles,
         path: stripped(settings.definitions_path.as_str()),
         root: Some(n),
     };

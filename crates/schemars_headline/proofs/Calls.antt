@@ -11,18 +11,21 @@ use Rattle.serde_json.specs.View.{members_view}
 use Rattle.serde_json.proofs.Views.{Entry as Entries}
 use Rattle.schemars_schema.specs.Placing.{placed_at}
 use Rattle.schemars_json.specs.Json.{Text}
-use Rattle.schemars_shapes.specs.Shape.{Entry}
+use Rattle.schemars_shapes.specs.Shape as shape
+use Rattle.schemars_shapes.specs.Shape.{Entry, Shape}
 use Rattle.schemars_types.specs.Rows.{Row, entry_at, name_at}
 use Rattle.schemars_types.specs.Edges.{is_inline_at, height, rank}
 use Rattle.schemars_types.specs.Faults.{IsChecked}
-use Rattle.schemars_types.specs.Meaning.{Contract}
 use Rattle.schemars_documents.specs.ContractOf.{contract_of}
 use Rattle.schemars_naming.specs.Naming.{name_of, IsOneToOne}
 use Rattle.schemars_documents.specs.Documents.{reference, root_document}
-use Rattle.schemars_templates.specs.Describes.{IsOwnDocument, IsWritten, Describes}
+use Rattle.schemars_templates.specs.Basis.{Basis}
+use Rattle.schemars_templates.specs.Template.{Template, noted}
+use Rattle.schemars_templates.specs.OfShape.{template_of}
+use Rattle.schemars_templates.specs.Describes.{IsOwnDocument, IsWritten, Describes, Fills}
 use Rattle.schemars_headline.specs.Keys.{HasKeysOnce}
 use Rattle.schemars_documents.specs.PlainTable.{IsPlainTable, HasNoFloat}
-use Rattle.schemars_naming.specs.Work.{Plan, Work, IsKey, StandsApart, Refers, IsDefinition, Step, reference_to}
+use Rattle.schemars_naming.specs.Work.{Plan, Work, IsKey, StandsApart, Refers, IsDefinition, Step, reference_to, basis_of}
 use Rattle.schemars_headline.specs.State.{State, plan_of, work_of, after_root, HasOwnDefinitions}
 use Rattle.schemars_headline.specs.Headline.{Headline, IsDraftPath, IsRootOf, IsTitledRoot, CannotPlace, with_definitions}
 use Rattle.schemars_build.specs.Parts.{IsSubschema}
@@ -38,26 +41,23 @@ use Rattle.schemars_headline.proofs.Roots.{root_placed, root_call_means}
 -- ---- definitions between calls
 
 -- references that are known in another work too
-definition-moved : (plan other : Plan) (old new : Work) → plan.rows ≡ other.rows → plan.contract ≡ other.contract
+definition-moved : (plan other : Plan) (old new : Work) → plan.rows ≡ other.rows → plan.contract ≡ other.contract → plan.titles ≡ other.titles
     → ((n : ℕ) (name : Text) → name_of n plan.contract old.names ≡ Some name → name_of n other.contract new.names ≡ Some name)
     → ((n : ℕ) (r : Text) → Refers plan false old n r → Refers other false new n r) → (k : Text) (d : Data) → IsDefinition plan old k d
     → IsDefinition other new k d
-definition-moved plan other old new rows contract names refers k d h = record {
+definition-moved plan other old new rows contract titles names refers k d h = record {
   row = h.row;
   is_named = names h.row k h.is_named;
   is_text = h.is_text;
   depth = h.depth;
   describes =
-      let wide = describes-wider plan.rows (contract_of plan.contract) (Refers plan false old) (Refers other false new) refers h.depth
+      let wide = describes-wider (basis_of plan) (Refers plan false old) (Refers other false new) refers h.depth
       h.depth (omega arith) h.row d h.describes in
-      let P : List Row → Type 0 = λ rs. Describes rs (contract_of other.contract) (Refers other false new) h.depth h.row d in
-      subst P rows (ap-contract wide);
+      let P : Basis → Type 0 = λ b. Describes b (Refers other false new) h.depth h.row d in
+      let same : basis_of plan ≡ basis_of other =
+      λ i. record { rows = rows i; contract = contract_of (contract i); titles = titles i } in
+      subst P same wide;
 }
-  where
-    ap-contract : Describes plan.rows (contract_of plan.contract) (Refers other false new) h.depth h.row d
-        → Describes plan.rows (contract_of other.contract) (Refers other false new) h.depth h.row d
-    ap-contract wide = let P : Contract → Type 0 = λ x. Describes plan.rows x (Refers other false new) h.depth h.row d in
-        subst P (ap contract_of contract) wide
 
 -- what a root call has, of what was there and what it adds
 pub definitions_in : (s : State) (root : Option ℕ) (w : Work) → Step (plan_of s root) (work_of s) w → HasOwnDefinitions s
@@ -93,7 +93,7 @@ definitions_kept s root w none step own k d found = go (get_member k s.definitio
     }
 
     go : (o : Option Data) → get_member k s.definitions ≡ o → IsDefinition (plan_of new None) (work_of new) k d
-    go None is = definition-moved (plan_of s root) (plan_of new None) w (work_of new) refl refl (λ n name e. e) from_root k d
+    go None is = definition-moved (plan_of s root) (plan_of new None) w (work_of new) refl refl refl (λ n name e. e) from_root k d
         (step.adds k d is found)
     go (Some e) is =
         let kept : get_member k w.definitions ≡ Some e = step.stays k e is in
@@ -131,21 +131,53 @@ part_own s new same step own =
 
 -- ---- a larger table
 
-describes-more : (rows more : List Row) (contract : Contract) (R : ℕ → Text → Type 0)
-    → ((n : ℕ) (e : Entry) → entry_at rows n ≡ Some e → entry_at more n ≡ Some e) → (depth n : ℕ) (s : Data)
-    → Describes rows contract R depth n s → Describes more contract R depth n s
+-- a shape's template doesn't depend on further rows
+template-more : (basis : Basis) (more : List Row) (kind : Shape) → template_of basis kind ≡ template_of (record basis { rows = more }) kind
+template-more basis more shape.null = refl
+template-more basis more shape.bool = refl
+template-more basis more (shape.int k) = refl
+template-more basis more (shape.non_zero k) = refl
+template-more basis more shape.number = refl
+template-more basis more shape.text = refl
+template-more basis more shape.char = refl
+template-more basis more (shape.formatted f) = refl
+template-more basis more shape.any = refl
+template-more basis more shape.bytes = refl
+template-more basis more shape.schema_itself = refl
+template-more basis more (shape.option n) = refl
+template-more basis more (shape.seq n) = refl
+template-more basis more (shape.set n) = refl
+template-more basis more (shape.array n len) = refl
+template-more basis more (shape.up_to n cap) = refl
+template-more basis more (shape.tuple ns) = refl
+template-more basis more (shape.struct xs closed) = refl
+template-more basis more (shape.newtype n) = refl
+template-more basis more (shape.result a b) = refl
+template-more basis more (shape.bound n) = refl
+template-more basis more (shape.range n) = refl
+template-more basis more (shape.either a b) = refl
+template-more basis more (shape.external xs) = refl
+template-more basis more (shape.untagged xs) = refl
+
+describes-more : (basis : Basis) (more : List Row) (R : ℕ → Text → Type 0)
+    → ((n : ℕ) (e : Entry) → entry_at basis.rows n ≡ Some e → entry_at more n ≡ Some e) → (depth n : ℕ) (s : Data)
+    → Describes basis R depth n s → Describes (record basis { rows = more }) R depth n s
 unfolding Describes
-describes-more rows more contract R all zero n s h = absurd h
-describes-more rows more contract R all (suc depth) n s h = go (describes-more rows more contract R all depth) (entry_at rows n) refl h
+describes-more basis more R all zero n s h = absurd h
+describes-more basis more R all (suc depth) n s h = go (describes-more basis more R all depth) (entry_at basis.rows n) refl h
   where
-    go : ((j : ℕ) (t : Data) → Describes rows contract R depth j t → Describes more contract R depth j t) → (o : Option Entry)
-        → entry_at rows n ≡ o → IsOwnDocument (IsWritten R (Describes rows contract R depth)) contract o s
-        → IsOwnDocument (IsWritten R (Describes more contract R depth)) contract (entry_at more n) s
+    wider : Basis
+    wider = record basis { rows = more }
+
+    go : ((j : ℕ) (t : Data) → Describes basis R depth j t → Describes wider R depth j t) → (o : Option Entry)
+        → entry_at basis.rows n ≡ o → IsOwnDocument (IsWritten R (Describes basis R depth)) basis o s
+        → IsOwnDocument (IsWritten R (Describes wider R depth)) wider (entry_at more n) s
     go deeper None is h = absurd h
     go deeper (Some e) is h =
-        let P : Option Entry → Type 0 = λ o. IsOwnDocument (IsWritten R (Describes more contract R depth)) contract o s in
-        subst P (sym (all n e is)) (own_map (IsWritten R (Describes rows contract R depth))
-        (IsWritten R (Describes more contract R depth)) contract (written_map R R _ _ (λ j r e. e) deeper) (Some e) s h)
+        let P : Option Entry → Type 0 = λ o. IsOwnDocument (IsWritten R (Describes wider R depth)) wider o s in
+        let Q : Template → Type 0 = λ t. Fills (IsWritten R (Describes wider R depth)) (noted e.notes t) s in
+        subst P (sym (all n e is)) (subst Q (template-more basis more e.shape) (own_map (IsWritten R (Describes basis R depth))
+        (IsWritten R (Describes wider R depth)) basis (written_map R R _ _ (λ j r e. e) deeper) (Some e) s h))
 
 entry-in_more : (first : List Row) (k : ℕ) (rows : List Row) → take k rows ≡ first → (n : ℕ) (e : Entry) → entry_at first n ≡ Some e
     → entry_at rows n ≡ Some e
@@ -180,9 +212,9 @@ more_types_own s rows same own k d found =
       is_named = h.is_named;
       is_text = h.is_text;
       depth = h.depth;
-      describes = describes-wider rows (contract_of s.settings.contract) (Refers (plan_of s None) false (work_of s))
+      describes = describes-wider (basis_of (plan_of new None)) (Refers (plan_of s None) false (work_of s))
           (Refers (plan_of (record s { rows = rows }) None) false (work_of s)) to_more h.depth h.depth (omega arith) h.row d
-          (describes-more s.rows rows (contract_of s.settings.contract) (Refers (plan_of s None) false (work_of s))
+          (describes-more (basis_of (plan_of s None)) rows (Refers (plan_of s None) false (work_of s))
           (entry-in_more s.rows (length s.rows) rows same) h.depth h.row d h.describes);
     }
   where
@@ -204,7 +236,7 @@ pub root_is_whole : (s : State) (n : ℕ) (w : Work) (d : Data) → IsRootOf s n
 root_is_whole s n w d root once none own =
     whole_with_definitions (plan_of s (Some n)).path w.definitions (root_document (name_at s.rows n) s.settings.meta_schema root.own) d
     (definitions_whole (plan_of s (Some n)) w none (definitions_in s (Some n) w root.step own) once)
-    (root_whole (name_at s.rows n) s.settings.meta_schema root.own (described_whole s.rows (contract_of s.settings.contract)
+    (root_whole (name_at s.rows n) s.settings.meta_schema root.own (described_whole (basis_of (plan_of s None))
     (Refers (plan_of s (Some n)) true w) none (suc (height s.rows n)) n root.own root.describes))
     root.is_root
 
@@ -226,7 +258,7 @@ reference_of_part s n d (inl (r, inl h, same)) apart = cc
 reference_of_part s n d (inl (r, inr h, same)) apart = (h.0, h.1, h.2, same ∙ ap reference h.3)
 reference_of_part s n d (inr h) apart =
     let none : depth_in_place s.rows n ≡ 0 = ap (λ b. if b then suc (height s.rows n) else 0) apart in
-    let P : ℕ → Type 0 = λ k. Describes s.rows (contract_of s.settings.contract) (Refers (plan_of s None) false (work_of s)) k n d in
+    let P : ℕ → Type 0 = λ k. Describes (basis_of (plan_of s None)) (Refers (plan_of s None) false (work_of s)) k n d in
     let nothing : P 0 = subst P none h in
     absurd nothing
 
@@ -236,7 +268,7 @@ pub part_kept : (s new : State) (w : Work) (n : ℕ) (d : Data) → new ≡ reco
 part_kept s new w n d same h =
     let P : State → Type 0 = λ x. IsSubschema (plan_of x None) false (work_of x) n d in
     subst P (sym same) (written_map (Refers (plan_of s None) false w) (Refers (plan_of s None) false v) _ _ moved
-    (describes-wider s.rows (contract_of s.settings.contract) (Refers (plan_of s None) false w) (Refers (plan_of s None) false v) moved
+    (describes-wider (basis_of (plan_of s None)) (Refers (plan_of s None) false w) (Refers (plan_of s None) false v) moved
     (depth_in_place s.rows n) (depth_in_place s.rows n) (omega arith)) n d h)
   where
     v : Work

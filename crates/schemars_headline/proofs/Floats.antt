@@ -25,18 +25,18 @@ use Rattle.schemars_types.specs.Rows.{Row, entry_at}
 use Rattle.schemars_types.specs.Meaning.{Contract, Deserialize, Serialize, least_of, greatest_of}
 use Rattle.schemars_documents.specs.Documents.{annotated, with_title, with_meta_schema, root_document, int_keywords}
 use Rattle.schemars_documents.specs.Documents.{is_signed, bytes_document, required_names}
+use Rattle.schemars_templates.specs.Basis.{Basis}
 use Rattle.schemars_templates.specs.Template.{Template, finished, row, list, members, nullable, noted, Templates, no_templates}
 use Rattle.schemars_templates.specs.Template.{template, rows_of, left, keyed, filled, filled_in}
 use Rattle.schemars_templates.specs.OfShape.{KeywordTemplate, templates_of, property, map_template, tuple_template, struct_template}
 use Rattle.schemars_templates.specs.OfShape.{payload_template, named_template, is_bare_unit, bare_units, other_items, choice_of}
-use Rattle.schemars_templates.specs.OfShape.{payload_item, untagged_template, template_of, entry_template}
+use Rattle.schemars_templates.specs.OfShape.{payload_item, titled, untagged_template, template_of, entry_template}
 use Rattle.schemars_templates.specs.Describes.{IsOwnDocument, IsWritten, Describes}
 use Rattle.schemars_documents.specs.PlainTable.{FieldsHaveNoFloat, PayloadHasNoFloat, VariantsHaveNoFloat, ShapeHasNoFloat}
 use Rattle.schemars_documents.specs.PlainTable.{EntryHasNoFloat, HasNoFloat}
 use Rattle.schemars_schema.specs.Edits.{without, replaced}
 use Rattle.schemars_schema.specs.Placing.{placed, placed_at, tokens_of}
-use Rattle.schemars_documents.specs.ContractOf.{contract_of}
-use Rattle.schemars_naming.specs.Work.{Plan, Work}
+use Rattle.schemars_naming.specs.Work.{Plan, Work, basis_of}
 use Rattle.schemars_headline.proofs.Leading.{MayRefer, AllStand}
 use Rattle.schemars_headline.specs.Headline.{with_definitions}
 use Rattle.schemars_headline.specs.Keys.{HasKeysOnce}
@@ -292,66 +292,70 @@ choice_whole [] (t ∷ ts) n = (n, tt)
 choice_whole (k ∷ ks) [] n = (refl, (texts_whole (k ∷ ks), tt))
 choice_whole (k ∷ ks) (t ∷ ts) n = (((refl, (texts_whole (k ∷ ks), tt)), n), tt)
 
-items_whole : (contract : Contract) (xs : List Variant) → VariantsHaveNoFloat xs → SayWhole (templates_of (map (payload_item contract) xs))
-items_whole contract [] n = tt
-items_whole contract (x ∷ xs) n = ((n.0, payload_whole contract x.payload n.1), items_whole contract xs n.2)
+titled_whole : (titles : Bool) (name : Text) (t : Template) → SaysWhole t → SaysWhole (titled titles name t)
+titled_whole false name t h = h
+titled_whole true name t h = (refl, h)
 
-untagged_whole : (contract : Contract) (xs : List Variant) → VariantsHaveNoFloat xs → SaysWhole (untagged_template contract xs)
-untagged_whole contract [] n = refl
-untagged_whole contract (x ∷ xs) n = (items_whole contract (x ∷ xs) n, tt)
+items_whole : (contract : Contract) (titles : Bool) (xs : List Variant) → VariantsHaveNoFloat xs → SayWhole (templates_of (map (payload_item contract titles) xs))
+items_whole contract titles [] n = tt
+items_whole contract titles (x ∷ xs) n = ((n.0, titled_whole titles x.name (payload_template contract x.payload) (payload_whole contract x.payload n.1)), items_whole contract titles xs n.2)
+
+untagged_whole : (contract : Contract) (titles : Bool) (xs : List Variant) → VariantsHaveNoFloat xs → SaysWhole (untagged_template contract titles xs)
+untagged_whole contract titles [] n = refl
+untagged_whole contract titles (x ∷ xs) n = (items_whole contract titles (x ∷ xs) n, tt)
 
 -- ---- by shape
 
-shape_whole : (contract : Contract) (kind : Shape) → ShapeHasNoFloat kind → SaysWhole (template_of contract kind)
-shape_whole contract shape.null n = refl
-shape_whole contract shape.bool n = refl
-shape_whole contract (shape.int k) n = (int_whole (format_of k) (least_of k) (greatest_of k)).0
-shape_whole contract (shape.non_zero k) n = either IsWhole (is_signed k) _ _
+shape_whole : (basis : Basis) (kind : Shape) → ShapeHasNoFloat kind → SaysWhole (template_of basis kind)
+shape_whole basis shape.null n = refl
+shape_whole basis shape.bool n = refl
+shape_whole basis (shape.int k) n = (int_whole (format_of k) (least_of k) (greatest_of k)).0
+shape_whole basis (shape.non_zero k) n = either IsWhole (is_signed k) _ _
     (int_whole (format_of k) (least_of k) (greatest_of k)).1 (int_whole (format_of k) (Some (pos 1)) (greatest_of k)).0
-shape_whole contract shape.number n = refl
-shape_whole contract shape.text n = refl
-shape_whole contract shape.char n = refl
-shape_whole contract (shape.formatted f) n = refl
-shape_whole contract shape.any n = refl
-shape_whole contract shape.bytes n = bytes_whole contract
-shape_whole contract shape.schema_itself n = refl
-shape_whole contract (shape.option j) n = tt
-shape_whole contract (shape.seq j) n = search
-shape_whole contract (shape.set j) n = search
-shape_whole contract (shape.array j zero) n = refl
-shape_whole contract (shape.array j (suc len)) n = search
-shape_whole contract (shape.up_to j cap) n = search
-shape_whole contract (shape.tuple js) n = tuple_whole js
-shape_whole contract (shape.struct xs closed) n = struct_whole contract xs closed n
-shape_whole contract (shape.newtype j) n = tt
-shape_whole contract (shape.result a b) n = search
-shape_whole contract (shape.bound j) n = search
-shape_whole contract (shape.range j) n = search
-shape_whole contract (shape.either a b) n = search
-shape_whole contract (shape.external xs) n = choice_whole (bare_units xs) (other_items contract xs) (others_whole contract xs n)
-shape_whole contract (shape.untagged xs) n = untagged_whole contract xs n
+shape_whole basis shape.number n = refl
+shape_whole basis shape.text n = refl
+shape_whole basis shape.char n = refl
+shape_whole basis (shape.formatted f) n = refl
+shape_whole basis shape.any n = refl
+shape_whole basis shape.bytes n = bytes_whole basis.contract
+shape_whole basis shape.schema_itself n = refl
+shape_whole basis (shape.option j) n = tt
+shape_whole basis (shape.seq j) n = search
+shape_whole basis (shape.set j) n = search
+shape_whole basis (shape.array j zero) n = refl
+shape_whole basis (shape.array j (suc len)) n = search
+shape_whole basis (shape.up_to j cap) n = search
+shape_whole basis (shape.tuple js) n = tuple_whole js
+shape_whole basis (shape.struct xs closed) n = struct_whole basis.contract xs closed n
+shape_whole basis (shape.newtype j) n = tt
+shape_whole basis (shape.result a b) n = search
+shape_whole basis (shape.bound j) n = search
+shape_whole basis (shape.range j) n = search
+shape_whole basis (shape.either a b) n = search
+shape_whole basis (shape.external xs) n = choice_whole (bare_units xs) (other_items basis.contract xs) (others_whole basis.contract xs n)
+shape_whole basis (shape.untagged xs) n = untagged_whole basis.contract basis.titles xs n
 
-own_whole : (W : ℕ → Data → Type 0) (contract : Contract) → ((j : ℕ) (t : Data) → W j t → IsWhole t) → (o : Option Entry)
-    → EntryHasNoFloat o → (s : Data) → IsOwnDocument W contract o s → IsWhole s
-own_whole W contract whole None none s is = absurd is
-own_whole W contract whole (Some e) none s is =
-    let t = entry_template contract e in
-    rw is.is (whole_filled t is.parts (none.0, shape_whole contract e.shape none.1)
+own_whole : (W : ℕ → Data → Type 0) (basis : Basis) → ((j : ℕ) (t : Data) → W j t → IsWhole t) → (o : Option Entry)
+    → EntryHasNoFloat o → (s : Data) → IsOwnDocument W basis o s → IsWhole s
+own_whole W basis whole None none s is = absurd is
+own_whole W basis whole (Some e) none s is =
+    let t = entry_template basis e in
+    rw is.is (whole_filled t is.parts (none.0, shape_whole basis e.shape none.1)
     (parts_all IsWhole W whole (rows_of t) is.parts is.written))
 
-module _ (rows : List Row) (contract : Contract) (Refers : ℕ → Text → Type 0) (none : HasNoFloat rows) where
-  written_by : (d : ℕ) → ((j : ℕ) (t : Data) → Describes rows contract Refers d j t → IsWhole t) → (j : ℕ) (t : Data)
-      → IsWritten Refers (Describes rows contract Refers d) j t → IsWhole t
+module _ (basis : Basis) (Refers : ℕ → Text → Type 0) (none : HasNoFloat basis.rows) where
+  written_by : (d : ℕ) → ((j : ℕ) (t : Data) → Describes basis Refers d j t → IsWhole t) → (j : ℕ) (t : Data)
+      → IsWritten Refers (Describes basis Refers d) j t → IsWhole t
   written_by d own j t (inl h) = rw h.2 refl
   written_by d own j t (inr h) = own j t h
 
-  pub described_whole : (d n : ℕ) (s : Data) → Describes rows contract Refers d n s → has_float s ≡ false
+  pub described_whole : (d n : ℕ) (s : Data) → Describes basis Refers d n s → has_float s ≡ false
   unfolding Describes
   described_whole zero n s h = absurd h
-  described_whole (suc d) n s h = own_whole (IsWritten Refers (Describes rows contract Refers d)) contract
-      (written_by d (described_whole d)) (entry_at rows n) (none n) s h
+  described_whole (suc d) n s h = own_whole (IsWritten Refers (Describes basis Refers d)) basis
+      (written_by d (described_whole d)) (entry_at basis.rows n) (none n) s h
 
-  pub written_whole : (d n : ℕ) (s : Data) → IsWritten Refers (Describes rows contract Refers d) n s → has_float s ≡ false
+  pub written_whole : (d n : ℕ) (s : Data) → IsWritten Refers (Describes basis Refers d) n s → has_float s ≡ false
   written_whole d n s h = written_by d (described_whole d) n s h
 
 whole_with_title : (name : Text) (ms : Members) → members_have_float ms ≡ false → members_have_float (with_title name ms) ≡ false
@@ -387,7 +391,7 @@ pub definitions_whole : (plan : Plan) (w : Work) → HasNoFloat plan.rows → Al
 definitions_whole plan w none definitions once =
     found_whole w.definitions once (λ k d found.
     let definition = definitions k d found in
-    described_whole plan.rows (contract_of plan.contract) (MayRefer plan w) none definition.depth definition.row d definition.describes)
+    described_whole (basis_of plan) (MayRefer plan w) none definition.depth definition.row d definition.describes)
 
 pub whole_replaced : (k : Text) (d : Data) (ms : Members) → has_float d ≡ false → members_have_float ms ≡ false
     → members_have_float (replaced k d ms) ≡ false

@@ -25,7 +25,7 @@ use Rattle.schemars_templates.specs.Describes.{IsWritten, Describes}
 use Rattle.schemars_documents.specs.PlainTable.{IsPlainTable}
 use Rattle.schemars_documents.specs.ContractOf.{contract_of}
 use Rattle.schemars_naming.specs.Naming.{Naming, IsOneToOne, name_of}
-use Rattle.schemars_naming.specs.Work.{Plan, Work, IsKey, Refers, IsDefinition, reference_to}
+use Rattle.schemars_naming.specs.Work.{Plan, Work, IsKey, Refers, IsDefinition, reference_to, basis_of}
 use Rattle.schemars_headline.specs.Headline.{AcceptsItsValues}
 use Rattle.schemars_headline.proofs.Keys.{key_here, key_later, key_cases}
 use Rattle.schemars_meaning.proofs.Mapping.{describes-wider, written_map}
@@ -217,7 +217,7 @@ pub record Stands (plan : Plan) (w : Work) (name : Text) (d : Data) : Type 0 whe
   pub is_named : name_of row plan.contract w.names ≡ Some name
   pub is_text : IsUtf8 name
   pub depth : ℕ
-  pub describes : Describes plan.rows (contract_of plan.contract) (MayRefer plan w) depth row d
+  pub describes : Describes (basis_of plan) (MayRefer plan w) depth row d
 
 abbrev pub AllStand : Plan → Work → Type 0
 AllStand plan w = (name : Text) (d : Data) → get_member name w.definitions ≡ Some d → Stands plan w name d
@@ -228,7 +228,7 @@ stands_now plan w name d h = record {
   is_named = h.is_named;
   is_text = h.is_text;
   depth = h.depth;
-  describes = describes-wider plan.rows (contract_of plan.contract) (Refers plan false w) (MayRefer plan w) (refers_may plan w false)
+  describes = describes-wider (basis_of plan) (Refers plan false w) (MayRefer plan w) (refers_may plan w false)
       h.depth h.depth (omega arith) h.row d h.describes;
 }
 
@@ -238,7 +238,7 @@ stands_before plan w name d h = record {
   is_named = h.is_named;
   is_text = h.is_text;
   depth = h.depth;
-  describes = describes-wider plan.rows (contract_of plan.contract) (Refers (rootless plan) false w) (MayRefer plan w)
+  describes = describes-wider (basis_of plan) (Refers (rootless plan) false w) (MayRefer plan w)
       (λ j r e. inr (free_refers (rootless plan) w false j r e)) h.depth h.depth (omega arith) h.row d h.describes;
 }
 
@@ -248,7 +248,7 @@ IsItsRoot plan w document =
     (n : ℕ) → plan.root ≡ Some n
     → (own : Data) × (depth : ℕ) × ((patterns : Patterns) (f : Text → Judge)
     → judge (context2020_12 patterns f) document ≡ judge (context2020_12 patterns f) own) × IsSchema document
-    × Describes plan.rows (contract_of plan.contract) (MayRefer plan w) depth n own
+    × Describes (basis_of plan) (MayRefer plan w) depth n own
 
 bound_enough : (a len defs counted n : ℕ) → len ≤ defs + 1 → defs ≤ counted → (a + 1) * (counted + 2) ≤ n → (a + 1) * (len + 1) ≤ n
 bound_enough a len defs counted n few less h = grind (arith, mul-le-mul_left)
@@ -300,7 +300,7 @@ module _ (plan : Plan) (w : Work) (document : Data) (checked : IsChecked plan.ro
   refers_leads j r (inr (inr h)) = inr (h.0, h.1, h.2, h.3)
 
   abbrev D : ℕ → ℕ → Data → Type 0
-  D = Describes plan.rows (contract_of plan.contract) (MayRefer plan w)
+  D = Describes (basis_of plan) (MayRefer plan w)
 
   -- found, and what it says the same as, which describes the row
   abbrev LeadsTo : ℕ → Text → Type 0
@@ -330,7 +330,7 @@ module _ (plan : Plan) (w : Work) (document : Data) (checked : IsChecked plan.ro
         d,
         definition.depth,
         resolved_found document (reference_to plan.path name) d (holds.leads name d definition.is_text found)
-            (described_schema plan.rows (contract_of plan.contract) (MayRefer plan w) plain definition.depth j d describes),
+            (described_schema (basis_of plan) (MayRefer plan w) plain definition.depth j d describes),
         λ patterns f. refl,
         describes,
       )
@@ -344,8 +344,7 @@ module _ (plan : Plan) (w : Work) (document : Data) (checked : IsChecked plan.ro
 
   setting : Patterns → Setting
   setting patterns = record {
-    rows = plan.rows;
-    contract = contract_of plan.contract;
+    basis = basis_of plan;
     patterns = patterns;
     document = document;
     refs = refs;
@@ -356,7 +355,7 @@ module _ (plan : Plan) (w : Work) (document : Data) (checked : IsChecked plan.ro
           to.2,
           to.3,
           to.4 patterns,
-          describes-wider plan.rows (contract_of plan.contract) (MayRefer plan w) (InList refs)
+          describes-wider (basis_of plan) (MayRefer plan w) (InList refs)
               refers_listed to.2 to.2 (omega arith) j to.1 to.5,
         );
     plain = plain;
@@ -371,8 +370,8 @@ module _ (plan : Plan) (w : Work) (document : Data) (checked : IsChecked plan.ro
       → AcceptsItsValues plan.rows (contract_of plan.contract) plan.path n document t
   unfolding setting
   written_accepts d n t h patterns v json followed bounded =
-      let listed = written_map (MayRefer plan w) (InList refs) (D d) (Describes plan.rows (contract_of plan.contract) (InList refs) d)
-      refers_listed (describes-wider plan.rows (contract_of plan.contract) (MayRefer plan w) (InList refs) refers_listed d d
+      let listed = written_map (MayRefer plan w) (InList refs) (D d) (Describes (basis_of plan) (InList refs) d)
+      refers_listed (describes-wider (basis_of plan) (MayRefer plan w) (InList refs) refers_listed d d
       (omega arith)) n t h in
       written_says (setting patterns) d n t listed v json followed ((depth v + 1) * length plan.rows)
       (bound_enough (depth v) (length refs) (members_len w.definitions) (count_of_definitions plan.path document) followed refs_len

@@ -8,9 +8,8 @@ use Rattle.serde_json.specs.Data.{Data, null, boolean, number, string, array, ob
 use Rattle.serde_json.specs.Find.{as_str}
 use Rattle.schemars_json.specs.Json.{Text}
 use Rattle.schemars_schema.specs.References.{references}
-use Rattle.schemars_documents.specs.ContractOf.{contract_of}
 use Rattle.schemars_documents.specs.PlainTable.{IsPlainTable}
-use Rattle.schemars_naming.specs.Work.{IsKey, Refers, reference_to}
+use Rattle.schemars_naming.specs.Work.{IsKey, Refers, reference_to, basis_of}
 use Rattle.schemars_headline.specs.State.{State, plan_of, work_of, HasOwnDefinitions, ReferencesNameKeys}
 use Rattle.schemars_headline.proofs.Keys.{key_here, key_later, key_cases}
 use Rattle.schemars_headline.proofs.Resolving.{resolve-each, described_resolved}
@@ -62,7 +61,7 @@ key_named path (member k d ms) r h = elim (or_cases (option_map_or (bytes_eq (re
 pub references_name_keys : (s : State) → HasOwnDefinitions s → IsPlainTable s.rows → ReferencesNameKeys s
 references_name_keys s own plain k d r found among =
     let definition = own k d found in
-    let all = (described_resolved test s.rows (contract_of s.settings.contract) (Refers (plan_of s None) false (work_of s)) plain leads
+    let all = (described_resolved test (basis_of (plan_of s None)) (Refers (plan_of s None) false (work_of s)) plain leads
     definition.depth definition.row d definition.describes).1 in
     key_named (plan_of s None).path s.definitions r (resolve-each test (references d) r all among)
   where

@@ -25,6 +25,7 @@ use Rattle.schemars_types.specs.Rows.{Row, entry_at}
 use Rattle.schemars_types.specs.Meaning.{Contract, least_of, greatest_of}
 use Rattle.schemars_documents.specs.Documents.{annotated, with_title, with_meta_schema, root_document, int_keywords}
 use Rattle.schemars_documents.specs.Documents.{is_signed, required_names, reference}
+use Rattle.schemars_templates.specs.Basis.{Basis}
 use Rattle.schemars_templates.specs.Template.{Template, finished, row, list, members, nullable, noted, rows_of, keyed}
 use Rattle.schemars_templates.specs.Template.{filled, filled_in}
 use Rattle.schemars_templates.specs.OfShape.{KeywordTemplate, property, map_template, bare_units, other_items, choice_of}
@@ -74,36 +75,36 @@ choice_other [] (t ∷ ts) = search
 choice_other (k ∷ ks) [] = search
 choice_other (k ∷ ks) (t ∷ ts) = search
 
-shape_other : (contract : Contract) (kind : Shape) → SaysOther (template_of contract kind)
-shape_other contract shape.null = (refl, refl)
-shape_other contract shape.bool = (refl, refl)
-shape_other contract (shape.int k) = (int_other (format_of k) (least_of k) (greatest_of k)).0
-shape_other contract (shape.non_zero k) = either HasNeither (is_signed k) _ _
+shape_other : (basis : Basis) (kind : Shape) → SaysOther (template_of basis kind)
+shape_other basis shape.null = (refl, refl)
+shape_other basis shape.bool = (refl, refl)
+shape_other basis (shape.int k) = (int_other (format_of k) (least_of k) (greatest_of k)).0
+shape_other basis (shape.non_zero k) = either HasNeither (is_signed k) _ _
     (int_other (format_of k) (least_of k) (greatest_of k)).1 (int_other (format_of k) (Some (pos 1)) (greatest_of k)).0
-shape_other contract shape.number = (refl, refl)
-shape_other contract shape.text = (refl, refl)
-shape_other contract shape.char = (refl, refl)
-shape_other contract (shape.formatted f) = (refl, refl)
-shape_other contract shape.any = (refl, refl)
-shape_other contract shape.bytes = (refl, refl)
-shape_other contract shape.schema_itself = (refl, refl)
-shape_other contract (shape.option n) = tt
-shape_other contract (shape.seq n) = search
-shape_other contract (shape.set n) = search
-shape_other contract (shape.array n zero) = (refl, refl)
-shape_other contract (shape.array n (suc len)) = search
-shape_other contract (shape.up_to n cap) = search
-shape_other contract (shape.tuple []) = (refl, refl)
-shape_other contract (shape.tuple (n ∷ ns)) = search
-shape_other contract (shape.struct xs closed) = map_other (map property xs) (text_items (required_names contract xs)) closed
-shape_other contract (shape.newtype n) = tt
-shape_other contract (shape.result a b) = search
-shape_other contract (shape.bound n) = search
-shape_other contract (shape.range n) = search
-shape_other contract (shape.either a b) = search
-shape_other contract (shape.external xs) = choice_other (bare_units xs) (other_items contract xs)
-shape_other contract (shape.untagged []) = (refl, refl)
-shape_other contract (shape.untagged (x ∷ xs)) = search
+shape_other basis shape.number = (refl, refl)
+shape_other basis shape.text = (refl, refl)
+shape_other basis shape.char = (refl, refl)
+shape_other basis (shape.formatted f) = (refl, refl)
+shape_other basis shape.any = (refl, refl)
+shape_other basis shape.bytes = (refl, refl)
+shape_other basis shape.schema_itself = (refl, refl)
+shape_other basis (shape.option n) = tt
+shape_other basis (shape.seq n) = search
+shape_other basis (shape.set n) = search
+shape_other basis (shape.array n zero) = (refl, refl)
+shape_other basis (shape.array n (suc len)) = search
+shape_other basis (shape.up_to n cap) = search
+shape_other basis (shape.tuple []) = (refl, refl)
+shape_other basis (shape.tuple (n ∷ ns)) = search
+shape_other basis (shape.struct xs closed) = map_other (map property xs) (text_items (required_names basis.contract xs)) closed
+shape_other basis (shape.newtype n) = tt
+shape_other basis (shape.result a b) = search
+shape_other basis (shape.bound n) = search
+shape_other basis (shape.range n) = search
+shape_other basis (shape.either a b) = search
+shape_other basis (shape.external xs) = choice_other (bare_units xs) (other_items basis.contract xs)
+shape_other basis (shape.untagged []) = (refl, refl)
+shape_other basis (shape.untagged (x ∷ xs)) = search
 
 module _ (key : Text) (is_key : IsDefinitionsKey key) where
   abbrev Lacks : Members → Type 0
@@ -204,25 +205,25 @@ module _ (key : Text) (is_key : IsDefinitionsKey key) where
   lacks_filled (nullable t) ts is h = lacks_allow_null (filled t ts) (lacks_filled t ts is h)
   lacks_filled (noted notes t) ts is h = lacks_annotated notes (filled t ts) is.0 (lacks_filled t ts is.1 h)
 
-  own_lacks : (W : ℕ → Data → Type 0) (contract : Contract) → ((j : ℕ) (t : Data) → W j t → LacksIn t) → (o : Option Entry)
-      → IsPlainEntry o → (s : Data) → IsOwnDocument W contract o s → LacksIn s
-  own_lacks W contract all None plain s is = absurd is
-  own_lacks W contract all (Some e) plain s is =
-      let t = entry_template contract e in
-      rw is.is (lacks_filled t is.parts (plain.0, shape_other contract e.shape)
+  own_lacks : (W : ℕ → Data → Type 0) (basis : Basis) → ((j : ℕ) (t : Data) → W j t → LacksIn t) → (o : Option Entry)
+      → IsPlainEntry o → (s : Data) → IsOwnDocument W basis o s → LacksIn s
+  own_lacks W basis all None plain s is = absurd is
+  own_lacks W basis all (Some e) plain s is =
+      let t = entry_template basis e in
+      rw is.is (lacks_filled t is.parts (plain.0, shape_other basis e.shape)
       (parts_all LacksIn W all (rows_of t) is.parts is.written))
 
-  module _ (rows : List Row) (contract : Contract) (Refers : ℕ → Text → Type 0) (plain : IsPlainTable rows) where
-    written_lacks : (d : ℕ) → ((j : ℕ) (t : Data) → Describes rows contract Refers d j t → LacksIn t) → (j : ℕ) (t : Data)
-        → IsWritten Refers (Describes rows contract Refers d) j t → LacksIn t
+  module _ (basis : Basis) (Refers : ℕ → Text → Type 0) (plain : IsPlainTable basis.rows) where
+    written_lacks : (d : ℕ) → ((j : ℕ) (t : Data) → Describes basis Refers d j t → LacksIn t) → (j : ℕ) (t : Data)
+        → IsWritten Refers (Describes basis Refers d) j t → LacksIn t
     written_lacks d own j t (inl h) = rw h.2 (lacks_both (reference h.0) (refl, refl))
     written_lacks d own j t (inr h) = own j t h
 
-    described_lacks : (d n : ℕ) (t : Data) → Describes rows contract Refers d n t → LacksIn t
+    described_lacks : (d n : ℕ) (t : Data) → Describes basis Refers d n t → LacksIn t
     unfolding Describes
     described_lacks zero n t h = absurd h
-    described_lacks (suc d) n t h = own_lacks (IsWritten Refers (Describes rows contract Refers d)) contract
-        (written_lacks d (described_lacks d)) (entry_at rows n) (plain n) t h
+    described_lacks (suc d) n t h = own_lacks (IsWritten Refers (Describes basis Refers d)) basis
+        (written_lacks d (described_lacks d)) (entry_at basis.rows n) (plain n) t h
 
     lacks_with_title : (name : Text) (ms : Members) → Lacks ms → Lacks (with_title name ms)
     lacks_with_title name ms h = go (is_some (get_member (codes "title") ms))
@@ -236,7 +237,7 @@ module _ (key : Text) (is_key : IsDefinitionsKey key) where
     lacks_with_meta_schema (Some uri) ms h = lacks-put (codes "$schema") (string uri) ms refl h
 
     -- so there is room for definitions
-    pub no_definitions_in : (name : Text) (uri : Option Text) (d n : ℕ) (own : Data) → Describes rows contract Refers d n own
+    pub no_definitions_in : (name : Text) (uri : Option Text) (d n : ℕ) (own : Data) → Describes basis Refers d n own
         → get_member key (members_in (root_document name uri own)) ≡ None
     no_definitions_in name uri d n own h = lacks_with_meta_schema uri (with_title name (members_in own))
         (lacks_with_title name (members_in own) (described_lacks d n own h))

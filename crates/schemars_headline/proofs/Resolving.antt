@@ -15,6 +15,7 @@ use Rattle.schemars_shapes.specs.Shape.{Entry}
 use Rattle.schemars_types.specs.Rows.{Row, entry_at}
 use Rattle.schemars_types.specs.Meaning.{Contract}
 use Rattle.schemars_documents.specs.Documents.{reference, root_document}
+use Rattle.schemars_templates.specs.Basis.{Basis}
 use Rattle.schemars_templates.specs.Describes.{ArePartsWritten, IsOwnDocument, IsWritten, Describes, references_of}
 use Rattle.schemars_documents.specs.PlainTable.{IsPlainEntry, IsPlainTable}
 use Rattle.schemars_meaning.proofs.ReferencesKept.{Among, references-root}
@@ -80,35 +81,35 @@ module _ (test : Data → Bool) where
       let rest = all_resolved W all ns ts h.1 in
       ((one.0, rest.0), resolve-append (references t) (references_of ts) one.1 rest.1)
 
-  own_resolved : (W : ℕ → Data → Type 0) (contract : Contract) → ((j : ℕ) (t : Data) → W j t → IsResolved t) → (o : Option Entry)
-      → IsPlainEntry o → (s : Data) → IsOwnDocument W contract o s → IsResolved s
-  own_resolved W contract all None plain s is = absurd is
-  own_resolved W contract all (Some e) plain s is =
+  own_resolved : (W : ℕ → Data → Type 0) (basis : Basis) → ((j : ℕ) (t : Data) → W j t → IsResolved t) → (o : Option Entry)
+      → IsPlainEntry o → (s : Data) → IsOwnDocument W basis o s → IsResolved s
+  own_resolved W basis all None plain s is = absurd is
+  own_resolved W basis all (Some e) plain s is =
       let parts = all_resolved W all _ is.parts is.written in
       subst IsResolved (sym is.is) (
-        filled_schema contract e is.parts parts.0,
-        resolve-among _ (references_of is.parts) (among_parts contract e plain is.parts parts.0) parts.1,
+        filled_schema basis e is.parts parts.0,
+        resolve-among _ (references_of is.parts) (among_parts basis e plain is.parts parts.0) parts.1,
       )
 
-  module _ (rows : List Row) (contract : Contract) (Refers : ℕ → Text → Type 0) (plain : IsPlainTable rows)
+  module _ (basis : Basis) (Refers : ℕ → Text → Type 0) (plain : IsPlainTable basis.rows)
       (lead : (j : ℕ) (r : Text) → Refers j r → test (string r) ≡ true) where
     reference_resolved : (r : Text) → test (string r) ≡ true → IsResolved (reference r)
     unfolding found_in
     reference_resolved r h = (tt, rw h)
 
-    written_by : (d : ℕ) → ((j : ℕ) (t : Data) → Describes rows contract Refers d j t → IsResolved t) → (j : ℕ) (t : Data)
-        → IsWritten Refers (Describes rows contract Refers d) j t → IsResolved t
+    written_by : (d : ℕ) → ((j : ℕ) (t : Data) → Describes basis Refers d j t → IsResolved t) → (j : ℕ) (t : Data)
+        → IsWritten Refers (Describes basis Refers d) j t → IsResolved t
     written_by d own j t (inl h) = rw h.2 (reference_resolved h.0 (lead j h.0 h.1))
     written_by d own j t (inr h) = own j t h
 
-    pub described_resolved : (d n : ℕ) (t : Data) → Describes rows contract Refers d n t → IsResolved t
+    pub described_resolved : (d n : ℕ) (t : Data) → Describes basis Refers d n t → IsResolved t
     unfolding Describes
     described_resolved zero n t h = absurd h
     described_resolved (suc d) n t h =
-        own_resolved (IsWritten Refers (Describes rows contract Refers d)) contract (written_by d (described_resolved d))
-        (entry_at rows n) (plain n) t h
+        own_resolved (IsWritten Refers (Describes basis Refers d)) basis (written_by d (described_resolved d))
+        (entry_at basis.rows n) (plain n) t h
 
-    pub written_resolved : (d n : ℕ) (t : Data) → IsWritten Refers (Describes rows contract Refers d) n t → IsResolved t
+    pub written_resolved : (d n : ℕ) (t : Data) → IsWritten Refers (Describes basis Refers d) n t → IsResolved t
     written_resolved d n t h = written_by d (described_resolved d) n t h
 
   pub root_resolved : (name : Text) (uri : Option Text) (s : Data) → IsResolved s → Resolve (references (root_document name uri s))

@@ -18,7 +18,7 @@ use Rattle.schemars_templates.specs.Describes.{IsWritten, Describes}
 use Rattle.schemars_documents.specs.PlainTable.{IsPlainTable}
 use Rattle.schemars_documents.specs.ContractOf.{contract_of}
 use Rattle.schemars_naming.specs.Naming.{IsOneToOne}
-use Rattle.schemars_naming.specs.Work.{Plan, Work, Refers}
+use Rattle.schemars_naming.specs.Work.{Plan, Work, Refers, basis_of}
 use Rattle.schemars_headline.specs.State.{State, plan_of, work_of, HasOwnDefinitions}
 use Rattle.schemars_headline.specs.Headline.{IsRootOf, MeansItsTypeIn, Headline, SubschemaHeadline, IsDraftPath, with_definitions}
 use Rattle.schemars_meaning.proofs.Notes.{judge-root}
@@ -48,12 +48,12 @@ module _ (plan : Plan) (w : Work) (document : Data) (checked : IsChecked plan.ro
   definition_resolved : (name : Text) (d : Data) → get_member name w.definitions ≡ Some d → Resolve (resolves document) (references d)
   definition_resolved name d found =
       let definition = definitions name d found in
-      (described_resolved (resolves document) plan.rows (contract_of plan.contract) (MayRefer plan w) plain leads definition.depth
+      (described_resolved (resolves document) (basis_of plan) (MayRefer plan w) plain leads definition.depth
       definition.row d definition.describes).1
 
   schema_resolved : (d n : ℕ) (t : Data) → IsWritten (MayRefer plan w)
-      (Describes plan.rows (contract_of plan.contract) (MayRefer plan w) d) n t → Resolve (resolves document) (references t)
-  schema_resolved d n t h = (written_resolved (resolves document) plan.rows (contract_of plan.contract) (MayRefer plan w) plain leads d n
+      (Describes (basis_of plan) (MayRefer plan w) d) n t → Resolve (resolves document) (references t)
+  schema_resolved d n t h = (written_resolved (resolves document) (basis_of plan) (MayRefer plan w) plain leads d n
       t h).1
 
 -- ---- root documents
@@ -88,23 +88,23 @@ resolved_placed path definitions ms document (inr (key, at, is)) all h =
 -- a root document with its definitions means its type
 pub root_means : (plan : Plan) (w : Work) (n : ℕ) (name : Text) (uri : Option Text) (depth : ℕ) (own document : Data)
     → IsChecked plan.rows → IsOneToOne w.names → HasKeysOnce w.definitions → plan.root ≡ Some n
-    → AllStand plan w → Describes plan.rows (contract_of plan.contract) (MayRefer plan w) depth n own
+    → AllStand plan w → Describes (basis_of plan) (MayRefer plan w) depth n own
     → IsPlaced plan.path w.definitions (root_document name uri own) document
     → Headline plan.rows (contract_of plan.contract) plan.path n document
 root_means plan w n name uri depth own document checked one once root definitions h placed plain =
     let members : Members = members_in (root_document name uri own) in
-    let is_schema : IsSchema own = described_schema plan.rows (contract_of plan.contract) (MayRefer plan w) plain depth n own h in
+    let is_schema : IsSchema own = described_schema (basis_of plan) (MayRefer plan w) plain depth n own h in
     let same : (patterns : Patterns) (f : Text → Judge) → judge (context2020_12 patterns f) document
     ≡ judge (context2020_12 patterns f) own =
     λ patterns f. judge_placed plan.path w.definitions (root_document name uri own) document placed refl patterns f
     ∙ judge-root patterns f name uri own is_schema in
-    let P : ℕ → Type 0 = λ i. Describes plan.rows (contract_of plan.contract) (MayRefer plan w) depth i own in
+    let P : ℕ → Type 0 = λ i. Describes (basis_of plan) (MayRefer plan w) depth i own in
     let is_root : IsItsRoot plan w document = λ m is. let alike : n ≡ m = cc in
     (own, depth, same, schema_placed plan.path w.definitions members document placed, subst P alike h) in
     let holds : HoldsDefinitions plan.path w.definitions document = holds_placed plan.path w.definitions members document placed in
     let all : AllResolve (resolves document) w.definitions = all_members (λ d. Resolve (resolves document) (references d)) w.definitions
     once (definition_resolved plan w document checked plain one definitions holds is_root) in
-    let resolved_own = described_resolved (resolves document) plan.rows (contract_of plan.contract) (MayRefer plan w) plain
+    let resolved_own = described_resolved (resolves document) (basis_of plan) (MayRefer plan w) plain
     (refers_resolve plan w document checked plain one definitions holds is_root) depth n own h in
     record {
       accepts_its_values = λ patterns v json followed bounded.
@@ -117,9 +117,9 @@ root_means plan w n name uri depth own document checked one once root definition
     }
 
 module _ (plan : Plan) (w : Work) (n : ℕ) (name : Text) (uri : Option Text) (depth : ℕ) (own : Data) (plain : IsPlainTable plan.rows)
-    (R : ℕ → Text → Type 0) (h : Describes plan.rows (contract_of plan.contract) R depth n own) where
+    (R : ℕ → Text → Type 0) (h : Describes (basis_of plan) R depth n own) where
   room : (key : Text) → IsDefinitionsKey key → get_member key (members_in (root_document name uri own)) ≡ None
-  room key is = no_definitions_in key is plan.rows (contract_of plan.contract) R plain name uri depth n own h
+  room key is = no_definitions_in key is (basis_of plan) R plain name uri depth n own h
 
   -- at a draft's path definitions can always be placed
   pub root_placed : IsDraftPath plan.path → (document : Data) × (with_definitions plan.path w.definitions (root_document name uri own)
@@ -129,7 +129,7 @@ module _ (plan : Plan) (w : Work) (n : ℕ) (name : Text) (uri : Option Text) (d
 -- so does what is made of it by placing the definitions
 pub root_headline : (plan : Plan) (w : Work) (n : ℕ) (name : Text) (uri : Option Text) (depth : ℕ) (own document : Data)
     → IsChecked plan.rows → IsOneToOne w.names → HasKeysOnce w.definitions → plan.root ≡ Some n
-    → AllStand plan w → Describes plan.rows (contract_of plan.contract) (MayRefer plan w) depth n own → IsDraftPath plan.path
+    → AllStand plan w → Describes (basis_of plan) (MayRefer plan w) depth n own → IsDraftPath plan.path
     → with_definitions plan.path w.definitions (root_document name uri own) ≡ Some document
     → Headline plan.rows (contract_of plan.contract) plan.path n document
 root_headline plan w n name uri depth own document checked one once root definitions h draft made plain =
@@ -144,7 +144,7 @@ pub root_call_means : (old : State) (n : ℕ) (w : Work) (document : Data) → I
 root_call_means old n w document h checked one once definitions draft =
     let plan = plan_of old (Some n) in
     let depth = suc (height old.rows n) in
-    let described = describes-wider old.rows (contract_of plan.contract) (Refers plan true w) (MayRefer plan w) (refers_may plan w true)
+    let described = describes-wider (basis_of plan) (Refers plan true w) (MayRefer plan w) (refers_may plan w true)
     depth depth (omega arith) n h.own h.describes in
     root_headline plan w n (name_at old.rows n) old.settings.meta_schema depth h.own document checked one once refl definitions described
     draft h.is_root
@@ -154,15 +154,15 @@ root_call_means old n w document h checked one once definitions draft =
 -- a subschema means its type in each document that holds its definitions
 pub subschema_means : (plan : Plan) (w : Work) (n : ℕ) (free : Bool) (depth : ℕ) (schema document : Data) → IsChecked plan.rows
     → IsOneToOne w.names → plan.root ≡ None → AllStand plan w
-    → IsWritten (Refers plan free w) (Describes plan.rows (contract_of plan.contract) (Refers plan free w) depth) n schema
+    → IsWritten (Refers plan free w) (Describes (basis_of plan) (Refers plan free w) depth) n schema
     → IsPlainTable plan.rows → HoldsDefinitions plan.path w.definitions document
     → MeansItsTypeIn plan.rows (contract_of plan.contract) plan.path n w.definitions document schema
 subschema_means plan w n free depth schema document checked one none definitions h plain holds =
     let is_root : IsItsRoot plan w document = λ m is. absurd (let never : None ≡ Some m = sym none ∙ is in cc) in
     let more = refers_may plan w free in
-    let wide = written_map (Refers plan free w) (MayRefer plan w) (Describes plan.rows (contract_of plan.contract) (Refers plan free w)
-    depth) (Describes plan.rows (contract_of plan.contract) (MayRefer plan w) depth) more
-    (describes-wider plan.rows (contract_of plan.contract) (Refers plan free w) (MayRefer plan w) more depth depth (omega arith)) n
+    let wide = written_map (Refers plan free w) (MayRefer plan w) (Describes (basis_of plan) (Refers plan free w)
+    depth) (Describes (basis_of plan) (MayRefer plan w) depth) more
+    (describes-wider (basis_of plan) (Refers plan free w) (MayRefer plan w) more depth depth (omega arith)) n
     schema h in
     record {
       accepts_its_values = written_accepts plan w document checked plain one definitions holds is_root depth n schema wide;
@@ -174,7 +174,7 @@ subschema_means plan w n free depth schema document checked one none definitions
 
 pub subschema_headline : (s : State) (n : ℕ) (free : Bool) (depth : ℕ) (schema : Data) → IsChecked s.rows → IsOneToOne s.names
     → HasOwnDefinitions s
-    → IsWritten (Refers (plan_of s None) free (work_of s)) (Describes s.rows (contract_of s.settings.contract)
+    → IsWritten (Refers (plan_of s None) free (work_of s)) (Describes (basis_of (plan_of s None))
     (Refers (plan_of s None) free (work_of s)) depth) n schema → SubschemaHeadline s n schema
 subschema_headline s n free depth schema checked one definitions h plain known document holding =
     subschema_means (plan_of s None) (work_of s) n free depth schema document checked one refl

@@ -14,7 +14,7 @@ use Rattle.schemars_documents.specs.PlainTable.{IsPlainTable}
 use Rattle.schemars_documents.specs.ContractOf.{contract_of}
 use Rattle.schemars_documents.specs.Documents.{root_document}
 use Rattle.schemars_templates.specs.Describes.{Describes}
-use Rattle.schemars_naming.specs.Work.{Work, Refers, Step}
+use Rattle.schemars_naming.specs.Work.{Work, Refers, Step, basis_of}
 use Rattle.schemars_build.specs.Reached.{AreReached}
 use Rattle.schemars_headline.specs.State.{State, path_of, plan_of, work_of, HasOwnDefinitions}
 
@@ -55,7 +55,7 @@ with_definitions path (member k d ms) document = placed_at path (member k d ms) 
 -- the document of row n as a root document, without the definitions, where all that joined is reached from it
 pub record IsTitledRoot (old : State) (before : Work) (n : ℕ) (work : Work) (document : Data) : Type 0 where
   pub own : Data
-  pub describes : Describes old.rows (contract_of old.settings.contract) (Refers (plan_of old (Some n)) true work)
+  pub describes : Describes (basis_of (plan_of old (Some n))) (Refers (plan_of old (Some n)) true work)
       (suc (height old.rows n)) n own
   pub is_root : document ≡ root_document (name_at old.rows n) old.settings.meta_schema own
   pub reached : IsPlainTable old.rows → AreReached (plan_of old (Some n)) false before work (references own)
@@ -64,7 +64,7 @@ pub record IsTitledRoot (old : State) (before : Work) (n : ℕ) (work : Work) (d
 pub record IsRootOf (old : State) (n : ℕ) (work : Work) (document : Data) : Type 0 where
   pub step : Step (plan_of old (Some n)) (work_of old) work
   pub own : Data
-  pub describes : Describes old.rows (contract_of old.settings.contract) (Refers (plan_of old (Some n)) true work)
+  pub describes : Describes (basis_of (plan_of old (Some n))) (Refers (plan_of old (Some n)) true work)
       (suc (height old.rows n)) n own
   pub is_root : with_definitions (plan_of old (Some n)).path work.definitions
       (root_document (name_at old.rows n) old.settings.meta_schema own) ≡ Some document
@@ -75,7 +75,7 @@ pub record CannotPlace (old : State) (n : ℕ) : Type 0 where
   pub work : Work
   pub step : Step (plan_of old (Some n)) (work_of old) work
   pub own : Data
-  pub describes : Describes old.rows (contract_of old.settings.contract) (Refers (plan_of old (Some n)) true work)
+  pub describes : Describes (basis_of (plan_of old (Some n))) (Refers (plan_of old (Some n)) true work)
       (suc (height old.rows n)) n own
   pub no_place : with_definitions (plan_of old (Some n)).path work.definitions
       (root_document (name_at old.rows n) old.settings.meta_schema own) ≡ None

@@ -1,5 +1,5 @@
 -- What settings say, and what a generator holds, as callers see them.
-use Rattle.std.specs.Prelude.{◌≡◌, Contains, ℕ, ◌==◌, List, [], ◌∷◌, false, Option, Some, None, codes, length, if◌then◌else◌}
+use Rattle.std.specs.Prelude.{◌≡◌, Contains, ℕ, ◌==◌, List, [], ◌∷◌, Bool, false, Option, Some, None, codes, length, if◌then◌else◌}
 use Rattle.serde_json.specs.Data.{Data, string, Members}
 use Rattle.serde_json.specs.Find.{get_member}
 use Rattle.schemars_schema.specs.References.{references}
@@ -14,12 +14,15 @@ pub record Settings : Type 0 where
   pub definitions_path : Text
   pub meta_schema : Option Text
   pub contract : Contract
+  -- whether the variants of an untagged enum have their names as titles
+  pub titles : Bool
 
 abbrev pub settings2020_12 : Settings
 settings2020_12 = record {
   definitions_path = codes "/$defs";
   meta_schema = Some (codes "https://json-schema.org/draft/2020-12/schema");
   contract = Deserialize;
+  titles = false;
 }
 
 pub record State : Type 0 where
@@ -54,7 +57,7 @@ abbrev pub work_of : State → Work
 work_of s = record { names = s.names; definitions = s.definitions; begun = []; kept = length s.names; meets_root = false }
 
 abbrev pub plan_of : State → Option ℕ → Plan
-plan_of s root = record { rows = s.rows; contract = s.settings.contract; path = path_of s; root = root }
+plan_of s root = record { rows = s.rows; contract = s.settings.contract; titles = s.settings.titles; path = path_of s; root = root }
 
 -- each definition is the document of the row of its name, with references to other definitions alone: so it is where
 -- the caller changed none

@@ -15,6 +15,7 @@ use Rattle.schemars_types.specs.Meaning.{Contract}
 use Rattle.schemars_documents.specs.Documents.{Keyword, typed, type_alone, int_document, non_zero_document, char_document}
 use Rattle.schemars_documents.specs.Documents.{formatted_document, count_at, empty_list_document, bytes_document}
 use Rattle.schemars_documents.specs.Documents.{schema_document, required_names, annotated}
+use Rattle.schemars_templates.specs.Basis.{Basis}
 use Rattle.schemars_templates.specs.Template.{row, rows_of, rows_in, filled, filled_in, keyed}
 use Rattle.schemars_templates.specs.OfShape.{templates_of, property, map_template, template_of, entry_template}
 use Rattle.schemars_templates.specs.OfShape.{external_template, untagged_template}
@@ -123,33 +124,33 @@ abbrev pub IsArrayDocument : (Data → Type 0) → ℕ → Data → Type 0
 IsArrayDocument IsItems zero s = s ≡ empty_list_document
 IsArrayDocument IsItems (suc n) s = (t : Data) × IsItems t × (s ≡ array_document (suc n) t)
 
-abbrev pub IsDocument : (ℕ → Data → Type 0) → Contract → Shape → Data → Type 0
-IsDocument Written contract shape.null s = s ≡ type_alone (codes "null")
-IsDocument Written contract shape.bool s = s ≡ type_alone (codes "boolean")
-IsDocument Written contract (shape.int kind) s = s ≡ int_document kind
-IsDocument Written contract (shape.non_zero kind) s = s ≡ non_zero_document kind
-IsDocument Written contract shape.number s = s ≡ type_alone (codes "number")
-IsDocument Written contract shape.text s = s ≡ type_alone (codes "string")
-IsDocument Written contract shape.char s = s ≡ char_document
-IsDocument Written contract (shape.formatted format) s = s ≡ formatted_document format
-IsDocument Written contract shape.any s = s ≡ boolean true
-IsDocument Written contract shape.bytes s = s ≡ bytes_document contract
-IsDocument Written contract shape.schema_itself s = s ≡ schema_document
-IsDocument Written contract (shape.option n) s = (t : Data) × Written n t × (s ≡ allow_null t)
-IsDocument Written contract (shape.seq n) s = (t : Data) × Written n t × (s ≡ seq_document t)
-IsDocument Written contract (shape.set n) s = (t : Data) × Written n t × (s ≡ set_document t)
-IsDocument Written contract (shape.array n len) s = IsArrayDocument (Written n) len s
-IsDocument Written contract (shape.up_to n cap) s = (t : Data) × Written n t × (s ≡ up_to_document cap t)
-IsDocument Written contract (shape.tuple ns) s = (ts : List Data) × ArePartsWritten Written ns ts × (s ≡ tuple_document ts)
-IsDocument Written contract (shape.struct fields closed) s = (ts : List Data) × AreWritten Written fields ts
-    × (s ≡ struct_document contract fields ts closed)
-IsDocument Written contract (shape.newtype n) s = Written n s
-IsDocument Written contract (shape.result a b) s = IsOfTwo (Written a) (Written b) result_document s
-IsDocument Written contract (shape.bound n) s = IsOfTwo (Written n) (Written n) bound_document s
-IsDocument Written contract (shape.range n) s = IsOfTwo (Written n) (Written n) range_document s
-IsDocument Written contract (shape.either a b) s = IsOfTwo (Written a) (Written b) either_document s
-IsDocument Written contract (shape.external xs) s = Fills Written (external_template contract xs) s
-IsDocument Written contract (shape.untagged xs) s = Fills Written (untagged_template contract xs) s
+abbrev pub IsDocument : (ℕ → Data → Type 0) → Basis → Shape → Data → Type 0
+IsDocument Written basis shape.null s = s ≡ type_alone (codes "null")
+IsDocument Written basis shape.bool s = s ≡ type_alone (codes "boolean")
+IsDocument Written basis (shape.int kind) s = s ≡ int_document kind
+IsDocument Written basis (shape.non_zero kind) s = s ≡ non_zero_document kind
+IsDocument Written basis shape.number s = s ≡ type_alone (codes "number")
+IsDocument Written basis shape.text s = s ≡ type_alone (codes "string")
+IsDocument Written basis shape.char s = s ≡ char_document
+IsDocument Written basis (shape.formatted format) s = s ≡ formatted_document format
+IsDocument Written basis shape.any s = s ≡ boolean true
+IsDocument Written basis shape.bytes s = s ≡ bytes_document basis.contract
+IsDocument Written basis shape.schema_itself s = s ≡ schema_document
+IsDocument Written basis (shape.option n) s = (t : Data) × Written n t × (s ≡ allow_null t)
+IsDocument Written basis (shape.seq n) s = (t : Data) × Written n t × (s ≡ seq_document t)
+IsDocument Written basis (shape.set n) s = (t : Data) × Written n t × (s ≡ set_document t)
+IsDocument Written basis (shape.array n len) s = IsArrayDocument (Written n) len s
+IsDocument Written basis (shape.up_to n cap) s = (t : Data) × Written n t × (s ≡ up_to_document cap t)
+IsDocument Written basis (shape.tuple ns) s = (ts : List Data) × ArePartsWritten Written ns ts × (s ≡ tuple_document ts)
+IsDocument Written basis (shape.struct fields closed) s = (ts : List Data) × AreWritten Written fields ts
+    × (s ≡ struct_document basis.contract fields ts closed)
+IsDocument Written basis (shape.newtype n) s = Written n s
+IsDocument Written basis (shape.result a b) s = IsOfTwo (Written a) (Written b) result_document s
+IsDocument Written basis (shape.bound n) s = IsOfTwo (Written n) (Written n) bound_document s
+IsDocument Written basis (shape.range n) s = IsOfTwo (Written n) (Written n) range_document s
+IsDocument Written basis (shape.either a b) s = IsOfTwo (Written a) (Written b) either_document s
+IsDocument Written basis (shape.external xs) s = Fills Written (external_template basis.contract xs) s
+IsDocument Written basis (shape.untagged xs) s = Fills Written (untagged_template basis.contract basis.titles xs) s
 
 -- ---- what fills a template
 
@@ -225,64 +226,64 @@ module _ (W : ℕ → Data → Type 0) where
 
   -- ---- by shape
 
-  fills : (contract : Contract) (kind : Shape) (s : Data) (ts : List Data) → Fit (rows_of (template_of contract kind)) ts
-      → s ≡ filled (template_of contract kind) ts → IsDocument W contract kind s
-  fills contract shape.null s ts h e = e
-  fills contract shape.bool s ts h e = e
-  fills contract (shape.int kind) s ts h e = e
-  fills contract (shape.non_zero kind) s ts h e = e
-  fills contract shape.number s ts h e = e
-  fills contract shape.text s ts h e = e
-  fills contract shape.char s ts h e = e
-  fills contract (shape.formatted format) s ts h e = e
-  fills contract shape.any s ts h e = e
-  fills contract shape.bytes s ts h e = e
-  fills contract shape.schema_itself s ts h e = e
-  fills contract (shape.option n) s [] h e = absurd h
-  fills contract (shape.option n) s (t ∷ ts) h e = (t, h.0, e)
-  fills contract (shape.seq n) s [] h e = absurd h
-  fills contract (shape.seq n) s (t ∷ ts) h e = (t, h.0, e)
-  fills contract (shape.set n) s [] h e = absurd h
-  fills contract (shape.set n) s (t ∷ ts) h e = (t, h.0, e)
-  fills contract (shape.array n zero) s ts h e = e
-  fills contract (shape.array n (suc len)) s [] h e = absurd h
-  fills contract (shape.array n (suc len)) s (t ∷ ts) h e = (t, h.0, e)
-  fills contract (shape.up_to n cap) s [] h e = absurd h
-  fills contract (shape.up_to n cap) s (t ∷ ts) h e = (t, h.0, e)
-  fills contract (shape.tuple []) s ts h e = ([], refl, e)
-  fills contract (shape.tuple (n ∷ ns)) s [] h e = absurd h
-  fills contract (shape.tuple (n ∷ ns)) s (t ∷ ts) h e =
+  fills : (basis : Basis) (kind : Shape) (s : Data) (ts : List Data) → Fit (rows_of (template_of basis kind)) ts
+      → s ≡ filled (template_of basis kind) ts → IsDocument W basis kind s
+  fills basis shape.null s ts h e = e
+  fills basis shape.bool s ts h e = e
+  fills basis (shape.int kind) s ts h e = e
+  fills basis (shape.non_zero kind) s ts h e = e
+  fills basis shape.number s ts h e = e
+  fills basis shape.text s ts h e = e
+  fills basis shape.char s ts h e = e
+  fills basis (shape.formatted format) s ts h e = e
+  fills basis shape.any s ts h e = e
+  fills basis shape.bytes s ts h e = e
+  fills basis shape.schema_itself s ts h e = e
+  fills basis (shape.option n) s [] h e = absurd h
+  fills basis (shape.option n) s (t ∷ ts) h e = (t, h.0, e)
+  fills basis (shape.seq n) s [] h e = absurd h
+  fills basis (shape.seq n) s (t ∷ ts) h e = (t, h.0, e)
+  fills basis (shape.set n) s [] h e = absurd h
+  fills basis (shape.set n) s (t ∷ ts) h e = (t, h.0, e)
+  fills basis (shape.array n zero) s ts h e = e
+  fills basis (shape.array n (suc len)) s [] h e = absurd h
+  fills basis (shape.array n (suc len)) s (t ∷ ts) h e = (t, h.0, e)
+  fills basis (shape.up_to n cap) s [] h e = absurd h
+  fills basis (shape.up_to n cap) s (t ∷ ts) h e = (t, h.0, e)
+  fills basis (shape.tuple []) s ts h e = ([], refl, e)
+  fills basis (shape.tuple (n ∷ ns)) s [] h e = absurd h
+  fills basis (shape.tuple (n ∷ ns)) s (t ∷ ts) h e =
       let rest : Fit ns ts = subst (λ ms. Fit ms ts) (append-nil (rows_in (templates_of (map row ns))) ∙ rows_same ns) h.1 in (
         t ∷ ts,
         (h.0, rest),
         e
             ∙ (λ i. counted_list (item t (items_same ns ts rest i)) (counted (n ∷ ns) (t ∷ ts) (h.0, rest) i)),
       )
-  fills contract (shape.struct xs closed) s ts h e =
-      let all = map_fills xs (required_names contract xs) closed ts h in
+  fills basis (shape.struct xs closed) s ts h e =
+      let all = map_fills xs (required_names basis.contract xs) closed ts h in
       (all.0, all.1, e ∙ all.2)
-  fills contract (shape.newtype n) s [] h e = absurd h
-  fills contract (shape.newtype n) s (t ∷ ts) h e = subst (W n) (sym e) h.0
-  fills contract (shape.result a b) s [] h e = absurd h
-  fills contract (shape.result a b) s (t ∷ []) h e = absurd h.1
-  fills contract (shape.result a b) s (t ∷ u ∷ ts) h e = (t, u, h.0, h.1.0, e)
-  fills contract (shape.bound n) s [] h e = absurd h
-  fills contract (shape.bound n) s (t ∷ []) h e = absurd h.1
-  fills contract (shape.bound n) s (t ∷ u ∷ ts) h e = (t, u, h.0, h.1.0, e)
-  fills contract (shape.range n) s [] h e = absurd h
-  fills contract (shape.range n) s (t ∷ []) h e = absurd h.1
-  fills contract (shape.range n) s (t ∷ u ∷ ts) h e = (t, u, h.0, h.1.0, e)
-  fills contract (shape.either a b) s [] h e = absurd h
-  fills contract (shape.either a b) s (t ∷ []) h e = absurd h.1
-  fills contract (shape.either a b) s (t ∷ u ∷ ts) h e = (t, u, h.0, h.1.0, e)
-  fills contract (shape.external xs) s ts h e = record { parts = ts; written = h; is = e }
-  fills contract (shape.untagged xs) s ts h e = record { parts = ts; written = h; is = e }
+  fills basis (shape.newtype n) s [] h e = absurd h
+  fills basis (shape.newtype n) s (t ∷ ts) h e = subst (W n) (sym e) h.0
+  fills basis (shape.result a b) s [] h e = absurd h
+  fills basis (shape.result a b) s (t ∷ []) h e = absurd h.1
+  fills basis (shape.result a b) s (t ∷ u ∷ ts) h e = (t, u, h.0, h.1.0, e)
+  fills basis (shape.bound n) s [] h e = absurd h
+  fills basis (shape.bound n) s (t ∷ []) h e = absurd h.1
+  fills basis (shape.bound n) s (t ∷ u ∷ ts) h e = (t, u, h.0, h.1.0, e)
+  fills basis (shape.range n) s [] h e = absurd h
+  fills basis (shape.range n) s (t ∷ []) h e = absurd h.1
+  fills basis (shape.range n) s (t ∷ u ∷ ts) h e = (t, u, h.0, h.1.0, e)
+  fills basis (shape.either a b) s [] h e = absurd h
+  fills basis (shape.either a b) s (t ∷ []) h e = absurd h.1
+  fills basis (shape.either a b) s (t ∷ u ∷ ts) h e = (t, u, h.0, h.1.0, e)
+  fills basis (shape.external xs) s ts h e = record { parts = ts; written = h; is = e }
+  fills basis (shape.untagged xs) s ts h e = record { parts = ts; written = h; is = e }
 
-  pub by_shape : (contract : Contract) (kind : Shape) (s : Data) → Fills W (template_of contract kind) s → IsDocument W contract kind s
-  by_shape contract kind s h = fills contract kind s h.parts h.written h.is
+  pub by_shape : (basis : Basis) (kind : Shape) (s : Data) → Fills W (template_of basis kind) s → IsDocument W basis kind s
+  by_shape basis kind s h = fills basis kind s h.parts h.written h.is
 
   -- a row's document is the shape's, with the row's notes
-  pub own_document : (contract : Contract) (e : Entry) (s : Data) → Fills W (entry_template contract e) s
-      → (bare : Data) × IsDocument W contract e.shape bare × (s ≡ annotated e.notes bare)
-  own_document contract e s h =
-      (filled (template_of contract e.shape) h.parts, fills contract e.shape _ h.parts h.written refl, h.is)
+  pub own_document : (basis : Basis) (e : Entry) (s : Data) → Fills W (entry_template basis e) s
+      → (bare : Data) × IsDocument W basis e.shape bare × (s ≡ annotated e.notes bare)
+  own_document basis e s h =
+      (filled (template_of basis e.shape) h.parts, fills basis e.shape _ h.parts h.written refl, h.is)

@@ -24,11 +24,12 @@ use Rattle.schemars_types.specs.Meaning.{Contract, Deserialize, Serialize, has_s
 use Rattle.schemars_types.specs.Meaning.{every_member, member_fits, has_required, none, exactly_one, field_named}
 use Rattle.schemars_documents.specs.Documents.{annotated, required_names}
 use Rattle.schemars_documents.specs.PlainTable.{IsNoVariant, AreDistinctVariants, IsPlainPayload, ArePlainVariants}
+use Rattle.schemars_templates.specs.Basis.{Basis}
 use Rattle.schemars_templates.specs.Template.{Template, finished, row, list, members, nullable, noted, Templates, no_templates}
 use Rattle.schemars_templates.specs.Template.{template, rows_of, rows_in, filled, filled_in, left, left_in, keyed}
 use Rattle.schemars_templates.specs.OfShape.{templates_of, one_of, any_of, member_template, payload_template, named_template}
 use Rattle.schemars_templates.specs.OfShape.{is_bare_unit, bare_units, other_items, units_template, choice_of, external_template}
-use Rattle.schemars_templates.specs.OfShape.{payload_item, untagged_template}
+use Rattle.schemars_templates.specs.OfShape.{payload_item, untagged_template, titled, title_alone}
 use Rattle.schemars_templates.specs.Describes.{ArePartsWritten}
 use Rattle.schemars_meaning.proofs.ByShape.{without_end, by_shape, field_keywords, tuple_document, member_document, units_document}
 use Rattle.schemars_meaning.proofs.Ready.{map_ready, tuple_ready, one_of_ready, any_of_ready, units_ready}
@@ -90,27 +91,37 @@ module _ (W : ℕ → Data → Type 0) where
 
 -- ---- null can be added
 
-module _ (W : ℕ → Data → Type 0) (contract : Contract) (ready : (j : ℕ) (t : Data) → W j t → IsReady t) where
-  payload_ready : (p : Payload) (us : List Data) → Fit W (rows_of (payload_template contract p)) us
-      → IsReady (filled (payload_template contract p) us)
+pub title_noted : (name : Text) → AreNotes (title_alone name)
+title_noted name = (refl, tt)
+
+module _ (W : ℕ → Data → Type 0) (basis : Basis) (ready : (j : ℕ) (t : Data) → W j t → IsReady t) where
+  payload_ready : (p : Payload) (us : List Data) → Fit W (rows_of (payload_template basis.contract p)) us
+      → IsReady (filled (payload_template basis.contract p) us)
   payload_ready no_payload us h = inr (record { alone = refl; type_form = refl; no_const = refl; not_form = inl refl })
   payload_ready (newtype_payload n) [] h = absurd h
   payload_ready (newtype_payload n) (t ∷ us) h = ready n t h.0
   payload_ready (tuple_payload ns) us h =
-      let d = by_shape W contract (shape.tuple ns) _ (record { parts = us; written = h; is = refl }) in
+      let d = by_shape W basis (shape.tuple ns) _ (record { parts = us; written = h; is = refl }) in
       subst IsReady (sym d.2) (tuple_ready d.0)
   payload_ready (struct_payload xs closed) us h =
-      let d = by_shape W contract (shape.struct xs closed) _ (record { parts = us; written = h; is = refl }) in
-      subst IsReady (sym d.2) (map_ready (field_keywords xs d.0) (required_names contract xs) closed)
+      let d = by_shape W basis (shape.struct xs closed) _ (record { parts = us; written = h; is = refl }) in
+      subst IsReady (sym d.2) (map_ready (field_keywords xs d.0) (required_names basis.contract xs) closed)
+
+  titled_ready : (titles : Bool) (name : Text) (p : Payload) (us : List Data) → Fit W (rows_of (titled titles name (payload_template basis.contract p))) us
+      → IsReady (filled (titled titles name (payload_template basis.contract p)) us)
+  titled_ready false name p us h = payload_ready p us h
+  titled_ready true name p us h = ready-annotated (title_alone name) (filled (payload_template basis.contract p) us) (title_noted name)
+      (payload_ready p us h)
 
   items_ready : (xs : List Variant) → ArePlainVariants xs → (us : List Data)
-      → Fit W (rows_in (templates_of (map (payload_item contract) xs))) us
-      → AreReady (filled_in (templates_of (map (payload_item contract) xs)) us)
+      → Fit W (rows_in (templates_of (map (payload_item basis.contract basis.titles) xs))) us
+      → AreReady (filled_in (templates_of (map (payload_item basis.contract basis.titles) xs)) us)
   items_ready [] plain us h = tt
   items_ready (x ∷ xs) plain us h =
-      let p = parted W (payload_item contract x) (templates_of (map (payload_item contract) xs)) us h in
-      let own : IsReady (filled (payload_item contract x) p.0) =
-      ready-annotated x.notes (filled (payload_template contract x.payload) p.0) plain.0 (payload_ready x.payload p.0 p.2) in
+      let p = parted W (payload_item basis.contract basis.titles x) (templates_of (map (payload_item basis.contract basis.titles) xs)) us h in
+      let own : IsReady (filled (payload_item basis.contract basis.titles x) p.0) =
+      ready-annotated x.notes (filled (titled basis.titles x.name (payload_template basis.contract x.payload)) p.0) plain.0
+      (titled_ready basis.titles x.name x.payload p.0 p.2) in
       (rw p.4 own, rw p.5 (items_ready xs plain.2 p.1 p.3))
 
   choice_ready : (ks : List Text) (ts : List Template) (us : List Data) → IsReady (filled (choice_of ks ts) us)
@@ -119,15 +130,15 @@ module _ (W : ℕ → Data → Type 0) (contract : Contract) (ready : (j : ℕ) 
   choice_ready (k ∷ ks) [] us = units_ready (k ∷ ks)
   choice_ready (k ∷ ks) (t ∷ ts) us = one_of_ready (filled_in (templates_of (units_template (k ∷ ks) ∷ t ∷ ts)) us) _ refl
 
-  pub external_ready : (xs : List Variant) (us : List Data) → IsReady (filled (external_template contract xs) us)
-  external_ready xs us = choice_ready (bare_units xs) (other_items contract xs) us
+  pub external_ready : (xs : List Variant) (us : List Data) → IsReady (filled (external_template basis.contract xs) us)
+  external_ready xs us = choice_ready (bare_units xs) (other_items basis.contract xs) us
 
-  pub untagged_ready : (xs : List Variant) → ArePlainVariants xs → (us : List Data) → Fit W (rows_of (untagged_template contract xs)) us
-      → IsReady (filled (untagged_template contract xs) us)
+  pub untagged_ready : (xs : List Variant) → ArePlainVariants xs → (us : List Data) → Fit W (rows_of (untagged_template basis.contract basis.titles xs)) us
+      → IsReady (filled (untagged_template basis.contract basis.titles xs) us)
   untagged_ready [] plain us h = tt
   untagged_ready (x ∷ xs) plain us h =
-      any_of_ready (filled_in (templates_of (map (payload_item contract) (x ∷ xs))) us)
-      (items_ready (x ∷ xs) plain us (without_end W (rows_in (templates_of (map (payload_item contract) (x ∷ xs)))) us h))
+      any_of_ready (filled_in (templates_of (map (payload_item basis.contract basis.titles) (x ∷ xs))) us)
+      (items_ready (x ∷ xs) plain us (without_end W (rows_in (templates_of (map (payload_item basis.contract basis.titles) (x ∷ xs)))) us h))
 
 -- ---- the rows of newtype variants, which have the value itself
 
@@ -251,8 +262,11 @@ module _ (contract : Contract) (M : ℕ → Data → Bool) (v : Data) where
 
 -- ---- what templates say
 
-module _ (patterns : Patterns) (f : Text → Judge) (contract : Contract) (W : ℕ → Data → Type 0) (M : ℕ → Data → Bool)
+module _ (patterns : Patterns) (f : Text → Judge) (basis : Basis) (W : ℕ → Data → Type 0) (M : ℕ → Data → Bool)
     (ready : (j : ℕ) (t : Data) → W j t → IsReady t) where
+  abbrev contract : Contract
+  contract = basis.contract
+
   abbrev c : Context
   c = context2020_12 patterns f
 
@@ -299,6 +313,10 @@ module _ (patterns : Patterns) (f : Text → Judge) (contract : Contract) (W : �
         annotated-schema notes (filled t us) own.0,
         ap (λ j. j.fits v) (judge-annotated patterns f notes (filled t us) plain own.0) ∙ own.1,
       )
+
+  titled_tells : (titles : Bool) (name : Text) (t : Template) (b : Bool) (v : Data) → Tells t b v → Tells (titled titles name t) b v
+  titled_tells false name t b v h = h
+  titled_tells true name t b v h = noted_tells (title_alone name) t b v (title_noted name) h
 
   and-swap : (a b : Bool) → a && b ≡ b && a
   and-swap true true = refl
@@ -358,12 +376,12 @@ module _ (patterns : Patterns) (f : Text → Judge) (contract : Contract) (W : �
   payload_tells (newtype_payload n) plain v json agree same [] fit = absurd fit
   payload_tells (newtype_payload n) plain v json agree same (t ∷ us) fit = (schemas n t fit.0, same n t refl fit.0)
   payload_tells (tuple_payload ns) plain v json agree same us fit =
-      let d = by_shape W contract (shape.tuple ns) _ (record { parts = us; written = fit; is = refl }) in (
+      let d = by_shape W basis (shape.tuple ns) _ (record { parts = us; written = fit; is = refl }) in (
         subst IsSchema (sym d.2) (ready-schema (tuple_document d.0) (tuple_ready d.0)),
         ap (λ s. (judge c s).fits v) d.2 ∙ tuple_says patterns f contract M W schemas ns d.0 d.1 v json agree,
       )
   payload_tells (struct_payload xs closed) plain v json agree same us fit =
-      let d = by_shape W contract (shape.struct xs closed) _ (record { parts = us; written = fit; is = refl }) in (
+      let d = by_shape W basis (shape.struct xs closed) _ (record { parts = us; written = fit; is = refl }) in (
         subst IsSchema (sym d.2) tt,
         ap (λ s. (judge c s).fits v) d.2
             ∙ struct_says patterns f contract W M schemas xs d.0 closed plain.0 plain.1 d.1 v json agree,
@@ -386,7 +404,7 @@ module _ (patterns : Patterns) (f : Text → Judge) (contract : Contract) (W : �
       where
         schema : (p : Payload) → IsPlainPayload p → (us : List Data) → Fit W (rows_of (payload_template contract p)) us
             → IsSchema (filled (payload_template contract p) us)
-        schema p plain us fit = ready-schema (filled (payload_template contract p) us) (payload_ready W contract ready p us fit)
+        schema p plain us fit = ready-schema (filled (payload_template contract p) us) (payload_ready W basis ready p us fit)
 
     named_tells : (name : Text) (p : Payload) → IsPlainPayload p
         → Tells (named_template contract name p) (named_by contract M v name p) v
@@ -439,11 +457,12 @@ module _ (patterns : Patterns) (f : Text → Judge) (contract : Contract) (W : �
 
     payloads_tell : (xs : List Variant) → ArePlainVariants xs
         → ((n : ℕ) (t : Data) → IsNewtypeIn n xs → W n t → (judge c t).fits v ≡ verdict (M n v))
-        → AllTell (map (payload_item contract) xs) (map (λ x. has_payload contract M x.payload v) xs) v
+        → AllTell (map (payload_item contract basis.titles) xs) (map (λ x. has_payload contract M x.payload v) xs) v
     payloads_tell [] plain same = tt
     payloads_tell (x ∷ xs) plain same = (
-      noted_tells x.notes (payload_template contract x.payload) (has_payload contract M x.payload v) v plain.0
-          (payload_tells x.payload plain.1 v json agree (λ n t e is. same n t (inl e) is)),
+      noted_tells x.notes (titled basis.titles x.name (payload_template contract x.payload)) (has_payload contract M x.payload v) v plain.0
+          (titled_tells basis.titles x.name (payload_template contract x.payload) (has_payload contract M x.payload v) v
+          (payload_tells x.payload plain.1 v json agree (λ n t e is. same n t (inl e) is))),
       payloads_tell xs plain.2 (λ n t later is. same n t (inr later) is),
     )
 
@@ -454,11 +473,11 @@ module _ (patterns : Patterns) (f : Text → Judge) (contract : Contract) (W : �
 
     pub untagged_says : (xs : List Variant) → ArePlainVariants xs
         → ((n : ℕ) (t : Data) → IsNewtypeIn n xs → W n t → (judge c t).fits v ≡ verdict (M n v)) → (us : List Data)
-        → Fit W (rows_of (untagged_template contract xs)) us
-        → (judge c (filled (untagged_template contract xs) us)).fits v ≡ verdict (has_shape contract patterns M (shape.untagged xs) v)
+        → Fit W (rows_of (untagged_template contract basis.titles xs)) us
+        → (judge c (filled (untagged_template contract basis.titles xs) us)).fits v ≡ verdict (has_shape contract patterns M (shape.untagged xs) v)
     unfolding read_data
     untagged_says [] plain same us fit = refl
     untagged_says (x ∷ xs) plain same us fit =
-        (any_tells (map (payload_item contract) (x ∷ xs)) (map (λ x. has_payload contract M x.payload v) (x ∷ xs)) v
+        (any_tells (map (payload_item contract basis.titles) (x ∷ xs)) (map (λ x. has_payload contract M x.payload v) (x ∷ xs)) v
         (payloads_tell (x ∷ xs) plain same) us fit).1
         ∙ ap verdict (any_same (x ∷ xs))

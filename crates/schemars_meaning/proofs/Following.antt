@@ -17,6 +17,7 @@ use Rattle.schemars_shapes.specs.Shape.{Entry}
 use Rattle.schemars_types.specs.Rows.{Row, entry_at}
 use Rattle.schemars_types.specs.Meaning.{Contract, has_shape, belongs_within}
 use Rattle.schemars_documents.specs.Documents.{reference}
+use Rattle.schemars_templates.specs.Basis.{Basis}
 use Rattle.schemars_templates.specs.Describes.{IsOwnDocument, IsWritten, Describes}
 use Rattle.schemars_meaning.proofs.ByShape.{own_document}
 use Rattle.schemars_documents.specs.PlainTable.{IsPlainEntry, IsPlainTable}
@@ -79,60 +80,65 @@ lower_most rank j b r (x ∷ xs) (inr is) h =
 
 -- ---- each document of a plain table is one to which null can be added
 
-module _ (rows : List Row) (contract : Contract) (Refers : ℕ → Text → Type 0) (plain : IsPlainTable rows) where
+module _ (basis : Basis) (Refers : ℕ → Text → Type 0) (plain : IsPlainTable basis.rows) where
   abbrev In : ℕ → ℕ → Data → Type 0
-  In d = IsWritten Refers (Describes rows contract Refers d)
+  In d = IsWritten Refers (Describes basis Refers d)
 
   reference_ready : (r : Text) → IsReady (reference r)
   reference_ready r = inl (record { combined = refl; offers = λ stays. absurd (true≢false (sym stays)) }, refl)
 
   own_ready : (d : ℕ) → ((j : ℕ) (t : Data) → In d j t → IsReady t) → (o : Option Entry) → IsPlainEntry o → (t : Data)
-      → IsOwnDocument (In d) contract o t → IsReady t
+      → IsOwnDocument (In d) basis o t → IsReady t
   own_ready d ready None noted t is = absurd is
   own_ready d ready (Some e) noted t is =
-      let own = own_document (In d) contract e t is in
-      rw own.2 (ready-annotated e.notes own.0 noted.0 (shape_ready (In d) contract ready e.shape own.0 noted.1 own.1))
+      let own = own_document (In d) basis e t is in
+      rw own.2 (ready-annotated e.notes own.0 noted.0 (shape_ready (In d) basis ready e.shape own.0 noted.1 own.1))
 
-  written_by : (d : ℕ) → ((j : ℕ) (t : Data) → Describes rows contract Refers d j t → IsReady t) → (j : ℕ) (t : Data) → In d j t
+  written_by : (d : ℕ) → ((j : ℕ) (t : Data) → Describes basis Refers d j t → IsReady t) → (j : ℕ) (t : Data) → In d j t
       → IsReady t
   written_by d own j t (inl h) = rw h.2 (reference_ready h.0)
   written_by d own j t (inr h) = own j t h
 
-  pub described_ready : (d n : ℕ) (t : Data) → Describes rows contract Refers d n t → IsReady t
+  pub described_ready : (d n : ℕ) (t : Data) → Describes basis Refers d n t → IsReady t
   unfolding Describes
   described_ready zero n t h = absurd h
-  described_ready (suc d) n t h = own_ready d (written_by d (described_ready d)) (entry_at rows n) (plain n) t h
+  described_ready (suc d) n t h = own_ready d (written_by d (described_ready d)) (entry_at basis.rows n) (plain n) t h
 
   pub written_ready : (d n : ℕ) (t : Data) → In d n t → IsReady t
   written_ready d n t h = written_by d (described_ready d) n t h
 
-  pub described_schema : (d n : ℕ) (t : Data) → Describes rows contract Refers d n t → IsSchema t
+  pub described_schema : (d n : ℕ) (t : Data) → Describes basis Refers d n t → IsSchema t
   described_schema d n t h = ready-schema t (described_ready d n t h)
 
 -- ---- what is given: a plain table whose ranks fall where a part has the row's own values, and a document in which
 -- each reference leads to what says the same as its row's document
 
 pub record Setting : Type 0 where
-  pub rows : List Row
-  pub contract : Contract
+  pub basis : Basis
   pub patterns : Patterns
   pub document : Data
   pub refs : References
   pub resolves : (j : ℕ) (r : Text) → InList refs j r
       → (found : Data) × (s : Data) × (d : ℕ) × (resolved document r ≡ Some found)
       × ((f : Text → Judge) → judge (context2020_12 patterns f) found ≡ judge (context2020_12 patterns f) s)
-      × Describes rows contract (InList refs) d j s
-  pub plain : IsPlainTable rows
+      × Describes basis (InList refs) d j s
+  pub plain : IsPlainTable basis.rows
   pub rank : ℕ → ℕ
   pub ranks : ℕ
-  pub low_rank : (n : ℕ) (e : Entry) → entry_at rows n ≡ Some e → rank n < ranks
-  pub ranked : (n : ℕ) (e : Entry) (j : ℕ) → entry_at rows n ≡ Some e → IsSame e.shape j → rank j < rank n
+  pub low_rank : (n : ℕ) (e : Entry) → entry_at basis.rows n ≡ Some e → rank n < ranks
+  pub ranked : (n : ℕ) (e : Entry) (j : ℕ) → entry_at basis.rows n ≡ Some e → IsSame e.shape j → rank j < rank n
 
 module _ (s : Setting) where
-  open s use {rows, contract, patterns, document, refs, rank, ranks}
+  open s use {basis, patterns, document, refs, rank, ranks}
+
+  abbrev rows : List Row
+  rows = basis.rows
+
+  abbrev contract : Contract
+  contract = basis.contract
 
   abbrev D : ℕ → ℕ → Data → Type 0
-  D = Describes rows contract (InList refs)
+  D = Describes basis (InList refs)
 
   abbrev W : ℕ → ℕ → Data → Type 0
   W d = IsWritten (InList refs) (D d)
@@ -142,7 +148,7 @@ module _ (s : Setting) where
   described_entry zero n t h = absurd h
   described_entry (suc d) n t h = go (entry_at rows n) refl h
     where
-      go : (o : Option Entry) → entry_at rows n ≡ o → IsOwnDocument (W d) contract o t → (e : Entry) × (entry_at rows n ≡ Some e)
+      go : (o : Option Entry) → entry_at rows n ≡ o → IsOwnDocument (W d) basis o t → (e : Entry) × (entry_at rows n ≡ Some e)
       go None at is = absurd is
       go (Some e) at is = (e, at)
 
@@ -163,7 +169,7 @@ module _ (s : Setting) where
   few_hops n = let e = lower_few rank (rank n) refs in omega arith
 
   abbrev ready : (d j : ℕ) (t : Data) → W d j t → IsReady t
-  ready = written_ready rows contract (InList refs) s.plain
+  ready = written_ready basis (InList refs) s.plain
 
   -- ---- by references still allowed, and by depth
 
@@ -210,17 +216,17 @@ module _ (s : Setting) where
       said j t h w json m (rw same_depth (omega arith)) (rw same_depth (omega arith))
 
   own_says : (n d : ℕ) → Good n → Said n d → (k : ℕ) (o : Option Entry) → entry_at rows k ≡ o → IsPlainEntry o → (t : Data)
-      → IsOwnDocument (W d) contract o t → (v : Data) → IsJson v → (m : ℕ)
+      → IsOwnDocument (W d) basis o t → (v : Data) → IsJson v → (m : ℕ)
       → depth v * most_hops + hops k ≤ n → depth v * ranks + rank k < suc m
       → (judge (context2020_12 patterns (at_most n)) t).fits v
       ≡ verdict (elim o [ None ↦ false | Some entry ↦ has_shape contract patterns (belongs_within rows contract patterns m) entry.shape v ])
   own_says n d good said k None at noted t is v json m costs low = absurd is
   own_says n d good said k (Some e) at noted t is v json m costs low =
-      let own = own_document (W d) contract e t is in
+      let own = own_document (W d) basis e t is in
       let bare = own.0 in
-      let schema = ready-schema bare (shape_ready (W d) contract (ready d) e.shape bare noted.1 own.1) in
+      let schema = ready-schema bare (shape_ready (W d) basis (ready d) e.shape bare noted.1 own.1) in
       rw own.2 (ap (λ j. j.fits v) (judge-annotated patterns (at_most n) e.notes bare noted.0 schema)
-      ∙ shape_says patterns (at_most n) contract (W d) (belongs_within rows contract patterns m) (ready d) e.shape bare noted.1 own.1 v json
+      ∙ shape_says patterns (at_most n) basis (W d) (belongs_within rows contract patterns m) (ready d) e.shape bare noted.1 own.1 v json
       (λ j t w a js inside. part_says n d m good said k e at v costs low j t w a js inside))
 
   said : (n : ℕ) → Good n → (d : ℕ) → Said n d

@@ -3,8 +3,8 @@ use Rattle.std.proofs.Common.{inl, inr, ◌≤◌, ℕ, zero, suc, List, [], ◌
 use Rattle.serde_json.specs.Data.{Data}
 use Rattle.schemars_json.specs.Json.{Text}
 use Rattle.schemars_shapes.specs.Shape.{Entry}
-use Rattle.schemars_types.specs.Rows.{Row, entry_at}
-use Rattle.schemars_types.specs.Meaning.{Contract}
+use Rattle.schemars_types.specs.Rows.{entry_at}
+use Rattle.schemars_templates.specs.Basis.{Basis}
 use Rattle.schemars_templates.specs.Template.{Template, rows_of}
 use Rattle.schemars_templates.specs.Describes.{ArePartsWritten, Fills, IsOwnDocument, IsWritten, Describes}
 
@@ -19,10 +19,10 @@ parts_map W V all (n ∷ ns) (t ∷ ts) h = (all n t h.0, parts_map W V all ns t
 pub fills_map : (W V : ℕ → Data → Type 0) → ((j : ℕ) (t : Data) → W j t → V j t) → (t : Template) (s : Data) → Fills W t s → Fills V t s
 fills_map W V all t s h = record { parts = h.parts; written = parts_map W V all (rows_of t) h.parts h.written; is = h.is }
 
-pub own_map : (W V : ℕ → Data → Type 0) (contract : Contract) → ((j : ℕ) (t : Data) → W j t → V j t) → (o : Option Entry) (s : Data)
-    → IsOwnDocument W contract o s → IsOwnDocument V contract o s
-own_map W V contract all None s is = is
-own_map W V contract all (Some e) s is = fills_map W V all _ s is
+pub own_map : (W V : ℕ → Data → Type 0) (basis : Basis) → ((j : ℕ) (t : Data) → W j t → V j t) → (o : Option Entry) (s : Data)
+    → IsOwnDocument W basis o s → IsOwnDocument V basis o s
+own_map W V basis all None s is = is
+own_map W V basis all (Some e) s is = fills_map W V all _ s is
 
 pub written_map : (Q R : ℕ → Text → Type 0) (D E : ℕ → Data → Type 0) → ((j : ℕ) (r : Text) → Q j r → R j r)
     → ((j : ℕ) (t : Data) → D j t → E j t)
@@ -31,11 +31,11 @@ written_map Q R D E refer own j t (inl h) = inl (h.0, refer j h.0 h.1, h.2)
 written_map Q R D E refer own j t (inr h) = inr (own j t h)
 
 -- what describes a row still does when more depth and more references are allowed
-pub describes-wider : (rows : List Row) (contract : Contract) (Q R : ℕ → Text → Type 0) → ((j : ℕ) (r : Text) → Q j r → R j r)
-    → (d e : ℕ) → d ≤ e → (n : ℕ) (s : Data) → Describes rows contract Q d n s → Describes rows contract R e n s
+pub describes-wider : (basis : Basis) (Q R : ℕ → Text → Type 0) → ((j : ℕ) (r : Text) → Q j r → R j r)
+    → (d e : ℕ) → d ≤ e → (n : ℕ) (s : Data) → Describes basis Q d n s → Describes basis R e n s
 unfolding Describes
-describes-wider rows contract Q R refer zero e less n s h = absurd h
-describes-wider rows contract Q R refer (suc d) zero less n s h = absurd (omega arith)
-describes-wider rows contract Q R refer (suc d) (suc e) less n s h =
-    own_map (IsWritten Q (Describes rows contract Q d)) (IsWritten R (Describes rows contract R e)) contract
-    (written_map Q R _ _ refer (describes-wider rows contract Q R refer d e (omega arith))) (entry_at rows n) s h
+describes-wider basis Q R refer zero e less n s h = absurd h
+describes-wider basis Q R refer (suc d) zero less n s h = absurd (omega arith)
+describes-wider basis Q R refer (suc d) (suc e) less n s h =
+    own_map (IsWritten Q (Describes basis Q d)) (IsWritten R (Describes basis R e)) basis
+    (written_map Q R _ _ refer (describes-wider basis Q R refer d e (omega arith))) (entry_at basis.rows n) s h

@@ -12,6 +12,7 @@ use Rattle.schemars_meaning.proofs.Enums.{IsNewtypeIn, external_ready, untagged_
 use Rattle.schemars_shapes.specs.Shape as shape
 use Rattle.schemars_shapes.specs.Shape.{Shape, Entry, numbers_of}
 use Rattle.schemars_types.specs.Meaning.{Contract, Deserialize, Serialize, has_shape}
+use Rattle.schemars_templates.specs.Basis.{Basis}
 use Rattle.schemars_rewrite.specs.Variants.{unit_variant}
 use Rattle.schemars_meaning.proofs.ByShape.{IsDocument, map_document, tuple_document, one_of_document, member_document}
 use Rattle.schemars_documents.specs.PlainTable.{IsPlainShape}
@@ -27,8 +28,8 @@ use Rattle.std.specs.Prelude.{codes}
 
 -- ---- null can be added to each document
 
-module _ (W : ℕ → Data → Type 0) (contract : Contract) (ready : (j : ℕ) (t : Data) → W j t → IsReady t) where
-  pub shape_ready : (kind : Shape) (s : Data) → IsPlainShape kind → IsDocument W contract kind s → IsReady s
+module _ (W : ℕ → Data → Type 0) (basis : Basis) (ready : (j : ℕ) (t : Data) → W j t → IsReady t) where
+  pub shape_ready : (kind : Shape) (s : Data) → IsPlainShape kind → IsDocument W basis kind s → IsReady s
   shape_ready shape.null s p is = rw is (inr (record { alone = refl; type_form = refl; no_const = refl; not_form = inl refl }))
   shape_ready shape.bool s p is = rw is (inr (record { alone = refl; type_form = refl; no_const = refl; not_form = inl refl }))
   shape_ready (shape.int k) s p is = rw is (int_ready k)
@@ -38,7 +39,7 @@ module _ (W : ℕ → Data → Type 0) (contract : Contract) (ready : (j : ℕ) 
   shape_ready shape.char s p is = rw is (inr (record { alone = refl; type_form = refl; no_const = refl; not_form = inl refl }))
   shape_ready (shape.formatted f) s p is = rw is (inr (record { alone = refl; type_form = refl; no_const = refl; not_form = inl refl }))
   shape_ready shape.any s p is = rw is tt
-  shape_ready shape.bytes s p is = rw is (bytes_ready contract)
+  shape_ready shape.bytes s p is = rw is (bytes_ready basis.contract)
   shape_ready shape.schema_itself s p is = rw is (inr (record {
     alone = refl;
     type_form = (codes "object" ∷ codes "boolean" ∷ [], refl, refl);
@@ -64,8 +65,8 @@ module _ (W : ℕ → Data → Type 0) (contract : Contract) (ready : (j : ℕ) 
       rw is.4 (map_ready ((codes "start", is.0) ∷ (codes "end", is.1) ∷ []) (codes "start" ∷ codes "end" ∷ []) false)
   shape_ready (shape.either a b) s p is =
       one_of_ready (member_document true (codes "Left") is.0 ∷ member_document true (codes "Right") is.1 ∷ []) s is.4
-  shape_ready (shape.external xs) s p is = rw is.is (external_ready W contract ready xs is.parts)
-  shape_ready (shape.untagged xs) s p is = rw is.is (untagged_ready W contract ready xs p is.parts is.written)
+  shape_ready (shape.external xs) s p is = rw is.is (external_ready W basis ready xs is.parts)
+  shape_ready (shape.untagged xs) s p is = rw is.is (untagged_ready W basis ready xs p is.parts is.written)
 
 -- ---- one shape
 
@@ -101,8 +102,11 @@ IsSame (shape.untagged xs) j = IsNewtypeIn j xs
 abbrev pub Inside : Shape → Data → ℕ → Data → Type 0
 Inside kind v j w = (depth w < depth v) ⊎ (IsSame kind j × (w ≡ v))
 
-module _ (patterns : Patterns) (f : Text → Judge) (contract : Contract) (W : ℕ → Data → Type 0) (M : ℕ → Data → Bool)
+module _ (patterns : Patterns) (f : Text → Judge) (basis : Basis) (W : ℕ → Data → Type 0) (M : ℕ → Data → Bool)
     (ready : (j : ℕ) (t : Data) → W j t → IsReady t) where
+  abbrev contract : Contract
+  contract = basis.contract
+
   abbrev c : Context
   c = context2020_12 patterns f
 
@@ -112,7 +116,7 @@ module _ (patterns : Patterns) (f : Text → Judge) (contract : Contract) (W : �
   abbrev schemas : (j : ℕ) (t : Data) → W j t → IsSchema t
   schemas j t is = ready-schema t (ready j t is)
 
-  pub shape_says : (kind : Shape) (s : Data) → IsPlainShape kind → IsDocument W contract kind s → (v : Data) → IsJson v → Agrees kind v
+  pub shape_says : (kind : Shape) (s : Data) → IsPlainShape kind → IsDocument W basis kind s → (v : Data) → IsJson v → Agrees kind v
       → (judge c s).fits v ≡ verdict (has_shape contract patterns M kind v)
   shape_says shape.null s p is v json agree = rw is (null_says patterns f contract M v)
   shape_says shape.bool s p is v json agree = rw is (bool_says patterns f contract M v)
@@ -149,7 +153,7 @@ module _ (patterns : Patterns) (f : Text → Judge) (contract : Contract) (W : �
       (λ j t w x js less. agree j t w x js (inl less)) n is.0 is.1 is.2 is.3)
   shape_says (shape.either a b) s p is v json agree = rw is.4 (either_says patterns f contract M W schemas v json
       (λ j t w x js less. agree j t w x js (inl less)) a b is.0 is.1 is.2 is.3)
-  shape_says (shape.external xs) s p is v json agree = rw is.is (external_says patterns f contract W M ready v json
+  shape_says (shape.external xs) s p is v json agree = rw is.is (external_says patterns f basis W M ready v json
       (λ j t w x js less. agree j t w x js (inl less)) xs p.0 p.1 is.parts is.written)
-  shape_says (shape.untagged xs) s p is v json agree = rw is.is (untagged_says patterns f contract W M ready v json
+  shape_says (shape.untagged xs) s p is v json agree = rw is.is (untagged_says patterns f basis W M ready v json
       (λ j t w x js less. agree j t w x js (inl less)) xs p (λ n t same x. agree n t v x json (inr (same, refl))) is.parts is.written)

@@ -20,11 +20,12 @@ use Rattle.schemars_types.specs.Meaning.{Contract, Deserialize, Serialize, least
 use Rattle.schemars_documents.specs.Documents.{int_keywords, is_signed, required_names, bytes_document}
 use Rattle.schemars_documents.specs.PlainTable.{IsNoName, AreDistinct, AreNoted, IsPlainShape, IsPlainEntry, IsPlainPayload}
 use Rattle.schemars_documents.specs.PlainTable.{ArePlainVariants}
+use Rattle.schemars_templates.specs.Basis.{Basis}
 use Rattle.schemars_templates.specs.Template.{Template, finished, row, list, members, nullable, noted, Templates, no_templates}
 use Rattle.schemars_templates.specs.Template.{template, rows_of, rows_in, first, behind, left, left_in, keyed, filled, filled_in}
 use Rattle.schemars_templates.specs.OfShape.{KeywordTemplate, templates_of, object_with, property, map_template, template_of}
 use Rattle.schemars_templates.specs.OfShape.{entry_template, member_template, payload_template, named_template, is_bare_unit, bare_units}
-use Rattle.schemars_templates.specs.OfShape.{other_items, choice_of, payload_item, untagged_template}
+use Rattle.schemars_templates.specs.OfShape.{other_items, choice_of, payload_item, titled, untagged_template}
 use Rattle.schemars_templates.specs.Describes.{references_of}
 use Rattle.schemars_meaning.proofs.Notes.{annotated-schema}
 use Rattle.schemars_meaning.proofs.ReferencesKept.{Among, among_more, Alike, alike_equal, alike_same, alike_nothing}
@@ -353,15 +354,22 @@ choice_as_schema [] (t ∷ ts) h = search h
 choice_as_schema (k ∷ ks) [] h = search
 choice_as_schema (k ∷ ks) (t ∷ ts) h = search h
 
-payloads_as_items : (contract : Contract) (xs : List Variant) → ArePlainVariants xs
-    → AreItems (templates_of (map (payload_item contract) xs))
-payloads_as_items contract [] h = tt
-payloads_as_items contract (x ∷ xs) h = ((h.0, payload_as_schema contract x.payload h.1), payloads_as_items contract xs h.2)
+titled_as_schema : (titles : Bool) (name : Text) (t : Template) → AsSchema t → AsSchema (titled titles name t)
+titled_as_schema false name t h = h
+titled_as_schema true name t h = ((refl, tt), h)
 
-untagged_as_schema : (contract : Contract) (xs : List Variant) → ArePlainVariants xs → AsSchema (untagged_template contract xs)
+payloads_as_items : (contract : Contract) (titles : Bool) (xs : List Variant) → ArePlainVariants xs
+    → AreItems (templates_of (map (payload_item contract titles) xs))
+payloads_as_items contract titles [] h = tt
+payloads_as_items contract titles (x ∷ xs) h = (
+  (h.0, titled_as_schema titles x.name (payload_template contract x.payload) (payload_as_schema contract x.payload h.1)),
+  payloads_as_items contract titles xs h.2,
+)
+
+untagged_as_schema : (contract : Contract) (titles : Bool) (xs : List Variant) → ArePlainVariants xs → AsSchema (untagged_template contract titles xs)
 unfolding found_in
-untagged_as_schema contract [] h = refl
-untagged_as_schema contract (x ∷ xs) h = search (payloads_as_items contract (x ∷ xs) h)
+untagged_as_schema contract titles [] h = refl
+untagged_as_schema contract titles (x ∷ xs) h = search (payloads_as_items contract titles (x ∷ xs) h)
 
 choice_makes : (ks : List Text) (ts : List Template) → MakesSchema (choice_of ks ts)
 choice_makes [] [] = tt
@@ -369,102 +377,102 @@ choice_makes [] (t ∷ ts) = tt
 choice_makes (k ∷ ks) [] = tt
 choice_makes (k ∷ ks) (t ∷ ts) = tt
 
-untagged_makes : (contract : Contract) (xs : List Variant) → MakesSchema (untagged_template contract xs)
-untagged_makes contract [] = tt
-untagged_makes contract (x ∷ xs) = tt
+untagged_makes : (contract : Contract) (titles : Bool) (xs : List Variant) → MakesSchema (untagged_template contract titles xs)
+untagged_makes contract titles [] = tt
+untagged_makes contract titles (x ∷ xs) = tt
 
 -- ---- by shape
 
-shape_as_schema : (contract : Contract) (kind : Shape) → IsPlainShape kind → AsSchema (template_of contract kind)
+shape_as_schema : (basis : Basis) (kind : Shape) → IsPlainShape kind → AsSchema (template_of basis kind)
 unfolding found_in
-shape_as_schema contract shape.null p = refl
-shape_as_schema contract shape.bool p = refl
-shape_as_schema contract (shape.int kind) p = int_silent (format_of kind) (least_of kind) (greatest_of kind)
-shape_as_schema contract (shape.non_zero kind) p = go (is_signed kind)
+shape_as_schema basis shape.null p = refl
+shape_as_schema basis shape.bool p = refl
+shape_as_schema basis (shape.int kind) p = int_silent (format_of kind) (least_of kind) (greatest_of kind)
+shape_as_schema basis (shape.non_zero kind) p = go (is_signed kind)
   where
     go : (b : Bool) → references (if b
         then object_of (int_keywords (format_of kind) (least_of kind) (greatest_of kind) ++ (codes "not", zero_schema) ∷ [])
         else object_of (int_keywords (format_of kind) (Some (pos 1)) (greatest_of kind))) ≡ []
     go true = not_zero_silent (format_of kind) (least_of kind) (greatest_of kind)
     go false = int_silent (format_of kind) (Some (pos 1)) (greatest_of kind)
-shape_as_schema contract shape.number p = refl
-shape_as_schema contract shape.text p = refl
-shape_as_schema contract shape.char p = refl
-shape_as_schema contract (shape.formatted format) p = refl
-shape_as_schema contract shape.any p = refl
-shape_as_schema contract shape.bytes p = bytes_silent contract
-shape_as_schema contract shape.schema_itself p = refl
-shape_as_schema contract (shape.option n) p = tt
-shape_as_schema contract (shape.seq n) p = search
-shape_as_schema contract (shape.set n) p = search
-shape_as_schema contract (shape.array n zero) p = refl
-shape_as_schema contract (shape.array n (suc len)) p = search
-shape_as_schema contract (shape.up_to n most) p = search
-shape_as_schema contract (shape.tuple []) p = refl
-shape_as_schema contract (shape.tuple (n ∷ ns)) p = search (rows_as_items ns)
-shape_as_schema contract (shape.struct xs closed) p =
-    map_as_schema (map property xs) (text_items (required_names contract xs)) closed (properties_named xs p.1, names_apart xs p.0)
-shape_as_schema contract (shape.newtype n) p = tt
-shape_as_schema contract (shape.result a b) p = search
-shape_as_schema contract (shape.bound n) p = search
-shape_as_schema contract (shape.range n) p = search
-shape_as_schema contract (shape.either a b) p = search
-shape_as_schema contract (shape.external xs) p =
-    choice_as_schema (bare_units xs) (other_items contract xs) (others_as_items contract xs p.1)
-shape_as_schema contract (shape.untagged xs) p = untagged_as_schema contract xs p
+shape_as_schema basis shape.number p = refl
+shape_as_schema basis shape.text p = refl
+shape_as_schema basis shape.char p = refl
+shape_as_schema basis (shape.formatted format) p = refl
+shape_as_schema basis shape.any p = refl
+shape_as_schema basis shape.bytes p = bytes_silent basis.contract
+shape_as_schema basis shape.schema_itself p = refl
+shape_as_schema basis (shape.option n) p = tt
+shape_as_schema basis (shape.seq n) p = search
+shape_as_schema basis (shape.set n) p = search
+shape_as_schema basis (shape.array n zero) p = refl
+shape_as_schema basis (shape.array n (suc len)) p = search
+shape_as_schema basis (shape.up_to n most) p = search
+shape_as_schema basis (shape.tuple []) p = refl
+shape_as_schema basis (shape.tuple (n ∷ ns)) p = search (rows_as_items ns)
+shape_as_schema basis (shape.struct xs closed) p =
+    map_as_schema (map property xs) (text_items (required_names basis.contract xs)) closed (properties_named xs p.1, names_apart xs p.0)
+shape_as_schema basis (shape.newtype n) p = tt
+shape_as_schema basis (shape.result a b) p = search
+shape_as_schema basis (shape.bound n) p = search
+shape_as_schema basis (shape.range n) p = search
+shape_as_schema basis (shape.either a b) p = search
+shape_as_schema basis (shape.external xs) p =
+    choice_as_schema (bare_units xs) (other_items basis.contract xs) (others_as_items basis.contract xs p.1)
+shape_as_schema basis (shape.untagged xs) p = untagged_as_schema basis.contract basis.titles xs p
 
 non_zero_makes : (b : Bool) (d e : Data) → IsSchema d → IsSchema e → IsSchema (if b then d else e)
 non_zero_makes true d e h g = h
 non_zero_makes false d e h g = g
 
-shape_makes : (contract : Contract) (kind : Shape) → MakesSchema (template_of contract kind)
-shape_makes contract shape.null = tt
-shape_makes contract shape.bool = tt
-shape_makes contract (shape.int kind) = tt
-shape_makes contract (shape.non_zero kind) = non_zero_makes (is_signed kind) _ _ tt tt
-shape_makes contract shape.number = tt
-shape_makes contract shape.text = tt
-shape_makes contract shape.char = tt
-shape_makes contract (shape.formatted format) = tt
-shape_makes contract shape.any = tt
-shape_makes contract shape.bytes = tt
-shape_makes contract shape.schema_itself = tt
-shape_makes contract (shape.option n) = tt
-shape_makes contract (shape.seq n) = tt
-shape_makes contract (shape.set n) = tt
-shape_makes contract (shape.array n zero) = tt
-shape_makes contract (shape.array n (suc len)) = tt
-shape_makes contract (shape.up_to n cap) = tt
-shape_makes contract (shape.tuple []) = tt
-shape_makes contract (shape.tuple (n ∷ ns)) = tt
-shape_makes contract (shape.struct xs closed) = tt
-shape_makes contract (shape.newtype n) = tt
-shape_makes contract (shape.result a b) = tt
-shape_makes contract (shape.bound n) = tt
-shape_makes contract (shape.range n) = tt
-shape_makes contract (shape.either a b) = tt
-shape_makes contract (shape.external xs) = choice_makes (bare_units xs) (other_items contract xs)
-shape_makes contract (shape.untagged xs) = untagged_makes contract xs
+shape_makes : (basis : Basis) (kind : Shape) → MakesSchema (template_of basis kind)
+shape_makes basis shape.null = tt
+shape_makes basis shape.bool = tt
+shape_makes basis (shape.int kind) = tt
+shape_makes basis (shape.non_zero kind) = non_zero_makes (is_signed kind) _ _ tt tt
+shape_makes basis shape.number = tt
+shape_makes basis shape.text = tt
+shape_makes basis shape.char = tt
+shape_makes basis (shape.formatted format) = tt
+shape_makes basis shape.any = tt
+shape_makes basis shape.bytes = tt
+shape_makes basis shape.schema_itself = tt
+shape_makes basis (shape.option n) = tt
+shape_makes basis (shape.seq n) = tt
+shape_makes basis (shape.set n) = tt
+shape_makes basis (shape.array n zero) = tt
+shape_makes basis (shape.array n (suc len)) = tt
+shape_makes basis (shape.up_to n cap) = tt
+shape_makes basis (shape.tuple []) = tt
+shape_makes basis (shape.tuple (n ∷ ns)) = tt
+shape_makes basis (shape.struct xs closed) = tt
+shape_makes basis (shape.newtype n) = tt
+shape_makes basis (shape.result a b) = tt
+shape_makes basis (shape.bound n) = tt
+shape_makes basis (shape.range n) = tt
+shape_makes basis (shape.either a b) = tt
+shape_makes basis (shape.external xs) = choice_makes (bare_units xs) (other_items basis.contract xs)
+shape_makes basis (shape.untagged xs) = untagged_makes basis.contract basis.titles xs
 
 -- ---- a row's document
 
 -- each reference of a row's document stands in one of its parts
-pub among_parts : (contract : Contract) (e : Entry) → IsPlainEntry (Some e) → (ts : List Data) → AreSchemas ts
-    → Among (references (filled (entry_template contract e) ts)) (references_of ts)
-among_parts contract e p ts schemas x h =
-    let t = entry_template contract e in
-    (as_schema (AreSchemas ts) t ts (λ q. q) (p.0, shape_as_schema contract e.shape p.1)).0 schemas x
+pub among_parts : (basis : Basis) (e : Entry) → IsPlainEntry (Some e) → (ts : List Data) → AreSchemas ts
+    → Among (references (filled (entry_template basis e) ts)) (references_of ts)
+among_parts basis e p ts schemas x h =
+    let t = entry_template basis e in
+    (as_schema (AreSchemas ts) t ts (λ q. q) (p.0, shape_as_schema basis e.shape p.1)).0 schemas x
     (Contains-append_left (references (filled t ts)) (references_of (left t ts)) x h)
 
 -- each reference of a part stands in the document
-pub parts_among : (contract : Contract) (e : Entry) → IsPlainEntry (Some e) → (ts : List Data)
-    → length ts ≡ length (rows_of (entry_template contract e))
-    → Among (references_of ts) (references (filled (entry_template contract e) ts))
-parts_among contract e p ts long x h =
-    let t = entry_template contract e in
-    let all = (as_schema ⊥ t ts (λ q. absurd q) (p.0, shape_as_schema contract e.shape p.1)).1 x h in
+pub parts_among : (basis : Basis) (e : Entry) → IsPlainEntry (Some e) → (ts : List Data)
+    → length ts ≡ length (rows_of (entry_template basis e))
+    → Among (references_of ts) (references (filled (entry_template basis e) ts))
+parts_among basis e p ts long x h =
+    let t = entry_template basis e in
+    let all = (as_schema ⊥ t ts (λ q. absurd q) (p.0, shape_as_schema basis e.shape p.1)).1 x h in
     subst (λ xs. Contains xs x) (ap (λ us. references (filled t ts) ++ references_of us) (none_left t ts long)
     ∙ append-nil (references (filled t ts))) all
 
-pub filled_schema : (contract : Contract) (e : Entry) (ts : List Data) → AreSchemas ts → IsSchema (filled (entry_template contract e) ts)
-filled_schema contract e ts h = made_schema (entry_template contract e) ts h (shape_makes contract e.shape)
+pub filled_schema : (basis : Basis) (e : Entry) (ts : List Data) → AreSchemas ts → IsSchema (filled (entry_template basis e) ts)
+filled_schema basis e ts h = made_schema (entry_template basis e) ts h (shape_makes basis e.shape)

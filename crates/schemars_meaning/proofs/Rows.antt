@@ -10,10 +10,11 @@ use Rattle.schemars_shapes.specs.Shape.{Shape, Field, Payload, Variant, no_paylo
 use Rattle.schemars_shapes.specs.Shape.{numbers_of, payload_numbers, variant_numbers}
 use Rattle.schemars_types.specs.Meaning.{Contract}
 use Rattle.schemars_documents.specs.Documents.{required_names}
+use Rattle.schemars_templates.specs.Basis.{Basis}
 use Rattle.schemars_templates.specs.Template.{Template, row, noted, rows_of, rows_in}
 use Rattle.schemars_templates.specs.OfShape.{templates_of, property, map_template, tuple_template, struct_template, template_of}
 use Rattle.schemars_templates.specs.OfShape.{payload_template, named_template, is_bare_unit, bare_units, other_items, choice_of}
-use Rattle.schemars_templates.specs.OfShape.{payload_item, untagged_template}
+use Rattle.schemars_templates.specs.OfShape.{payload_item, titled, untagged_template}
 
 pub rows_same : (ns : List ℕ) → rows_in (templates_of (map row ns)) ≡ ns
 rows_same [] = refl
@@ -110,44 +111,49 @@ module _ (P : ℕ → Type 0) where
   choice_rows (k ∷ ks) [] h = nothing
   choice_rows (k ∷ ks) (t ∷ ts) h = ended (rows_in (templates_of (t ∷ ts))) h
 
-  items_rows : (contract : Contract) (xs : List Variant) → All P (variant_numbers xs)
-      → All P (rows_in (templates_of (map (payload_item contract) xs)))
-  items_rows contract [] h = nothing
-  items_rows contract (x ∷ xs) h =
+  titled_rows : (titles : Bool) (name : Text) (t : Template) → All P (rows_of t) → All P (rows_of (titled titles name t))
+  titled_rows false name t h = h
+  titled_rows true name t h = h
+
+  items_rows : (contract : Contract) (titles : Bool) (xs : List Variant) → All P (variant_numbers xs)
+      → All P (rows_in (templates_of (map (payload_item contract titles) xs)))
+  items_rows contract titles [] h = nothing
+  items_rows contract titles (x ∷ xs) h =
       let parts = parted (payload_numbers x.payload) (variant_numbers xs) h in
-      All-append P (rows_of (payload_template contract x.payload)) _ (payload_rows contract x.payload parts.0)
-      (items_rows contract xs parts.1)
+      All-append P (rows_of (titled titles x.name (payload_template contract x.payload))) _
+      (titled_rows titles x.name (payload_template contract x.payload) (payload_rows contract x.payload parts.0))
+      (items_rows contract titles xs parts.1)
 
-  untagged_rows : (contract : Contract) (xs : List Variant) → All P (variant_numbers xs) → All P (rows_of (untagged_template contract xs))
-  untagged_rows contract [] h = nothing
-  untagged_rows contract (x ∷ xs) h =
-      ended (rows_in (templates_of (map (payload_item contract) (x ∷ xs)))) (items_rows contract (x ∷ xs) h)
+  untagged_rows : (contract : Contract) (titles : Bool) (xs : List Variant) → All P (variant_numbers xs) → All P (rows_of (untagged_template contract titles xs))
+  untagged_rows contract titles [] h = nothing
+  untagged_rows contract titles (x ∷ xs) h =
+      ended (rows_in (templates_of (map (payload_item contract titles) (x ∷ xs)))) (items_rows contract titles (x ∷ xs) h)
 
-  pub all_rows : (contract : Contract) (kind : Shape) → All P (numbers_of kind) → All P (rows_of (template_of contract kind))
-  all_rows contract shape.null h = nothing
-  all_rows contract shape.bool h = nothing
-  all_rows contract (shape.int kind) h = nothing
-  all_rows contract (shape.non_zero kind) h = nothing
-  all_rows contract shape.number h = nothing
-  all_rows contract shape.text h = nothing
-  all_rows contract shape.char h = nothing
-  all_rows contract (shape.formatted format) h = nothing
-  all_rows contract shape.any h = nothing
-  all_rows contract shape.bytes h = nothing
-  all_rows contract shape.schema_itself h = nothing
-  all_rows contract (shape.option n) h = h
-  all_rows contract (shape.seq n) h = h
-  all_rows contract (shape.set n) h = h
-  all_rows contract (shape.array n zero) h = nothing
-  all_rows contract (shape.array n (suc len)) h = h
-  all_rows contract (shape.up_to n most) h = h
-  all_rows contract (shape.tuple ns) h = tuple_rows ns h
-  all_rows contract (shape.struct xs closed) h = struct_rows contract xs closed h
-  all_rows contract (shape.newtype n) h = h
-  all_rows contract (shape.result a b) h = h
-  all_rows contract (shape.bound n) h = twice n h
-  all_rows contract (shape.range n) h = twice n h
-  all_rows contract (shape.either a b) h = h
-  all_rows contract (shape.external xs) h =
-      choice_rows (bare_units xs) (other_items contract xs) (other_rows contract xs h)
-  all_rows contract (shape.untagged xs) h = untagged_rows contract xs h
+  pub all_rows : (basis : Basis) (kind : Shape) → All P (numbers_of kind) → All P (rows_of (template_of basis kind))
+  all_rows basis shape.null h = nothing
+  all_rows basis shape.bool h = nothing
+  all_rows basis (shape.int kind) h = nothing
+  all_rows basis (shape.non_zero kind) h = nothing
+  all_rows basis shape.number h = nothing
+  all_rows basis shape.text h = nothing
+  all_rows basis shape.char h = nothing
+  all_rows basis (shape.formatted format) h = nothing
+  all_rows basis shape.any h = nothing
+  all_rows basis shape.bytes h = nothing
+  all_rows basis shape.schema_itself h = nothing
+  all_rows basis (shape.option n) h = h
+  all_rows basis (shape.seq n) h = h
+  all_rows basis (shape.set n) h = h
+  all_rows basis (shape.array n zero) h = nothing
+  all_rows basis (shape.array n (suc len)) h = h
+  all_rows basis (shape.up_to n most) h = h
+  all_rows basis (shape.tuple ns) h = tuple_rows ns h
+  all_rows basis (shape.struct xs closed) h = struct_rows basis.contract xs closed h
+  all_rows basis (shape.newtype n) h = h
+  all_rows basis (shape.result a b) h = h
+  all_rows basis (shape.bound n) h = twice n h
+  all_rows basis (shape.range n) h = twice n h
+  all_rows basis (shape.either a b) h = h
+  all_rows basis (shape.external xs) h =
+      choice_rows (bare_units xs) (other_items basis.contract xs) (other_rows basis.contract xs h)
+  all_rows basis (shape.untagged xs) h = untagged_rows basis.contract basis.titles xs h

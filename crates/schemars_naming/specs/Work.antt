@@ -12,13 +12,15 @@ use Rattle.schemars_types.specs.Edges.{is_inline_at}
 use Rattle.schemars_documents.specs.declared.contract.Contract.{Contract}
 use Rattle.schemars_documents.specs.ContractOf.{contract_of}
 use Rattle.schemars_naming.specs.Naming.{Named, Naming, name_of, IsFirstUnused}
+use Rattle.schemars_templates.specs.Basis.{Basis}
 use Rattle.schemars_templates.specs.Describes.{Describes}
 
--- what stays the same during a call: the table, whose values the documents are for, where the definitions stand, and
--- the row whose root document is made
+-- what stays the same during a call: the table, whose values the documents are for, whether the variants of untagged enums have titles,
+-- where the definitions stand, and the row whose root document is made
 pub record Plan : Type 0 where
   pub rows : List Row
   pub contract : Contract
+  pub titles : Bool
   pub path : Text
   pub root : Option ℕ
 
@@ -55,13 +57,17 @@ Refers plan free w n r =
 
 -- ---- definitions
 
+-- what the documents are made from
+abbrev pub basis_of : Plan → Basis
+basis_of plan = record { rows = plan.rows; contract = contract_of plan.contract; titles = plan.titles }
+
 -- d is the document of the row of this name
 pub record IsDefinition (plan : Plan) (w : Work) (name : Text) (d : Data) : Type 0 where
   pub row : ℕ
   pub is_named : name_of row plan.contract w.names ≡ Some name
   pub is_text : IsUtf8 name
   pub depth : ℕ
-  pub describes : Describes plan.rows (contract_of plan.contract) (Refers plan false w) depth row d
+  pub describes : Describes (basis_of plan) (Refers plan false w) depth row d
 
 abbrev pub AreDefinitions : Plan → Work → Type 0
 AreDefinitions plan w = (name : Text) (d : Data) → get_member name w.definitions ≡ Some d → IsDefinition plan w name d

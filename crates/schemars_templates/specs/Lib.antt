@@ -1,3 +1,4 @@
+pub mod Basis
 pub mod Template
 pub mod OfShape
 pub mod View

@@ -12,6 +12,7 @@ use Rattle.schemars_documents.specs.Documents.{formatted_document, empty_list_do
 use Rattle.schemars_documents.specs.Documents.{required_names}
 use Rattle.schemars_templates.specs.Template.{Template, finished, row, list, members, nullable, noted, Templates}
 use Rattle.schemars_templates.specs.Template.{no_templates, template}
+use Rattle.schemars_templates.specs.Basis.{Basis}
 
 abbrev pub templates_of : List Template → Templates
 templates_of [] = no_templates
@@ -161,42 +162,50 @@ choice_of (k ∷ ks) (t ∷ ts) = one_of (units_template (k ∷ ks) ∷ t ∷ ts
 abbrev pub external_template : Contract → List Variant → Template
 external_template contract xs = choice_of (bare_units xs) (other_items contract xs)
 
-abbrev pub payload_item : Contract → Variant → Template
-payload_item contract x = noted x.notes (payload_template contract x.payload)
+abbrev pub title_alone : Text → Members
+title_alone name = member (codes "title") (string name) no_members
 
-abbrev pub untagged_template : Contract → List Variant → Template
-untagged_template contract [] = finished (boolean false)
-untagged_template contract (x ∷ xs) = any_of (map (payload_item contract) (x ∷ xs))
+abbrev pub titled : Bool → Text → Template → Template
+titled false name t = t
+titled true name t = noted (title_alone name) t
+
+abbrev pub payload_item : Contract → Bool → Variant → Template
+payload_item contract titles x = noted x.notes (titled titles x.name (payload_template contract x.payload))
+
+-- a variant may have its name as title; its notes come after that
+abbrev pub untagged_template : Contract → Bool → List Variant → Template
+untagged_template contract titles [] = finished (boolean false)
+untagged_template contract titles (x ∷ xs) = any_of (map (payload_item contract titles) (x ∷ xs))
 
 -- ---- by shape
 
-abbrev pub template_of : Contract → Shape → Template
-template_of contract shape.null = finished (type_alone (codes "null"))
-template_of contract shape.bool = finished (type_alone (codes "boolean"))
-template_of contract (shape.int kind) = finished (int_document kind)
-template_of contract (shape.non_zero kind) = finished (non_zero_document kind)
-template_of contract shape.number = finished (type_alone (codes "number"))
-template_of contract shape.text = finished (type_alone (codes "string"))
-template_of contract shape.char = finished char_document
-template_of contract (shape.formatted format) = finished (formatted_document format)
-template_of contract shape.any = finished (boolean true)
-template_of contract shape.bytes = finished (bytes_document contract)
-template_of contract shape.schema_itself = finished schema_document
-template_of contract (shape.option n) = nullable (row n)
-template_of contract (shape.seq n) = list_template n []
-template_of contract (shape.set n) = set_template n
-template_of contract (shape.array n len) = array_template n len
-template_of contract (shape.up_to n cap) = up_to_template n cap
-template_of contract (shape.tuple ns) = tuple_template ns
-template_of contract (shape.struct xs closed) = struct_template contract xs closed
-template_of contract (shape.newtype n) = row n
-template_of contract (shape.result t e) = result_template t e
-template_of contract (shape.bound n) = bound_template n
-template_of contract (shape.range n) = range_template n
-template_of contract (shape.either l r) = either_template l r
-template_of contract (shape.external xs) = external_template contract xs
-template_of contract (shape.untagged xs) = untagged_template contract xs
+abbrev pub template_of : Basis → Shape → Template
+template_of basis shape.null = finished (type_alone (codes "null"))
+template_of basis shape.bool = finished (type_alone (codes "boolean"))
+template_of basis (shape.int kind) = finished (int_document kind)
+template_of basis (shape.non_zero kind) = finished (non_zero_document kind)
+template_of basis shape.number = finished (type_alone (codes "number"))
+template_of basis shape.text = finished (type_alone (codes "string"))
+template_of basis shape.char = finished char_document
+template_of basis (shape.formatted format) = finished (formatted_document format)
+template_of basis shape.any = finished (boolean true)
+template_of basis shape.bytes = finished (bytes_document basis.contract)
+template_of basis shape.schema_itself = finished schema_document
+template_of basis (shape.option n) = nullable (row n)
+template_of basis (shape.seq n) = list_template n []
+template_of basis (shape.set n) = set_template n
+template_of basis (shape.array n len) = array_template n len
+template_of basis (shape.up_to n cap) = up_to_template n cap
+template_of basis (shape.tuple ns) = tuple_template ns
+template_of basis (shape.struct xs closed) = struct_template basis.contract xs closed
+template_of basis (shape.newtype n) = row n
+template_of basis (shape.result t e) = result_template t e
+template_of basis (shape.bound n) = bound_template n
+template_of basis (shape.range n) = range_template n
+template_of basis (shape.either l r) = either_template l r
+template_of basis (shape.external xs) = external_template basis.contract xs
+template_of basis (shape.untagged xs) = untagged_template basis.contract basis.titles xs
 
 -- a row's document, with its notes
-abbrev pub entry_template : Contract → Entry → Template
-entry_template contract e = noted e.notes (template_of contract e.shape)
+abbrev pub entry_template : Basis → Entry → Template
+entry_template basis e = noted e.notes (template_of basis e.shape)

@@ -5,7 +5,7 @@ use Rattle.serde_json.specs.View.{view, members_view}
 use Rattle.schemars_json.specs.Json.{Text}
 use Rattle.schemars_templates.specs.Template as spec
 use Rattle.schemars_templates.specs.Template.{Templates, no_templates, template}
-use Rattle.schemars_templates.specs.OfShape.{KeywordTemplate, templates_of}
+use Rattle.schemars_templates.specs.OfShape.{KeywordTemplate, templates_of, title_alone}
 use Rattle.schemars_templates.specs.declared.template.Template.{Template, fold-Template}
 use Rattle.schemars_templates.specs.declared.template.Template.TheOpen.{Template-F}
 
@@ -17,6 +17,7 @@ node_view (Template-F.List v) = spec.list (templates_of v.items)
 node_view (Template-F.Object keys v) = spec.members (map (λ k. k.now) keys.items) (templates_of v.items)
 node_view (Template-F.Nullable t) = spec.nullable t.value
 node_view (Template-F.Noted notes t) = spec.noted (members_view notes.now.entries) t.value
+node_view (Template-F.Titled name t) = spec.noted (title_alone name.now) t.value
 
 abbrev pub template_view : Template → spec.Template
 template_view = fold-Template spec.Template node_view

@@ -14,8 +14,10 @@ ghost use Rattle.schemars_templates.specs.OfShape.{map_template, struct_template
 ghost use Rattle.schemars_templates.specs.OfShape.{one_of, member_template, result_template, bound_template, range_template};
 ghost use Rattle.schemars_templates.specs.OfShape.{either_template, any_of, said, payload_template, named_template};
 ghost use Rattle.schemars_templates.specs.OfShape.{is_bare_unit, bare_units, other_items, external_template};
-ghost use Rattle.schemars_templates.specs.OfShape.{payload_item, untagged_template};
+ghost use Rattle.schemars_templates.specs.OfShape.{payload_item, untagged_template, titled};
+ghost use Rattle.schemars_templates.specs.Basis.{basis_of};
 
+use crate::basis::Basis;
 use crate::template::Template;
 use schemars_documents::Contract;
 use schemars_documents::documents::{
@@ -32,22 +34,22 @@ use std::alloc::{AllocError, Global};
 /// The template of a row's document, with its notes.
 pub fn entry_template<'t>(
     alloc: Global,
-    contract: Contract,
+    basis: &Basis<'_>,
     entry: &'t TypeEntry,
 ) -> Result<Template<'t>, AllocError>
-    ensures { IfOk result (λ t. template_view t ≡ entry_template (contract_of contract) (entry_of entry.now)) }
+    ensures { IfOk result (λ t. template_view t ≡ entry_template (basis_of basis.now) (entry_of entry.now)) }
 {
-    let bare = template_of(alloc, contract, &entry.shape)?;
+    let bare = template_of(alloc, basis, &entry.shape)?;
     Ok(Template::Noted(&entry.notes, Box::new(alloc, bare)?))
 }
 
 /// The template of a shape's document.
 pub fn template_of<'t>(
     alloc: Global,
-    contract: Contract,
+    basis: &Basis<'_>,
     shape: &'t Shape,
 ) -> Result<Template<'t>, AllocError>
-    ensures { IfOk result (λ t. template_view t ≡ template_of (contract_of contract) (shape_of shape.now)) }
+    ensures { IfOk result (λ t. template_view t ≡ template_of (basis_of basis.now) (shape_of shape.now)) }
 {
     match shape {
         Shape::Null => finished(type_alone(alloc, "null")?),
@@ -59,7 +61,7 @@ pub fn template_of<'t>(
         Shape::Char => finished(char_document(alloc)?),
         Shape::Formatted(format) => finished(formatted_document(alloc, format)?),
         Shape::Any => finished(Schema::from(true)),
-        Shape::Bytes => bytes_template(alloc, contract),
+        Shape::Bytes => bytes_template(alloc, basis.contract),
         Shape::SchemaItself => finished(schema_document(alloc)?),
         Shape::Option(some) => option_template(alloc, *some),
         Shape::Seq(item) => seq_template(alloc, *item),
@@ -67,14 +69,14 @@ pub fn template_of<'t>(
         Shape::Array(item, len) => array_template(alloc, *item, *len),
         Shape::UpTo(item, cap) => up_to_template(alloc, *item, *cap),
         Shape::Tuple(parts) => tuple_template(alloc, parts),
-        Shape::Struct(fields) => struct_template(alloc, contract, fields),
+        Shape::Struct(fields) => struct_template(alloc, basis.contract, fields),
         Shape::Newtype(inner) => Ok(row(*inner)),
         Shape::Result(ok, err) => result_template(alloc, *ok, *err),
         Shape::Bound(n) => bound_template(alloc, *n),
         Shape::Range(n) => range_template(alloc, *n),
         Shape::Either(left, right) => either_template(alloc, *left, *right),
-        Shape::External(variants) => external_template(alloc, contract, variants),
-        Shape::Untagged(variants) => untagged_template(alloc, contract, variants),
+        Shape::External(variants) => external_template(alloc, basis.contract, variants),
+        Shape::Untagged(variants) => untagged_template(alloc, basis.contract, basis.titles, variants),
     }
 }
 
@@ -394,15 +396,16 @@ fn led_by<'t>(
 fn untagged_template<'t>(
     alloc: Global,
     contract: Contract,
+    titles: bool,
     variants: &'t [Variant],
 ) -> Result<Template<'t>, AllocError>
     ensures { IfOk result (λ t. template_view t
-        ≡ untagged_template (contract_of contract) (map variant_of variants.now)) }
+        ≡ untagged_template (contract_of contract) titles (map variant_of variants.now)) }
 {
     if variants.is_empty() {
         return finished(Schema::from(false));
     }
-    let items = payload_items(alloc, contract, variants)?;
+    let items = payload_items(alloc, contract, titles, variants)?;
     any_of(alloc, items)
 }
 
@@ -410,17 +413,34 @@ fn untagged_template<'t>(
 fn payload_items<'t>(
     alloc: Global,
     contract: Contract,
+    titles: bool,
     variants: &'t [Variant],
 ) -> Result<Vec<Template<'t>>, AllocError>
     ensures { IfOk result (λ v. map template_view v.items
-        ≡ map (payload_item (contract_of contract)) (map variant_of variants.now)) }
+        ≡ map (payload_item (contract_of contract) titles) (map variant_of variants.now)) }
 {
     let mut items = Vec::new(alloc);
     for variant in variants {
-        let item = payload_template(alloc, contract, &variant.payload)?;
+        let payload = payload_template(alloc, contract, &variant.payload)?;
+        let item = titled(alloc, titles, variant.name.as_str(), payload)?;
         items.push(Template::Noted(&variant.notes, Box::new(alloc, item)?))?;
     }
     Ok(items)
+}
+
+// The template under this title, where there are titles.
+fn titled<'t>(
+    alloc: Global,
+    titles: bool,
+    name: &'t str,
+    template: Template<'t>,
+) -> Result<Template<'t>, AllocError>
+    ensures { IfOk result (λ t. template_view t ≡ titled titles name.now (template_view template.entry)) }
+{
+    if titles {
+        return Ok(Template::Titled(name, Box::new(alloc, template)?));
+    }
+    Ok(template)
 }
 
 // One of these at least.

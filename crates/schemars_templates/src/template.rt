@@ -6,6 +6,7 @@ ghost use Rattle.schemars_schema.specs.SchemaData.{IsSchema, members_in, put_all
 ghost use Rattle.schemars_rewrite.specs.AllowNull.{allow_null};
 ghost use Rattle.schemars_documents.specs.Documents.{annotated};
 ghost use Rattle.schemars_templates.specs.Template.{rows_of, filled, filled_in, left, left_in, first, behind, keyed};
+ghost use Rattle.schemars_templates.specs.OfShape.{title_alone};
 ghost use Rattle.schemars_templates.specs.View.{template_view, templates_view};
 
 use schemars_documents::documents::annotate;
@@ -31,6 +32,8 @@ pub enum Template<'t> {
     Nullable(Box<Template<'t>>),
     /// A schema with these notes.
     Noted(&'t Map<String, Value>, Box<Template<'t>>),
+    /// A schema with this title.
+    Titled(&'t str, Box<Template<'t>>),
 }
 
 impl<'t> Template<'t> {
@@ -64,6 +67,7 @@ fn add_rows(template: &Template<'_>, rows: &mut Vec<TypeNo>) -> Result<(), Alloc
         }
         Template::Nullable(inner) => add_rows(inner, rows),
         Template::Noted(_, inner) => add_rows(inner, rows),
+        Template::Titled(_, inner) => add_rows(inner, rows),
     }
 }
 
@@ -113,6 +117,10 @@ fn fill_value(
         Template::Noted(notes, inner) => {
             let inner = fill_value(alloc, Box::into_inner(inner), parts)?;
             noted(alloc, inner, notes)
+        }
+        Template::Titled(title, inner) => {
+            let inner = fill_value(alloc, Box::into_inner(inner), parts)?;
+            titled(alloc, inner, title)
         }
     }
 }
@@ -187,6 +195,19 @@ fn noted(alloc: Global, value: Value, notes: &Map<String, Value>) -> Result<Valu
     let mut schema = schema_of(alloc, value);
     annotate(alloc, &mut schema, notes)?;
     Ok(schema.to_value())
+}
+
+fn titled(alloc: Global, value: Value, title: &str) -> Result<Value, AllocError>
+    ensures { IfOk result (λ v. view v ≡ annotated (title_alone title.now) (view value)) }
+{
+    let mut notes = Map::new(alloc);
+    serde_json::put(
+        &mut notes,
+        alloc,
+        "title",
+        Value::try_from_str(alloc, title)?,
+    )?;
+    noted(alloc, value, &notes)
 }
 
 // The value as a schema, or the schema without keywords.

@@ -13,13 +13,12 @@ use Rattle.serde_json.proofs.Views.{get_member-put}
 use Rattle.schemars_schema.specs.References.{references}
 use Rattle.schemars_shapes.specs.Shape.{entry_of}
 use Rattle.schemars_types.specs.Edges.{is_inline_at}
-use Rattle.schemars_documents.specs.ContractOf.{contract_of}
 use Rattle.schemars_documents.specs.Documents.{reference}
 use Rattle.schemars_schema.specs.SchemaData.{IsSchema}
 use Rattle.schemars_templates.specs.Template.{Template, rows_of, filled}
 use Rattle.schemars_templates.specs.OfShape.{entry_template}
 use Rattle.schemars_naming.specs.Naming.{name_of}
-use Rattle.schemars_naming.specs.Work.{Work, Step, undone, reference_to}
+use Rattle.schemars_naming.specs.Work.{Work, Step, undone, reference_to, basis_of}
 use Rattle.schemars_naming.proofs.Given.{gives-keeps}
 use Rattle.schemars_build.specs.Missing.{StandsIn, missing}
 use Rattle.schemars_build.specs.Parts.{IsPart, AreParts, IsMade}
@@ -75,7 +74,7 @@ pub own_document-subschemas-requires : goal.own_document-subschemas-requires
 own_document-subschemas-requires t c =
     let plan = plan_of c.args.plan.now in
     let e = entry_of c.in-Some.entry.now in
-    let same : c.deref.result.now ≡ rows_of (entry_template (contract_of plan.contract) e) =
+    let same : c.deref.result.now ≡ rows_of (entry_template (basis_of plan) e) =
     c.deref.ensures.value ∙ (c.in_ok-rows.ensures ∙ ap rows_of c.in_ok-template.ensures) in
     let P : List ℕ → Type 0 = λ ms. All (StandsIn plan.rows c.args.n) ms in
     let all : All (StandsIn plan.rows c.args.n) c.deref.result.now =
@@ -92,10 +91,10 @@ own_document-returns-clause-is t c =
     let e = entry_of c.in-Some.entry.now in
     let template = c.in_ok-template.ensures in
     let ts = c.in_ok-parts.parts.items in
-    let same : c.deref.result.now ≡ rows_of (entry_template (contract_of plan.contract) e) =
+    let same : c.deref.result.now ≡ rows_of (entry_template (basis_of plan) e) =
     c.deref.ensures.value ∙ (c.in_ok-rows.ensures ∙ ap rows_of template) in
     let P : List ℕ → Type 0 = λ ms. AreParts plan inside old now c.args.n ms ts in
-    let all : AreParts plan inside old now c.args.n (rows_of (entry_template (contract_of plan.contract) e)) ts =
+    let all : AreParts plan inside old now c.args.n (rows_of (entry_template (basis_of plan) e)) ts =
     subst P same c.in_ok-parts.ensures.are in
     let schema = filled_by_parts plan inside old now c.args.n e ts all in
     let Q : Template → Type 0 = λ u. IsSchema (filled u ts) → c.in_ok-schema.schema ≡ filled u ts in

@@ -8,5 +8,6 @@ use Rattle.schemars_templates.proofs.shapes.payload_items.Given as goal
 
 abbrev pub invariant-loop-variant : goal.invariant-loop-variant
 invariant-loop-variant l =
-    map template_view l.items.items ++ map (payload_item (contract_of l.contract)) (map variant_of (drop l.variant-index l.variants))
-    ≡ map (payload_item (contract_of l.contract)) (map variant_of l.variants)
+    map template_view l.items.items
+    ++ map (payload_item (contract_of l.contract) l.titles) (map variant_of (drop l.variant-index l.variants))
+    ≡ map (payload_item (contract_of l.contract) l.titles) (map variant_of l.variants)
