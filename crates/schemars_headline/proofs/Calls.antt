@@ -283,7 +283,7 @@ pub step_kept : (s : State) (w : Work) → Step (plan_of s None) (work_of s) w
 step_kept s w h = record {
   names = h.names;
   stays = h.stays;
-  adds = λ k d none some. definition-moved (plan_of s None) (plan_of s None) w v refl refl (λ n name e. e) moved k d (h.adds k d none some);
+  adds = λ k d none some. definition-moved (plan_of s None) (plan_of s None) w v refl refl refl (λ n name e. e) moved k d (h.adds k d none some);
   still_begun = λ k is. is;
   still_meets = λ e. e;
 }

@@ -35,14 +35,22 @@ const BOOL_ROOT: &str =
 
 const SLASHES: &str = r#"{"types":[{"id":"a","name":"a/b~ü","shape":"any"}],"root":0}"#;
 
+// A null, a text that is named, a list of the enum itself, any value, and a struct.
+const UNTAGGED: &str =
+    r#"{"types":[{"id":"E","name":"E","shape":{"untagged":{"variants":[{"name":"Nothing"},{"name":"Name","payload":{"newtype":1}},{"name":"List","payload":{"newtype":2}},{"name":"Else","payload":{"newtype":3}},{"name":"S","payload":{"struct":{"fields":[{"name":"x","type":3,"required":false}]}}}]}}},{"id":"Name","name":"Name","shape":"text"},{"id":"[E]","name":"Array_of_E","inline":true,"shape":{"seq":0}},{"id":"any","name":"AnyValue","inline":true,"shape":"any"}],"root":0}"#;
+
+const TITLED: &str =
+    r##"{"$schema":"https://json-schema.org/draft/2020-12/schema","title":"E","anyOf":[{"title":"Nothing","type":"null"},{"title":"Name","$ref":"#/$defs/Name"},{"title":"List","type":"array","items":{"$ref":"#"}},{"title":"Else"},{"title":"S","type":"object","properties":{"x":true}}],"$defs":{"Name":{"type":"string"}}}"##;
+
 // A call, its row, and what it answers.
 type Answer = (&'static str, TypeNo, &'static str);
 
-// The path of the definitions, a table, and calls of a generator in order.
-const CALLS: [(&str, &str, &[Answer]); 6] = [
+// The path of the definitions, whether untagged variants have titles, a table, and calls of a generator in order.
+const CALLS: [(&str, bool, &str, &[Answer]); 7] = [
     // A root document that refers to itself leaves no definitions, and a part has those it leads to.
     (
         "/$defs",
+        false,
         EACH_OTHER,
         &[
             ("root", 0, ROOT),
@@ -56,6 +64,7 @@ const CALLS: [(&str, &str, &[Answer]); 6] = [
     // Definitions are taken, and made again.
     (
         "/$defs",
+        false,
         EACH_OTHER,
         &[
             ("part", 0, REF_A),
@@ -68,6 +77,7 @@ const CALLS: [(&str, &str, &[Answer]); 6] = [
     // The own table changes nothing, and one without its rows is refused.
     (
         "/$defs",
+        false,
         EACH_OTHER,
         &[
             ("part", 1, REF_B),
@@ -84,6 +94,7 @@ const CALLS: [(&str, &str, &[Answer]); 6] = [
     // A path without a slash in front has no place for definitions, and the names are taken back.
     (
         "defs",
+        false,
         CONFIGS,
         &[
             ("root", 2, "9 DefinitionsPath"),
@@ -94,10 +105,11 @@ const CALLS: [(&str, &str, &[Answer]); 6] = [
         ],
     ),
     // Without definitions there is no need of a path.
-    ("defs", BOOL, &[("root", 0, BOOL_ROOT)]),
+    ("defs", false, BOOL, &[("root", 0, BOOL_ROOT)]),
     // A name stands in a reference by the encoding of pointers and of addresses.
     (
         "#/components/schemas/",
+        false,
         SLASHES,
         &[(
             "part",
@@ -105,6 +117,8 @@ const CALLS: [(&str, &str, &[Answer]); 6] = [
             r##"{"$ref":"#/components/schemas/a~1b~0%C3%BC"}"##,
         )],
     ),
+    // A title stands in each variant's document, also beside a reference.
+    ("/$defs", true, UNTAGGED, &[("root", 0, TITLED)]),
 ];
 
 fn write_definition(
@@ -186,17 +200,23 @@ fn assert_calls(
     assert_answers(rt, alloc, &mut generator, answers)
 }
 
-fn generator_at(alloc: Global, path: &'static str, table: &str) -> Result<SchemaGenerator, Fail> {
+fn generator_at(
+    alloc: Global,
+    path: &'static str,
+    titles: bool,
+    table: &str,
+) -> Result<SchemaGenerator, Fail> {
     let types = table_of(alloc, table)?;
     let mut settings = SchemaSettings::draft2020_12(alloc);
     settings.definitions_path = CowStr::Borrowed(path);
+    settings.untagged_enum_variant_titles = titles;
     Ok(SchemaGenerator::with_types(alloc, settings, types)?)
 }
 
 #[test]
 fn generators_answer(rt: HostRuntime) -> Result<(), Fail> {
-    for (path, table, answers) in CALLS {
-        let generator = generator_at(rt.alloc(), path, table)?;
+    for (path, titles, table, answers) in CALLS {
+        let generator = generator_at(rt.alloc(), path, titles, table)?;
         assert_calls(&rt, rt.alloc(), generator, answers)?;
     }
     Ok(())
