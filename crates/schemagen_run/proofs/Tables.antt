@@ -23,6 +23,7 @@ use Rattle.schemars_headline.specs.Headline.{RootHeadline, IsDraftPath}
 use Rattle.schemars_headline.specs.Calls.{IsLastRootCall}
 use Rattle.schemars_documents.specs.PlainTable.{IsNoName, AreDistinct, AreNoted, IsNoVariant, AreDistinctVariants}
 use Rattle.schemars_documents.specs.PlainTable.{IsPlainPayload, ArePlainVariants, IsPlainShape, IsPlainEntry, IsPlainTable}
+use Rattle.schemars_documents.specs.PlainTable.{IsNotedEntry, HasPlainNotes}
 use Rattle.schemars_documents.specs.PlainTable.{FieldsHaveNoFloat, PayloadHasNoFloat, VariantsHaveNoFloat, ShapeHasNoFloat}
 use Rattle.schemars_documents.specs.PlainTable.{EntryHasNoFloat, HasNoFloat}
 use Rattle.schemars_headline.specs.State.{Settings, State, path_of, HasOwnDefinitions}
@@ -197,6 +198,13 @@ is_plain_table rows root table checked n = by (entry_at rows n) refl
               (λ (o : Option Entry). AreDistinctLists (option_map_or (λ f. names_of f.shape) o [])) there (checked.names_differ n)),
         )
 
+has_plain_notes : (rows : List Row) (root : ℕ) → is_table rows root ≡ true → HasPlainNotes rows
+has_plain_notes rows root table n = by (entry_at rows n) refl
+  where
+    by : (o : Option Entry) → entry_at rows n ≡ o → IsNotedEntry o
+    by None there = tt
+    by (Some e) there = none_are_notes e.notes (entry_is_bare rows root n e table there).0
+
 has_no_float : (rows : List Row) (root : ℕ) → is_table rows root ≡ true → HasNoFloat rows
 has_no_float rows root table n = by (entry_at rows n) refl
   where
@@ -252,8 +260,8 @@ is_whole (Ok document) s contract rows root table same whole =
 -- memory is all that its root document may want
 pub wants_only_memory : {P : Type 0} (s : State) (contract : Contract) (rows : List Row) (root : ℕ) → is_table rows root ≡ true
     → IsChecked rows → s ≡ fresh contract rows
-    → (IsPlainTable s.rows → IsDraftPath (path_of s) → root < length s.rows → P) → P
+    → (HasPlainNotes s.rows → IsDraftPath (path_of s) → root < length s.rows → P) → P
 wants_only_memory {P} s contract rows root table checked same only =
-    let here : IsPlainTable rows → IsDraftPath (path_of (fresh contract rows)) → root < length rows → P =
-    subst (λ (t : State). IsPlainTable t.rows → IsDraftPath (path_of t) → root < length t.rows → P) same only in
-    here (is_plain_table rows root table checked) (inl refl) (root_is_within rows root table)
+    let here : HasPlainNotes rows → IsDraftPath (path_of (fresh contract rows)) → root < length rows → P =
+    subst (λ (t : State). HasPlainNotes t.rows → IsDraftPath (path_of t) → root < length t.rows → P) same only in
+    here (has_plain_notes rows root table) (inl refl) (root_is_within rows root table)

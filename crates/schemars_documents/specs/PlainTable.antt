@@ -83,6 +83,14 @@ IsPlainEntry (Some e) = AreNotes e.notes × IsPlainShape e.shape
 abbrev pub IsPlainTable : List Row → Type 0
 IsPlainTable rows = (n : ℕ) → IsPlainEntry (entry_at rows n)
 
+abbrev pub IsNotedEntry : Option Entry → Type 0
+IsNotedEntry None = Unit {0}
+IsNotedEntry (Some e) = AreNotes e.notes
+
+-- the notes of rows are annotations alone, whatever those of their fields and variants are
+abbrev pub HasPlainNotes : List Row → Type 0
+HasPlainNotes rows = (n : ℕ) → IsNotedEntry (entry_at rows n)
+
 -- ---- numbers in notes
 
 abbrev pub FieldsHaveNoFloat : List Field → Type 0

@@ -14,7 +14,7 @@ ghost use Rattle.schemars_headline.specs.Headline.{CannotPlace, with_definitions
 ghost use Rattle.schemars_headline.specs.Calls.{IsPartOf, IsReferenceOf, Adds, IsNeeded, IsRootCall, IsLastRootCall};
 ghost use Rattle.schemars_build.specs.Parts.{IsSubschema};
 ghost use Rattle.schemars_naming.specs.Naming.{IsOneToOne};
-ghost use Rattle.schemars_documents.specs.PlainTable.{IsPlainTable, HasNoFloat};
+ghost use Rattle.schemars_documents.specs.PlainTable.{IsPlainTable, HasPlainNotes, HasNoFloat};
 ghost use Rattle.schemars_build.specs.Reached.{AreReached};
 ghost use Rattle.schemars_generate.specs.Refusals.{HasFault};
 ghost use Rattle.schemars_headline.specs.Keys.{HasKeysOnce};
@@ -287,7 +287,7 @@ impl SchemaGenerator {
         ensures unknown { (result ≡ Err (GenerateError.UnknownType n)) ↔ (length self.old.rows ≤ n) }
         ensures refused { IfErr result (λ e. (e ≡ GenerateError.OutOfMemory) ⊎ (e ≡ GenerateError.UnknownType n)
             ⊎ ((e ≡ GenerateError.DefinitionsPath) × CannotPlace self.old n)) }
-        ensures only_memory { IsPlainTable self.old.rows → IsDraftPath (path_of self.old) → n < length self.old.rows
+        ensures only_memory { HasPlainNotes self.old.rows → IsDraftPath (path_of self.old) → n < length self.old.rows
             → IfErr result (λ e. e ≡ GenerateError.OutOfMemory) }
         ensures err { OnErr result (self.new ≡ self.old) }
     {
@@ -308,7 +308,7 @@ impl SchemaGenerator {
         ensures unknown { (result ≡ Err (GenerateError.UnknownType n)) ↔ (length self.rows ≤ n) }
         ensures refused { IfErr result (λ e. (e ≡ GenerateError.OutOfMemory) ⊎ (e ≡ GenerateError.UnknownType n)
             ⊎ ((e ≡ GenerateError.DefinitionsPath) × CannotPlace self n)) }
-        ensures only_memory { IsPlainTable self.rows → IsDraftPath (path_of self) → n < length self.rows
+        ensures only_memory { HasPlainNotes self.rows → IsDraftPath (path_of self) → n < length self.rows
             → IfErr result (λ e. e ≡ GenerateError.OutOfMemory) }
     {
         self.known(n)?;

@@ -24,7 +24,7 @@ use Rattle.schemars_templates.specs.Template.{Template, noted}
 use Rattle.schemars_templates.specs.OfShape.{template_of}
 use Rattle.schemars_templates.specs.Describes.{IsOwnDocument, IsWritten, Describes, Fills}
 use Rattle.schemars_headline.specs.Keys.{HasKeysOnce}
-use Rattle.schemars_documents.specs.PlainTable.{IsPlainTable, HasNoFloat}
+use Rattle.schemars_documents.specs.PlainTable.{IsPlainTable, HasPlainNotes, HasNoFloat}
 use Rattle.schemars_naming.specs.Work.{Plan, Work, IsKey, StandsApart, Refers, IsDefinition, Step, reference_to, basis_of}
 use Rattle.schemars_headline.specs.State.{State, plan_of, work_of, after_root, HasOwnDefinitions}
 use Rattle.schemars_headline.specs.Headline.{Headline, IsDraftPath, IsRootOf, IsTitledRoot, CannotPlace, with_definitions}
@@ -240,7 +240,7 @@ root_is_whole s n w d root once none own =
     (Refers (plan_of s (Some n)) true w) none (suc (height s.rows n)) n root.own root.describes))
     root.is_root
 
-pub always_placed : (s : State) (n : ℕ) → IsPlainTable s.rows → IsDraftPath (plan_of s None).path → CannotPlace s n → ⊥
+pub always_placed : (s : State) (n : ℕ) → HasPlainNotes s.rows → IsDraftPath (plan_of s None).path → CannotPlace s n → ⊥
 always_placed s n plain path h =
     let there = root_placed (plan_of s (Some n)) h.work n (name_at s.rows n) s.settings.meta_schema (suc (height s.rows n)) h.own plain
     (Refers (plan_of s (Some n)) true h.work) h.describes path in

@@ -31,7 +31,7 @@ use Rattle.schemars_templates.specs.Template.{filled, filled_in}
 use Rattle.schemars_templates.specs.OfShape.{KeywordTemplate, property, map_template, bare_units, other_items, choice_of}
 use Rattle.schemars_templates.specs.OfShape.{template_of, entry_template}
 use Rattle.schemars_templates.specs.Describes.{IsOwnDocument, IsWritten, Describes}
-use Rattle.schemars_documents.specs.PlainTable.{IsPlainEntry, IsPlainTable}
+use Rattle.schemars_documents.specs.PlainTable.{IsNotedEntry, HasPlainNotes}
 use Rattle.schemars_headline.proofs.Keys.{IsDefinitionsKey, IsOther, other_apart, annotation_other}
 use Rattle.schemars_headline.proofs.Parts.{either, first_all, parts_all}
 
@@ -206,14 +206,14 @@ module _ (key : Text) (is_key : IsDefinitionsKey key) where
   lacks_filled (noted notes t) ts is h = lacks_annotated notes (filled t ts) is.0 (lacks_filled t ts is.1 h)
 
   own_lacks : (W : ℕ → Data → Type 0) (basis : Basis) → ((j : ℕ) (t : Data) → W j t → LacksIn t) → (o : Option Entry)
-      → IsPlainEntry o → (s : Data) → IsOwnDocument W basis o s → LacksIn s
+      → IsNotedEntry o → (s : Data) → IsOwnDocument W basis o s → LacksIn s
   own_lacks W basis all None plain s is = absurd is
   own_lacks W basis all (Some e) plain s is =
       let t = entry_template basis e in
-      rw is.is (lacks_filled t is.parts (plain.0, shape_other basis e.shape)
+      rw is.is (lacks_filled t is.parts (plain, shape_other basis e.shape)
       (parts_all LacksIn W all (rows_of t) is.parts is.written))
 
-  module _ (basis : Basis) (Refers : ℕ → Text → Type 0) (plain : IsPlainTable basis.rows) where
+  module _ (basis : Basis) (Refers : ℕ → Text → Type 0) (plain : HasPlainNotes basis.rows) where
     written_lacks : (d : ℕ) → ((j : ℕ) (t : Data) → Describes basis Refers d j t → LacksIn t) → (j : ℕ) (t : Data)
         → IsWritten Refers (Describes basis Refers d) j t → LacksIn t
     written_lacks d own j t (inl h) = rw h.2 (lacks_both (reference h.0) (refl, refl))

@@ -1,5 +1,5 @@
 -- Root documents mean their types, and so do subschemas beside their definitions.
-use Rattle.std.proofs.Common.{◌≡◌, inl, inr, ℕ, suc, Option, Some, None, Bool, true, refl, sym, ap, ◌∙◌, subst, arith}
+use Rattle.std.proofs.Common.{◌≡◌, inl, inr, ℕ, suc, List, Option, Some, None, Bool, true, refl, sym, ap, ◌∙◌, subst, arith}
 use Rattle.std.specs.Prelude.{is_some}
 use Rattle.serde_json.specs.Data.{Data, object, Members}
 use Rattle.serde_json.specs.Find.{get_member}
@@ -10,12 +10,13 @@ use Rattle.schemars_schema.specs.References.{references, resolves}
 use Rattle.schemars_schema.specs.Acceptance.{Patterns, Judge, judge, draft2020_12, follow}
 use Rattle.schemars_schema.proofs.Objects.{IsSilent, judge-put}
 use Rattle.schemars_rewrite.specs.NullLaw.{context2020_12}
-use Rattle.schemars_types.specs.Rows.{name_at}
+use Rattle.schemars_shapes.specs.Shape.{Entry}
+use Rattle.schemars_types.specs.Rows.{Row, name_at, entry_at}
 use Rattle.schemars_types.specs.Edges.{height}
 use Rattle.schemars_types.specs.Faults.{IsChecked}
 use Rattle.schemars_documents.specs.Documents.{root_document}
 use Rattle.schemars_templates.specs.Describes.{IsWritten, Describes}
-use Rattle.schemars_documents.specs.PlainTable.{IsPlainTable}
+use Rattle.schemars_documents.specs.PlainTable.{IsPlainEntry, IsPlainTable, IsNotedEntry, HasPlainNotes}
 use Rattle.schemars_documents.specs.ContractOf.{contract_of}
 use Rattle.schemars_naming.specs.Naming.{IsOneToOne}
 use Rattle.schemars_naming.specs.Work.{Plan, Work, Refers, basis_of}
@@ -116,7 +117,14 @@ root_means plan w n name uri depth own document checked one once root definition
           (root_resolved (resolves document) name uri own resolved_own);
     }
 
-module _ (plan : Plan) (w : Work) (n : ℕ) (name : Text) (uri : Option Text) (depth : ℕ) (own : Data) (plain : IsPlainTable plan.rows)
+plain_notes : (rows : List Row) → IsPlainTable rows → HasPlainNotes rows
+plain_notes rows plain n = by (entry_at rows n) (plain n)
+  where
+    by : (o : Option Entry) → IsPlainEntry o → IsNotedEntry o
+    by None h = tt
+    by (Some e) h = h.0
+
+module _ (plan : Plan) (w : Work) (n : ℕ) (name : Text) (uri : Option Text) (depth : ℕ) (own : Data) (plain : HasPlainNotes plan.rows)
     (R : ℕ → Text → Type 0) (h : Describes (basis_of plan) R depth n own) where
   room : (key : Text) → IsDefinitionsKey key → get_member key (members_in (root_document name uri own)) ≡ None
   room key is = no_definitions_in key is (basis_of plan) R plain name uri depth n own h
@@ -134,7 +142,7 @@ pub root_headline : (plan : Plan) (w : Work) (n : ℕ) (name : Text) (uri : Opti
     → Headline plan.rows (contract_of plan.contract) plan.path n document
 root_headline plan w n name uri depth own document checked one once root definitions h draft made plain =
     let placed = placed_in plan.path w.definitions (members_in (root_document name uri own)) document draft
-    (room plan w n name uri depth own plain (MayRefer plan w) h) made in
+    (room plan w n name uri depth own (plain_notes plan.rows plain) (MayRefer plan w) h) made in
     root_means plan w n name uri depth own document checked one once root definitions h placed plain
 
 -- so does what a root call makes

@@ -2,7 +2,7 @@ use Rattle.std.proofs.Common.{◌≡◌, inl, inr, sym, subst, rules, false, Non
 use Rattle.serde_json.specs.Written.{has_float}
 use Rattle.schemars_headline.specs.Headline.{Headline, IsDraftPath}
 use Rattle.schemars_documents.specs.ContractOf.{contract_of}
-use Rattle.schemars_documents.specs.PlainTable.{IsPlainTable, HasNoFloat}
+use Rattle.schemars_documents.specs.PlainTable.{HasPlainNotes, HasNoFloat}
 use Rattle.schemars_generate.specs.Settings.{state_of}
 use Rattle.schemars_headline.specs.State.{State, plan_of, HasOwnDefinitions}
 use Rattle.schemars_naming.specs.Work.{Work}
@@ -39,7 +39,7 @@ returns-clause-whole c =
 pub returns-in_err-document-clause-only_memory : goal.returns-in_err-document-clause-only_memory
 returns-in_err-document-clause-only_memory c =
     let s = state_of c.self.inside.settings c.self.inside.types c.self.inside.work in
-    let P : State → Type 0 = λ x. IsPlainTable x.rows in
+    let P : State → Type 0 = λ x. HasPlainNotes x.rows in
     let Q : State → Type 0 = λ x. IsDraftPath (plan_of x None).path in
     λ plain path known.
     let memory : c.in_err-document.field-0.0 ≡ OutOfMemory = elim c.in_err-document.ensures.refused [
