@@ -3,24 +3,24 @@ use Rattle.std.proofs.Common.{◌≡◌, ◌||◌, ◌∙◌, ℕ, List, [], ◌
 use Rattle.std.proofs.Common.{subst, length, arith, IsTrue, Vec}
 use Rattle.std.specs.declared.alloc.Global.{Global}
 use Rattle.std.specs.Prelude.{bytes_eq, nat_eq}
-use Rattle.std.specs.List.{list_any, list_all}
+use Rattle.std.specs.List.{list_any}
 use Rattle.std.proofs.lemmas.Bool.{eqb-true}
 use Rattle.std.proofs.lemmas.List.Folds.{list_any-append}
 use Rattle.serde_json.specs.View.{members_view}
-use Rattle.indexmap.specs.IndexSet.{insert_key, insert_all}
+use Rattle.indexmap.specs.IndexSet.{insert_key}
 use Rattle.schemars_json.specs.Json.{Text}
 use Rattle.serde_json.proofs.Views.{Entry as Entries}
 use Rattle.schemars_shapes.specs.declared.shape.IntKind.{IntKind}
 use Rattle.schemars_shapes.specs.declared.shape.Shape as src-shape
 use Rattle.schemars_shapes.specs.declared.shape.Shape.TheVariants as src
 use Rattle.schemars_shapes.specs.declared.variant.Variant as src-variant
-use Rattle.schemars_shapes.specs.Shape.{Variant, Payload, shape_of, variant_of, newtype_numbers}
+use Rattle.schemars_shapes.specs.Shape.{Variant, shape_of}
 use Rattle.schemars_types.specs.Rows.{Row}
 use Rattle.schemars_keys.specs.declared.options.IntegerKeys.{IntegerKeys}
 use Rattle.schemars_keys.specs.declared.options.IntegerKeys.TheVariants.{Unsigned, Signed}
 use Rattle.schemars_keys.specs.KeyOptions.{KeyOptions, any_key, only_keys, either_integers, either_options, each_once, all_options}
-use Rattle.schemars_keys.specs.KeyOptions.{is_none, member_options, members_options, untagged_options, shape_options}
-use Rattle.schemars_keys.specs.Found.{adding, AreListed, AreAmong, HoldsRows}
+use Rattle.schemars_keys.specs.KeyOptions.{is_none, members_options, untagged_options, shape_options}
+use Rattle.schemars_keys.specs.Found.{adding, AreAmong, HoldsRows}
 use Rattle.schemars_keys.proofs.Texts.{listed_more, listed_own, nothing_joins, insert_all-append, once_by_joining}
 
 -- ---- whole numbers

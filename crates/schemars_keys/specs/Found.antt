@@ -1,9 +1,8 @@
 -- Options as the program holds them, and how they grow.
-use Rattle.std.specs.Prelude.{◌≡◌, ℕ, List, [], ◌∷◌, map, true, Option, bytes_eq, nat_eq}
+use Rattle.std.specs.Prelude.{◌≡◌, ℕ, List, [], ◌∷◌, map, true, bytes_eq, nat_eq}
 use Rattle.std.specs.List.{list_any}
 use Rattle.indexmap.specs.IndexSet.{insert_all}
 use Rattle.schemars_json.specs.Json.{Text}
-use Rattle.schemars_json.specs.OrderedText.{is_listed}
 use Rattle.schemars_types.specs.Rows.{Row}
 use Rattle.schemars_keys.specs.declared.options.KeyOptions as src
 use Rattle.schemars_keys.specs.declared.options.KeyOptions.TheVariants as variant

@@ -1,4 +1,4 @@
-use Rattle.std.proofs.Common.{◌≡◌, ◌<◌, ◌+◌, ◌*◌, ◌∙◌, ◌∷◌, [], ℕ, List, Option, Some, None, length, map, refl, ap, sym, subst, arith, rules, nat_eq}
+use Rattle.std.proofs.Common.{◌≡◌, ◌<◌, ◌+◌, ◌*◌, ◌∙◌, [], ℕ, List, Some, map, refl, ap, sym, subst, arith, rules, nat_eq}
 use Rattle.std.proofs.Common.{Contains, true}
 use Rattle.std.specs.List.{list_any}
 use Rattle.schemars_shapes.specs.declared.shape.Shape as src-shape
@@ -8,9 +8,9 @@ use Rattle.schemars_shapes.specs.Shape.{entry_of, shape_of, variant_of, payload_
 use Rattle.schemars_types.specs.Rows.{Row, entry_at}
 use Rattle.schemars_types.specs.Edges.{SameValueEdge, rank}
 use Rattle.schemars_types.specs.Faults.{IsChecked}
-use Rattle.schemars_keys.specs.KeyOptions.{KeyOptions, only_keys, any_key, all_options, shape_options, external_options, untagged_options}
+use Rattle.schemars_keys.specs.KeyOptions.{only_keys, any_key, all_options, shape_options, external_options, untagged_options}
 use Rattle.schemars_keys.specs.Found.{options_of, adding, AreAmong, HoldsRows}
-use Rattle.schemars_keys.proofs.Adding.{adding-any, adding-either, adding-there, among_added, holds_any, holds_met, holds_more, other_shape}
+use Rattle.schemars_keys.proofs.Adding.{adding-any, adding-there, among_added, holds_any, holds_met, holds_more, other_shape}
 use Rattle.schemars_keys.proofs.Asked.{asked, newtype_at}
 use Rattle.schemars_keys.proofs.Settling.{all_options-none, all_options-shape}
 use Rattle.schemars_keys.proofs.keys.+keys.Goals as goal
