@@ -1,0 +1,214 @@
+-- Options that are added to others.
+use Rattle.std.proofs.Common.{◌≡◌, ◌||◌, ◌∙◌, ℕ, List, [], ◌∷◌, ◌++◌, Bool, true, false, Option, Some, None, Bor, map, refl, ap, sym}
+use Rattle.std.proofs.Common.{subst, length, arith, IsTrue, Vec}
+use Rattle.std.specs.declared.alloc.Global.{Global}
+use Rattle.std.specs.Prelude.{bytes_eq, nat_eq}
+use Rattle.std.specs.List.{list_any}
+use Rattle.std.proofs.lemmas.Bool.{eqb-true}
+use Rattle.std.proofs.lemmas.List.Folds.{list_any-append}
+use Rattle.serde_json.specs.View.{members_view}
+use Rattle.indexmap.specs.IndexSet.{insert_key}
+use Rattle.schemars_json.specs.Json.{Text}
+use Rattle.serde_json.proofs.Views.{Entry as Entries}
+use Rattle.schemars_shapes.specs.declared.shape.IntKind.{IntKind}
+use Rattle.schemars_shapes.specs.declared.shape.Shape as src-shape
+use Rattle.schemars_shapes.specs.declared.shape.Shape.TheVariants as src
+use Rattle.schemars_shapes.specs.declared.variant.Variant as src-variant
+use Rattle.schemars_shapes.specs.Shape.{Variant, shape_of}
+use Rattle.schemars_types.specs.Rows.{Row}
+use Rattle.schemars_keys.specs.declared.options.IntegerKeys.{IntegerKeys}
+use Rattle.schemars_keys.specs.declared.options.IntegerKeys.TheVariants.{Unsigned, Signed}
+use Rattle.schemars_keys.specs.KeyOptions.{KeyOptions, any_key, only_keys, either_integers, either_options, each_once, all_options}
+use Rattle.schemars_keys.specs.KeyOptions.{is_none, members_options, untagged_options, shape_options}
+use Rattle.schemars_keys.specs.Found.{adding, AreAmong, HoldsRows}
+use Rattle.schemars_keys.proofs.Texts.{listed_more, listed_own, nothing_joins, insert_all-append, once_by_joining}
+
+-- ---- whole numbers
+
+either_none : (i : Option IntegerKeys) → either_integers i None ≡ i
+either_none None = refl
+either_none (Some Unsigned) = refl
+either_none (Some Signed) = refl
+
+either_same : (i j : Option IntegerKeys) → either_integers (either_integers i j) j ≡ either_integers i j
+either_same None None = refl
+either_same None (Some Unsigned) = refl
+either_same None (Some Signed) = refl
+either_same (Some Signed) j = refl
+either_same (Some Unsigned) None = refl
+either_same (Some Unsigned) (Some Unsigned) = refl
+either_same (Some Unsigned) (Some Signed) = refl
+
+either_assoc : (i j k : Option IntegerKeys) → either_integers (either_integers i j) k ≡ either_integers i (either_integers j k)
+either_assoc None j k = refl
+either_assoc (Some Signed) j k = refl
+either_assoc (Some Unsigned) None k = refl
+either_assoc (Some Unsigned) (Some Signed) k = refl
+either_assoc (Some Unsigned) (Some Unsigned) None = refl
+either_assoc (Some Unsigned) (Some Unsigned) (Some k) = refl
+
+either_kept : (i j k : Option IntegerKeys) → either_integers i j ≡ i → either_integers (either_integers i k) j ≡ either_integers i k
+either_kept None None k h = either_none k
+either_kept None (Some j) k h = cc
+either_kept (Some Signed) j k h = refl
+either_kept (Some Unsigned) None k h = either_none (either_integers (Some Unsigned) k)
+either_kept (Some Unsigned) (Some Unsigned) None h = refl
+either_kept (Some Unsigned) (Some Unsigned) (Some Unsigned) h = refl
+either_kept (Some Unsigned) (Some Unsigned) (Some Signed) h = refl
+either_kept (Some Unsigned) (Some Signed) k h = cc
+
+-- ---- adding
+
+pub adding-any : (o : KeyOptions) → adding o any_key ≡ any_key
+adding-any any_key = refl
+adding-any (only_keys ts i) = refl
+
+pub adding-nothing : (o : KeyOptions) → adding o (only_keys [] None) ≡ o
+adding-nothing any_key = refl
+adding-nothing (only_keys ts i) = ap (only_keys ts) (either_none i)
+
+pub adding-either : (o p q : KeyOptions) → adding (adding o p) q ≡ adding o (either_options p q)
+adding-either any_key p q = refl
+adding-either (only_keys ts i) any_key q = refl
+adding-either (only_keys ts i) (only_keys us j) any_key = refl
+adding-either (only_keys ts i) (only_keys us j) (only_keys vs k) =
+    λ x. only_keys (sym (insert_all-append us vs ts) x) (either_assoc i j k x)
+
+pub adding-once : (o : KeyOptions) → adding (only_keys [] None) o ≡ each_once o
+adding-once any_key = refl
+adding-once (only_keys us j) = ap (λ ts. only_keys ts j) (once_by_joining us)
+
+-- ---- options that are there
+
+pub adding-there : (o p : KeyOptions) → AreAmong p o → adding o p ≡ o
+adding-there any_key p h = refl
+adding-there (only_keys ts i) any_key h = absurd h
+adding-there (only_keys ts i) (only_keys us j) h = λ x. only_keys (nothing_joins us ts h.0 x) (h.1 x)
+
+pub among_added : (o p : KeyOptions) → AreAmong p (adding o p)
+among_added any_key p = tt
+among_added (only_keys ts i) any_key = tt
+among_added (only_keys ts i) (only_keys us j) = (listed_own us ts, either_same i j)
+
+among_more : (o p q : KeyOptions) → AreAmong p o → AreAmong p (adding o q)
+among_more any_key p q h = tt
+among_more (only_keys ts i) p any_key h = tt
+among_more (only_keys ts i) any_key (only_keys vs k) h = absurd h
+among_more (only_keys ts i) (only_keys us j) (only_keys vs k) h = (listed_more us ts vs h.0, either_kept i j k h.1)
+
+pub holds_none : (rows : List Row) (o : KeyOptions) → HoldsRows rows [] o
+holds_none rows o = record { holds = λ m h. cc }
+
+pub holds_any : (rows : List Row) (met : List ℕ) → HoldsRows rows met any_key
+holds_any rows met = record { holds = λ m h. tt }
+
+pub holds_more : (rows : List Row) (met : List ℕ) (o p : KeyOptions) → HoldsRows rows met o → HoldsRows rows met (adding o p)
+holds_more rows met o p h = record { holds = λ m is. among_more o (all_options rows m) p (h.holds m is) }
+
+pub holds_met : (rows : List Row) (met : List ℕ) (n : ℕ) (o : KeyOptions) → HoldsRows rows met o → AreAmong (all_options rows n) o
+    → HoldsRows rows (insert_key nat_eq met n) o
+holds_met rows met n o h new = record { holds = λ m is. by (list_any (nat_eq n) met) refl m is }
+  where
+    last : (m : ℕ) → (a b : Bool) → list_any (nat_eq m) met ≡ a → nat_eq m n ≡ b → a || (b || false) ≡ true → AreAmong (all_options rows m) o
+    last m true b e f is = h.holds m e
+    last m false true e f is = subst (λ k. AreAmong (all_options rows k) o) (sym (eqb-true m n f)) new
+    last m false false e f is = cc
+
+    by : (b : Bool) → list_any (nat_eq n) met ≡ b → (m : ℕ) → list_any (nat_eq m) (insert_key nat_eq met n) ≡ true
+        → AreAmong (all_options rows m) o
+    by true e m is =
+        let same : insert_key nat_eq met n ≡ met = rw e refl in
+        h.holds m (sym (ap (list_any (nat_eq m)) same) ∙ is)
+    by false e m is =
+        let grown : insert_key nat_eq met n ≡ met ++ n ∷ [] = rw e refl in
+        last m (list_any (nat_eq m) met) (nat_eq m n) refl refl
+        (sym (list_any-append (nat_eq m) met (n ∷ [])) ∙ (sym (ap (list_any (nat_eq m)) grown) ∙ is))
+
+-- ---- one name, or one member, and those that are left
+
+pub names_more : (o : KeyOptions) (t : Text) (ts : List Text)
+    → adding (adding o (only_keys (t ∷ []) None)) (only_keys ts None) ≡ adding o (only_keys (t ∷ ts) None)
+names_more o t ts = adding-either o (only_keys (t ∷ []) None) (only_keys ts None)
+
+pub untagged_some : (part : ℕ → KeyOptions) (xs : List Variant) → (length xs ≡ 0 → ⊥) → untagged_options part xs ≡ members_options part xs
+untagged_some part [] some = absurd (some refl)
+untagged_some part (x ∷ xs) some = refl
+
+-- ---- shapes and members as the program holds them
+
+pub no_members_there : (b : Bool) (es : List Entries) → (IsTrue b → length es ≡ 0) × (length es ≡ 0 → IsTrue b) → b ≡ is_none (members_view es)
+no_members_there b [] h = h.1 refl
+no_members_there true (e ∷ es) h = absurd (omega (arith, h.0 refl))
+no_members_there false (e ∷ es) h = refl
+
+-- a shape that is none of these allows any text
+pub other_shape : (part : ℕ → KeyOptions) (s : src-shape.Shape) → ((k : IntKind) → s ≡ src.Int k → ⊥)
+    → ((k : IntKind) → s ≡ src.NonZero k → ⊥) → ((n : ℕ) → s ≡ src.Newtype n → ⊥)
+    → ((xs : Vec src-variant.Variant Global) → s ≡ src.External xs → ⊥)
+    → ((xs : Vec src-variant.Variant Global) → s ≡ src.Untagged xs → ⊥) → shape_options part (shape_of s) ≡ any_key
+other_shape part src.Null i z w x u = refl
+other_shape part src.Bool i z w x u = refl
+other_shape part (src.Int k) i z w x u = absurd (i k refl)
+other_shape part (src.NonZero k) i z w x u = absurd (z k refl)
+other_shape part src.Number i z w x u = refl
+other_shape part src.Text i z w x u = refl
+other_shape part src.Char i z w x u = refl
+other_shape part (src.Formatted t) i z w x u = refl
+other_shape part src.Any i z w x u = refl
+other_shape part src.Bytes i z w x u = refl
+other_shape part src.SchemaItself i z w x u = refl
+other_shape part (src.Option n) i z w x u = refl
+other_shape part (src.Seq n) i z w x u = refl
+other_shape part (src.Set n) i z w x u = refl
+other_shape part (src.Array n len) i z w x u = refl
+other_shape part (src.UpTo n cap) i z w x u = refl
+other_shape part (src.Tuple ns) i z w x u = refl
+other_shape part (src.Struct fields) i z w x u = refl
+other_shape part (src.Newtype n) i z w x u = absurd (w n refl)
+other_shape part (src.Result a b) i z w x u = refl
+other_shape part (src.Bound n) i z w x u = refl
+other_shape part (src.Range n) i z w x u = refl
+other_shape part (src.Either a b) i z w x u = refl
+other_shape part (src.External xs) i z w x u = absurd (x xs refl)
+other_shape part (src.Untagged xs) i z w x u = absurd (u xs refl)
+
+-- a text joins as the program holds them
+abbrev now_of : Bor (List ℕ) → Text
+now_of b = b.now
+
+same_test : (ks : List (Bor (List ℕ))) (t : Bor (List ℕ))
+    → list_any (λ k. bytes_eq t.now k.now) ks ≡ list_any (bytes_eq t.now) (map now_of ks)
+same_test [] t = refl
+same_test (k ∷ ks) t = ap (λ b. bytes_eq t.now k.now || b) (same_test ks t)
+
+joined_keys : (ks : List (Bor (List ℕ))) (t : Bor (List ℕ))
+    → map now_of (insert_key (λ a b. bytes_eq a.now b.now) ks t) ≡ insert_key bytes_eq (map now_of ks) t.now
+joined_keys ks t = by (list_any (bytes_eq t.now) (map now_of ks)) refl
+  where
+    there : list_any (λ k. bytes_eq t.now k.now) ks ≡ true → insert_key (λ a b. bytes_eq a.now b.now) ks t ≡ ks
+    there e = rw e refl
+
+    new : list_any (λ k. bytes_eq t.now k.now) ks ≡ false → insert_key (λ a b. bytes_eq a.now b.now) ks t ≡ ks ++ t ∷ []
+    new e = rw e refl
+
+    now_there : list_any (bytes_eq t.now) (map now_of ks) ≡ true → insert_key bytes_eq (map now_of ks) t.now ≡ map now_of ks
+    now_there e = rw e refl
+
+    now_new : list_any (bytes_eq t.now) (map now_of ks) ≡ false → insert_key bytes_eq (map now_of ks) t.now ≡ map now_of ks ++ t.now ∷ []
+    now_new e = rw e refl
+
+    map_one : (xs : List (Bor (List ℕ))) → map now_of (xs ++ t ∷ []) ≡ map now_of xs ++ t.now ∷ []
+    map_one [] = refl
+    map_one (x ∷ xs) = ap (λ ys. x.now ∷ ys) (map_one xs)
+
+    by : (b : Bool) → list_any (bytes_eq t.now) (map now_of ks) ≡ b
+        → map now_of (insert_key (λ a b. bytes_eq a.now b.now) ks t) ≡ insert_key bytes_eq (map now_of ks) t.now
+    by true e = ap (map now_of) (there (same_test ks t ∙ e)) ∙ sym (now_there e)
+    by false e = ap (map now_of) (new (same_test ks t ∙ e)) ∙ (map_one ks ∙ sym (now_new e))
+
+pub text_joins : (o : KeyOptions) (ks new : List (Bor (List ℕ))) (i : Option IntegerKeys) (t : Bor (List ℕ))
+    → o ≡ only_keys (map now_of ks) i → new ≡ insert_key (λ a b. bytes_eq a.now b.now) ks t
+    → only_keys (map now_of new) i ≡ adding o (only_keys (t.now ∷ []) None)
+text_joins o ks new i t is grown =
+    (λ x. only_keys ((ap (map now_of) grown ∙ joined_keys ks t) x) (sym (either_none i) x))
+    ∙ ap (λ p. adding p (only_keys (t.now ∷ []) None)) (sym is)

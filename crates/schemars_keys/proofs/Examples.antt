@@ -1,0 +1,94 @@
+-- Key options, computed.
+use Rattle.std.proofs.Common.{◌≡◌, ℕ, List, [], ◌∷◌, Some, None, Bool, true, false, refl}
+use Rattle.std.specs.Prelude.{codes}
+use Prim.Native.String.{String}
+use Rattle.serde_json.specs.Data.{Members, no_members, member, string}
+use Rattle.schemars_shapes.specs.declared.shape.IntKind.TheVariants.{U8, I8, I32, U64}
+use Rattle.schemars_shapes.specs.Shape.{Shape, int, non_zero, text, any, newtype, external, untagged, in_place}
+use Rattle.schemars_shapes.specs.Shape.{Variant, Payload, no_payload, newtype_payload}
+use Rattle.schemars_json.specs.Json.{Text}
+use Rattle.schemars_schema.specs.Acceptance.{Patterns}
+use Rattle.schemars_types.specs.Rows.{Row}
+use Rattle.schemars_keys.specs.declared.options.IntegerKeys.TheVariants.{Unsigned, Signed}
+use Rattle.schemars_keys.specs.KeyOptions.{KeyOptions, any_key, only_keys, key_options, options_within, is_key_allowed}
+
+variant : String → Payload → Members → Variant
+variant name payload notes = record { name = codes name; payload = payload; notes = notes }
+
+unit : String → Variant
+unit name = variant name no_payload no_members
+
+-- a member that has the values of row n
+of_row : ℕ → Variant
+of_row n = variant "M" (newtype_payload n) no_members
+
+documented : String → Variant
+documented name = variant name no_payload (member (codes "description") (string (codes "a unit")) no_members)
+
+row : Shape → Row
+row s = record { id = codes "t"; name = codes "t"; entry = Some (in_place s) }
+
+-- the keys of a type of this shape, below which stand the rows 0 to 6
+table : Shape → List Row
+table s =
+    row (int U8) ∷ row (int I8) ∷ row any ∷ row (int I32) ∷ row (newtype 3) ∷ row (external (unit "A" ∷ unit "B" ∷ []))
+    ∷ row (untagged (of_row 5 ∷ of_row 0 ∷ [])) ∷ row s ∷ []
+
+options : Shape → KeyOptions
+options s = key_options (table s) 7
+
+without_sign : options (int U64) ≡ only_keys [] (Some Unsigned)
+unfolding options table row options_within
+without_sign = refl
+
+without_zero : options (non_zero U8) ≡ only_keys [] (Some Signed)
+unfolding options table row options_within
+without_zero = refl
+
+texts : options text ≡ any_key
+unfolding options table row options_within
+texts = refl
+
+names : options (external (unit "A" ∷ unit "B" ∷ [])) ≡ only_keys (codes "A" ∷ codes "B" ∷ []) None
+unfolding options table row options_within unit variant
+names = refl
+
+noted_names : options (external (unit "A" ∷ documented "B" ∷ [])) ≡ any_key
+unfolding options table row options_within unit documented variant
+noted_names = refl
+
+no_names : options (external []) ≡ any_key
+unfolding options table row options_within
+no_names = refl
+
+both_integers : options (untagged (of_row 0 ∷ of_row 1 ∷ [])) ≡ only_keys [] (Some Signed)
+unfolding options table row options_within of_row variant
+both_integers = refl
+
+one_of_any : options (untagged (of_row 0 ∷ of_row 1 ∷ of_row 2 ∷ [])) ≡ any_key
+unfolding options table row options_within of_row variant
+one_of_any = refl
+
+one_of_none : options (untagged (of_row 0 ∷ unit "A" ∷ [])) ≡ any_key
+unfolding options table row options_within of_row unit variant
+one_of_none = refl
+
+newtypes : options (newtype 4) ≡ only_keys [] (Some Signed)
+unfolding options table row options_within
+newtypes = refl
+
+-- the names of row 5 stand once, and the numbers of row 1 cover those of row 0
+nested : options (untagged (of_row 6 ∷ of_row 5 ∷ of_row 1 ∷ [])) ≡ only_keys (codes "A" ∷ codes "B" ∷ []) (Some Signed)
+unfolding options table row options_within of_row unit variant
+nested = refl
+
+-- under a reading in which -1 matches
+minus_one : Patterns
+minus_one = (codes "^-?\\d+$", codes "-1") ∷ []
+
+allows : Text → Bool
+allows key = is_key_allowed minus_one (options (untagged (of_row 5 ∷ of_row 1 ∷ []))) key
+
+allowed_keys : (allows (codes "B") ≡ true) × (allows (codes "-1") ≡ true) × (allows (codes "C") ≡ false)
+unfolding allows minus_one options table row options_within of_row unit variant
+allowed_keys = (refl, refl, refl)

@@ -1,0 +1,5 @@
+pub mod Texts
+pub mod Adding
+pub mod Asked
+pub mod Settling
+mod Examples

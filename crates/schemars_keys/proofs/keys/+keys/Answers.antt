@@ -1,0 +1,152 @@
+use Rattle.std.proofs.Common.{◌≡◌, ◌<◌, ◌+◌, ◌*◌, ◌∙◌, [], ℕ, List, Some, map, refl, ap, sym, subst, arith, rules, nat_eq}
+use Rattle.std.proofs.Common.{Contains, true}
+use Rattle.std.specs.List.{list_any}
+use Rattle.schemars_shapes.specs.declared.shape.Shape as src-shape
+use Rattle.schemars_shapes.specs.declared.shape.Shape.TheVariants as src
+use Rattle.schemars_shapes.specs.declared.shape.TypeEntry as src-entry
+use Rattle.schemars_shapes.specs.Shape.{entry_of, shape_of, variant_of, payload_of, newtype_payload, newtype_numbers, same_value_numbers}
+use Rattle.schemars_types.specs.Rows.{Row, entry_at}
+use Rattle.schemars_types.specs.Edges.{SameValueEdge, rank}
+use Rattle.schemars_types.specs.Faults.{IsChecked}
+use Rattle.schemars_keys.specs.KeyOptions.{only_keys, any_key, all_options, shape_options, external_options, untagged_options}
+use Rattle.schemars_keys.specs.Found.{options_of, adding, AreAmong, HoldsRows}
+use Rattle.schemars_keys.proofs.Adding.{adding-any, adding-there, among_added, holds_any, holds_met, holds_more, other_shape}
+use Rattle.schemars_keys.proofs.Asked.{asked, newtype_at}
+use Rattle.schemars_keys.proofs.Settling.{all_options-none, all_options-shape}
+use Rattle.schemars_keys.proofs.keys.+keys.Goals as goal
+
+-- ---- a row
+
+pub add_row-returns-then-contains-clause-added : goal.add_row-returns-then-contains-clause-added
+add_row-returns-then-contains-clause-added t c =
+    let o = options_of c.args.found.now.options in
+    let met : list_any (nat_eq c.args.n) c.args.found.now.rows.keys ≡ true = sym c.contains.ensures ∙ c.if-contains.true in
+    sym (adding-there o (all_options c.args.types.now c.args.n) (c.requires.holds.holds c.args.n met))
+
+pub add_row-returns-clause-holds : goal.add_row-returns-clause-holds
+add_row-returns-clause-holds t c =
+    let rows = c.args.types.now in
+    let own = all_options rows c.args.n in
+    let o = options_of c.add_own.new.found.options in
+    let among : AreAmong own o = subst (λ p. AreAmong own p) (sym c.in_ok-add_own.ensures.added)
+    (among_added (options_of c.args.found.now.options) own) in
+    subst (λ met. HoldsRows rows met o) (sym c.in_ok-insert.ensures.keys)
+    (holds_met rows c.add_own.new.found.rows.keys c.args.n o c.in_ok-add_own.ensures.holds among)
+
+-- ---- its shape
+
+of_shape : (rows : List Row) → IsChecked rows → (n : ℕ) (e : src-entry.TypeEntry) → Some (entry_of e) ≡ entry_at rows n
+    → (s : src-shape.Shape) → e.shape ≡ s → all_options rows n ≡ shape_options (all_options rows) (shape_of s)
+of_shape rows checked n e at s is =
+    all_options-shape rows checked n (entry_of e) (sym at) ∙ ap (λ x. shape_options (all_options rows) (shape_of x)) is
+
+edge_of_shape : (rows : List Row) → IsChecked rows → (n : ℕ) (e : src-entry.TypeEntry) → Some (entry_of e) ≡ entry_at rows n
+    → (s : src-shape.Shape) → e.shape ≡ s → (m : ℕ) → Contains (same_value_numbers (shape_of s)) m → SameValueEdge rows n m
+edge_of_shape rows checked n e at s is m c =
+    asked rows checked.within n (entry_of e) (sym at) m
+    (subst (λ x. Contains (same_value_numbers (shape_of x)) m) (sym is) c)
+
+pub add_own-returns-in_default-clause-added : goal.add_own-returns-in_default-clause-added
+add_own-returns-in_default-clause-added t c =
+    let o = options_of c.args.found.now.options in
+    c.allow_any.ensures
+    ∙ (sym (adding-any o) ∙ ap (adding o) (sym (all_options-none c.args.types.now c.args.n (sym c.in_default.ensures))))
+
+pub add_own-add_row-requires : goal.add_own-add_row-requires
+add_own-add_row-requires t c =
+    let rows = c.args.types.now in
+    let edge : SameValueEdge rows c.args.n c.in-Newtype.m = edge_of_shape rows c.requires.checked c.args.n c.in-Some.entry.now
+    c.in-Some.ensures (src.Newtype c.in-Newtype.m) c.in-Newtype.is c.in-Newtype.m (0, omega arith, refl) in
+    let falls : rank rows c.in-Newtype.m < rank rows c.args.n = c.requires.checked.rank_falls c.args.n c.in-Newtype.m edge in
+    let less : 4 * rank rows c.in-Newtype.m + 3 < 4 * rank rows c.args.n + 2 = omega arith in
+    (search rules, (c.requires.checked, c.requires.holds))
+
+pub add_own-add_untagged-requires : goal.add_own-add_untagged-requires
+add_own-add_untagged-requires t c =
+    let rows = c.args.types.now in
+    let xs = c.deref-in-Untagged.result.now in
+    let same : xs ≡ c.in-Untagged.variants.items = c.deref-in-Untagged.ensures.value in
+    let edges : (m : ℕ) → Contains (newtype_numbers (map variant_of xs)) m → SameValueEdge rows c.args.n m =
+    λ m among. edge_of_shape rows c.requires.checked c.args.n c.in-Some.entry.now c.in-Some.ensures (src.Untagged c.in-Untagged.variants)
+    c.in-Untagged.is m (subst (λ vs. Contains (newtype_numbers (map variant_of vs)) m) same among) in
+    let less : 4 * rank rows c.args.n + 1 < 4 * rank rows c.args.n + 2 = omega arith in
+    (search rules, (c.requires.checked, (edges, c.requires.holds)))
+
+pub add_own-returns-in-Int-clause-added : goal.add_own-returns-in-Int-clause-added
+add_own-returns-in-Int-clause-added t c =
+    let o = options_of c.args.found.now.options in
+    let own = of_shape c.args.types.now c.requires.checked c.args.n c.in-Some.entry.now c.in-Some.ensures (src.Int c.in-Int.kind) c.in-Int.is in
+    c.add_integers.ensures ∙ (ap (λ k. adding o (only_keys [] (Some k))) c.of_kind.ensures ∙ ap (adding o) (sym own))
+
+pub add_own-returns-in-NonZero-clause-added : goal.add_own-returns-in-NonZero-clause-added
+add_own-returns-in-NonZero-clause-added t c =
+    let o = options_of c.args.found.now.options in
+    let own = of_shape c.args.types.now c.requires.checked c.args.n c.in-Some.entry.now c.in-Some.ensures (src.NonZero c.in-NonZero.field-0)
+    c.in-NonZero.is in
+    c.add_integers-in-NonZero.ensures ∙ ap (adding o) (sym own)
+
+pub add_own-returns-in_ok-add_row-in-Newtype-clause-added : goal.add_own-returns-in_ok-add_row-in-Newtype-clause-added
+add_own-returns-in_ok-add_row-in-Newtype-clause-added t c =
+    let o = options_of c.args.found.now.options in
+    let own = of_shape c.args.types.now c.requires.checked c.args.n c.in-Some.entry.now c.in-Some.ensures (src.Newtype c.in-Newtype.m)
+    c.in-Newtype.is in
+    c.in_ok-add_row-in-Newtype.ensures.added ∙ ap (adding o) (sym own)
+
+pub add_own-returns-in_ok-add_external-in-External-clause-added : goal.add_own-returns-in_ok-add_external-in-External-clause-added
+add_own-returns-in_ok-add_external-in-External-clause-added t c =
+    let o = options_of c.args.found.now.options in
+    let own = of_shape c.args.types.now c.requires.checked c.args.n c.in-Some.entry.now c.in-Some.ensures (src.External c.in-External.variants)
+    c.in-External.is in
+    c.in_ok-add_external-in-External.ensures
+    ∙ (ap (λ vs. adding o (external_options (map variant_of vs))) c.deref.ensures.value ∙ ap (adding o) (sym own))
+
+pub add_own-returns-in_ok-add_external-in-External-clause-holds : goal.add_own-returns-in_ok-add_external-in-External-clause-holds
+add_own-returns-in_ok-add_external-in-External-clause-holds t c =
+    let rows = c.args.types.now in
+    let met = c.args.found.now.rows.keys in
+    let o = options_of c.args.found.now.options in
+    subst (HoldsRows rows met) (sym c.in_ok-add_external-in-External.ensures)
+    (holds_more rows met o (external_options (map variant_of c.deref.result.now)) c.requires.holds)
+
+pub add_own-returns-in_ok-add_untagged-in-Untagged-clause-added : goal.add_own-returns-in_ok-add_untagged-in-Untagged-clause-added
+add_own-returns-in_ok-add_untagged-in-Untagged-clause-added t c =
+    let o = options_of c.args.found.now.options in
+    let part = all_options c.args.types.now in
+    let own = of_shape c.args.types.now c.requires.checked c.args.n c.in-Some.entry.now c.in-Some.ensures (src.Untagged c.in-Untagged.variants)
+    c.in-Untagged.is in
+    c.in_ok-add_untagged-in-Untagged.ensures.added
+    ∙ (ap (λ vs. adding o (untagged_options part (map variant_of vs))) c.deref-in-Untagged.ensures.value ∙ ap (adding o) (sym own))
+
+pub add_own-returns-in_default-shape : goal.add_own-returns-in_default-shape
+add_own-returns-in_default-shape t c =
+    let rows = c.args.types.now in
+    let o = options_of c.args.found.now.options in
+    let e = c.in-Some.entry.now in
+    let other = c.in_default-shape in
+    let own : all_options rows c.args.n ≡ any_key = of_shape rows c.requires.checked c.args.n e c.in-Some.ensures e.shape refl
+    ∙ other_shape (all_options rows) e.shape other.not-Int other.not-NonZero other.not-Newtype other.not-External other.not-Untagged in
+    let any = c.allow_any-in_default-shape.ensures in
+    record {
+      added = any ∙ (sym (adding-any o) ∙ ap (adding o) (sym own));
+      holds = subst (HoldsRows rows c.args.found.now.rows.keys) (sym any) (holds_any rows c.args.found.now.rows.keys);
+    }
+
+-- ---- the members of an untagged enum
+
+pub add_untagged-add_member-requires : goal.add_untagged-add_member-requires
+add_untagged-add_member-requires t c =
+    let rows = c.args.types.now in
+    let item = c.variant-item.result in
+    let edge : (m : ℕ) → payload_of item.payload ≡ newtype_payload m → SameValueEdge rows c.args.n m =
+    λ m same. c.requires.edges m (newtype_at c.args.variants.now c.loop-variant.variant-index item c.variant-item.is
+    (omega (arith, c.loop-variant-test.true)) m same) in
+    let less : 4 * rank rows c.args.n < 4 * rank rows c.args.n + 1 = omega arith in
+    (search rules, (c.requires.checked, (edge, c.loop-variant.invariant.holds)))
+
+pub add_member-add_row-requires : goal.add_member-add_row-requires
+add_member-add_row-requires t c =
+    let rows = c.args.types.now in
+    let edge : SameValueEdge rows c.args.n c.in-Newtype.m = c.requires.edge c.in-Newtype.m (ap payload_of c.in-Newtype.is) in
+    let falls : rank rows c.in-Newtype.m < rank rows c.args.n = c.requires.checked.rank_falls c.args.n c.in-Newtype.m edge in
+    let less : 4 * rank rows c.in-Newtype.m + 3 < 4 * rank rows c.args.n = omega arith in
+    (search rules, (c.requires.checked, c.requires.holds))

@@ -1,0 +1,10 @@
+-- The variants that are left decide.
+use Rattle.std.proofs.Common.{◌≡◌, map, drop}
+use Rattle.std.specs.List.{list_all}
+use Rattle.schemars_shapes.specs.Shape.{variant_of}
+use Rattle.schemars_keys.specs.KeyOptions.{is_bare_unit, are_names}
+use Rattle.schemars_keys.proofs.keys.are_names.Given as goal
+
+abbrev pub invariant-loop-variant : goal.invariant-loop-variant
+invariant-loop-variant l =
+    list_all is_bare_unit (map variant_of (drop l.variant-index l.variants)) ≡ are_names (map variant_of l.variants)

@@ -1,0 +1,13 @@
+use Rattle.std.proofs.Common.{ap, ◌∙◌, sym, string_bytes}
+use Rattle.serde_json.specs.View.{members_view}
+use Rattle.schemars_shapes.specs.Shape.{payload_of}
+use Rattle.schemars_keys.specs.KeyOptions.{is_bare_unit}
+use Rattle.schemars_keys.proofs.Adding.{no_members_there}
+use Rattle.schemars_keys.proofs.keys.is_bare_unit.Goals as goal
+
+pub returns-in-Unit : goal.returns-in-Unit
+returns-in-Unit c =
+    let x = c.args.variant.now in
+    no_members_there c.is_empty.result x.notes.entries c.is_empty.ensures
+    ∙ sym (ap (λ p. is_bare_unit (record { name = string_bytes x.name; payload = payload_of p; notes = members_view x.notes.entries }))
+    c.in-Unit.is)

@@ -1,0 +1,122 @@
+-- Which keys a map may have, by the type of its keys.
+use Rattle.std.specs.Prelude.{ℕ, zero, suc, List, [], ◌∷◌, ◌++◌, map, filter, length, Bool, true, false, not, ◌&&◌, ◌||◌}
+use Rattle.std.specs.Prelude.{Option, Some, None, if◌then◌else◌, bytes_eq, codes}
+use Rattle.std.specs.List.{list_all}
+use Rattle.std.specs.Option.{option_map_or}
+use Rattle.serde_json.specs.Data.{Members, no_members, member}
+use Rattle.schemars_json.specs.Json.{Text}
+use Rattle.schemars_json.specs.OrderedText.{is_listed}
+use Rattle.schemars_schema.specs.Acceptance.{Patterns, matches}
+use Rattle.schemars_shapes.specs.declared.shape.IntKind.{IntKind}
+use Rattle.schemars_shapes.specs.declared.shape.IntKind.TheVariants.{I8, I16, I32, I64, I128, Isize, U8, U16, U32, U64, U128, Usize}
+use Rattle.schemars_shapes.specs.Shape.{Shape, int, non_zero, newtype, external, untagged}
+use Rattle.schemars_shapes.specs.Shape.{Variant, Payload, no_payload, newtype_payload, tuple_payload, struct_payload}
+use Rattle.schemars_types.specs.Rows.{Row, entry_at}
+use Rattle.schemars_keys.specs.declared.options.IntegerKeys.{IntegerKeys}
+use Rattle.schemars_keys.specs.declared.options.IntegerKeys.TheVariants.{Unsigned, Signed}
+
+-- any text, or only these texts and these whole numbers
+pub data KeyOptions : Type 0 where
+  any_key : KeyOptions
+  only_keys : List Text → Option IntegerKeys → KeyOptions
+
+abbrev pub pattern_of : IntegerKeys → Text
+pattern_of Unsigned = codes "^\\d+$"
+pattern_of Signed = codes "^-?\\d+$"
+
+abbrev pub is_key_allowed : Patterns → KeyOptions → Text → Bool
+is_key_allowed patterns any_key key = true
+is_key_allowed patterns (only_keys texts integers) key =
+    is_listed key texts || option_map_or (λ i. matches patterns (pattern_of i) key) integers false
+
+abbrev pub integers_of : IntKind → IntegerKeys
+integers_of I8 = Signed
+integers_of I16 = Signed
+integers_of I32 = Signed
+integers_of I64 = Signed
+integers_of I128 = Signed
+integers_of Isize = Signed
+integers_of U8 = Unsigned
+integers_of U16 = Unsigned
+integers_of U32 = Unsigned
+integers_of U64 = Unsigned
+integers_of U128 = Unsigned
+integers_of Usize = Unsigned
+
+-- those with a sign have the others among them
+abbrev pub either_integers : Option IntegerKeys → Option IntegerKeys → Option IntegerKeys
+either_integers None j = j
+either_integers (Some Signed) j = Some Signed
+either_integers (Some Unsigned) None = Some Unsigned
+either_integers (Some Unsigned) (Some j) = Some j
+
+-- what one of the two allows
+abbrev pub either_options : KeyOptions → KeyOptions → KeyOptions
+either_options any_key o = any_key
+either_options (only_keys ts i) any_key = any_key
+either_options (only_keys ts i) (only_keys us j) = only_keys (ts ++ us) (either_integers i j)
+
+abbrev pub is_none : Members → Bool
+is_none no_members = true
+is_none (member k d ms) = false
+
+-- a unit without notes is known by its name alone
+abbrev pub is_bare_unit : Variant → Bool
+is_bare_unit x = elim x.payload [
+  | no_payload ↦ is_none x.notes
+  | newtype_payload n ↦ false
+  | tuple_payload ns ↦ false
+  | struct_payload xs closed ↦ false
+]
+
+abbrev pub are_names : List Variant → Bool
+are_names [] = false
+are_names (x ∷ xs) = is_bare_unit x && list_all is_bare_unit xs
+
+abbrev pub external_options : List Variant → KeyOptions
+external_options xs = if are_names xs then only_keys (map (λ x. x.name) xs) None else any_key
+
+-- below, `part` says what the row of a number allows
+abbrev pub member_options : (ℕ → KeyOptions) → Payload → KeyOptions
+member_options part no_payload = any_key
+member_options part (newtype_payload n) = part n
+member_options part (tuple_payload ns) = any_key
+member_options part (struct_payload xs closed) = any_key
+
+abbrev pub members_options : (ℕ → KeyOptions) → List Variant → KeyOptions
+members_options part [] = only_keys [] None
+members_options part (x ∷ xs) = either_options (member_options part x.payload) (members_options part xs)
+
+abbrev pub untagged_options : (ℕ → KeyOptions) → List Variant → KeyOptions
+untagged_options part [] = any_key
+untagged_options part (x ∷ xs) = members_options part (x ∷ xs)
+
+abbrev pub shape_options : (ℕ → KeyOptions) → Shape → KeyOptions
+shape_options part (int kind) = only_keys [] (Some (integers_of kind))
+shape_options part (non_zero kind) = only_keys [] (Some Signed)
+shape_options part (newtype n) = part n
+shape_options part (external xs) = external_options xs
+shape_options part (untagged xs) = untagged_options part xs
+shape_options part _ = any_key
+
+-- row n is asked, and others at most `steps` deep; a text may stand twice
+unfoldable pub options_within : List Row → ℕ → ℕ → KeyOptions
+options_within rows zero n = any_key
+options_within rows (suc steps) n = option_map_or (λ e. shape_options (options_within rows steps) e.shape) (entry_at rows n) any_key
+
+-- in a table without faults no row is asked twice on the way down
+abbrev pub all_options : List Row → ℕ → KeyOptions
+all_options rows n = options_within rows (length rows) n
+
+-- each text in its first place alone
+abbrev pub once : List Text → List Text
+once [] = []
+once (t ∷ ts) = t ∷ filter (λ u. not (bytes_eq u t)) (once ts)
+
+abbrev pub each_once : KeyOptions → KeyOptions
+each_once any_key = any_key
+each_once (only_keys ts i) = only_keys (once ts) i
+
+-- the keys that the type of row n allows
+abbrev pub key_options : List Row → ℕ → KeyOptions
+key_options rows n = each_once (all_options rows n)

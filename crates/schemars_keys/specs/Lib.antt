@@ -1,0 +1,2 @@
+pub mod KeyOptions
+pub mod Found

@@ -1,0 +1,177 @@
+//! Which keys the type of a row allows.
+ghost use Rattle.std.specs.Prelude.{◌≡◌, ℕ, None, IfOk, OnOk, Contains, map};
+ghost use Rattle.schemars_shapes.specs.Shape.{variant_of, payload_of, newtype_payload, newtype_numbers};
+ghost use Rattle.schemars_types.specs.Edges.{SameValueEdge};
+ghost use Rattle.schemars_types.specs.Faults.{IsChecked};
+ghost use Rattle.schemars_keys.specs.KeyOptions.{only_keys, is_bare_unit, are_names, external_options, untagged_options, all_options};
+ghost use Rattle.schemars_keys.specs.KeyOptions.{member_options, key_options};
+ghost use Rattle.schemars_keys.specs.Found.{options_of, adding, HoldsRows};
+
+use crate::options::{IntegerKeys, KeyOptions};
+use indexmap::IndexSet;
+use schemars_types::{Payload, Shape, TypeNo, Types, Variant};
+use std::alloc::{AllocError, Global};
+
+/// The keys that a map may have whose keys are of row `key`, in a table without faults.
+pub fn key_options<'t>(
+    alloc: Global,
+    types: &'t Types,
+    key: TypeNo,
+) -> Result<KeyOptions<'t>, AllocError>
+    requires { IsChecked types.now }
+    ensures { IfOk result (λ o. options_of o ≡ key_options types.now key) }
+{
+    let mut found = Found {
+        options: KeyOptions::none(alloc),
+        rows: IndexSet::new(alloc),
+    };
+    add_row(types, key, &mut found)?;
+    Ok(found.options)
+}
+
+/// What the search has found.
+#[derive(Drop)]
+struct Found<'t> {
+    options: KeyOptions<'t>,
+    /// the rows whose options are among these
+    rows: IndexSet<TypeNo>,
+}
+
+// Adds what row `n` allows.
+#[cycle(keys)]
+fn add_row<'t>(types: &'t Types, n: TypeNo, found: &mut Found<'t>) -> Result<(), AllocError>
+    requires checked { IsChecked types.now }
+    requires holds { HoldsRows types.now found.old.rows.keys (options_of found.old.options) }
+    ensures added { OnOk result (options_of found.new.options
+        ≡ adding (options_of found.old.options) (all_options types.now n)) }
+    ensures holds { OnOk result (HoldsRows types.now found.new.rows.keys (options_of found.new.options)) }
+{
+    if found.rows.contains(&n) {
+        return Ok(());
+    }
+    add_own(types, n, found)?;
+    found.rows.insert(n)?;
+    Ok(())
+}
+
+// The same for a row that was not met.
+#[cycle(keys)]
+fn add_own<'t>(types: &'t Types, n: TypeNo, found: &mut Found<'t>) -> Result<(), AllocError>
+    requires checked { IsChecked types.now }
+    requires holds { HoldsRows types.now found.old.rows.keys (options_of found.old.options) }
+    ensures added { OnOk result (options_of found.new.options
+        ≡ adding (options_of found.old.options) (all_options types.now n)) }
+    ensures holds { OnOk result (HoldsRows types.now found.new.rows.keys (options_of found.new.options)) }
+{
+    let Some(entry) = types.entry(n) else {
+        found.options.allow_any();
+        return Ok(());
+    };
+    match &entry.shape {
+        Shape::Int(kind) => found.options.add_integers(IntegerKeys::of_kind(*kind)),
+        Shape::NonZero(_) => found.options.add_integers(IntegerKeys::Signed),
+        Shape::Newtype(m) => add_row(types, *m, found)?,
+        Shape::External(variants) => add_external(variants, &mut found.options)?,
+        Shape::Untagged(variants) => add_untagged(types, n, variants, found)?,
+        _ => found.options.allow_any(),
+    }
+    Ok(())
+}
+
+// Adds what the members of row `n`, an untagged enum, allow together.
+#[cycle(keys)]
+fn add_untagged<'t>(
+    types: &'t Types,
+    n: TypeNo,
+    variants: &'t [Variant],
+    found: &mut Found<'t>,
+) -> Result<(), AllocError>
+    requires checked { IsChecked types.now }
+    requires edges { (m : ℕ) → Contains (newtype_numbers (map variant_of variants.now)) m → SameValueEdge types.now n m }
+    requires holds { HoldsRows types.now found.old.rows.keys (options_of found.old.options) }
+    ensures added { OnOk result (options_of found.new.options
+        ≡ adding (options_of found.old.options) (untagged_options (all_options types.now) (map variant_of variants.now))) }
+    ensures holds { OnOk result (HoldsRows types.now found.new.rows.keys (options_of found.new.options)) }
+{
+    if variants.is_empty() {
+        found.options.allow_any();
+        return Ok(());
+    }
+    for variant in variants {
+        add_member(types, n, &variant.payload, found)?;
+    }
+    Ok(())
+}
+
+// Adds what one of these members allows.
+#[cycle(keys)]
+fn add_member<'t>(
+    types: &'t Types,
+    n: TypeNo,
+    payload: &'t Payload,
+    found: &mut Found<'t>,
+) -> Result<(), AllocError>
+    requires checked { IsChecked types.now }
+    requires edge { (m : ℕ) → payload_of payload.now ≡ newtype_payload m → SameValueEdge types.now n m }
+    requires holds { HoldsRows types.now found.old.rows.keys (options_of found.old.options) }
+    ensures added { OnOk result (options_of found.new.options
+        ≡ adding (options_of found.old.options) (member_options (all_options types.now) (payload_of payload.now))) }
+    ensures holds { OnOk result (HoldsRows types.now found.new.rows.keys (options_of found.new.options)) }
+{
+    let _ = n;
+    match payload {
+        Payload::Newtype(m) => add_row(types, *m, found)?,
+        Payload::Unit => found.options.allow_any(),
+        Payload::Tuple(_) => found.options.allow_any(),
+        Payload::Struct(_) => found.options.allow_any(),
+    }
+    Ok(())
+}
+
+// Adds what an externally tagged enum allows.
+fn add_external<'t>(variants: &'t [Variant], options: &mut KeyOptions<'t>) -> Result<(), AllocError>
+    ensures { OnOk result (options_of options.new ≡ adding (options_of options.old) (external_options (map variant_of variants.now))) }
+{
+    if !are_names(variants) {
+        options.allow_any();
+        return Ok(());
+    }
+    add_names(variants, options)
+}
+
+fn add_names<'t>(variants: &'t [Variant], options: &mut KeyOptions<'t>) -> Result<(), AllocError>
+    ensures { OnOk result (options_of options.new
+        ≡ adding (options_of options.old) (only_keys (map (λ x. x.name) (map variant_of variants.now)) None)) }
+{
+    for variant in variants {
+        options.add_text(variant.name.as_str())?;
+    }
+    Ok(())
+}
+
+// Whether there are variants, and each is written as its name.
+fn are_names(variants: &[Variant]) -> bool
+    ensures { result ≡ are_names (map variant_of variants.now) }
+{
+    if variants.is_empty() {
+        return false;
+    }
+    for variant in variants {
+        if !is_bare_unit(variant) {
+            return false;
+        }
+    }
+    true
+}
+
+// Whether the variant is a unit without notes.
+fn is_bare_unit(variant: &Variant) -> bool
+    ensures { result ≡ is_bare_unit (variant_of variant.now) }
+{
+    match &variant.payload {
+        Payload::Unit => variant.notes.is_empty(),
+        Payload::Newtype(_) => false,
+        Payload::Tuple(_) => false,
+        Payload::Struct(_) => false,
+    }
+}

@@ -1,0 +1,8 @@
+//! Which keys a map may have, by the type of its keys.
+#![tactic(auto)]
+
+mod keys;
+mod options;
+
+pub use keys::key_options;
+pub use options::{IntegerKeys, KeyOptions};
