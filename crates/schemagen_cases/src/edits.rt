@@ -1,7 +1,9 @@
 //! What calls answer that change a schema, and what the schema then is.
 use crate::calls::{NoAnswer, pair_in, text_of_bool};
 use crate::schemas::{look, schema_in, text_of};
-use schemars_rewrite::builders::allow_null;
+use schemars_rewrite::builders::{
+    allow_null, apply_internal_enum_variant_tag, insert_object_property,
+};
 use schemars_schema::Schema;
 use serde_json::{Value, put};
 use std::alloc::{AllocError, Global};
@@ -16,6 +18,7 @@ pub fn answer(
 ) -> Result<String, NoAnswer> {
     match call {
         "allow_null" => with_null(alloc, schema),
+        "apply_internal_enum_variant_tag" => tagged(alloc, schema, argument),
         "clone" => cloned(alloc, schema, argument),
         "ensure_object" | "as_object_mut" => with_member(alloc, call, schema, argument),
         "get_mut" | "pointer_mut" | "remove" => {
@@ -28,6 +31,17 @@ pub fn answer(
 
 fn with_null(alloc: Global, schema: &mut Schema) -> Result<String, NoAnswer> {
     allow_null(alloc, schema)?;
+    Ok(schema.to_ordered_string(alloc)?)
+}
+
+// The argument is the tag and the variant's name, with `deny` behind them where unknown fields are
+// denied.
+fn tagged(alloc: Global, schema: &mut Schema, argument: &str) -> Result<String, NoAnswer> {
+    let (tag, variant) = argument.split_once(' ').ok_or(NoAnswer::BadInput)?;
+    match variant.strip_suffix(" deny") {
+        Some(variant) => apply_internal_enum_variant_tag(alloc, schema, tag, variant, true)?,
+        None => apply_internal_enum_variant_tag(alloc, schema, tag, variant, false)?,
+    }
     Ok(schema.to_ordered_string(alloc)?)
 }
 
@@ -96,6 +110,7 @@ pub fn answer_of_two(
     let mut schema = schema_in(first)?;
     match call {
         "insert" => inserted(alloc, &mut schema, argument, second),
+        "insert_object_property" => with_property(alloc, &mut schema, argument, second),
         _ => merged_at(alloc, &mut schema, argument, second),
     }
 }
@@ -109,6 +124,21 @@ fn inserted(
     let value = value.clone()?;
     let old = schema.insert(alloc, String::from_str(alloc, key)?, value)?;
     with_old(alloc, old, schema)
+}
+
+// The argument is the property's key, with `optional` behind it where the property is optional.
+fn with_property(
+    alloc: Global,
+    schema: &mut Schema,
+    argument: &str,
+    property: &Value,
+) -> Result<String, NoAnswer> {
+    let property = schema_in(property)?;
+    match argument.strip_suffix(" optional") {
+        Some(key) => insert_object_property(alloc, schema, key, true, property)?,
+        None => insert_object_property(alloc, schema, argument, false, property)?,
+    }
+    Ok(schema.to_ordered_string(alloc)?)
 }
 
 // What is then there is open where the members can't be put there.

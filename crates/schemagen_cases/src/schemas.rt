@@ -29,7 +29,9 @@ pub fn answer(
     value: &Value,
 ) -> Result<String, NoAnswer> {
     match call {
-        "insert" | "merge_at" => edits::answer_of_two(alloc, call, argument, value),
+        "insert" | "insert_object_property" | "merge_at" => {
+            edits::answer_of_two(alloc, call, argument, value)
+        }
         "to_value" => to_value(alloc, value),
         _ => answer_of(alloc, call, argument, value),
     }

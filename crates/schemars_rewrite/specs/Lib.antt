@@ -1,3 +1,4 @@
 pub mod AllowNull
 pub mod NullLaw
+pub mod Properties
 pub mod Variants

@@ -15,6 +15,7 @@ ghost use Rattle.schemars_rewrite.specs.Variants.{unit_variant, externally_tagge
 ghost use Rattle.std.specs.Prelude.{None};
 ghost use Rattle.serde_json.specs.Find.{as_bool};
 
+pub use crate::properties::{apply_internal_enum_variant_tag, insert_object_property};
 use schemars_schema::Schema;
 use serde_json::{Map, Value};
 use std::alloc::{AllocError, Global};
@@ -289,7 +290,7 @@ fn holds_text(items: &[Value], text: &str) -> bool
     false
 }
 
-fn is_text(value: &Value, text: &str) -> bool
+pub(crate) fn is_text(value: &Value, text: &str) -> bool
     ensures { result ≡ is_text text.now (as_str (view value.now)) }
 {
     match value.as_str() {

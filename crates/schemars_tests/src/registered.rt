@@ -5,7 +5,7 @@ use std::alloc::Global;
 use std::test::Fail;
 
 // A constructor, the id of the row that it takes, and the id and the name of the row that it makes.
-const ROWS: [(&str, &str, &str, &str); 23] = [
+const ROWS: [(&str, &str, &str, &str); 25] = [
     ("null", "", "null", "null"),
     ("bool", "", "boolean", "boolean"),
     ("number", "", "Number", "Number"),
@@ -16,6 +16,8 @@ const ROWS: [(&str, &str, &str, &str); 23] = [
     ("bytes", "", "bytes::Bytes", "Bytes"),
     ("schema", "", "schemars::Schema", "Schema"),
     ("date", "", "jiff::Date", "Date"),
+    ("duration", "", "std::time::Duration", "Duration"),
+    ("system_time", "", "std::time::SystemTime", "SystemTime"),
     ("option", "string", "Option<string>", "Nullable_string"),
     (
         "seq",
@@ -139,6 +141,8 @@ fn made_of_none(alloc: Global, types: &mut Types, call: &str) -> Result<TypeNo, 
         "text" => types.text(alloc),
         "bytes" => types.bytes(alloc),
         "schema" => types.schema(alloc),
+        "duration" => types.duration(alloc),
+        "system_time" => types.system_time(alloc),
         _ => formatted(alloc, types, "jiff::Date", "Date", "date"),
     }
 }
@@ -159,6 +163,8 @@ fn is_row(types: &Types, row: TypeNo, id: &str, name: &str) -> bool {
     let by_name = [
         "bytes::Bytes",
         "schemars::Schema",
+        "std::time::Duration",
+        "std::time::SystemTime",
         "Result<string, int8>",
         "Bound<string>",
         "Range<string>",
@@ -185,7 +191,7 @@ fn expect_rows(alloc: Global, types: &mut Types) -> Result<(), Fail> {
         let row = made(alloc, types, call, of)?;
         expect(is_row(types, row, id, name), id)?;
     }
-    expect(types.len() == 45, "forty-five rows")
+    expect(types.len() == 47, "forty-seven rows")
 }
 
 #[test]

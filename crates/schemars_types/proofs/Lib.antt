@@ -1,6 +1,7 @@
 pub mod TableLemmas
 pub mod Extensions
 pub mod Registered
+pub mod Times
 pub mod EdgeLemmas
 pub mod Accepted
 pub mod Copies

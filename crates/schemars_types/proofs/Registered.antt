@@ -21,10 +21,10 @@ below_from test (r ∷ rows) i n found = by (test r) found (below_from test rows
     by true h rest = let same : i ≡ n = cc in omega arith
     by false h rest = let later : n < i + 1 + length rows = rest h in omega arith
 
-place_of-below : (id : Text) (rows : List Row) (n : ℕ) → place_of id rows ≡ Some n → n < length rows
+pub place_of-below : (id : Text) (rows : List Row) (n : ℕ) → place_of id rows ≡ Some n → n < length rows
 place_of-below id rows n found = let below : n < 0 + length rows = below_from (λ r. bytes_eq r.id id) rows 0 n found in omega arith
 
-nat_le-above : (a b : ℕ) → b < a → nat_le a b ≡ false
+pub nat_le-above : (a b : ℕ) → b < a → nat_le a b ≡ false
 nat_le-above a b h = grind (arith, nat_tests)
 
 -- what is known stays known as rows join

@@ -10,7 +10,7 @@ use Rattle.schemars_types.specs.Edges.{numbers_at, RefersWithin}
 
 -- ---- a row joins
 
-length-joined : (rows : List Row) (r : Row) → length rows ≤ length (rows ++ r ∷ [])
+pub length-joined : (rows : List Row) (r : Row) → length rows ≤ length (rows ++ r ∷ [])
 length-joined [] r = omega arith
 length-joined (q ∷ rows) r = omega (arith, length-joined rows r)
 
@@ -34,7 +34,7 @@ within_reserved rows id name h = by (is_some (place_of id rows)) refl
 
 -- ---- a row is defined
 
-length-defined : (n : ℕ) (e : Entry) (rows : List Row) → length (defined n e rows) ≡ length rows
+pub length-defined : (n : ℕ) (e : Entry) (rows : List Row) → length (defined n e rows) ≡ length rows
 length-defined n e [] = refl
 length-defined zero e (r ∷ rows) = refl
 length-defined (suc n) e (r ∷ rows) = ap suc (length-defined n e rows)

@@ -2,6 +2,7 @@ pub mod Rows
 pub mod Slots
 pub mod Refusals
 pub mod Names
+pub mod Times
 pub mod Meaning
 pub mod Edges
 pub mod EdgeKind

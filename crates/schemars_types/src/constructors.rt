@@ -1,4 +1,4 @@
-ghost use Rattle.std.specs.Prelude.{◌≡◌, ◌++◌, false, codes, None, IfOk, OnErr, IfErr, string_bytes, map, find, nat_le, length};
+ghost use Rattle.std.specs.Prelude.{◌≡◌, ◌++◌, [], ◌∷◌, false, codes, None, IfOk, OnErr, IfErr, string_bytes, map, find, nat_le, length};
 ghost use Rattle.std.specs.List.{join_by};
 ghost use Rattle.schemars_types.specs.Names.{tuple_id, tuple_name};
 ghost use Rattle.schemars_shapes.specs.IntKind.{format_of, non_zero_name};
@@ -6,12 +6,15 @@ ghost use Rattle.schemars_types.specs.Names.{non_zero_id, option_id, option_name
 ghost use Rattle.schemars_types.specs.Names.{array_id, array_name, up_to_id, up_to_name, result_id, result_name};
 ghost use Rattle.schemars_types.specs.Names.{bound_id, bound_name, range_id, range_name, either_id, either_name};
 ghost use Rattle.schemars_shapes.specs.Shape.{Shape as shape, shape_of, in_place, array_of, without_notes};
+ghost use Rattle.schemars_shapes.specs.Shape.{field_of, fields_view, needed};
 ghost use Rattle.schemars_types.specs.Rows.{id_at, name_at, unknown_in};
 ghost use Rattle.schemars_types.specs.Refusals.{Registers, Refuses};
+ghost use Rattle.schemars_types.specs.Times.{RegistersTime, RefusesTime};
 
 use crate::error::TypesError;
 use crate::table::Types;
-use schemars_shapes::{IntKind, Shape, TypeEntry, TypeNo};
+use schemars_shapes::{Field, Fields, IntKind, Required, Shape, TypeEntry, TypeNo};
+use serde_json::Map;
 use std::alloc::{AllocError, Global};
 
 /// Rows of common types.
@@ -374,6 +377,75 @@ impl Types {
         self.register_row(alloc, id, name, true, Shape::Either(left, right))
     }
 
+    /// The type of spans of time: maps with `secs`, a 64-bit number, and `nanos`, a 32-bit number. The
+    /// rows of these numbers come before it.
+    pub fn duration(&mut self, alloc: Global) -> Result<TypeNo, TypesError>
+        ensures ok { IfOk result (RegistersTime (codes "std::time::Duration") (codes "Duration")
+            (codes "secs") (codes "nanos") self.old self.new) }
+        ensures err { OnErr result (self.new ≡ self.old) }
+        ensures refused { IfErr result (RefusesTime (codes "std::time::Duration")
+            (codes "secs") (codes "nanos") self.old) }
+    {
+        self.register_time(alloc, "std::time::Duration", "Duration", "secs", "nanos")
+    }
+
+    /// The type of points in time: maps with `secs_since_epoch`, a 64-bit number, and
+    /// `nanos_since_epoch`, a 32-bit number. The rows of these numbers come before it.
+    pub fn system_time(&mut self, alloc: Global) -> Result<TypeNo, TypesError>
+        ensures ok { IfOk result (RegistersTime (codes "std::time::SystemTime") (codes "SystemTime")
+            (codes "secs_since_epoch") (codes "nanos_since_epoch") self.old self.new) }
+        ensures err { OnErr result (self.new ≡ self.old) }
+        ensures refused { IfErr result (RefusesTime (codes "std::time::SystemTime")
+            (codes "secs_since_epoch") (codes "nanos_since_epoch") self.old) }
+    {
+        self.register_time(
+            alloc,
+            "std::time::SystemTime",
+            "SystemTime",
+            "secs_since_epoch",
+            "nanos_since_epoch",
+        )
+    }
+
+    // Registers a time on a copy of the table, so that a refusal leaves the table as it was.
+    fn register_time(
+        &mut self,
+        alloc: Global,
+        id: &str,
+        name: &str,
+        seconds: &str,
+        nanoseconds: &str,
+    ) -> Result<TypeNo, TypesError>
+        ensures ok { IfOk result
+            (RegistersTime id.now name.now seconds.now nanoseconds.now self.old self.new) }
+        ensures err { OnErr result (self.new ≡ self.old) }
+        ensures refused { IfErr result (RefusesTime id.now seconds.now nanoseconds.now self.old) }
+    {
+        let mut types = self.clone()?;
+        let n = types.join_time(alloc, id, name, seconds, nanoseconds)?;
+        *self = types;
+        Ok(n)
+    }
+
+    // The same, where a refusal may leave the rows of the numbers.
+    fn join_time(
+        &mut self,
+        alloc: Global,
+        id: &str,
+        name: &str,
+        seconds: &str,
+        nanoseconds: &str,
+    ) -> Result<TypeNo, TypesError>
+        ensures ok { IfOk result
+            (RegistersTime id.now name.now seconds.now nanoseconds.now self.old self.new) }
+        ensures refused { IfErr result (RefusesTime id.now seconds.now nanoseconds.now self.old) }
+    {
+        let whole = self.int(alloc, IntKind::U64)?;
+        let part = self.int(alloc, IntKind::U32)?;
+        let fields = time_fields(alloc, seconds, whole, nanoseconds, part)?;
+        self.register_named(alloc, id, name, false, Shape::Struct(fields))
+    }
+
     // Reserves and defines a row. Its shape refers to rows of the table alone, so a new row is never
     // left without its entry.
     fn register_row(
@@ -417,4 +489,38 @@ impl Types {
         let name = String::from_str(alloc, name)?;
         self.register_row(alloc, id, name, inline, shape)
     }
+}
+
+// The fields of a time: whole seconds, and nanoseconds.
+fn time_fields(
+    alloc: Global,
+    seconds: &str,
+    whole: TypeNo,
+    nanoseconds: &str,
+    part: TypeNo,
+) -> Result<Fields, AllocError>
+    ensures { IfOk result (λ f. fields_view f
+        ≡ (needed seconds.now whole ∷ needed nanoseconds.now part ∷ [], false)) }
+{
+    let seconds = needed_field(alloc, seconds, whole)?;
+    let nanoseconds = needed_field(alloc, nanoseconds, part)?;
+    Ok(Fields {
+        list: vec![in alloc; seconds, nanoseconds]?,
+        closed: false,
+    })
+}
+
+// A field that has to be there, without notes.
+fn needed_field(alloc: Global, name: &str, ty: TypeNo) -> Result<Field, AllocError>
+    ensures { IfOk result (λ f. field_of f ≡ needed name.now ty) }
+{
+    Ok(Field {
+        name: String::from_str(alloc, name)?,
+        ty,
+        required: Required {
+            deserialize: true,
+            serialize: true,
+        },
+        notes: Map::new(alloc),
+    })
 }

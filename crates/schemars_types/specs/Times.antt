@@ -1,0 +1,39 @@
+-- Times: structs of seconds and of nanoseconds, and the rows of their numbers.
+use Rattle.std.specs.Prelude.{ℕ, false, List, [], ◌∷◌}
+use Rattle.schemars_json.specs.Json.{Text}
+use Rattle.schemars_shapes.specs.declared.shape.IntKind.{IntKind}
+use Rattle.schemars_shapes.specs.declared.shape.IntKind.TheVariants.{U32, U64}
+use Rattle.schemars_shapes.specs.IntKind.{format_of}
+use Rattle.schemars_shapes.specs.Shape.{Entry, int, struct, needed, in_place, without_notes}
+use Rattle.schemars_types.specs.Rows.{Row}
+use Rattle.schemars_types.specs.declared.error.TypesError.{TypesError}
+use Rattle.schemars_types.specs.Refusals.{Registers, Refuses}
+
+abbrev pub RegistersInt : IntKind → List Row → List Row → ℕ → Type 0
+RegistersInt kind = Registers (format_of kind) (format_of kind) (in_place (int kind))
+
+abbrev pub RefusesInt : IntKind → List Row → TypesError → Type 0
+RefusesInt kind = Refuses (format_of kind) (in_place (int kind))
+
+-- an open struct of seconds, of row s, and of nanoseconds, of row n
+abbrev pub time_entry : Text → Text → ℕ → ℕ → Entry
+time_entry seconds nanoseconds s n = without_notes false (struct (needed seconds s ∷ needed nanoseconds n ∷ []) false)
+
+-- The rows of 64-bit and of 32-bit numbers are registered, and then that of the time, which refers to them.
+pub record RegistersTime (id name seconds nanoseconds : Text) (old new : List Row) (n : ℕ) : Type 0 where
+  pub u64 : ℕ
+  pub u32 : ℕ
+  pub with_u64 : List Row
+  pub with_both : List Row
+  pub registers_u64 : RegistersInt U64 old with_u64 u64
+  pub registers_u32 : RegistersInt U32 with_u64 with_both u32
+  pub registers_time : Registers id name (time_entry seconds nanoseconds u64 u32) with_both new n
+
+-- one of the three is refused, after those before it
+pub data RefusesTime (id seconds nanoseconds : Text) (old : List Row) (e : TypesError) : Type 0 where
+  refuses_u64 : RefusesInt U64 old e → RefusesTime id seconds nanoseconds old e
+  refuses_u32 : (u64 : ℕ) (with_u64 : List Row) → RegistersInt U64 old with_u64 u64 → RefusesInt U32 with_u64 e
+      → RefusesTime id seconds nanoseconds old e
+  refuses_time : (u64 u32 : ℕ) (with_u64 with_both : List Row) → RegistersInt U64 old with_u64 u64
+      → RegistersInt U32 with_u64 with_both u32 → Refuses id (time_entry seconds nanoseconds u64 u32) with_both e
+      → RefusesTime id seconds nanoseconds old e
