@@ -12,3 +12,6 @@ invariant_of-result c =
     let P : Work → Type 0 = λ w. IsOneToOne w.names in
     let Q : Work → Type 0 = λ w. w ≡ work_of (state_of c.args.settings c.new.result w) in
     (subst IsChecked (sym c.new.ensures) checked_nothing, subst P (sym c.new-2.ensures) one_to_one-none, subst Q (sym c.new-2.ensures) refl)
+
+pub returns : goal.returns
+returns c = λ i. state_of c.args.settings (c.new.ensures i) (c.new-2.ensures i)
