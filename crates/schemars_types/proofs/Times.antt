@@ -1,12 +1,13 @@
 -- The rows of a time's numbers are rows of the table that its own row joins.
 use Rattle.std.proofs.Common.{◌≡◌, ◌<◌, ◌≤◌, ℕ, List, [], ◌∷◌, ◌++◌, Bool, true, false, None, length, find, nat_le, is_some}
-use Rattle.std.proofs.Common.{if◌then◌else◌, ap, ◌∙◌, arith}
+use Rattle.std.proofs.Common.{if◌then◌else◌, ap, ◌∙◌, sym, subst, arith, Result, Ok, Err, IfErr, OnErr}
 use Rattle.schemars_json.specs.Json.{Text}
 use Rattle.schemars_shapes.specs.declared.shape.IntKind.TheVariants.{U32, U64}
 use Rattle.schemars_shapes.specs.Shape.{Entry}
 use Rattle.schemars_types.specs.Rows.{Row, place_of, reserved, unknown_in}
-use Rattle.schemars_types.specs.Refusals.{Registers}
-use Rattle.schemars_types.specs.Times.{RegistersInt, time_entry}
+use Rattle.schemars_types.specs.Refusals.{Registers, Refuses}
+use Rattle.schemars_types.specs.declared.error.TypesError.{TypesError}
+use Rattle.schemars_types.specs.Times.{RegistersInt, RefusesTime, refuses_time, time_entry}
 use Rattle.schemars_types.proofs.Registered.{place_of-below, nat_le-above}
 use Rattle.schemars_types.proofs.Within.{length-joined, length-defined}
 
@@ -32,3 +33,12 @@ time_known seconds nanoseconds u64 u32 old with_u64 with_both first second =
     let longer : length with_u64 ≤ length with_both = registered_longer _ _ _ with_u64 with_both u32 second in
     let late : u32 < length with_both = place_of-below _ with_both u32 second.number in
     two_known (length with_both) u64 u32 (omega arith) late
+
+-- where the row of a time is refused, those of its numbers stay
+pub time_refused : {A : Type 0} (r : Result A TypesError) (id seconds nanoseconds : Text) (old with_u64 with_both new : List Row) (u64 u32 : ℕ)
+    → RegistersInt U64 old with_u64 u64 → RegistersInt U32 with_u64 with_both u32 → OnErr r (new ≡ with_both)
+    → IfErr r (Refuses id (time_entry seconds nanoseconds u64 u32) with_both) → IfErr r (RefusesTime id seconds nanoseconds old new)
+time_refused (Ok n) id seconds nanoseconds old with_u64 with_both new u64 u32 first second same refused = tt
+time_refused (Err e) id seconds nanoseconds old with_u64 with_both new u64 u32 first second same refused =
+    let P : List Row → Type 0 = λ rows. RefusesTime id seconds nanoseconds old rows e in
+    subst P (sym same) (refuses_time u64 u32 with_u64 first second refused)

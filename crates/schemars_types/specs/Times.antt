@@ -1,5 +1,5 @@
 -- Times: structs of seconds and of nanoseconds, and the rows of their numbers.
-use Rattle.std.specs.Prelude.{ℕ, false, List, [], ◌∷◌}
+use Rattle.std.specs.Prelude.{◌≡◌, ℕ, false, List, [], ◌∷◌}
 use Rattle.schemars_json.specs.Json.{Text}
 use Rattle.schemars_shapes.specs.declared.shape.IntKind.{IntKind}
 use Rattle.schemars_shapes.specs.declared.shape.IntKind.TheVariants.{U32, U64}
@@ -29,11 +29,9 @@ pub record RegistersTime (id name seconds nanoseconds : Text) (old new : List Ro
   pub registers_u32 : RegistersInt U32 with_u64 with_both u32
   pub registers_time : Registers id name (time_entry seconds nanoseconds u64 u32) with_both new n
 
--- one of the three is refused, after those before it
-pub data RefusesTime (id seconds nanoseconds : Text) (old : List Row) (e : TypesError) : Type 0 where
-  refuses_u64 : RefusesInt U64 old e → RefusesTime id seconds nanoseconds old e
-  refuses_u32 : (u64 : ℕ) (with_u64 : List Row) → RegistersInt U64 old with_u64 u64 → RefusesInt U32 with_u64 e
-      → RefusesTime id seconds nanoseconds old e
-  refuses_time : (u64 u32 : ℕ) (with_u64 with_both : List Row) → RegistersInt U64 old with_u64 u64
-      → RegistersInt U32 with_u64 with_both u32 → Refuses id (time_entry seconds nanoseconds u64 u32) with_both e
-      → RefusesTime id seconds nanoseconds old e
+-- one of the three is refused, and the rows that were registered before it stay
+pub data RefusesTime (id seconds nanoseconds : Text) (old new : List Row) (e : TypesError) : Type 0 where
+  refuses_u64 : RefusesInt U64 old e → new ≡ old → RefusesTime id seconds nanoseconds old new e
+  refuses_u32 : (u64 : ℕ) → RegistersInt U64 old new u64 → RefusesInt U32 new e → RefusesTime id seconds nanoseconds old new e
+  refuses_time : (u64 u32 : ℕ) (with_u64 : List Row) → RegistersInt U64 old with_u64 u64 → RegistersInt U32 with_u64 new u32
+      → Refuses id (time_entry seconds nanoseconds u64 u32) new e → RefusesTime id seconds nanoseconds old new e

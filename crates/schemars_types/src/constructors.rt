@@ -378,25 +378,24 @@ impl Types {
     }
 
     /// The type of spans of time: maps with `secs`, a 64-bit number, and `nanos`, a 32-bit number. The
-    /// rows of these numbers come before it.
+    /// rows of these numbers come before it, and stay where it is refused.
     pub fn duration(&mut self, alloc: Global) -> Result<TypeNo, TypesError>
         ensures ok { IfOk result (RegistersTime (codes "std::time::Duration") (codes "Duration")
             (codes "secs") (codes "nanos") self.old self.new) }
-        ensures err { OnErr result (self.new ≡ self.old) }
         ensures refused { IfErr result (RefusesTime (codes "std::time::Duration")
-            (codes "secs") (codes "nanos") self.old) }
+            (codes "secs") (codes "nanos") self.old self.new) }
     {
         self.register_time(alloc, "std::time::Duration", "Duration", "secs", "nanos")
     }
 
     /// The type of points in time: maps with `secs_since_epoch`, a 64-bit number, and
-    /// `nanos_since_epoch`, a 32-bit number. The rows of these numbers come before it.
+    /// `nanos_since_epoch`, a 32-bit number. The rows of these numbers come before it, and stay where
+    /// it is refused.
     pub fn system_time(&mut self, alloc: Global) -> Result<TypeNo, TypesError>
         ensures ok { IfOk result (RegistersTime (codes "std::time::SystemTime") (codes "SystemTime")
             (codes "secs_since_epoch") (codes "nanos_since_epoch") self.old self.new) }
-        ensures err { OnErr result (self.new ≡ self.old) }
         ensures refused { IfErr result (RefusesTime (codes "std::time::SystemTime")
-            (codes "secs_since_epoch") (codes "nanos_since_epoch") self.old) }
+            (codes "secs_since_epoch") (codes "nanos_since_epoch") self.old self.new) }
     {
         self.register_time(
             alloc,
@@ -407,7 +406,7 @@ impl Types {
         )
     }
 
-    // Registers a time on a copy of the table, so that a refusal leaves the table as it was.
+    // Registers the rows of the numbers, and then that of the time.
     fn register_time(
         &mut self,
         alloc: Global,
@@ -418,27 +417,7 @@ impl Types {
     ) -> Result<TypeNo, TypesError>
         ensures ok { IfOk result
             (RegistersTime id.now name.now seconds.now nanoseconds.now self.old self.new) }
-        ensures err { OnErr result (self.new ≡ self.old) }
-        ensures refused { IfErr result (RefusesTime id.now seconds.now nanoseconds.now self.old) }
-    {
-        let mut types = self.clone()?;
-        let n = types.join_time(alloc, id, name, seconds, nanoseconds)?;
-        *self = types;
-        Ok(n)
-    }
-
-    // The same, where a refusal may leave the rows of the numbers.
-    fn join_time(
-        &mut self,
-        alloc: Global,
-        id: &str,
-        name: &str,
-        seconds: &str,
-        nanoseconds: &str,
-    ) -> Result<TypeNo, TypesError>
-        ensures ok { IfOk result
-            (RegistersTime id.now name.now seconds.now nanoseconds.now self.old self.new) }
-        ensures refused { IfErr result (RefusesTime id.now seconds.now nanoseconds.now self.old) }
+        ensures refused { IfErr result (RefusesTime id.now seconds.now nanoseconds.now self.old self.new) }
     {
         let whole = self.int(alloc, IntKind::U64)?;
         let part = self.int(alloc, IntKind::U32)?;
