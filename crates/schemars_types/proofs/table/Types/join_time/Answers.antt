@@ -1,4 +1,4 @@
-use Rattle.std.proofs.Common.{◌≡◌, List, Bool, false, None, ap, ◌∙◌, subst}
+use Rattle.std.proofs.Common.{List, Bool, false, ap, ◌∙◌, subst}
 use Rattle.std.proofs.lemmas.Result.{err_from_is_err_and, IfErr-weaker}
 use Rattle.schemars_shapes.specs.Shape.{Field, struct, shape_of, without_notes}
 use Rattle.schemars_shapes.specs.declared.shape.Shape.TheVariants.{Struct}
