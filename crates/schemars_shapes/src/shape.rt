@@ -8,7 +8,7 @@ ghost use Rattle.schemars_shapes.specs.Equality.{shape_eq, list_eq, field_eq, bo
 
 use crate::names::first_repeated;
 use crate::variant::{
-    Variant, first_unknown_in, newtypes_in, numbers_in, repeated_in, variants_equal,
+    Internal, Variant, first_unknown_in, newtypes_in, numbers_in, repeated_in, variants_equal,
 };
 use schemars_schema::json_eq_members;
 use serde_json::{Map, Value};
@@ -129,6 +129,8 @@ pub enum Shape {
     External(Vec<Variant>),
     /// what a variant has, without its name
     Untagged(Vec<Variant>),
+    /// a map with the name of a variant under a tag, and beside it what the variant has
+    Internal(Internal),
 }
 
 /// The fields of a struct.
@@ -170,6 +172,7 @@ impl Shape {
             Shape::External(variants) | Shape::Untagged(variants) => first_unknown_in(
                 variants, len,
             ),
+            Shape::Internal(internal) => internal.first_unknown(len),
             Shape::Tuple(parts) => first_unknown(parts, len),
             Shape::Struct(fields) => fields.first_unknown(len),
             _ => None,
@@ -187,6 +190,7 @@ impl Shape {
             Shape::Bound(n) | Shape::Range(n) => Ok(vec![in alloc; *n]?),
             Shape::Result(n, m) | Shape::Either(n, m) => Ok(vec![in alloc; *n, *m]?),
             Shape::External(variants) | Shape::Untagged(variants) => numbers_in(alloc, variants),
+            Shape::Internal(internal) => internal.numbers(alloc),
             Shape::Tuple(parts) => parts.clone(),
             Shape::Struct(fields) => fields.numbers(alloc),
             _ => Ok(Vec::new(alloc)),
@@ -213,6 +217,7 @@ impl Shape {
         match self {
             Shape::Struct(fields) => fields.repeated_name(alloc),
             Shape::External(variants) | Shape::Untagged(variants) => repeated_in(alloc, variants),
+            Shape::Internal(internal) => internal.repeated_name(alloc),
             Shape::Null | Shape::Bool | Shape::Int(_) | Shape::NonZero(_) => Ok(None),
             Shape::Number | Shape::Text | Shape::Char | Shape::Formatted(_) => Ok(None),
             Shape::Any | Shape::Bytes | Shape::SchemaItself => Ok(None),
@@ -251,6 +256,7 @@ impl Shape {
             (Shape::Either(a, b), Shape::Either(c, d)) => a == c && b == d,
             (Shape::External(a), Shape::External(b)) => variants_equal(a, b),
             (Shape::Untagged(a), Shape::Untagged(b)) => variants_equal(a, b),
+            (Shape::Internal(a), Shape::Internal(b)) => a.is_equal(b),
             _ => false,
         }
     }
