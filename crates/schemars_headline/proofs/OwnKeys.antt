@@ -104,6 +104,8 @@ shape_other contract (shape.either a b) = search
 shape_other contract (shape.external xs) = choice_other (bare_units xs) (other_items contract xs)
 shape_other contract (shape.untagged []) = (refl, refl)
 shape_other contract (shape.untagged (x ∷ xs)) = search
+shape_other contract (shape.internal tag closed []) = (refl, refl)
+shape_other contract (shape.internal tag closed (x ∷ xs)) = search
 
 module _ (key : Text) (is_key : IsDefinitionsKey key) where
   abbrev Lacks : Members → Type 0
