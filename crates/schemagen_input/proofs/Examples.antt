@@ -6,7 +6,7 @@ use Rattle.schemars_json.specs.Json.{Text}
 use Rattle.serde_json.specs.Data.{no_members}
 use Rattle.schemars_shapes.specs.declared.shape.IntKind.TheVariants.{U8, I32, I128}
 use Rattle.schemars_shapes.specs.Shape.{Shape, Field, Required, without_notes, in_place, int, non_zero, formatted, char}
-use Rattle.schemars_shapes.specs.Shape.{option, seq, struct, external, untagged, Payload, Variant, no_payload, newtype_payload}
+use Rattle.schemars_shapes.specs.Shape.{option, seq, struct, external, untagged, internal, Payload, Variant, no_payload, newtype_payload}
 use Rattle.schemars_shapes.specs.Shape.{tuple_payload, struct_payload}
 use Rattle.schemars_types.specs.Rows.{Row}
 use Rattle.schemagen_input.specs.Input.{input_of, required}
@@ -108,6 +108,39 @@ no_variants : said (codes "{\"types\":[{\"id\":\"E\",\"name\":\"E\",\"shape\":{\
     ≡ Some (named (codes "E") (untagged []) ∷ [], 0)
 unfolding serde_json_on_literals said named
 no_variants = refl
+
+-- beside a tag stand units and structs; units are open where nothing else is said
+tagged_variants : said
+    (codes "{\"types\":[{\"id\":\"E\",\"name\":\"E\",\"shape\":{\"internal\":{\"tag\":\"t\",\"variants\":[{\"name\":\"A\"},{\"name\":\"B\",\"payload\":{\"struct\":{\"closed\":true,\"fields\":[{\"name\":\"b\",\"type\":0}]}}}]}}}],\"root\":0}")
+    ≡ Some (
+      named (codes "E") (internal (codes "t") false (
+          variant (codes "A") no_payload
+          ∷ variant (codes "B") (struct_payload (field (codes "b") 0 (required true true) ∷ []) true) ∷ [])) ∷ [],
+      0,
+    )
+unfolding serde_json_on_literals said named field variant
+tagged_variants = refl
+
+closed_tagged : said
+    (codes "{\"types\":[{\"id\":\"E\",\"name\":\"E\",\"shape\":{\"internal\":{\"tag\":\"t\",\"closed\":true}}}],\"root\":0}")
+    ≡ Some (named (codes "E") (internal (codes "t") true []) ∷ [], 0)
+unfolding serde_json_on_literals said named
+closed_tagged = refl
+
+tagged_without_a_tag : said
+    (codes "{\"types\":[{\"id\":\"E\",\"name\":\"E\",\"shape\":{\"internal\":{\"variants\":[{\"name\":\"A\"}]}}}],\"root\":0}") ≡ None
+unfolding serde_json_on_literals said
+tagged_without_a_tag = refl
+
+tagged_newtype : said
+    (codes "{\"types\":[{\"id\":\"E\",\"name\":\"E\",\"shape\":{\"internal\":{\"tag\":\"t\",\"variants\":[{\"name\":\"A\",\"payload\":{\"newtype\":0}}]}}}],\"root\":0}") ≡ None
+unfolding serde_json_on_literals said
+tagged_newtype = refl
+
+tagged_tuple : said
+    (codes "{\"types\":[{\"id\":\"E\",\"name\":\"E\",\"shape\":{\"internal\":{\"tag\":\"t\",\"variants\":[{\"name\":\"A\",\"payload\":{\"tuple\":[]}}]}}}],\"root\":0}") ≡ None
+unfolding serde_json_on_literals said
+tagged_tuple = refl
 
 another_member_of_a_variant : said
     (codes "{\"types\":[{\"id\":\"E\",\"name\":\"E\",\"shape\":{\"external\":{\"variants\":[{\"name\":\"A\",\"type\":0}]}}}],\"root\":0}") ≡ None

@@ -13,7 +13,7 @@ use Rattle.schemars_shapes.specs.Shape.{Required, Field, Payload, Variant, Shape
 use Rattle.schemars_shapes.specs.Shape.{struct_payload, null as null_shape, bool, int, non_zero}
 use Rattle.schemars_shapes.specs.Shape.{number as number_shape, text, char, formatted, any, bytes, schema_itself}
 use Rattle.schemars_shapes.specs.Shape.{option, seq, set, array as array_shape, up_to, tuple, struct, newtype, result, bound, range}
-use Rattle.schemars_shapes.specs.Shape.{either, external, untagged}
+use Rattle.schemars_shapes.specs.Shape.{either, external, untagged, internal}
 use Rattle.schemars_shapes.specs.Shape.{numbers_of}
 use Rattle.schemars_types.specs.Rows.{Row, with_entry}
 
@@ -171,6 +171,32 @@ external_in d = option_map external (enum_in d)
 abbrev pub untagged_in : Data → Option Shape
 untagged_in d = option_map untagged (enum_in d)
 
+-- beside a tag stand fields or nothing
+abbrev pub payload_inside : Payload → Option Payload
+payload_inside no_payload = Some no_payload
+payload_inside (newtype_payload n) = None
+payload_inside (tuple_payload ns) = None
+payload_inside (struct_payload fields closed) = Some (struct_payload fields closed)
+
+abbrev pub variant_inside : Variant → Option Variant
+variant_inside x = option_map (λ payload. record { name = x.name; payload = payload; notes = x.notes }) (payload_inside x.payload)
+
+abbrev pub internals_in : Items → Option (List Variant)
+internals_in no_items = Some []
+internals_in (item d ds) =
+    option_and_then (λ x. option_map (λ xs. x ∷ xs) (internals_in ds)) (option_and_then variant_inside (variant_in d))
+
+-- the variants beside a tag: none where they are missing
+abbrev pub internals_said : Data → Option (List Variant)
+internals_said d = optional [] (λ e. option_and_then internals_in (as_array e)) (codes "variants") d
+
+abbrev pub internal_in : Data → Option Shape
+internal_in d =
+    if has_only (codes "tag" ∷ codes "closed" ∷ codes "variants" ∷ []) d
+    then option_and_then (λ tag. option_and_then (λ closed. option_map (internal tag closed) (internals_said d))
+    (optional false as_bool (codes "closed") d)) (needed as_str (codes "tag") d)
+    else None
+
 -- ---- shapes
 
 -- the shapes that are said by a text
@@ -239,7 +265,8 @@ abbrev pub shape_under : Text → Data → Option Shape
 shape_under name d =
     if bytes_eq name (codes "struct") then struct_in d else
     (if bytes_eq name (codes "external") then external_in d
-    else (if bytes_eq name (codes "untagged") then untagged_in d else plain_under name d))
+    else (if bytes_eq name (codes "untagged") then untagged_in d
+    else (if bytes_eq name (codes "internal") then internal_in d else plain_under name d)))
 
 abbrev pub shape_in : Data → Option Shape
 shape_in null = None
@@ -307,6 +334,7 @@ abbrev pub are_fields_bare : Shape → Bool
 are_fields_bare (struct fields closed) = list_all (λ f. are_none f.notes) fields
 are_fields_bare (external xs) = list_all is_variant_bare xs
 are_fields_bare (untagged xs) = list_all is_variant_bare xs
+are_fields_bare (internal tag closed xs) = list_all is_variant_bare xs
 are_fields_bare _ = true
 
 -- neither the row nor a field or a variant of it has notes

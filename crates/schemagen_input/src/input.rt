@@ -1,14 +1,15 @@
 //! The table that a JSON value says.
-ghost use Rattle.std.specs.Prelude.{◌≡◌, ◌&&◌, ◌∷◌, [], false, true, None, Some, IfOk, IfErr, option_map, string_bytes, length, map, codes};
+ghost use Rattle.std.specs.Prelude.{◌≡◌, ◌&&◌, ◌∷◌, [], false, true, None, Some, IfOk, IfErr, option_map, option_and_then, string_bytes, length, map, codes};
 ghost use Rattle.std.specs.List.{list_all};
 ghost use Rattle.serde_json.specs.View.{view, items_view, members_view};
 ghost use Rattle.schemars_shapes.specs.Shape.{shape_of, field_of, fields_view, required_of, entry_of, formatted, struct};
-ghost use Rattle.schemars_shapes.specs.Shape.{no_payload, payload_of, variant_of};
+ghost use Rattle.schemars_shapes.specs.Shape.{no_payload, payload_of, variant_of, internal_payload_of, internal_variant_of};
 ghost use Rattle.schemars_json.specs.OrderedText.{is_listed};
 ghost use Rattle.schemagen_input.specs.Input.{has_only, lone_in, number_in, notes_in, kind_named, kind_in, required};
 ghost use Rattle.schemagen_input.specs.Input.{required_each, required_in, field_in, fields_in, list_in, fields_said, struct_in};
 ghost use Rattle.schemagen_input.specs.Input.{parts_in, payload_named, payload_under, payload_in, variant_in, variants_in};
 ghost use Rattle.schemagen_input.specs.Input.{enum_in, external_in, untagged_in, is_payload_bare, is_variant_bare};
+ghost use Rattle.schemagen_input.specs.Input.{payload_inside, variant_inside, internals_in, internals_said, internal_in};
 ghost use Rattle.schemagen_input.specs.Input.{counted_in, array_in, up_to_in, numbers_in, tuple_in, list_under};
 ghost use Rattle.schemagen_input.specs.Input.{plain_under, two_in, result_in, either_in, fixed_under};
 ghost use Rattle.schemagen_input.specs.Input.{shape_named, shape_under, shape_in, entry_in, optional, needed};
@@ -17,7 +18,8 @@ ghost use Rattle.schemagen_input.specs.Reading.{as_input, headings_in, reserved_
 ghost use Rattle.serde_json.specs.Find.{as_bool, as_str, as_array};
 
 use schemars_types::{
-    Field, Fields, IntKind, Payload, Required, Shape, TypeEntry, TypeNo, Types, TypesError, Variant,
+    Field, Fields, IntKind, Internal, InternalPayload, InternalVariant, Payload, Required, Shape,
+    TypeEntry, TypeNo, Types, TypesError, Variant,
 };
 use serde_json::{Map, Value};
 use std::alloc::{AllocError, AllocFailed, Global};
@@ -431,6 +433,85 @@ fn untagged_in(alloc: Global, value: &Value) -> Result<Shape, InputError>
     Ok(Shape::Untagged(variants))
 }
 
+fn payload_inside(payload: Payload) -> Option<InternalPayload>
+    ensures { option_map internal_payload_of result ≡ payload_inside (payload_of payload) }
+{
+    match payload {
+        Payload::Unit => Some(InternalPayload::Unit),
+        Payload::Newtype(_) => None,
+        Payload::Tuple(_) => None,
+        Payload::Struct(fields) => Some(InternalPayload::Struct(fields)),
+    }
+}
+
+// A variant that has fields or nothing beside its tag.
+fn variant_inside(variant: Variant) -> Option<InternalVariant>
+    ensures { option_map internal_variant_of result ≡ variant_inside (variant_of variant) }
+{
+    let Variant { name, notes, payload } = variant;
+    let payload = payload_inside(payload)?;
+    Some(InternalVariant {
+        name,
+        notes,
+        payload,
+    })
+}
+
+fn internals_in(alloc: Global, values: &[Value]) -> Result<Vec<InternalVariant>, InputError>
+    ensures ok { IfOk result (λ v. internals_in (items_view values.now) ≡ Some (map internal_variant_of v.items)) }
+    ensures bad { IfErr result
+        (λ e. e ≡ InputError.BadTable → internals_in (items_view values.now) ≡ None) }
+{
+    let mut variants = Vec::new(alloc);
+    for value in values {
+        let variant = internal_variant_in(alloc, value)?;
+        variants.push(variant)?;
+    }
+    Ok(variants)
+}
+
+fn internal_variant_in(alloc: Global, value: &Value) -> Result<InternalVariant, InputError>
+    ensures ok { IfOk result (λ x. option_and_then variant_inside (variant_in (view value.now)) ≡ Some (internal_variant_of x)) }
+    ensures bad { IfErr result
+        (λ e. e ≡ InputError.BadTable → option_and_then variant_inside (variant_in (view value.now)) ≡ None) }
+{
+    let variant = variant_in(alloc, value)?;
+    variant_inside(variant).ok_or(InputError::BadTable)
+}
+
+// The variants beside a tag; there are none where they are missing.
+fn internals_said(alloc: Global, value: &Value) -> Result<Vec<InternalVariant>, InputError>
+    ensures ok { IfOk result (λ v. internals_said (view value.now) ≡ Some (map internal_variant_of v.items)) }
+    ensures bad { IfErr result (λ e. e ≡ InputError.BadTable → internals_said (view value.now) ≡ None) }
+{
+    let Some(variants) = value.get("variants") else {
+        return Ok(Vec::new(alloc));
+    };
+    match variants.as_array() {
+        Some(values) => internals_in(alloc, values),
+        None => Err(InputError::BadTable),
+    }
+}
+
+fn internal_in(alloc: Global, value: &Value) -> Result<Shape, InputError>
+    ensures ok { IfOk result (λ s. internal_in (view value.now) ≡ Some (shape_of s)) }
+    ensures bad { IfErr result (λ e. e ≡ InputError.BadTable → internal_in (view value.now) ≡ None) }
+{
+    if !has_only(value, &["tag", "closed", "variants"]) {
+        return Err(InputError::BadTable);
+    }
+    let (Some(tag), Some(closed)) = (text_in(value, "tag"), flag_in(value, "closed")) else {
+        return Err(InputError::BadTable);
+    };
+    let variants = internals_said(alloc, value)?;
+    let tag = String::from_str(alloc, tag)?;
+    Ok(Shape::Internal(Internal {
+        tag,
+        closed,
+        variants,
+    }))
+}
+
 // The row of a list's items, and their number under this name.
 fn counted_in(value: &Value, count: &str) -> Option<(TypeNo, u64)>
     ensures { result ≡ counted_in count.now (view value.now) }
@@ -497,6 +578,7 @@ fn shape_under(alloc: Global, name: &str, value: &Value) -> Result<Shape, InputE
         "struct" => struct_in(alloc, value),
         "external" => external_in(alloc, value),
         "untagged" => untagged_in(alloc, value),
+        "internal" => internal_in(alloc, value),
         _ => match plain_under(alloc, name, value)? {
             Some(shape) => Ok(shape),
             None => Err(InputError::BadTable),
@@ -666,12 +748,40 @@ fn are_variants_bare(variants: &[Variant]) -> bool
     true
 }
 
+// Whether neither the variant nor a field of it has notes.
+fn is_internal_bare(variant: &InternalVariant) -> bool
+    ensures { result ≡ is_variant_bare (internal_variant_of variant.now) }
+{
+    variant.notes.is_empty() && is_inside_bare(&variant.payload)
+}
+
+fn is_inside_bare(payload: &InternalPayload) -> bool
+    ensures { result ≡ is_payload_bare (internal_payload_of payload.now) }
+{
+    match payload {
+        InternalPayload::Unit => true,
+        InternalPayload::Struct(fields) => are_bare(&fields.list),
+    }
+}
+
+fn are_internals_bare(variants: &[InternalVariant]) -> bool
+    ensures { result ≡ list_all is_variant_bare (map internal_variant_of variants.now) }
+{
+    for variant in variants {
+        if !is_internal_bare(variant) {
+            return false;
+        }
+    }
+    true
+}
+
 fn are_fields_bare(shape: &Shape) -> bool
     ensures { result ≡ are_fields_bare (shape_of shape.now) }
 {
     match shape {
         Shape::Struct(fields) => are_bare(&fields.list),
         Shape::External(variants) | Shape::Untagged(variants) => are_variants_bare(variants),
+        Shape::Internal(internal) => are_internals_bare(&internal.variants),
         _ => true,
     }
 }

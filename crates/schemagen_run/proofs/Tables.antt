@@ -18,10 +18,11 @@ use Rattle.schemars_shapes.specs.Shape.{names_of, payload_names}
 use Rattle.schemars_shapes.specs.Repeated.{AreDistinctLists}
 use Rattle.schemars_types.specs.Rows.{Row, entry_at}
 use Rattle.schemars_types.specs.Faults.{IsChecked}
+use Rattle.schemars_types.specs.Meaning.{tagged_fields}
 use Rattle.schemars_documents.specs.declared.contract.Contract.{Contract}
 use Rattle.schemars_headline.specs.Headline.{RootHeadline, IsDraftPath}
 use Rattle.schemars_headline.specs.Calls.{IsLastRootCall}
-use Rattle.schemars_documents.specs.PlainTable.{IsNoName, AreDistinct, AreNoted, IsNoVariant, AreDistinctVariants}
+use Rattle.schemars_documents.specs.PlainTable.{IsNoName, AreDistinct, AreNoted, IsNoVariant, AreDistinctVariants, AreTagged}
 use Rattle.schemars_documents.specs.PlainTable.{IsPlainPayload, ArePlainVariants, IsPlainShape, IsPlainEntry, IsPlainTable}
 use Rattle.schemars_documents.specs.PlainTable.{IsNotedEntry, HasPlainNotes}
 use Rattle.schemars_documents.specs.PlainTable.{FieldsHaveNoFloat, PayloadHasNoFloat, VariantsHaveNoFloat, ShapeHasNoFloat}
@@ -115,6 +116,7 @@ shape_without_float (shape.range n) h = tt
 shape_without_float (shape.either a b) h = tt
 shape_without_float (shape.external xs) h = variants_without_float xs h
 shape_without_float (shape.untagged xs) h = variants_without_float xs h
+shape_without_float (shape.internal tag closed xs) h = variants_without_float xs h
 
 -- ---- names of fields and of variants
 
@@ -157,6 +159,23 @@ plain_variants (x ∷ xs) h differ =
     let own = both (are_none x.notes) (is_payload_bare x.payload) parts.0 in
     (none_are_notes x.notes own.0, plain_payload x.payload own.1 differ.0, plain_variants xs parts.1 differ.1)
 
+-- of lists of names that the tag leads
+told_apart : (tag : Text) (p : Payload) → IsDistinct bytes_eq (tag ∷ payload_names p)
+    → IsNoName tag (tagged_fields p) × IsDistinct bytes_eq (payload_names p)
+unfolding IsDistinct
+told_apart tag no_payload h = (tt, h.1)
+told_apart tag (newtype_payload n) h = (tt, h.1)
+told_apart tag (tuple_payload ns) h = (tt, h.1)
+told_apart tag (struct_payload fields closed) h = (no_name tag fields h.0, h.1)
+
+are_tagged : (tag : Text) (xs : List Variant) → AreDistinctLists (map (λ x. tag ∷ payload_names x.payload) xs)
+    → AreTagged tag xs × AreDistinctLists (map (λ x. payload_names x.payload) xs)
+are_tagged tag [] h = (tt, tt)
+are_tagged tag (x ∷ xs) h =
+    let own = told_apart tag x.payload h.0 in
+    let later = are_tagged tag xs h.1 in
+    ((own.0, later.0), (own.1, later.1))
+
 plain_shape : (s : Shape) → are_fields_bare s ≡ true → AreDistinctLists (names_of s) → IsPlainShape s
 plain_shape (shape.struct fields closed) h differ = (names_are_distinct fields differ.0, bare_are_noted fields h)
 plain_shape shape.null h differ = tt
@@ -183,6 +202,9 @@ plain_shape (shape.range n) h differ = tt
 plain_shape (shape.either a b) h differ = tt
 plain_shape (shape.external xs) h differ = (variants_are_distinct xs differ.0, plain_variants xs h differ.1)
 plain_shape (shape.untagged xs) h differ = plain_variants xs h differ.1
+plain_shape (shape.internal tag closed xs) h differ =
+    let members = are_tagged tag xs differ.1 in
+    (variants_are_distinct xs differ.0, plain_variants xs h members.1, members.0)
 
 -- ---- the table
 

@@ -6,6 +6,7 @@ use Rattle.schemars_schema.specs.Annotations.{AreNotes}
 use Rattle.schemars_shapes.specs.Shape as shape
 use Rattle.schemars_shapes.specs.Shape.{Shape, Field, Entry, Payload, Variant, no_payload, newtype_payload, tuple_payload, struct_payload}
 use Rattle.schemars_types.specs.Rows.{Row, entry_at}
+use Rattle.schemars_types.specs.Meaning.{tagged_fields}
 
 -- no field has this name
 abbrev pub IsNoName : Text → List Field → Type 0
@@ -45,6 +46,11 @@ abbrev pub ArePlainVariants : List Variant → Type 0
 ArePlainVariants [] = Unit {0}
 ArePlainVariants (x ∷ xs) = AreNotes x.notes × IsPlainPayload x.payload × ArePlainVariants xs
 
+-- no field of a variant is named as the tag beside it
+abbrev pub AreTagged : Text → List Variant → Type 0
+AreTagged tag [] = Unit {0}
+AreTagged tag (x ∷ xs) = IsNoName tag (tagged_fields x.payload) × AreTagged tag xs
+
 -- ---- shapes
 
 abbrev pub IsPlainShape : Shape → Type 0
@@ -73,13 +79,14 @@ IsPlainShape (shape.range n) = Unit {0}
 IsPlainShape (shape.either l r) = Unit {0}
 IsPlainShape (shape.external xs) = AreDistinctVariants xs × ArePlainVariants xs
 IsPlainShape (shape.untagged xs) = ArePlainVariants xs
+IsPlainShape (shape.internal tag closed xs) = AreDistinctVariants xs × ArePlainVariants xs × AreTagged tag xs
 
 abbrev pub IsPlainEntry : Option Entry → Type 0
 IsPlainEntry None = Unit {0}
 IsPlainEntry (Some e) = AreNotes e.notes × IsPlainShape e.shape
 
 -- the notes of rows, fields and variants are annotations alone, and the names of each list of fields are all different, and of the
--- variants that are tagged by their names
+-- variants that are told by their names; no field is named as a tag beside it
 abbrev pub IsPlainTable : List Row → Type 0
 IsPlainTable rows = (n : ℕ) → IsPlainEntry (entry_at rows n)
 
@@ -133,6 +140,7 @@ ShapeHasNoFloat (shape.range n) = Unit {0}
 ShapeHasNoFloat (shape.either l r) = Unit {0}
 ShapeHasNoFloat (shape.external xs) = VariantsHaveNoFloat xs
 ShapeHasNoFloat (shape.untagged xs) = VariantsHaveNoFloat xs
+ShapeHasNoFloat (shape.internal tag closed xs) = VariantsHaveNoFloat xs
 
 abbrev pub EntryHasNoFloat : Option Entry → Type 0
 EntryHasNoFloat None = Unit {0}

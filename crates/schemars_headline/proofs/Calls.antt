@@ -158,6 +158,7 @@ template-more basis more (shape.range n) = refl
 template-more basis more (shape.either a b) = refl
 template-more basis more (shape.external xs) = refl
 template-more basis more (shape.untagged xs) = refl
+template-more basis more (shape.internal tag closed xs) = refl
 
 describes-more : (basis : Basis) (more : List Row) (R : ℕ → Text → Type 0)
     → ((n : ℕ) (e : Entry) → entry_at basis.rows n ≡ Some e → entry_at more n ≡ Some e) → (depth n : ℕ) (s : Data)

@@ -18,11 +18,12 @@ use Rattle.schemars_rewrite.specs.AllowNull.{null_in_type, with_item, holds_text
 use Rattle.schemars_rewrite.specs.AllowNull.{null_in_enum, const_or_null, null_in_const, null_in_values}
 use Rattle.schemars_schema.specs.Acceptance.{is_null}
 use Rattle.schemars_rewrite.specs.NullLaw.{zero_schema, text_items}
+use Rattle.schemars_rewrite.specs.Variants.{unit_variant}
 use Rattle.schemars_shapes.specs.IntKind.{format_of}
 use Rattle.schemars_shapes.specs.Shape as shape
 use Rattle.schemars_shapes.specs.Shape.{Shape, Entry, Field, Payload, Variant, no_payload, newtype_payload, tuple_payload, struct_payload}
 use Rattle.schemars_types.specs.Rows.{Row, entry_at}
-use Rattle.schemars_types.specs.Meaning.{Contract, Deserialize, Serialize, least_of, greatest_of}
+use Rattle.schemars_types.specs.Meaning.{Contract, Deserialize, Serialize, least_of, greatest_of, tagged_fields, tagged_closed}
 use Rattle.schemars_documents.specs.Documents.{annotated, with_title, with_meta_schema, root_document, int_keywords}
 use Rattle.schemars_documents.specs.Documents.{is_signed, bytes_document, required_names}
 use Rattle.schemars_templates.specs.Basis.{Basis}
@@ -30,7 +31,8 @@ use Rattle.schemars_templates.specs.Template.{Template, finished, row, list, mem
 use Rattle.schemars_templates.specs.Template.{template, rows_of, left, keyed, filled, filled_in}
 use Rattle.schemars_templates.specs.OfShape.{KeywordTemplate, templates_of, property, map_template, tuple_template, struct_template}
 use Rattle.schemars_templates.specs.OfShape.{payload_template, named_template, is_bare_unit, bare_units, other_items, choice_of}
-use Rattle.schemars_templates.specs.OfShape.{payload_item, titled, untagged_template, template_of, entry_template}
+use Rattle.schemars_templates.specs.OfShape.{payload_item, titled, untagged_template, template_of}
+use Rattle.schemars_templates.specs.OfShape.{entry_template, tagged_template, internal_item, internal_template}
 use Rattle.schemars_templates.specs.Describes.{IsOwnDocument, IsWritten, Describes}
 use Rattle.schemars_documents.specs.PlainTable.{FieldsHaveNoFloat, PayloadHasNoFloat, VariantsHaveNoFloat, ShapeHasNoFloat}
 use Rattle.schemars_documents.specs.PlainTable.{EntryHasNoFloat, HasNoFloat}
@@ -304,6 +306,34 @@ untagged_whole : (contract : Contract) (titles : Bool) (xs : List Variant) → V
 untagged_whole contract titles [] n = refl
 untagged_whole contract titles (x ∷ xs) n = (items_whole contract titles (x ∷ xs) n, tt)
 
+fields_whole : (p : Payload) → PayloadHasNoFloat p → FieldsHaveNoFloat (tagged_fields p)
+fields_whole no_payload n = tt
+fields_whole (newtype_payload j) n = tt
+fields_whole (tuple_payload js) n = tt
+fields_whole (struct_payload xs closed) n = n
+
+tagged_whole : (contract : Contract) (tag name : Text) (xs : List Field) (closed : Bool) → FieldsHaveNoFloat xs
+    → SaysWhole (tagged_template contract tag name xs closed)
+tagged_whole contract tag name xs closed n =
+    map_whole ((tag, finished (unit_variant name)) ∷ map property xs) (text_items (tag ∷ required_names contract xs)) closed
+    (refl, properties_whole xs n) (texts_whole (tag ∷ required_names contract xs))
+
+internals_whole : (contract : Contract) (tag : Text) (closed : Bool) (xs : List Variant) → VariantsHaveNoFloat xs
+    → SayWhole (templates_of (map (internal_item contract tag closed) xs))
+internals_whole contract tag closed [] n = tt
+internals_whole contract tag closed (x ∷ xs) n = (
+  (
+    n.0,
+    tagged_whole contract tag x.name (tagged_fields x.payload) (tagged_closed closed x.payload) (fields_whole x.payload n.1),
+  ),
+  internals_whole contract tag closed xs n.2,
+)
+
+internal_whole : (contract : Contract) (tag : Text) (closed : Bool) (xs : List Variant) → VariantsHaveNoFloat xs
+    → SaysWhole (internal_template contract tag closed xs)
+internal_whole contract tag closed [] n = refl
+internal_whole contract tag closed (x ∷ xs) n = (internals_whole contract tag closed (x ∷ xs) n, tt)
+
 -- ---- by shape
 
 shape_whole : (basis : Basis) (kind : Shape) → ShapeHasNoFloat kind → SaysWhole (template_of basis kind)
@@ -334,6 +364,7 @@ shape_whole basis (shape.range j) n = search
 shape_whole basis (shape.either a b) n = search
 shape_whole basis (shape.external xs) n = choice_whole (bare_units xs) (other_items basis.contract xs) (others_whole basis.contract xs n)
 shape_whole basis (shape.untagged xs) n = untagged_whole basis.contract basis.titles xs n
+shape_whole basis (shape.internal tag closed xs) n = internal_whole basis.contract tag closed xs n
 
 own_whole : (W : ℕ → Data → Type 0) (basis : Basis) → ((j : ℕ) (t : Data) → W j t → IsWhole t) → (o : Option Entry)
     → EntryHasNoFloat o → (s : Data) → IsOwnDocument W basis o s → IsWhole s

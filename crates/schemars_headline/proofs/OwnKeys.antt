@@ -105,6 +105,8 @@ shape_other basis (shape.either a b) = search
 shape_other basis (shape.external xs) = choice_other (bare_units xs) (other_items basis.contract xs)
 shape_other basis (shape.untagged []) = (refl, refl)
 shape_other basis (shape.untagged (x ∷ xs)) = search
+shape_other basis (shape.internal tag closed []) = (refl, refl)
+shape_other basis (shape.internal tag closed (x ∷ xs)) = search
 
 module _ (key : Text) (is_key : IsDefinitionsKey key) where
   abbrev Lacks : Members → Type 0

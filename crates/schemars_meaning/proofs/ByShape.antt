@@ -16,9 +16,9 @@ use Rattle.schemars_documents.specs.Documents.{Keyword, typed, type_alone, int_d
 use Rattle.schemars_documents.specs.Documents.{formatted_document, count_at, empty_list_document, bytes_document}
 use Rattle.schemars_documents.specs.Documents.{schema_document, required_names, annotated}
 use Rattle.schemars_templates.specs.Basis.{Basis}
-use Rattle.schemars_templates.specs.Template.{row, rows_of, rows_in, filled, filled_in, keyed}
+use Rattle.schemars_templates.specs.Template.{row, rows_of, rows_in, filled, filled_in, keyed, finished}
 use Rattle.schemars_templates.specs.OfShape.{templates_of, property, map_template, template_of, entry_template}
-use Rattle.schemars_templates.specs.OfShape.{external_template, untagged_template}
+use Rattle.schemars_templates.specs.OfShape.{external_template, untagged_template, internal_template, tagged_template}
 use Rattle.schemars_templates.specs.Describes.{ArePartsWritten, Fills}
 use Rattle.schemars_meaning.proofs.Rows.{rows_at, rows_same}
 
@@ -78,6 +78,11 @@ field_keywords (x ∷ xs) (t ∷ ts) = (x.name, annotated x.notes t) ∷ field_k
 
 abbrev pub struct_document : Contract → List Field → List Data → Bool → Data
 struct_document contract fields ts closed = map_document (field_keywords fields ts) (required_names contract fields) closed
+
+-- a map with the variant's name under the tag, and with these fields
+abbrev pub tagged_document : Contract → Text → Text → List Field → List Data → Bool → Data
+tagged_document contract tag name fields ts closed =
+    map_document ((tag, unit_variant name) ∷ field_keywords fields ts) (tag ∷ required_names contract fields) closed
 
 -- ---- choices
 
@@ -151,6 +156,7 @@ IsDocument Written basis (shape.range n) s = IsOfTwo (Written n) (Written n) ran
 IsDocument Written basis (shape.either a b) s = IsOfTwo (Written a) (Written b) either_document s
 IsDocument Written basis (shape.external xs) s = Fills Written (external_template basis.contract xs) s
 IsDocument Written basis (shape.untagged xs) s = Fills Written (untagged_template basis.contract basis.titles xs) s
+IsDocument Written basis (shape.internal tag closed xs) s = Fills Written (internal_template basis.contract tag closed xs) s
 
 -- ---- what fills a template
 
@@ -207,6 +213,21 @@ module _ (W : ℕ → Data → Type 0) where
       by_keywords [] true h = more [] true (fields_fill xs ts (without_end (rows_at xs) ts h.1)) h.0 refl
       by_keywords (k ∷ ks) false h = more (k ∷ ks) false (fields_fill xs ts (without_end (rows_at xs) ts h.1)) h.0 refl
       by_keywords (k ∷ ks) true h = more (k ∷ ks) true (fields_fill xs ts (without_end (rows_at xs) ts h.1)) h.0 refl
+
+  abbrev TaggedFills : Contract → Text → Text → List Field → Bool → List Data → Type 0
+  TaggedFills contract tag name xs closed ts = (us : List Data) × AreWritten W xs us
+      × (filled (tagged_template contract tag name xs closed) ts ≡ tagged_document contract tag name xs us closed)
+
+  pub tagged_fills : (contract : Contract) (tag name : Text) (xs : List Field) (closed : Bool) (ts : List Data)
+      → Fit (rows_of (tagged_template contract tag name xs closed)) ts → TaggedFills contract tag name xs closed ts
+  tagged_fills contract tag name xs closed ts h = go closed h
+    where
+      document : Bool → List Keyword → Data
+      document ends es = map_document ((tag, unit_variant name) ∷ es) (tag ∷ required_names contract xs) ends
+
+      go : (ends : Bool) → Fit (rows_of (tagged_template contract tag name xs ends)) ts → TaggedFills contract tag name xs ends ts
+      go false h = let all = fields_fill xs ts (without_end (rows_at xs) ts h) in (all.0, all.1, ap (document false) all.2)
+      go true h = let all = fields_fill xs ts (without_end (rows_at xs) ts h) in (all.0, all.1, ap (document true) all.2)
 
   -- ---- rows in order
 
@@ -278,6 +299,7 @@ module _ (W : ℕ → Data → Type 0) where
   fills basis (shape.either a b) s (t ∷ u ∷ ts) h e = (t, u, h.0, h.1.0, e)
   fills basis (shape.external xs) s ts h e = record { parts = ts; written = h; is = e }
   fills basis (shape.untagged xs) s ts h e = record { parts = ts; written = h; is = e }
+  fills basis (shape.internal tag closed xs) s ts h e = record { parts = ts; written = h; is = e }
 
   pub by_shape : (basis : Basis) (kind : Shape) (s : Data) → Fills W (template_of basis kind) s → IsDocument W basis kind s
   by_shape basis kind s h = fills basis kind s h.parts h.written h.is

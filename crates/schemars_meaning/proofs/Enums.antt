@@ -41,7 +41,7 @@ use Rattle.schemars_meaning.proofs.Choices.{Say, one_of_says, any_of_says, unit_
 -- ---- the parts of templates that stand behind each other
 
 module _ (W : ℕ → Data → Type 0) where
-  abbrev Fit : List ℕ → List Data → Type 0
+  abbrev pub Fit : List ℕ → List Data → Type 0
   Fit = ArePartsWritten W
 
   split : (ms ns : List ℕ) (ts : List Data) → Fit (ms ++ ns) ts
@@ -158,7 +158,7 @@ claimed (array ds) = None
 claimed (object no_members) = None
 claimed (object (member k d ms)) = Some k
 
-and-true : (a b : Bool) → a && b ≡ true → (a ≡ true) × (b ≡ true)
+pub and-true : (a b : Bool) → a && b ≡ true → (a ≡ true) × (b ≡ true)
 and-true true b h = (refl, h)
 and-true false b h = absurd (true≢false (sym h))
 
@@ -182,7 +182,7 @@ map_claimed k p (number n) h = absurd (true≢false (sym h))
 map_claimed k p (string s) h = absurd (true≢false (sym h))
 map_claimed k p (array ds) h = absurd (true≢false (sym h))
 
-some_same : {A : Type 0} {a b : A} → Some a ≡ Some b → a ≡ b
+pub some_same : {A : Type 0} {a b : A} → Some a ≡ Some b → a ≡ b
 some_same h = cc
 
 module _ (contract : Contract) (M : ℕ → Data → Bool) (v : Data) where
@@ -274,10 +274,10 @@ module _ (patterns : Patterns) (f : Text → Judge) (basis : Basis) (W : ℕ →
   schemas j t w = ready-schema t (ready j t w)
 
   -- whatever fills it is a schema that says this of the value
-  abbrev Tells : Template → Bool → Data → Type 0
+  abbrev pub Tells : Template → Bool → Data → Type 0
   Tells t b v = (us : List Data) → Fit W (rows_of t) us → IsSchema (filled t us) × ((judge c (filled t us)).fits v ≡ verdict b)
 
-  abbrev AllTell : List Template → List Bool → Data → Type 0
+  abbrev pub AllTell : List Template → List Bool → Data → Type 0
   AllTell [] [] v = Unit {0}
   AllTell [] (b ∷ bs) v = ⊥
   AllTell (t ∷ ts) [] v = ⊥
@@ -293,7 +293,7 @@ module _ (patterns : Patterns) (f : Text → Judge) (basis : Basis) (W : ℕ →
       let own = h.0 p.0 p.2 in
       (rw p.4 own.0, ap (λ s. (judge c s).fits v) p.4 ∙ own.1, rw p.5 (all_say ts bs v h.1 p.1 p.3))
 
-  one_tells : (ts : List Template) (bs : List Bool) (v : Data) → AllTell ts bs v → Tells (one_of ts) (exactly_one bs) v
+  pub one_tells : (ts : List Template) (bs : List Bool) (v : Data) → AllTell ts bs v → Tells (one_of ts) (exactly_one bs) v
   one_tells ts bs v h us fit = (
     tt,
     one_of_says patterns f contract M (filled_in (templates_of ts) us) bs v
@@ -307,7 +307,7 @@ module _ (patterns : Patterns) (f : Text → Judge) (basis : Basis) (W : ℕ →
         (all_say ts bs v h us (without_end W (rows_in (templates_of ts)) us fit)),
   )
 
-  noted_tells : (notes : Members) (t : Template) (b : Bool) (v : Data) → AreNotes notes → Tells t b v → Tells (noted notes t) b v
+  pub noted_tells : (notes : Members) (t : Template) (b : Bool) (v : Data) → AreNotes notes → Tells t b v → Tells (noted notes t) b v
   noted_tells notes t b v plain h us fit =
       let own = h us fit in (
         annotated-schema notes (filled t us) own.0,

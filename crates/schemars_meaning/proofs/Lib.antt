@@ -7,6 +7,7 @@ pub mod Structs
 pub mod Ready
 pub mod Choices
 pub mod Enums
+pub mod Tagged
 pub mod Meanings
 pub mod Notes
 pub mod ReferencesKept

@@ -9,6 +9,7 @@ use Rattle.schemars_rewrite.specs.NullLaw.{context2020_12}
 use Rattle.schemars_rewrite.proofs.Nulls.{IsReady, ready-schema, ready_nullable, ready-allow_null, allow_null-says}
 use Rattle.schemars_meaning.proofs.Ready.{int_ready, non_zero_ready, bytes_ready, map_ready, tuple_ready, one_of_ready}
 use Rattle.schemars_meaning.proofs.Enums.{IsNewtypeIn, external_ready, untagged_ready, external_says, untagged_says}
+use Rattle.schemars_meaning.proofs.Tagged.{internal_ready, internal_says}
 use Rattle.schemars_shapes.specs.Shape as shape
 use Rattle.schemars_shapes.specs.Shape.{Shape, Entry, numbers_of}
 use Rattle.schemars_types.specs.Meaning.{Contract, Deserialize, Serialize, has_shape}
@@ -67,6 +68,7 @@ module _ (W : ℕ → Data → Type 0) (basis : Basis) (ready : (j : ℕ) (t : D
       one_of_ready (member_document true (codes "Left") is.0 ∷ member_document true (codes "Right") is.1 ∷ []) s is.4
   shape_ready (shape.external xs) s p is = rw is.is (external_ready W basis ready xs is.parts)
   shape_ready (shape.untagged xs) s p is = rw is.is (untagged_ready W basis ready xs p is.parts is.written)
+  shape_ready (shape.internal tag closed xs) s p is = rw is.is (internal_ready basis.contract tag closed xs is.parts)
 
 -- ---- one shape
 
@@ -97,6 +99,7 @@ IsSame (shape.range n) j = ⊥
 IsSame (shape.either a b) j = ⊥
 IsSame (shape.external xs) j = ⊥
 IsSame (shape.untagged xs) j = IsNewtypeIn j xs
+IsSame (shape.internal tag closed xs) j = ⊥
 
 -- where a part is asked: inside the value, or of the value itself
 abbrev pub Inside : Shape → Data → ℕ → Data → Type 0
@@ -157,3 +160,5 @@ module _ (patterns : Patterns) (f : Text → Judge) (basis : Basis) (W : ℕ →
       (λ j t w x js less. agree j t w x js (inl less)) xs p.0 p.1 is.parts is.written)
   shape_says (shape.untagged xs) s p is v json agree = rw is.is (untagged_says patterns f basis W M ready v json
       (λ j t w x js less. agree j t w x js (inl less)) xs p (λ n t same x. agree n t v x json (inr (same, refl))) is.parts is.written)
+  shape_says (shape.internal tag closed xs) s p is v json agree = rw is.is (internal_says patterns f contract W M ready v json
+      (λ j t w x js less. agree j t w x js (inl less)) tag closed xs p.0 p.1 p.2 is.parts is.written)

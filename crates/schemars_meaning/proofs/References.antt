@@ -13,19 +13,21 @@ use Rattle.schemars_schema.specs.References.{Place, NoSchemas, OneSchema, Schema
 use Rattle.schemars_schema.specs.References.{at_place, found_in, found_in_members, found_in_items, found_in_keywords, references}
 use Rattle.schemars_schema.proofs.Contents.{found_under}
 use Rattle.schemars_rewrite.specs.NullLaw.{zero_schema, text_items}
+use Rattle.schemars_rewrite.specs.Variants.{unit_variant}
 use Rattle.schemars_shapes.specs.Shape as shape
 use Rattle.schemars_shapes.specs.Shape.{Shape, Field, Entry, Payload, Variant, no_payload, newtype_payload, tuple_payload, struct_payload}
 use Rattle.schemars_shapes.specs.IntKind.{format_of}
-use Rattle.schemars_types.specs.Meaning.{Contract, Deserialize, Serialize, least_of, greatest_of}
+use Rattle.schemars_types.specs.Meaning.{Contract, Deserialize, Serialize, least_of, greatest_of, tagged_fields, tagged_closed}
 use Rattle.schemars_documents.specs.Documents.{int_keywords, is_signed, required_names, bytes_document}
 use Rattle.schemars_documents.specs.PlainTable.{IsNoName, AreDistinct, AreNoted, IsPlainShape, IsPlainEntry, IsPlainPayload}
-use Rattle.schemars_documents.specs.PlainTable.{ArePlainVariants}
+use Rattle.schemars_documents.specs.PlainTable.{ArePlainVariants, AreTagged}
 use Rattle.schemars_templates.specs.Basis.{Basis}
 use Rattle.schemars_templates.specs.Template.{Template, finished, row, list, members, nullable, noted, Templates, no_templates}
 use Rattle.schemars_templates.specs.Template.{template, rows_of, rows_in, first, behind, left, left_in, keyed, filled, filled_in}
 use Rattle.schemars_templates.specs.OfShape.{KeywordTemplate, templates_of, object_with, property, map_template, template_of}
 use Rattle.schemars_templates.specs.OfShape.{entry_template, member_template, payload_template, named_template, is_bare_unit, bare_units}
-use Rattle.schemars_templates.specs.OfShape.{other_items, choice_of, payload_item, titled, untagged_template}
+use Rattle.schemars_templates.specs.OfShape.{other_items, choice_of, payload_item, titled}
+use Rattle.schemars_templates.specs.OfShape.{untagged_template, tagged_template, internal_item, internal_template}
 use Rattle.schemars_templates.specs.Describes.{references_of}
 use Rattle.schemars_meaning.proofs.Notes.{annotated-schema}
 use Rattle.schemars_meaning.proofs.ReferencesKept.{Among, among_more, Alike, alike_equal, alike_same, alike_nothing}
@@ -371,6 +373,45 @@ unfolding found_in
 untagged_as_schema contract titles [] h = refl
 untagged_as_schema contract titles (x ∷ xs) h = search (payloads_as_items contract titles (x ∷ xs) h)
 
+-- what a variant has beside its tag: fields with names and notes as those of a struct
+pub plain_fields : (p : Payload) → IsPlainPayload p → AreDistinct (tagged_fields p) × AreNoted (tagged_fields p)
+plain_fields no_payload h = (tt, tt)
+plain_fields (newtype_payload n) h = (tt, tt)
+plain_fields (tuple_payload ns) h = (tt, tt)
+plain_fields (struct_payload xs closed) h = h
+
+tagged_as_schema : (contract : Contract) (tag name : Text) (xs : List Field) (closed : Bool) → IsNoName tag xs → AreDistinct xs
+    → AreNoted xs → AsSchema (tagged_template contract tag name xs closed)
+unfolding found_in
+tagged_as_schema contract tag name xs closed other apart notes =
+    map_as_schema ((tag, finished (unit_variant name)) ∷ map property xs) (text_items (tag ∷ required_names contract xs)) closed
+    ((silent, properties_named xs notes), (no_name-key tag xs other, names_apart xs apart))
+  where
+    silent : references (unit_variant name) ≡ []
+    silent = refl
+
+internals_as_items : (contract : Contract) (tag : Text) (closed : Bool) (xs : List Variant) → ArePlainVariants xs → AreTagged tag xs
+    → AreItems (templates_of (map (internal_item contract tag closed) xs))
+internals_as_items contract tag closed [] h other = tt
+internals_as_items contract tag closed (x ∷ xs) h other =
+    let own = plain_fields x.payload h.1 in (
+      (
+        h.0,
+        tagged_as_schema contract tag x.name (tagged_fields x.payload) (tagged_closed closed x.payload) other.0 own.0 own.1,
+      ),
+      internals_as_items contract tag closed xs h.2 other.1,
+    )
+
+internal_as_schema : (contract : Contract) (tag : Text) (closed : Bool) (xs : List Variant) → ArePlainVariants xs → AreTagged tag xs
+    → AsSchema (internal_template contract tag closed xs)
+unfolding found_in
+internal_as_schema contract tag closed [] h other = refl
+internal_as_schema contract tag closed (x ∷ xs) h other = search (internals_as_items contract tag closed (x ∷ xs) h other)
+
+internal_makes : (contract : Contract) (tag : Text) (closed : Bool) (xs : List Variant) → MakesSchema (internal_template contract tag closed xs)
+internal_makes contract tag closed [] = tt
+internal_makes contract tag closed (x ∷ xs) = tt
+
 choice_makes : (ks : List Text) (ts : List Template) → MakesSchema (choice_of ks ts)
 choice_makes [] [] = tt
 choice_makes [] (t ∷ ts) = tt
@@ -420,6 +461,7 @@ shape_as_schema basis (shape.either a b) p = search
 shape_as_schema basis (shape.external xs) p =
     choice_as_schema (bare_units xs) (other_items basis.contract xs) (others_as_items basis.contract xs p.1)
 shape_as_schema basis (shape.untagged xs) p = untagged_as_schema basis.contract basis.titles xs p
+shape_as_schema basis (shape.internal tag closed xs) p = internal_as_schema basis.contract tag closed xs p.1 p.2
 
 non_zero_makes : (b : Bool) (d e : Data) → IsSchema d → IsSchema e → IsSchema (if b then d else e)
 non_zero_makes true d e h g = h
@@ -453,6 +495,7 @@ shape_makes basis (shape.range n) = tt
 shape_makes basis (shape.either a b) = tt
 shape_makes basis (shape.external xs) = choice_makes (bare_units xs) (other_items basis.contract xs)
 shape_makes basis (shape.untagged xs) = untagged_makes basis.contract basis.titles xs
+shape_makes basis (shape.internal tag closed xs) = internal_makes basis.contract tag closed xs
 
 -- ---- a row's document
 

@@ -8,13 +8,13 @@ use Rattle.schemars_rewrite.specs.NullLaw.{text_items}
 use Rattle.schemars_shapes.specs.Shape as shape
 use Rattle.schemars_shapes.specs.Shape.{Shape, Field, Payload, Variant, no_payload, newtype_payload, tuple_payload, struct_payload}
 use Rattle.schemars_shapes.specs.Shape.{numbers_of, payload_numbers, variant_numbers}
-use Rattle.schemars_types.specs.Meaning.{Contract}
+use Rattle.schemars_types.specs.Meaning.{Contract, tagged_fields, tagged_closed}
 use Rattle.schemars_documents.specs.Documents.{required_names}
 use Rattle.schemars_templates.specs.Basis.{Basis}
 use Rattle.schemars_templates.specs.Template.{Template, row, noted, rows_of, rows_in}
 use Rattle.schemars_templates.specs.OfShape.{templates_of, property, map_template, tuple_template, struct_template, template_of}
 use Rattle.schemars_templates.specs.OfShape.{payload_template, named_template, is_bare_unit, bare_units, other_items, choice_of}
-use Rattle.schemars_templates.specs.OfShape.{payload_item, titled, untagged_template}
+use Rattle.schemars_templates.specs.OfShape.{payload_item, titled, untagged_template, tagged_template, internal_item, internal_template}
 
 pub rows_same : (ns : List ℕ) → rows_in (templates_of (map row ns)) ≡ ns
 rows_same [] = refl
@@ -129,6 +129,38 @@ module _ (P : ℕ → Type 0) where
   untagged_rows contract titles (x ∷ xs) h =
       ended (rows_in (templates_of (map (payload_item contract titles) (x ∷ xs)))) (items_rows contract titles (x ∷ xs) h)
 
+  own_rows : (p : Payload) → All P (payload_numbers p) → All P (map (λ x. x.ty) (tagged_fields p))
+  own_rows no_payload h = nothing
+  own_rows (newtype_payload n) h = nothing
+  own_rows (tuple_payload ns) h = nothing
+  own_rows (struct_payload xs closed) h = h
+
+  tagged_rows : (contract : Contract) (tag name : Text) (xs : List Field) (closed : Bool) → All P (map (λ x. x.ty) xs)
+      → All P (rows_of (tagged_template contract tag name xs closed))
+  tagged_rows contract tag name xs closed h = go closed
+    where
+      inside : All P (rows_at xs)
+      inside = let Q : List ℕ → Type 0 = λ ms. All P ms in subst Q (sym (fields_rows xs)) h
+
+      go : (closed : Bool) → All P (rows_of (tagged_template contract tag name xs closed))
+      go false = ended (rows_at xs) inside
+      go true = ended (rows_at xs) inside
+
+  internals_rows : (contract : Contract) (tag : Text) (closed : Bool) (xs : List Variant) → All P (variant_numbers xs)
+      → All P (rows_in (templates_of (map (internal_item contract tag closed) xs)))
+  internals_rows contract tag closed [] h = nothing
+  internals_rows contract tag closed (x ∷ xs) h =
+      let parts = parted (payload_numbers x.payload) (variant_numbers xs) h in
+      All-append P (rows_of (internal_item contract tag closed x)) _
+      (tagged_rows contract tag x.name (tagged_fields x.payload) (tagged_closed closed x.payload) (own_rows x.payload parts.0))
+      (internals_rows contract tag closed xs parts.1)
+
+  internal_rows : (contract : Contract) (tag : Text) (closed : Bool) (xs : List Variant) → All P (variant_numbers xs)
+      → All P (rows_of (internal_template contract tag closed xs))
+  internal_rows contract tag closed [] h = nothing
+  internal_rows contract tag closed (x ∷ xs) h =
+      ended (rows_in (templates_of (map (internal_item contract tag closed) (x ∷ xs)))) (internals_rows contract tag closed (x ∷ xs) h)
+
   pub all_rows : (basis : Basis) (kind : Shape) → All P (numbers_of kind) → All P (rows_of (template_of basis kind))
   all_rows basis shape.null h = nothing
   all_rows basis shape.bool h = nothing
@@ -157,3 +189,4 @@ module _ (P : ℕ → Type 0) where
   all_rows basis (shape.external xs) h =
       choice_rows (bare_units xs) (other_items basis.contract xs) (other_rows basis.contract xs h)
   all_rows basis (shape.untagged xs) h = untagged_rows basis.contract basis.titles xs h
+  all_rows basis (shape.internal tag closed xs) h = internal_rows basis.contract tag closed xs h

@@ -14,7 +14,7 @@ use Rattle.schemars_shapes.specs.IntKind.{kind_eq}
 use Rattle.schemars_shapes.specs.Shape.{Required, Field, Shape, Entry, null, bool, int, non_zero, number}
 use Rattle.schemars_shapes.specs.Shape.{text, char, formatted, any, bytes, schema_itself, option, seq, set}
 use Rattle.schemars_shapes.specs.Shape.{array as array_shape, up_to, tuple, struct, newtype, result, bound, range, either, external}
-use Rattle.schemars_shapes.specs.Shape.{untagged, Payload, Variant, no_payload, newtype_payload, tuple_payload, struct_payload}
+use Rattle.schemars_shapes.specs.Shape.{untagged, internal, Payload, Variant, no_payload, newtype_payload, tuple_payload, struct_payload}
 use Rattle.schemars_shapes.specs.Equality.{bool_eq, required_eq, field_eq, list_eq, payload_eq, variant_eq, variants_eq, shape_eq, entry_eq}
 
 and_left : (a b : Bool) → (a && b) ≡ true → a ≡ true
@@ -156,6 +156,13 @@ same_shape (range m) (range n) h = ap range (same_number m n h)
 same_shape (either m e) (either n f) h = let both = same_two m n e f h in λ i. either (both.0 i) (both.1 i)
 same_shape (external xs) (external ys) h = ap external (same_variants xs ys h)
 same_shape (untagged xs) (untagged ys) h = ap untagged (same_variants xs ys h)
+same_shape (internal tag closed xs) (internal key sealed ys) h =
+    let tags : tag ≡ key = (bytes_eq-Decides tag key).0 (and_left (bytes_eq tag key) (bool_eq closed sealed && variants_eq xs ys) h) in
+    let rest : (bool_eq closed sealed && variants_eq xs ys) ≡ true =
+    and_right (bytes_eq tag key) (bool_eq closed sealed && variants_eq xs ys) h in
+    let ends : closed ≡ sealed = same_bool closed sealed (and_left (bool_eq closed sealed) (variants_eq xs ys) rest) in
+    let same : xs ≡ ys = same_variants xs ys (and_right (bool_eq closed sealed) (variants_eq xs ys) rest) in
+    λ i. internal (tags i) (ends i) (same i)
 same_shape s t h = cc
 
 pub same_entry : (a b : Entry) → entry_eq a b ≡ true → a ≡ b

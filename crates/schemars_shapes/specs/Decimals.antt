@@ -1,7 +1,7 @@
 -- Entries without decimals in their notes: numbers that are no 64-bit whole numbers.
 use Rattle.std.specs.Prelude.{List, [], ◌∷◌, Bool, false, ◌||◌}
 use Rattle.serde_json.specs.Written.{members_have_float}
-use Rattle.schemars_shapes.specs.Shape.{Shape, Field, Entry, Payload, Variant, struct, external, untagged, struct_payload}
+use Rattle.schemars_shapes.specs.Shape.{Shape, Field, Entry, Payload, Variant, struct, external, untagged, internal, struct_payload}
 
 abbrev pub fields_have_float : List Field → Bool
 fields_have_float [] = false
@@ -19,6 +19,7 @@ abbrev pub shape_has_float : Shape → Bool
 shape_has_float (struct list closed) = fields_have_float list
 shape_has_float (external xs) = variants_have_float xs
 shape_has_float (untagged xs) = variants_have_float xs
+shape_has_float (internal tag closed xs) = variants_have_float xs
 shape_has_float _ = false
 
 abbrev pub entry_has_float : Entry → Bool

@@ -11,6 +11,10 @@ use Rattle.schemars_shapes.specs.declared.shape.TypeEntry as src-entry
 use Rattle.schemars_shapes.specs.declared.variant.Variant as src-variant
 use Rattle.schemars_shapes.specs.declared.variant.Payload as src-payload
 use Rattle.schemars_shapes.specs.declared.variant.Payload.TheVariants as payload
+use Rattle.schemars_shapes.specs.declared.variant.Internal as src-internal
+use Rattle.schemars_shapes.specs.declared.variant.InternalVariant as src-internal_variant
+use Rattle.schemars_shapes.specs.declared.variant.InternalPayload as src-internal_payload
+use Rattle.schemars_shapes.specs.declared.variant.InternalPayload.TheVariants as inside
 use Rattle.schemars_shapes.specs.declared.shape.Shape as src-shape
 use Rattle.schemars_shapes.specs.declared.shape.Shape.TheVariants as src
 
@@ -39,7 +43,7 @@ pub record Variant : Type 0 where
 
 -- Numbers are those of rows. An array has just so many items, and `up_to` has so many at most. A struct has fields, in order, and may
 -- be closed to other keys. A result has the row of `Ok` first, and `either` that of `Left`. The variants of an enum are tagged by their
--- names, or by nothing.
+-- names, or by nothing, or by a member of their own maps; there a unit may be closed to other keys.
 pub data Shape : Type 0 where
   null : Shape
   bool : Shape
@@ -66,6 +70,7 @@ pub data Shape : Type 0 where
   either : ℕ → ℕ → Shape
   external : List Variant → Shape
   untagged : List Variant → Shape
+  internal : Text → Bool → List Variant → Shape
 
 pub record Entry : Type 0 where
   pub inline : Bool
@@ -90,6 +95,18 @@ payload_of (payload.Struct fields) = struct_payload (fields_view fields).0 (fiel
 
 abbrev pub variant_of : src-variant.Variant → Variant
 variant_of x = record { name = string_bytes x.name; payload = payload_of x.payload; notes = members_view x.notes.entries }
+
+abbrev pub internal_payload_of : src-internal_payload.InternalPayload → Payload
+internal_payload_of inside.Unit = no_payload
+internal_payload_of (inside.Struct fields) = struct_payload (fields_view fields).0 (fields_view fields).1
+
+abbrev pub internal_variant_of : src-internal_variant.InternalVariant → Variant
+internal_variant_of x =
+    record { name = string_bytes x.name; payload = internal_payload_of x.payload; notes = members_view x.notes.entries }
+
+-- the tag, whether units exclude other keys, and the variants
+abbrev pub internal_view : src-internal.Internal → Text × Bool × List Variant
+internal_view x = (string_bytes x.tag, x.closed, map internal_variant_of x.variants.items)
 
 abbrev pub shape_of : src-shape.Shape → Shape
 shape_of src.Null = null
@@ -117,6 +134,7 @@ shape_of (src.Range n) = range n
 shape_of (src.Either left right) = either left right
 shape_of (src.External variants) = external (map variant_of variants.items)
 shape_of (src.Untagged variants) = untagged (map variant_of variants.items)
+shape_of (src.Internal x) = internal (internal_view x).0 (internal_view x).1 (internal_view x).2
 
 abbrev pub entry_of : src-entry.TypeEntry → Entry
 entry_of e = record { inline = e.inline; notes = members_view e.notes.entries; shape = shape_of e.shape }
@@ -162,6 +180,7 @@ numbers_of (range n) = n ∷ []
 numbers_of (either left right) = left ∷ right ∷ []
 numbers_of (external xs) = variant_numbers xs
 numbers_of (untagged xs) = variant_numbers xs
+numbers_of (internal tag closed xs) = variant_numbers xs
 numbers_of _ = []
 
 abbrev pub newtype_numbers : List Variant → List ℕ
@@ -188,9 +207,14 @@ payload_names _ = []
 abbrev pub variant_names : List Variant → List (List Text)
 variant_names xs = map (λ x. x.name) xs ∷ map (λ x. payload_names x.payload) xs
 
+-- the names of the variants, and of the members of each one's map, which the tag leads
+abbrev pub tagged_names : Text → List Variant → List (List Text)
+tagged_names tag xs = map (λ x. x.name) xs ∷ map (λ x. tag ∷ payload_names x.payload) xs
+
 -- the lists of names in a shape: those of its fields, or of its variants and then of the fields of each
 abbrev pub names_of : Shape → List (List Text)
 names_of (struct list closed) = map (λ f. f.name) list ∷ []
 names_of (external xs) = variant_names xs
 names_of (untagged xs) = variant_names xs
+names_of (internal tag closed xs) = tagged_names tag xs
 names_of _ = []

@@ -1,9 +1,9 @@
 //! Copies that say the same as what they are made of.
 ghost use Rattle.std.specs.Prelude.{◌≡◌, map, IfOk};
-ghost use Rattle.schemars_shapes.specs.Shape.{variant_of};
+ghost use Rattle.schemars_shapes.specs.Shape.{variant_of, internal_variant_of};
 
 use crate::shape::{Field, Fields, Shape, TypeEntry};
-use crate::variant::{Payload, Variant};
+use crate::variant::{Internal, InternalPayload, InternalVariant, Payload, Variant};
 use std::alloc::AllocError;
 
 impl Clone for TypeEntry {
@@ -52,6 +52,7 @@ impl Clone for Shape {
             Shape::Either(left, right) => Shape::Either(*left, *right),
             Shape::External(variants) => Shape::External(copies(variants)?),
             Shape::Untagged(variants) => Shape::Untagged(copies(variants)?),
+            Shape::Internal(internal) => Shape::Internal(internal.clone()?),
         })
     }
 }
@@ -86,6 +87,54 @@ impl Clone for Payload {
             Payload::Newtype(n) => Payload::Newtype(*n),
             Payload::Tuple(parts) => Payload::Tuple(parts.clone()?),
             Payload::Struct(fields) => Payload::Struct(fields.clone()?),
+        })
+    }
+}
+
+impl Clone for Internal {
+    ghost use Rattle.schemars_shapes.specs.Shape.{internal_view};
+
+    ghost is_clone = { λ x y. internal_view y ≡ internal_view x };
+
+    fn clone(&self) -> Result<Internal, AllocError> {
+        Ok(Internal {
+            tag: self.tag.clone()?,
+            closed: self.closed,
+            variants: internal_copies(&self.variants)?,
+        })
+    }
+}
+
+#[tactic(auto, using(crate::proofs::Copies::map_internal_variant_of_copied))]
+fn internal_copies(
+    variants: &Vec<InternalVariant>,
+) -> Result<Vec<InternalVariant>, AllocError>
+    ensures { IfOk result (λ v. map internal_variant_of v.items ≡ map internal_variant_of variants.now.items) }
+{
+    variants.clone()
+}
+
+impl Clone for InternalVariant {
+    ghost is_clone = { λ x y. internal_variant_of y ≡ internal_variant_of x };
+
+    fn clone(&self) -> Result<InternalVariant, AllocError> {
+        Ok(InternalVariant {
+            name: self.name.clone()?,
+            notes: self.notes.clone()?,
+            payload: self.payload.clone()?,
+        })
+    }
+}
+
+impl Clone for InternalPayload {
+    ghost use Rattle.schemars_shapes.specs.Shape.{internal_payload_of};
+
+    ghost is_clone = { λ x y. internal_payload_of y ≡ internal_payload_of x };
+
+    fn clone(&self) -> Result<InternalPayload, AllocError> {
+        Ok(match self {
+            InternalPayload::Unit => InternalPayload::Unit,
+            InternalPayload::Struct(fields) => InternalPayload::Struct(fields.clone()?),
         })
     }
 }

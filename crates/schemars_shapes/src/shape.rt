@@ -8,7 +8,7 @@ ghost use Rattle.schemars_shapes.specs.Equality.{shape_eq, list_eq, field_eq, bo
 
 use crate::names::first_repeated;
 use crate::variant::{
-    Variant, first_unknown_in, newtypes_in, numbers_in, repeated_in, variants_equal,
+    Internal, Variant, first_unknown_in, newtypes_in, numbers_in, repeated_in, variants_equal,
 };
 use schemars_schema::json_eq_members;
 use serde_json::{Map, Value};
@@ -129,6 +129,8 @@ pub enum Shape {
     External(Vec<Variant>),
     /// what a variant has, without its name
     Untagged(Vec<Variant>),
+    /// a map with the name of a variant under a tag, and beside it what the variant has
+    Internal(Internal),
 }
 
 /// The fields of a struct.
@@ -170,6 +172,7 @@ impl Shape {
             Shape::External(variants) | Shape::Untagged(variants) => first_unknown_in(
                 variants, len,
             ),
+            Shape::Internal(internal) => internal.first_unknown(len),
             Shape::Tuple(parts) => first_unknown(parts, len),
             Shape::Struct(fields) => fields.first_unknown(len),
             _ => None,
@@ -187,6 +190,7 @@ impl Shape {
             Shape::Bound(n) | Shape::Range(n) => Ok(vec![in alloc; *n]?),
             Shape::Result(n, m) | Shape::Either(n, m) => Ok(vec![in alloc; *n, *m]?),
             Shape::External(variants) | Shape::Untagged(variants) => numbers_in(alloc, variants),
+            Shape::Internal(internal) => internal.numbers(alloc),
             Shape::Tuple(parts) => parts.clone(),
             Shape::Struct(fields) => fields.numbers(alloc),
             _ => Ok(Vec::new(alloc)),
@@ -205,7 +209,7 @@ impl Shape {
     }
 
     /// The first name that is met a second time: in the list of fields, or in that of variants, or
-    /// else in the list of fields of a variant.
+    /// else in the list of fields of a variant, which the tag leads where it stands in one map with them.
     pub fn repeated_name(&self, alloc: Global) -> Result<Option<String>, AllocError>
         ensures { IfOk result (λ r. MatchOption r (AreDistinctLists (names_of (shape_of self.now)))
             (λ s. IsFirstRepeated (names_of (shape_of self.now)) (string_bytes s))) }
@@ -213,6 +217,7 @@ impl Shape {
         match self {
             Shape::Struct(fields) => fields.repeated_name(alloc),
             Shape::External(variants) | Shape::Untagged(variants) => repeated_in(alloc, variants),
+            Shape::Internal(internal) => internal.repeated_name(alloc),
             Shape::Null | Shape::Bool | Shape::Int(_) | Shape::NonZero(_) => Ok(None),
             Shape::Number | Shape::Text | Shape::Char | Shape::Formatted(_) => Ok(None),
             Shape::Any | Shape::Bytes | Shape::SchemaItself => Ok(None),
@@ -251,6 +256,7 @@ impl Shape {
             (Shape::Either(a, b), Shape::Either(c, d)) => a == c && b == d,
             (Shape::External(a), Shape::External(b)) => variants_equal(a, b),
             (Shape::Untagged(a), Shape::Untagged(b)) => variants_equal(a, b),
+            (Shape::Internal(a), Shape::Internal(b)) => a.is_equal(b),
             _ => false,
         }
     }
@@ -289,10 +295,18 @@ impl Fields {
             MatchOption r (IsDistinct bytes_eq names) (λ s. IsRepeated names (string_bytes s))) }
     {
         let mut names = Vec::new(alloc);
+        self.add_names(&mut names)?;
+        first_repeated(alloc, &names)
+    }
+
+    pub(crate) fn add_names<'t>(&'t self, names: &mut Vec<&'t str>) -> Result<(), AllocError>
+        ensures { OnOk result (map (λ n. n.now) names.new.items
+            ≡ map (λ n. n.now) names.old.items ++ map (λ f. f.name) (map field_of self.now.list.items)) }
+    {
         for field in &self.list {
             names.push(field.name.as_str())?;
         }
-        first_repeated(alloc, &names)
+        Ok(())
     }
 
     pub(crate) fn first_unknown(&self, len: usize) -> Option<TypeNo>

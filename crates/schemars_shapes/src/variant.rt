@@ -1,10 +1,11 @@
 //! The variants of enums.
-ghost use Rattle.std.specs.Prelude.{◌≡◌, ◌++◌, nat_le, find, map, bytes_eq, string_bytes, IfOk, OnOk, MatchOption};
+ghost use Rattle.std.specs.Prelude.{◌≡◌, ◌&&◌, ◌∷◌, ◌++◌, nat_le, find, map, bytes_eq, string_bytes, IfOk, OnOk, MatchOption};
 ghost use Rattle.std.specs.List.{IsDistinct};
 ghost use Rattle.schemars_shapes.specs.Shape.{payload_of, variant_of, payload_numbers, variant_numbers, newtype_numbers};
-ghost use Rattle.schemars_shapes.specs.Shape.{payload_names, variant_names};
+ghost use Rattle.schemars_shapes.specs.Shape.{payload_names, variant_names, tagged_names};
+ghost use Rattle.schemars_shapes.specs.Shape.{internal_payload_of, internal_variant_of, internal_view};
 ghost use Rattle.schemars_shapes.specs.Repeated.{IsRepeated, AreDistinctLists, IsFirstRepeated};
-ghost use Rattle.schemars_shapes.specs.Equality.{payload_eq, variant_eq, variants_eq};
+ghost use Rattle.schemars_shapes.specs.Equality.{bool_eq, payload_eq, variant_eq, variants_eq};
 
 use crate::names::first_repeated;
 use crate::shape::{Fields, TypeNo, first_unknown};
@@ -31,6 +32,33 @@ pub enum Payload {
     /// a list of one value of each row, in this order
     Tuple(Vec<TypeNo>),
     /// a map with these fields
+    Struct(Fields),
+}
+
+/// The variants of an enum whose values are maps, with the variant's name under this tag.
+#[derive(Drop)]
+pub struct Internal {
+    pub tag: String,
+    /// A unit allows no other keys.
+    pub closed: bool,
+    pub variants: Vec<InternalVariant>,
+}
+
+/// A variant that is named by a member of its own map.
+#[derive(Drop)]
+pub struct InternalVariant {
+    pub name: String,
+    /// Annotations that are inserted into the variant's schema.
+    pub notes: Map<String, Value>,
+    pub payload: InternalPayload,
+}
+
+/// What the map of a variant has beside the tag.
+#[derive(Drop)]
+pub enum InternalPayload {
+    /// nothing
+    Unit,
+    /// these fields
     Struct(Fields),
 }
 
@@ -156,6 +184,140 @@ fn repeated_variant(alloc: Global, variants: &[Variant]) -> Result<Option<String
 // The order of the variants counts.
 pub(crate) fn variants_equal(a: &[Variant], b: &[Variant]) -> bool
     ensures { result ≡ variants_eq (map variant_of a.now) (map variant_of b.now) }
+{
+    let mut others = b.iter();
+    for variant in a {
+        let Some(other) = others.next() else {
+            return false;
+        };
+        if !variant.is_equal(other) {
+            return false;
+        }
+    }
+    others.next().is_none()
+}
+
+impl InternalPayload {
+    fn first_unknown(&self, len: usize) -> Option<TypeNo>
+        ensures { result ≡ find (λ n. nat_le len n) (payload_numbers (internal_payload_of self.now)) }
+    {
+        match self {
+            InternalPayload::Unit => None,
+            InternalPayload::Struct(fields) => fields.first_unknown(len),
+        }
+    }
+
+    fn add_numbers(&self, numbers: &mut Vec<TypeNo>) -> Result<(), AllocError>
+        ensures { OnOk result (numbers.new.items ≡ numbers.old.items ++ payload_numbers (internal_payload_of self.now)) }
+    {
+        match self {
+            InternalPayload::Unit => Ok(()),
+            InternalPayload::Struct(fields) => fields.add_numbers(numbers),
+        }
+    }
+
+    // The first name of a member that is met a second time, where the tag is the first member.
+    fn repeated_name<'t>(&'t self, alloc: Global, tag: &'t str) -> Result<Option<String>, AllocError>
+        ensures { IfOk result (λ r.
+            let names = tag.now ∷ payload_names (internal_payload_of self.now) in
+            MatchOption r (IsDistinct bytes_eq names) (λ s. IsRepeated names (string_bytes s))) }
+    {
+        let mut names = vec![in alloc; tag]?;
+        if let InternalPayload::Struct(fields) = self {
+            fields.add_names(&mut names)?;
+        }
+        first_repeated(alloc, &names)
+    }
+
+    fn is_equal(&self, other: &InternalPayload) -> bool
+        ensures { result ≡ payload_eq (internal_payload_of self.now) (internal_payload_of other.now) }
+    {
+        match (self, other) {
+            (InternalPayload::Unit, InternalPayload::Unit) => true,
+            (InternalPayload::Struct(fields), InternalPayload::Struct(of_other)) => {
+                fields.is_equal(of_other)
+            }
+            _ => false,
+        }
+    }
+}
+
+impl InternalVariant {
+    fn is_equal(&self, other: &InternalVariant) -> bool
+        ensures { result ≡ variant_eq (internal_variant_of self.now) (internal_variant_of other.now) }
+    {
+        self.name == other.name
+            && self.payload.is_equal(&other.payload)
+            && json_eq_members(&self.notes, &other.notes)
+    }
+}
+
+impl Internal {
+    #[tactic(auto, using(crate::proofs::Numbers::internal_here, crate::proofs::Numbers::internal_later))]
+    pub(crate) fn first_unknown(&self, len: usize) -> Option<TypeNo>
+        ensures { result ≡ find (λ n. nat_le len n) (variant_numbers (map internal_variant_of self.now.variants.items)) }
+    {
+        for variant in &self.variants {
+            if let Some(n) = variant.payload.first_unknown(len) {
+                return Some(n);
+            }
+        }
+        None
+    }
+
+    pub(crate) fn numbers(&self, alloc: Global) -> Result<Vec<TypeNo>, AllocError>
+        ensures { IfOk result (λ v. v.items ≡ variant_numbers (map internal_variant_of self.now.variants.items)) }
+    {
+        let mut numbers = Vec::new(alloc);
+        for variant in &self.variants {
+            variant.payload.add_numbers(&mut numbers)?;
+        }
+        Ok(numbers)
+    }
+
+    // The first name that is met a second time, among the variants, or else among the tag and the fields of one.
+    pub(crate) fn repeated_name(&self, alloc: Global) -> Result<Option<String>, AllocError>
+        ensures { IfOk result (λ r.
+            let names = tagged_names (internal_view self.now).0 (map internal_variant_of self.now.variants.items) in
+            MatchOption r (AreDistinctLists names) (λ s. IsFirstRepeated names (string_bytes s))) }
+    {
+        if let Some(name) = self.repeated_variant(alloc)? {
+            return Ok(Some(name));
+        }
+        for variant in &self.variants {
+            if let Some(name) = variant.payload.repeated_name(alloc, &self.tag)? {
+                return Ok(Some(name));
+            }
+        }
+        Ok(None)
+    }
+
+    fn repeated_variant(&self, alloc: Global) -> Result<Option<String>, AllocError>
+        ensures { IfOk result (λ r.
+            let names = map (λ x. x.name) (map internal_variant_of self.now.variants.items) in
+            MatchOption r (IsDistinct bytes_eq names) (λ s. IsRepeated names (string_bytes s))) }
+    {
+        let mut names = Vec::new(alloc);
+        for variant in &self.variants {
+            names.push(variant.name.as_str())?;
+        }
+        first_repeated(alloc, &names)
+    }
+
+    pub(crate) fn is_equal(&self, other: &Internal) -> bool
+        ensures { result ≡ (bytes_eq (internal_view self.now).0 (internal_view other.now).0
+            && (bool_eq (internal_view self.now).1 (internal_view other.now).1
+            && variants_eq (internal_view self.now).2 (internal_view other.now).2)) }
+    {
+        self.tag == other.tag
+            && self.closed == other.closed
+            && internals_equal(&self.variants, &other.variants)
+    }
+}
+
+// The order of the variants counts.
+fn internals_equal(a: &[InternalVariant], b: &[InternalVariant]) -> bool
+    ensures { result ≡ variants_eq (map internal_variant_of a.now) (map internal_variant_of b.now) }
 {
     let mut others = b.iter();
     for variant in a {

@@ -6,7 +6,7 @@ use Rattle.schemars_rewrite.specs.NullLaw.{text_items}
 use Rattle.schemars_rewrite.specs.Variants.{unit_variant}
 use Rattle.schemars_shapes.specs.Shape as shape
 use Rattle.schemars_shapes.specs.Shape.{Shape, Field, Entry, Payload, Variant, no_payload, newtype_payload, tuple_payload, struct_payload}
-use Rattle.schemars_types.specs.Meaning.{Contract}
+use Rattle.schemars_types.specs.Meaning.{Contract, tagged_fields, tagged_closed}
 use Rattle.schemars_documents.specs.Documents.{type_alone, int_document, non_zero_document, char_document}
 use Rattle.schemars_documents.specs.Documents.{formatted_document, empty_list_document, bytes_document, schema_document}
 use Rattle.schemars_documents.specs.Documents.{required_names}
@@ -177,6 +177,19 @@ abbrev pub untagged_template : Contract → Bool → List Variant → Template
 untagged_template contract titles [] = finished (boolean false)
 untagged_template contract titles (x ∷ xs) = any_of (map (payload_item contract titles) (x ∷ xs))
 
+-- a map with the variant's name under the tag, and with these fields
+abbrev pub tagged_template : Contract → Text → Text → List Field → Bool → Template
+tagged_template contract tag name xs closed =
+    map_template ((tag, finished (unit_variant name)) ∷ map property xs) (text_items (tag ∷ required_names contract xs)) closed
+
+abbrev pub internal_item : Contract → Text → Bool → Variant → Template
+internal_item contract tag closed x =
+    noted x.notes (tagged_template contract tag x.name (tagged_fields x.payload) (tagged_closed closed x.payload))
+
+abbrev pub internal_template : Contract → Text → Bool → List Variant → Template
+internal_template contract tag closed [] = finished (boolean false)
+internal_template contract tag closed (x ∷ xs) = one_of (map (internal_item contract tag closed) (x ∷ xs))
+
 -- ---- by shape
 
 abbrev pub template_of : Basis → Shape → Template
@@ -205,6 +218,7 @@ template_of basis (shape.range n) = range_template n
 template_of basis (shape.either l r) = either_template l r
 template_of basis (shape.external xs) = external_template basis.contract xs
 template_of basis (shape.untagged xs) = untagged_template basis.contract basis.titles xs
+template_of basis (shape.internal tag closed xs) = internal_template basis.contract tag closed xs
 
 -- a row's document, with its notes
 abbrev pub entry_template : Basis → Entry → Template

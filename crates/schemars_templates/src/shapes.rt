@@ -1,11 +1,13 @@
 //! The template of each shape.
-ghost use Rattle.std.specs.Prelude.{◌≡◌, ◌∷◌, ◌++◌, [], codes, map, IfOk, OnOk};
+ghost use Rattle.std.specs.Prelude.{◌≡◌, ◌∷◌, ◌++◌, [], codes, map, string_bytes, IfOk, OnOk};
 ghost use Rattle.serde_json.specs.Data.{string, number, unsigned, boolean, array};
 ghost use Rattle.serde_json.specs.View.{items_view};
 ghost use Rattle.schemars_shapes.specs.Shape.{shape_of, field_of, entry_of, payload_of, variant_of};
+ghost use Rattle.schemars_shapes.specs.Shape.{internal_payload_of, internal_variant_of, internal_view};
+ghost use Rattle.schemars_types.specs.Meaning.{tagged_fields, tagged_closed};
 ghost use Rattle.schemars_rewrite.specs.NullLaw.{text_items};
 ghost use Rattle.schemars_documents.specs.ContractOf.{contract_of};
-ghost use Rattle.schemars_documents.specs.Documents.{bytes_document};
+ghost use Rattle.schemars_documents.specs.Documents.{bytes_document, required_names};
 ghost use Rattle.schemars_templates.specs.Template.{row, finished, nullable};
 ghost use Rattle.schemars_templates.specs.View.{template_view, keyword_view};
 ghost use Rattle.schemars_templates.specs.OfShape.{object_with, typed, list_template, set_template, array_template};
@@ -15,6 +17,7 @@ ghost use Rattle.schemars_templates.specs.OfShape.{one_of, member_template, resu
 ghost use Rattle.schemars_templates.specs.OfShape.{either_template, any_of, said, payload_template, named_template};
 ghost use Rattle.schemars_templates.specs.OfShape.{is_bare_unit, bare_units, other_items, external_template};
 ghost use Rattle.schemars_templates.specs.OfShape.{payload_item, untagged_template, titled};
+ghost use Rattle.schemars_templates.specs.OfShape.{tagged_template, internal_item, internal_template};
 ghost use Rattle.schemars_templates.specs.Basis.{basis_of};
 
 use crate::basis::Basis;
@@ -27,7 +30,10 @@ use schemars_documents::documents::{
 use schemars_documents::integers::{int_document, non_zero_document};
 use schemars_rewrite::builders::new_unit_enum_variant;
 use schemars_schema::Schema;
-use schemars_types::{Field, Fields, IntKind, Payload, Shape, TypeEntry, TypeNo, Variant};
+use schemars_types::{
+    Field, Fields, IntKind, Internal, InternalPayload, InternalVariant, Payload, Shape, TypeEntry,
+    TypeNo, Variant,
+};
 use serde_json::Value;
 use std::alloc::{AllocError, Global};
 
@@ -77,6 +83,7 @@ pub fn template_of<'t>(
         Shape::Either(left, right) => either_template(alloc, *left, *right),
         Shape::External(variants) => external_template(alloc, basis.contract, variants),
         Shape::Untagged(variants) => untagged_template(alloc, basis.contract, basis.titles, variants),
+        Shape::Internal(internal) => internal_template(alloc, basis.contract, internal),
     }
 }
 
@@ -441,6 +448,125 @@ fn titled<'t>(
         return Ok(Template::Titled(name, Box::new(alloc, template)?));
     }
     Ok(template)
+}
+
+fn internal_template<'t>(
+    alloc: Global,
+    contract: Contract,
+    internal: &'t Internal,
+) -> Result<Template<'t>, AllocError>
+    ensures { IfOk result (λ t. template_view t ≡ internal_template (contract_of contract)
+        (internal_view internal.now).0 (internal_view internal.now).1 (internal_view internal.now).2) }
+{
+    if internal.variants.is_empty() {
+        return finished(Schema::from(false));
+    }
+    let tag = internal.tag.as_str();
+    let items = internal_items(alloc, contract, tag, internal.closed, &internal.variants)?;
+    one_of(alloc, items)
+}
+
+// The map of each variant, with the variant's notes.
+fn internal_items<'t>(
+    alloc: Global,
+    contract: Contract,
+    tag: &'t str,
+    closed: bool,
+    variants: &'t [InternalVariant],
+) -> Result<Vec<Template<'t>>, AllocError>
+    ensures { IfOk result (λ v. map template_view v.items
+        ≡ map (internal_item (contract_of contract) tag.now closed) (map internal_variant_of variants.now)) }
+{
+    let mut items = Vec::new(alloc);
+    for variant in variants {
+        let item = internal_item(alloc, contract, tag, closed, variant)?;
+        items.push(item)?;
+    }
+    Ok(items)
+}
+
+fn internal_item<'t>(
+    alloc: Global,
+    contract: Contract,
+    tag: &'t str,
+    closed: bool,
+    variant: &'t InternalVariant,
+) -> Result<Template<'t>, AllocError>
+    ensures { IfOk result (λ t. template_view t
+        ≡ internal_item (contract_of contract) tag.now closed (internal_variant_of variant.now)) }
+{
+    let item = variant_template(alloc, contract, tag, closed, variant)?;
+    Ok(Template::Noted(&variant.notes, Box::new(alloc, item)?))
+}
+
+fn variant_template<'t>(
+    alloc: Global,
+    contract: Contract,
+    tag: &'t str,
+    closed: bool,
+    variant: &'t InternalVariant,
+) -> Result<Template<'t>, AllocError>
+    ensures { IfOk result (λ t. template_view t ≡ tagged_template (contract_of contract) tag.now (string_bytes variant.now.name)
+        (tagged_fields (internal_payload_of variant.now.payload))
+        (tagged_closed closed (internal_payload_of variant.now.payload))) }
+{
+    let name = variant.name.as_str();
+    match &variant.payload {
+        InternalPayload::Unit => tagged_template(alloc, contract, tag, name, &[], closed),
+        InternalPayload::Struct(fields) => tagged_template(
+            alloc, contract, tag, name, &fields.list, fields.closed,
+        ),
+    }
+}
+
+// A map with the variant's name under the tag, and with these fields.
+fn tagged_template<'t>(
+    alloc: Global,
+    contract: Contract,
+    tag: &'t str,
+    name: &str,
+    fields: &'t [Field],
+    closed: bool,
+) -> Result<Template<'t>, AllocError>
+    ensures { IfOk result (λ t. template_view t
+        ≡ tagged_template (contract_of contract) tag.now name.now (map field_of fields.now) closed) }
+{
+    let name = finished(new_unit_enum_variant(alloc, name)?)?;
+    let properties = tagged_properties(alloc, tag, name, fields)?;
+    let required = tagged_names(alloc, contract, tag, fields)?;
+    map_template(alloc, properties, required, closed)
+}
+
+// The fields' schemas under their names, led by the tag's.
+fn tagged_properties<'t>(
+    alloc: Global,
+    tag: &'t str,
+    name: Template<'t>,
+    fields: &'t [Field],
+) -> Result<Vec<(&'t str, Template<'t>)>, AllocError>
+    ensures { IfOk result (λ v. map keyword_view v.items
+        ≡ (tag.now, template_view name.entry) ∷ map property (map field_of fields.now)) }
+{
+    let mut tagged: Vec<(&'t str, Template<'t>)> = vec![in alloc; (tag, name)]?;
+    let mut others = properties(alloc, fields)?;
+    tagged.append(&mut others)?;
+    Ok(tagged)
+}
+
+// The tag, and the names of the fields that have to be there.
+fn tagged_names(
+    alloc: Global,
+    contract: Contract,
+    tag: &str,
+    fields: &[Field],
+) -> Result<Vec<Value>, AllocError>
+    ensures { IfOk result (λ v. items_view v.items
+        ≡ text_items (tag.now ∷ required_names (contract_of contract) (map field_of fields.now))) }
+{
+    let mut names = vec![in alloc; Value::try_from_str(alloc, tag)?]?;
+    let mut others = required_names(alloc, contract, fields)?;
+    names.append(&mut others)?;
+    Ok(names)
 }
 
 // One of these at least.

@@ -7,7 +7,7 @@ use Rattle.schemars_json.specs.Json.{Text, json_eq}
 use Rattle.schemars_schema.specs.SchemaData.{object_of}
 use Rattle.schemars_shapes.specs.declared.shape.IntKind.TheVariants.{I8, U8, U128, I64}
 use Rattle.schemars_shapes.specs.Shape as shape
-use Rattle.schemars_shapes.specs.Shape.{Shape, Field, Variant, no_payload, newtype_payload, in_place}
+use Rattle.schemars_shapes.specs.Shape.{Shape, Field, Variant, no_payload, newtype_payload, struct_payload, in_place}
 use Rattle.schemars_types.specs.Rows.{Row}
 use Rattle.schemars_types.specs.Meaning.{Contract, Deserialize, Serialize, belongs, belongs_within}
 
@@ -220,3 +220,39 @@ second_variant = (refl, refl)
 no_variant : (has Deserialize (shape.external []) (text "U") ≡ false) × (has Deserialize (shape.untagged []) null ≡ false)
 unfolding has table belongs_within text
 no_variant = (refl, refl)
+
+-- a unit, and an open struct with the fields above
+tagged_variants : List Variant
+tagged_variants =
+    record { name = codes "U"; payload = no_payload; notes = no_members } ∷
+    record { name = codes "S"; payload = struct_payload fields false; notes = no_members } ∷ []
+
+tagged : Bool → Shape
+tagged closed = shape.internal (codes "t") closed tagged_variants
+
+closed_units : TellsApart Deserialize (tagged true) (object_of (member_of "t" (text "U") ∷ []))
+    (object_of (member_of "t" (text "U") ∷ member_of "z" null ∷ []))
+unfolding TellsApart has table belongs_within text fields member_of tagged tagged_variants
+closed_units = (refl, refl)
+
+open_units : TellsApart Deserialize (tagged false) (object_of (member_of "t" (text "U") ∷ member_of "z" null ∷ []))
+    (object_of (member_of "t" (text "V") ∷ []))
+unfolding TellsApart has table belongs_within text fields member_of tagged tagged_variants
+open_units = (refl, refl)
+
+-- no value is without its tag, and the tag's name is a text
+missing_tags : (has Deserialize (tagged false) (object_of (member_of "a" (whole 1) ∷ [])) ≡ false)
+    × (has Deserialize (tagged false) (object_of (member_of "t" null ∷ [])) ≡ false)
+unfolding has table belongs_within whole fields member_of tagged tagged_variants
+missing_tags = (refl, refl)
+
+tagged_structs : TellsApart Deserialize (tagged true)
+    (object_of (member_of "a" (whole 1) ∷ member_of "t" (text "S") ∷ member_of "z" null ∷ []))
+    (object_of (member_of "b" (whole 1) ∷ member_of "t" (text "S") ∷ []))
+unfolding TellsApart has table belongs_within whole text fields member_of tagged tagged_variants
+tagged_structs = (refl, refl)
+
+-- an enum without variants has no value
+no_tagged : has Deserialize (shape.internal (codes "t") false []) (object_of (member_of "t" (text "U") ∷ [])) ≡ false
+unfolding has table belongs_within text member_of
+no_tagged = refl

@@ -11,7 +11,7 @@ use Rattle.schemars_schema.specs.SchemaData.{is_schema}
 use Rattle.schemars_schema.specs.Acceptance.{Patterns, is_null, whole_number, code_points}
 use Rattle.schemars_shapes.specs.Shape.{Required, Field, Shape, null, bool, int, non_zero, number, text, char}
 use Rattle.schemars_shapes.specs.Shape.{formatted, any, bytes, schema_itself, option, seq, set, array as array_shape}
-use Rattle.schemars_shapes.specs.Shape.{up_to, tuple, struct, newtype, result, bound, range, either, external, untagged, needed}
+use Rattle.schemars_shapes.specs.Shape.{up_to, tuple, struct, newtype, result, bound, range, either, external, untagged, internal, needed}
 use Rattle.schemars_shapes.specs.Shape.{Payload, Variant, no_payload, newtype_payload, tuple_payload, struct_payload}
 use Rattle.schemars_types.specs.Rows.{Row, entry_at}
 use Rattle.schemars_shapes.specs.declared.shape.IntKind.{IntKind}
@@ -121,6 +121,29 @@ has_variant contract part v x = elim x.payload [
   | struct_payload list closed ↦ is_map_of x.name (has_payload contract part (struct_payload list closed)) v
 ]
 
+-- the tag has this name, and another member is a field's, or free where there is no end to the keys
+abbrev pub tagged_fits : (ℕ → Data → Bool) → List Field → Bool → Text → Text → Text → Data → Bool
+tagged_fits part list closed tag name k v = if bytes_eq tag k then is_text name v else member_fits part list closed k v
+
+-- a map with this name under the tag, and with these fields beside it
+abbrev pub has_tagged : Contract → (ℕ → Data → Bool) → Text → List Field → Bool → Text → Data → Bool
+has_tagged contract part tag list closed name v = holds (as_object v) (λ ms.
+    is_some (get_member tag ms) && (every_member (tagged_fits part list closed tag name) ms && has_required contract list ms))
+
+-- the fields of a variant that is tagged inside its map; a unit has none
+abbrev pub tagged_fields : Payload → List Field
+tagged_fields (struct_payload list closed) = list
+tagged_fields _ = []
+
+-- whether it excludes other keys: a struct says so itself
+abbrev pub tagged_closed : Bool → Payload → Bool
+tagged_closed closed (struct_payload list own) = own
+tagged_closed closed _ = closed
+
+abbrev pub has_internal : Contract → (ℕ → Data → Bool) → Text → Bool → Data → Variant → Bool
+has_internal contract part tag closed v x =
+    has_tagged contract part tag (tagged_fields x.payload) (tagged_closed closed x.payload) x.name v
+
 -- the values of a shape, where `part` says which values the rows inside it have
 abbrev pub has_shape : Contract → Patterns → (ℕ → Data → Bool) → Shape → Data → Bool
 has_shape contract patterns part null v = is_null v
@@ -152,6 +175,7 @@ has_shape contract patterns part (either l r) v = exactly_one
     (has_fields contract part (needed (codes "Left") l ∷ []) true v ∷ has_fields contract part (needed (codes "Right") r ∷ []) true v ∷ [])
 has_shape contract patterns part (external xs) v = list_any (has_variant contract part v) xs
 has_shape contract patterns part (untagged xs) v = list_any (λ x. has_payload contract part x.payload v) xs
+has_shape contract patterns part (internal tag closed xs) v = list_any (has_internal contract part tag closed v) xs
 
 -- row n has the value; a row is asked at most `steps` deep
 unfoldable pub belongs_within : List Row → Contract → Patterns → ℕ → ℕ → Data → Bool

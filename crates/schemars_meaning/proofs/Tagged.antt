@@ -1,0 +1,298 @@
+-- What the document of an internally tagged enum says under 2020-12.
+use Rattle.std.proofs.Common.{◌≡◌, ℕ, zero, suc, ◌<◌, List, [], ◌∷◌, map, Option, Some, None, Bool, true, false, refl, sym, ap, ◌∙◌}
+use Rattle.std.proofs.Common.{subst, true≢false, Ordering, Less, Equal, Greater, nat_cmp, is_eq}
+use Rattle.std.specs.Prelude.{bytes_eq, if◌then◌else◌, not, is_some, ◌&&◌, ◌||◌, option_and_then}
+use Rattle.std.specs.List.{list_any, list_all}
+use Rattle.std.specs.Option.{option_map_or}
+use Rattle.std.specs.Ordering.{match_ordering}
+use Rattle.std.specs.Cmp.Lexicographic.{slice_cmp}
+use Rattle.std.proofs.lemmas.Slice.Eq.{bytes_eq-Decides}
+use Rattle.std.proofs.lemmas.Map.Text.{is_eq-slice_cmp}
+use Rattle.serde_json.specs.Data.{Data, null, boolean, number, string, array, object, Members, no_members, member, depth}
+use Rattle.serde_json.specs.Find.{get_member, as_object, as_str}
+use Rattle.schemars_schema.specs.Verdict.{verdict}
+use Rattle.schemars_json.specs.Json.{Text, IsJson}
+use Rattle.schemars_schema.specs.SchemaData.{IsSchema}
+use Rattle.schemars_schema.specs.Acceptance.{Patterns, Judge, Context, judge, read_data}
+use Rattle.schemars_rewrite.specs.NullLaw.{context2020_12}
+use Rattle.schemars_rewrite.specs.Variants.{unit_variant}
+use Rattle.schemars_rewrite.proofs.Nulls.{IsReady, ready-schema}
+use Rattle.schemars_shapes.specs.Shape as shape
+use Rattle.schemars_shapes.specs.Shape.{Shape, Field, Variant, needed}
+use Rattle.schemars_types.specs.Meaning.{Contract, Deserialize, Serialize, has_shape, has_internal, has_tagged, tagged_fits, tagged_fields}
+use Rattle.schemars_types.specs.Meaning.{tagged_closed, is_text, holds, every_member, member_fits, has_required, is_required, none, exactly_one}
+use Rattle.schemars_types.specs.Meaning.{field_named}
+use Rattle.schemars_documents.specs.Documents.{annotated, required_names}
+use Rattle.schemars_documents.specs.PlainTable.{IsNoName, AreDistinct, AreNoted, IsNoVariant, AreDistinctVariants, ArePlainVariants, AreTagged}
+use Rattle.schemars_templates.specs.Template.{rows_of, filled, filled_in}
+use Rattle.schemars_templates.specs.OfShape.{templates_of, tagged_template, internal_item, internal_template}
+use Rattle.schemars_meaning.proofs.ByShape.{AreWritten, field_keywords, map_document, struct_document, tagged_document, tagged_fills}
+use Rattle.schemars_meaning.proofs.Ready.{one_of_ready}
+use Rattle.schemars_meaning.proofs.References.{plain_fields}
+use Rattle.schemars_meaning.proofs.Structs.{struct_says}
+use Rattle.schemars_meaning.proofs.Choices.{unit_says}
+use Rattle.schemars_meaning.proofs.Enums.{Fit, Tells, AllTell, one_tells, noted_tells, some_same, and-true}
+
+-- ---- null can be added
+
+pub internal_ready : (contract : Contract) (tag : Text) (closed : Bool) (xs : List Variant) (us : List Data)
+    → IsReady (filled (internal_template contract tag closed xs) us)
+internal_ready contract tag closed [] us = tt
+internal_ready contract tag closed (x ∷ xs) us =
+    one_of_ready (filled_in (templates_of (map (internal_item contract tag closed) (x ∷ xs))) us) _ refl
+
+-- ---- of variants whose names are all different one has the value at most
+
+-- a member of a map passes where each does
+found : (p : Text → Data → Bool) (ms : Members) (k : Text) (w : Data) → every_member p ms ≡ true → get_member k ms ≡ Some w → p k w ≡ true
+found p no_members k w every is = cc
+found p (member l e ms) k w every is =
+    let parts = and-true (p l e) (every_member p ms) every in
+    go (slice_cmp nat_cmp k l) (is_eq-slice_cmp k l) parts.0 is (found p ms k w parts.1)
+  where
+    go : (o : Ordering) → is_eq o ≡ bytes_eq k l → p l e ≡ true
+        → match_ordering o (get_member k ms) (Some e) (get_member k ms) ≡ Some w → (get_member k ms ≡ Some w → p k w ≡ true) → p k w ≡ true
+    go Less same own is later = later is
+    go Equal same own is later =
+        let key : k ≡ l = (bytes_eq-Decides k l).0 (sym same) in
+        ap (λ d. p k d) (sym (some_same is)) ∙ (ap (λ t. p t e) key ∙ own)
+    go Greater same own is later = later is
+
+-- the text under the tag
+told_in : Text → Members → Option Text
+told_in tag ms = option_and_then as_str (get_member tag ms)
+
+told : Text → Data → Option Text
+told tag v = option_and_then (told_in tag) (as_object v)
+
+text_is : (name : Text) (o : Option Text) → holds o (bytes_eq name) ≡ true → o ≡ Some name
+text_is name None h = absurd (true≢false (sym h))
+text_is name (Some s) h = ap Some (sym ((bytes_eq-Decides name s).0 h))
+
+module _ (contract : Contract) (M : ℕ → Data → Bool) (tag : Text) where
+  member_told : (xs : List Field) (closed : Bool) (name : Text) (ms : Members)
+      → is_some (get_member tag ms) && (every_member (tagged_fits M xs closed tag name) ms && has_required contract xs ms) ≡ true
+      → told_in tag ms ≡ Some name
+  unfolding told_in
+  member_told xs closed name ms h =
+      let parts = and-true (is_some (get_member tag ms)) (every_member (tagged_fits M xs closed tag name) ms && has_required contract xs ms) h in
+      let every = and-true (every_member (tagged_fits M xs closed tag name) ms) (has_required contract xs ms) parts.1 in
+      go (get_member tag ms) refl parts.0 every.0
+    where
+      same : (b : Bool) (w : Data) → b ≡ true → (if b then is_text name w else member_fits M xs closed tag w) ≡ true → is_text name w ≡ true
+      same true w e h = h
+      same false w e h = absurd (true≢false (sym e))
+
+      go : (o : Option Data) → get_member tag ms ≡ o → is_some o ≡ true → every_member (tagged_fits M xs closed tag name) ms ≡ true
+          → option_and_then as_str o ≡ Some name
+      go None at there every = absurd (true≢false (sym there))
+      go (Some w) at there every = text_is name (as_str w) (same (bytes_eq tag tag) w ((bytes_eq-Decides tag tag).1 refl)
+          (found (tagged_fits M xs closed tag name) ms tag w every at))
+
+  tagged_told : (xs : List Field) (closed : Bool) (name : Text) (v : Data) → has_tagged contract M tag xs closed name v ≡ true
+      → told tag v ≡ Some name
+  unfolding told
+  tagged_told xs closed name (object ms) h = member_told xs closed name ms h
+  tagged_told xs closed name null h = absurd (true≢false (sym h))
+  tagged_told xs closed name (boolean b) h = absurd (true≢false (sym h))
+  tagged_told xs closed name (number n) h = absurd (true≢false (sym h))
+  tagged_told xs closed name (string s) h = absurd (true≢false (sym h))
+  tagged_told xs closed name (array ds) h = absurd (true≢false (sym h))
+
+-- a test of variants that a value passes under its own name alone
+module _ (P : Variant → Bool) (claimed : Option Text) (claims : (x : Variant) → P x ≡ true → claimed ≡ Some x.name) where
+  other_false : (b : Bool) (k l : Text) → claimed ≡ Some k → bytes_eq l k ≡ false → (b ≡ true → claimed ≡ Some l) → b ≡ false
+  other_false false k l claim apart h = refl
+  other_false true k l claim apart h =
+      absurd (true≢false (sym ((bytes_eq-Decides l k).1 (some_same (sym (h refl) ∙ claim))) ∙ apart))
+
+  none_other : (k : Text) → claimed ≡ Some k → (xs : List Variant) → IsNoVariant k xs → none (map P xs) ≡ true
+  none_other k claim [] h = refl
+  none_other k claim (x ∷ xs) h = rw (other_false (P x) k x.name claim h.0 (claims x), none_other k claim xs h.1) refl
+
+  one_if_any : (xs : List Variant) → AreDistinctVariants xs → exactly_one (map P xs) ≡ list_any P xs
+  one_if_any [] h = refl
+  one_if_any (x ∷ xs) h = go (P x) (claims x) (one_if_any xs h.1)
+    where
+      go : (b : Bool) → (b ≡ true → claimed ≡ Some x.name) → exactly_one (map P xs) ≡ list_any P xs
+          → exactly_one (b ∷ map P xs) ≡ b || list_any P xs
+      go true claim later = none_other x.name (claim refl) xs h.0
+      go false claim later = later
+
+-- ---- the tag as one more field, of a row before the others whose values are the name
+
+shifted : Field → Field
+shifted x = record { name = x.name; ty = suc x.ty; required = x.required; notes = x.notes }
+
+abbrev with_tag : Text → List Field → List Field
+with_tag tag xs = needed tag 0 ∷ map shifted xs
+
+keywords_shifted : (xs : List Field) (ts : List Data) → field_keywords (map shifted xs) ts ≡ field_keywords xs ts
+unfolding shifted
+keywords_shifted [] ts = refl
+keywords_shifted (x ∷ xs) [] = refl
+keywords_shifted (x ∷ xs) (t ∷ ts) = ap (λ es. (x.name, annotated x.notes t) ∷ es) (keywords_shifted xs ts)
+
+names_shifted : (contract : Contract) (xs : List Field) → required_names contract (map shifted xs) ≡ required_names contract xs
+unfolding shifted
+names_shifted contract [] = refl
+names_shifted contract (x ∷ xs) = ap (λ ks. if is_required contract x.required then x.name ∷ ks else ks) (names_shifted contract xs)
+
+names_with_tag : (contract : Contract) (tag : Text) (xs : List Field)
+    → required_names contract (with_tag tag xs) ≡ tag ∷ required_names contract xs
+names_with_tag Deserialize tag xs = ap (λ ks. tag ∷ ks) (names_shifted Deserialize xs)
+names_with_tag Serialize tag xs = ap (λ ks. tag ∷ ks) (names_shifted Serialize xs)
+
+unnamed_shifted : (k : Text) (xs : List Field) → IsNoName k xs → IsNoName k (map shifted xs)
+unfolding shifted
+unnamed_shifted k [] h = tt
+unnamed_shifted k (x ∷ xs) h = (h.0, unnamed_shifted k xs h.1)
+
+distinct_shifted : (xs : List Field) → AreDistinct xs → AreDistinct (map shifted xs)
+unfolding shifted
+distinct_shifted [] h = tt
+distinct_shifted (x ∷ xs) h = (unnamed_shifted x.name xs h.0, distinct_shifted xs h.1)
+
+noted_shifted : (xs : List Field) → AreNoted xs → AreNoted (map shifted xs)
+unfolding shifted
+noted_shifted [] h = tt
+noted_shifted (x ∷ xs) h = (h.0, noted_shifted xs h.1)
+
+required_shifted : (contract : Contract) (xs : List Field) (ms : Members)
+    → has_required contract (map shifted xs) ms ≡ has_required contract xs ms
+unfolding shifted
+required_shifted contract [] ms = refl
+required_shifted contract (x ∷ xs) ms =
+    ap (λ b. (not (is_required contract x.required) || is_some (get_member x.name ms)) && b) (required_shifted contract xs ms)
+
+required_with_tag : (contract : Contract) (tag : Text) (xs : List Field) (ms : Members)
+    → has_required contract (with_tag tag xs) ms ≡ is_some (get_member tag ms) && has_required contract xs ms
+required_with_tag Deserialize tag xs ms = ap (λ b. is_some (get_member tag ms) && b) (required_shifted Deserialize xs ms)
+required_with_tag Serialize tag xs ms = ap (λ b. is_some (get_member tag ms) && b) (required_shifted Serialize xs ms)
+
+module _ (W : ℕ → Data → Type 0) (M : ℕ → Data → Bool) (name : Text) where
+  abbrev WithTag : ℕ → Data → Type 0
+  WithTag zero t = t ≡ unit_variant name
+  WithTag (suc n) t = W n t
+
+  abbrev tests : ℕ → Data → Bool
+  tests zero v = is_text name v
+  tests (suc n) v = M n v
+
+  written_shifted : (xs : List Field) (ts : List Data) → AreWritten W xs ts → AreWritten WithTag (map shifted xs) ts
+  unfolding shifted
+  written_shifted [] ts h = h
+  written_shifted (x ∷ xs) [] h = absurd h
+  written_shifted (x ∷ xs) (t ∷ ts) h = (h.0, written_shifted xs ts h.1)
+
+  field_shifted : (xs : List Field) (free : Bool) (k : Text) (w : Data)
+      → option_map_or (λ x. tests x.ty w) (field_named (map shifted xs) k) free ≡ option_map_or (λ x. M x.ty w) (field_named xs k) free
+  unfolding shifted
+  field_shifted [] free k w = refl
+  field_shifted (x ∷ xs) free k w = go (bytes_eq x.name k) (field_shifted xs free k w)
+    where
+      go : (b : Bool)
+          → option_map_or (λ x. tests x.ty w) (field_named (map shifted xs) k) free ≡ option_map_or (λ x. M x.ty w) (field_named xs k) free
+          → option_map_or (λ x. tests x.ty w) (if b then Some (shifted x) else field_named (map shifted xs) k) free
+          ≡ option_map_or (λ x. M x.ty w) (if b then Some x else field_named xs k) free
+      go true later = refl
+      go false later = later
+
+  fits_with_tag : (tag : Text) (xs : List Field) (closed : Bool) (k : Text) (w : Data)
+      → member_fits tests (with_tag tag xs) closed k w ≡ tagged_fits M xs closed tag name k w
+  fits_with_tag tag xs closed k w = go (bytes_eq tag k)
+    where
+      go : (b : Bool) → option_map_or (λ x. tests x.ty w) (if b then Some (needed tag 0) else field_named (map shifted xs) k) (not closed)
+          ≡ (if b then is_text name w else member_fits M xs closed k w)
+      go true = refl
+      go false = field_shifted xs (not closed) k w
+
+  each_with_tag : (tag : Text) (xs : List Field) (closed : Bool) (ms : Members)
+      → every_member (member_fits tests (with_tag tag xs) closed) ms ≡ every_member (tagged_fits M xs closed tag name) ms
+  each_with_tag tag xs closed no_members = refl
+  each_with_tag tag xs closed (member k w ms) = λ i. fits_with_tag tag xs closed k w i && each_with_tag tag xs closed ms i
+
+  and-turn : (a b d : Bool) → a && (b && d) ≡ b && (a && d)
+  and-turn true true d = refl
+  and-turn true false d = refl
+  and-turn false true d = refl
+  and-turn false false d = refl
+
+  map_with_tag : (contract : Contract) (tag : Text) (xs : List Field) (closed : Bool) (ms : Members)
+      → every_member (member_fits tests (with_tag tag xs) closed) ms && has_required contract (with_tag tag xs) ms
+      ≡ is_some (get_member tag ms) && (every_member (tagged_fits M xs closed tag name) ms && has_required contract xs ms)
+  map_with_tag contract tag xs closed ms =
+      (λ i. each_with_tag tag xs closed ms i && required_with_tag contract tag xs ms i)
+      ∙ and-turn (every_member (tagged_fits M xs closed tag name) ms) (is_some (get_member tag ms)) (has_required contract xs ms)
+
+  value_with_tag : (contract : Contract) (tag : Text) (xs : List Field) (closed : Bool) (v : Data)
+      → holds (as_object v) (λ ms. every_member (member_fits tests (with_tag tag xs) closed) ms && has_required contract (with_tag tag xs) ms)
+      ≡ has_tagged contract M tag xs closed name v
+  value_with_tag contract tag xs closed (object ms) = map_with_tag contract tag xs closed ms
+  value_with_tag contract tag xs closed null = refl
+  value_with_tag contract tag xs closed (boolean b) = refl
+  value_with_tag contract tag xs closed (number n) = refl
+  value_with_tag contract tag xs closed (string s) = refl
+  value_with_tag contract tag xs closed (array ds) = refl
+
+-- ---- what templates say
+
+module _ (patterns : Patterns) (f : Text → Judge) (contract : Contract) (W : ℕ → Data → Type 0) (M : ℕ → Data → Bool)
+    (ready : (j : ℕ) (t : Data) → W j t → IsReady t) where
+  abbrev c : Context
+  c = context2020_12 patterns f
+
+  tag_schemas : (name : Text) (j : ℕ) (t : Data) → WithTag W M name j t → IsSchema t
+  tag_schemas name zero t is = subst IsSchema (sym is) tt
+  tag_schemas name (suc n) t is = ready-schema t (ready n t is)
+
+  module _ (v : Data) (json : IsJson v)
+      (agree : (j : ℕ) (t w : Data) → W j t → IsJson w → depth w < depth v → (judge c t).fits w ≡ verdict (M j w)) where
+    agree_with_tag : (name : Text) (j : ℕ) (t w : Data) → WithTag W M name j t → IsJson w → depth w < depth v
+        → (judge c t).fits w ≡ verdict (tests W M name j w)
+    agree_with_tag name zero t w is js less = ap (λ s. (judge c s).fits w) is ∙ unit_says patterns f contract M name w
+    agree_with_tag name (suc n) t w is js less = agree n t w is js less
+
+    document_says : (tag name : Text) (xs : List Field) (ts : List Data) (closed : Bool) → IsNoName tag xs → AreDistinct xs → AreNoted xs
+        → AreWritten W xs ts
+        → (judge c (tagged_document contract tag name xs ts closed)).fits v ≡ verdict (has_tagged contract M tag xs closed name v)
+    document_says tag name xs ts closed other apart noted written =
+        ap (λ s. (judge c s).fits v) (sym same)
+        ∙ (struct_says patterns f contract (WithTag W M name) (tests W M name) (tag_schemas name) (with_tag tag xs) (unit_variant name ∷ ts)
+        closed (unnamed_shifted tag xs other, distinct_shifted xs apart) (tt, noted_shifted xs noted)
+        (refl, written_shifted W M name xs ts written) v json (agree_with_tag name)
+        ∙ ap verdict (value_with_tag W M name contract tag xs closed v))
+      where
+        same : struct_document contract (with_tag tag xs) (unit_variant name ∷ ts) closed ≡ tagged_document contract tag name xs ts closed
+        same = λ i. map_document ((tag, unit_variant name) ∷ keywords_shifted xs ts i) (names_with_tag contract tag xs i) closed
+
+    tagged_tells : (tag name : Text) (xs : List Field) (closed : Bool) → IsNoName tag xs → AreDistinct xs → AreNoted xs
+        → Tells patterns f contract W M ready (tagged_template contract tag name xs closed) (has_tagged contract M tag xs closed name v) v
+    tagged_tells tag name xs closed other apart noted us fit =
+        let d = tagged_fills W contract tag name xs closed us fit in
+        (subst IsSchema (sym d.2) tt, ap (λ s. (judge c s).fits v) d.2 ∙ document_says tag name xs d.0 closed other apart noted d.1)
+
+    items_tell : (tag : Text) (closed : Bool) (xs : List Variant) → ArePlainVariants xs → AreTagged tag xs
+        → AllTell patterns f contract W M ready (map (internal_item contract tag closed) xs) (map (has_internal contract M tag closed v) xs) v
+    items_tell tag closed [] plain other = tt
+    items_tell tag closed (x ∷ xs) plain other =
+        let xs_of = tagged_fields x.payload in
+        let ends = tagged_closed closed x.payload in
+        let own = plain_fields x.payload plain.1 in (
+          noted_tells patterns f contract W M ready x.notes (tagged_template contract tag x.name xs_of ends)
+              (has_internal contract M tag closed v x) v plain.0 (tagged_tells tag x.name xs_of ends other.0 own.0 own.1),
+          items_tell tag closed xs plain.2 other.1,
+        )
+
+    pub internal_says : (tag : Text) (closed : Bool) (xs : List Variant) → AreDistinctVariants xs → ArePlainVariants xs → AreTagged tag xs
+        → (us : List Data) → Fit W (rows_of (internal_template contract tag closed xs)) us
+        → (judge c (filled (internal_template contract tag closed xs) us)).fits v
+        ≡ verdict (has_shape contract patterns M (shape.internal tag closed xs) v)
+    unfolding read_data
+    internal_says tag closed [] apart plain other us fit = refl
+    internal_says tag closed (x ∷ xs) apart plain other us fit =
+        let P : Variant → Bool = has_internal contract M tag closed v in
+        (one_tells patterns f contract W M ready (map (internal_item contract tag closed) (x ∷ xs)) (map P (x ∷ xs)) v
+        (items_tell tag closed (x ∷ xs) plain other) us fit).1
+        ∙ ap verdict (one_if_any P (told tag v)
+        (λ y h. tagged_told contract M tag (tagged_fields y.payload) (tagged_closed closed y.payload) y.name v h) (x ∷ xs) apart)
