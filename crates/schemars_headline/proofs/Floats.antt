@@ -315,8 +315,13 @@ fields_whole (struct_payload xs closed) n = n
 tagged_whole : (contract : Contract) (tag name : Text) (xs : List Field) (closed : Bool) → FieldsHaveNoFloat xs
     → SaysWhole (tagged_template contract tag name xs closed)
 tagged_whole contract tag name xs closed n =
-    map_whole ((tag, finished (unit_variant name)) ∷ map property xs) (text_items (tag ∷ required_names contract xs)) closed
-    (refl, properties_whole xs n) (texts_whole (tag ∷ required_names contract xs))
+    map_whole (map property xs ++ (tag, finished (unit_variant name)) ∷ []) (text_items (tag ∷ required_names contract xs)) closed
+    (properties xs n) (texts_whole (tag ∷ required_names contract xs))
+  where
+    properties : (xs : List Field) → FieldsHaveNoFloat xs
+        → SayWhole (templates_of (map (λ e. e.1) (map property xs ++ (tag, finished (unit_variant name)) ∷ [])))
+    properties [] h = (refl, tt)
+    properties (x ∷ xs) h = ((h.0, tt), properties xs h.1)
 
 internals_whole : (contract : Contract) (tag : Text) (closed : Bool) (xs : List Variant) → VariantsHaveNoFloat xs
     → SayWhole (templates_of (map (internal_item contract tag closed) xs))

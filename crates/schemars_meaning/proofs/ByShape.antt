@@ -20,7 +20,7 @@ use Rattle.schemars_templates.specs.Template.{row, rows_of, rows_in, filled, fil
 use Rattle.schemars_templates.specs.OfShape.{templates_of, property, map_template, template_of, entry_template}
 use Rattle.schemars_templates.specs.OfShape.{external_template, untagged_template, internal_template, tagged_template}
 use Rattle.schemars_templates.specs.Describes.{ArePartsWritten, Fills}
-use Rattle.schemars_meaning.proofs.Rows.{rows_at, rows_same}
+use Rattle.schemars_meaning.proofs.Rows.{rows_at, rows_same, rows_tagged}
 
 -- ---- lists
 
@@ -79,10 +79,10 @@ field_keywords (x ∷ xs) (t ∷ ts) = (x.name, annotated x.notes t) ∷ field_k
 abbrev pub struct_document : Contract → List Field → List Data → Bool → Data
 struct_document contract fields ts closed = map_document (field_keywords fields ts) (required_names contract fields) closed
 
--- a map with the variant's name under the tag, and with these fields
+-- a map with these fields, and with the variant's name under the tag, in place of any field there
 abbrev pub tagged_document : Contract → Text → Text → List Field → List Data → Bool → Data
 tagged_document contract tag name fields ts closed =
-    map_document ((tag, unit_variant name) ∷ field_keywords fields ts) (tag ∷ required_names contract fields) closed
+    map_document (field_keywords fields ts ++ (tag, unit_variant name) ∷ []) (tag ∷ required_names contract fields) closed
 
 -- ---- choices
 
@@ -214,20 +214,40 @@ module _ (W : ℕ → Data → Type 0) where
       by_keywords (k ∷ ks) false h = more (k ∷ ks) false (fields_fill xs ts (without_end (rows_at xs) ts h.1)) h.0 refl
       by_keywords (k ∷ ks) true h = more (k ∷ ks) true (fields_fill xs ts (without_end (rows_at xs) ts h.1)) h.0 refl
 
+  -- the same, with the tag behind
+  abbrev tagged_at : Text → Text → List Field → List Data → List Keyword
+  tagged_at tag name xs ts =
+      let es = map property xs ++ (tag, finished (unit_variant name)) ∷ [] in
+      keyed (map (λ e. e.0) es) (filled_in (templates_of (map (λ e. e.1) es)) ts)
+
+  tag_fills : (tag name : Text) (xs : List Field) (ts : List Data) → Fit (rows_tagged tag name xs) ts
+      → (us : List Data) × AreWritten W xs us × (tagged_at tag name xs ts ≡ field_keywords xs us ++ (tag, unit_variant name) ∷ [])
+  tag_fills tag name [] ts h = ([], refl, refl)
+  tag_fills tag name (x ∷ xs) [] h = absurd h
+  tag_fills tag name (x ∷ xs) (t ∷ ts) h =
+      let later = tag_fills tag name xs ts h.1 in
+      (t ∷ later.0, (h.0, later.1), ap (λ es. (x.name, annotated x.notes t) ∷ es) later.2)
+
   abbrev TaggedFills : Contract → Text → Text → List Field → Bool → List Data → Type 0
   TaggedFills contract tag name xs closed ts = (us : List Data) × AreWritten W xs us
       × (filled (tagged_template contract tag name xs closed) ts ≡ tagged_document contract tag name xs us closed)
 
   pub tagged_fills : (contract : Contract) (tag name : Text) (xs : List Field) (closed : Bool) (ts : List Data)
       → Fit (rows_of (tagged_template contract tag name xs closed)) ts → TaggedFills contract tag name xs closed ts
-  tagged_fills contract tag name xs closed ts h = go closed h
+  tagged_fills contract tag name [] false ts h = ([], refl, refl)
+  tagged_fills contract tag name [] true ts h = ([], refl, refl)
+  tagged_fills contract tag name (x ∷ xs) closed ts h = go closed h
     where
       document : Bool → List Keyword → Data
-      document ends es = map_document ((tag, unit_variant name) ∷ es) (tag ∷ required_names contract xs) ends
+      document ends es = map_document es (tag ∷ required_names contract (x ∷ xs)) ends
 
-      go : (ends : Bool) → Fit (rows_of (tagged_template contract tag name xs ends)) ts → TaggedFills contract tag name xs ends ts
-      go false h = let all = fields_fill xs ts (without_end (rows_at xs) ts h) in (all.0, all.1, ap (document false) all.2)
-      go true h = let all = fields_fill xs ts (without_end (rows_at xs) ts h) in (all.0, all.1, ap (document true) all.2)
+      rows : List ℕ
+      rows = rows_tagged tag name (x ∷ xs)
+
+      go : (ends : Bool) → Fit (rows_of (tagged_template contract tag name (x ∷ xs) ends)) ts
+          → TaggedFills contract tag name (x ∷ xs) ends ts
+      go false h = let all = tag_fills tag name (x ∷ xs) ts (without_end rows ts h) in (all.0, all.1, ap (document false) all.2)
+      go true h = let all = tag_fills tag name (x ∷ xs) ts (without_end rows ts h) in (all.0, all.1, ap (document true) all.2)
 
   -- ---- rows in order
 

@@ -1,6 +1,6 @@
 -- The references of a filled template are those of its parts.
 use Rattle.std.proofs.Common.{◌≡◌, ℕ, zero, suc, ◌-◌, List, [], ◌∷◌, ◌++◌, length, map, Bool, true, false, Option, Some, None}
-use Rattle.std.proofs.Common.{refl, ap, ◌∙◌, arith, subst, Contains, append_assoc, append-nil, length-append, ℤ, pos}
+use Rattle.std.proofs.Common.{refl, sym, true≢false, ap, ◌∙◌, arith, subst, Contains, append_assoc, append-nil, length-append, ℤ, pos}
 use Rattle.std.specs.Prelude.{codes, bytes_eq, if◌then◌else◌}
 use Rattle.std.proofs.lemmas.List.{nil_from_length}
 use Rattle.std.proofs.lemmas.List.Elements.{Contains-append_left}
@@ -368,7 +368,31 @@ payloads_as_items contract titles (x ∷ xs) h = (
   payloads_as_items contract titles xs h.2,
 )
 
-untagged_as_schema : (contract : Contract) (titles : Bool) (xs : List Variant) → ArePlainVariants xs → AsSchema (untagged_template contract titles xs)
+unturned : (k l : Text) → bytes_eq k l ≡ false → bytes_eq l k ≡ false
+turned k l other = go (bytes_eq l k) refl
+  where
+    go : (b : Bool) → bytes_eq l k ≡ b → b ≡ false
+    go true same = absurd (true≢false (sym ((bytes_eq-Decides k l).1 (sym ((bytes_eq-Decides l k).0 same))) ∙ other))
+    go false same = refl
+
+tagged_named : (tag name : Text) (xs : List Field) → AreNoted xs
+    → (let es = map property xs ++ (tag, finished (unit_variant name)) ∷ [] in
+    AreNamed (templates_of (map (λ e. e.1) es)) (map (λ e. e.0) es))
+tagged_named tag name [] h = (refl, tt)
+tagged_named tag name (x ∷ xs) h = ((h.0, tt), tagged_named tag name xs h.1)
+
+no_tag-key : (k tag name : Text) (xs : List Field) → bytes_eq tag k ≡ false → IsNoName k xs
+    → IsNoKey k (map (λ e. e.0) (map property xs ++ (tag, finished (unit_variant name)) ∷ []))
+no_tag-key k tag name [] other h = (other, tt)
+no_tag-key k tag name (x ∷ xs) other h = (h.0, no_tag-key k tag name xs other h.1)
+
+tagged_apart : (tag name : Text) (xs : List Field) → IsNoName tag xs → AreDistinct xs
+    → AreApart (map (λ e. e.0) (map property xs ++ (tag, finished (unit_variant name)) ∷ []))
+tagged_apart tag name [] other h = (tt, tt)
+tagged_apart tag name (x ∷ xs) other h =
+    (no_tag-key x.name tag name xs (turned x.name tag other.0) h.0, tagged_apart tag name xs other.1 h.1)
+
+tagged_as_schema : (contract : Contract) (titles : Bool) (xs : List Variant) → ArePlainVariants xs → AsSchema (untagged_template contract titles xs)
 unfolding found_in
 untagged_as_schema contract titles [] h = refl
 untagged_as_schema contract titles (x ∷ xs) h = search (payloads_as_items contract titles (x ∷ xs) h)
@@ -380,15 +404,36 @@ plain_fields (newtype_payload n) h = (tt, tt)
 plain_fields (tuple_payload ns) h = (tt, tt)
 plain_fields (struct_payload xs closed) h = h
 
+turned : (k l : Text) → bytes_eq k l ≡ false → bytes_eq l k ≡ false
+turned k l other = go (bytes_eq l k) refl
+  where
+    go : (b : Bool) → bytes_eq l k ≡ b → b ≡ false
+    go true same = absurd (true≢false (sym ((bytes_eq-Decides k l).1 (sym ((bytes_eq-Decides l k).0 same))) ∙ other))
+    go false same = refl
+
+tagged_named : (tag name : Text) (xs : List Field) → AreNoted xs
+    → (let es = map property xs ++ (tag, finished (unit_variant name)) ∷ [] in
+    AreNamed (templates_of (map (λ e. e.1) es)) (map (λ e. e.0) es))
+tagged_named tag name [] h = (refl, tt)
+tagged_named tag name (x ∷ xs) h = ((h.0, tt), tagged_named tag name xs h.1)
+
+no_tag-key : (k tag name : Text) (xs : List Field) → bytes_eq tag k ≡ false → IsNoName k xs
+    → IsNoKey k (map (λ e. e.0) (map property xs ++ (tag, finished (unit_variant name)) ∷ []))
+no_tag-key k tag name [] other h = (other, tt)
+no_tag-key k tag name (x ∷ xs) other h = (h.0, no_tag-key k tag name xs other h.1)
+
+tagged_apart : (tag name : Text) (xs : List Field) → IsNoName tag xs → AreDistinct xs
+    → AreApart (map (λ e. e.0) (map property xs ++ (tag, finished (unit_variant name)) ∷ []))
+tagged_apart tag name [] other h = (tt, tt)
+tagged_apart tag name (x ∷ xs) other h =
+    (no_tag-key x.name tag name xs (turned x.name tag other.0) h.0, tagged_apart tag name xs other.1 h.1)
+
 tagged_as_schema : (contract : Contract) (tag name : Text) (xs : List Field) (closed : Bool) → IsNoName tag xs → AreDistinct xs
     → AreNoted xs → AsSchema (tagged_template contract tag name xs closed)
 unfolding found_in
 tagged_as_schema contract tag name xs closed other apart notes =
-    map_as_schema ((tag, finished (unit_variant name)) ∷ map property xs) (text_items (tag ∷ required_names contract xs)) closed
-    ((silent, properties_named xs notes), (no_name-key tag xs other, names_apart xs apart))
-  where
-    silent : references (unit_variant name) ≡ []
-    silent = refl
+    map_as_schema (map property xs ++ (tag, finished (unit_variant name)) ∷ []) (text_items (tag ∷ required_names contract xs)) closed
+    (tagged_named tag name xs notes, tagged_apart tag name xs other apart)
 
 internals_as_items : (contract : Contract) (tag : Text) (closed : Bool) (xs : List Variant) → ArePlainVariants xs → AreTagged tag xs
     → AreItems (templates_of (map (internal_item contract tag closed) xs))

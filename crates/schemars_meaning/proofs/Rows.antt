@@ -5,13 +5,14 @@ use Rattle.std.specs.Prelude.{if◌then◌else◌}
 use Rattle.std.proofs.lemmas.List.Elements.{All-append}
 use Rattle.schemars_json.specs.Json.{Text}
 use Rattle.schemars_rewrite.specs.NullLaw.{text_items}
+use Rattle.schemars_rewrite.specs.Variants.{unit_variant}
 use Rattle.schemars_shapes.specs.Shape as shape
 use Rattle.schemars_shapes.specs.Shape.{Shape, Field, Payload, Variant, no_payload, newtype_payload, tuple_payload, struct_payload}
 use Rattle.schemars_shapes.specs.Shape.{numbers_of, payload_numbers, variant_numbers}
 use Rattle.schemars_types.specs.Meaning.{Contract, tagged_fields, tagged_closed}
 use Rattle.schemars_documents.specs.Documents.{required_names}
 use Rattle.schemars_templates.specs.Basis.{Basis}
-use Rattle.schemars_templates.specs.Template.{Template, row, noted, rows_of, rows_in}
+use Rattle.schemars_templates.specs.Template.{Template, finished, row, noted, rows_of, rows_in}
 use Rattle.schemars_templates.specs.OfShape.{templates_of, property, map_template, tuple_template, struct_template, template_of}
 use Rattle.schemars_templates.specs.OfShape.{payload_template, named_template, is_bare_unit, bare_units, other_items, choice_of}
 use Rattle.schemars_templates.specs.OfShape.{payload_item, titled, untagged_template, tagged_template, internal_item, internal_template}
@@ -26,6 +27,14 @@ rows_at xs = rows_in (templates_of (map (λ e. e.1) (map property xs)))
 fields_rows : (xs : List Field) → rows_at xs ≡ map (λ x. x.ty) xs
 fields_rows [] = refl
 fields_rows (x ∷ xs) = ap (λ ms. x.ty ∷ ms) (fields_rows xs)
+
+-- those of the fields of a map with a tag
+abbrev pub rows_tagged : Text → Text → List Field → List ℕ
+rows_tagged tag name xs = rows_in (templates_of (map (λ e. e.1) (map property xs ++ (tag, finished (unit_variant name)) ∷ [])))
+
+pub tag_has_no_row : (tag name : Text) (xs : List Field) → rows_tagged tag name xs ≡ rows_at xs
+tag_has_no_row tag name [] = refl
+tag_has_no_row tag name (x ∷ xs) = ap (λ ms. x.ty ∷ ms) (tag_has_no_row tag name xs)
 
 map_rows : (xs : List Field) (ks : List Text) (closed : Bool)
     → rows_of (map_template (map property xs) (text_items ks) closed) ≡ map (λ x. x.ty) xs
@@ -137,14 +146,16 @@ module _ (P : ℕ → Type 0) where
 
   tagged_rows : (contract : Contract) (tag name : Text) (xs : List Field) (closed : Bool) → All P (map (λ x. x.ty) xs)
       → All P (rows_of (tagged_template contract tag name xs closed))
-  tagged_rows contract tag name xs closed h = go closed
+  tagged_rows contract tag name [] false h = nothing
+  tagged_rows contract tag name [] true h = nothing
+  tagged_rows contract tag name (x ∷ xs) closed h = go closed
     where
-      inside : All P (rows_at xs)
-      inside = let Q : List ℕ → Type 0 = λ ms. All P ms in subst Q (sym (fields_rows xs)) h
+      inside : All P (rows_tagged tag name (x ∷ xs))
+      inside = let Q : List ℕ → Type 0 = λ ms. All P ms in subst Q (sym (tag_has_no_row tag name (x ∷ xs) ∙ fields_rows (x ∷ xs))) h
 
-      go : (closed : Bool) → All P (rows_of (tagged_template contract tag name xs closed))
-      go false = ended (rows_at xs) inside
-      go true = ended (rows_at xs) inside
+      go : (closed : Bool) → All P (rows_of (tagged_template contract tag name (x ∷ xs) closed))
+      go false = ended (rows_tagged tag name (x ∷ xs)) inside
+      go true = ended (rows_tagged tag name (x ∷ xs)) inside
 
   internals_rows : (contract : Contract) (tag : Text) (closed : Bool) (xs : List Variant) → All P (variant_numbers xs)
       → All P (rows_in (templates_of (map (internal_item contract tag closed) xs)))

@@ -18,8 +18,8 @@ use Rattle.schemars_rewrite.specs.NullLaw.{context2020_12}
 use Rattle.schemars_shapes.specs.Shape.{Field}
 use Rattle.schemars_types.specs.Meaning.{Contract, is_required, field_named, member_fits, every_member, has_required, holds}
 use Rattle.schemars_documents.specs.PlainTable.{IsNoName, AreDistinct, AreNoted}
-use Rattle.schemars_documents.specs.Documents.{annotated, required_names}
-use Rattle.schemars_meaning.proofs.ByShape.{field_keywords, struct_document, AreWritten}
+use Rattle.schemars_documents.specs.Documents.{Keyword, annotated, required_names}
+use Rattle.schemars_meaning.proofs.ByShape.{field_keywords, struct_document, map_document, AreWritten}
 use Rattle.schemars_meaning.proofs.Notes.{judge-annotated, annotated-schema}
 use Rattle.schemars_meaning.proofs.Maps.{AreEntries, schema_named-judges_in, judges_of, named_says, other_says}
 use Rattle.schemars_meaning.proofs.Maps.{judge-map_object, judge-map_other}
@@ -50,7 +50,7 @@ both-middle a b x y =
 -- ---- a field's schema is found at its name
 
 module _ (W : ℕ → Data → Type 0) where
-  abbrev Finds : Option Field → Option Data → Option Data → Type 0
+  abbrev pub Finds : Option Field → Option Data → Option Data → Type 0
   Finds None g before = g ≡ before
   Finds (Some x) g before = (t : Data) × W x.ty t × AreNotes x.notes × (g ≡ Some (annotated x.notes t))
 
@@ -64,7 +64,7 @@ module _ (W : ℕ → Data → Type 0) where
   unnamed k (x ∷ xs) (t ∷ ts) ms h = unnamed k xs ts (put x.name (annotated x.notes t) ms) h.1
       ∙ get_member-put_other k x.name (annotated x.notes t) ms (apart k x.name h.0)
 
-  field_found : (k : Text) (xs : List Field) (ts : List Data) (ms : Members) → AreDistinct xs → AreNoted xs → AreWritten W xs ts
+  pub field_found : (k : Text) (xs : List Field) (ts : List Data) (ms : Members) → AreDistinct xs → AreNoted xs → AreWritten W xs ts
       → Finds (field_named xs k) (get_member k (put_all (field_keywords xs ts) ms)) (get_member k ms)
   field_found k [] ts ms d n w = refl
   field_found k (x ∷ xs) [] ms d n w = absurd w
@@ -131,12 +131,12 @@ module _ (patterns : Patterns) (f : Text → Judge) (contract : Contract) (W : �
               (λ l u is less. tested l u is (omega arith)),
         ) (both-verdict _ _))
 
-  entries : (xs : List Field) (ts : List Data) → AreWritten W xs ts → AreEntries (field_keywords xs ts)
+  pub entries : (xs : List Field) (ts : List Data) → AreWritten W xs ts → AreEntries (field_keywords xs ts)
   entries [] ts h = tt
   entries (x ∷ xs) [] h = tt
   entries (x ∷ xs) (t ∷ ts) h = (annotated-schema x.notes t (schemas x.ty t h.0), entries xs ts h.1)
 
-  required_same : (xs : List Field) (ms : Members) → have_all (required_names contract xs) ms ≡ has_required contract xs ms
+  pub required_same : (xs : List Field) (ms : Members) → have_all (required_names contract xs) ms ≡ has_required contract xs ms
   required_same [] ms = refl
   required_same (x ∷ xs) ms = go (is_required contract x.required) (required_same xs ms)
     where
@@ -163,22 +163,31 @@ module _ (patterns : Patterns) (f : Text → Judge) (contract : Contract) (W : �
   and-swap false true = refl
   and-swap false false = refl
 
+  -- a map whose properties are found by the fields' names, and whose required names are those of required fields
+  pub map_says : (xs : List Field) (es : List Keyword) (ns : List Text) (closed : Bool) → AreEntries es
+      → ((k : Text) → Finds W (field_named xs k) (get_member k (put_all es no_members)) None)
+      → ((ms : Members) → have_all ns ms ≡ has_required contract xs ms) → (v : Data) → IsJson v
+      → ((j : ℕ) (t w : Data) → W j t → IsJson w → depth w < depth v → (judge c t).fits w ≡ verdict (M j w))
+      → (judge c (map_document es ns closed)).fits v ≡ verdict
+      (holds (as_object v) (λ ms. every_member (member_fits M xs closed) ms && has_required contract xs ms))
+  map_says xs es ns closed are finds required (object ms) json agree =
+      judge-map_object patterns f es ns closed are ms
+      ∙ (rw (
+        required ms,
+        members xs (judges_of patterns f es) closed ms json
+            (λ k w is less. rw (schema_named-judges_in) (tested_at (object ms) agree _ _ w is (omega arith) (finds k))),
+      )
+      (both-verdict _ _ ∙ ap verdict (and-swap (has_required contract xs ms) (every_member (member_fits M xs closed) ms))))
+  map_says xs es ns closed are finds required null json agree = judge-map_other patterns f _ _ closed null tt
+  map_says xs es ns closed are finds required (boolean b) json agree = judge-map_other patterns f _ _ closed (boolean b) tt
+  map_says xs es ns closed are finds required (number k) json agree = judge-map_other patterns f _ _ closed (number k) tt
+  map_says xs es ns closed are finds required (string t) json agree = judge-map_other patterns f _ _ closed (string t) tt
+  map_says xs es ns closed are finds required (array vs) json agree = judge-map_other patterns f _ _ closed (array vs) tt
+
   pub struct_says : (xs : List Field) (ts : List Data) (closed : Bool) → AreDistinct xs → AreNoted xs → AreWritten W xs ts → (v : Data)
       → IsJson v
       → ((j : ℕ) (t w : Data) → W j t → IsJson w → depth w < depth v → (judge c t).fits w ≡ verdict (M j w))
       → (judge c (struct_document contract xs ts closed)).fits v ≡ verdict
       (holds (as_object v) (λ ms. every_member (member_fits M xs closed) ms && has_required contract xs ms))
-  struct_says xs ts closed d n h (object ms) json agree =
-      judge-map_object patterns f (field_keywords xs ts) (required_names contract xs) closed (entries xs ts h) ms
-      ∙ (rw (
-        required_same xs ms,
-        members xs (judges_of patterns f (field_keywords xs ts)) closed ms json
-            (λ k w is less. rw (schema_named-judges_in) (tested_at (object ms) agree _ _ w is (omega arith)
-            (field_found W k xs ts no_members d n h))),
-      )
-      (both-verdict _ _ ∙ ap verdict (and-swap (has_required contract xs ms) (every_member (member_fits M xs closed) ms))))
-  struct_says xs ts closed d n h null json agree = judge-map_other patterns f _ _ closed null tt
-  struct_says xs ts closed d n h (boolean b) json agree = judge-map_other patterns f _ _ closed (boolean b) tt
-  struct_says xs ts closed d n h (number k) json agree = judge-map_other patterns f _ _ closed (number k) tt
-  struct_says xs ts closed d n h (string t) json agree = judge-map_other patterns f _ _ closed (string t) tt
-  struct_says xs ts closed d n h (array vs) json agree = judge-map_other patterns f _ _ closed (array vs) tt
+  struct_says xs ts closed d n h v json agree = map_says xs (field_keywords xs ts) (required_names contract xs) closed (entries xs ts h)
+      (λ k. field_found W k xs ts no_members d n h) (required_same xs) v json agree

@@ -1,6 +1,6 @@
 -- What the document of an internally tagged enum says under 2020-12.
 use Rattle.std.proofs.Common.{◌≡◌, ℕ, zero, suc, ◌<◌, List, [], ◌∷◌, map, Option, Some, None, Bool, true, false, refl, sym, ap, ◌∙◌}
-use Rattle.std.proofs.Common.{subst, true≢false, Ordering, Less, Equal, Greater, nat_cmp, is_eq}
+use Rattle.std.proofs.Common.{◌++◌, subst, true≢false, Ordering, Less, Equal, Greater, nat_cmp, is_eq}
 use Rattle.std.specs.Prelude.{bytes_eq, if◌then◌else◌, not, is_some, ◌&&◌, ◌||◌, option_and_then}
 use Rattle.std.specs.List.{list_any, list_all}
 use Rattle.std.specs.Option.{option_map_or}
@@ -8,12 +8,13 @@ use Rattle.std.specs.Ordering.{match_ordering}
 use Rattle.std.specs.Cmp.Lexicographic.{slice_cmp}
 use Rattle.std.proofs.lemmas.Slice.Eq.{bytes_eq-Decides}
 use Rattle.std.proofs.lemmas.Map.Text.{is_eq-slice_cmp}
-use Rattle.serde_json.specs.Data.{Data, null, boolean, number, string, array, object, Members, no_members, member, depth}
+use Rattle.serde_json.specs.Data.{Data, null, boolean, number, string, array, object, Members, no_members, member, put, depth}
 use Rattle.serde_json.specs.Find.{get_member, as_object, as_str}
+use Rattle.serde_json.proofs.Views.{get_member-put, get_member-put_other}
 use Rattle.schemars_schema.specs.Verdict.{verdict}
 use Rattle.schemars_json.specs.Json.{Text, IsJson}
-use Rattle.schemars_schema.specs.SchemaData.{IsSchema}
-use Rattle.schemars_schema.specs.Acceptance.{Patterns, Judge, Context, judge, read_data}
+use Rattle.schemars_schema.specs.SchemaData.{IsSchema, put_all}
+use Rattle.schemars_schema.specs.Acceptance.{Patterns, Judge, Context, judge, read_data, have_all}
 use Rattle.schemars_rewrite.specs.NullLaw.{context2020_12}
 use Rattle.schemars_rewrite.specs.Variants.{unit_variant}
 use Rattle.schemars_rewrite.proofs.Nulls.{IsReady, ready-schema}
@@ -22,14 +23,15 @@ use Rattle.schemars_shapes.specs.Shape.{Shape, Field, Variant, needed}
 use Rattle.schemars_types.specs.Meaning.{Contract, Deserialize, Serialize, has_shape, has_internal, has_tagged, tagged_fits, tagged_fields}
 use Rattle.schemars_types.specs.Meaning.{tagged_closed, is_text, holds, every_member, member_fits, has_required, is_required, none, exactly_one}
 use Rattle.schemars_types.specs.Meaning.{field_named}
-use Rattle.schemars_documents.specs.Documents.{annotated, required_names}
-use Rattle.schemars_documents.specs.PlainTable.{IsNoName, AreDistinct, AreNoted, IsNoVariant, AreDistinctVariants, ArePlainVariants, AreTagged}
+use Rattle.schemars_documents.specs.Documents.{Keyword, annotated, required_names}
+use Rattle.schemars_documents.specs.PlainTable.{IsNoName, AreDistinct, AreNoted, IsNoVariant, AreDistinctVariants, ArePlainVariants}
 use Rattle.schemars_templates.specs.Template.{rows_of, filled, filled_in}
 use Rattle.schemars_templates.specs.OfShape.{templates_of, tagged_template, internal_item, internal_template}
-use Rattle.schemars_meaning.proofs.ByShape.{AreWritten, field_keywords, map_document, struct_document, tagged_document, tagged_fills}
+use Rattle.schemars_meaning.proofs.ByShape.{AreWritten, field_keywords, tagged_document, tagged_fills}
 use Rattle.schemars_meaning.proofs.Ready.{one_of_ready}
 use Rattle.schemars_meaning.proofs.References.{plain_fields}
-use Rattle.schemars_meaning.proofs.Structs.{struct_says}
+use Rattle.schemars_meaning.proofs.Structs.{Finds, field_found, entries, required_same, map_says}
+use Rattle.schemars_meaning.proofs.Maps.{AreEntries}
 use Rattle.schemars_meaning.proofs.Choices.{unit_says}
 use Rattle.schemars_meaning.proofs.Enums.{Fit, Tells, AllTell, one_tells, noted_tells, some_same, and-true}
 
@@ -133,16 +135,6 @@ keywords_shifted [] ts = refl
 keywords_shifted (x ∷ xs) [] = refl
 keywords_shifted (x ∷ xs) (t ∷ ts) = ap (λ es. (x.name, annotated x.notes t) ∷ es) (keywords_shifted xs ts)
 
-names_shifted : (contract : Contract) (xs : List Field) → required_names contract (map shifted xs) ≡ required_names contract xs
-unfolding shifted
-names_shifted contract [] = refl
-names_shifted contract (x ∷ xs) = ap (λ ks. if is_required contract x.required then x.name ∷ ks else ks) (names_shifted contract xs)
-
-names_with_tag : (contract : Contract) (tag : Text) (xs : List Field)
-    → required_names contract (with_tag tag xs) ≡ tag ∷ required_names contract xs
-names_with_tag Deserialize tag xs = ap (λ ks. tag ∷ ks) (names_shifted Deserialize xs)
-names_with_tag Serialize tag xs = ap (λ ks. tag ∷ ks) (names_shifted Serialize xs)
-
 unnamed_shifted : (k : Text) (xs : List Field) → IsNoName k xs → IsNoName k (map shifted xs)
 unfolding shifted
 unnamed_shifted k [] h = tt
@@ -170,6 +162,14 @@ required_with_tag : (contract : Contract) (tag : Text) (xs : List Field) (ms : M
 required_with_tag Deserialize tag xs ms = ap (λ b. is_some (get_member tag ms) && b) (required_shifted Deserialize xs ms)
 required_with_tag Serialize tag xs ms = ap (λ b. is_some (get_member tag ms) && b) (required_shifted Serialize xs ms)
 
+put_all-last : (k : Text) (d : Data) (es : List Keyword) (ms : Members) → put_all (es ++ (k, d) ∷ []) ms ≡ put k d (put_all es ms)
+put_all-last k d [] ms = refl
+put_all-last k d (e ∷ es) ms = put_all-last k d es (put e.0 e.1 ms)
+
+entries_with_tag : (tag : Text) (d : Data) (es : List Keyword) → IsSchema d → AreEntries es → AreEntries (es ++ (tag, d) ∷ [])
+entries_with_tag tag d [] is are = (is, tt)
+entries_with_tag tag d (e ∷ es) is are = (are.0, entries_with_tag tag d es is are.1)
+
 module _ (W : ℕ → Data → Type 0) (M : ℕ → Data → Bool) (name : Text) where
   abbrev WithTag : ℕ → Data → Type 0
   WithTag zero t = t ≡ unit_variant name
@@ -184,6 +184,39 @@ module _ (W : ℕ → Data → Type 0) (M : ℕ → Data → Bool) (name : Text)
   written_shifted [] ts h = h
   written_shifted (x ∷ xs) [] h = absurd h
   written_shifted (x ∷ xs) (t ∷ ts) h = (h.0, written_shifted xs ts h.1)
+
+  -- the name stands at the tag, and a field's schema at its own name elsewhere
+  found_with_tag : (tag : Text) (xs : List Field) (ts : List Data) → AreDistinct xs → AreNoted xs → AreWritten W xs ts → (k : Text)
+      → Finds WithTag (field_named (with_tag tag xs) k)
+      (get_member k (put_all (field_keywords xs ts ++ (tag, unit_variant name) ∷ []) no_members)) None
+  found_with_tag tag xs ts apart noted written k =
+      let P : Members → Type 0 = λ ms. Finds WithTag (field_named (with_tag tag xs) k) (get_member k ms) None in
+      subst P (sym (put_all-last tag (unit_variant name) (field_keywords xs ts) no_members)) (go (bytes_eq tag k) refl)
+    where
+      others : Members
+      others = put_all (field_keywords xs ts) no_members
+
+      own : Finds WithTag (field_named (map shifted xs) k) (get_member k others) None
+      own =
+          let Q : List Keyword → Type 0 = λ es. Finds WithTag (field_named (map shifted xs) k) (get_member k (put_all es no_members)) None in
+          subst Q (keywords_shifted xs ts) (field_found WithTag k (map shifted xs) ts no_members (distinct_shifted xs apart)
+          (noted_shifted xs noted) (written_shifted xs ts written))
+
+      elsewhere : bytes_eq tag k ≡ false → k ≡ tag → ⊥
+      elsewhere other same = true≢false (sym ((bytes_eq-Decides tag k).1 (sym same)) ∙ other)
+
+      go : (b : Bool) → bytes_eq tag k ≡ b
+          → Finds WithTag (if b then Some (needed tag 0) else field_named (map shifted xs) k)
+          (get_member k (put tag (unit_variant name) others)) None
+      go true here = (
+        unit_variant name,
+        refl,
+        tt,
+        rw (← (bytes_eq-Decides tag k).0 here) (get_member-put tag (unit_variant name) others),
+      )
+      go false other =
+          let R : Option Data → Type 0 = λ o. Finds WithTag (field_named (map shifted xs) k) o None in
+          subst R (sym (get_member-put_other k tag (unit_variant name) others (elsewhere other))) own
 
   field_shifted : (xs : List Field) (free : Bool) (k : Text) (w : Data)
       → option_map_or (λ x. tests x.ty w) (field_named (map shifted xs) k) free ≡ option_map_or (λ x. M x.ty w) (field_named xs k) free
@@ -242,6 +275,9 @@ module _ (patterns : Patterns) (f : Text → Judge) (contract : Contract) (W : �
   abbrev c : Context
   c = context2020_12 patterns f
 
+  abbrev schemas : (j : ℕ) (t : Data) → W j t → IsSchema t
+  schemas j t w = ready-schema t (ready j t w)
+
   tag_schemas : (name : Text) (j : ℕ) (t : Data) → WithTag W M name j t → IsSchema t
   tag_schemas name zero t is = subst IsSchema (sym is) tt
   tag_schemas name (suc n) t is = ready-schema t (ready n t is)
@@ -253,46 +289,52 @@ module _ (patterns : Patterns) (f : Text → Judge) (contract : Contract) (W : �
     agree_with_tag name zero t w is js less = ap (λ s. (judge c s).fits w) is ∙ unit_says patterns f contract M name w
     agree_with_tag name (suc n) t w is js less = agree n t w is js less
 
-    document_says : (tag name : Text) (xs : List Field) (ts : List Data) (closed : Bool) → IsNoName tag xs → AreDistinct xs → AreNoted xs
+    -- the names that have to be there are those of the fields, led by the tag
+    names_with_tag : (tag : Text) (xs : List Field) (ms : Members)
+        → have_all (tag ∷ required_names contract xs) ms ≡ has_required contract (with_tag tag xs) ms
+    names_with_tag tag xs ms =
+        ap (λ b. is_some (get_member tag ms) && b) (required_same patterns f contract W M schemas xs ms)
+        ∙ sym (required_with_tag contract tag xs ms)
+
+    document_says : (tag name : Text) (xs : List Field) (ts : List Data) (closed : Bool) → AreDistinct xs → AreNoted xs
         → AreWritten W xs ts
         → (judge c (tagged_document contract tag name xs ts closed)).fits v ≡ verdict (has_tagged contract M tag xs closed name v)
-    document_says tag name xs ts closed other apart noted written =
-        ap (λ s. (judge c s).fits v) (sym same)
-        ∙ (struct_says patterns f contract (WithTag W M name) (tests W M name) (tag_schemas name) (with_tag tag xs) (unit_variant name ∷ ts)
-        closed (unnamed_shifted tag xs other, distinct_shifted xs apart) (tt, noted_shifted xs noted)
-        (refl, written_shifted W M name xs ts written) v json (agree_with_tag name)
-        ∙ ap verdict (value_with_tag W M name contract tag xs closed v))
-      where
-        same : struct_document contract (with_tag tag xs) (unit_variant name ∷ ts) closed ≡ tagged_document contract tag name xs ts closed
-        same = λ i. map_document ((tag, unit_variant name) ∷ keywords_shifted xs ts i) (names_with_tag contract tag xs i) closed
+    document_says tag name xs ts closed apart noted written =
+        map_says patterns f contract (WithTag W M name) (tests W M name) (tag_schemas name) (with_tag tag xs)
+        (field_keywords xs ts ++ (tag, unit_variant name) ∷ []) (tag ∷ required_names contract xs) closed
+        (entries_with_tag tag (unit_variant name) (field_keywords xs ts) tt
+        (entries patterns f contract W M schemas xs ts written))
+        (found_with_tag W M name tag xs ts apart noted written)
+        (names_with_tag tag xs) v json (agree_with_tag name)
+        ∙ ap verdict (value_with_tag W M name contract tag xs closed v)
 
-    tagged_tells : (tag name : Text) (xs : List Field) (closed : Bool) → IsNoName tag xs → AreDistinct xs → AreNoted xs
+    tagged_tells : (tag name : Text) (xs : List Field) (closed : Bool) → AreDistinct xs → AreNoted xs
         → Tells patterns f contract W M ready (tagged_template contract tag name xs closed) (has_tagged contract M tag xs closed name v) v
-    tagged_tells tag name xs closed other apart noted us fit =
+    tagged_tells tag name xs closed apart noted us fit =
         let d = tagged_fills W contract tag name xs closed us fit in
-        (subst IsSchema (sym d.2) tt, ap (λ s. (judge c s).fits v) d.2 ∙ document_says tag name xs d.0 closed other apart noted d.1)
+        (subst IsSchema (sym d.2) tt, ap (λ s. (judge c s).fits v) d.2 ∙ document_says tag name xs d.0 closed apart noted d.1)
 
-    items_tell : (tag : Text) (closed : Bool) (xs : List Variant) → ArePlainVariants xs → AreTagged tag xs
+    items_tell : (tag : Text) (closed : Bool) (xs : List Variant) → ArePlainVariants xs
         → AllTell patterns f contract W M ready (map (internal_item contract tag closed) xs) (map (has_internal contract M tag closed v) xs) v
-    items_tell tag closed [] plain other = tt
-    items_tell tag closed (x ∷ xs) plain other =
+    items_tell tag closed [] plain = tt
+    items_tell tag closed (x ∷ xs) plain =
         let xs_of = tagged_fields x.payload in
         let ends = tagged_closed closed x.payload in
         let own = plain_fields x.payload plain.1 in (
           noted_tells patterns f contract W M ready x.notes (tagged_template contract tag x.name xs_of ends)
-              (has_internal contract M tag closed v x) v plain.0 (tagged_tells tag x.name xs_of ends other.0 own.0 own.1),
-          items_tell tag closed xs plain.2 other.1,
+              (has_internal contract M tag closed v x) v plain.0 (tagged_tells tag x.name xs_of ends own.0 own.1),
+          items_tell tag closed xs plain.2,
         )
 
-    pub internal_says : (tag : Text) (closed : Bool) (xs : List Variant) → AreDistinctVariants xs → ArePlainVariants xs → AreTagged tag xs
+    pub internal_says : (tag : Text) (closed : Bool) (xs : List Variant) → AreDistinctVariants xs → ArePlainVariants xs
         → (us : List Data) → Fit W (rows_of (internal_template contract tag closed xs)) us
         → (judge c (filled (internal_template contract tag closed xs) us)).fits v
         ≡ verdict (has_shape contract patterns M (shape.internal tag closed xs) v)
     unfolding read_data
-    internal_says tag closed [] apart plain other us fit = refl
-    internal_says tag closed (x ∷ xs) apart plain other us fit =
+    internal_says tag closed [] apart plain us fit = refl
+    internal_says tag closed (x ∷ xs) apart plain us fit =
         let P : Variant → Bool = has_internal contract M tag closed v in
         (one_tells patterns f contract W M ready (map (internal_item contract tag closed) (x ∷ xs)) (map P (x ∷ xs)) v
-        (items_tell tag closed (x ∷ xs) plain other) us fit).1
+        (items_tell tag closed (x ∷ xs) plain) us fit).1
         ∙ ap verdict (one_if_any P (told tag v)
         (λ y h. tagged_told contract M tag (tagged_fields y.payload) (tagged_closed closed y.payload) y.name v h) (x ∷ xs) apart)

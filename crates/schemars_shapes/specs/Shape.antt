@@ -207,14 +207,10 @@ payload_names _ = []
 abbrev pub variant_names : List Variant → List (List Text)
 variant_names xs = map (λ x. x.name) xs ∷ map (λ x. payload_names x.payload) xs
 
--- the names of the variants, and of the members of each one's map, which the tag leads
-abbrev pub tagged_names : Text → List Variant → List (List Text)
-tagged_names tag xs = map (λ x. x.name) xs ∷ map (λ x. tag ∷ payload_names x.payload) xs
-
 -- the lists of names in a shape: those of its fields, or of its variants and then of the fields of each
 abbrev pub names_of : Shape → List (List Text)
 names_of (struct list closed) = map (λ f. f.name) list ∷ []
 names_of (external xs) = variant_names xs
 names_of (untagged xs) = variant_names xs
-names_of (internal tag closed xs) = tagged_names tag xs
+names_of (internal tag closed xs) = variant_names xs
 names_of _ = []

@@ -209,7 +209,7 @@ impl Shape {
     }
 
     /// The first name that is met a second time: in the list of fields, or in that of variants, or
-    /// else in the list of fields of a variant, which the tag leads where it stands in one map with them.
+    /// else in the list of fields of a variant.
     pub fn repeated_name(&self, alloc: Global) -> Result<Option<String>, AllocError>
         ensures { IfOk result (λ r. MatchOption r (AreDistinctLists (names_of (shape_of self.now)))
             (λ s. IsFirstRepeated (names_of (shape_of self.now)) (string_bytes s))) }
@@ -295,18 +295,10 @@ impl Fields {
             MatchOption r (IsDistinct bytes_eq names) (λ s. IsRepeated names (string_bytes s))) }
     {
         let mut names = Vec::new(alloc);
-        self.add_names(&mut names)?;
-        first_repeated(alloc, &names)
-    }
-
-    pub(crate) fn add_names<'t>(&'t self, names: &mut Vec<&'t str>) -> Result<(), AllocError>
-        ensures { OnOk result (map (λ n. n.now) names.new.items
-            ≡ map (λ n. n.now) names.old.items ++ map (λ f. f.name) (map field_of self.now.list.items)) }
-    {
         for field in &self.list {
             names.push(field.name.as_str())?;
         }
-        Ok(())
+        first_repeated(alloc, &names)
     }
 
     pub(crate) fn first_unknown(&self, len: usize) -> Option<TypeNo>

@@ -1,8 +1,8 @@
 //! The variants of enums.
-ghost use Rattle.std.specs.Prelude.{◌≡◌, ◌&&◌, ◌∷◌, ◌++◌, nat_le, find, map, bytes_eq, string_bytes, IfOk, OnOk, MatchOption};
+ghost use Rattle.std.specs.Prelude.{◌≡◌, ◌&&◌, ◌++◌, nat_le, find, map, bytes_eq, string_bytes, IfOk, OnOk, MatchOption};
 ghost use Rattle.std.specs.List.{IsDistinct};
 ghost use Rattle.schemars_shapes.specs.Shape.{payload_of, variant_of, payload_numbers, variant_numbers, newtype_numbers};
-ghost use Rattle.schemars_shapes.specs.Shape.{payload_names, variant_names, tagged_names};
+ghost use Rattle.schemars_shapes.specs.Shape.{payload_names, variant_names};
 ghost use Rattle.schemars_shapes.specs.Shape.{internal_payload_of, internal_variant_of, internal_view};
 ghost use Rattle.schemars_shapes.specs.Repeated.{IsRepeated, AreDistinctLists, IsFirstRepeated};
 ghost use Rattle.schemars_shapes.specs.Equality.{bool_eq, payload_eq, variant_eq, variants_eq};
@@ -216,17 +216,15 @@ impl InternalPayload {
         }
     }
 
-    // The first name of a member that is met a second time, where the tag is the first member.
-    fn repeated_name<'t>(&'t self, alloc: Global, tag: &'t str) -> Result<Option<String>, AllocError>
-        ensures { IfOk result (λ r.
-            let names = tag.now ∷ payload_names (internal_payload_of self.now) in
-            MatchOption r (IsDistinct bytes_eq names) (λ s. IsRepeated names (string_bytes s))) }
+    // The first name of a field that is met a second time.
+    fn repeated_name(&self, alloc: Global) -> Result<Option<String>, AllocError>
+        ensures { IfOk result (λ r. MatchOption r (IsDistinct bytes_eq (payload_names (internal_payload_of self.now)))
+            (λ s. IsRepeated (payload_names (internal_payload_of self.now)) (string_bytes s))) }
     {
-        let mut names = vec![in alloc; tag]?;
-        if let InternalPayload::Struct(fields) = self {
-            fields.add_names(&mut names)?;
+        match self {
+            InternalPayload::Unit => Ok(None),
+            InternalPayload::Struct(fields) => fields.repeated_name(alloc),
         }
-        first_repeated(alloc, &names)
     }
 
     fn is_equal(&self, other: &InternalPayload) -> bool
@@ -275,17 +273,17 @@ impl Internal {
         Ok(numbers)
     }
 
-    // The first name that is met a second time, among the variants, or else among the tag and the fields of one.
+    // The first name that is met a second time, among the variants, or else among the fields of one.
     pub(crate) fn repeated_name(&self, alloc: Global) -> Result<Option<String>, AllocError>
         ensures { IfOk result (λ r.
-            let names = tagged_names (internal_view self.now).0 (map internal_variant_of self.now.variants.items) in
+            let names = variant_names (map internal_variant_of self.now.variants.items) in
             MatchOption r (AreDistinctLists names) (λ s. IsFirstRepeated names (string_bytes s))) }
     {
         if let Some(name) = self.repeated_variant(alloc)? {
             return Ok(Some(name));
         }
         for variant in &self.variants {
-            if let Some(name) = variant.payload.repeated_name(alloc, &self.tag)? {
+            if let Some(name) = variant.payload.repeated_name(alloc)? {
                 return Ok(Some(name));
             }
         }

@@ -177,10 +177,10 @@ abbrev pub untagged_template : Contract → Bool → List Variant → Template
 untagged_template contract titles [] = finished (boolean false)
 untagged_template contract titles (x ∷ xs) = any_of (map (payload_item contract titles) (x ∷ xs))
 
--- a map with the variant's name under the tag, and with these fields
+-- a map with these fields, and with the variant's name under the tag, in place of any field there
 abbrev pub tagged_template : Contract → Text → Text → List Field → Bool → Template
 tagged_template contract tag name xs closed =
-    map_template ((tag, finished (unit_variant name)) ∷ map property xs) (text_items (tag ∷ required_names contract xs)) closed
+    map_template (map property xs ++ (tag, finished (unit_variant name)) ∷ []) (text_items (tag ∷ required_names contract xs)) closed
 
 abbrev pub internal_item : Contract → Text → Bool → Variant → Template
 internal_item contract tag closed x =

@@ -519,7 +519,7 @@ fn variant_template<'t>(
     }
 }
 
-// A map with the variant's name under the tag, and with these fields.
+// A map with these fields, and with the variant's name under the tag, in place of any field there.
 fn tagged_template<'t>(
     alloc: Global,
     contract: Contract,
@@ -537,7 +537,7 @@ fn tagged_template<'t>(
     map_template(alloc, properties, required, closed)
 }
 
-// The fields' schemas under their names, led by the tag's.
+// The fields' schemas under their names, and then the tag's.
 fn tagged_properties<'t>(
     alloc: Global,
     tag: &'t str,
@@ -545,12 +545,11 @@ fn tagged_properties<'t>(
     fields: &'t [Field],
 ) -> Result<Vec<(&'t str, Template<'t>)>, AllocError>
     ensures { IfOk result (λ v. map keyword_view v.items
-        ≡ (tag.now, template_view name.entry) ∷ map property (map field_of fields.now)) }
+        ≡ map property (map field_of fields.now) ++ (tag.now, template_view name.entry) ∷ []) }
 {
-    let mut tagged: Vec<(&'t str, Template<'t>)> = vec![in alloc; (tag, name)]?;
-    let mut others = properties(alloc, fields)?;
-    tagged.append(&mut others)?;
-    Ok(tagged)
+    let mut properties = properties(alloc, fields)?;
+    properties.push((tag, name))?;
+    Ok(properties)
 }
 
 // The tag, and the names of the fields that have to be there.

@@ -1,5 +1,5 @@
--- No name stands twice among the variants, nor among the members of one before; what is repeated behind is so in all.
-use Rattle.std.proofs.Common.{◌∷◌, map, drop, string_bytes}
+-- No name stands twice among the variants, nor among the fields of one before; what is repeated behind is so in all.
+use Rattle.std.proofs.Common.{map, drop}
 use Rattle.std.specs.Str.{bytes_eq}
 use Rattle.std.specs.List.{IsDistinct}
 use Rattle.schemars_json.specs.Json.{Text}
@@ -9,11 +9,8 @@ use Rattle.schemars_shapes.proofs.variant.Internal.repeated_name.Given as goal
 
 abbrev pub invariant-loop-variant : goal.invariant-loop-variant
 invariant-loop-variant l =
-    let all = l.self.variants.items in
-    let rest = drop l.variant-index all in
-    let tag = string_bytes l.self.tag in
-    IsDistinct bytes_eq (map (λ x. x.name) (map internal_variant_of all))
-    × (AreDistinctLists (map (λ x. tag ∷ payload_names x.payload) (map internal_variant_of rest))
-    → AreDistinctLists (map (λ x. tag ∷ payload_names x.payload) (map internal_variant_of all)))
-    × ((name : Text) → IsFirstRepeated (map (λ x. tag ∷ payload_names x.payload) (map internal_variant_of rest)) name
-    → IsFirstRepeated (map (λ x. tag ∷ payload_names x.payload) (map internal_variant_of all)) name)
+    IsDistinct bytes_eq (map (λ x. x.name) (map internal_variant_of l.self.variants.items))
+    × (AreDistinctLists (map (λ x. payload_names x.payload) (map internal_variant_of (drop l.variant-index l.self.variants.items)))
+    → AreDistinctLists (map (λ x. payload_names x.payload) (map internal_variant_of l.self.variants.items)))
+    × ((name : Text) → IsFirstRepeated (map (λ x. payload_names x.payload) (map internal_variant_of (drop l.variant-index l.self.variants.items))) name
+    → IsFirstRepeated (map (λ x. payload_names x.payload) (map internal_variant_of l.self.variants.items)) name)

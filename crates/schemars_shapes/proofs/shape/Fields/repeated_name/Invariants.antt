@@ -1,10 +1,10 @@
--- The names so far, and those of the fields that are left.
+-- The names before, and those of the fields that are left.
 use Rattle.std.proofs.Common.{◌≡◌, ◌++◌, map, drop}
 use Rattle.schemars_shapes.specs.Shape.{field_of}
 use Rattle.schemars_shapes.proofs.FieldLemmas.{now_of}
-use Rattle.schemars_shapes.proofs.shape.Fields.add_names.Given as goal
+use Rattle.schemars_shapes.proofs.shape.Fields.repeated_name.Given as goal
 
 abbrev pub invariant-loop-field : goal.invariant-loop-field
 invariant-loop-field l =
     map now_of l.names.items ++ map (λ f. f.name) (map field_of (drop l.field-index l.self.list.items))
-    ≡ map now_of l.fn.names.items ++ map (λ f. f.name) (map field_of l.self.list.items)
+    ≡ map (λ f. f.name) (map field_of l.self.list.items)
