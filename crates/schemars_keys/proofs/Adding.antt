@@ -169,6 +169,7 @@ other_shape part (src.Result a b) i z w x u = refl
 other_shape part (src.Bound n) i z w x u = refl
 other_shape part (src.Range n) i z w x u = refl
 other_shape part (src.Either a b) i z w x u = refl
+other_shape part (src.Internal internal) i z w x u = refl
 other_shape part (src.External xs) i z w x u = absurd (x xs refl)
 other_shape part (src.Untagged xs) i z w x u = absurd (u xs refl)
 

@@ -62,6 +62,7 @@ shape_alike f g (shape.bound i) h = refl
 shape_alike f g (shape.range i) h = refl
 shape_alike f g (shape.either a b) h = refl
 shape_alike f g (shape.external xs) h = refl
+shape_alike f g (shape.internal tag closed xs) h = refl
 shape_alike f g (shape.untagged []) h = refl
 shape_alike f g (shape.untagged (x ∷ xs)) h = members_alike f g (x ∷ xs) h
 
