@@ -448,7 +448,11 @@ fn payload_inside(payload: Payload) -> Option<InternalPayload>
 fn variant_inside(variant: Variant) -> Option<InternalVariant>
     ensures { option_map internal_variant_of result ≡ variant_inside (variant_of variant) }
 {
-    let Variant { name, notes, payload } = variant;
+    let Variant {
+        name,
+        notes,
+        payload,
+    } = variant;
     let payload = payload_inside(payload)?;
     Some(InternalVariant {
         name,

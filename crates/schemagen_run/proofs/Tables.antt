@@ -24,7 +24,7 @@ use Rattle.schemars_headline.specs.Headline.{RootHeadline, IsDraftPath}
 use Rattle.schemars_headline.specs.Calls.{IsLastRootCall}
 use Rattle.schemars_documents.specs.PlainTable.{IsNoName, AreDistinct, AreNoted, IsNoVariant, AreDistinctVariants, AreTagged}
 use Rattle.schemars_documents.specs.PlainTable.{IsPlainPayload, ArePlainVariants, IsPlainShape, IsPlainEntry, IsPlainTable}
-use Rattle.schemars_documents.specs.PlainTable.{IsNotedEntry, HasPlainNotes}
+use Rattle.schemars_documents.specs.PlainTable.{IsNotedEntry, HasPlainNotes, TagStandsApart, IsTaggedApart, TagsStandApart}
 use Rattle.schemars_documents.specs.PlainTable.{FieldsHaveNoFloat, PayloadHasNoFloat, VariantsHaveNoFloat, ShapeHasNoFloat}
 use Rattle.schemars_documents.specs.PlainTable.{EntryHasNoFloat, HasNoFloat}
 use Rattle.schemars_headline.specs.State.{Settings, State, path_of, HasOwnDefinitions}
@@ -159,65 +159,46 @@ plain_variants (x ∷ xs) h differ =
     let own = both (are_none x.notes) (is_payload_bare x.payload) parts.0 in
     (none_are_notes x.notes own.0, plain_payload x.payload own.1 differ.0, plain_variants xs parts.1 differ.1)
 
--- of lists of names that the tag leads
-told_apart : (tag : Text) (p : Payload) → IsDistinct bytes_eq (tag ∷ payload_names p)
-    → IsNoName tag (tagged_fields p) × IsDistinct bytes_eq (payload_names p)
-unfolding IsDistinct
-told_apart tag no_payload h = (tt, h.1)
-told_apart tag (newtype_payload n) h = (tt, h.1)
-told_apart tag (tuple_payload ns) h = (tt, h.1)
-told_apart tag (struct_payload fields closed) h = (no_name tag fields h.0, h.1)
-
-are_tagged : (tag : Text) (xs : List Variant) → AreDistinctLists (map (λ x. tag ∷ payload_names x.payload) xs)
-    → AreTagged tag xs × AreDistinctLists (map (λ x. payload_names x.payload) xs)
-are_tagged tag [] h = (tt, tt)
-are_tagged tag (x ∷ xs) h =
-    let own = told_apart tag x.payload h.0 in
-    let later = are_tagged tag xs h.1 in
-    ((own.0, later.0), (own.1, later.1))
-
-plain_shape : (s : Shape) → are_fields_bare s ≡ true → AreDistinctLists (names_of s) → IsPlainShape s
-plain_shape (shape.struct fields closed) h differ = (names_are_distinct fields differ.0, bare_are_noted fields h)
-plain_shape shape.null h differ = tt
-plain_shape shape.bool h differ = tt
-plain_shape (shape.int k) h differ = tt
-plain_shape (shape.non_zero k) h differ = tt
-plain_shape shape.number h differ = tt
-plain_shape shape.text h differ = tt
-plain_shape shape.char h differ = tt
-plain_shape (shape.formatted g) h differ = tt
-plain_shape shape.any h differ = tt
-plain_shape shape.bytes h differ = tt
-plain_shape shape.schema_itself h differ = tt
-plain_shape (shape.option n) h differ = tt
-plain_shape (shape.seq n) h differ = tt
-plain_shape (shape.set n) h differ = tt
-plain_shape (shape.array n len) h differ = tt
-plain_shape (shape.up_to n cap) h differ = tt
-plain_shape (shape.tuple ns) h differ = tt
-plain_shape (shape.newtype n) h differ = tt
-plain_shape (shape.result a b) h differ = tt
-plain_shape (shape.bound n) h differ = tt
-plain_shape (shape.range n) h differ = tt
-plain_shape (shape.either a b) h differ = tt
-plain_shape (shape.external xs) h differ = (variants_are_distinct xs differ.0, plain_variants xs h differ.1)
-plain_shape (shape.untagged xs) h differ = plain_variants xs h differ.1
-plain_shape (shape.internal tag closed xs) h differ =
-    let members = are_tagged tag xs differ.1 in
-    (variants_are_distinct xs differ.0, plain_variants xs h members.1, members.0)
+plain_shape : (s : Shape) → are_fields_bare s ≡ true → AreDistinctLists (names_of s) → TagStandsApart s → IsPlainShape s
+plain_shape (shape.struct fields closed) h differ apart = (names_are_distinct fields differ.0, bare_are_noted fields h)
+plain_shape shape.null h differ apart = tt
+plain_shape shape.bool h differ apart = tt
+plain_shape (shape.int k) h differ apart = tt
+plain_shape (shape.non_zero k) h differ apart = tt
+plain_shape shape.number h differ apart = tt
+plain_shape shape.text h differ apart = tt
+plain_shape shape.char h differ apart = tt
+plain_shape (shape.formatted g) h differ apart = tt
+plain_shape shape.any h differ apart = tt
+plain_shape shape.bytes h differ apart = tt
+plain_shape shape.schema_itself h differ apart = tt
+plain_shape (shape.option n) h differ apart = tt
+plain_shape (shape.seq n) h differ apart = tt
+plain_shape (shape.set n) h differ apart = tt
+plain_shape (shape.array n len) h differ apart = tt
+plain_shape (shape.up_to n cap) h differ apart = tt
+plain_shape (shape.tuple ns) h differ apart = tt
+plain_shape (shape.newtype n) h differ apart = tt
+plain_shape (shape.result a b) h differ apart = tt
+plain_shape (shape.bound n) h differ apart = tt
+plain_shape (shape.range n) h differ apart = tt
+plain_shape (shape.either a b) h differ apart = tt
+plain_shape (shape.external xs) h differ apart = (variants_are_distinct xs differ.0, plain_variants xs h differ.1)
+plain_shape (shape.untagged xs) h differ apart = plain_variants xs h differ.1
+plain_shape (shape.internal tag closed xs) h differ apart = (variants_are_distinct xs differ.0, plain_variants xs h differ.1, apart)
 
 -- ---- the table
 
-is_plain_table : (rows : List Row) (root : ℕ) → is_table rows root ≡ true → IsChecked rows → IsPlainTable rows
-is_plain_table rows root table checked n = by (entry_at rows n) refl
+is_plain_table : (rows : List Row) (root : ℕ) → is_table rows root ≡ true → IsChecked rows → TagsStandApart rows → IsPlainTable rows
+is_plain_table rows root table checked apart n = by (entry_at rows n) refl (apart n)
   where
-    by : (o : Option Entry) → entry_at rows n ≡ o → IsPlainEntry o
-    by None there = tt
-    by (Some e) there =
+    by : (o : Option Entry) → entry_at rows n ≡ o → IsTaggedApart o → IsPlainEntry o
+    by None there tag = tt
+    by (Some e) there tag =
         let bare = entry_is_bare rows root n e table there in (
           none_are_notes e.notes bare.0,
           plain_shape e.shape bare.1 (subst
-              (λ (o : Option Entry). AreDistinctLists (option_map_or (λ f. names_of f.shape) o [])) there (checked.names_differ n)),
+              (λ (o : Option Entry). AreDistinctLists (option_map_or (λ f. names_of f.shape) o [])) there (checked.names_differ n)) tag,
         )
 
 has_plain_notes : (rows : List Row) (root : ℕ) → is_table rows root ≡ true → HasPlainNotes rows
@@ -266,7 +247,7 @@ is_document (Err e) s contract rows root table checked same means made = tt
 is_document (Ok document) s contract rows root table checked same means made =
     let headline : RootHeadline (fresh contract rows) root document = subst (λ (t : State). RootHeadline t root document) same means in (
       subst (λ (t : State). IsLastRootCall t root document) same made,
-      headline (has_own_definitions contract rows) (inl refl) (is_plain_table rows root table checked),
+      λ apart. headline (has_own_definitions contract rows) (inl refl) (is_plain_table rows root table checked apart),
     )
 
 -- without a float

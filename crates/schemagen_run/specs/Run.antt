@@ -8,6 +8,7 @@ use Rattle.schemars_json.specs.Json.{Text}
 use Rattle.schemars_json.specs.OrderedText.{ordered_text}
 use Rattle.schemars_types.specs.Rows.{Row}
 use Rattle.schemars_types.specs.Faults.{IsAccepted}
+use Rattle.schemars_documents.specs.PlainTable.{TagsStandApart}
 use Rattle.schemars_documents.specs.declared.contract.Contract.{Contract}
 use Rattle.schemars_documents.specs.declared.contract.Contract.TheVariants.{Deserialize, Serialize}
 use Rattle.schemars_generate.specs.declared.error.GenerateError.{GenerateError}
@@ -72,10 +73,11 @@ settings_for contract = record settings2020_12 { contract = contract }
 abbrev pub fresh : Contract → List Row → State
 fresh contract rows = record { settings = settings_for contract; rows = rows; names = []; definitions = no_members }
 
--- the root document of this row: it is made by the rules, and accepts just the values of the type
+-- the root document of this row: it is made by the rules, and where tags stand apart it accepts just the values of the type
 abbrev pub IsDocumentOf : Contract → List Row → ℕ → Data → Type 0
 IsDocumentOf contract rows root document =
-    ((w : Work) × IsRootOf (fresh contract rows) root w document) × MeansItsType rows (contract_of contract) (codes "/$defs") root document
+    ((w : Work) × IsRootOf (fresh contract rows) root w document)
+    × (TagsStandApart rows → MeansItsType rows (contract_of contract) (codes "/$defs") root document)
 
 -- a document's text, and a newline
 abbrev pub line_of : Data → Text

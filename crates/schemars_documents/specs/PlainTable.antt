@@ -98,6 +98,18 @@ IsNotedEntry (Some e) = AreNotes e.notes
 abbrev pub HasPlainNotes : List Row → Type 0
 HasPlainNotes rows = (n : ℕ) → IsNotedEntry (entry_at rows n)
 
+abbrev pub TagStandsApart : Shape → Type 0
+TagStandsApart (shape.internal tag closed xs) = AreTagged tag xs
+TagStandsApart _ = Unit {0}
+
+abbrev pub IsTaggedApart : Option Entry → Type 0
+IsTaggedApart None = Unit {0}
+IsTaggedApart (Some e) = TagStandsApart e.shape
+
+-- where variants are told by a tag, no field of a variant is named as the tag
+abbrev pub TagsStandApart : List Row → Type 0
+TagsStandApart rows = (n : ℕ) → IsTaggedApart (entry_at rows n)
+
 -- ---- numbers in notes
 
 abbrev pub FieldsHaveNoFloat : List Field → Type 0

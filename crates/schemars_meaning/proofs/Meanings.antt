@@ -160,5 +160,5 @@ module _ (patterns : Patterns) (f : Text → Judge) (basis : Basis) (W : ℕ →
       (λ j t w x js less. agree j t w x js (inl less)) xs p.0 p.1 is.parts is.written)
   shape_says (shape.untagged xs) s p is v json agree = rw is.is (untagged_says patterns f basis W M ready v json
       (λ j t w x js less. agree j t w x js (inl less)) xs p (λ n t same x. agree n t v x json (inr (same, refl))) is.parts is.written)
-  shape_says (shape.internal tag closed xs) s p is v json agree = rw is.is (internal_says patterns f contract W M ready v json
+  shape_says (shape.internal tag closed xs) s p is v json agree = rw is.is (internal_says patterns f basis W M ready v json
       (λ j t w x js less. agree j t w x js (inl less)) tag closed xs p.0 p.1 is.parts is.written)

@@ -2,6 +2,7 @@
 use Rattle.std.proofs.Common.{◌≡◌, ℕ, zero, suc, ◌-◌, List, [], ◌∷◌, ◌++◌, length, map, Bool, true, false, Option, Some, None}
 use Rattle.std.proofs.Common.{refl, sym, true≢false, ap, ◌∙◌, arith, subst, Contains, append_assoc, append-nil, length-append, ℤ, pos}
 use Rattle.std.specs.Prelude.{codes, bytes_eq, if◌then◌else◌}
+use Rattle.std.proofs.lemmas.Slice.Eq.{bytes_eq-Decides}
 use Rattle.std.proofs.lemmas.List.{nil_from_length}
 use Rattle.std.proofs.lemmas.List.Elements.{Contains-append_left}
 use Rattle.serde_json.specs.Data.{Data, Items, no_items, item, Members, no_members, put}
@@ -368,31 +369,7 @@ payloads_as_items contract titles (x ∷ xs) h = (
   payloads_as_items contract titles xs h.2,
 )
 
-unturned : (k l : Text) → bytes_eq k l ≡ false → bytes_eq l k ≡ false
-turned k l other = go (bytes_eq l k) refl
-  where
-    go : (b : Bool) → bytes_eq l k ≡ b → b ≡ false
-    go true same = absurd (true≢false (sym ((bytes_eq-Decides k l).1 (sym ((bytes_eq-Decides l k).0 same))) ∙ other))
-    go false same = refl
-
-tagged_named : (tag name : Text) (xs : List Field) → AreNoted xs
-    → (let es = map property xs ++ (tag, finished (unit_variant name)) ∷ [] in
-    AreNamed (templates_of (map (λ e. e.1) es)) (map (λ e. e.0) es))
-tagged_named tag name [] h = (refl, tt)
-tagged_named tag name (x ∷ xs) h = ((h.0, tt), tagged_named tag name xs h.1)
-
-no_tag-key : (k tag name : Text) (xs : List Field) → bytes_eq tag k ≡ false → IsNoName k xs
-    → IsNoKey k (map (λ e. e.0) (map property xs ++ (tag, finished (unit_variant name)) ∷ []))
-no_tag-key k tag name [] other h = (other, tt)
-no_tag-key k tag name (x ∷ xs) other h = (h.0, no_tag-key k tag name xs other h.1)
-
-tagged_apart : (tag name : Text) (xs : List Field) → IsNoName tag xs → AreDistinct xs
-    → AreApart (map (λ e. e.0) (map property xs ++ (tag, finished (unit_variant name)) ∷ []))
-tagged_apart tag name [] other h = (tt, tt)
-tagged_apart tag name (x ∷ xs) other h =
-    (no_tag-key x.name tag name xs (turned x.name tag other.0) h.0, tagged_apart tag name xs other.1 h.1)
-
-tagged_as_schema : (contract : Contract) (titles : Bool) (xs : List Variant) → ArePlainVariants xs → AsSchema (untagged_template contract titles xs)
+untagged_as_schema : (contract : Contract) (titles : Bool) (xs : List Variant) → ArePlainVariants xs → AsSchema (untagged_template contract titles xs)
 unfolding found_in
 untagged_as_schema contract titles [] h = refl
 untagged_as_schema contract titles (x ∷ xs) h = search (payloads_as_items contract titles (x ∷ xs) h)
@@ -414,6 +391,7 @@ turned k l other = go (bytes_eq l k) refl
 tagged_named : (tag name : Text) (xs : List Field) → AreNoted xs
     → (let es = map property xs ++ (tag, finished (unit_variant name)) ∷ [] in
     AreNamed (templates_of (map (λ e. e.1) es)) (map (λ e. e.0) es))
+unfolding found_in
 tagged_named tag name [] h = (refl, tt)
 tagged_named tag name (x ∷ xs) h = ((h.0, tt), tagged_named tag name xs h.1)
 

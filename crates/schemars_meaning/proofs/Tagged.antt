@@ -25,6 +25,7 @@ use Rattle.schemars_types.specs.Meaning.{tagged_closed, is_text, holds, every_me
 use Rattle.schemars_types.specs.Meaning.{field_named}
 use Rattle.schemars_documents.specs.Documents.{Keyword, annotated, required_names}
 use Rattle.schemars_documents.specs.PlainTable.{IsNoName, AreDistinct, AreNoted, IsNoVariant, AreDistinctVariants, ArePlainVariants}
+use Rattle.schemars_templates.specs.Basis.{Basis}
 use Rattle.schemars_templates.specs.Template.{rows_of, filled, filled_in}
 use Rattle.schemars_templates.specs.OfShape.{templates_of, tagged_template, internal_item, internal_template}
 use Rattle.schemars_meaning.proofs.ByShape.{AreWritten, field_keywords, tagged_document, tagged_fills}
@@ -270,8 +271,11 @@ module _ (W : ℕ → Data → Type 0) (M : ℕ → Data → Bool) (name : Text)
 
 -- ---- what templates say
 
-module _ (patterns : Patterns) (f : Text → Judge) (contract : Contract) (W : ℕ → Data → Type 0) (M : ℕ → Data → Bool)
+module _ (patterns : Patterns) (f : Text → Judge) (basis : Basis) (W : ℕ → Data → Type 0) (M : ℕ → Data → Bool)
     (ready : (j : ℕ) (t : Data) → W j t → IsReady t) where
+  abbrev contract : Contract
+  contract = basis.contract
+
   abbrev c : Context
   c = context2020_12 patterns f
 
@@ -309,19 +313,19 @@ module _ (patterns : Patterns) (f : Text → Judge) (contract : Contract) (W : �
         ∙ ap verdict (value_with_tag W M name contract tag xs closed v)
 
     tagged_tells : (tag name : Text) (xs : List Field) (closed : Bool) → AreDistinct xs → AreNoted xs
-        → Tells patterns f contract W M ready (tagged_template contract tag name xs closed) (has_tagged contract M tag xs closed name v) v
+        → Tells patterns f basis W M ready (tagged_template contract tag name xs closed) (has_tagged contract M tag xs closed name v) v
     tagged_tells tag name xs closed apart noted us fit =
         let d = tagged_fills W contract tag name xs closed us fit in
         (subst IsSchema (sym d.2) tt, ap (λ s. (judge c s).fits v) d.2 ∙ document_says tag name xs d.0 closed apart noted d.1)
 
     items_tell : (tag : Text) (closed : Bool) (xs : List Variant) → ArePlainVariants xs
-        → AllTell patterns f contract W M ready (map (internal_item contract tag closed) xs) (map (has_internal contract M tag closed v) xs) v
+        → AllTell patterns f basis W M ready (map (internal_item contract tag closed) xs) (map (has_internal contract M tag closed v) xs) v
     items_tell tag closed [] plain = tt
     items_tell tag closed (x ∷ xs) plain =
         let xs_of = tagged_fields x.payload in
         let ends = tagged_closed closed x.payload in
         let own = plain_fields x.payload plain.1 in (
-          noted_tells patterns f contract W M ready x.notes (tagged_template contract tag x.name xs_of ends)
+          noted_tells patterns f basis W M ready x.notes (tagged_template contract tag x.name xs_of ends)
               (has_internal contract M tag closed v x) v plain.0 (tagged_tells tag x.name xs_of ends own.0 own.1),
           items_tell tag closed xs plain.2,
         )
@@ -334,7 +338,7 @@ module _ (patterns : Patterns) (f : Text → Judge) (contract : Contract) (W : �
     internal_says tag closed [] apart plain us fit = refl
     internal_says tag closed (x ∷ xs) apart plain us fit =
         let P : Variant → Bool = has_internal contract M tag closed v in
-        (one_tells patterns f contract W M ready (map (internal_item contract tag closed) (x ∷ xs)) (map P (x ∷ xs)) v
+        (one_tells patterns f basis W M ready (map (internal_item contract tag closed) (x ∷ xs)) (map P (x ∷ xs)) v
         (items_tell tag closed (x ∷ xs) plain) us fit).1
         ∙ ap verdict (one_if_any P (told tag v)
         (λ y h. tagged_told contract M tag (tagged_fields y.payload) (tagged_closed closed y.payload) y.name v h) (x ∷ xs) apart)

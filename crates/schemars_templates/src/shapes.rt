@@ -82,7 +82,12 @@ pub fn template_of<'t>(
         Shape::Range(n) => range_template(alloc, *n),
         Shape::Either(left, right) => either_template(alloc, *left, *right),
         Shape::External(variants) => external_template(alloc, basis.contract, variants),
-        Shape::Untagged(variants) => untagged_template(alloc, basis.contract, basis.titles, variants),
+        Shape::Untagged(variants) => untagged_template(
+            alloc,
+            basis.contract,
+            basis.titles,
+            variants,
+        ),
         Shape::Internal(internal) => internal_template(alloc, basis.contract, internal),
     }
 }
@@ -514,7 +519,12 @@ fn variant_template<'t>(
     match &variant.payload {
         InternalPayload::Unit => tagged_template(alloc, contract, tag, name, &[], closed),
         InternalPayload::Struct(fields) => tagged_template(
-            alloc, contract, tag, name, &fields.list, fields.closed,
+            alloc,
+            contract,
+            tag,
+            name,
+            &fields.list,
+            fields.closed,
         ),
     }
 }
