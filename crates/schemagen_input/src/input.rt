@@ -1,5 +1,6 @@
 //! The table that a JSON value says.
-ghost use Rattle.std.specs.Prelude.{◌≡◌, ◌&&◌, ◌∷◌, [], false, true, None, Some, IfOk, IfErr, option_map, option_and_then, string_bytes, length, map, codes};
+ghost use Rattle.std.specs.Prelude.{◌≡◌, ◌&&◌, ◌∷◌, [], false, true, None, Some};
+ghost use Rattle.std.specs.Prelude.{IfOk, IfErr, option_map, option_and_then, string_bytes, length, map, codes};
 ghost use Rattle.std.specs.List.{list_all};
 ghost use Rattle.serde_json.specs.View.{view, items_view, members_view};
 ghost use Rattle.schemars_shapes.specs.Shape.{shape_of, field_of, fields_view, required_of, entry_of, formatted, struct};

@@ -41,7 +41,8 @@ use Rattle.schemars_headline.proofs.Roots.{root_placed, root_call_means}
 -- ---- definitions between calls
 
 -- references that are known in another work too
-definition-moved : (plan other : Plan) (old new : Work) → plan.rows ≡ other.rows → plan.contract ≡ other.contract → plan.titles ≡ other.titles
+definition-moved : (plan other : Plan) (old new : Work) → plan.rows ≡ other.rows → plan.contract ≡ other.contract
+    → plan.titles ≡ other.titles
     → ((n : ℕ) (name : Text) → name_of n plan.contract old.names ≡ Some name → name_of n other.contract new.names ≡ Some name)
     → ((n : ℕ) (r : Text) → Refers plan false old n r → Refers other false new n r) → (k : Text) (d : Data) → IsDefinition plan old k d
     → IsDefinition other new k d
@@ -284,7 +285,8 @@ pub step_kept : (s : State) (w : Work) → Step (plan_of s None) (work_of s) w
 step_kept s w h = record {
   names = h.names;
   stays = h.stays;
-  adds = λ k d none some. definition-moved (plan_of s None) (plan_of s None) w v refl refl refl (λ n name e. e) moved k d (h.adds k d none some);
+  adds = λ k d none some. definition-moved (plan_of s None) (plan_of s None) w v refl refl refl (λ n name e. e) moved k d
+      (h.adds k d none some);
   still_begun = λ k is. is;
   still_meets = λ e. e;
 }

@@ -109,7 +109,8 @@ pub holds_met : (rows : List Row) (met : List ℕ) (n : ℕ) (o : KeyOptions) �
     → HoldsRows rows (insert_key nat_eq met n) o
 holds_met rows met n o h new = record { holds = λ m is. by (list_any (nat_eq n) met) refl m is }
   where
-    last : (m : ℕ) → (a b : Bool) → list_any (nat_eq m) met ≡ a → nat_eq m n ≡ b → a || (b || false) ≡ true → AreAmong (all_options rows m) o
+    last : (m : ℕ) → (a b : Bool) → list_any (nat_eq m) met ≡ a → nat_eq m n ≡ b → a || (b || false) ≡ true
+        → AreAmong (all_options rows m) o
     last m true b e f is = h.holds m e
     last m false true e f is = subst (λ k. AreAmong (all_options rows k) o) (sym (eqb-true m n f)) new
     last m false false e f is = cc
@@ -136,7 +137,8 @@ untagged_some part (x ∷ xs) some = refl
 
 -- ---- shapes and members as the program holds them
 
-pub no_members_there : (b : Bool) (es : List Entries) → (IsTrue b → length es ≡ 0) × (length es ≡ 0 → IsTrue b) → b ≡ is_none (members_view es)
+pub no_members_there : (b : Bool) (es : List Entries) → (IsTrue b → length es ≡ 0) × (length es ≡ 0 → IsTrue b)
+    → b ≡ is_none (members_view es)
 no_members_there b [] h = h.1 refl
 no_members_there true (e ∷ es) h = absurd (omega (arith, h.0 refl))
 no_members_there false (e ∷ es) h = refl

@@ -1,5 +1,6 @@
 -- The rows whose options a row's own depend on.
-use Rattle.std.proofs.Common.{◌≡◌, ◌<◌, ◌∙◌, ℕ, zero, suc, List, [], ◌∷◌, ◌++◌, Some, length, get_or, map, Contains, refl, ap, sym, subst, arith}
+use Rattle.std.proofs.Common.{◌≡◌, ◌<◌, ◌∙◌, ℕ, zero, suc, List, [], ◌∷◌, ◌++◌}
+use Rattle.std.proofs.Common.{Some, length, get_or, map, Contains, refl, ap, sym, subst, arith}
 use Rattle.std.specs.Option.{option_map_or}
 use Rattle.std.proofs.lemmas.List.Elements.{Contains-append_right}
 use Rattle.schemars_shapes.specs.declared.variant.Variant as src-variant
@@ -84,7 +85,8 @@ pub asked : (rows : List Row) → RefersWithin rows → (n : ℕ) (e : Entry) �
     → Contains (same_value_numbers e.shape) m → SameValueEdge rows n m
 asked rows within n e at m c =
     let P : List ℕ → Type 0 = λ ns. Contains ns m in
-    let same : same_value_numbers_at rows n ≡ same_value_numbers e.shape = ap (λ o. option_map_or (λ x. same_value_numbers x.shape) o []) at in
+    let same : same_value_numbers_at rows n
+        ≡ same_value_numbers e.shape = ap (λ o. option_map_or (λ x. same_value_numbers x.shape) o []) at in
     let all : numbers_at rows n ≡ numbers_of e.shape = ap (λ o. option_map_or (λ x. numbers_of x.shape) o []) at in
     (subst P (sym same) c, within.within n m (subst P (sym all) (same_number e.shape m c)))
 

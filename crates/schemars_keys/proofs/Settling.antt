@@ -68,7 +68,8 @@ shape_alike f g (shape.untagged (x ∷ xs)) h = members_alike f g (x ∷ xs) h
 
 -- ---- more steps
 
-stays : (rows : List Row) → IsChecked rows → (steps n : ℕ) → rank rows n < steps → options_within rows (suc steps) n ≡ options_within rows steps n
+stays : (rows : List Row) → IsChecked rows → (steps n : ℕ) → rank rows n < steps
+    → options_within rows (suc steps) n ≡ options_within rows steps n
 unfolding options_within
 stays rows checked zero n low = absurd (omega arith)
 stays rows checked (suc steps) n low = by (entry_at rows n) refl (stays rows checked steps)

@@ -20,7 +20,8 @@ use Rattle.schemars_rewrite.specs.Variants.{unit_variant}
 use Rattle.schemars_rewrite.proofs.Nulls.{IsReady, AreReady, ready-schema}
 use Rattle.schemars_shapes.specs.Shape as shape
 use Rattle.schemars_shapes.specs.Shape.{Shape, Field, Payload, Variant, no_payload, newtype_payload, tuple_payload, struct_payload, needed}
-use Rattle.schemars_types.specs.Meaning.{Contract, Deserialize, Serialize, has_shape, has_payload, has_variant, has_fields, is_map_of, is_text, holds}
+use Rattle.schemars_types.specs.Meaning.{Contract, Deserialize, Serialize, has_shape, has_payload}
+use Rattle.schemars_types.specs.Meaning.{has_variant, has_fields, is_map_of, is_text, holds}
 use Rattle.schemars_types.specs.Meaning.{every_member, member_fits, has_required, none, exactly_one, field_named}
 use Rattle.schemars_documents.specs.Documents.{annotated, required_names}
 use Rattle.schemars_documents.specs.PlainTable.{IsNoVariant, AreDistinctVariants, IsPlainPayload, ArePlainVariants}
@@ -107,7 +108,8 @@ module _ (W : ℕ → Data → Type 0) (basis : Basis) (ready : (j : ℕ) (t : D
       let d = by_shape W basis (shape.struct xs closed) _ (record { parts = us; written = h; is = refl }) in
       subst IsReady (sym d.2) (map_ready (field_keywords xs d.0) (required_names basis.contract xs) closed)
 
-  titled_ready : (titles : Bool) (name : Text) (p : Payload) (us : List Data) → Fit W (rows_of (titled titles name (payload_template basis.contract p))) us
+  titled_ready : (titles : Bool) (name : Text) (p : Payload) (us : List Data)
+      → Fit W (rows_of (titled titles name (payload_template basis.contract p))) us
       → IsReady (filled (titled titles name (payload_template basis.contract p)) us)
   titled_ready false name p us h = payload_ready p us h
   titled_ready true name p us h = ready-annotated (title_alone name) (filled (payload_template basis.contract p) us) (title_noted name)
@@ -118,7 +120,8 @@ module _ (W : ℕ → Data → Type 0) (basis : Basis) (ready : (j : ℕ) (t : D
       → AreReady (filled_in (templates_of (map (payload_item basis.contract basis.titles) xs)) us)
   items_ready [] plain us h = tt
   items_ready (x ∷ xs) plain us h =
-      let p = parted W (payload_item basis.contract basis.titles x) (templates_of (map (payload_item basis.contract basis.titles) xs)) us h in
+      let p = parted W (payload_item basis.contract basis.titles x) (templates_of (map
+          (payload_item basis.contract basis.titles) xs)) us h in
       let own : IsReady (filled (payload_item basis.contract basis.titles x) p.0) =
       ready-annotated x.notes (filled (titled basis.titles x.name (payload_template basis.contract x.payload)) p.0) plain.0
       (titled_ready basis.titles x.name x.payload p.0 p.2) in
@@ -133,12 +136,14 @@ module _ (W : ℕ → Data → Type 0) (basis : Basis) (ready : (j : ℕ) (t : D
   pub external_ready : (xs : List Variant) (us : List Data) → IsReady (filled (external_template basis.contract xs) us)
   external_ready xs us = choice_ready (bare_units xs) (other_items basis.contract xs) us
 
-  pub untagged_ready : (xs : List Variant) → ArePlainVariants xs → (us : List Data) → Fit W (rows_of (untagged_template basis.contract basis.titles xs)) us
+  pub untagged_ready : (xs : List Variant) → ArePlainVariants xs → (us : List Data)
+      → Fit W (rows_of (untagged_template basis.contract basis.titles xs)) us
       → IsReady (filled (untagged_template basis.contract basis.titles xs) us)
   untagged_ready [] plain us h = tt
   untagged_ready (x ∷ xs) plain us h =
       any_of_ready (filled_in (templates_of (map (payload_item basis.contract basis.titles) (x ∷ xs))) us)
-      (items_ready (x ∷ xs) plain us (without_end W (rows_in (templates_of (map (payload_item basis.contract basis.titles) (x ∷ xs)))) us h))
+      (items_ready (x ∷ xs) plain us (without_end W (rows_in (templates_of (map (payload_item basis.contract basis.titles)
+          (x ∷ xs)))) us h))
 
 -- ---- the rows of newtype variants, which have the value itself
 
@@ -217,7 +222,8 @@ module _ (contract : Contract) (M : ℕ → Data → Bool) (v : Data) where
   none_others k claim (x ∷ xs) h = go (is_bare_unit x) (none_others k claim xs h.1)
     where
       go : (b : Bool) → (none (map P (others xs)) ≡ true) × (U (bare_units xs) ≡ false)
-          → (none (map P (if b then others xs else x ∷ others xs)) ≡ true) × (U (if b then x.name ∷ bare_units xs else bare_units xs) ≡ false)
+          → (none (map P (if b then others xs else x ∷ others xs)) ≡ true) × (U (if b then x.name ∷ bare_units xs else bare_units xs)
+              ≡ false)
       go true later = (later.0, rw (other_false (is_text x.name v) k x.name claim h.0 (text_claimed x.name v), later.1) refl)
       go false later = (
         rw (other_false (P x) k x.name claim h.0 (variant_claimed x.name x.payload), later.0) refl,
@@ -350,7 +356,8 @@ module _ (patterns : Patterns) (f : Text → Judge) (basis : Basis) (W : ℕ →
         by Serialize b = either (is_some (get_member name ms))
 
     alone_same : (k : Contract) (v : Data) → has_fields k (λ j. p) (needed name 0 ∷ []) true v ≡ is_map_of name p v
-    alone_same k (object ms) = rw (each_field ms, has_field k ms) (and-swap (every_member (λ l w. bytes_eq name l && p w) ms) (is_some (get_member name ms)))
+    alone_same k (object ms) = rw (each_field ms, has_field k ms) (and-swap (every_member (λ l w. bytes_eq name l && p w) ms) (is_some
+        (get_member name ms)))
     alone_same k null = refl
     alone_same k (boolean b) = refl
     alone_same k (number n) = refl
@@ -419,7 +426,8 @@ module _ (patterns : Patterns) (f : Text → Judge) (basis : Basis) (W : ℕ →
     others_tell (x ∷ xs) plain = go (is_bare_unit x) (others_tell xs plain.2)
       where
         go : (b : Bool) → AllTell (other_items contract xs) (map (P contract M v) (others contract M v xs)) v
-            → AllTell (if b then other_items contract xs else noted x.notes (named_template contract x.name x.payload) ∷ other_items contract xs)
+            → AllTell (if b then other_items contract xs else noted x.notes
+                (named_template contract x.name x.payload) ∷ other_items contract xs)
             (map (P contract M v) (if b then others contract M v xs else x ∷ others contract M v xs)) v
         go true later = later
         go false later = (
@@ -474,7 +482,8 @@ module _ (patterns : Patterns) (f : Text → Judge) (basis : Basis) (W : ℕ →
     pub untagged_says : (xs : List Variant) → ArePlainVariants xs
         → ((n : ℕ) (t : Data) → IsNewtypeIn n xs → W n t → (judge c t).fits v ≡ verdict (M n v)) → (us : List Data)
         → Fit W (rows_of (untagged_template contract basis.titles xs)) us
-        → (judge c (filled (untagged_template contract basis.titles xs) us)).fits v ≡ verdict (has_shape contract patterns M (shape.untagged xs) v)
+        → (judge c (filled (untagged_template contract basis.titles xs) us)).fits v
+            ≡ verdict (has_shape contract patterns M (shape.untagged xs) v)
     unfolding read_data
     untagged_says [] plain same us fit = refl
     untagged_says (x ∷ xs) plain same us fit =

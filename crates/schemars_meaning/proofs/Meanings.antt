@@ -132,7 +132,8 @@ module _ (patterns : Patterns) (f : Text → Judge) (basis : Basis) (W : ℕ →
   shape_says shape.any s p is v json agree = rw is (any_says patterns f contract M v)
   shape_says shape.bytes s p is v json agree = rw is (bytes_say patterns f contract M v)
   shape_says shape.schema_itself s p is v json agree = rw is (schema_says patterns f contract M v)
-  shape_says (shape.option j) s p is v json agree = rw is.2 (allow_null-says patterns f is.0 (ready_nullable is.0 (ready j is.0 is.1)) v (M j v)
+  shape_says (shape.option j) s p is v json agree =
+      rw is.2 (allow_null-says patterns f is.0 (ready_nullable is.0 (ready j is.0 is.1)) v (M j v)
       (agree j is.0 v is.1 json (inr (refl, refl))))
   shape_says (shape.seq j) s p is v json agree = rw is.2 (seq_says patterns f contract M j is.0 (schemas j is.0 is.1) v json
       (λ w js less. agree j is.0 w is.1 js (inl less)))

@@ -369,7 +369,8 @@ payloads_as_items contract titles (x ∷ xs) h = (
   payloads_as_items contract titles xs h.2,
 )
 
-untagged_as_schema : (contract : Contract) (titles : Bool) (xs : List Variant) → ArePlainVariants xs → AsSchema (untagged_template contract titles xs)
+untagged_as_schema : (contract : Contract) (titles : Bool) (xs : List Variant) → ArePlainVariants xs
+    → AsSchema (untagged_template contract titles xs)
 unfolding found_in
 untagged_as_schema contract titles [] h = refl
 untagged_as_schema contract titles (x ∷ xs) h = search (payloads_as_items contract titles (x ∷ xs) h)
@@ -431,7 +432,8 @@ unfolding found_in
 internal_as_schema contract tag closed [] h other = refl
 internal_as_schema contract tag closed (x ∷ xs) h other = search (internals_as_items contract tag closed (x ∷ xs) h other)
 
-internal_makes : (contract : Contract) (tag : Text) (closed : Bool) (xs : List Variant) → MakesSchema (internal_template contract tag closed xs)
+internal_makes : (contract : Contract) (tag : Text) (closed : Bool) (xs : List Variant)
+    → MakesSchema (internal_template contract tag closed xs)
 internal_makes contract tag closed [] = tt
 internal_makes contract tag closed (x ∷ xs) = tt
 

@@ -133,7 +133,8 @@ module _ (P : ℕ → Type 0) where
       (titled_rows titles x.name (payload_template contract x.payload) (payload_rows contract x.payload parts.0))
       (items_rows contract titles xs parts.1)
 
-  untagged_rows : (contract : Contract) (titles : Bool) (xs : List Variant) → All P (variant_numbers xs) → All P (rows_of (untagged_template contract titles xs))
+  untagged_rows : (contract : Contract) (titles : Bool) (xs : List Variant) → All P (variant_numbers xs)
+      → All P (rows_of (untagged_template contract titles xs))
   untagged_rows contract titles [] h = nothing
   untagged_rows contract titles (x ∷ xs) h =
       ended (rows_in (templates_of (map (payload_item contract titles) (x ∷ xs)))) (items_rows contract titles (x ∷ xs) h)

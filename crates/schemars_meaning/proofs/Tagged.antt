@@ -21,7 +21,8 @@ use Rattle.schemars_rewrite.proofs.Nulls.{IsReady, ready-schema}
 use Rattle.schemars_shapes.specs.Shape as shape
 use Rattle.schemars_shapes.specs.Shape.{Shape, Field, Variant, needed}
 use Rattle.schemars_types.specs.Meaning.{Contract, Deserialize, Serialize, has_shape, has_internal, has_tagged, tagged_fits, tagged_fields}
-use Rattle.schemars_types.specs.Meaning.{tagged_closed, is_text, holds, every_member, member_fits, has_required, is_required, none, exactly_one}
+use Rattle.schemars_types.specs.Meaning.{tagged_closed, is_text, holds, every_member}
+use Rattle.schemars_types.specs.Meaning.{member_fits, has_required, is_required, none, exactly_one}
 use Rattle.schemars_types.specs.Meaning.{field_named}
 use Rattle.schemars_documents.specs.Documents.{Keyword, annotated, required_names}
 use Rattle.schemars_documents.specs.PlainTable.{IsNoName, AreDistinct, AreNoted, IsNoVariant, AreDistinctVariants, ArePlainVariants}
@@ -78,7 +79,8 @@ module _ (contract : Contract) (M : ℕ → Data → Bool) (tag : Text) where
       → told_in tag ms ≡ Some name
   unfolding told_in
   member_told xs closed name ms h =
-      let parts = and-true (is_some (get_member tag ms)) (every_member (tagged_fits M xs closed tag name) ms && has_required contract xs ms) h in
+      let parts = and-true (is_some (get_member tag ms)) (every_member
+          (tagged_fits M xs closed tag name) ms && has_required contract xs ms) h in
       let every = and-true (every_member (tagged_fits M xs closed tag name) ms) (has_required contract xs ms) parts.1 in
       go (get_member tag ms) refl parts.0 every.0
     where
@@ -199,7 +201,8 @@ module _ (W : ℕ → Data → Type 0) (M : ℕ → Data → Bool) (name : Text)
 
       own : Finds WithTag (field_named (map shifted xs) k) (get_member k others) None
       own =
-          let Q : List Keyword → Type 0 = λ es. Finds WithTag (field_named (map shifted xs) k) (get_member k (put_all es no_members)) None in
+          let Q : List Keyword → Type 0 = λ es. Finds WithTag (field_named (map shifted xs) k) (get_member k
+              (put_all es no_members)) None in
           subst Q (keywords_shifted xs ts) (field_found WithTag k (map shifted xs) ts no_members (distinct_shifted xs apart)
           (noted_shifted xs noted) (written_shifted xs ts written))
 
@@ -260,7 +263,8 @@ module _ (W : ℕ → Data → Type 0) (M : ℕ → Data → Bool) (name : Text)
       ∙ and-turn (every_member (tagged_fits M xs closed tag name) ms) (is_some (get_member tag ms)) (has_required contract xs ms)
 
   value_with_tag : (contract : Contract) (tag : Text) (xs : List Field) (closed : Bool) (v : Data)
-      → holds (as_object v) (λ ms. every_member (member_fits tests (with_tag tag xs) closed) ms && has_required contract (with_tag tag xs) ms)
+      → holds (as_object v) (λ ms. every_member (member_fits tests (with_tag tag xs) closed) ms && has_required contract
+          (with_tag tag xs) ms)
       ≡ has_tagged contract M tag xs closed name v
   value_with_tag contract tag xs closed (object ms) = map_with_tag contract tag xs closed ms
   value_with_tag contract tag xs closed null = refl

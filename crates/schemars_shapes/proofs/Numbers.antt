@@ -38,7 +38,8 @@ pub found_later : (p : ℕ → Bool) (xs : List src-variant.Variant) (i : ℕ) (
     → find p (variant_numbers (map variant_of (drop (i + 1) xs))) ≡ find p (variant_numbers (map variant_of (drop i xs)))
 found_later p xs i d below is = later variant_of p xs i d below is
 
-pub internal_here : (p : ℕ → Bool) (xs : List src-internal_variant.InternalVariant) (i : ℕ) (d : src-internal_variant.InternalVariant) (n : ℕ)
+pub internal_here : (p : ℕ → Bool) (xs : List src-internal_variant.InternalVariant) (i : ℕ) (d : src-internal_variant.InternalVariant)
+    (n : ℕ)
     → i < length xs → find p (payload_numbers (internal_payload_of (get_or xs i d).payload)) ≡ Some n
     → find p (variant_numbers (map internal_variant_of (drop i xs))) ≡ Some n
 internal_here p xs i d n below is = here internal_variant_of p xs i d n below is

@@ -79,7 +79,9 @@ never_first_repeated (names ∷ lists) name distinct (inr r) = never_first_repea
 lists_differ_or_repeated : (lists : List (List Text)) → AreDistinctLists lists ⊎ ((name : Text) × IsFirstRepeated lists name)
 lists_differ_or_repeated [] = inl tt
 lists_differ_or_repeated (names ∷ lists) =
-    elim (differ_or_repeated names (length names) (omega arith)) [ inl differ ↦ behind (all differ) (lists_differ_or_repeated lists) | inr r ↦ inr (r.0, inl r.1) ]
+    elim (differ_or_repeated names (length names) (omega arith)) [
+      inl differ ↦ behind (all differ) (lists_differ_or_repeated lists) | inr r ↦ inr (r.0, inl r.1)
+    ]
   where
     all : IsDistinct bytes_eq (take (length names) names) → IsDistinct bytes_eq names
     all differ = subst (λ (ns : List Text). IsDistinct bytes_eq ns) (take_all (length names) names (omega arith)) differ

@@ -35,7 +35,8 @@ time_known seconds nanoseconds u64 u32 old with_u64 with_both first second =
     two_known (length with_both) u64 u32 (omega arith) late
 
 -- where the row of a time is refused, those of its numbers stay
-pub time_refused : {A : Type 0} (r : Result A TypesError) (id seconds nanoseconds : Text) (old with_u64 with_both new : List Row) (u64 u32 : ℕ)
+pub time_refused : {A : Type 0} (r : Result A TypesError) (id seconds nanoseconds : Text) (old with_u64 with_both new : List Row)
+    (u64 u32 : ℕ)
     → RegistersInt U64 old with_u64 u64 → RegistersInt U32 with_u64 with_both u32 → OnErr r (new ≡ with_both)
     → IfErr r (Refuses id (time_entry seconds nanoseconds u64 u32) with_both) → IfErr r (RefusesTime id seconds nanoseconds old new)
 time_refused (Ok n) id seconds nanoseconds old with_u64 with_both new u64 u32 first second same refused = tt

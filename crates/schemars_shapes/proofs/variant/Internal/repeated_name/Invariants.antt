@@ -12,5 +12,6 @@ invariant-loop-variant l =
     IsDistinct bytes_eq (map (λ x. x.name) (map internal_variant_of l.self.variants.items))
     × (AreDistinctLists (map (λ x. payload_names x.payload) (map internal_variant_of (drop l.variant-index l.self.variants.items)))
     → AreDistinctLists (map (λ x. payload_names x.payload) (map internal_variant_of l.self.variants.items)))
-    × ((name : Text) → IsFirstRepeated (map (λ x. payload_names x.payload) (map internal_variant_of (drop l.variant-index l.self.variants.items))) name
+    × ((name : Text) → IsFirstRepeated (map (λ x. payload_names x.payload) (map internal_variant_of
+        (drop l.variant-index l.self.variants.items))) name
     → IsFirstRepeated (map (λ x. payload_names x.payload) (map internal_variant_of l.self.variants.items)) name)
