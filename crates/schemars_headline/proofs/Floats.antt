@@ -301,8 +301,14 @@ titled_whole true name t h = (refl, h)
 items_whole : (contract : Contract) (titles : Bool) (xs : List Variant) → VariantsHaveNoFloat xs
     → SayWhole (templates_of (map (payload_item contract titles) xs))
 items_whole contract titles [] n = tt
-items_whole contract titles (x ∷ xs) n = ((n.0, titled_whole titles x.name (payload_template contract x.payload)
-    (payload_whole contract x.payload n.1)), items_whole contract titles xs n.2)
+items_whole contract titles (x ∷ xs) n = (
+  (
+    n.0,
+    titled_whole titles x.name (payload_template contract x.payload)
+        (payload_whole contract x.payload n.1),
+  ),
+  items_whole contract titles xs n.2,
+)
 
 untagged_whole : (contract : Contract) (titles : Bool) (xs : List Variant) → VariantsHaveNoFloat xs
     → SaysWhole (untagged_template contract titles xs)

@@ -86,7 +86,7 @@ pub asked : (rows : List Row) → RefersWithin rows → (n : ℕ) (e : Entry) �
 asked rows within n e at m c =
     let P : List ℕ → Type 0 = λ ns. Contains ns m in
     let same : same_value_numbers_at rows n
-        ≡ same_value_numbers e.shape = ap (λ o. option_map_or (λ x. same_value_numbers x.shape) o []) at in
+    ≡ same_value_numbers e.shape = ap (λ o. option_map_or (λ x. same_value_numbers x.shape) o []) at in
     let all : numbers_at rows n ≡ numbers_of e.shape = ap (λ o. option_map_or (λ x. numbers_of x.shape) o []) at in
     (subst P (sym same) c, within.within n m (subst P (sym all) (same_number e.shape m c)))
 

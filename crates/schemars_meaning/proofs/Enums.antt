@@ -121,7 +121,7 @@ module _ (W : ℕ → Data → Type 0) (basis : Basis) (ready : (j : ℕ) (t : D
   items_ready [] plain us h = tt
   items_ready (x ∷ xs) plain us h =
       let p = parted W (payload_item basis.contract basis.titles x) (templates_of (map
-          (payload_item basis.contract basis.titles) xs)) us h in
+      (payload_item basis.contract basis.titles) xs)) us h in
       let own : IsReady (filled (payload_item basis.contract basis.titles x) p.0) =
       ready-annotated x.notes (filled (titled basis.titles x.name (payload_template basis.contract x.payload)) p.0) plain.0
       (titled_ready basis.titles x.name x.payload p.0 p.2) in
@@ -143,7 +143,7 @@ module _ (W : ℕ → Data → Type 0) (basis : Basis) (ready : (j : ℕ) (t : D
   untagged_ready (x ∷ xs) plain us h =
       any_of_ready (filled_in (templates_of (map (payload_item basis.contract basis.titles) (x ∷ xs))) us)
       (items_ready (x ∷ xs) plain us (without_end W (rows_in (templates_of (map (payload_item basis.contract basis.titles)
-          (x ∷ xs)))) us h))
+      (x ∷ xs)))) us h))
 
 -- ---- the rows of newtype variants, which have the value itself
 
@@ -223,7 +223,7 @@ module _ (contract : Contract) (M : ℕ → Data → Bool) (v : Data) where
     where
       go : (b : Bool) → (none (map P (others xs)) ≡ true) × (U (bare_units xs) ≡ false)
           → (none (map P (if b then others xs else x ∷ others xs)) ≡ true) × (U (if b then x.name ∷ bare_units xs else bare_units xs)
-              ≡ false)
+          ≡ false)
       go true later = (later.0, rw (other_false (is_text x.name v) k x.name claim h.0 (text_claimed x.name v), later.1) refl)
       go false later = (
         rw (other_false (P x) k x.name claim h.0 (variant_claimed x.name x.payload), later.0) refl,
@@ -427,7 +427,7 @@ module _ (patterns : Patterns) (f : Text → Judge) (basis : Basis) (W : ℕ →
       where
         go : (b : Bool) → AllTell (other_items contract xs) (map (P contract M v) (others contract M v xs)) v
             → AllTell (if b then other_items contract xs else noted x.notes
-                (named_template contract x.name x.payload) ∷ other_items contract xs)
+            (named_template contract x.name x.payload) ∷ other_items contract xs)
             (map (P contract M v) (if b then others contract M v xs else x ∷ others contract M v xs)) v
         go true later = later
         go false later = (
@@ -483,7 +483,7 @@ module _ (patterns : Patterns) (f : Text → Judge) (basis : Basis) (W : ℕ →
         → ((n : ℕ) (t : Data) → IsNewtypeIn n xs → W n t → (judge c t).fits v ≡ verdict (M n v)) → (us : List Data)
         → Fit W (rows_of (untagged_template contract basis.titles xs)) us
         → (judge c (filled (untagged_template contract basis.titles xs) us)).fits v
-            ≡ verdict (has_shape contract patterns M (shape.untagged xs) v)
+        ≡ verdict (has_shape contract patterns M (shape.untagged xs) v)
     unfolding read_data
     untagged_says [] plain same us fit = refl
     untagged_says (x ∷ xs) plain same us fit =

@@ -80,7 +80,7 @@ module _ (contract : Contract) (M : ℕ → Data → Bool) (tag : Text) where
   unfolding told_in
   member_told xs closed name ms h =
       let parts = and-true (is_some (get_member tag ms)) (every_member
-          (tagged_fits M xs closed tag name) ms && has_required contract xs ms) h in
+      (tagged_fits M xs closed tag name) ms && has_required contract xs ms) h in
       let every = and-true (every_member (tagged_fits M xs closed tag name) ms) (has_required contract xs ms) parts.1 in
       go (get_member tag ms) refl parts.0 every.0
     where
@@ -202,7 +202,7 @@ module _ (W : ℕ → Data → Type 0) (M : ℕ → Data → Bool) (name : Text)
       own : Finds WithTag (field_named (map shifted xs) k) (get_member k others) None
       own =
           let Q : List Keyword → Type 0 = λ es. Finds WithTag (field_named (map shifted xs) k) (get_member k
-              (put_all es no_members)) None in
+          (put_all es no_members)) None in
           subst Q (keywords_shifted xs ts) (field_found WithTag k (map shifted xs) ts no_members (distinct_shifted xs apart)
           (noted_shifted xs noted) (written_shifted xs ts written))
 
@@ -264,7 +264,7 @@ module _ (W : ℕ → Data → Type 0) (M : ℕ → Data → Bool) (name : Text)
 
   value_with_tag : (contract : Contract) (tag : Text) (xs : List Field) (closed : Bool) (v : Data)
       → holds (as_object v) (λ ms. every_member (member_fits tests (with_tag tag xs) closed) ms && has_required contract
-          (with_tag tag xs) ms)
+      (with_tag tag xs) ms)
       ≡ has_tagged contract M tag xs closed name v
   value_with_tag contract tag xs closed (object ms) = map_with_tag contract tag xs closed ms
   value_with_tag contract tag xs closed null = refl

@@ -80,7 +80,8 @@ lists_differ_or_repeated : (lists : List (List Text)) → AreDistinctLists lists
 lists_differ_or_repeated [] = inl tt
 lists_differ_or_repeated (names ∷ lists) =
     elim (differ_or_repeated names (length names) (omega arith)) [
-      inl differ ↦ behind (all differ) (lists_differ_or_repeated lists) | inr r ↦ inr (r.0, inl r.1)
+      | inl differ ↦ behind (all differ) (lists_differ_or_repeated lists)
+      | inr r ↦ inr (r.0, inl r.1)
     ]
   where
     all : IsDistinct bytes_eq (take (length names) names) → IsDistinct bytes_eq names

@@ -15,7 +15,7 @@ returns-in-Ok-clause-part c =
     let w = c.subschema.new.work in
     let path : c.stripped.result.now ≡ (plan_of s None).path = search rules in
     let P : Text → Type 0 = λ p. IsSubschema
-        (record { rows = s.rows; contract = s.settings.contract; titles = s.settings.titles; path = p; root = None }) false w
+    (record { rows = s.rows; contract = s.settings.contract; titles = s.settings.titles; path = p; root = None }) false w
     c.args.n c.in-Ok.schema in
     let Q : Work → Type 0 = λ x. IsSubschema (plan_of s None) false x c.args.n c.in-Ok.schema in
     subst Q (sym c.keep.ensures.kept) (part_kept s (record s { names = w.names; definitions = w.definitions }) w c.args.n c.in-Ok.schema
@@ -27,7 +27,7 @@ returns-in-Ok-clause-step c =
     let w = c.subschema.new.work in
     let path : c.stripped.result.now ≡ (plan_of s None).path = search rules in
     let P : Text → Type 0 = λ p. Step
-        (record { rows = s.rows; contract = s.settings.contract; titles = s.settings.titles; path = p; root = None }) c.args.work.now w in
+    (record { rows = s.rows; contract = s.settings.contract; titles = s.settings.titles; path = p; root = None }) c.args.work.now w in
     let Q : Work → Type 0 = λ x. Step (plan_of s None) x w in
     let R : Work → Type 0 = λ x. Step (plan_of s None) c.args.work.now x in
     let made : Step (plan_of s None) (work_of s) w = subst Q c.requires.between (subst P path c.in-Ok.ensures.step) in
@@ -43,7 +43,7 @@ returns-in-Ok-clause-reached c = λ plain.
     let from = references c.in-Ok.schema in
     let path : c.stripped.result.now ≡ (plan_of s None).path = search rules in
     let P : Text → Type 0 = λ p. AreReached
-        (record { rows = s.rows; contract = s.settings.contract; titles = s.settings.titles; path = p; root = None }) true
+    (record { rows = s.rows; contract = s.settings.contract; titles = s.settings.titles; path = p; root = None }) true
     c.args.work.now w from in
     let Q : Work → Type 0 = λ x. AreReached (plan_of s None) true c.args.work.now x from in
     subst Q (sym c.keep.ensures.kept) (reached_kept (plan_of s None) true s c.args.work.now w from

@@ -20,7 +20,7 @@ returns-clause-titled c =
     let own = c.in_ok-schema.schema in
     let path : c.stripped.result.now ≡ (plan_of s None).path = search rules in
     let at : Text → Plan =
-        λ p. record { rows = s.rows; contract = s.settings.contract; titles = s.settings.titles; path = p; root = Some n } in
+    λ p. record { rows = s.rows; contract = s.settings.contract; titles = s.settings.titles; path = p; root = Some n } in
     let P : Text → Type 0 = λ p. Describes (basis_of (at p)) (Refers (at p) true w) (suc (height s.rows n)) n own in
     let Q : Text → Type 0 = λ p. IsPlainTable s.rows → AreReached (at p) false c.args.work.now w (references own) in
     let reached : Q (plan_of s None).path = subst Q path c.in_ok-schema.ensures.is.reached in

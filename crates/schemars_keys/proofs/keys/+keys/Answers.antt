@@ -76,7 +76,7 @@ pub add_own-returns-in-Int-clause-added : goal.add_own-returns-in-Int-clause-add
 add_own-returns-in-Int-clause-added t c =
     let o = options_of c.args.found.now.options in
     let own = of_shape c.args.types.now c.requires.checked c.args.n c.in-Some.entry.now c.in-Some.ensures
-        (src.Int c.in-Int.kind) c.in-Int.is in
+    (src.Int c.in-Int.kind) c.in-Int.is in
     c.add_integers.ensures ∙ (ap (λ k. adding o (only_keys [] (Some k))) c.of_kind.ensures ∙ ap (adding o) (sym own))
 
 pub add_own-returns-in-NonZero-clause-added : goal.add_own-returns-in-NonZero-clause-added
@@ -97,7 +97,7 @@ pub add_own-returns-in_ok-add_external-in-External-clause-added : goal.add_own-r
 add_own-returns-in_ok-add_external-in-External-clause-added t c =
     let o = options_of c.args.found.now.options in
     let own = of_shape c.args.types.now c.requires.checked c.args.n c.in-Some.entry.now c.in-Some.ensures
-        (src.External c.in-External.variants)
+    (src.External c.in-External.variants)
     c.in-External.is in
     c.in_ok-add_external-in-External.ensures
     ∙ (ap (λ vs. adding o (external_options (map variant_of vs))) c.deref.ensures.value ∙ ap (adding o) (sym own))
@@ -115,7 +115,7 @@ add_own-returns-in_ok-add_untagged-in-Untagged-clause-added t c =
     let o = options_of c.args.found.now.options in
     let part = all_options c.args.types.now in
     let own = of_shape c.args.types.now c.requires.checked c.args.n c.in-Some.entry.now c.in-Some.ensures
-        (src.Untagged c.in-Untagged.variants)
+    (src.Untagged c.in-Untagged.variants)
     c.in-Untagged.is in
     c.in_ok-add_untagged-in-Untagged.ensures.added
     ∙ (ap (λ vs. adding o (untagged_options part (map variant_of vs))) c.deref-in-Untagged.ensures.value ∙ ap (adding o) (sym own))

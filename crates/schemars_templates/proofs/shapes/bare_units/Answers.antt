@@ -12,7 +12,7 @@ returns c =
     let variants = c.args.variants.now in
     let names = map view c.loop-variant.names.items in
     let ended : drop c.loop-variant.variant-index variants
-        ≡ [] = drop_all c.loop-variant.variant-index variants c.loop-variant-test.false in
+    ≡ [] = drop_all c.loop-variant.variant-index variants c.loop-variant-test.false in
     let all : names ≡ map string (bare_units (map variant_of variants)) =
     sym (append-nil names) ∙ (ap (λ xs. names ++ map string (bare_units (map variant_of xs))) (sym ended) ∙ c.loop-variant.invariant) in
     items_view-texts c.loop-variant.names.items (bare_units (map variant_of variants)) all

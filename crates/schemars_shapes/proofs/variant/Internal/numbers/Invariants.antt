@@ -6,4 +6,4 @@ use Rattle.schemars_shapes.proofs.variant.Internal.numbers.Given as goal
 abbrev pub invariant-loop-variant : goal.invariant-loop-variant
 invariant-loop-variant l =
     l.numbers.items ++ variant_numbers (map internal_variant_of (drop l.variant-index l.self.variants.items))
-        ≡ variant_numbers (map internal_variant_of l.self.variants.items)
+    ≡ variant_numbers (map internal_variant_of l.self.variants.items)

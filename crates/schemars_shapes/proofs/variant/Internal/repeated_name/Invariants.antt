@@ -13,5 +13,5 @@ invariant-loop-variant l =
     × (AreDistinctLists (map (λ x. payload_names x.payload) (map internal_variant_of (drop l.variant-index l.self.variants.items)))
     → AreDistinctLists (map (λ x. payload_names x.payload) (map internal_variant_of l.self.variants.items)))
     × ((name : Text) → IsFirstRepeated (map (λ x. payload_names x.payload) (map internal_variant_of
-        (drop l.variant-index l.self.variants.items))) name
+    (drop l.variant-index l.self.variants.items))) name
     → IsFirstRepeated (map (λ x. payload_names x.payload) (map internal_variant_of l.self.variants.items)) name)
