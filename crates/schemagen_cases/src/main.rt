@@ -15,9 +15,10 @@ use crate::cases::{Asked, work_cases};
 use std::{fs, io};
 
 // The files, and whom their cases ask.
-const FILES: [(&str, Asked); 4] = [
+const FILES: [(&str, Asked); 5] = [
     ("rows.tsv", Asked::Program),
     ("structs.tsv", Asked::Program),
+    ("enums.tsv", Asked::Program),
     ("damaged.tsv", Asked::Program),
     ("calls.tsv", Asked::Libraries),
 ];

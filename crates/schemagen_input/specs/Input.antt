@@ -13,7 +13,7 @@ use Rattle.schemars_shapes.specs.Shape.{Required, Field, Payload, Variant, Shape
 use Rattle.schemars_shapes.specs.Shape.{struct_payload, null as null_shape, bool, int, non_zero}
 use Rattle.schemars_shapes.specs.Shape.{number as number_shape, text, char, formatted, any, bytes, schema_itself}
 use Rattle.schemars_shapes.specs.Shape.{option, seq, set, array as array_shape, up_to, tuple, struct, newtype, result, bound, range}
-use Rattle.schemars_shapes.specs.Shape.{either, external, untagged, internal}
+use Rattle.schemars_shapes.specs.Shape.{either, map_from, external, untagged, internal}
 use Rattle.schemars_shapes.specs.Shape.{numbers_of}
 use Rattle.schemars_types.specs.Rows.{Row, with_entry}
 
@@ -237,12 +237,16 @@ result_in d = option_map (λ p. result p.0 p.1) (two_in (codes "ok") (codes "err
 abbrev pub either_in : Data → Option Shape
 either_in d = option_map (λ p. either p.0 p.1) (two_in (codes "left") (codes "right") d)
 
--- maps with fixed members, by the kind that this name tells
+abbrev pub map_in : Data → Option Shape
+map_in d = option_map (λ p. map_from p.0 p.1) (two_in (codes "key") (codes "value") d)
+
+-- maps, by the kind that this name tells
 abbrev pub fixed_under : Text → Data → Option Shape
 fixed_under name d =
     if bytes_eq name (codes "bound") then option_map bound (number_in d) else
     (if bytes_eq name (codes "range") then option_map range (number_in d)
-    else (if bytes_eq name (codes "result") then result_in d else (if bytes_eq name (codes "either") then either_in d else None)))
+    else (if bytes_eq name (codes "result") then result_in d else (if bytes_eq name (codes "either") then either_in d else
+    (if bytes_eq name (codes "map") then map_in d else None))))
 
 -- lists, by the kind that this name tells
 abbrev pub list_under : Text → Data → Option Shape

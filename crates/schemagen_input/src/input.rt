@@ -12,7 +12,7 @@ ghost use Rattle.schemagen_input.specs.Input.{parts_in, payload_named, payload_u
 ghost use Rattle.schemagen_input.specs.Input.{enum_in, external_in, untagged_in, is_payload_bare, is_variant_bare};
 ghost use Rattle.schemagen_input.specs.Input.{payload_inside, variant_inside, internals_in, internals_said, internal_in};
 ghost use Rattle.schemagen_input.specs.Input.{counted_in, array_in, up_to_in, numbers_in, tuple_in, list_under};
-ghost use Rattle.schemagen_input.specs.Input.{plain_under, two_in, result_in, either_in, fixed_under};
+ghost use Rattle.schemagen_input.specs.Input.{plain_under, two_in, result_in, either_in, map_in, fixed_under};
 ghost use Rattle.schemagen_input.specs.Input.{shape_named, shape_under, shape_in, entry_in, optional, needed};
 ghost use Rattle.schemagen_input.specs.Input.{heading_in, unentered, are_none, are_fields_bare, is_bare, is_complete, table_in};
 ghost use Rattle.schemagen_input.specs.Reading.{as_input, headings_in, reserved_after, fitting_after};
@@ -645,7 +645,14 @@ fn either_in(value: &Value) -> Option<Shape>
     Some(Shape::Either(left, right))
 }
 
-// A map with fixed members, of the kind that this name tells.
+fn map_in(value: &Value) -> Option<Shape>
+    ensures { option_map shape_of result ≡ map_in (view value.now) }
+{
+    let (key, value) = two_in(value, "key", "value")?;
+    Some(Shape::Map(key, value))
+}
+
+// A map, of the kind that this name tells.
 fn fixed_under(name: &str, value: &Value) -> Option<Shape>
     ensures { option_map shape_of result ≡ fixed_under name.now (view value.now) }
 {
@@ -654,6 +661,7 @@ fn fixed_under(name: &str, value: &Value) -> Option<Shape>
         "range" => number_in(value).map(Shape::Range),
         "result" => result_in(value),
         "either" => either_in(value),
+        "map" => map_in(value),
         _ => None,
     }
 }

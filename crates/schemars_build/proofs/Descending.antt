@@ -1,13 +1,13 @@
 -- How the recursion that makes documents goes down.
 use Rattle.std.proofs.Common.{◌≡◌, ◌<◌, ◌≤◌, ◌+◌, ◌*◌, ℕ, suc, List, [], length, Bool, true, false, Some}
 use Rattle.std.proofs.Common.{refl, ap, sym, subst, arith, All, get_or, Contains}
-use Rattle.std.specs.Prelude.{if◌then◌else◌}
+use Rattle.std.specs.Prelude.{if◌then◌else◌, ◌||◌}
 use Rattle.std.specs.Option.{option_map_or}
 use Rattle.std.proofs.Math.Nat.{mul-le-mul_right}
 use Rattle.std.proofs.lemmas.List.{get_or_default}
 use Rattle.schemars_shapes.specs.Shape.{Entry, numbers_of}
 use Rattle.schemars_types.specs.Rows.{Row, entry_at}
-use Rattle.schemars_types.specs.Edges.{numbers_at, is_inline_at, height}
+use Rattle.schemars_types.specs.Edges.{numbers_at, is_inline_at, is_key_at, height}
 use Rattle.schemars_types.specs.Faults.{IsChecked}
 use Rattle.schemars_build.specs.Missing.{missing, depth_in_place, StandsIn}
 use Rattle.schemars_naming.specs.Work.{Plan, Work}
@@ -38,7 +38,7 @@ stands rows n e h at = λ k d less. one (get_or (numbers_of e.shape) k d)
 
     lower : (m : ℕ) → Contains (numbers_at rows n) m → (b : Bool) → is_inline_at rows m ≡ b
         → (if b then suc (height rows m) else 0) ≤ height rows n
-    lower m is true inline = h.height_falls n m (is, inline)
+    lower m is true inline = h.height_falls n m (is, ap (λ b. b || is_key_at rows n m) inline)
     lower m is false inline = omega arith
 
     one : (m : ℕ) → Contains (numbers_of e.shape) m → StandsIn rows n m

@@ -1,9 +1,10 @@
 -- What a call makes of what a generator holds.
 use Rattle.std.proofs.Common.{◌≡◌, ◌<◌, inl, inr, ℕ, zero, suc, List, [], ◌∷◌, take, length, Bool, true, false, Option}
 use Rattle.std.proofs.Common.{Some, None, refl, sym, ap, ◌∙◌, arith, subst, true≢false, Result, Ok, Err, IsErrAnd}
-use Rattle.std.proofs.Common.{IfErr}
+use Rattle.std.proofs.Common.{IfErr, Contains}
 use Rattle.std.specs.Prelude.{if◌then◌else◌}
 use Rattle.std.specs.List.{IsDistinct}
+use Rattle.std.specs.Option.{option_map_or}
 use Rattle.serde_json.specs.Data.{Data, Members}
 use Rattle.serde_json.specs.Find.{get_member}
 use Rattle.serde_json.specs.Written.{has_float}
@@ -12,16 +13,18 @@ use Rattle.serde_json.proofs.Views.{Entry as Entries}
 use Rattle.schemars_schema.specs.Placing.{placed_at}
 use Rattle.schemars_json.specs.Json.{Text}
 use Rattle.schemars_shapes.specs.Shape as shape
-use Rattle.schemars_shapes.specs.Shape.{Entry, Shape}
+use Rattle.schemars_shapes.specs.Shape.{Entry, Shape, numbers_of}
 use Rattle.schemars_types.specs.Rows.{Row, entry_at, name_at}
 use Rattle.schemars_types.specs.Edges.{is_inline_at, height, rank}
 use Rattle.schemars_types.specs.Faults.{IsChecked}
+use Rattle.schemars_types.specs.KeyOptions.{key_options}
+use Rattle.schemars_keys.proofs.Settling.{further_rows}
 use Rattle.schemars_documents.specs.ContractOf.{contract_of}
 use Rattle.schemars_naming.specs.Naming.{name_of, IsOneToOne}
 use Rattle.schemars_documents.specs.Documents.{reference, root_document}
 use Rattle.schemars_templates.specs.Basis.{Basis}
 use Rattle.schemars_templates.specs.Template.{Template, noted}
-use Rattle.schemars_templates.specs.OfShape.{template_of}
+use Rattle.schemars_templates.specs.OfShape.{values_template, template_of}
 use Rattle.schemars_templates.specs.Describes.{IsOwnDocument, IsWritten, Describes, Fills}
 use Rattle.schemars_headline.specs.Keys.{HasKeysOnce}
 use Rattle.schemars_documents.specs.PlainTable.{IsPlainTable, HasPlainNotes, HasNoFloat}
@@ -132,41 +135,47 @@ part_own s new same step own =
 
 -- ---- a larger table
 
--- a shape's template doesn't depend on further rows
-template-more : (basis : Basis) (more : List Row) (kind : Shape) → template_of basis kind ≡ template_of (record basis { rows = more }) kind
-template-more basis more shape.null = refl
-template-more basis more shape.bool = refl
-template-more basis more (shape.int k) = refl
-template-more basis more (shape.non_zero k) = refl
-template-more basis more shape.number = refl
-template-more basis more shape.text = refl
-template-more basis more shape.char = refl
-template-more basis more (shape.formatted f) = refl
-template-more basis more shape.any = refl
-template-more basis more shape.bytes = refl
-template-more basis more shape.schema_itself = refl
-template-more basis more (shape.option n) = refl
-template-more basis more (shape.seq n) = refl
-template-more basis more (shape.set n) = refl
-template-more basis more (shape.array n len) = refl
-template-more basis more (shape.up_to n cap) = refl
-template-more basis more (shape.tuple ns) = refl
-template-more basis more (shape.struct xs closed) = refl
-template-more basis more (shape.newtype n) = refl
-template-more basis more (shape.result a b) = refl
-template-more basis more (shape.bound n) = refl
-template-more basis more (shape.range n) = refl
-template-more basis more (shape.either a b) = refl
-template-more basis more (shape.external xs) = refl
-template-more basis more (shape.untagged xs) = refl
-template-more basis more (shape.internal tag closed xs) = refl
+-- a shape's template stays as rows join that its rows' options don't depend on
+template-more : (basis : Basis) (more : List Row) (kind : Shape)
+    → ((n : ℕ) → Contains (numbers_of kind) n → key_options more n ≡ key_options basis.rows n)
+    → template_of basis kind ≡ template_of (record basis { rows = more }) kind
+template-more basis more shape.null same = refl
+template-more basis more shape.bool same = refl
+template-more basis more (shape.int k) same = refl
+template-more basis more (shape.non_zero k) same = refl
+template-more basis more shape.number same = refl
+template-more basis more shape.text same = refl
+template-more basis more shape.char same = refl
+template-more basis more (shape.formatted f) same = refl
+template-more basis more shape.any same = refl
+template-more basis more shape.bytes same = refl
+template-more basis more shape.schema_itself same = refl
+template-more basis more (shape.option n) same = refl
+template-more basis more (shape.seq n) same = refl
+template-more basis more (shape.set n) same = refl
+template-more basis more (shape.array n len) same = refl
+template-more basis more (shape.up_to n cap) same = refl
+template-more basis more (shape.tuple ns) same = refl
+template-more basis more (shape.struct xs closed) same = refl
+template-more basis more (shape.newtype n) same = refl
+template-more basis more (shape.result a b) same = refl
+template-more basis more (shape.bound n) same = refl
+template-more basis more (shape.range n) same = refl
+template-more basis more (shape.either a b) same = refl
+template-more basis more (shape.map_from key value) same =
+    ap (λ options. values_template options value) (sym (same key (0, omega arith, refl)))
+template-more basis more (shape.external xs) same = refl
+template-more basis more (shape.untagged xs) same = refl
+template-more basis more (shape.internal tag closed xs) same = refl
 
 describes-more : (basis : Basis) (more : List Row) (R : ℕ → Text → Type 0)
-    → ((n : ℕ) (e : Entry) → entry_at basis.rows n ≡ Some e → entry_at more n ≡ Some e) → (depth n : ℕ) (s : Data)
+    → ((n : ℕ) (e : Entry) → entry_at basis.rows n ≡ Some e → entry_at more n ≡ Some e)
+    → ((n m : ℕ) (e : Entry) → entry_at basis.rows n ≡ Some e → Contains (numbers_of e.shape) m
+    → key_options more m ≡ key_options basis.rows m) → (depth n : ℕ) (s : Data)
     → Describes basis R depth n s → Describes (record basis { rows = more }) R depth n s
 unfolding Describes
-describes-more basis more R all zero n s h = absurd h
-describes-more basis more R all (suc depth) n s h = go (describes-more basis more R all depth) (entry_at basis.rows n) refl h
+describes-more basis more R all same zero n s h = absurd h
+describes-more basis more R all same (suc depth) n s h = go (describes-more basis more R all same depth) (entry_at basis.rows n) refl h
   where
     wider : Basis
     wider = record basis { rows = more }
@@ -178,7 +187,8 @@ describes-more basis more R all (suc depth) n s h = go (describes-more basis mor
     go deeper (Some e) is h =
         let P : Option Entry → Type 0 = λ o. IsOwnDocument (IsWritten R (Describes wider R depth)) wider o s in
         let Q : Template → Type 0 = λ t. Fills (IsWritten R (Describes wider R depth)) (noted e.notes t) s in
-        subst P (sym (all n e is)) (subst Q (template-more basis more e.shape) (own_map (IsWritten R (Describes basis R depth))
+        subst P (sym (all n e is)) (subst Q (template-more basis more e.shape (λ m c. same n m e is c)) (own_map (IsWritten R
+        (Describes basis R depth))
         (IsWritten R (Describes wider R depth)) basis (written_map R R _ _ (λ j r e. e) deeper) (Some e) s h))
 
 entry-in_more : (first : List Row) (k : ℕ) (rows : List Row) → take k rows ≡ first → (n : ℕ) (e : Entry) → entry_at first n ≡ Some e
@@ -204,9 +214,9 @@ apart_in_more first k rows same n h = go k rows n (let P : List Row → Type 0 =
         let there : n < length rows = later.0 in
         (omega (arith, there), later.1)
 
-pub more_types_own : (s : State) (rows : List Row) → take (length s.rows) rows ≡ s.rows → HasOwnDefinitions s
+pub more_types_own : (s : State) (rows : List Row) → IsChecked s.rows → take (length s.rows) rows ≡ s.rows → HasOwnDefinitions s
     → HasOwnDefinitions (record s { rows = rows })
-more_types_own s rows same own k d found =
+more_types_own s rows checked same own k d found =
     let h = own k d found in
     let new = record s { rows = rows } in
     record {
@@ -217,9 +227,14 @@ more_types_own s rows same own k d found =
       describes = describes-wider (basis_of (plan_of new None)) (Refers (plan_of s None) false (work_of s))
           (Refers (plan_of (record s { rows = rows }) None) false (work_of s)) to_more h.depth h.depth (omega arith) h.row d
           (describes-more (basis_of (plan_of s None)) rows (Refers (plan_of s None) false (work_of s))
-          (entry-in_more s.rows (length s.rows) rows same) h.depth h.row d h.describes);
+          (entry-in_more s.rows (length s.rows) rows same) stays h.depth h.row d h.describes);
     }
   where
+    stays : (n m : ℕ) (e : Entry) → entry_at s.rows n ≡ Some e → Contains (numbers_of e.shape) m → key_options rows m ≡ key_options s.rows m
+    stays n m e at c =
+        let P : Option Entry → Type 0 = λ o. Contains (option_map_or (λ x. numbers_of x.shape) o []) m in
+        further_rows s.rows rows checked same m (checked.within.within n m (subst P (sym at) c))
+
     to_more : (n : ℕ) (r : Text) → Refers (plan_of s None) false (work_of s) n r
         → Refers (plan_of (record s { rows = rows }) None) false (work_of s) n r
     to_more n r (inl h) = cc

@@ -1,6 +1,6 @@
 -- A struct whose one field, which is required, is the struct itself: its table is accepted, and no value belongs to it.
 use Rattle.std.proofs.Common.{◌≡◌, ◌≤◌, ℕ, zero, suc, List, [], ◌∷◌, Bool, true, false, Option, Some, None, Ordering}
-use Rattle.std.proofs.Common.{Less, Equal, Greater, nat_cmp, refl, sym, ◌∙◌, arith}
+use Rattle.std.proofs.Common.{Less, Equal, Greater, nat_cmp, nat_lt, true≢false, refl, sym, ◌∙◌, arith}
 use Rattle.std.specs.Prelude.{codes, ◌&&◌, ◌||◌, not, is_some}
 use Rattle.std.specs.List.{IsDistinct}
 use Rattle.std.specs.Ordering.{match_ordering}
@@ -38,8 +38,13 @@ no_walk Edge none n m (one _ e) = none n m e
 no_walk Edge none n m (then k _ w e) = none k m e
 
 no_direct : (n m : ℕ) → ¬ DirectEdge endless n m
-no_direct n zero e = cc
-no_direct n (suc m) e = cc
+no_direct zero zero e = cc
+no_direct zero (suc m) e = absurd (true≢false (sym e.1 ∙ never (nat_lt (suc m) 1)))
+  where
+    never : (b : Bool) → b && false ≡ false
+    never true = refl
+    never false = refl
+no_direct (suc n) m e = absurd (omega (arith, e.0.1))
 
 no_same_value : (n m : ℕ) → ¬ SameValueEdge endless n m
 no_same_value zero m e = absurd (omega (arith, e.0.1))

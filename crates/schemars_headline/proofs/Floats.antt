@@ -24,6 +24,7 @@ use Rattle.schemars_shapes.specs.Shape as shape
 use Rattle.schemars_shapes.specs.Shape.{Shape, Entry, Field, Payload, Variant, no_payload, newtype_payload, tuple_payload, struct_payload}
 use Rattle.schemars_types.specs.Rows.{Row, entry_at}
 use Rattle.schemars_types.specs.Meaning.{Contract, Deserialize, Serialize, least_of, greatest_of, tagged_fields, tagged_closed}
+use Rattle.schemars_types.specs.KeyOptions.{KeyOptions, any_key, only_keys, key_options}
 use Rattle.schemars_documents.specs.Documents.{annotated, with_title, with_meta_schema, root_document, int_keywords}
 use Rattle.schemars_documents.specs.Documents.{is_signed, bytes_document, required_names}
 use Rattle.schemars_templates.specs.Basis.{Basis}
@@ -31,7 +32,7 @@ use Rattle.schemars_templates.specs.Template.{Template, finished, row, list, mem
 use Rattle.schemars_templates.specs.Template.{template, rows_of, left, keyed, filled, filled_in}
 use Rattle.schemars_templates.specs.OfShape.{KeywordTemplate, templates_of, property, map_template, tuple_template, struct_template}
 use Rattle.schemars_templates.specs.OfShape.{payload_template, named_template, is_bare_unit, bare_units, other_items, choice_of}
-use Rattle.schemars_templates.specs.OfShape.{payload_item, titled, untagged_template, template_of}
+use Rattle.schemars_templates.specs.OfShape.{values_template, payload_item, titled, untagged_template, template_of}
 use Rattle.schemars_templates.specs.OfShape.{entry_template, tagged_template, internal_item, internal_template}
 use Rattle.schemars_templates.specs.Describes.{IsOwnDocument, IsWritten, Describes}
 use Rattle.schemars_documents.specs.PlainTable.{FieldsHaveNoFloat, PayloadHasNoFloat, VariantsHaveNoFloat, ShapeHasNoFloat}
@@ -350,6 +351,18 @@ internal_whole contract tag closed (x ∷ xs) n = (internals_whole contract tag 
 
 -- ---- by shape
 
+texts_whole_at : (value : ℕ) (texts : List Text)
+    → SayWhole (templates_of (map (λ (e : KeywordTemplate). e.1) (map (λ (t : Text). (t, row value)) texts)))
+texts_whole_at value [] = tt
+texts_whole_at value (t ∷ texts) = (tt, texts_whole_at value texts)
+
+values_whole : (options : KeyOptions) (value : ℕ) → SaysWhole (values_template options value)
+values_whole any_key value = search
+values_whole (only_keys [] None) value = search
+values_whole (only_keys (t ∷ texts) None) value = search (texts_whole_at value (t ∷ texts))
+values_whole (only_keys [] (Some keys)) value = search
+values_whole (only_keys (t ∷ texts) (Some keys)) value = search (texts_whole_at value (t ∷ texts))
+
 shape_whole : (basis : Basis) (kind : Shape) → ShapeHasNoFloat kind → SaysWhole (template_of basis kind)
 shape_whole basis shape.null n = refl
 shape_whole basis shape.bool n = refl
@@ -376,6 +389,7 @@ shape_whole basis (shape.result a b) n = search
 shape_whole basis (shape.bound j) n = search
 shape_whole basis (shape.range j) n = search
 shape_whole basis (shape.either a b) n = search
+shape_whole basis (shape.map_from key value) n = values_whole (key_options basis.rows key) value
 shape_whole basis (shape.external xs) n = choice_whole (bare_units xs) (other_items basis.contract xs) (others_whole basis.contract xs n)
 shape_whole basis (shape.untagged xs) n = untagged_whole basis.contract basis.titles xs n
 shape_whole basis (shape.internal tag closed xs) n = internal_whole basis.contract tag closed xs n

@@ -82,6 +82,7 @@ same_number (shape.result a b) j same = absurd same
 same_number (shape.bound i) j same = absurd same
 same_number (shape.range i) j same = absurd same
 same_number (shape.either a b) j same = absurd same
+same_number (shape.map_from key value) j same = absurd same
 same_number (shape.external xs) j same = absurd same
 same_number (shape.untagged xs) j same = newtype_number xs j same
 same_number (shape.internal tag closed xs) j same = absurd same

@@ -25,11 +25,12 @@ use Rattle.schemars_types.specs.Rows.{Row, entry_at}
 use Rattle.schemars_types.specs.Meaning.{Contract, least_of, greatest_of}
 use Rattle.schemars_documents.specs.Documents.{annotated, with_title, with_meta_schema, root_document, int_keywords}
 use Rattle.schemars_documents.specs.Documents.{is_signed, required_names, reference}
+use Rattle.schemars_types.specs.KeyOptions.{KeyOptions, any_key, only_keys, key_options}
 use Rattle.schemars_templates.specs.Basis.{Basis}
 use Rattle.schemars_templates.specs.Template.{Template, finished, row, list, members, nullable, noted, rows_of, keyed}
 use Rattle.schemars_templates.specs.Template.{filled, filled_in}
 use Rattle.schemars_templates.specs.OfShape.{KeywordTemplate, property, map_template, bare_units, other_items, choice_of}
-use Rattle.schemars_templates.specs.OfShape.{template_of, entry_template}
+use Rattle.schemars_templates.specs.OfShape.{values_template, template_of, entry_template}
 use Rattle.schemars_templates.specs.Describes.{IsOwnDocument, IsWritten, Describes}
 use Rattle.schemars_documents.specs.PlainTable.{IsNotedEntry, HasPlainNotes}
 use Rattle.schemars_headline.proofs.Keys.{IsDefinitionsKey, IsOther, other_apart, annotation_other}
@@ -75,6 +76,13 @@ choice_other [] (t ∷ ts) = search
 choice_other (k ∷ ks) [] = search
 choice_other (k ∷ ks) (t ∷ ts) = search
 
+values_other : (options : KeyOptions) (value : ℕ) → SaysOther (values_template options value)
+values_other any_key value = search
+values_other (only_keys [] None) value = search
+values_other (only_keys (t ∷ texts) None) value = search
+values_other (only_keys [] (Some keys)) value = search
+values_other (only_keys (t ∷ texts) (Some keys)) value = search
+
 shape_other : (basis : Basis) (kind : Shape) → SaysOther (template_of basis kind)
 shape_other basis shape.null = (refl, refl)
 shape_other basis shape.bool = (refl, refl)
@@ -102,6 +110,7 @@ shape_other basis (shape.result a b) = search
 shape_other basis (shape.bound n) = search
 shape_other basis (shape.range n) = search
 shape_other basis (shape.either a b) = search
+shape_other basis (shape.map_from key value) = values_other (key_options basis.rows key) value
 shape_other basis (shape.external xs) = choice_other (bare_units xs) (other_items basis.contract xs)
 shape_other basis (shape.untagged []) = (refl, refl)
 shape_other basis (shape.untagged (x ∷ xs)) = search

@@ -16,10 +16,10 @@ use Rattle.schemars_shapes.specs.declared.shape.Shape.TheVariants as src
 use Rattle.schemars_shapes.specs.declared.variant.Variant as src-variant
 use Rattle.schemars_shapes.specs.Shape.{Variant, shape_of}
 use Rattle.schemars_types.specs.Rows.{Row}
-use Rattle.schemars_keys.specs.declared.options.IntegerKeys.{IntegerKeys}
-use Rattle.schemars_keys.specs.declared.options.IntegerKeys.TheVariants.{Unsigned, Signed}
-use Rattle.schemars_keys.specs.KeyOptions.{KeyOptions, any_key, only_keys, either_integers, either_options, each_once, all_options}
-use Rattle.schemars_keys.specs.KeyOptions.{is_none, members_options, untagged_options, shape_options}
+use Rattle.schemars_shapes.specs.declared.shape.IntegerKeys.{IntegerKeys}
+use Rattle.schemars_shapes.specs.declared.shape.IntegerKeys.TheVariants.{Unsigned, Signed}
+use Rattle.schemars_types.specs.KeyOptions.{KeyOptions, any_key, only_keys, either_integers, either_options, each_once, all_options}
+use Rattle.schemars_types.specs.KeyOptions.{is_none, members_options, untagged_options, shape_options}
 use Rattle.schemars_keys.specs.Found.{adding, AreAmong, HoldsRows}
 use Rattle.schemars_keys.proofs.Texts.{listed_more, listed_own, nothing_joins, insert_all-append, once_by_joining}
 
@@ -171,6 +171,7 @@ other_shape part (src.Result a b) i z w x u = refl
 other_shape part (src.Bound n) i z w x u = refl
 other_shape part (src.Range n) i z w x u = refl
 other_shape part (src.Either a b) i z w x u = refl
+other_shape part (src.Map key value) i z w x u = refl
 other_shape part (src.Internal internal) i z w x u = refl
 other_shape part (src.External xs) i z w x u = absurd (x xs refl)
 other_shape part (src.Untagged xs) i z w x u = absurd (u xs refl)

@@ -9,8 +9,8 @@ use Rattle.schemars_shapes.specs.Shape.{Variant, Payload, no_payload, newtype_pa
 use Rattle.schemars_json.specs.Json.{Text}
 use Rattle.schemars_schema.specs.Acceptance.{Patterns}
 use Rattle.schemars_types.specs.Rows.{Row}
-use Rattle.schemars_keys.specs.declared.options.IntegerKeys.TheVariants.{Unsigned, Signed}
-use Rattle.schemars_keys.specs.KeyOptions.{KeyOptions, any_key, only_keys, key_options, options_within, is_key_allowed}
+use Rattle.schemars_shapes.specs.declared.shape.IntegerKeys.TheVariants.{Unsigned, Signed}
+use Rattle.schemars_types.specs.KeyOptions.{KeyOptions, any_key, only_keys, key_options, options_within, is_key_allowed}
 
 variant : String → Payload → Members → Variant
 variant name payload notes = record { name = codes name; payload = payload; notes = notes }

@@ -11,8 +11,8 @@ use Rattle.schemars_types.specs.Edges.{RefersWithin, rank}
 use Rattle.schemars_types.specs.Extends.{begins_with}
 use Rattle.schemars_types.specs.Faults.{IsChecked}
 use Rattle.schemars_types.proofs.Extensions.{begins-same}
-use Rattle.schemars_keys.specs.KeyOptions.{KeyOptions, any_key, either_options, member_options, members_options, shape_options}
-use Rattle.schemars_keys.specs.KeyOptions.{options_within, all_options, key_options, each_once}
+use Rattle.schemars_types.specs.KeyOptions.{KeyOptions, any_key, either_options, member_options, members_options, shape_options}
+use Rattle.schemars_types.specs.KeyOptions.{options_within, all_options, key_options, each_once}
 use Rattle.schemars_keys.proofs.Asked.{newtypes_with, newtypes_first, newtypes_later, asked, entry_low}
 
 -- ---- options depend on the rows that are asked alone
@@ -61,6 +61,7 @@ shape_alike f g (shape.result a b) h = refl
 shape_alike f g (shape.bound i) h = refl
 shape_alike f g (shape.range i) h = refl
 shape_alike f g (shape.either a b) h = refl
+shape_alike f g (shape.map_from key value) h = refl
 shape_alike f g (shape.external xs) h = refl
 shape_alike f g (shape.internal tag closed xs) h = refl
 shape_alike f g (shape.untagged []) h = refl

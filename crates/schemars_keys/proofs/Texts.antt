@@ -7,7 +7,7 @@ use Rattle.std.proofs.lemmas.List.Folds.{list_any-append}
 use Rattle.std.proofs.lemmas.Slice.Eq.{bytes_eq-Decides}
 use Rattle.indexmap.specs.IndexSet.{insert_key, insert_all}
 use Rattle.schemars_json.specs.Json.{Text}
-use Rattle.schemars_keys.specs.KeyOptions.{once}
+use Rattle.schemars_types.specs.KeyOptions.{once}
 use Rattle.schemars_keys.specs.Found.{AreListed}
 
 pub listed_last : (p : Text → Bool) (ts : List Text) (u : Text) → p u ≡ true → list_any p (ts ++ u ∷ []) ≡ true

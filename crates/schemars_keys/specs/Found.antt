@@ -6,7 +6,7 @@ use Rattle.schemars_json.specs.Json.{Text}
 use Rattle.schemars_types.specs.Rows.{Row}
 use Rattle.schemars_keys.specs.declared.options.KeyOptions as src
 use Rattle.schemars_keys.specs.declared.options.KeyOptions.TheVariants as variant
-use Rattle.schemars_keys.specs.KeyOptions.{KeyOptions, any_key, only_keys, either_integers, all_options}
+use Rattle.schemars_types.specs.KeyOptions.{KeyOptions, any_key, only_keys, either_integers, all_options}
 
 abbrev pub options_of : src.KeyOptions → KeyOptions
 options_of variant.Any = any_key

@@ -1,2 +1,1 @@
-pub mod KeyOptions
 pub mod Found

@@ -3,13 +3,13 @@ ghost use Rattle.std.specs.Prelude.{◌≡◌, ℕ, None, IfOk, OnOk, Contains, 
 ghost use Rattle.schemars_shapes.specs.Shape.{variant_of, payload_of, newtype_payload, newtype_numbers};
 ghost use Rattle.schemars_types.specs.Edges.{SameValueEdge};
 ghost use Rattle.schemars_types.specs.Faults.{IsChecked};
-ghost use Rattle.schemars_keys.specs.KeyOptions.{only_keys, is_bare_unit, are_names, external_options, untagged_options, all_options};
-ghost use Rattle.schemars_keys.specs.KeyOptions.{member_options, key_options};
+ghost use Rattle.schemars_types.specs.KeyOptions.{only_keys, is_bare_unit, are_names, external_options, untagged_options, all_options};
+ghost use Rattle.schemars_types.specs.KeyOptions.{member_options, key_options};
 ghost use Rattle.schemars_keys.specs.Found.{options_of, adding, HoldsRows};
 
-use crate::options::{IntegerKeys, KeyOptions};
+use crate::options::KeyOptions;
 use indexmap::IndexSet;
-use schemars_types::{Payload, Shape, TypeNo, Types, Variant};
+use schemars_types::{IntegerKeys, Payload, Shape, TypeNo, Types, Variant};
 use std::alloc::{AllocError, Global};
 
 /// The keys that a map may have whose keys are of row `key`, in a table without faults.

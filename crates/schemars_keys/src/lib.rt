@@ -5,4 +5,5 @@ mod keys;
 mod options;
 
 pub use keys::key_options;
-pub use options::{IntegerKeys, KeyOptions};
+pub use options::KeyOptions;
+pub use schemars_shapes::IntegerKeys;

@@ -12,13 +12,14 @@ use Rattle.schemars_rewrite.specs.Variants.{unit_variant}
 use Rattle.schemars_shapes.specs.Shape as shape
 use Rattle.schemars_shapes.specs.Shape.{Shape, Field, Entry}
 use Rattle.schemars_types.specs.Meaning.{Contract}
+use Rattle.schemars_types.specs.KeyOptions.{key_options}
 use Rattle.schemars_documents.specs.Documents.{Keyword, typed, type_alone, int_document, non_zero_document, char_document}
 use Rattle.schemars_documents.specs.Documents.{formatted_document, count_at, empty_list_document, bytes_document}
 use Rattle.schemars_documents.specs.Documents.{schema_document, required_names, annotated}
 use Rattle.schemars_templates.specs.Basis.{Basis}
 use Rattle.schemars_templates.specs.Template.{row, rows_of, rows_in, filled, filled_in, keyed, finished}
 use Rattle.schemars_templates.specs.OfShape.{templates_of, property, map_template, template_of, entry_template}
-use Rattle.schemars_templates.specs.OfShape.{external_template, untagged_template, internal_template, tagged_template}
+use Rattle.schemars_templates.specs.OfShape.{values_template, external_template, untagged_template, internal_template, tagged_template}
 use Rattle.schemars_templates.specs.Describes.{ArePartsWritten, Fills}
 use Rattle.schemars_meaning.proofs.Rows.{rows_at, rows_same, rows_tagged}
 
@@ -154,6 +155,7 @@ IsDocument Written basis (shape.result a b) s = IsOfTwo (Written a) (Written b) 
 IsDocument Written basis (shape.bound n) s = IsOfTwo (Written n) (Written n) bound_document s
 IsDocument Written basis (shape.range n) s = IsOfTwo (Written n) (Written n) range_document s
 IsDocument Written basis (shape.either a b) s = IsOfTwo (Written a) (Written b) either_document s
+IsDocument Written basis (shape.map_from key value) s = Fills Written (values_template (key_options basis.rows key) value) s
 IsDocument Written basis (shape.external xs) s = Fills Written (external_template basis.contract xs) s
 IsDocument Written basis (shape.untagged xs) s = Fills Written (untagged_template basis.contract basis.titles xs) s
 IsDocument Written basis (shape.internal tag closed xs) s = Fills Written (internal_template basis.contract tag closed xs) s
@@ -317,6 +319,7 @@ module _ (W : ℕ → Data → Type 0) where
   fills basis (shape.either a b) s [] h e = absurd h
   fills basis (shape.either a b) s (t ∷ []) h e = absurd h.1
   fills basis (shape.either a b) s (t ∷ u ∷ ts) h e = (t, u, h.0, h.1.0, e)
+  fills basis (shape.map_from key value) s ts h e = record { parts = ts; written = h; is = e }
   fills basis (shape.external xs) s ts h e = record { parts = ts; written = h; is = e }
   fills basis (shape.untagged xs) s ts h e = record { parts = ts; written = h; is = e }
   fills basis (shape.internal tag closed xs) s ts h e = record { parts = ts; written = h; is = e }

@@ -17,6 +17,8 @@ use Rattle.schemars_shapes.specs.Shape as shape
 use Rattle.schemars_shapes.specs.Shape.{Shape, needed}
 use Rattle.schemars_types.specs.Meaning.{Contract, Deserialize, Serialize, has_shape, has_fields, exactly_one, none, is_text}
 use Rattle.serde_json.specs.View.{items_of}
+use Rattle.schemars_types.specs.KeyOptions.{key_options}
+use Rattle.schemars_templates.specs.Basis.{Basis}
 use Rattle.schemars_meaning.proofs.ByShape.{one_of_document, any_of_document, units_document, member_document, range_document}
 use Rattle.schemars_meaning.proofs.ByShape.{result_document, bound_document, either_document}
 use Rattle.schemars_meaning.proofs.Structs.{struct_says}
@@ -35,7 +37,10 @@ one_verdict [] = refl
 one_verdict (true ∷ bs) = none_verdict bs
 one_verdict (false ∷ bs) = one_verdict bs
 
-module _ (patterns : Patterns) (f : Text → Judge) (contract : Contract) (M : ℕ → Data → Bool) where
+module _ (patterns : Patterns) (f : Text → Judge) (basis : Basis) (M : ℕ → Data → Bool) where
+  abbrev contract : Contract
+  contract = basis.contract
+
   abbrev c : Context
   c = context2020_12 patterns f
 
@@ -123,31 +128,32 @@ module _ (patterns : Patterns) (f : Text → Judge) (contract : Contract) (M : �
             json agree
 
     pub range_says : (n : ℕ) (s e : Data) → W n s → W n e
-        → (judge c (range_document s e)).fits v ≡ verdict (has_shape contract patterns M (shape.range n) v)
+        → (judge c (range_document s e)).fits v ≡ verdict (has_shape contract patterns (key_options basis.rows) M (shape.range n) v)
     range_says n s e g h = go contract
       where
-        go : (k : Contract) → (judge c (range_document s e)).fits v ≡ verdict (has_shape k patterns M (shape.range n) v)
+        go : (k : Contract) → (judge c (range_document s e)).fits v
+            ≡ verdict (has_shape k patterns (key_options basis.rows) M (shape.range n) v)
         go Deserialize = struct_says patterns f Deserialize W M schemas (needed (codes "start") n ∷ needed (codes "end") n ∷ [])
             (s ∷ e ∷ []) false ((refl, tt), (tt, tt)) (tt, (tt, tt)) (g, (h, refl)) v json agree
         go Serialize = struct_says patterns f Serialize W M schemas (needed (codes "start") n ∷ needed (codes "end") n ∷ [])
             (s ∷ e ∷ []) false ((refl, tt), (tt, tt)) (tt, (tt, tt)) (g, (h, refl)) v json agree
 
     pub result_says : (a b : ℕ) (t e : Data) → W a t → W b e
-        → (judge c (result_document t e)).fits v ≡ verdict (has_shape contract patterns M (shape.result a b) v)
+        → (judge c (result_document t e)).fits v ≡ verdict (has_shape contract patterns (key_options basis.rows) M (shape.result a b) v)
     result_says a b t e g h =
         one_of_says (member_document false (codes "Ok") t ∷ member_document false (codes "Err") e ∷ [])
         (has false (codes "Ok") a ∷ has false (codes "Err") b ∷ []) v
         (tt, member_says false (codes "Ok") a t g, (tt, member_says false (codes "Err") b e h, tt))
 
     pub either_says : (a b : ℕ) (t e : Data) → W a t → W b e
-        → (judge c (either_document t e)).fits v ≡ verdict (has_shape contract patterns M (shape.either a b) v)
+        → (judge c (either_document t e)).fits v ≡ verdict (has_shape contract patterns (key_options basis.rows) M (shape.either a b) v)
     either_says a b t e g h =
         one_of_says (member_document true (codes "Left") t ∷ member_document true (codes "Right") e ∷ [])
         (has true (codes "Left") a ∷ has true (codes "Right") b ∷ []) v
         (tt, member_says true (codes "Left") a t g, (tt, member_says true (codes "Right") b e h, tt))
 
     pub bound_says : (n : ℕ) (t e : Data) → W n t → W n e
-        → (judge c (bound_document t e)).fits v ≡ verdict (has_shape contract patterns M (shape.bound n) v)
+        → (judge c (bound_document t e)).fits v ≡ verdict (has_shape contract patterns (key_options basis.rows) M (shape.bound n) v)
     bound_says n t e g h =
         one_of_says (member_document false (codes "Included") t ∷ member_document false (codes "Excluded") e
         ∷ unit_variant (codes "Unbounded") ∷ [])

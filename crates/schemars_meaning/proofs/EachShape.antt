@@ -21,18 +21,23 @@ use Rattle.schemars_shapes.specs.IntKind.{format_of}
 use Rattle.schemars_shapes.specs.Shape as shape
 use Rattle.schemars_types.specs.Meaning.{Contract, Deserialize, Serialize, is_byte, is_byte_text, has_shape, every_item}
 use Rattle.schemars_types.specs.Meaning.{each_of, holds, least_of, greatest_of, is_at_least, is_at_most, is_zero}
+use Rattle.schemars_types.specs.KeyOptions.{key_options}
+use Rattle.schemars_templates.specs.Basis.{Basis}
 use Rattle.schemars_documents.specs.Documents.{type_alone, int_keywords, int_document, non_zero_document, char_document}
 use Rattle.schemars_documents.specs.Documents.{formatted_document, empty_list_document, bytes_document, schema_document}
 use Rattle.schemars_templates.specs.Describes.{ArePartsWritten}
 use Rattle.schemars_meaning.proofs.ByShape.{seq_document, set_document, array_document, up_to_document, tuple_document}
 use Rattle.schemars_meaning.proofs.ByShape.{items_from, IsArrayDocument}
 
-module _ (patterns : Patterns) (f : Text → Judge) (contract : Contract) (M : ℕ → Data → Bool) where
+module _ (patterns : Patterns) (f : Text → Judge) (basis : Basis) (M : ℕ → Data → Bool) where
+  abbrev contract : Contract
+  contract = basis.contract
+
   abbrev c : Context
   c = context2020_12 patterns f
 
   abbrev Says : Data → shape.Shape → Data → Type 0
-  Says s kind v = (judge c s).fits v ≡ verdict (has_shape contract patterns M kind v)
+  Says s kind v = (judge c s).fits v ≡ verdict (has_shape contract patterns (key_options basis.rows) M kind v)
 
   pub null_says : (v : Data) → Says (type_alone (codes "null")) shape.null v
   unfolding read_data all_keywords

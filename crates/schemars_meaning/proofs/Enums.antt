@@ -23,6 +23,7 @@ use Rattle.schemars_shapes.specs.Shape.{Shape, Field, Payload, Variant, no_paylo
 use Rattle.schemars_types.specs.Meaning.{Contract, Deserialize, Serialize, has_shape, has_payload}
 use Rattle.schemars_types.specs.Meaning.{has_variant, has_fields, is_map_of, is_text, holds}
 use Rattle.schemars_types.specs.Meaning.{every_member, member_fits, has_required, none, exactly_one, field_named}
+use Rattle.schemars_types.specs.KeyOptions.{key_options}
 use Rattle.schemars_documents.specs.Documents.{annotated, required_names}
 use Rattle.schemars_documents.specs.PlainTable.{IsNoVariant, AreDistinctVariants, IsPlainPayload, ArePlainVariants}
 use Rattle.schemars_templates.specs.Basis.{Basis}
@@ -290,7 +291,7 @@ module _ (patterns : Patterns) (f : Text → Judge) (basis : Basis) (W : ℕ →
   AllTell (t ∷ ts) (b ∷ bs) v = Tells t b v × AllTell ts bs v
 
   all_say : (ts : List Template) (bs : List Bool) (v : Data) → AllTell ts bs v → (us : List Data) → Fit W (rows_in (templates_of ts)) us
-      → Say patterns f contract M (filled_in (templates_of ts) us) bs v
+      → Say patterns f basis M (filled_in (templates_of ts) us) bs v
   all_say [] [] v h us fit = tt
   all_say [] (b ∷ bs) v h us fit = absurd h
   all_say (t ∷ ts) [] v h us fit = absurd h
@@ -302,14 +303,14 @@ module _ (patterns : Patterns) (f : Text → Judge) (basis : Basis) (W : ℕ →
   pub one_tells : (ts : List Template) (bs : List Bool) (v : Data) → AllTell ts bs v → Tells (one_of ts) (exactly_one bs) v
   one_tells ts bs v h us fit = (
     tt,
-    one_of_says patterns f contract M (filled_in (templates_of ts) us) bs v
+    one_of_says patterns f basis M (filled_in (templates_of ts) us) bs v
         (all_say ts bs v h us (without_end W (rows_in (templates_of ts)) us fit)),
   )
 
   any_tells : (ts : List Template) (bs : List Bool) (v : Data) → AllTell ts bs v → Tells (any_of ts) (list_any (λ b. b) bs) v
   any_tells ts bs v h us fit = (
     tt,
-    any_of_says patterns f contract M (filled_in (templates_of ts) us) bs v
+    any_of_says patterns f basis M (filled_in (templates_of ts) us) bs v
         (all_say ts bs v h us (without_end W (rows_in (templates_of ts)) us fit)),
   )
 
@@ -379,13 +380,13 @@ module _ (patterns : Patterns) (f : Text → Judge) (basis : Basis) (W : ℕ →
   payload_tells : (p : Payload) → IsPlainPayload p → (v : Data) → IsJson v → AgreesWithin v
       → ((n : ℕ) (t : Data) → p ≡ newtype_payload n → W n t → (judge c t).fits v ≡ verdict (M n v))
       → Tells (payload_template contract p) (has_payload contract M p v) v
-  payload_tells no_payload plain v json agree same us fit = (tt, null_says patterns f contract M v)
+  payload_tells no_payload plain v json agree same us fit = (tt, null_says patterns f basis M v)
   payload_tells (newtype_payload n) plain v json agree same [] fit = absurd fit
   payload_tells (newtype_payload n) plain v json agree same (t ∷ us) fit = (schemas n t fit.0, same n t refl fit.0)
   payload_tells (tuple_payload ns) plain v json agree same us fit =
       let d = by_shape W basis (shape.tuple ns) _ (record { parts = us; written = fit; is = refl }) in (
         subst IsSchema (sym d.2) (ready-schema (tuple_document d.0) (tuple_ready d.0)),
-        ap (λ s. (judge c s).fits v) d.2 ∙ tuple_says patterns f contract M W schemas ns d.0 d.1 v json agree,
+        ap (λ s. (judge c s).fits v) d.2 ∙ tuple_says patterns f basis M W schemas ns d.0 d.1 v json agree,
       )
   payload_tells (struct_payload xs closed) plain v json agree same us fit =
       let d = by_shape W basis (shape.struct xs closed) _ (record { parts = us; written = fit; is = refl }) in (
@@ -415,7 +416,7 @@ module _ (patterns : Patterns) (f : Text → Judge) (basis : Basis) (W : ℕ →
 
     named_tells : (name : Text) (p : Payload) → IsPlainPayload p
         → Tells (named_template contract name p) (named_by contract M v name p) v
-    named_tells name no_payload plain us fit = (tt, unit_says patterns f contract M name v)
+    named_tells name no_payload plain us fit = (tt, unit_says patterns f basis M name v)
     named_tells name (newtype_payload n) plain us fit = keyed_tells name (newtype_payload n) plain us fit
     named_tells name (tuple_payload ns) plain us fit = keyed_tells name (tuple_payload ns) plain us fit
     named_tells name (struct_payload xs closed) plain us fit = keyed_tells name (struct_payload xs closed) plain us fit
@@ -437,7 +438,7 @@ module _ (patterns : Patterns) (f : Text → Judge) (basis : Basis) (W : ℕ →
         )
 
     units_tell : (ks : List Text) → Tells (units_template ks) (U contract M v ks) v
-    units_tell ks us fit = (tt, units_say patterns f contract M ks v)
+    units_tell ks us fit = (tt, units_say patterns f basis M ks v)
 
     choice_tells : (ks : List Text) (ts : List Template) (bs : List Bool) → AllTell ts bs v
         → Tells (choice_of ks ts) (exactly_one (U contract M v ks ∷ bs)) v
@@ -457,7 +458,8 @@ module _ (patterns : Patterns) (f : Text → Judge) (basis : Basis) (W : ℕ →
 
     pub external_says : (xs : List Variant) → AreDistinctVariants xs → ArePlainVariants xs → (us : List Data)
         → Fit W (rows_of (external_template contract xs)) us
-        → (judge c (filled (external_template contract xs) us)).fits v ≡ verdict (has_shape contract patterns M (shape.external xs) v)
+        → (judge c (filled (external_template contract xs) us)).fits v
+        ≡ verdict (has_shape contract patterns (key_options basis.rows) M (shape.external xs) v)
     external_says xs apart plain us fit =
         (choice_tells (bare_units xs) (other_items contract xs) (map (P contract M v) (others contract M v xs)) (others_tell xs plain) us
         fit).1
@@ -483,7 +485,7 @@ module _ (patterns : Patterns) (f : Text → Judge) (basis : Basis) (W : ℕ →
         → ((n : ℕ) (t : Data) → IsNewtypeIn n xs → W n t → (judge c t).fits v ≡ verdict (M n v)) → (us : List Data)
         → Fit W (rows_of (untagged_template contract basis.titles xs)) us
         → (judge c (filled (untagged_template contract basis.titles xs) us)).fits v
-        ≡ verdict (has_shape contract patterns M (shape.untagged xs) v)
+        ≡ verdict (has_shape contract patterns (key_options basis.rows) M (shape.untagged xs) v)
     unfolding read_data
     untagged_says [] plain same us fit = refl
     untagged_says (x ∷ xs) plain same us fit =

@@ -16,6 +16,7 @@ use Rattle.schemars_rewrite.proofs.Nulls.{IsReady, ready-schema}
 use Rattle.schemars_shapes.specs.Shape.{Entry}
 use Rattle.schemars_types.specs.Rows.{Row, entry_at}
 use Rattle.schemars_types.specs.Meaning.{Contract, has_shape, belongs_within}
+use Rattle.schemars_types.specs.KeyOptions.{key_options}
 use Rattle.schemars_documents.specs.Documents.{reference}
 use Rattle.schemars_templates.specs.Basis.{Basis}
 use Rattle.schemars_templates.specs.Describes.{IsOwnDocument, IsWritten, Describes}
@@ -219,7 +220,11 @@ module _ (s : Setting) where
       → IsOwnDocument (W d) basis o t → (v : Data) → IsJson v → (m : ℕ)
       → depth v * most_hops + hops k ≤ n → depth v * ranks + rank k < suc m
       → (judge (context2020_12 patterns (at_most n)) t).fits v
-      ≡ verdict (elim o [ None ↦ false | Some entry ↦ has_shape contract patterns (belongs_within rows contract patterns m) entry.shape v ])
+      ≡ verdict (elim o [
+        | None ↦ false
+        | Some entry ↦ has_shape contract patterns (key_options rows)
+            (belongs_within rows contract patterns m) entry.shape v
+      ])
   own_says n d good said k None at noted t is v json m costs low = absurd is
   own_says n d good said k (Some e) at noted t is v json m costs low =
       let own = own_document (W d) basis e t is in

@@ -8,6 +8,7 @@ pub mod Ready
 pub mod Choices
 pub mod Enums
 pub mod Tagged
+pub mod Keyed
 pub mod Meanings
 pub mod Notes
 pub mod ReferencesKept

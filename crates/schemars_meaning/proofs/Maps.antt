@@ -23,7 +23,7 @@ use Rattle.schemars_meaning.proofs.ByShape.{map_document}
 
 -- ---- the judges under names
 
-pub judges_in : Context → Members → List (Text × Judge)
+unfoldable pub judges_in : Context → Members → List (Text × Judge)
 judges_in c no_members = []
 judges_in c (member k d ms) = (k, judge c d) ∷ judges_in c ms
 
@@ -31,7 +31,7 @@ abbrev pub AreSchemas : Members → Type 0
 AreSchemas no_members = Unit {0}
 AreSchemas (member k d ms) = IsSchema d × AreSchemas ms
 
-all_named-schemas : (c : Context) (ms : Members) → AreSchemas ms → all_named (read_members c ms) ≡ Some (judges_in c ms)
+pub all_named-schemas : (c : Context) (ms : Members) → AreSchemas ms → all_named (read_members c ms) ≡ Some (judges_in c ms)
 unfolding read_data judges_in
 all_named-schemas c no_members h = refl
 all_named-schemas c (member k d ms) h = rw (schema-judge c d h.0, all_named-schemas c ms h.1)
@@ -70,7 +70,7 @@ abbrev pub AreEntries : List Keyword → Type 0
 AreEntries [] = Unit {0}
 AreEntries (e ∷ es) = IsSchema e.1 × AreEntries es
 
-AreSchemas-put_all : (es : List Keyword) (ms : Members) → AreEntries es → AreSchemas ms → AreSchemas (put_all es ms)
+pub AreSchemas-put_all : (es : List Keyword) (ms : Members) → AreEntries es → AreSchemas ms → AreSchemas (put_all es ms)
 AreSchemas-put_all [] ms h i = i
 AreSchemas-put_all (e ∷ es) ms h i = AreSchemas-put_all es (put e.0 e.1 ms) h.1 (AreSchemas-put e.0 e.1 ms h.0 i)
 
@@ -80,11 +80,11 @@ required_value : List Text → Option Data
 required_value [] = None
 required_value (n ∷ ns) = Some (array (text_items (n ∷ ns)))
 
-properties_value : Context → List Keyword → Option Reading
+unfoldable pub properties_value : Context → List Keyword → Option Reading
 properties_value c [] = None
 properties_value c (e ∷ es) = Some (read_data c (object_of (e ∷ es)))
 
-closed_value : Context → Bool → Option Reading
+unfoldable pub closed_value : Context → Bool → Option Reading
 closed_value c false = None
 closed_value c true = Some (read_data c (boolean false))
 
@@ -92,11 +92,12 @@ texts_in-text_items : (ns : List Text) → texts_in (text_items ns) ≡ Some ns
 texts_in-text_items [] = refl
 texts_in-text_items (n ∷ ns) = rw (texts_in-text_items ns)
 
-each_yes : (ms : Members) → each_member (λ k w. Yes) ms ≡ Yes
+pub each_yes : (ms : Members) → each_member (λ k w. Yes) ms ≡ Yes
 each_yes no_members = refl
 each_yes (member k w ms) = each_yes ms
 
-each_agree : (p q : Text → Data → Verdict) → ((k : Text) (w : Data) → p k w ≡ q k w) → (ms : Members) → each_member p ms ≡ each_member q ms
+pub each_agree : (p q : Text → Data → Verdict) → ((k : Text) (w : Data) → p k w ≡ q k w) → (ms : Members)
+    → each_member p ms ≡ each_member q ms
 each_agree p q same no_members = refl
 each_agree p q same (member k w ms) = rw (same k w, each_agree p q same ms)
 
@@ -139,7 +140,7 @@ module _ (patterns : Patterns) (f : Text → Judge) where
   required_part [] ms = refl
   required_part (n ∷ ns) ms = rw (texts_in-text_items ns)
 
-  named_part : (es : List Keyword) → AreEntries es → (ms : Members) → properties_say (properties_value c es) (object ms)
+  pub named_part : (es : List Keyword) → AreEntries es → (ms : Members) → properties_say (properties_value c es) (object ms)
       ≡ each_member (named_says (judges_of es)) ms
   unfolding properties_value read_data judges_in
   named_part [] h ms = sym (each_yes ms)

@@ -1,7 +1,7 @@
 -- The references of a filled template are those of its parts.
 use Rattle.std.proofs.Common.{◌≡◌, ℕ, zero, suc, ◌-◌, List, [], ◌∷◌, ◌++◌, length, map, Bool, true, false, Option, Some, None}
 use Rattle.std.proofs.Common.{refl, sym, true≢false, ap, ◌∙◌, arith, subst, Contains, append_assoc, append-nil, length-append, ℤ, pos}
-use Rattle.std.specs.Prelude.{codes, bytes_eq, if◌then◌else◌}
+use Rattle.std.specs.Prelude.{codes, bytes_eq, filter, not, if◌then◌else◌}
 use Rattle.std.proofs.lemmas.Slice.Eq.{bytes_eq-Decides}
 use Rattle.std.proofs.lemmas.List.{nil_from_length}
 use Rattle.std.proofs.lemmas.List.Elements.{Contains-append_left}
@@ -20,6 +20,7 @@ use Rattle.schemars_shapes.specs.Shape.{Shape, Field, Entry, Payload, Variant, n
 use Rattle.schemars_shapes.specs.IntKind.{format_of}
 use Rattle.schemars_types.specs.Meaning.{Contract, Deserialize, Serialize, least_of, greatest_of, tagged_fields, tagged_closed}
 use Rattle.schemars_documents.specs.Documents.{int_keywords, is_signed, required_names, bytes_document}
+use Rattle.schemars_types.specs.KeyOptions.{KeyOptions, any_key, only_keys, all_options, key_options, each_once, once}
 use Rattle.schemars_documents.specs.PlainTable.{IsNoName, AreDistinct, AreNoted, IsPlainShape, IsPlainEntry, IsPlainPayload}
 use Rattle.schemars_documents.specs.PlainTable.{ArePlainVariants, AreTagged}
 use Rattle.schemars_templates.specs.Basis.{Basis}
@@ -28,7 +29,7 @@ use Rattle.schemars_templates.specs.Template.{template, rows_of, rows_in, first,
 use Rattle.schemars_templates.specs.OfShape.{KeywordTemplate, templates_of, object_with, property, map_template, template_of}
 use Rattle.schemars_templates.specs.OfShape.{entry_template, member_template, payload_template, named_template, is_bare_unit, bare_units}
 use Rattle.schemars_templates.specs.OfShape.{other_items, choice_of, payload_item, titled}
-use Rattle.schemars_templates.specs.OfShape.{untagged_template, tagged_template, internal_item, internal_template}
+use Rattle.schemars_templates.specs.OfShape.{values_template, untagged_template, tagged_template, internal_item, internal_template}
 use Rattle.schemars_templates.specs.Describes.{references_of}
 use Rattle.schemars_meaning.proofs.Notes.{annotated-schema}
 use Rattle.schemars_meaning.proofs.ReferencesKept.{Among, among_more, Alike, alike_equal, alike_same, alike_nothing}
@@ -375,6 +376,79 @@ unfolding found_in
 untagged_as_schema contract titles [] h = refl
 untagged_as_schema contract titles (x ∷ xs) h = search (payloads_as_items contract titles (x ∷ xs) h)
 
+-- ---- maps
+
+no_key-filter : (k : Text) (p : Text → Bool) (ks : List Text) → IsNoKey k ks → IsNoKey k (filter p ks)
+no_key-filter k p [] h = tt
+no_key-filter k p (l ∷ ks) h = go (p l) (no_key-filter k p ks h.1)
+  where
+    go : (b : Bool) → IsNoKey k (filter p ks) → IsNoKey k (if b then l ∷ filter p ks else filter p ks)
+    go true rest = (h.0, rest)
+    go false rest = rest
+
+apart-filter : (p : Text → Bool) (ks : List Text) → AreApart ks → AreApart (filter p ks)
+apart-filter p [] h = tt
+apart-filter p (k ∷ ks) h = go (p k) (apart-filter p ks h.1)
+  where
+    go : (b : Bool) → AreApart (filter p ks) → AreApart (if b then k ∷ filter p ks else filter p ks)
+    go true rest = (no_key-filter k p ks h.0, rest)
+    go false rest = rest
+
+others_apart : (k : Text) (ks : List Text) → IsNoKey k (filter (λ u. not (bytes_eq u k)) ks)
+others_apart k [] = tt
+others_apart k (l ∷ ks) = go (bytes_eq l k) refl (others_apart k ks)
+  where
+    rest : List Text
+    rest = filter (λ u. not (bytes_eq u k)) ks
+
+    go : (b : Bool) → bytes_eq l k ≡ b → IsNoKey k rest → IsNoKey k (if not b then l ∷ rest else rest)
+    go true same h = h
+    go false other h = (other, h)
+
+once_apart : (ks : List Text) → AreApart (once ks)
+once_apart [] = tt
+once_apart (k ∷ ks) = (others_apart k (once ks), apart-filter (λ u. not (bytes_eq u k)) (once ks) (once_apart ks))
+
+-- the texts among options are all different
+abbrev AreKeysApart : KeyOptions → Type 0
+AreKeysApart any_key = Unit {0}
+AreKeysApart (only_keys texts keys) = AreApart texts
+
+keys_apart : (options : KeyOptions) → AreKeysApart (each_once options)
+keys_apart any_key = tt
+keys_apart (only_keys texts keys) = once_apart texts
+
+abbrev texts_at : ℕ → List Text → List KeywordTemplate
+texts_at value texts = map (λ t. (t, row value)) texts
+
+texts_named : (value : ℕ) (texts : List Text)
+    → AreNamed (templates_of (map (λ e. e.1) (texts_at value texts))) (map (λ e. e.0) (texts_at value texts))
+texts_named value [] = tt
+texts_named value (t ∷ texts) = (tt, texts_named value texts)
+
+texts_no_key : (k : Text) (value : ℕ) (texts : List Text) → IsNoKey k texts → IsNoKey k (map (λ e. e.0) (texts_at value texts))
+texts_no_key k value [] h = tt
+texts_no_key k value (t ∷ texts) h = (h.0, texts_no_key k value texts h.1)
+
+texts_apart : (value : ℕ) (texts : List Text) → AreApart texts → AreApart (map (λ e. e.0) (texts_at value texts))
+texts_apart value [] h = tt
+texts_apart value (t ∷ texts) h = (texts_no_key t value texts h.0, texts_apart value texts h.1)
+
+values_as_schema : (options : KeyOptions) (value : ℕ) → AreKeysApart options → AsSchema (values_template options value)
+unfolding found_in
+values_as_schema any_key value h = search
+values_as_schema (only_keys [] None) value h = search
+values_as_schema (only_keys (t ∷ texts) None) value h = search (texts_named value (t ∷ texts), texts_apart value (t ∷ texts) h)
+values_as_schema (only_keys [] (Some keys)) value h = search
+values_as_schema (only_keys (t ∷ texts) (Some keys)) value h = search (texts_named value (t ∷ texts), texts_apart value (t ∷ texts) h)
+
+values_make : (options : KeyOptions) (value : ℕ) → MakesSchema (values_template options value)
+values_make any_key value = tt
+values_make (only_keys [] None) value = tt
+values_make (only_keys (t ∷ texts) None) value = tt
+values_make (only_keys [] (Some keys)) value = tt
+values_make (only_keys (t ∷ texts) (Some keys)) value = tt
+
 -- what a variant has beside its tag: fields with names and notes as those of a struct
 pub plain_fields : (p : Payload) → IsPlainPayload p → AreDistinct (tagged_fields p) × AreNoted (tagged_fields p)
 plain_fields no_payload h = (tt, tt)
@@ -483,6 +557,8 @@ shape_as_schema basis (shape.result a b) p = search
 shape_as_schema basis (shape.bound n) p = search
 shape_as_schema basis (shape.range n) p = search
 shape_as_schema basis (shape.either a b) p = search
+shape_as_schema basis (shape.map_from key value) p =
+    values_as_schema (key_options basis.rows key) value (keys_apart (all_options basis.rows key))
 shape_as_schema basis (shape.external xs) p =
     choice_as_schema (bare_units xs) (other_items basis.contract xs) (others_as_items basis.contract xs p.1)
 shape_as_schema basis (shape.untagged xs) p = untagged_as_schema basis.contract basis.titles xs p
@@ -518,6 +594,7 @@ shape_makes basis (shape.result a b) = tt
 shape_makes basis (shape.bound n) = tt
 shape_makes basis (shape.range n) = tt
 shape_makes basis (shape.either a b) = tt
+shape_makes basis (shape.map_from key value) = values_make (key_options basis.rows key) value
 shape_makes basis (shape.external xs) = choice_makes (bare_units xs) (other_items basis.contract xs)
 shape_makes basis (shape.untagged xs) = untagged_makes basis.contract basis.titles xs
 shape_makes basis (shape.internal tag closed xs) = internal_makes basis.contract tag closed xs

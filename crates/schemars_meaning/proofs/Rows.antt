@@ -1,5 +1,5 @@
 -- The rows that stand in a shape's template are those of the shape.
-use Rattle.std.proofs.Common.{◌≡◌, ℕ, zero, suc, List, [], ◌∷◌, Bool, true, false, map, refl, sym, ap, ◌∙◌, subst}
+use Rattle.std.proofs.Common.{◌≡◌, ℕ, zero, suc, List, [], ◌∷◌, Bool, true, false, Some, None, map, refl, sym, ap, ◌∙◌, subst}
 use Rattle.std.proofs.Common.{append-nil, arith, All, ◌++◌}
 use Rattle.std.specs.Prelude.{if◌then◌else◌}
 use Rattle.std.proofs.lemmas.List.Elements.{All-append}
@@ -10,12 +10,14 @@ use Rattle.schemars_shapes.specs.Shape as shape
 use Rattle.schemars_shapes.specs.Shape.{Shape, Field, Payload, Variant, no_payload, newtype_payload, tuple_payload, struct_payload}
 use Rattle.schemars_shapes.specs.Shape.{numbers_of, payload_numbers, variant_numbers}
 use Rattle.schemars_types.specs.Meaning.{Contract, tagged_fields, tagged_closed}
+use Rattle.schemars_types.specs.KeyOptions.{KeyOptions, any_key, only_keys, key_options}
 use Rattle.schemars_documents.specs.Documents.{required_names}
 use Rattle.schemars_templates.specs.Basis.{Basis}
 use Rattle.schemars_templates.specs.Template.{Template, finished, row, noted, rows_of, rows_in}
 use Rattle.schemars_templates.specs.OfShape.{templates_of, property, map_template, tuple_template, struct_template, template_of}
 use Rattle.schemars_templates.specs.OfShape.{payload_template, named_template, is_bare_unit, bare_units, other_items, choice_of}
-use Rattle.schemars_templates.specs.OfShape.{payload_item, titled, untagged_template, tagged_template, internal_item, internal_template}
+use Rattle.schemars_templates.specs.OfShape.{KeywordTemplate, values_template, payload_item, titled}
+use Rattle.schemars_templates.specs.OfShape.{untagged_template, tagged_template, internal_item, internal_template}
 
 pub rows_same : (ns : List ℕ) → rows_in (templates_of (map row ns)) ≡ ns
 rows_same [] = refl
@@ -173,6 +175,22 @@ module _ (P : ℕ → Type 0) where
   internal_rows contract tag closed (x ∷ xs) h =
       ended (rows_in (templates_of (map (internal_item contract tag closed) (x ∷ xs)))) (internals_rows contract tag closed (x ∷ xs) h)
 
+  abbrev text_rows : ℕ → List Text → List ℕ
+  text_rows value texts = rows_in (templates_of (map (λ (e : KeywordTemplate). e.1) (map (λ (t : Text). (t, row value)) texts)))
+
+  texts_rows : (value : ℕ) (texts : List Text) → All P (value ∷ []) → All P (text_rows value texts)
+  texts_rows value [] h = nothing
+  texts_rows value (t ∷ texts) h = All-append P (value ∷ []) (text_rows value texts) h (texts_rows value texts h)
+
+  -- a map has the row of its values, as often as it is written
+  values_rows : (options : KeyOptions) (value : ℕ) → All P (value ∷ []) → All P (rows_of (values_template options value))
+  values_rows any_key value h = h
+  values_rows (only_keys [] None) value h = nothing
+  values_rows (only_keys (t ∷ texts) None) value h = ended (text_rows value (t ∷ texts)) (texts_rows value (t ∷ texts) h)
+  values_rows (only_keys [] (Some keys)) value h = h
+  values_rows (only_keys (t ∷ texts) (Some keys)) value h =
+      All-append P (value ∷ []) (text_rows value (t ∷ texts) ++ []) h (ended (text_rows value (t ∷ texts)) (texts_rows value (t ∷ texts) h))
+
   pub all_rows : (basis : Basis) (kind : Shape) → All P (numbers_of kind) → All P (rows_of (template_of basis kind))
   all_rows basis shape.null h = nothing
   all_rows basis shape.bool h = nothing
@@ -198,6 +216,7 @@ module _ (P : ℕ → Type 0) where
   all_rows basis (shape.bound n) h = twice n h
   all_rows basis (shape.range n) h = twice n h
   all_rows basis (shape.either a b) h = h
+  all_rows basis (shape.map_from key value) h = values_rows (key_options basis.rows key) value (parted (key ∷ []) (value ∷ []) h).1
   all_rows basis (shape.external xs) h =
       choice_rows (bare_units xs) (other_items basis.contract xs) (other_rows basis.contract xs h)
   all_rows basis (shape.untagged xs) h = untagged_rows basis.contract basis.titles xs h

@@ -42,7 +42,7 @@ both-assoc No No Yes = refl
 both-assoc No No No = refl
 both-assoc No No Open = refl
 
-both-middle : (a b x y : Verdict) → both (both a b) (both x y) ≡ both (both a x) (both b y)
+pub both-middle : (a b x y : Verdict) → both (both a b) (both x y) ≡ both (both a x) (both b y)
 both-middle a b x y =
     both-assoc a b (both x y) ∙ (ap (both a) (sym (both-assoc b x y) ∙ (ap (λ z. both z y) (both-swap b x) ∙ both-assoc x b y))
     ∙ sym (both-assoc a x (both b y)))

@@ -24,6 +24,7 @@ use Rattle.schemars_types.specs.Meaning.{Contract, Deserialize, Serialize, has_s
 use Rattle.schemars_types.specs.Meaning.{tagged_closed, is_text, holds, every_member}
 use Rattle.schemars_types.specs.Meaning.{member_fits, has_required, is_required, none, exactly_one}
 use Rattle.schemars_types.specs.Meaning.{field_named}
+use Rattle.schemars_types.specs.KeyOptions.{key_options}
 use Rattle.schemars_documents.specs.Documents.{Keyword, annotated, required_names}
 use Rattle.schemars_documents.specs.PlainTable.{IsNoName, AreDistinct, AreNoted, IsNoVariant, AreDistinctVariants, ArePlainVariants}
 use Rattle.schemars_templates.specs.Basis.{Basis}
@@ -294,7 +295,7 @@ module _ (patterns : Patterns) (f : Text → Judge) (basis : Basis) (W : ℕ →
       (agree : (j : ℕ) (t w : Data) → W j t → IsJson w → depth w < depth v → (judge c t).fits w ≡ verdict (M j w)) where
     agree_with_tag : (name : Text) (j : ℕ) (t w : Data) → WithTag W M name j t → IsJson w → depth w < depth v
         → (judge c t).fits w ≡ verdict (tests W M name j w)
-    agree_with_tag name zero t w is js less = ap (λ s. (judge c s).fits w) is ∙ unit_says patterns f contract M name w
+    agree_with_tag name zero t w is js less = ap (λ s. (judge c s).fits w) is ∙ unit_says patterns f basis M name w
     agree_with_tag name (suc n) t w is js less = agree n t w is js less
 
     -- the names that have to be there are those of the fields, led by the tag
@@ -337,7 +338,7 @@ module _ (patterns : Patterns) (f : Text → Judge) (basis : Basis) (W : ℕ →
     pub internal_says : (tag : Text) (closed : Bool) (xs : List Variant) → AreDistinctVariants xs → ArePlainVariants xs
         → (us : List Data) → Fit W (rows_of (internal_template contract tag closed xs)) us
         → (judge c (filled (internal_template contract tag closed xs) us)).fits v
-        ≡ verdict (has_shape contract patterns M (shape.internal tag closed xs) v)
+        ≡ verdict (has_shape contract patterns (key_options basis.rows) M (shape.internal tag closed xs) v)
     unfolding read_data
     internal_says tag closed [] apart plain us fit = refl
     internal_says tag closed (x ∷ xs) apart plain us fit =

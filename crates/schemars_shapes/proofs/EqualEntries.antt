@@ -13,7 +13,8 @@ use Rattle.schemars_shapes.specs.declared.shape.IntKind.{IntKind}
 use Rattle.schemars_shapes.specs.IntKind.{kind_eq}
 use Rattle.schemars_shapes.specs.Shape.{Required, Field, Shape, Entry, null, bool, int, non_zero, number}
 use Rattle.schemars_shapes.specs.Shape.{text, char, formatted, any, bytes, schema_itself, option, seq, set}
-use Rattle.schemars_shapes.specs.Shape.{array as array_shape, up_to, tuple, struct, newtype, result, bound, range, either, external}
+use Rattle.schemars_shapes.specs.Shape.{array as array_shape, up_to, tuple, struct, newtype}
+use Rattle.schemars_shapes.specs.Shape.{result, bound, range, either, map_from, external}
 use Rattle.schemars_shapes.specs.Shape.{untagged, internal, Payload, Variant, no_payload, newtype_payload, tuple_payload, struct_payload}
 use Rattle.schemars_shapes.specs.Equality.{bool_eq, required_eq, field_eq, list_eq, payload_eq, variant_eq, variants_eq, shape_eq, entry_eq}
 
@@ -154,6 +155,7 @@ same_shape (result m e) (result n f) h = let both = same_two m n e f h in λ i. 
 same_shape (bound m) (bound n) h = ap bound (same_number m n h)
 same_shape (range m) (range n) h = ap range (same_number m n h)
 same_shape (either m e) (either n f) h = let both = same_two m n e f h in λ i. either (both.0 i) (both.1 i)
+same_shape (map_from m e) (map_from n f) h = let both = same_two m n e f h in λ i. map_from (both.0 i) (both.1 i)
 same_shape (external xs) (external ys) h = ap external (same_variants xs ys h)
 same_shape (untagged xs) (untagged ys) h = ap untagged (same_variants xs ys h)
 same_shape (internal tag closed xs) (internal key sealed ys) h =

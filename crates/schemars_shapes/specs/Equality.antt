@@ -5,7 +5,7 @@ use Rattle.schemars_json.specs.Json.{members_eq}
 use Rattle.schemars_shapes.specs.IntKind.{kind_eq}
 use Rattle.schemars_shapes.specs.Shape.{Required, Field, Shape, Entry, null, bool, int, non_zero, number, text, char}
 use Rattle.schemars_shapes.specs.Shape.{formatted, any, bytes, schema_itself, option, seq, set, array, up_to, tuple}
-use Rattle.schemars_shapes.specs.Shape.{struct, newtype, result, bound, range, either, external, untagged, internal}
+use Rattle.schemars_shapes.specs.Shape.{struct, newtype, result, bound, range, either, map_from, external, untagged, internal}
 use Rattle.schemars_shapes.specs.Shape.{Payload, Variant, no_payload, newtype_payload, tuple_payload, struct_payload}
 
 abbrev pub bool_eq : Bool → Bool → Bool
@@ -60,6 +60,7 @@ shape_eq (result m e) (result n f) = (m == n) && (e == f)
 shape_eq (bound m) (bound n) = m == n
 shape_eq (range m) (range n) = m == n
 shape_eq (either m e) (either n f) = (m == n) && (e == f)
+shape_eq (map_from m e) (map_from n f) = (m == n) && (e == f)
 shape_eq (external xs) (external ys) = variants_eq xs ys
 shape_eq (untagged xs) (untagged ys) = variants_eq xs ys
 shape_eq (internal tag closed xs) (internal key sealed ys) = bytes_eq tag key && (bool_eq closed sealed && variants_eq xs ys)

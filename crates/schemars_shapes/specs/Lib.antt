@@ -1,4 +1,5 @@
 pub mod IntKind
+pub mod IntegerKeys
 pub mod Shape
 pub mod Equality
 pub mod Repeated

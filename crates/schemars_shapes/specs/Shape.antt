@@ -1,5 +1,5 @@
 -- What an entry of a table says: a row's shape, whether it is written in place, and its notes.
-use Rattle.std.specs.Prelude.{ℕ, ◌==◌, if◌then◌else◌, List, [], ◌∷◌, ◌++◌, map, Bool, true, string_bytes}
+use Rattle.std.specs.Prelude.{ℕ, ◌==◌, if◌then◌else◌, List, [], ◌∷◌, ◌++◌, map, Bool, true, Option, Some, None, string_bytes}
 use Rattle.serde_json.specs.Data.{Members, no_members}
 use Rattle.serde_json.specs.View.{members_view}
 use Rattle.schemars_json.specs.Json.{Text}
@@ -42,8 +42,8 @@ pub record Variant : Type 0 where
   pub notes : Members
 
 -- Numbers are those of rows. An array has just so many items, and `up_to` has so many at most. A struct has fields, in order, and may
--- be closed to other keys. A result has the row of `Ok` first, and `either` that of `Left`. The variants of an enum are tagged by their
--- names, or by nothing, or by a member of their own maps; there a unit may be closed to other keys.
+-- be closed to other keys. A result has the row of `Ok` first, `either` that of `Left`, and a map that of its keys. The variants of an
+-- enum are tagged by their names, or by nothing, or by a member of their own maps; there a unit may be closed to other keys.
 pub data Shape : Type 0 where
   null : Shape
   bool : Shape
@@ -68,6 +68,7 @@ pub data Shape : Type 0 where
   bound : ℕ → Shape
   range : ℕ → Shape
   either : ℕ → ℕ → Shape
+  map_from : ℕ → ℕ → Shape
   external : List Variant → Shape
   untagged : List Variant → Shape
   internal : Text → Bool → List Variant → Shape
@@ -132,6 +133,7 @@ shape_of (src.Result ok err) = result ok err
 shape_of (src.Bound n) = bound n
 shape_of (src.Range n) = range n
 shape_of (src.Either left right) = either left right
+shape_of (src.Map key value) = map_from key value
 shape_of (src.External variants) = external (map variant_of variants.items)
 shape_of (src.Untagged variants) = untagged (map variant_of variants.items)
 shape_of (src.Internal x) = internal (internal_view x).0 (internal_view x).1 (internal_view x).2
@@ -178,6 +180,7 @@ numbers_of (result ok err) = ok ∷ err ∷ []
 numbers_of (bound n) = n ∷ []
 numbers_of (range n) = n ∷ []
 numbers_of (either left right) = left ∷ right ∷ []
+numbers_of (map_from key value) = key ∷ value ∷ []
 numbers_of (external xs) = variant_numbers xs
 numbers_of (untagged xs) = variant_numbers xs
 numbers_of (internal tag closed xs) = variant_numbers xs
@@ -198,6 +201,11 @@ same_value_numbers (option n) = n ∷ []
 same_value_numbers (newtype n) = n ∷ []
 same_value_numbers (untagged xs) = newtype_numbers xs
 same_value_numbers _ = []
+
+-- the row of a map's keys
+abbrev pub key_of : Shape → Option ℕ
+key_of (map_from key value) = Some key
+key_of _ = None
 
 -- the names of a variant's fields
 abbrev pub payload_names : Payload → List Text

@@ -50,6 +50,7 @@ impl Clone for Shape {
             Shape::Bound(n) => Shape::Bound(*n),
             Shape::Range(n) => Shape::Range(*n),
             Shape::Either(left, right) => Shape::Either(*left, *right),
+            Shape::Map(key, value) => Shape::Map(*key, *value),
             Shape::External(variants) => Shape::External(copies(variants)?),
             Shape::Untagged(variants) => Shape::Untagged(copies(variants)?),
             Shape::Internal(internal) => Shape::Internal(internal.clone()?),

@@ -1,8 +1,9 @@
 ghost use Rattle.std.specs.Prelude.{◌≡◌, ◌&&◌, ◌++◌, nat_le, find, map, bytes_eq, string_bytes, IfOk, OnOk, MatchOption};
 ghost use Rattle.std.specs.List.{IsDistinct};
 ghost use Rattle.schemars_shapes.specs.IntKind.{format_of, non_zero_name};
+ghost use Rattle.schemars_shapes.specs.IntegerKeys.{pattern_of, integers_of};
 ghost use Rattle.schemars_shapes.specs.Shape.{shape_of, field_of, fields_view, entry_of, numbers_of};
-ghost use Rattle.schemars_shapes.specs.Shape.{same_value_numbers, names_of, without_notes};
+ghost use Rattle.schemars_shapes.specs.Shape.{same_value_numbers, key_of, names_of, without_notes};
 ghost use Rattle.schemars_shapes.specs.Repeated.{IsRepeated, AreDistinctLists, IsFirstRepeated};
 ghost use Rattle.schemars_shapes.specs.Equality.{shape_eq, list_eq, field_eq, bool_eq, entry_eq};
 
@@ -76,6 +77,47 @@ impl IntKind {
     }
 }
 
+/// Keys of maps that are whole numbers.
+#[derive(Clone, Copy, PartialEq, Eq, Debug)]
+pub enum IntegerKeys {
+    /// without a sign
+    Unsigned,
+    /// with a sign or without
+    Signed,
+}
+
+impl IntegerKeys {
+    /// The pattern of these keys.
+    pub fn pattern(self) -> &'static str
+        ensures { result.now ≡ pattern_of self }
+    {
+        match self {
+            IntegerKeys::Unsigned => "^\\d+$",
+            IntegerKeys::Signed => "^-?\\d+$",
+        }
+    }
+
+    /// The keys that numbers of this kind are.
+    pub fn of_kind(kind: IntKind) -> IntegerKeys
+        ensures { result ≡ integers_of kind }
+    {
+        match kind {
+            IntKind::I8 => IntegerKeys::Signed,
+            IntKind::I16 => IntegerKeys::Signed,
+            IntKind::I32 => IntegerKeys::Signed,
+            IntKind::I64 => IntegerKeys::Signed,
+            IntKind::I128 => IntegerKeys::Signed,
+            IntKind::Isize => IntegerKeys::Signed,
+            IntKind::U8 => IntegerKeys::Unsigned,
+            IntKind::U16 => IntegerKeys::Unsigned,
+            IntKind::U32 => IntegerKeys::Unsigned,
+            IntKind::U64 => IntegerKeys::Unsigned,
+            IntKind::U128 => IntegerKeys::Unsigned,
+            IntKind::Usize => IntegerKeys::Unsigned,
+        }
+    }
+}
+
 /// The shape of a type's values.
 #[derive(Drop)]
 pub enum Shape {
@@ -125,6 +167,8 @@ pub enum Shape {
     Range(TypeNo),
     /// a map with one key: `Left` of the first row, or `Right` of the second
     Either(TypeNo, TypeNo),
+    /// a map with keys that the first row allows, and values of the second
+    Map(TypeNo, TypeNo),
     /// the name of a unit variant, or a map with the name of another as its one key
     External(Vec<Variant>),
     /// what a variant has, without its name
@@ -169,6 +213,7 @@ impl Shape {
             Shape::Array(n, _) | Shape::UpTo(n, _) => first_unknown(&[*n], len),
             Shape::Bound(n) | Shape::Range(n) => first_unknown(&[*n], len),
             Shape::Result(n, m) | Shape::Either(n, m) => first_unknown(&[*n, *m], len),
+            Shape::Map(key, value) => first_unknown(&[*key, *value], len),
             Shape::External(variants) | Shape::Untagged(variants) => first_unknown_in(
                 variants, len,
             ),
@@ -189,6 +234,7 @@ impl Shape {
             Shape::Array(n, _) | Shape::UpTo(n, _) => Ok(vec![in alloc; *n]?),
             Shape::Bound(n) | Shape::Range(n) => Ok(vec![in alloc; *n]?),
             Shape::Result(n, m) | Shape::Either(n, m) => Ok(vec![in alloc; *n, *m]?),
+            Shape::Map(key, value) => Ok(vec![in alloc; *key, *value]?),
             Shape::External(variants) | Shape::Untagged(variants) => numbers_in(alloc, variants),
             Shape::Internal(internal) => internal.numbers(alloc),
             Shape::Tuple(parts) => parts.clone(),
@@ -208,6 +254,16 @@ impl Shape {
         }
     }
 
+    /// The row of a map's keys.
+    pub fn key(&self) -> Option<TypeNo>
+        ensures { result ≡ key_of (shape_of self.now) }
+    {
+        match self {
+            Shape::Map(key, _) => Some(*key),
+            _ => None,
+        }
+    }
+
     /// The first name that is met a second time: in the list of fields, or in that of variants, or
     /// else in the list of fields of a variant.
     pub fn repeated_name(&self, alloc: Global) -> Result<Option<String>, AllocError>
@@ -224,6 +280,7 @@ impl Shape {
             Shape::Option(_) | Shape::Newtype(_) | Shape::Seq(_) | Shape::Set(_) => Ok(None),
             Shape::Array(..) | Shape::UpTo(..) | Shape::Tuple(_) => Ok(None),
             Shape::Result(..) | Shape::Either(..) | Shape::Bound(_) | Shape::Range(_) => Ok(None),
+            Shape::Map(..) => Ok(None),
         }
     }
 
@@ -254,6 +311,7 @@ impl Shape {
             (Shape::Bound(n), Shape::Bound(m)) => n == m,
             (Shape::Range(n), Shape::Range(m)) => n == m,
             (Shape::Either(a, b), Shape::Either(c, d)) => a == c && b == d,
+            (Shape::Map(a, b), Shape::Map(c, d)) => a == c && b == d,
             (Shape::External(a), Shape::External(b)) => variants_equal(a, b),
             (Shape::Untagged(a), Shape::Untagged(b)) => variants_equal(a, b),
             (Shape::Internal(a), Shape::Internal(b)) => a.is_equal(b),

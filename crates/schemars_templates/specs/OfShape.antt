@@ -1,5 +1,5 @@
 -- The document of each shape, as a template.
-use Rattle.std.specs.Prelude.{ℕ, zero, suc, List, [], ◌∷◌, ◌++◌, length, map, Bool, true, false, if◌then◌else◌, codes}
+use Rattle.std.specs.Prelude.{ℕ, zero, suc, List, [], ◌∷◌, ◌++◌, length, map, Bool, true, false, Option, Some, None, if◌then◌else◌, codes}
 use Rattle.serde_json.specs.Data.{Data, boolean, number, unsigned, string, array, Items, item, no_items, Members, no_members, member}
 use Rattle.schemars_json.specs.Json.{Text}
 use Rattle.schemars_rewrite.specs.NullLaw.{text_items}
@@ -7,6 +7,9 @@ use Rattle.schemars_rewrite.specs.Variants.{unit_variant}
 use Rattle.schemars_shapes.specs.Shape as shape
 use Rattle.schemars_shapes.specs.Shape.{Shape, Field, Entry, Payload, Variant, no_payload, newtype_payload, tuple_payload, struct_payload}
 use Rattle.schemars_types.specs.Meaning.{Contract, tagged_fields, tagged_closed}
+use Rattle.schemars_types.specs.KeyOptions.{KeyOptions, any_key, only_keys, key_options}
+use Rattle.schemars_shapes.specs.declared.shape.IntegerKeys.{IntegerKeys}
+use Rattle.schemars_shapes.specs.IntegerKeys.{pattern_of}
 use Rattle.schemars_documents.specs.Documents.{type_alone, int_document, non_zero_document, char_document}
 use Rattle.schemars_documents.specs.Documents.{formatted_document, empty_list_document, bytes_document, schema_document}
 use Rattle.schemars_documents.specs.Documents.{required_names}
@@ -190,6 +193,18 @@ abbrev pub internal_template : Contract → Text → Bool → List Variant → T
 internal_template contract tag closed [] = finished (boolean false)
 internal_template contract tag closed (x ∷ xs) = one_of (map (internal_item contract tag closed) (x ∷ xs))
 
+-- ---- maps
+
+abbrev pub pattern_properties_at : Option IntegerKeys → ℕ → List KeywordTemplate
+pattern_properties_at None value = []
+pattern_properties_at (Some keys) value = (codes "patternProperties", object_with ((pattern_of keys, row value) ∷ [])) ∷ []
+
+-- a map with the keys that are allowed, and values of this row
+abbrev pub values_template : KeyOptions → ℕ → Template
+values_template any_key value = object_with (typed (codes "object") ∷ (codes "additionalProperties", row value) ∷ [])
+values_template (only_keys texts integers) value = object_with (typed (codes "object") ∷ said (codes "additionalProperties") (boolean false)
+    ∷ (pattern_properties_at integers value ++ properties_at (map (λ t. (t, row value)) texts)))
+
 -- ---- by shape
 
 abbrev pub template_of : Basis → Shape → Template
@@ -216,6 +231,7 @@ template_of basis (shape.result t e) = result_template t e
 template_of basis (shape.bound n) = bound_template n
 template_of basis (shape.range n) = range_template n
 template_of basis (shape.either l r) = either_template l r
+template_of basis (shape.map_from key value) = values_template (key_options basis.rows key) value
 template_of basis (shape.external xs) = external_template basis.contract xs
 template_of basis (shape.untagged xs) = untagged_template basis.contract basis.titles xs
 template_of basis (shape.internal tag closed xs) = internal_template basis.contract tag closed xs

@@ -18,7 +18,10 @@ ghost use Rattle.schemars_templates.specs.OfShape.{either_template, any_of, said
 ghost use Rattle.schemars_templates.specs.OfShape.{is_bare_unit, bare_units, other_items, external_template};
 ghost use Rattle.schemars_templates.specs.OfShape.{payload_item, untagged_template, titled};
 ghost use Rattle.schemars_templates.specs.OfShape.{tagged_template, internal_item, internal_template};
+ghost use Rattle.schemars_templates.specs.OfShape.{pattern_properties_at, values_template};
 ghost use Rattle.schemars_templates.specs.Basis.{basis_of};
+ghost use Rattle.schemars_types.specs.Faults.{IsChecked};
+ghost use Rattle.schemars_types.specs.KeyOptions.{key_options, any_key, only_keys};
 
 use crate::basis::Basis;
 use crate::template::Template;
@@ -28,11 +31,12 @@ use schemars_documents::documents::{
     schema_document, type_alone,
 };
 use schemars_documents::integers::{int_document, non_zero_document};
+use schemars_keys::{KeyOptions, key_options};
 use schemars_rewrite::builders::new_unit_enum_variant;
 use schemars_schema::Schema;
 use schemars_types::{
-    Field, Fields, IntKind, Internal, InternalPayload, InternalVariant, Payload, Shape, TypeEntry,
-    TypeNo, Variant,
+    Field, Fields, IntKind, IntegerKeys, Internal, InternalPayload, InternalVariant, Payload,
+    Shape, TypeEntry, TypeNo, Types, Variant,
 };
 use serde_json::Value;
 use std::alloc::{AllocError, Global};
@@ -40,9 +44,10 @@ use std::alloc::{AllocError, Global};
 /// The template of a row's document, with its notes.
 pub fn entry_template<'t>(
     alloc: Global,
-    basis: &Basis<'_>,
+    basis: &Basis<'t>,
     entry: &'t TypeEntry,
 ) -> Result<Template<'t>, AllocError>
+    requires { IsChecked (basis_of basis.now).rows }
     ensures { IfOk result (λ t. template_view t ≡ entry_template (basis_of basis.now) (entry_of entry.now)) }
 {
     let bare = template_of(alloc, basis, &entry.shape)?;
@@ -52,9 +57,10 @@ pub fn entry_template<'t>(
 /// The template of a shape's document.
 pub fn template_of<'t>(
     alloc: Global,
-    basis: &Basis<'_>,
+    basis: &Basis<'t>,
     shape: &'t Shape,
 ) -> Result<Template<'t>, AllocError>
+    requires { IsChecked (basis_of basis.now).rows }
     ensures { IfOk result (λ t. template_view t ≡ template_of (basis_of basis.now) (shape_of shape.now)) }
 {
     match shape {
@@ -81,6 +87,7 @@ pub fn template_of<'t>(
         Shape::Bound(n) => bound_template(alloc, *n),
         Shape::Range(n) => range_template(alloc, *n),
         Shape::Either(left, right) => either_template(alloc, *left, *right),
+        Shape::Map(key, value) => values_template(alloc, basis.types, *key, *value),
         Shape::External(variants) => external_template(alloc, basis.contract, variants),
         Shape::Untagged(variants) => untagged_template(
             alloc,
@@ -576,6 +583,88 @@ fn tagged_names(
     let mut others = required_names(alloc, contract, fields)?;
     names.append(&mut others)?;
     Ok(names)
+}
+
+// A map with the keys that row `key` allows, and values of row `value`.
+fn values_template<'t>(
+    alloc: Global,
+    types: &'t Types,
+    key: TypeNo,
+    value: TypeNo,
+) -> Result<Template<'t>, AllocError>
+    requires { IsChecked types.now }
+    ensures { IfOk result (λ t. template_view t ≡ values_template (key_options types.now key) value) }
+{
+    match key_options(alloc, types, key)? {
+        KeyOptions::Any => any_key_template(alloc, value),
+        KeyOptions::Only { texts, integers } => only_keys_template(
+            alloc,
+            texts.as_slice(),
+            integers,
+            value,
+        ),
+    }
+}
+
+// A map whose keys are any texts.
+fn any_key_template<'t>(alloc: Global, value: TypeNo) -> Result<Template<'t>, AllocError>
+    ensures { IfOk result (λ t. template_view t ≡ values_template any_key value) }
+{
+    let object = text(alloc, "object")?;
+    let keys = vec![in alloc; "type", "additionalProperties"]?;
+    let values = vec![in alloc; object, Template::Row(value)]?;
+    Ok(Template::Object(keys, values))
+}
+
+// A map whose keys are these texts, or those of a pattern.
+fn only_keys_template<'t>(
+    alloc: Global,
+    texts: &[&'t str],
+    integers: Option<IntegerKeys>,
+    value: TypeNo,
+) -> Result<Template<'t>, AllocError>
+    ensures { IfOk result (λ t. template_view t ≡ values_template (only_keys (map (λ t. t.now) texts.now) integers) value) }
+{
+    let mut keywords: Vec<(&'t str, Template<'t>)> = typed(alloc, "object")?;
+    add_closed(&mut keywords, true)?;
+    add_pattern_properties(alloc, &mut keywords, integers, value)?;
+    let properties = values_at(alloc, texts, value)?;
+    add_properties(alloc, &mut keywords, properties)?;
+    object_with(alloc, keywords)
+}
+
+fn add_pattern_properties<'t>(
+    alloc: Global,
+    keywords: &mut Vec<(&'t str, Template<'t>)>,
+    integers: Option<IntegerKeys>,
+    value: TypeNo,
+) -> Result<(), AllocError>
+    ensures { OnOk result (map keyword_view keywords.new.items
+        ≡ map keyword_view keywords.old.items ++ pattern_properties_at integers value) }
+{
+    let Some(integers) = integers else {
+        return Ok(());
+    };
+    let pattern: &'t str = integers.pattern();
+    let values: Vec<(&'t str, Template<'t>)> = vec![in alloc; (pattern, row(value))]?;
+    let by_pattern = object_with(alloc, values)?;
+    keywords.push(("patternProperties", by_pattern))?;
+    Ok(())
+}
+
+// The value's schema under each of these keys.
+fn values_at<'t>(
+    alloc: Global,
+    keys: &[&'t str],
+    value: TypeNo,
+) -> Result<Vec<(&'t str, Template<'t>)>, AllocError>
+    ensures { IfOk result (λ v. map keyword_view v.items ≡ map (λ t. (t, row value)) (map (λ t. t.now) keys.now)) }
+{
+    let mut values = Vec::new(alloc);
+    for key in keys {
+        values.push((*key, Template::Row(value)))?;
+    }
+    Ok(values)
 }
 
 // One of these at least.

@@ -14,7 +14,7 @@ use Rattle.schemars_json.specs.Json.{Text}
 use Rattle.schemars_types.specs.Rows.{Row, entry_at}
 use Rattle.schemars_cycles.specs.Walks.{Leads, OnCycle, IsFree, IsLeast}
 use Rattle.schemars_types.specs.Edges.{RefersWithin, DirectEdge, SameValueEdge, direct_targets, same_value_targets}
-use Rattle.schemars_types.specs.Edges.{is_inline_at, numbers_at, same_value_numbers_at, height, rank, names_at}
+use Rattle.schemars_types.specs.Edges.{is_direct, numbers_at, same_value_numbers_at, height, rank, names_at}
 use Rattle.schemars_types.specs.EdgeKind.{targets_along}
 use Rattle.schemars_shapes.specs.Repeated.{IsRepeated, AreDistinctLists, IsFirstRepeated}
 use Rattle.schemars_types.specs.Faults.{IsUndefined, HasRepeated, OnDirectCycle, OnEmptyCycle, IsAccepted, IsChecked}
@@ -120,10 +120,10 @@ least_repeated rows n name differ r = ((name, r), λ k below (other, s). never_f
 -- ---- edges
 
 to_direct : (rows : List Row) (n m : ℕ) → Contains (targets_along Direct rows n) m → DirectEdge rows n m
-to_direct rows n m among = Contains-filter (is_inline_at rows) (numbers_at rows n) m among
+to_direct rows n m among = Contains-filter (is_direct rows n) (numbers_at rows n) m among
 
 from_direct : (rows : List Row) (n m : ℕ) → DirectEdge rows n m → Contains (targets_along Direct rows n) m
-from_direct rows n m e = Contains-filtered (is_inline_at rows) (numbers_at rows n) m e.0 e.1
+from_direct rows n m e = Contains-filtered (is_direct rows n) (numbers_at rows n) m e.0 e.1
 
 to_same_value : (rows : List Row) (n m : ℕ) → Contains (targets_along SameValue rows n) m → SameValueEdge rows n m
 to_same_value rows n m among = let (c, t) = Contains-filter (λ k. nat_lt k (length rows)) (same_value_numbers_at rows n) m among in

@@ -2,11 +2,12 @@
 use Rattle.std.proofs.Common.{◌≡◌, ◌<◌, ◌∙◌, ◌⊎◌, inl, inr, ℕ, zero, suc, List, [], ◌∷◌, Bool, true, false, Option}
 use Rattle.std.proofs.Common.{Some, None, length, filter, cond, Contains, nat_lt, MatchOption, refl, sym, ap, subst}
 use Rattle.std.proofs.Common.{arith, true≢false}
+use Rattle.std.specs.Prelude.{◌&&◌, ◌||◌}
 use Rattle.std.proofs.lemmas.Bool.Decides.{Decides-ltb}
 use Rattle.schemars_types.specs.Rows.{Row}
 use Rattle.schemars_cycles.specs.Walks.{Leads, OnCycle, IsFree, IsLeast}
 use Rattle.schemars_cycles.specs.Search.{Graph, targets_in, IsClosed, HasTargets}
-use Rattle.schemars_types.specs.Edges.{numbers_at, is_inline_at, same_value_numbers_at}
+use Rattle.schemars_types.specs.Edges.{numbers_at, is_inline_at, is_key_at, is_direct, same_value_numbers_at}
 use Rattle.schemars_types.specs.EdgeKind.{targets_along}
 use Rattle.schemars_types.specs.declared.check.EdgeKind.{EdgeKind}
 use Rattle.schemars_types.specs.declared.check.EdgeKind.TheVariants.{Direct, SameValue}
@@ -61,11 +62,22 @@ nat_lt-below m n h = (Decides-ltb m n).0 h
 pub below-nat_lt : (m n : ℕ) → m < n → nat_lt m n ≡ true
 below-nat_lt m n h = (Decides-ltb m n).1 h
 
+direct_within : (rows : List Row) (n m : ℕ) → is_direct rows n m ≡ true → m < length rows
+direct_within rows n m h = go (is_inline_at rows m) refl h
+  where
+    first : (a b : Bool) → a && b ≡ true → a ≡ true
+    first true b h = refl
+    first false b h = h
+
+    go : (b : Bool) → is_inline_at rows m ≡ b → b || is_key_at rows n m ≡ true → m < length rows
+    go true inline h = inline_within rows m inline
+    go false inline h = nat_lt-below m (length rows) (first (nat_lt m (length rows)) _ h)
+
 -- both ends of an edge are rows
 pub ends_within : (kind : EdgeKind) (rows : List Row) (n m : ℕ) → Contains (targets_along kind rows n) m
     → (n < length rows) × (m < length rows)
-ends_within Direct rows n m among = let (c, t) = Contains-filter (is_inline_at rows) (numbers_at rows n) m among in
-    (numbers_within rows n m c, inline_within rows m t)
+ends_within Direct rows n m among = let (c, t) = Contains-filter (is_direct rows n) (numbers_at rows n) m among in
+    (numbers_within rows n m c, direct_within rows n m t)
 ends_within SameValue rows n m among =
     let (c, t) = Contains-filter (λ k. nat_lt k (length rows)) (same_value_numbers_at rows n) m among in
     (same_value_within rows n m c, nat_lt-below m (length rows) t)

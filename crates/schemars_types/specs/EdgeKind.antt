@@ -1,7 +1,7 @@
 -- The edges of a table by their kind.
 use Rattle.std.specs.Prelude.{ℕ, List, length, filter, Bool, nat_lt}
 use Rattle.schemars_types.specs.Rows.{Row}
-use Rattle.schemars_types.specs.Edges.{numbers_at, is_inline_at, same_value_numbers_at}
+use Rattle.schemars_types.specs.Edges.{numbers_at, is_direct, same_value_numbers_at}
 use Rattle.schemars_types.specs.declared.check.EdgeKind.{EdgeKind}
 use Rattle.schemars_types.specs.declared.check.EdgeKind.TheVariants.{Direct, SameValue}
 
@@ -9,9 +9,10 @@ abbrev pub numbers_along : EdgeKind → List Row → ℕ → List ℕ
 numbers_along Direct rows n = numbers_at rows n
 numbers_along SameValue rows n = same_value_numbers_at rows n
 
-abbrev pub leads_to : EdgeKind → List Row → ℕ → Bool
-leads_to Direct rows m = is_inline_at rows m
-leads_to SameValue rows m = nat_lt m (length rows)
+-- row n, which has this number, asks row m
+abbrev pub leads_to : EdgeKind → List Row → ℕ → ℕ → Bool
+leads_to Direct rows n m = is_direct rows n m
+leads_to SameValue rows n m = nat_lt m (length rows)
 
 abbrev pub targets_along : EdgeKind → List Row → ℕ → List ℕ
-targets_along kind rows n = filter (leads_to kind rows) (numbers_along kind rows n)
+targets_along kind rows n = filter (leads_to kind rows n) (numbers_along kind rows n)

@@ -3,6 +3,7 @@ pub mod Slots
 pub mod Refusals
 pub mod Names
 pub mod Times
+pub mod KeyOptions
 pub mod Meaning
 pub mod Edges
 pub mod EdgeKind

@@ -11,8 +11,10 @@ use Rattle.schemars_schema.specs.SchemaData.{is_schema}
 use Rattle.schemars_schema.specs.Acceptance.{Patterns, is_null, whole_number, code_points}
 use Rattle.schemars_shapes.specs.Shape.{Required, Field, Shape, null, bool, int, non_zero, number, text, char}
 use Rattle.schemars_shapes.specs.Shape.{formatted, any, bytes, schema_itself, option, seq, set, array as array_shape}
-use Rattle.schemars_shapes.specs.Shape.{up_to, tuple, struct, newtype, result, bound, range, either, external, untagged, internal, needed}
+use Rattle.schemars_shapes.specs.Shape.{up_to, tuple, struct, newtype, result, bound}
+use Rattle.schemars_shapes.specs.Shape.{range, either, map_from, external, untagged, internal, needed}
 use Rattle.schemars_shapes.specs.Shape.{Payload, Variant, no_payload, newtype_payload, tuple_payload, struct_payload}
+use Rattle.schemars_types.specs.KeyOptions.{KeyOptions, is_key_allowed, key_options}
 use Rattle.schemars_types.specs.Rows.{Row, entry_at}
 use Rattle.schemars_shapes.specs.declared.shape.IntKind.{IntKind}
 use Rattle.schemars_shapes.specs.declared.shape.IntKind.TheVariants.{U8}
@@ -144,38 +146,44 @@ abbrev pub has_internal : Contract → (ℕ → Data → Bool) → Text → Bool
 has_internal contract part tag closed v x =
     has_tagged contract part tag (tagged_fields x.payload) (tagged_closed closed x.payload) x.name v
 
--- the values of a shape, where `part` says which values the rows inside it have
-abbrev pub has_shape : Contract → Patterns → (ℕ → Data → Bool) → Shape → Data → Bool
-has_shape contract patterns part null v = is_null v
-has_shape contract patterns part bool v = is_some (as_bool v)
-has_shape contract patterns part (int kind) v = holds (whole_number v) (is_of_kind kind)
-has_shape contract patterns part (non_zero kind) v = holds (whole_number v) (λ z. is_of_kind kind z && not (is_zero z))
-has_shape contract patterns part number v = is_some (as_number v)
-has_shape contract patterns part text v = is_some (as_str v)
-has_shape contract patterns part char v = holds (as_str v) (λ s. code_points s == 1)
-has_shape contract patterns part (formatted format) v = is_some (as_str v)
-has_shape contract patterns part any v = true
-has_shape contract patterns part bytes v = holds (as_array v) (every_item is_byte) || is_byte_text contract v
-has_shape contract patterns part schema_itself v = is_schema v
-has_shape contract patterns part (option n) v = is_null v || part n v
-has_shape contract patterns part (seq n) v = holds (as_array v) (every_item (part n))
-has_shape contract patterns part (set n) v = holds (as_array v) (λ vs. are_distinct vs && every_item (part n) vs)
-has_shape contract patterns part (array_shape n len) v = holds (as_array v) (λ vs. (items_len vs == len) && every_item (part n) vs)
-has_shape contract patterns part (up_to n cap) v = holds (as_array v) (λ vs. nat_le (items_len vs) cap && every_item (part n) vs)
-has_shape contract patterns part (tuple ns) v = holds (as_array v) (each_of part ns)
-has_shape contract patterns part (struct list closed) v = has_fields contract part list closed v
-has_shape contract patterns part (newtype n) v = part n v
-has_shape contract patterns part (result t e) v = exactly_one
+-- a map with allowed keys, whose values pass
+abbrev pub has_keys : Patterns → KeyOptions → (Data → Bool) → Data → Bool
+has_keys patterns options p v = holds (as_object v) (every_member (λ k w. is_key_allowed patterns options k && p w))
+
+-- the values of a shape, where `part` says which values the rows inside it have, and `keys` which keys
+abbrev pub has_shape : Contract → Patterns → (ℕ → KeyOptions) → (ℕ → Data → Bool) → Shape → Data → Bool
+has_shape contract patterns keys part null v = is_null v
+has_shape contract patterns keys part bool v = is_some (as_bool v)
+has_shape contract patterns keys part (int kind) v = holds (whole_number v) (is_of_kind kind)
+has_shape contract patterns keys part (non_zero kind) v = holds (whole_number v) (λ z. is_of_kind kind z && not (is_zero z))
+has_shape contract patterns keys part number v = is_some (as_number v)
+has_shape contract patterns keys part text v = is_some (as_str v)
+has_shape contract patterns keys part char v = holds (as_str v) (λ s. code_points s == 1)
+has_shape contract patterns keys part (formatted format) v = is_some (as_str v)
+has_shape contract patterns keys part any v = true
+has_shape contract patterns keys part bytes v = holds (as_array v) (every_item is_byte) || is_byte_text contract v
+has_shape contract patterns keys part schema_itself v = is_schema v
+has_shape contract patterns keys part (option n) v = is_null v || part n v
+has_shape contract patterns keys part (seq n) v = holds (as_array v) (every_item (part n))
+has_shape contract patterns keys part (set n) v = holds (as_array v) (λ vs. are_distinct vs && every_item (part n) vs)
+has_shape contract patterns keys part (array_shape n len) v = holds (as_array v) (λ vs. (items_len vs == len) && every_item (part n) vs)
+has_shape contract patterns keys part (up_to n cap) v = holds (as_array v) (λ vs. nat_le (items_len vs) cap && every_item (part n) vs)
+has_shape contract patterns keys part (tuple ns) v = holds (as_array v) (each_of part ns)
+has_shape contract patterns keys part (struct list closed) v = has_fields contract part list closed v
+has_shape contract patterns keys part (newtype n) v = part n v
+has_shape contract patterns keys part (result t e) v = exactly_one
     (has_fields contract part (needed (codes "Ok") t ∷ []) false v ∷ has_fields contract part (needed (codes "Err") e ∷ []) false v ∷ [])
-has_shape contract patterns part (bound n) v = exactly_one
+has_shape contract patterns keys part (bound n) v = exactly_one
     (has_fields contract part (needed (codes "Included") n ∷ []) false v ∷
     has_fields contract part (needed (codes "Excluded") n ∷ []) false v ∷ is_text (codes "Unbounded") v ∷ [])
-has_shape contract patterns part (range n) v = has_fields contract part (needed (codes "start") n ∷ needed (codes "end") n ∷ []) false v
-has_shape contract patterns part (either l r) v = exactly_one
+has_shape contract patterns keys part (range n) v =
+    has_fields contract part (needed (codes "start") n ∷ needed (codes "end") n ∷ []) false v
+has_shape contract patterns keys part (either l r) v = exactly_one
     (has_fields contract part (needed (codes "Left") l ∷ []) true v ∷ has_fields contract part (needed (codes "Right") r ∷ []) true v ∷ [])
-has_shape contract patterns part (external xs) v = list_any (has_variant contract part v) xs
-has_shape contract patterns part (untagged xs) v = list_any (λ x. has_payload contract part x.payload v) xs
-has_shape contract patterns part (internal tag closed xs) v = list_any (has_internal contract part tag closed v) xs
+has_shape contract patterns keys part (map_from key value) v = has_keys patterns (keys key) (part value) v
+has_shape contract patterns keys part (external xs) v = list_any (has_variant contract part v) xs
+has_shape contract patterns keys part (untagged xs) v = list_any (λ x. has_payload contract part x.payload v) xs
+has_shape contract patterns keys part (internal tag closed xs) v = list_any (has_internal contract part tag closed v) xs
 
 -- row n has the value; a row is asked at most `steps` deep
 unfoldable pub belongs_within : List Row → Contract → Patterns → ℕ → ℕ → Data → Bool
@@ -183,7 +191,7 @@ belongs_within rows contract patterns zero n v = false
 belongs_within rows contract patterns (suc steps) n v =
     elim (entry_at rows n) [
       | None ↦ false
-      | Some entry ↦ has_shape contract patterns (belongs_within rows contract patterns steps) entry.shape v
+      | Some entry ↦ has_shape contract patterns (key_options rows) (belongs_within rows contract patterns steps) entry.shape v
     ]
 
 -- the meaning of row n: at each depth of the value every row is asked once at most

@@ -1,5 +1,5 @@
 -- The ids and names of types that are made of others.
-use Rattle.std.specs.Prelude.{ℕ, ◌==◌, if◌then◌else◌, ◌++◌, List, [], ◌∷◌, codes}
+use Rattle.std.specs.Prelude.{ℕ, ◌==◌, if◌then◌else◌, ◌++◌, List, [], ◌∷◌, Bool, bytes_eq, codes}
 use Rattle.std.specs.List.{join_by}
 use Rattle.std.specs.Fmt.{decimal}
 use Rattle.schemars_json.specs.Json.{Text}
@@ -69,6 +69,17 @@ range_name name = codes "Range_of_" ++ name
 
 abbrev pub either_id : Text → Text → Text
 either_id left right = codes "either::Either<" ++ (left ++ (codes ", " ++ (right ++ codes ">")))
+
+-- a map whose keys are of the row with the id `string` is named by its values alone
+abbrev pub is_text_id : Text → Bool
+is_text_id id = bytes_eq id (codes "string")
+
+abbrev pub map_id : Text → Text → Text
+map_id key value = if is_text_id key then codes "Map<" ++ (value ++ codes ">") else
+    codes "Map<" ++ (key ++ (codes ", " ++ (value ++ codes ">")))
+
+abbrev pub map_name : Text → Text → Text → Text
+map_name key_id key value = if is_text_id key_id then codes "Map_of_" ++ value else codes "Map_from_" ++ (key ++ (codes "_to_" ++ value))
 
 abbrev pub either_name : Text → Text → Text
 either_name left right = codes "Either_" ++ (left ++ (codes "_or_" ++ right))

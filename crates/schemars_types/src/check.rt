@@ -4,7 +4,7 @@ ghost use Rattle.std.specs.Prelude.{string_bytes, bytes_eq};
 ghost use Rattle.std.specs.List.{IsDistinct};
 ghost use Rattle.schemars_cycles.specs.Walks.{Leads, OnCycle, IsFree, IsLeast};
 ghost use Rattle.schemars_cycles.specs.Search.{HasTargets};
-ghost use Rattle.schemars_types.specs.Edges.{RefersWithin, is_inline_at, names_at};
+ghost use Rattle.schemars_types.specs.Edges.{RefersWithin, is_inline_at, is_key_at, names_at};
 ghost use Rattle.schemars_types.specs.EdgeKind.{numbers_along, leads_to, targets_along};
 ghost use Rattle.schemars_shapes.specs.Repeated.{AreDistinctLists, IsFirstRepeated};
 ghost use Rattle.schemars_types.specs.Faults.{IsUndefined, IsAccepted, IsChecked, Refusal};
@@ -18,7 +18,7 @@ use std::alloc::{AllocError, Global};
 /// Which edges are followed from row to row.
 #[derive(Clone, Copy)]
 pub(crate) enum EdgeKind {
-    /// to the rows that are written in place
+    /// to the rows that are written in place, and to that of a map's keys
     Direct,
     /// to the row whose values a row has
     SameValue,
@@ -114,7 +114,7 @@ impl Types {
     {
         self.numbers(alloc, kind, n)?
             .into_iter()
-            .filter(|m| self.leads_to(kind, *m))
+            .filter(|m| self.leads_to(kind, n, *m))
             .collect(alloc)
     }
 
@@ -130,12 +130,25 @@ impl Types {
         }
     }
 
-    fn leads_to(&self, kind: EdgeKind, m: TypeNo) -> bool
-        ensures { result ≡ leads_to kind self.now m }
+    fn leads_to(&self, kind: EdgeKind, n: TypeNo, m: TypeNo) -> bool
+        ensures { result ≡ leads_to kind self.now n m }
     {
         match kind {
-            EdgeKind::Direct => self.is_inline(m),
+            EdgeKind::Direct => self.is_inline(m) || self.is_key(n, m),
             EdgeKind::SameValue => m < self.len(),
+        }
+    }
+
+    // Whether row `m` is that of the keys of row `n`.
+    fn is_key(&self, n: TypeNo, m: TypeNo) -> bool
+        ensures { result ≡ is_key_at self.now n m }
+    {
+        let Some(entry) = self.entry(n) else {
+            return false;
+        };
+        match entry.shape.key() {
+            Some(key) => m < self.len() && key == m,
+            None => false,
         }
     }
 

@@ -5,6 +5,7 @@ ghost use Rattle.schemars_shapes.specs.IntKind.{format_of, non_zero_name};
 ghost use Rattle.schemars_types.specs.Names.{non_zero_id, option_id, option_name, seq_id, seq_name, set_id, set_name};
 ghost use Rattle.schemars_types.specs.Names.{array_id, array_name, up_to_id, up_to_name, result_id, result_name};
 ghost use Rattle.schemars_types.specs.Names.{bound_id, bound_name, range_id, range_name, either_id, either_name};
+ghost use Rattle.schemars_types.specs.Names.{map_id, map_name};
 ghost use Rattle.schemars_shapes.specs.Shape.{Shape as shape, shape_of, in_place, array_of, without_notes};
 ghost use Rattle.schemars_shapes.specs.Shape.{field_of, fields_view, needed};
 ghost use Rattle.schemars_types.specs.Rows.{id_at, name_at, unknown_in};
@@ -377,6 +378,26 @@ impl Types {
         self.register_row(alloc, id, name, true, Shape::Either(left, right))
     }
 
+    /// The type of maps with keys that row `key` allows, and values of row `value`.
+    pub fn map(&mut self, alloc: Global, key: TypeNo, value: TypeNo) -> Result<TypeNo, TypesError>
+        ensures ok { IfOk result (Registers (map_id (id_at self.old key) (id_at self.old value))
+            (map_name (id_at self.old key) (name_at self.old key) (name_at self.old value))
+            (in_place (shape.map_from key value)) self.old self.new) }
+        ensures err { OnErr result (self.new ≡ self.old) }
+        ensures refused { IfErr result (Refuses (map_id (id_at self.old key) (id_at self.old value))
+            (in_place (shape.map_from key value)) self.old) }
+    {
+        let (Some(key_id), Some(key_name)) = (self.id(key), self.name(key)) else {
+            return Err(TypesError::UnknownType(key));
+        };
+        let (Some(value_id), Some(value_name)) = (self.id(value), self.name(value)) else {
+            return Err(TypesError::UnknownType(value));
+        };
+        let id = map_id(alloc, key_id, value_id)?;
+        let name = map_name(alloc, key_id, key_name, value_name)?;
+        self.register_row(alloc, id, name, true, Shape::Map(key, value))
+    }
+
     /// The type of spans of time: maps with `secs`, a 64-bit number, and `nanos`, a 32-bit number. The
     /// rows of these numbers come before it, and stay where it is refused.
     pub fn duration(&mut self, alloc: Global) -> Result<TypeNo, TypesError>
@@ -468,6 +489,25 @@ impl Types {
         let name = String::from_str(alloc, name)?;
         self.register_row(alloc, id, name, inline, shape)
     }
+}
+
+// A map with texts for its keys is named by its values alone.
+fn map_id(alloc: Global, key: &str, value: &str) -> Result<String, AllocError>
+    ensures { IfOk result (λ s. string_bytes s ≡ map_id key.now value.now) }
+{
+    if key == "string" {
+        return format!(in alloc; "Map<{value}>");
+    }
+    format!(in alloc; "Map<{key}, {value}>")
+}
+
+fn map_name(alloc: Global, key_id: &str, key: &str, value: &str) -> Result<String, AllocError>
+    ensures { IfOk result (λ s. string_bytes s ≡ map_name key_id.now key.now value.now) }
+{
+    if key_id == "string" {
+        return format!(in alloc; "Map_of_{value}");
+    }
+    format!(in alloc; "Map_from_{key}_to_{value}")
 }
 
 // The fields of a time: whole seconds, and nanoseconds.

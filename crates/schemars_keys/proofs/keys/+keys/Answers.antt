@@ -8,7 +8,7 @@ use Rattle.schemars_shapes.specs.Shape.{entry_of, shape_of, variant_of, payload_
 use Rattle.schemars_types.specs.Rows.{Row, entry_at}
 use Rattle.schemars_types.specs.Edges.{SameValueEdge, rank}
 use Rattle.schemars_types.specs.Faults.{IsChecked}
-use Rattle.schemars_keys.specs.KeyOptions.{only_keys, any_key, all_options, shape_options, external_options, untagged_options}
+use Rattle.schemars_types.specs.KeyOptions.{only_keys, any_key, all_options, shape_options, external_options, untagged_options}
 use Rattle.schemars_keys.specs.Found.{options_of, adding, AreAmong, HoldsRows}
 use Rattle.schemars_keys.proofs.Adding.{adding-any, adding-there, among_added, holds_any, holds_met, holds_more, other_shape}
 use Rattle.schemars_keys.proofs.Asked.{asked, newtype_at}

@@ -2,7 +2,7 @@
 use Rattle.std.proofs.Common.{◌≡◌, ◌+◌, ◌*◌, map, drop}
 use Rattle.schemars_shapes.specs.Shape.{variant_of}
 use Rattle.schemars_types.specs.Edges.{rank}
-use Rattle.schemars_keys.specs.KeyOptions.{all_options, members_options, untagged_options}
+use Rattle.schemars_types.specs.KeyOptions.{all_options, members_options, untagged_options}
 use Rattle.schemars_keys.specs.Found.{options_of, adding, HoldsRows}
 use Rattle.schemars_keys.proofs.keys.+keys.Given as goal
 

@@ -1,7 +1,7 @@
 -- The names that are left are still to be added.
 use Rattle.std.proofs.Common.{◌≡◌, None, map, drop}
 use Rattle.schemars_shapes.specs.Shape.{variant_of}
-use Rattle.schemars_keys.specs.KeyOptions.{only_keys}
+use Rattle.schemars_types.specs.KeyOptions.{only_keys}
 use Rattle.schemars_keys.specs.Found.{options_of, adding}
 use Rattle.schemars_keys.proofs.keys.add_names.Given as goal
 

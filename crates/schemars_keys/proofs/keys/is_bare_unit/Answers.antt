@@ -1,7 +1,7 @@
 use Rattle.std.proofs.Common.{ap, ◌∙◌, sym, string_bytes}
 use Rattle.serde_json.specs.View.{members_view}
 use Rattle.schemars_shapes.specs.Shape.{payload_of}
-use Rattle.schemars_keys.specs.KeyOptions.{is_bare_unit}
+use Rattle.schemars_types.specs.KeyOptions.{is_bare_unit}
 use Rattle.schemars_keys.proofs.Adding.{no_members_there}
 use Rattle.schemars_keys.proofs.keys.is_bare_unit.Goals as goal
 

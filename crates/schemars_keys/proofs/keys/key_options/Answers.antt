@@ -1,5 +1,5 @@
 use Rattle.std.proofs.Common.{ap, ◌∙◌}
-use Rattle.schemars_keys.specs.KeyOptions.{all_options}
+use Rattle.schemars_types.specs.KeyOptions.{all_options}
 use Rattle.schemars_keys.specs.Found.{adding}
 use Rattle.schemars_keys.proofs.Adding.{adding-once}
 use Rattle.schemars_keys.proofs.keys.key_options.Goals as goal

@@ -11,7 +11,7 @@ returns-clause-own c =
     let s = state_of c.self.inside.settings c.self.inside.types c.self.inside.work in
     let before : HasOwnDefinitions s = subst HasOwnDefinitions (sym c.self.view_is) own in
     let same : take (length s.rows) c.args.types ≡ s.rows = search rules in
-    more_types_own s c.args.types same before
+    more_types_own s c.args.types c.self.invariant.0 same before
 
 pub returns-clause-keys : goal.returns-clause-keys
 returns-clause-keys c =

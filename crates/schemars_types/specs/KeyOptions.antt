@@ -7,41 +7,22 @@ use Rattle.serde_json.specs.Data.{Members, no_members, member}
 use Rattle.schemars_json.specs.Json.{Text}
 use Rattle.schemars_json.specs.OrderedText.{is_listed}
 use Rattle.schemars_schema.specs.Acceptance.{Patterns, matches}
-use Rattle.schemars_shapes.specs.declared.shape.IntKind.{IntKind}
-use Rattle.schemars_shapes.specs.declared.shape.IntKind.TheVariants.{I8, I16, I32, I64, I128, Isize, U8, U16, U32, U64, U128, Usize}
 use Rattle.schemars_shapes.specs.Shape.{Shape, int, non_zero, newtype, external, untagged}
 use Rattle.schemars_shapes.specs.Shape.{Variant, Payload, no_payload, newtype_payload, tuple_payload, struct_payload}
 use Rattle.schemars_types.specs.Rows.{Row, entry_at}
-use Rattle.schemars_keys.specs.declared.options.IntegerKeys.{IntegerKeys}
-use Rattle.schemars_keys.specs.declared.options.IntegerKeys.TheVariants.{Unsigned, Signed}
+use Rattle.schemars_shapes.specs.declared.shape.IntegerKeys.{IntegerKeys}
+use Rattle.schemars_shapes.specs.declared.shape.IntegerKeys.TheVariants.{Unsigned, Signed}
+use Rattle.schemars_shapes.specs.IntegerKeys.{pattern_of, integers_of}
 
 -- any text, or only these texts and these whole numbers
 pub data KeyOptions : Type 0 where
   any_key : KeyOptions
   only_keys : List Text → Option IntegerKeys → KeyOptions
 
-abbrev pub pattern_of : IntegerKeys → Text
-pattern_of Unsigned = codes "^\\d+$"
-pattern_of Signed = codes "^-?\\d+$"
-
 abbrev pub is_key_allowed : Patterns → KeyOptions → Text → Bool
 is_key_allowed patterns any_key key = true
 is_key_allowed patterns (only_keys texts integers) key =
     is_listed key texts || option_map_or (λ i. matches patterns (pattern_of i) key) integers false
-
-abbrev pub integers_of : IntKind → IntegerKeys
-integers_of I8 = Signed
-integers_of I16 = Signed
-integers_of I32 = Signed
-integers_of I64 = Signed
-integers_of I128 = Signed
-integers_of Isize = Signed
-integers_of U8 = Unsigned
-integers_of U16 = Unsigned
-integers_of U32 = Unsigned
-integers_of U64 = Unsigned
-integers_of U128 = Unsigned
-integers_of Usize = Unsigned
 
 -- those with a sign have the others among them
 abbrev pub either_integers : Option IntegerKeys → Option IntegerKeys → Option IntegerKeys
