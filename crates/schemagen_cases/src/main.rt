@@ -15,10 +15,11 @@ use crate::cases::{Asked, work_cases};
 use std::{fs, io};
 
 // The files, and whom their cases ask.
-const FILES: [(&str, Asked); 5] = [
+const FILES: [(&str, Asked); 6] = [
     ("rows.tsv", Asked::Program),
     ("structs.tsv", Asked::Program),
     ("enums.tsv", Asked::Program),
+    ("inline.tsv", Asked::Program),
     ("damaged.tsv", Asked::Program),
     ("calls.tsv", Asked::Libraries),
 ];

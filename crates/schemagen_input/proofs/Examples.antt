@@ -9,7 +9,8 @@ use Rattle.schemars_shapes.specs.Shape.{Shape, Field, Required, without_notes, i
 use Rattle.schemars_shapes.specs.Shape.{option, seq, struct, external, untagged, internal, Payload, Variant, no_payload, newtype_payload}
 use Rattle.schemars_shapes.specs.Shape.{tuple_payload, struct_payload}
 use Rattle.schemars_types.specs.Rows.{Row}
-use Rattle.schemagen_input.specs.Input.{input_of, required}
+use Rattle.schemagen_forms.specs.Forms.{required}
+use Rattle.schemagen_input.specs.Input.{input_of}
 
 row : Text → Text → Shape → Row
 row id name shape = record { id = id; name = name; entry = Some (in_place shape) }

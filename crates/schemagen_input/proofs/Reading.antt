@@ -23,9 +23,10 @@ use Rattle.schemars_types.specs.Rows.{Row, place_of, with_entry, defined, reserv
 use Rattle.schemars_types.specs.Refusals.{refusal_of}
 use Rattle.schemars_types.specs.declared.error.TypesError.{TypesError}
 use Rattle.schemars_types.specs.declared.error.TypesError.TheVariants.{UnknownType, AlreadyDefined}
-use Rattle.schemagen_input.specs.Input.{table_in, number_in, unentered, has_only, needed, row_names, heading_in}
-use Rattle.schemagen_input.specs.Input.{entry_in, row_in, rows_in, all_differ, ids_of, are_none, is_bare, refers_within}
-use Rattle.schemagen_input.specs.Input.{fits, all_fit, is_complete}
+use Rattle.schemagen_forms.specs.Forms.{number_in, has_only, needed}
+use Rattle.schemagen_input.specs.Input.{table_in, unentered, row_names, heading_in}
+use Rattle.schemars_shapes.specs.Units.{is_none}
+use Rattle.schemagen_input.specs.Input.{entry_in, row_in, rows_in, all_differ, ids_of, is_bare, refers_within, fits, all_fit, is_complete}
 use Rattle.schemagen_input.specs.Reading.{headings_in, reserved_after, fitting_after}
 
 -- ---- options
@@ -533,20 +534,20 @@ pub tabled-done : (ds : Items) (root : ℕ) (rows : List Row) → (rows_in ds �
     → tabled ds root ≡ Some (rows, root)
 tabled-done ds root rows done = rw (done.0, done.1)
 
-pub are_none-members_view : (es : List (String Global × Value)) (b : Bool) → (IsTrue b ↔ (length es ≡ 0)) → b ≡ are_none (members_view es)
-are_none-members_view [] true e = refl
-are_none-members_view [] false e = e.1 refl
-are_none-members_view (m ∷ es) true e = absurd (omega (arith, e.0 refl))
-are_none-members_view (m ∷ es) false e = refl
+pub is_none-members_view : (es : List (String Global × Value)) (b : Bool) → (IsTrue b ↔ (length es ≡ 0)) → b ≡ is_none (members_view es)
+is_none-members_view [] true e = refl
+is_none-members_view [] false e = e.1 refl
+is_none-members_view (m ∷ es) true e = absurd (omega (arith, e.0 refl))
+is_none-members_view (m ∷ es) false e = refl
 
 -- a field with notes
 pub noted_field : (fs : List src-field.Field) (i : ℕ) (f : src-field.Field) (b : Bool) → f ≡ get_or fs i f → i < length fs
     → (IsTrue b ↔ (length f.notes.entries ≡ 0)) → b ≡ false
-    → list_all (λ g. are_none g.notes) (map field_of (drop i fs)) ≡ false
+    → list_all (λ g. is_none g.notes) (map field_of (drop i fs)) ≡ false
 noted_field fs i f b is here empty has =
-    let noted : are_none (members_view f.notes.entries) ≡ false = sym (are_none-members_view f.notes.entries b empty) ∙ has in
-    ap (λ (l : List src-field.Field). list_all (λ g. are_none g.notes) (map field_of l)) (drop-cons fs i f here)
-    ∙ ap (λ (g : src-field.Field). list_all (λ h. are_none h.notes) (map field_of (g ∷ drop (suc i) fs))) (sym is) ∙ rw noted
+    let noted : is_none (members_view f.notes.entries) ≡ false = sym (is_none-members_view f.notes.entries b empty) ∙ has in
+    ap (λ (l : List src-field.Field). list_all (λ g. is_none g.notes) (map field_of l)) (drop-cons fs i f here)
+    ∙ ap (λ (g : src-field.Field). list_all (λ h. is_none h.notes) (map field_of (g ∷ drop (suc i) fs))) (sym is) ∙ rw noted
 
 -- the parts of an input
 pub table_in-parts : (d : Data) (ds : Items) (root : ℕ) → has_only (codes "types" ∷ codes "root" ∷ []) d ≡ true

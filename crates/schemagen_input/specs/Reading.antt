@@ -2,21 +2,7 @@
 use Rattle.std.specs.Prelude.{ℕ, List, [], ◌∷◌, ◌++◌, Option, Some, None, option_map, option_and_then, if◌then◌else◌}
 use Rattle.serde_json.specs.Data.{Items, no_items, item}
 use Rattle.schemars_types.specs.Rows.{Row}
-use Rattle.schemars_types.specs.declared.error.TypesError.{TypesError}
-use Rattle.schemars_types.specs.declared.error.TypesError.TheVariants as types
-use Rattle.schemagen_input.specs.declared.input.InputError.{InputError}
-use Rattle.schemagen_input.specs.declared.input.InputError.TheVariants.{OutOfMemory, BadTable}
 use Rattle.schemagen_input.specs.Input.{heading_in, rows_in, all_differ, ids_of, all_fit}
-
--- the refusal of a table's call as one of the whole input
-abbrev pub as_input : TypesError → InputError
-as_input types.OutOfMemory = OutOfMemory
-as_input (types.UndefinedType n) = BadTable
-as_input (types.RepeatedName n name) = BadTable
-as_input (types.DirectCycle n) = BadTable
-as_input (types.EmptyCycle n) = BadTable
-as_input (types.AlreadyDefined n) = BadTable
-as_input (types.UnknownType n) = BadTable
 
 abbrev pub headings_in : Items → Option (List Row)
 headings_in no_items = Some []

@@ -2,5 +2,7 @@
 #![tactic(auto)]
 
 mod input;
+mod shapes;
 
-pub use input::{InputError, read_input};
+pub use input::read_input;
+pub use schemagen_forms::InputError;

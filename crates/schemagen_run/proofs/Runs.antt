@@ -1,5 +1,5 @@
 -- Which words a run knows, and what it refuses.
-use Rattle.std.proofs.Common.{◌≡◌, ◌⊎◌, inl, inr, ℕ, List, [], ◌∷◌, ◌++◌, append-nil, subst, Option, Some, None}
+use Rattle.std.proofs.Common.{◌≡◌, ◌⊎◌, refl, inl, inr, ℕ, List, [], ◌∷◌, ◌++◌, append-nil, subst, Option, Some, None}
 use Rattle.std.proofs.Common.{length, get_or, ◌&&◌, true, String, Global, string_bytes, codes, sym, ap}
 use Rattle.std.proofs.Common.{◌∙◌, arith}
 use Rattle.std.specs.Str.{bytes_eq}
@@ -17,7 +17,10 @@ use Rattle.schemagen_run.specs.declared.fault.Fault.TheVariants.{Refused}
 use Rattle.schemagen_run.specs.declared.fault.TheConstants.{OUT_OF_MEMORY, NOT_JSON, BAD_TABLE, WRITE}
 use Rattle.schemagen_run.specs.Fault.{IsReadFault, IsTableFault, IsOutside, IsFault}
 use Rattle.schemagen_input.specs.Input.{input_of}
-use Rattle.schemagen_run.specs.Run.{AskFor, GivesAll, IsNoJson, IsBadTable, IsTableText, IsAcceptedText, IsFaultyTable, Tells}
+use Rattle.schemagen_run.specs.declared.run.Asked.{Asked}
+use Rattle.std.specs.Prelude.{MatchOption}
+use Rattle.schemagen_run.specs.Run.{AskFor, AreKnown, AreFlagsFor, AreKnownFlags}
+use Rattle.schemagen_run.specs.Run.{GivesAll, IsNoJson, IsBadTable, IsTableText, IsAcceptedText, IsFaultyTable, Tells}
 use Rattle.schemagen_run.proofs.Tables.{both}
 use Rattle.std.proofs.Common.{Bool, false, nat_lt, ◌||◌, true≢false}
 use Rattle.schemagen_run.specs.declared.fault.Fault.TheVariants.{Usage}
@@ -25,30 +28,78 @@ use Rattle.schemagen_run.specs.declared.fault.Fault.TheVariants.{Usage}
 is_word : (a u : String Global) (t : List ℕ) → a ≡ u → bytes_eq (string_bytes a) t ≡ true → string_bytes u ≡ t
 is_word a u t same is = ap string_bytes (sym same) ∙ (bytes_eq-Decides (string_bytes a) t).0 is
 
+abbrev Types : String Global → String Global → Bool
+Types a b = bytes_eq (string_bytes a) (codes "types") && bytes_eq (string_bytes b) (codes "2020-12")
+
 pub two_words : (words : List (String Global)) (a b : String Global) → length words ≡ 2 → a ≡ get_or words 0 a → b ≡ get_or words 1 b
-    → bytes_eq (string_bytes a) (codes "types") && bytes_eq (string_bytes b) (codes "2020-12") ≡ true → AskFor words Deserialize
+    → Types a b ≡ true → AskFor words (record { contract = Deserialize; inlines = false })
 two_words [] a b two first second types = absurd (omega arith)
 two_words (u ∷ []) a b two first second types = absurd (omega arith)
 two_words (u ∷ v ∷ w ∷ ws) a b two first second types = absurd (omega arith)
 two_words (u ∷ v ∷ []) a b two first second types =
-    let parts = both (bytes_eq (string_bytes a) (codes "types")) (bytes_eq (string_bytes b) (codes "2020-12")) types in
-    rw (is_word a u (codes "types") first parts.0, is_word b v (codes "2020-12") second parts.1)
+    let parts = both (bytes_eq (string_bytes a) (codes "types")) (bytes_eq (string_bytes b) (codes "2020-12")) types in (
+      [],
+      refl,
+      rw (is_word a u (codes "types") first parts.0, is_word b v (codes "2020-12") second parts.1) refl,
+    )
 
 pub three_words : (words : List (String Global)) (a b c : String Global) → length words ≡ 3 → a ≡ get_or words 0 a → b ≡ get_or words 1 b
-    → c ≡ get_or words 2 c
-    → bytes_eq (string_bytes a) (codes "types") && bytes_eq (string_bytes b) (codes "2020-12") ≡ true
-    → bytes_eq (string_bytes c) (codes "--serialize") ≡ true → AskFor words Serialize
-three_words [] a b c three first second third types flag = absurd (omega arith)
-three_words (u ∷ []) a b c three first second third types flag = absurd (omega arith)
-three_words (u ∷ v ∷ []) a b c three first second third types flag = absurd (omega arith)
-three_words (u ∷ v ∷ w ∷ x ∷ ws) a b c three first second third types flag = absurd (omega arith)
-three_words (u ∷ v ∷ w ∷ []) a b c three first second third types flag =
-    let parts = both (bytes_eq (string_bytes a) (codes "types")) (bytes_eq (string_bytes b) (codes "2020-12")) types in
-    rw (
-      is_word a u (codes "types") first parts.0,
-      is_word b v (codes "2020-12") second parts.1,
-      is_word c w (codes "--serialize") third flag,
-    )
+    → c ≡ get_or words 2 c → Types a b ≡ true → (r : Option Asked)
+    → MatchOption r (¬ (AreKnownFlags (string_bytes c ∷ []))) (λ asked. AreFlagsFor asked.contract asked.inlines (string_bytes c ∷ []))
+    → MatchOption r (¬ (AreKnown words)) (λ asked. AskFor words asked)
+three_words [] a b c three first second third types r told = absurd (omega arith)
+three_words (u ∷ []) a b c three first second third types r told = absurd (omega arith)
+three_words (u ∷ v ∷ []) a b c three first second third types r told = absurd (omega arith)
+three_words (u ∷ v ∷ w ∷ x ∷ ws) a b c three first second third types r told = absurd (omega arith)
+three_words (u ∷ v ∷ w ∷ []) a b c three first second third types r told = by r told
+  where
+    same : string_bytes c ≡ string_bytes w
+    same = ap string_bytes third
+
+    by : (r : Option Asked)
+        → MatchOption r (¬ (AreKnownFlags (string_bytes c ∷ []))) (λ asked. AreFlagsFor asked.contract asked.inlines (string_bytes c ∷ []))
+        → MatchOption r (¬ (AreKnown (u ∷ v ∷ w ∷ []))) (λ asked. AskFor (u ∷ v ∷ w ∷ []) asked)
+    by None unknown = λ (asked, (flags, are, is)).
+        let flag : flags ≡ string_bytes c ∷ [] = cc in
+        unknown (asked, subst (AreFlagsFor asked.contract asked.inlines) flag are)
+    by (Some asked) are =
+        let parts = both (bytes_eq (string_bytes a) (codes "types")) (bytes_eq (string_bytes b) (codes "2020-12")) types in (
+          string_bytes c ∷ [],
+          are,
+          rw (is_word a u (codes "types") first parts.0, is_word b v (codes "2020-12") second parts.1, sym same) refl,
+        )
+
+pub four_words : (words : List (String Global)) (a b c d : String Global) → length words ≡ 4 → a ≡ get_or words 0 a → b ≡ get_or words 1 b
+    → c ≡ get_or words 2 c → d ≡ get_or words 3 d → Types a b ≡ true → (r : Option Asked)
+    → MatchOption r (¬ (AreKnownFlags (string_bytes c ∷ string_bytes d ∷ [])))
+    (λ asked. AreFlagsFor asked.contract asked.inlines (string_bytes c ∷ string_bytes d ∷ []))
+    → MatchOption r (¬ (AreKnown words)) (λ asked. AskFor words asked)
+four_words [] a b c d four first second third fourth types r told = absurd (omega arith)
+four_words (u ∷ []) a b c d four first second third fourth types r told = absurd (omega arith)
+four_words (u ∷ v ∷ []) a b c d four first second third fourth types r told = absurd (omega arith)
+four_words (u ∷ v ∷ w ∷ []) a b c d four first second third fourth types r told = absurd (omega arith)
+four_words (u ∷ v ∷ w ∷ x ∷ y ∷ ws) a b c d four first second third fourth types r told = absurd (omega arith)
+four_words (u ∷ v ∷ w ∷ x ∷ []) a b c d four first second third fourth types r told = by r told
+  where
+    same : string_bytes c ≡ string_bytes w
+    same = ap string_bytes third
+
+    alike : string_bytes d ≡ string_bytes x
+    alike = ap string_bytes fourth
+
+    by : (r : Option Asked)
+        → MatchOption r (¬ (AreKnownFlags (string_bytes c ∷ string_bytes d ∷ [])))
+        (λ asked. AreFlagsFor asked.contract asked.inlines (string_bytes c ∷ string_bytes d ∷ []))
+        → MatchOption r (¬ (AreKnown (u ∷ v ∷ w ∷ x ∷ []))) (λ asked. AskFor (u ∷ v ∷ w ∷ x ∷ []) asked)
+    by None unknown = λ (asked, (flags, are, is)).
+        let both_flags : flags ≡ string_bytes c ∷ string_bytes d ∷ [] = cc in
+        unknown (asked, subst (AreFlagsFor asked.contract asked.inlines) both_flags are)
+    by (Some asked) are =
+        let parts = both (bytes_eq (string_bytes a) (codes "types")) (bytes_eq (string_bytes b) (codes "2020-12")) types in (
+          string_bytes c ∷ string_bytes d ∷ [],
+          are,
+          rw (is_word a u (codes "types") first parts.0, is_word b v (codes "2020-12") second parts.1, sym same, sym alike) refl,
+        )
 
 -- ---- tables without faults
 

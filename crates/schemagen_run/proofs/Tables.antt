@@ -19,7 +19,7 @@ use Rattle.schemars_shapes.specs.Repeated.{AreDistinctLists}
 use Rattle.schemars_types.specs.Rows.{Row, entry_at}
 use Rattle.schemars_types.specs.Faults.{IsChecked}
 use Rattle.schemars_types.specs.Meaning.{tagged_fields}
-use Rattle.schemars_documents.specs.declared.contract.Contract.{Contract}
+use Rattle.schemagen_run.specs.declared.run.Asked.{Asked}
 use Rattle.schemars_headline.specs.Headline.{RootHeadline, IsDraftPath}
 use Rattle.schemars_headline.specs.Calls.{IsLastRootCall}
 use Rattle.schemars_documents.specs.PlainTable.{IsNoName, AreDistinct, AreNoted, IsNoVariant, AreDistinctVariants, AreTagged}
@@ -28,7 +28,8 @@ use Rattle.schemars_documents.specs.PlainTable.{IsNotedEntry, HasPlainNotes, Tag
 use Rattle.schemars_documents.specs.PlainTable.{FieldsHaveNoFloat, PayloadHasNoFloat, VariantsHaveNoFloat, ShapeHasNoFloat}
 use Rattle.schemars_documents.specs.PlainTable.{EntryHasNoFloat, HasNoFloat}
 use Rattle.schemars_headline.specs.State.{Settings, State, path_of, HasOwnDefinitions}
-use Rattle.schemagen_input.specs.Input.{all_differ, ids_of, are_none, is_payload_bare, is_variant_bare, are_fields_bare, is_bare}
+use Rattle.schemars_shapes.specs.Units.{is_none}
+use Rattle.schemagen_input.specs.Input.{all_differ, ids_of, is_payload_bare, is_variant_bare, are_fields_bare, is_bare}
 use Rattle.schemagen_input.specs.Input.{refers_within, fits, all_fit, is_complete, is_table, table_in, input_of}
 use Rattle.schemagen_run.specs.Run.{settings_for, fresh, IsDocumentOf}
 
@@ -51,30 +52,30 @@ entry_fits count (r ∷ rows) (suc n) e fit there = entry_fits count rows n e
     (both (option_map_or (fits count) r.entry false) (all_fit count rows) fit).1 there
 
 entry_is_bare : (rows : List Row) (root n : ℕ) (e : Entry) → is_table rows root ≡ true → entry_at rows n ≡ Some e
-    → (are_none e.notes ≡ true) × (are_fields_bare e.shape ≡ true)
-entry_is_bare rows root n e table there = both (are_none e.notes) (are_fields_bare e.shape)
+    → (is_none e.notes ≡ true) × (are_fields_bare e.shape ≡ true)
+entry_is_bare rows root n e table there = both (is_none e.notes) (are_fields_bare e.shape)
     (both (is_bare e) (refers_within (length rows) e) (entry_fits (length rows) rows n e (all_rows_fit rows root table) there)).0
 
 -- ---- without notes
 
-none_are_notes : (ms : Members) → are_none ms ≡ true → AreNotes ms
+none_are_notes : (ms : Members) → is_none ms ≡ true → AreNotes ms
 none_are_notes no_members h = tt
 none_are_notes (member k d ms) h = cc
 
-none_have_float : (ms : Members) → are_none ms ≡ true → members_have_float ms ≡ false
+none_have_float : (ms : Members) → is_none ms ≡ true → members_have_float ms ≡ false
 none_have_float no_members h = refl
 none_have_float (member k d ms) h = cc
 
-bare_are_noted : (fs : List Field) → list_all (λ f. are_none f.notes) fs ≡ true → AreNoted fs
+bare_are_noted : (fs : List Field) → list_all (λ f. is_none f.notes) fs ≡ true → AreNoted fs
 bare_are_noted [] h = tt
 bare_are_noted (f ∷ fs) h =
-    let parts = both (are_none f.notes) (list_all (λ g. are_none g.notes) fs) h in
+    let parts = both (is_none f.notes) (list_all (λ g. is_none g.notes) fs) h in
     (none_are_notes f.notes parts.0, bare_are_noted fs parts.1)
 
-bare_have_no_float : (fs : List Field) → list_all (λ f. are_none f.notes) fs ≡ true → FieldsHaveNoFloat fs
+bare_have_no_float : (fs : List Field) → list_all (λ f. is_none f.notes) fs ≡ true → FieldsHaveNoFloat fs
 bare_have_no_float [] h = tt
 bare_have_no_float (f ∷ fs) h =
-    let parts = both (are_none f.notes) (list_all (λ g. are_none g.notes) fs) h in
+    let parts = both (is_none f.notes) (list_all (λ g. is_none g.notes) fs) h in
     (none_have_float f.notes parts.0, bare_have_no_float fs parts.1)
 
 payload_without_float : (p : Payload) → is_payload_bare p ≡ true → PayloadHasNoFloat p
@@ -87,7 +88,7 @@ variants_without_float : (xs : List Variant) → list_all is_variant_bare xs ≡
 variants_without_float [] h = tt
 variants_without_float (x ∷ xs) h =
     let parts = both (is_variant_bare x) (list_all is_variant_bare xs) h in
-    let own = both (are_none x.notes) (is_payload_bare x.payload) parts.0 in
+    let own = both (is_none x.notes) (is_payload_bare x.payload) parts.0 in
     (none_have_float x.notes own.0, payload_without_float x.payload own.1, variants_without_float xs parts.1)
 
 shape_without_float : (s : Shape) → are_fields_bare s ≡ true → ShapeHasNoFloat s
@@ -157,7 +158,7 @@ plain_variants : (xs : List Variant) → list_all is_variant_bare xs ≡ true �
 plain_variants [] h differ = tt
 plain_variants (x ∷ xs) h differ =
     let parts = both (is_variant_bare x) (list_all is_variant_bare xs) h in
-    let own = both (are_none x.notes) (is_payload_bare x.payload) parts.0 in
+    let own = both (is_none x.notes) (is_payload_bare x.payload) parts.0 in
     (none_are_notes x.notes own.0, plain_payload x.payload own.1 differ.0, plain_variants xs parts.1 differ.1)
 
 plain_shape : (s : Shape) → are_fields_bare s ≡ true → AreDistinctLists (names_of s) → TagStandsApart s → IsPlainShape s
@@ -232,41 +233,41 @@ is_input d rows root count table many within = rw (table, below root (length row
 
 -- ---- a generator over the table
 
-pub fresh_of : (s : State) (settings : Settings) (contract : Contract) (rows : List Row) → settings ≡ settings_for contract
-    → s ≡ record { settings = settings; rows = rows; names = []; definitions = no_members } → s ≡ fresh contract rows
-fresh_of s settings contract rows same made =
+pub fresh_of : (s : State) (settings : Settings) (asked : Asked) (rows : List Row) → settings ≡ settings_for asked
+    → s ≡ record { settings = settings; rows = rows; names = []; definitions = no_members } → s ≡ fresh asked rows
+fresh_of s settings asked rows same made =
     made ∙ ap (λ (t : Settings). let state : State = record { settings = t; rows = rows; names = []; definitions = no_members } in state)
     same
 
-has_own_definitions : (contract : Contract) (rows : List Row) → HasOwnDefinitions (fresh contract rows)
-has_own_definitions contract rows name d there = cc
+has_own_definitions : (asked : Asked) (rows : List Row) → HasOwnDefinitions (fresh asked rows)
+has_own_definitions asked rows name d there = cc
 
 -- what the generator answers is the root document of the row
-pub is_document : {E : Type 0} (r : Result Data E) (s : State) (contract : Contract) (rows : List Row) (root : ℕ)
-    → is_table rows root ≡ true → IsChecked rows → s ≡ fresh contract rows → IfOk r (RootHeadline s root) → IfOk r (IsLastRootCall s root)
-    → IfOk r (IsDocumentOf contract rows root)
-is_document (Err e) s contract rows root table checked same means made = tt
-is_document (Ok document) s contract rows root table checked same means made =
-    let headline : RootHeadline (fresh contract rows) root document = subst (λ (t : State). RootHeadline t root document) same means in (
+pub is_document : {E : Type 0} (r : Result Data E) (s : State) (asked : Asked) (rows : List Row) (root : ℕ)
+    → is_table rows root ≡ true → IsChecked rows → s ≡ fresh asked rows → IfOk r (RootHeadline s root) → IfOk r (IsLastRootCall s root)
+    → IfOk r (IsDocumentOf asked rows root)
+is_document (Err e) s asked rows root table checked same means made = tt
+is_document (Ok document) s asked rows root table checked same means made =
+    let headline : RootHeadline (fresh asked rows) root document = subst (λ (t : State). RootHeadline t root document) same means in (
       subst (λ (t : State). IsLastRootCall t root document) same made,
-      λ apart. headline (has_own_definitions contract rows) (inl refl) (is_plain_table rows root table checked apart),
+      λ apart. headline (has_own_definitions asked rows) (inl refl) (is_plain_table rows root table checked apart),
     )
 
 -- without a float
-pub is_whole : {E : Type 0} (r : Result Data E) (s : State) (contract : Contract) (rows : List Row) (root : ℕ)
-    → is_table rows root ≡ true → s ≡ fresh contract rows → IfOk r (λ d. HasNoFloat s.rows → HasOwnDefinitions s → has_float d ≡ false)
+pub is_whole : {E : Type 0} (r : Result Data E) (s : State) (asked : Asked) (rows : List Row) (root : ℕ)
+    → is_table rows root ≡ true → s ≡ fresh asked rows → IfOk r (λ d. HasNoFloat s.rows → HasOwnDefinitions s → has_float d ≡ false)
     → IfOk r (λ d. has_float d ≡ false)
-is_whole (Err e) s contract rows root table same whole = tt
-is_whole (Ok document) s contract rows root table same whole =
-    let here : HasNoFloat rows → HasOwnDefinitions (fresh contract rows) → has_float document ≡ false =
+is_whole (Err e) s asked rows root table same whole = tt
+is_whole (Ok document) s asked rows root table same whole =
+    let here : HasNoFloat rows → HasOwnDefinitions (fresh asked rows) → has_float document ≡ false =
     subst (λ (t : State). HasNoFloat t.rows → HasOwnDefinitions t → has_float document ≡ false) same whole in
-    here (has_no_float rows root table) (has_own_definitions contract rows)
+    here (has_no_float rows root table) (has_own_definitions asked rows)
 
 -- memory is all that its root document may want
-pub wants_only_memory : {P : Type 0} (s : State) (contract : Contract) (rows : List Row) (root : ℕ) → is_table rows root ≡ true
-    → IsChecked rows → s ≡ fresh contract rows
+pub wants_only_memory : {P : Type 0} (s : State) (asked : Asked) (rows : List Row) (root : ℕ) → is_table rows root ≡ true
+    → IsChecked rows → s ≡ fresh asked rows
     → (HasPlainNotes s.rows → IsDraftPath (path_of s) → root < length s.rows → P) → P
-wants_only_memory {P} s contract rows root table checked same only =
-    let here : HasPlainNotes rows → IsDraftPath (path_of (fresh contract rows)) → root < length rows → P =
+wants_only_memory {P} s asked rows root table checked same only =
+    let here : HasPlainNotes rows → IsDraftPath (path_of (fresh asked rows)) → root < length rows → P =
     subst (λ (t : State). HasPlainNotes t.rows → IsDraftPath (path_of t) → root < length t.rows → P) same only in
     here (has_plain_notes rows root table) (inl refl) (root_is_within rows root table)

@@ -1,5 +1,6 @@
 -- What a run of the program promises.
-use Rattle.std.specs.Prelude.{◌≡◌, ◌⊎◌, ℕ, List, [], ◌∷◌, ◌++◌, Option, Some, None, codes, map, string_bytes, String, IsUtf8}
+use Rattle.std.specs.Prelude.{◌≡◌, ◌⊎◌, ℕ, List, [], ◌∷◌, ◌++◌, Option, Some}
+use Rattle.std.specs.Prelude.{None, Bool, true, false, codes, map, string_bytes, String, IsUtf8}
 use Rattle.std.specs.declared.alloc.Global.{Global}
 use Rattle.std.specs.Io.KnownBytes.{Consumes, IsAtEnd}
 use Rattle.serde_json.specs.Data.{Data, no_members}
@@ -17,21 +18,30 @@ use Rattle.schemars_documents.specs.ContractOf.{contract_of}
 use Rattle.schemars_generate.specs.Refusals.{code_of, HasFault}
 use Rattle.schemars_headline.specs.State.{Settings, State, settings2020_12}
 use Rattle.schemars_naming.specs.Work.{Work}
+use Rattle.schemagen_run.specs.declared.run.Asked.{Asked}
 use Rattle.schemagen_run.specs.declared.fault.Fault.{Fault}
 use Rattle.schemagen_run.specs.declared.fault.Fault.TheVariants.{Refused}
 use Rattle.schemagen_input.specs.Input.{input_of}
 
--- the words for documents of values that are read, and with the flag of those that are written
-abbrev pub words_for : Contract → List Text
-words_for Deserialize = codes "types" ∷ codes "2020-12" ∷ []
-words_for Serialize = codes "types" ∷ codes "2020-12" ∷ codes "--serialize" ∷ []
+-- the flags: those for documents of values that are written, and for rows in place, in either order
+abbrev pub AreFlagsFor : Contract → Bool → List Text → Type 0
+AreFlagsFor Deserialize false flags = flags ≡ []
+AreFlagsFor Serialize false flags = flags ≡ codes "--serialize" ∷ []
+AreFlagsFor Deserialize true flags = flags ≡ codes "--inline" ∷ []
+AreFlagsFor Serialize true flags =
+    (flags ≡ codes "--inline" ∷ codes "--serialize" ∷ []) ⊎ (flags ≡ codes "--serialize" ∷ codes "--inline" ∷ [])
 
-abbrev pub AskFor : List (String Global) → Contract → Type 0
-AskFor words contract = map string_bytes words ≡ words_for contract
+abbrev pub AreKnownFlags : List Text → Type 0
+AreKnownFlags flags = (asked : Asked) × AreFlagsFor asked.contract asked.inlines flags
+
+abbrev pub AskFor : List (String Global) → Asked → Type 0
+AskFor words asked =
+    (flags : List Text) × AreFlagsFor asked.contract asked.inlines flags
+    × (map string_bytes words ≡ codes "types" ∷ codes "2020-12" ∷ flags)
 
 -- the words that the program knows
 abbrev pub AreKnown : List (String Global) → Type 0
-AreKnown words = (contract : Contract) × AskFor words contract
+AreKnown words = (asked : Asked) × AskFor words asked
 
 -- the source has given all that it had left, and these bytes are so
 abbrev pub GivesAll : Option (List ℕ) → Option (List ℕ) → (List ℕ → Type 0) → Type 0
@@ -66,29 +76,29 @@ IsFaultyTable fault bytes = (rows : List Row) × ((root : ℕ) × IsTableText ro
 
 -- ---- documents
 
-abbrev pub settings_for : Contract → Settings
-settings_for contract = record settings2020_12 { contract = contract }
+abbrev pub settings_for : Asked → Settings
+settings_for asked = record settings2020_12 { contract = asked.contract; inlines = asked.inlines }
 
 -- a generator over the table that has made nothing yet
-abbrev pub fresh : Contract → List Row → State
-fresh contract rows = record { settings = settings_for contract; rows = rows; names = []; definitions = no_members }
+abbrev pub fresh : Asked → List Row → State
+fresh asked rows = record { settings = settings_for asked; rows = rows; names = []; definitions = no_members }
 
 -- the root document of this row: it is made by the rules, and where tags stand apart it accepts just the values of the type
-abbrev pub IsDocumentOf : Contract → List Row → ℕ → Data → Type 0
-IsDocumentOf contract rows root document =
-    ((w : Work) × IsRootOf (fresh contract rows) root w document)
-    × (TagsStandApart rows → MeansItsType rows (contract_of contract) (codes "/$defs") root document)
+abbrev pub IsDocumentOf : Asked → List Row → ℕ → Data → Type 0
+IsDocumentOf asked rows root document =
+    ((w : Work) × IsRootOf (fresh asked rows) root w document)
+    × (TagsStandApart rows → MeansItsType rows (contract_of asked.contract) (codes "/$defs") root document)
 
 -- a document's text, and a newline
 abbrev pub line_of : Data → Text
 line_of document = ordered_text document ++ 10 ∷ []
 
 -- the line of a root document of this row
-abbrev pub IsLineOf : Contract → List Row → ℕ → Text → Type 0
-IsLineOf contract rows root line = (document : Data) × IsDocumentOf contract rows root document × (line ≡ line_of document)
+abbrev pub IsLineOf : Asked → List Row → ℕ → Text → Type 0
+IsLineOf asked rows root line = (document : Data) × IsDocumentOf asked rows root document × (line ≡ line_of document)
 
 -- the bytes are the text of a table without faults, and Q holds of the line of its root that the words ask for
 abbrev pub IsLineFor : List (String Global) → List ℕ → (Text → Type 0) → Type 0
 IsLineFor words bytes Q =
-    (contract : Contract) × ((rows : List Row) × ((root : ℕ) × ((line : Text)
-    × AskFor words contract × IsTableText rows root bytes × IsAccepted rows × IsLineOf contract rows root line × Q line)))
+    (asked : Asked) × ((rows : List Row) × ((root : ℕ) × ((line : Text)
+    × AskFor words asked × IsTableText rows root bytes × IsAccepted rows × IsLineOf asked rows root line × Q line)))

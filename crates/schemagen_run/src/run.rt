@@ -1,6 +1,6 @@
 //! A run of the program over its words, a source and a sink.
 ghost use Rattle.std.specs.Prelude.{◌≡◌, ◌≢◌, ◌⊎◌, ◌↔◌, ℕ, List, Some, None, false, true, Err, IsTrue, IfOk, IfErr, OnOk};
-ghost use Rattle.std.specs.Prelude.{MatchOption, string_bytes, bytes_eq, codes, ◌&&◌};
+ghost use Rattle.std.specs.Prelude.{MatchOption, string_bytes, bytes_eq, codes, ◌&&◌, [], ◌∷◌};
 ghost use Rattle.std.specs.Io.KnownBytes.{Appends};
 ghost use Rattle.serde_json.specs.View.{view};
 ghost use Rattle.schemars_types.specs.Faults.{IsAccepted};
@@ -9,7 +9,8 @@ ghost use Rattle.schemars_generate.specs.Settings.{settings_of};
 ghost use Rattle.schemars_generate.specs.Refusals.{HasFault};
 ghost use Rattle.schemagen_run.specs.Streams.{AppendsBeginning};
 ghost use Rattle.schemagen_input.specs.Input.{is_table, input_of};
-ghost use Rattle.schemagen_run.specs.Run.{AskFor, AreKnown, GivesAll, IsTextOf, IsNoJson, IsBadTable, IsTableText};
+ghost use Rattle.schemagen_run.specs.Run.{AskFor, AreKnown, AreFlagsFor, AreKnownFlags};
+ghost use Rattle.schemagen_run.specs.Run.{GivesAll, IsTextOf, IsNoJson, IsBadTable, IsTableText};
 ghost use Rattle.schemagen_run.specs.Run.{IsAcceptedText, IsFaultyTable, Tells, settings_for, IsDocumentOf, IsLineOf, IsLineFor};
 ghost use Rattle.schemagen_run.specs.Fault.{IsReadFault, IsTableFault, IsOutside, IsFault};
 
@@ -24,8 +25,9 @@ use std::alloc::Global;
 /// Reads a table of types from the source, and writes the root document of its root to the sink:
 /// in ordered text, with a newline at its end.
 ///
-/// The words are those after the program's name: `types`, the dialect `2020-12`, and `--serialize`
-/// where the document is to be for the values that are written. Other words are refused first, with
+/// The words are those after the program's name: `types`, the dialect `2020-12`, and, in either order,
+/// `--inline` where rows are to be written in place and `--serialize` where the document is to be for
+/// the values that are written. Other words are refused first, with
 /// nothing read. Then a run is refused where the source fails, where the bytes are no JSON, where
 /// the value is no table with a root, where the table has a fault, and where the sink fails, in
 /// this order. It may also be refused for want of memory.
@@ -65,15 +67,22 @@ pub fn run<S: Source, K: Sink>(
     ensures accepted { AreKnown words.now → (bytes : List ℕ) → S.left source.old ≡ Some bytes
         → IsAcceptedText bytes → IfErr result IsOutside }
 {
-    let Some(contract) = contract_in(words) else {
+    let Some(asked) = asked_in(words) else {
         return Err(Fault::Usage);
     };
     let (types, root) = read_table(alloc, source)?;
-    let line = line_for(alloc, contract, types, root)?;
+    let line = line_for(alloc, asked, types, root)?;
     match write_all(sink, line.as_bytes()) {
         Ok(()) => Ok(()),
         Err(Failed) => Err(Fault::Refused(WRITE)),
     }
+}
+
+/// What the words ask for.
+#[derive(Clone, Copy)]
+struct Asked {
+    contract: Contract,
+    inlines: bool,
 }
 
 fn is_types(command: &str, dialect: &str) -> bool
@@ -82,20 +91,59 @@ fn is_types(command: &str, dialect: &str) -> bool
     command == "types" && dialect == "2020-12"
 }
 
-// Whose values the words ask for.
-fn contract_in(words: &[String]) -> Option<Contract>
-    ensures { MatchOption result (¬ (AreKnown words.now)) (λ c. AskFor words.now c) }
+// What the words ask for.
+fn asked_in(words: &[String]) -> Option<Asked>
+    ensures { MatchOption result (¬ (AreKnown words.now)) (λ asked. AskFor words.now asked) }
 {
     match words {
-        [command, dialect] if is_types(command.as_str(), dialect.as_str()) => {
-            Some(Contract::Deserialize)
+        [command, dialect] if is_types(command.as_str(), dialect.as_str()) => Some(Asked {
+            contract: Contract::Deserialize,
+            inlines: false,
+        }),
+        [command, dialect, flag] if is_types(command.as_str(), dialect.as_str()) => {
+            asked_by_one(flag.as_str())
         }
-        [command, dialect, flag]
-            if is_types(command.as_str(), dialect.as_str()) && flag.as_str() == "--serialize" => {
-            Some(Contract::Serialize)
+        [command, dialect, first, second] if is_types(command.as_str(), dialect.as_str()) => {
+            asked_by_two(first.as_str(), second.as_str())
         }
         _ => None,
     }
+}
+
+// What one flag asks for.
+fn asked_by_one(flag: &str) -> Option<Asked>
+    ensures { MatchOption result (¬ (AreKnownFlags (flag.now ∷ []))) (λ asked. AreFlagsFor asked.contract asked.inlines
+        (flag.now ∷ [])) }
+{
+    if flag == "--serialize" {
+        return Some(Asked {
+            contract: Contract::Serialize,
+            inlines: false,
+        });
+    }
+    if flag == "--inline" {
+        return Some(Asked {
+            contract: Contract::Deserialize,
+            inlines: true,
+        });
+    }
+    None
+}
+
+// What two flags ask for, which stand in either order.
+fn asked_by_two(first: &str, second: &str) -> Option<Asked>
+    ensures { MatchOption result (¬ (AreKnownFlags (first.now ∷ second.now ∷ []))) (λ asked. AreFlagsFor asked.contract
+        asked.inlines (first.now ∷ second.now ∷ [])) }
+{
+    let inline_first = first == "--inline" && second == "--serialize";
+    let inline_last = first == "--serialize" && second == "--inline";
+    if inline_first || inline_last {
+        return Some(Asked {
+            contract: Contract::Serialize,
+            inlines: true,
+        });
+    }
+    None
 }
 
 // The table that the source's bytes are, and its root.
@@ -155,26 +203,25 @@ fn input_of(alloc: Global, value: &Value) -> Result<(Types, TypeNo), Fault>
     Ok((types, root))
 }
 
-fn settings_for(alloc: Global, contract: Contract) -> SchemaSettings
-    ensures { settings_of result ≡ settings_for contract }
+fn settings_for(alloc: Global, asked: Asked) -> SchemaSettings
+    ensures { settings_of result ≡ settings_for asked }
 {
-    let settings = SchemaSettings::draft2020_12(alloc);
-    match contract {
-        Contract::Deserialize => settings,
-        Contract::Serialize => settings.for_serialize(),
-    }
+    let mut settings = SchemaSettings::draft2020_12(alloc);
+    settings.contract = asked.contract;
+    settings.inline_subschemas = asked.inlines;
+    settings
 }
 
 // The line of the root document of this row.
-fn line_for(alloc: Global, contract: Contract, types: Types, root: TypeNo) -> Result<String, Fault>
+fn line_for(alloc: Global, asked: Asked, types: Types, root: TypeNo) -> Result<String, Fault>
     requires { is_table types root ≡ true }
-    ensures ok { IfOk result (λ s. IsLineOf contract types root (string_bytes s)) }
+    ensures ok { IfOk result (λ s. IsLineOf asked types root (string_bytes s)) }
     ensures accepted { OnOk result (IsAccepted types) }
     ensures refused { IfErr result (λ e. (e ≡ Fault.Refused OUT_OF_MEMORY) ⊎ Tells types e) }
     ensures faults { IfErr result (λ e. (e ≡ Fault.Refused OUT_OF_MEMORY) ⊎ IsTableFault e) }
     ensures only_memory { IsAccepted types → IfErr result (λ e. e ≡ Fault.Refused OUT_OF_MEMORY) }
 {
-    let document = document_of(alloc, contract, types, root)?;
+    let document = document_of(alloc, asked, types, root)?;
     let mut line = document.to_ordered_string(alloc)?;
     line.push_str("\n")?;
     Ok(line)
@@ -183,18 +230,18 @@ fn line_for(alloc: Global, contract: Contract, types: Types, root: TypeNo) -> Re
 // The root document of this row.
 fn document_of(
     alloc: Global,
-    contract: Contract,
+    asked: Asked,
     types: Types,
     root: TypeNo,
 ) -> Result<Schema, GenerateError>
     requires { is_table types root ≡ true }
-    ensures ok { IfOk result (λ d. IsDocumentOf contract types root d) }
+    ensures ok { IfOk result (λ d. IsDocumentOf asked types root d) }
     ensures whole { IfOk result (λ d. has_float d ≡ false) }
     ensures accepted { OnOk result (IsAccepted types) }
     ensures refused { IfErr result (λ e. (e ≡ GenerateError.OutOfMemory) ⊎ HasFault types e) }
     ensures only_memory { IsAccepted types → IfErr result (λ e. e ≡ GenerateError.OutOfMemory) }
 {
-    let settings = settings_for(alloc, contract);
+    let settings = settings_for(alloc, asked);
     let generator = SchemaGenerator::with_types(alloc, settings, types)?;
     generator.into_root_schema_for_type(alloc, root)
 }

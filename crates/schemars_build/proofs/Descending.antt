@@ -1,31 +1,40 @@
 -- How the recursion that makes documents goes down.
-use Rattle.std.proofs.Common.{◌≡◌, ◌<◌, ◌≤◌, ◌+◌, ◌*◌, ℕ, suc, List, [], length, Bool, true, false, Some}
+use Rattle.std.proofs.Common.{◌≡◌, ◌<◌, ◌≤◌, ◌+◌, ◌*◌, ◌∙◌, ℕ, zero, suc, List, [], ◌∷◌, ◌++◌, length, Bool, true, false, Some}
 use Rattle.std.proofs.Common.{refl, ap, sym, subst, arith, All, get_or, Contains}
-use Rattle.std.specs.Prelude.{if◌then◌else◌, ◌||◌}
+use Rattle.std.specs.Prelude.{if◌then◌else◌, ◌||◌, ◌&&◌, not, nat_eq}
 use Rattle.std.specs.Option.{option_map_or}
 use Rattle.std.proofs.Math.Nat.{mul-le-mul_right}
 use Rattle.std.proofs.lemmas.List.{get_or_default}
+use Rattle.std.proofs.lemmas.List.Folds.{list_any-append}
+use Rattle.std.proofs.lemmas.Bool.Decides.{nat_tests}
+use Rattle.indexmap.specs.IndexSet.{insert_key}
 use Rattle.schemars_shapes.specs.Shape.{Entry, numbers_of}
 use Rattle.schemars_types.specs.Rows.{Row, entry_at}
 use Rattle.schemars_types.specs.Edges.{numbers_at, is_inline_at, is_key_at, height}
 use Rattle.schemars_types.specs.Faults.{IsChecked}
-use Rattle.schemars_build.specs.Missing.{missing, depth_in_place, StandsIn}
+use Rattle.schemars_naming.specs.Placed.{is_pending, pending_in, is_in_place}
 use Rattle.schemars_naming.specs.Work.{Plan, Work}
+use Rattle.schemars_build.specs.Missing.{failing_below, missing, fresh, depth_in_place, StandsIn}
+use Rattle.schemars_build.proofs.Counting.{failing-fewer, failing-less}
 
 abbrev pub width : List Row → ℕ
 width rows = 4 * length rows + 5
 
+-- the definitions that may still be made, and then the rows that may still be entered
+abbrev pub places : Plan → Work → List ℕ → ℕ
+places p w pending = missing p.rows p.contract w * suc (length p.rows) + fresh p.rows pending
+
 abbrev pub left_of_define : Plan → Work → ℕ
-left_of_define p w = missing p.rows p.contract w * width p.rows
+left_of_define p w = places p w w.pending * width p.rows
 
 abbrev pub left_of_subschema : Plan → Work → ℕ → ℕ
-left_of_subschema p w n = missing p.rows p.contract w * width p.rows + (4 * depth_in_place p.rows n + 1)
+left_of_subschema p w n = places p w w.pending * width p.rows + (4 * depth_in_place p.rows n + 1)
 
 abbrev pub left_of_own_document : Plan → Work → ℕ → ℕ
-left_of_own_document p w n = missing p.rows p.contract w * width p.rows + (4 * height p.rows n + 4)
+left_of_own_document p w n = places p w (pending_in p.inlines w.pending n) * width p.rows + (4 * height p.rows n + 4)
 
 abbrev pub left_of_subschemas : Plan → Work → ℕ → ℕ
-left_of_subschemas p w n = missing p.rows p.contract w * width p.rows + (4 * height p.rows n + 2)
+left_of_subschemas p w n = places p w w.pending * width p.rows + (4 * height p.rows n + 2)
 
 -- ---- the rows that stand in a document
 
@@ -46,6 +55,50 @@ stands rows n e h at = λ k d less. one (get_or (numbers_of e.shape) k d)
         let there : Contains (numbers_at rows n) m = subst (λ (ms : List ℕ). Contains ms m) (sym numbers) is in
         record { is_known = h.within.within n m there; is_lower = lower m there (is_inline_at rows m) refl }
 
+-- ---- what is pending
+
+fresh-bound : (rows : List Row) (pending : List ℕ) → fresh rows pending ≤ length rows
+unfolding fresh
+fresh-bound rows pending = below (length rows)
+  where
+    one : (b : Bool) (k n : ℕ) → k ≤ n → (if b then 0 else 1) + k ≤ suc n
+    one true k n h = omega arith
+    one false k n h = omega arith
+
+    below : (n : ℕ) → failing_below (is_pending pending) n ≤ n
+    below zero = omega arith
+    below (suc n) = one (is_pending pending n) (failing_below (is_pending pending) n) n (below n)
+
+still_pending : (inlines : Bool) (pending : List ℕ) (n k : ℕ) → is_pending pending k ≡ true
+    → is_pending (pending_in inlines pending n) k ≡ true
+still_pending false pending n k h = h
+still_pending true pending n k h = by (is_pending pending n) refl
+  where
+    by : (b : Bool) → is_pending pending n ≡ b → is_pending (insert_key nat_eq pending n) k ≡ true
+    by true there = let kept : insert_key nat_eq pending n ≡ pending = rw there refl in ap (λ ns. is_pending ns k) kept ∙ h
+    by false there =
+        let grown : insert_key nat_eq pending n ≡ pending ++ n ∷ [] = rw there refl in
+        ap (λ ns. is_pending ns k) grown ∙ (list_any-append (nat_eq k) pending (n ∷ []) ∙ ap (λ b. b || is_pending (n ∷ []) k) h)
+
+entered_pending : (pending : List ℕ) (n : ℕ) → is_pending pending n ≡ false → is_pending (insert_key nat_eq pending n) n ≡ true
+entered_pending pending n none =
+    let grown : insert_key nat_eq pending n ≡ pending ++ n ∷ [] = rw none refl in
+    let itself : nat_eq n n ≡ true = grind (arith, nat_tests) in
+    ap (λ ns. is_pending ns n) grown
+    ∙ (list_any-append (nat_eq n) pending (n ∷ []) ∙ (λ i. none i || (itself i || false)))
+
+fresh-entered : (rows : List Row) (inlines : Bool) (pending : List ℕ) (n : ℕ)
+    → fresh rows (pending_in inlines pending n) ≤ fresh rows pending
+unfolding fresh
+fresh-entered rows inlines pending n = failing-fewer (is_pending pending) (is_pending (pending_in inlines pending n))
+    (still_pending inlines pending n) (length rows)
+
+fresh-less : (rows : List Row) (pending : List ℕ) (n : ℕ) → n < length rows → is_pending pending n ≡ false
+    → fresh rows (insert_key nat_eq pending n) < fresh rows pending
+unfolding fresh
+fresh-less rows pending n less none = failing-less (is_pending pending) (is_pending (insert_key nat_eq pending n))
+    (still_pending true pending n) (length rows) n less none (entered_pending pending n none)
+
 -- ---- one step down
 
 part_less : (a b w p h k : ℕ) → a ≤ b → p ≤ h → 1 < k → a * w + (4 * p + 1) < b * w + (4 * h + k)
@@ -57,25 +110,87 @@ closer a b w r less small = let e : suc a * w ≤ b * w = mul-le-mul_right w les
 same_less : (a b w k : ℕ) → a ≤ b → 0 < k → a * w < b * w + k
 same_less a b w k fewer more = let e : a * w ≤ b * w = mul-le-mul_right w fewer in omega arith
 
+own_less : (a b w h : ℕ) → a ≤ b → a * w + (4 * h + 4) < b * w + (4 * suc h + 1)
+own_less a b w h fewer = let e : a * w ≤ b * w = mul-le-mul_right w fewer in omega arith
+
+further : (a b w r k : ℕ) → a < b → r < w → a * w + r < b * w + k
+further a b w r k less small = let e : suc a * w ≤ b * w = mul-le-mul_right w less in omega arith
+
+-- as definitions join, and the same rows are pending
+places-fewer : (p : Plan) (w v : Work) → missing p.rows p.contract v ≤ missing p.rows p.contract w → v.pending ≡ w.pending
+    → places p v v.pending ≤ places p w w.pending
+places-fewer p w v fewer same =
+    let e : missing p.rows p.contract v * suc (length p.rows) ≤ missing p.rows p.contract w * suc (length p.rows) =
+    mul-le-mul_right (suc (length p.rows)) fewer in
+    let f : fresh p.rows v.pending ≡ fresh p.rows w.pending = ap (fresh p.rows) same in
+    omega (arith, e, f)
+
 -- from a document to a part
-pub to_part : (p : Plan) (w v : Work) (n m k : ℕ) → StandsIn p.rows n m → missing p.rows p.contract v ≤ missing p.rows p.contract w → 1 < k
-    → left_of_subschema p v m < missing p.rows p.contract w * width p.rows + (4 * height p.rows n + k)
-to_part p w v n m k h fewer more = part_less (missing p.rows p.contract v) (missing p.rows p.contract w) (width p.rows)
-    (depth_in_place p.rows m) (height p.rows n) k fewer h.is_lower more
+pub to_part : (p : Plan) (w v : Work) (n m : ℕ) → StandsIn p.rows n m → missing p.rows p.contract v ≤ missing p.rows p.contract w
+    → v.pending ≡ w.pending → left_of_subschema p v m < left_of_subschemas p w n
+to_part p w v n m h fewer same = part_less (places p v v.pending) (places p w w.pending) (width p.rows)
+    (depth_in_place p.rows m) (height p.rows n) 2 (places-fewer p w v fewer same) h.is_lower (omega arith)
 
 -- to a part in place
-pub to_own : (p : Plan) (w : Work) (n : ℕ) → is_inline_at p.rows n ≡ true → left_of_own_document p w n < left_of_subschema p w n
-to_own p w n inline = rw inline (omega arith)
+pub to_own : (p : Plan) (w : Work) (n : ℕ) → IsChecked p.rows → n < length p.rows
+    → is_in_place p.rows p.inlines w.pending n ≡ true → left_of_own_document p w n < left_of_subschema p w n
+to_own p w n checked less placed = by (is_inline_at p.rows n) refl
+  where
+    inner : ℕ
+    inner = places p w (pending_in p.inlines w.pending n)
+
+    goal_at : ℕ → Type 0
+    goal_at depth = inner * width p.rows + (4 * height p.rows n + 4) < places p w w.pending * width p.rows + (4 * depth + 1)
+
+    fewer : inner ≤ places p w w.pending
+    fewer = let e = fresh-entered p.rows p.inlines w.pending n in omega (arith, e)
+
+    entered : (b c : Bool) → p.inlines ≡ b → is_pending w.pending n ≡ c → b && not c ≡ true → inner < places p w w.pending
+    entered true false inlines none h =
+        let e : fresh p.rows (insert_key nat_eq w.pending n) < fresh p.rows w.pending = fresh-less p.rows w.pending n less none in
+        let same : fresh p.rows (pending_in p.inlines w.pending n) ≡ fresh p.rows (insert_key nat_eq w.pending n) =
+        ap (λ b. fresh p.rows (pending_in b w.pending n)) inlines in
+        omega (arith, e, same)
+    entered true true inlines none h = cc
+    entered false c inlines none h = cc
+
+    by : (b : Bool) → is_inline_at p.rows n ≡ b → left_of_own_document p w n < left_of_subschema p w n
+    by true inline =
+        let deep : depth_in_place p.rows n ≡ suc (height p.rows n) = ap (λ b. if b then suc (height p.rows n) else 0) inline in
+        subst goal_at (sym deep) (own_less inner (places p w w.pending) (width p.rows) (height p.rows n) fewer)
+    by false inline =
+        let bound = checked.height_bound n in
+        let here : p.inlines && not (is_pending w.pending n) ≡ true =
+        sym (ap (λ b. b || (p.inlines && not (is_pending w.pending n))) inline) ∙ placed in
+        further inner (places p w w.pending) (width p.rows) (4 * height p.rows n + 4) (4 * depth_in_place p.rows n + 1)
+        (entered p.inlines (is_pending w.pending n) refl refl here) (omega (arith, bound))
 
 -- to a part by reference
-pub to_define : (p : Plan) (w v : Work) (n : ℕ) → missing p.rows p.contract v ≤ missing p.rows p.contract w
+pub to_define : (p : Plan) (w v : Work) (n : ℕ) → missing p.rows p.contract v ≤ missing p.rows p.contract w → v.pending ≡ w.pending
     → left_of_define p v < left_of_subschema p w n
-to_define p w v n fewer = same_less (missing p.rows p.contract v) (missing p.rows p.contract w) (width p.rows)
-    (4 * depth_in_place p.rows n + 1) fewer (omega arith)
+to_define p w v n fewer same = same_less (places p v v.pending) (places p w w.pending) (width p.rows)
+    (4 * depth_in_place p.rows n + 1) (places-fewer p w v fewer same) (omega arith)
 
 -- to a new definition
 pub to_definition : (p : Plan) (w v : Work) (n : ℕ) → IsChecked p.rows → missing p.rows p.contract v < missing p.rows p.contract w
     → left_of_own_document p v n < left_of_define p w
 to_definition p w v n h fewer =
     let bound = h.height_bound n in
-    closer (missing p.rows p.contract v) (missing p.rows p.contract w) (width p.rows) (4 * height p.rows n + 4) fewer (omega arith)
+    let inner = pending_in p.inlines v.pending n in
+    let small : fresh p.rows inner < suc (length p.rows) = let e = fresh-bound p.rows inner in omega (arith, e) in
+    let less : places p v inner < places p w w.pending =
+    let e = closer (missing p.rows p.contract v) (missing p.rows p.contract w) (suc (length p.rows)) (fresh p.rows inner) fewer small in
+    omega (arith, e) in
+    closer (places p v inner) (places p w w.pending) (width p.rows) (4 * height p.rows n + 4) less (omega (arith, bound))
+
+-- to the parts of a document
+pub to_parts : (p : Plan) (w v : Work) (n : ℕ) → missing p.rows p.contract v ≤ missing p.rows p.contract w
+    → v.pending ≡ pending_in p.inlines w.pending n → left_of_subschemas p v n < left_of_own_document p w n
+to_parts p w v n fewer same =
+    let e : missing p.rows p.contract v * suc (length p.rows) ≤ missing p.rows p.contract w * suc (length p.rows) =
+    mul-le-mul_right (suc (length p.rows)) fewer in
+    let f : fresh p.rows v.pending ≡ fresh p.rows (pending_in p.inlines w.pending n) = ap (fresh p.rows) same in
+    let less : places p v v.pending ≤ places p w (pending_in p.inlines w.pending n) = omega (arith, e, f) in
+    let g : places p v v.pending * width p.rows ≤ places p w (pending_in p.inlines w.pending n) * width p.rows =
+    mul-le-mul_right (width p.rows) less in
+    omega (arith, g)

@@ -6,21 +6,27 @@ use Rattle.schemars_types.specs.Rows.{Row}
 use Rattle.schemars_types.specs.Edges.{is_inline_at, height}
 use Rattle.schemars_documents.specs.declared.contract.Contract.{Contract}
 use Rattle.schemars_naming.specs.Naming.{name_of}
+use Rattle.schemars_naming.specs.Placed.{is_pending}
 use Rattle.schemars_naming.specs.Work.{Work}
 
 -- row n has a name, and a definition under it
 abbrev pub is_made : Contract → Work → ℕ → Bool
 is_made contract w n = option_map_or (λ name. is_some (get_member name w.definitions)) (name_of n contract w.names) false
 
--- how many of the first rows are not
-abbrev pub missing_below : Contract → Work → ℕ → ℕ
-missing_below contract w zero = 0
-missing_below contract w (suc n) = (if is_made contract w n then 0 else 1) + missing_below contract w n
+-- how many of the first numbers don't pass a test
+abbrev pub failing_below : (ℕ → Bool) → ℕ → ℕ
+failing_below test zero = 0
+failing_below test (suc n) = (if test n then 0 else 1) + failing_below test n
 
+-- the rows without a name or a definition
 unfoldable pub missing : List Row → Contract → Work → ℕ
-missing rows contract w = missing_below contract w (length rows)
+missing rows contract w = failing_below (is_made contract w) (length rows)
 
--- how many documents stand within one another where row n is a part; a row that is referred to adds none
+-- the rows that are not pending
+unfoldable pub fresh : List Row → List ℕ → ℕ
+fresh rows pending = failing_below (is_pending pending) (length rows)
+
+-- how many documents of inline rows stand within one another where row n is a part; another row adds none
 abbrev pub depth_in_place : List Row → ℕ → ℕ
 depth_in_place rows n = if is_inline_at rows n then suc (height rows n) else 0
 

@@ -1,22 +1,21 @@
 -- What the calls of the recursion answer, where they lead from one state of the work to another.
-use Rattle.std.specs.Prelude.{ℕ, suc, Bool, false, not, List, [], ◌∷◌}
+use Rattle.std.specs.Prelude.{ℕ, Bool, false, not, List, [], ◌∷◌}
 use Rattle.serde_json.specs.Data.{Data, string}
 use Rattle.schemars_json.specs.Json.{Text}
 use Rattle.schemars_schema.specs.References.{references}
-use Rattle.schemars_types.specs.Edges.{height}
-use Rattle.schemars_templates.specs.Describes.{Describes, IsWritten, ArePartsWritten, references_of}
+use Rattle.schemars_templates.specs.Describes.{ArePartsWritten, references_of}
 use Rattle.schemars_documents.specs.PlainTable.{IsPlainTable}
+use Rattle.schemars_naming.specs.Placed.{IsDocument, IsPlaced}
 use Rattle.schemars_naming.specs.Work.{Plan, Work, Refers, IsKey, reference_to, basis_of}
-use Rattle.schemars_build.specs.Missing.{depth_in_place}
 use Rattle.schemars_build.specs.Reached.{AreReached}
 
--- a document in place, with so many within one another, or a reference
-abbrev pub IsWrittenWithin : Plan → Bool → Work → ℕ → ℕ → Data → Type 0
-IsWrittenWithin plan free w depth =
-    IsWritten (Refers plan free w) (Describes (basis_of plan) (Refers plan free w) depth)
+-- the document of row n, made while these rows are pending
+abbrev pub IsDocumentOf : Plan → Bool → Work → List ℕ → ℕ → Data → Type 0
+IsDocumentOf plan free w = IsDocument (basis_of plan) plan.inlines (Refers plan free w)
 
+-- row n where it is a part: in place, or by reference
 abbrev pub IsSubschema : Plan → Bool → Work → ℕ → Data → Type 0
-IsSubschema plan free w n = IsWrittenWithin plan free w (depth_in_place plan.rows n) n
+IsSubschema plan free w = IsPlaced plan.rows plan.inlines w.pending (Refers plan free w) (IsDocumentOf plan free w w.pending)
 
 -- what joins is reached from these references
 abbrev pub AreNeeded : Plan → Bool → Work → Work → List Data → Type 0
@@ -27,14 +26,14 @@ pub record IsPart (plan : Plan) (inside : Bool) (old new : Work) (n : ℕ) (s : 
   pub written : IsSubschema plan (not inside) new n s
   pub reached : AreNeeded plan inside old new (references s)
 
--- the parts of row n's document, for these rows
-pub record AreParts (plan : Plan) (inside : Bool) (old new : Work) (n : ℕ) (ms : List ℕ) (ts : List Data) : Type 0 where
-  pub written : ArePartsWritten (IsWrittenWithin plan (not inside) new (height plan.rows n)) ms ts
+-- the parts of a document, for these rows
+pub record AreParts (plan : Plan) (inside : Bool) (old new : Work) (ms : List ℕ) (ts : List Data) : Type 0 where
+  pub written : ArePartsWritten (IsSubschema plan (not inside) new) ms ts
   pub reached : AreNeeded plan inside old new (references_of ts)
 
 -- the document of row n
 pub record IsOwn (plan : Plan) (inside : Bool) (old new : Work) (n : ℕ) (s : Data) : Type 0 where
-  pub describes : Describes (basis_of plan) (Refers plan (not inside) new) (suc (height plan.rows n)) n s
+  pub document : IsDocumentOf plan (not inside) new new.pending n s
   pub reached : AreNeeded plan inside old new (references s)
 
 -- there is a definition of this name

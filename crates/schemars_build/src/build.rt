@@ -3,17 +3,18 @@ ghost use Rattle.std.specs.Prelude.{Some, codes, ◌≡◌, ◌<◌, not, length
 ghost use Rattle.schemars_types.specs.Faults.{IsChecked};
 ghost use Rattle.schemars_documents.specs.Documents.{reference};
 ghost use Rattle.schemars_naming.specs.Naming.{name_of};
+ghost use Rattle.schemars_naming.specs.Placed.{is_in_place};
 ghost use Rattle.schemars_naming.specs.Work.{Step, undone, reference_to};
 ghost use Rattle.schemars_build.specs.Missing.{StandsIn};
 ghost use Rattle.schemars_build.specs.Plans.{plan_of};
 ghost use Rattle.schemars_build.specs.Parts.{IsPart, AreParts, IsOwn, IsMade};
 
 use schemars_documents::Contract;
+use schemars_entries::entry_template;
 use schemars_naming::work::Work;
 use schemars_schema::Schema;
 use schemars_schema::encoding::encode_ref_name;
 use schemars_templates::basis::Basis;
-use schemars_templates::shapes::entry_template;
 use schemars_templates::template::fill;
 use schemars_types::{TypeNo, Types};
 use std::alloc::{AllocError, Global};
@@ -26,6 +27,8 @@ pub struct Plan<'t> {
     pub contract: Contract,
     /// whether the variants of an untagged enum have their names as titles
     pub titles: bool,
+    /// whether rows are written in place wherever they are not pending
+    pub inlines: bool,
     /// where the definitions stand
     pub path: &'t str,
     /// the row whose root document is made
@@ -48,11 +51,7 @@ pub fn subschema(
     ensures step { OnOk result (Step (plan_of plan.now) work.old work.new) }
     ensures is { IfOk result (IsPart (plan_of plan.now) in_definition work.old work.new n) }
 {
-    let inline = match plan.types.entry(n) {
-        Some(entry) => entry.inline,
-        None => unreachable!(),
-    };
-    if inline {
+    if is_in_place(plan, work, n) {
         let in_place = own_document(alloc, plan, work, in_definition, n)?;
         return Ok(in_place);
     }
@@ -65,6 +64,17 @@ pub fn subschema(
     define(alloc, plan, work, n, &name)?;
     let reference = reference_to(alloc, plan.path, name.as_str())?;
     Ok(reference)
+}
+
+// Whether row `n` stands in place where it is a part.
+fn is_in_place(plan: &Plan<'_>, work: &Work, n: TypeNo) -> bool
+    ensures { result ≡ is_in_place (plan_of plan.now).rows plan.now.inlines work.now.pending n }
+{
+    let inline = match plan.types.entry(n) {
+        Some(entry) => entry.inline,
+        None => false,
+    };
+    inline || (plan.inlines && !work.is_pending(n))
 }
 
 // Makes the definition of row `n`, which has this name, unless it is there.
@@ -93,7 +103,7 @@ fn define(
     Ok(())
 }
 
-/// The document of row `n`, with its notes.
+/// The document of row `n`, with its notes. Where rows are inlined, the row is pending meanwhile.
 #[cycle(build)]
 pub fn own_document(
     alloc: Global,
@@ -119,7 +129,9 @@ pub fn own_document(
     };
     let template = entry_template(alloc, &basis, entry)?;
     let rows = template.rows(alloc)?;
+    let entered = work.enter(plan.inlines, n)?;
     let parts = subschemas(alloc, plan, work, in_definition, n, &rows)?;
+    work.leave(entered);
     let schema = fill(alloc, template, parts)?;
     Ok(schema)
 }
@@ -138,7 +150,7 @@ fn subschemas(
     requires stand { All (StandsIn (plan_of plan.now).rows n) rows.now }
     ensures undone { undone work.new ≡ undone work.old }
     ensures step { OnOk result (Step (plan_of plan.now) work.old work.new) }
-    ensures are { IfOk result (λ v. AreParts (plan_of plan.now) in_definition work.old work.new n rows.now v.items) }
+    ensures are { IfOk result (λ v. AreParts (plan_of plan.now) in_definition work.old work.new rows.now v.items) }
 {
     let _ = n;
     let mut parts = VecDeque::new(alloc);

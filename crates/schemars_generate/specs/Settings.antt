@@ -12,6 +12,7 @@ settings_of s = record {
   meta_schema = option_map cow_str_bytes s.meta_schema;
   contract = s.contract;
   titles = s.untagged_enum_variant_titles;
+  inlines = s.inline_subschemas;
 }
 
 abbrev pub state_of : src.SchemaSettings → List Row → Work → State

@@ -10,7 +10,7 @@ ghost use Rattle.schemars_schema.specs.References.{references};
 ghost use Rattle.schemars_types.specs.Extends.{begins_with};
 ghost use Rattle.schemars_types.specs.Faults.{IsAccepted, IsChecked};
 ghost use Rattle.schemars_headline.specs.Headline.{RootHeadline, SubschemaHeadline, IsRootOf, IsTitledRoot, IsDraftPath};
-ghost use Rattle.schemars_headline.specs.Headline.{CannotPlace, with_definitions};
+ghost use Rattle.schemars_headline.specs.Headline.{CannotPlace, with_definitions, IsInlined};
 ghost use Rattle.schemars_headline.specs.Calls.{IsPartOf, IsReferenceOf, Adds, IsNeeded, IsRootCall, IsLastRootCall};
 ghost use Rattle.schemars_build.specs.Parts.{IsSubschema};
 ghost use Rattle.schemars_naming.specs.Naming.{IsOneToOne};
@@ -45,6 +45,8 @@ pub struct SchemaSettings {
     pub definitions_path: CowStr<'static>,
     /// What a root document says of itself under `$schema`.
     pub meta_schema: Option<CowStr<'static>>,
+    /// Whether each row is written in place, but for one inside its own document.
+    pub inline_subschemas: bool,
     /// Whose values the documents are for.
     pub contract: Contract,
     /// Whether the variants of an untagged enum have their names as titles.
@@ -62,6 +64,7 @@ impl SchemaSettings {
         SchemaSettings {
             definitions_path: CowStr::Borrowed("/$defs"),
             meta_schema: Some(CowStr::Borrowed(meta_schemas::DRAFT2020_12)),
+            inline_subschemas: false,
             contract: Contract::Deserialize,
             untagged_enum_variant_titles: false,
         }
@@ -89,7 +92,8 @@ impl SchemaSettings {
 /// Makes the documents of a table's rows, which refer to one another by definitions.
 ///
 /// A row that is not written in place is referred to by its name, under which its document is one
-/// of the definitions. The first row of a name has the name itself, and further ones have it with
+/// of the definitions. Inline rows are written in place; where the settings inline subschemas, so are
+/// all others, but for those whose document is being made. The first row of a name has the name itself, and further ones have it with
 /// 2, 3 and so on behind it. Names stay for as long as the generator.
 #[derive(Drop)]
 pub struct SchemaGenerator {
@@ -255,6 +259,7 @@ impl SchemaGenerator {
         ensures means { IfOk result (λ s. HasOwnDefinitions self.old → SubschemaHeadline self.new n s) }
         ensures part { IfOk result (IsPartOf self.new n) }
         ensures reference { IfOk result (IsReferenceOf self.old self.new n) }
+        ensures inlined { IfOk result (IsInlined self.old) }
         ensures step { OnOk result (Adds self.old self.new) }
         ensures reached { IfOk result (λ s. IsNeeded self.old self.new (references s)) }
         ensures own { HasOwnDefinitions self.old → HasOwnDefinitions self.new }
@@ -281,6 +286,7 @@ impl SchemaGenerator {
     ) -> Result<Schema, GenerateError>
         ensures headline { IfOk result (RootHeadline self.old n) }
         ensures root { IfOk result (IsRootCall self.old n self.new) }
+        ensures inlined { self.old.definitions ≡ no_members → IfOk result (IsInlined self.old) }
         ensures own { HasOwnDefinitions self.old → HasOwnDefinitions self.new }
         ensures keys { HasOwnDefinitions self.old → IsPlainTable self.new.rows → ReferencesNameKeys self.new }
         ensures whole { IfOk result (λ d. HasNoFloat self.old.rows → HasOwnDefinitions self.old → has_float d ≡ false) }
@@ -304,6 +310,7 @@ impl SchemaGenerator {
     ) -> Result<Schema, GenerateError>
         ensures headline { IfOk result (RootHeadline self n) }
         ensures root { IfOk result (IsLastRootCall self n) }
+        ensures inlined { self.definitions ≡ no_members → IfOk result (IsInlined self) }
         ensures whole { IfOk result (λ d. HasNoFloat self.rows → HasOwnDefinitions self → has_float d ≡ false) }
         ensures unknown { (result ≡ Err (GenerateError.UnknownType n)) ↔ (length self.rows ≤ n) }
         ensures refused { IfErr result (λ e. (e ≡ GenerateError.OutOfMemory) ⊎ (e ≡ GenerateError.UnknownType n)
@@ -351,6 +358,7 @@ fn part_of(
         types,
         contract: settings.contract,
         titles: settings.untagged_enum_variant_titles,
+        inlines: settings.inline_subschemas,
         path: stripped(settings.definitions_path.as_str()),
         root: None,
     };
@@ -467,6 +475,7 @@ fn titled_document(
         types,
         contract: settings.contract,
         titles: settings.untagged_enum_variant_titles,
+        inlines: settings.inline_subschemas,
         path: stripped(settings.definitions_path.as_str()),
         root: Some(n),
     };

@@ -1,10 +1,9 @@
 -- What a call makes of what a generator holds.
-use Rattle.std.proofs.Common.{◌≡◌, ◌<◌, inl, inr, ℕ, zero, suc, List, [], ◌∷◌, take, length, Bool, true, false, Option}
+use Rattle.std.proofs.Common.{◌≡◌, inl, inr, ℕ, List, [], ◌∷◌, length, Bool, true, false, Option}
 use Rattle.std.proofs.Common.{Some, None, refl, sym, ap, ◌∙◌, arith, subst, true≢false, Result, Ok, Err, IsErrAnd}
-use Rattle.std.proofs.Common.{IfErr, Contains}
+use Rattle.std.proofs.Common.{IfErr}
 use Rattle.std.specs.Prelude.{if◌then◌else◌}
 use Rattle.std.specs.List.{IsDistinct}
-use Rattle.std.specs.Option.{option_map_or}
 use Rattle.serde_json.specs.Data.{Data, Members}
 use Rattle.serde_json.specs.Find.{get_member}
 use Rattle.serde_json.specs.Written.{has_float}
@@ -12,28 +11,21 @@ use Rattle.serde_json.specs.View.{members_view}
 use Rattle.serde_json.proofs.Views.{Entry as Entries}
 use Rattle.schemars_schema.specs.Placing.{placed_at}
 use Rattle.schemars_json.specs.Json.{Text}
-use Rattle.schemars_shapes.specs.Shape as shape
-use Rattle.schemars_shapes.specs.Shape.{Entry, Shape, numbers_of}
-use Rattle.schemars_types.specs.Rows.{Row, entry_at, name_at}
-use Rattle.schemars_types.specs.Edges.{is_inline_at, height, rank}
+use Rattle.schemars_types.specs.Rows.{name_at}
+use Rattle.schemars_types.specs.Edges.{height, rank}
 use Rattle.schemars_types.specs.Faults.{IsChecked}
-use Rattle.schemars_types.specs.KeyOptions.{key_options}
-use Rattle.schemars_keys.proofs.Settling.{further_rows}
 use Rattle.schemars_documents.specs.ContractOf.{contract_of}
 use Rattle.schemars_naming.specs.Naming.{name_of, IsOneToOne}
 use Rattle.schemars_documents.specs.Documents.{reference, root_document}
 use Rattle.schemars_templates.specs.Basis.{Basis}
-use Rattle.schemars_templates.specs.Template.{Template, noted}
-use Rattle.schemars_templates.specs.OfShape.{values_template, template_of}
-use Rattle.schemars_templates.specs.Describes.{IsOwnDocument, IsWritten, Describes, Fills}
 use Rattle.schemars_headline.specs.Keys.{HasKeysOnce}
-use Rattle.schemars_documents.specs.PlainTable.{IsPlainTable, HasPlainNotes, HasNoFloat}
-use Rattle.schemars_naming.specs.Work.{Plan, Work, IsKey, StandsApart, Refers, IsDefinition, Step, reference_to, basis_of}
+use Rattle.schemars_documents.specs.PlainTable.{HasPlainNotes, HasNoFloat}
+use Rattle.schemars_naming.specs.Work.{Plan, Work, IsKey, Refers, IsDefinition, Step, reference_to, basis_of}
 use Rattle.schemars_headline.specs.State.{State, plan_of, work_of, after_root, HasOwnDefinitions}
 use Rattle.schemars_headline.specs.Headline.{Headline, IsDraftPath, IsRootOf, IsTitledRoot, CannotPlace, with_definitions}
-use Rattle.schemars_build.specs.Parts.{IsSubschema}
-use Rattle.schemars_build.specs.Missing.{depth_in_place}
-use Rattle.schemars_meaning.proofs.Mapping.{own_map, written_map, describes-wider}
+use Rattle.schemars_naming.specs.Placed.{is_in_place, IsPlaced, IsDocument}
+use Rattle.schemars_build.specs.Parts.{IsSubschema, IsDocumentOf}
+use Rattle.schemars_build.proofs.Placing.{placed_map, document-wider, document_describes}
 use Rattle.schemars_schema.specs.References.{references}
 use Rattle.schemars_build.specs.Reached.{AreReached}
 use Rattle.schemars_build.proofs.Steps.{Wider, step_wider, definition-wider}
@@ -45,22 +37,23 @@ use Rattle.schemars_headline.proofs.Roots.{root_placed, root_call_means}
 
 -- references that are known in another work too
 definition-moved : (plan other : Plan) (old new : Work) → plan.rows ≡ other.rows → plan.contract ≡ other.contract
-    → plan.titles ≡ other.titles
+    → plan.titles ≡ other.titles → plan.inlines ≡ other.inlines
     → ((n : ℕ) (name : Text) → name_of n plan.contract old.names ≡ Some name → name_of n other.contract new.names ≡ Some name)
     → ((n : ℕ) (r : Text) → Refers plan false old n r → Refers other false new n r) → (k : Text) (d : Data) → IsDefinition plan old k d
     → IsDefinition other new k d
-definition-moved plan other old new rows contract titles names refers k d h = record {
+definition-moved plan other old new rows contract titles inlines names refers k d h = record {
   row = h.row;
   is_named = names h.row k h.is_named;
   is_text = h.is_text;
-  depth = h.depth;
-  describes =
-      let wide = describes-wider (basis_of plan) (Refers plan false old) (Refers other false new) refers h.depth
-      h.depth (omega arith) h.row d h.describes in
-      let P : Basis → Type 0 = λ b. Describes b (Refers other false new) h.depth h.row d in
+  pending = h.pending;
+  document =
+      let wide = document-wider (basis_of plan) plan.inlines (Refers plan false old) (Refers other false new) refers h.pending h.row d
+      h.document in
       let same : basis_of plan ≡ basis_of other =
       λ i. record { rows = rows i; contract = contract_of (contract i); titles = titles i } in
-      subst P same wide;
+      let P : Basis → Type 0 = λ b. IsDocument b plan.inlines (Refers other false new) h.pending h.row d in
+      let Q : Bool → Type 0 = λ b. IsDocument (basis_of other) b (Refers other false new) h.pending h.row d in
+      subst Q inlines (subst P same wide);
 }
 
 -- what a root call has, of what was there and what it adds
@@ -69,7 +62,7 @@ pub definitions_in : (s : State) (root : Option ℕ) (w : Work) → Step (plan_o
 definitions_in s root w step own k d found = go (get_member k s.definitions) refl
   where
     go : (o : Option Data) → get_member k s.definitions ≡ o → Stands (plan_of s root) w k d
-    go None is = stands_now (plan_of s root) w k d (step.adds k d is found)
+    go None is = stands_now (plan_of s root) w k d (step.adds k d is found).definition
     go (Some e) is =
         let kept : get_member k w.definitions ≡ Some e = step.stays k e is in
         let same : e ≡ d = cc in
@@ -97,8 +90,8 @@ definitions_kept s root w none step own k d found = go (get_member k s.definitio
     }
 
     go : (o : Option Data) → get_member k s.definitions ≡ o → IsDefinition (plan_of new None) (work_of new) k d
-    go None is = definition-moved (plan_of s root) (plan_of new None) w (work_of new) refl refl refl (λ n name e. e) from_root k d
-        (step.adds k d is found)
+    go None is = definition-moved (plan_of s root) (plan_of new None) w (work_of new) refl refl refl refl (λ n name e. e) from_root k d
+        (step.adds k d is found).definition
     go (Some e) is =
         let kept : get_member k w.definitions ≡ Some e = step.stays k e is in
         let same : e ≡ d = cc in
@@ -133,113 +126,6 @@ pub part_own : (s new : State) → new ≡ record s { names = new.names; definit
 part_own s new same step own =
     subst HasOwnDefinitions (sym same) (definitions_kept s None (work_of new) refl step own)
 
--- ---- a larger table
-
--- a shape's template stays as rows join that its rows' options don't depend on
-template-more : (basis : Basis) (more : List Row) (kind : Shape)
-    → ((n : ℕ) → Contains (numbers_of kind) n → key_options more n ≡ key_options basis.rows n)
-    → template_of basis kind ≡ template_of (record basis { rows = more }) kind
-template-more basis more shape.null same = refl
-template-more basis more shape.bool same = refl
-template-more basis more (shape.int k) same = refl
-template-more basis more (shape.non_zero k) same = refl
-template-more basis more shape.number same = refl
-template-more basis more shape.text same = refl
-template-more basis more shape.char same = refl
-template-more basis more (shape.formatted f) same = refl
-template-more basis more shape.any same = refl
-template-more basis more shape.bytes same = refl
-template-more basis more shape.schema_itself same = refl
-template-more basis more (shape.option n) same = refl
-template-more basis more (shape.seq n) same = refl
-template-more basis more (shape.set n) same = refl
-template-more basis more (shape.array n len) same = refl
-template-more basis more (shape.up_to n cap) same = refl
-template-more basis more (shape.tuple ns) same = refl
-template-more basis more (shape.struct xs closed) same = refl
-template-more basis more (shape.newtype n) same = refl
-template-more basis more (shape.result a b) same = refl
-template-more basis more (shape.bound n) same = refl
-template-more basis more (shape.range n) same = refl
-template-more basis more (shape.either a b) same = refl
-template-more basis more (shape.map_from key value) same =
-    ap (λ options. values_template options value) (sym (same key (0, omega arith, refl)))
-template-more basis more (shape.external xs) same = refl
-template-more basis more (shape.untagged xs) same = refl
-template-more basis more (shape.internal tag closed xs) same = refl
-
-describes-more : (basis : Basis) (more : List Row) (R : ℕ → Text → Type 0)
-    → ((n : ℕ) (e : Entry) → entry_at basis.rows n ≡ Some e → entry_at more n ≡ Some e)
-    → ((n m : ℕ) (e : Entry) → entry_at basis.rows n ≡ Some e → Contains (numbers_of e.shape) m
-    → key_options more m ≡ key_options basis.rows m) → (depth n : ℕ) (s : Data)
-    → Describes basis R depth n s → Describes (record basis { rows = more }) R depth n s
-unfolding Describes
-describes-more basis more R all same zero n s h = absurd h
-describes-more basis more R all same (suc depth) n s h = go (describes-more basis more R all same depth) (entry_at basis.rows n) refl h
-  where
-    wider : Basis
-    wider = record basis { rows = more }
-
-    go : ((j : ℕ) (t : Data) → Describes basis R depth j t → Describes wider R depth j t) → (o : Option Entry)
-        → entry_at basis.rows n ≡ o → IsOwnDocument (IsWritten R (Describes basis R depth)) basis o s
-        → IsOwnDocument (IsWritten R (Describes wider R depth)) wider (entry_at more n) s
-    go deeper None is h = absurd h
-    go deeper (Some e) is h =
-        let P : Option Entry → Type 0 = λ o. IsOwnDocument (IsWritten R (Describes wider R depth)) wider o s in
-        let Q : Template → Type 0 = λ t. Fills (IsWritten R (Describes wider R depth)) (noted e.notes t) s in
-        subst P (sym (all n e is)) (subst Q (template-more basis more e.shape (λ m c. same n m e is c)) (own_map (IsWritten R
-        (Describes basis R depth))
-        (IsWritten R (Describes wider R depth)) basis (written_map R R _ _ (λ j r e. e) deeper) (Some e) s h))
-
-entry-in_more : (first : List Row) (k : ℕ) (rows : List Row) → take k rows ≡ first → (n : ℕ) (e : Entry) → entry_at first n ≡ Some e
-    → entry_at rows n ≡ Some e
-entry-in_more first k rows same n e is = go k rows n (ap (λ rs. entry_at rs n) same ∙ is)
-  where
-    go : (k : ℕ) (rows : List Row) (n : ℕ) → entry_at (take k rows) n ≡ Some e → entry_at rows n ≡ Some e
-    go zero rows n h = cc
-    go (suc k) [] n h = cc
-    go (suc k) (r ∷ rows) zero h = h
-    go (suc k) (r ∷ rows) (suc n) h = go k rows n h
-
-apart_in_more : (first : List Row) (k : ℕ) (rows : List Row) → take k rows ≡ first → (n : ℕ) → StandsApart first n → StandsApart rows n
-apart_in_more first k rows same n h = go k rows n (let P : List Row → Type 0 = λ rs. StandsApart rs n in subst P (sym same) h)
-  where
-    go : (k : ℕ) (rows : List Row) (n : ℕ) → StandsApart (take k rows) n → StandsApart rows n
-    go zero rows n h = absurd (let never : n < 0 = h.0 in omega (arith, never))
-    go (suc k) [] n h = absurd (let never : n < 0 = h.0 in omega (arith, never))
-    go (suc k) (r ∷ rows) zero h = (omega arith, h.1)
-    go (suc k) (r ∷ rows) (suc n) h =
-        let here : suc n < suc (length (take k rows)) = h.0 in
-        let later = go k rows n (omega (arith, here), h.1) in
-        let there : n < length rows = later.0 in
-        (omega (arith, there), later.1)
-
-pub more_types_own : (s : State) (rows : List Row) → IsChecked s.rows → take (length s.rows) rows ≡ s.rows → HasOwnDefinitions s
-    → HasOwnDefinitions (record s { rows = rows })
-more_types_own s rows checked same own k d found =
-    let h = own k d found in
-    let new = record s { rows = rows } in
-    record {
-      row = h.row;
-      is_named = h.is_named;
-      is_text = h.is_text;
-      depth = h.depth;
-      describes = describes-wider (basis_of (plan_of new None)) (Refers (plan_of s None) false (work_of s))
-          (Refers (plan_of (record s { rows = rows }) None) false (work_of s)) to_more h.depth h.depth (omega arith) h.row d
-          (describes-more (basis_of (plan_of s None)) rows (Refers (plan_of s None) false (work_of s))
-          (entry-in_more s.rows (length s.rows) rows same) stays h.depth h.row d h.describes);
-    }
-  where
-    stays : (n m : ℕ) (e : Entry) → entry_at s.rows n ≡ Some e → Contains (numbers_of e.shape) m → key_options rows m ≡ key_options s.rows m
-    stays n m e at c =
-        let P : Option Entry → Type 0 = λ o. Contains (option_map_or (λ x. numbers_of x.shape) o []) m in
-        further_rows s.rows rows checked same m (checked.within.within n m (subst P (sym at) c))
-
-    to_more : (n : ℕ) (r : Text) → Refers (plan_of s None) false (work_of s) n r
-        → Refers (plan_of (record s { rows = rows }) None) false (work_of s) n r
-    to_more n r (inl h) = cc
-    to_more n r (inr h) = inr (h.0, h.1, h.2, h.3, apart_in_more s.rows (length s.rows) rows same n h.4, h.5)
-
 -- ---- root documents
 
 pub root_means : (s : State) (n : ℕ) (w : Work) (d : Data) → IsChecked s.rows → IsRootOf s n w d → HasKeysOnce w.definitions
@@ -254,39 +140,41 @@ root_is_whole s n w d root once none own =
     whole_with_definitions (plan_of s (Some n)).path w.definitions (root_document (name_at s.rows n) s.settings.meta_schema root.own) d
     (definitions_whole (plan_of s (Some n)) w none (definitions_in s (Some n) w root.step own) once)
     (root_whole (name_at s.rows n) s.settings.meta_schema root.own (described_whole (basis_of (plan_of s None))
-    (Refers (plan_of s (Some n)) true w) none (suc (height s.rows n)) n root.own root.describes))
+    (Refers (plan_of s (Some n)) true w) none root.is_document.0 n root.own
+    (document_describes (basis_of (plan_of s None)) s.settings.inlines (Refers (plan_of s (Some n)) true w) [] n root.own
+    root.is_document)))
     root.is_root
 
 pub always_placed : (s : State) (n : ℕ) → HasPlainNotes s.rows → IsDraftPath (plan_of s None).path → CannotPlace s n → ⊥
 always_placed s n plain path h =
-    let there = root_placed (plan_of s (Some n)) h.work n (name_at s.rows n) s.settings.meta_schema (suc (height s.rows n)) h.own plain
-    (Refers (plan_of s (Some n)) true h.work) h.describes path in
+    let R = Refers (plan_of s (Some n)) true h.work in
+    let there = root_placed (plan_of s (Some n)) h.work n (name_at s.rows n) s.settings.meta_schema h.is_document.0 h.own plain R
+    (document_describes (basis_of (plan_of s (Some n))) s.settings.inlines R [] n h.own h.is_document) path in
     let some = there.1 in
     let none = h.no_place in
     cc
 
 -- ---- parts
 
-pub reference_of_part : (s : State) (n : ℕ) (d : Data) → IsSubschema (plan_of s None) false (work_of s) n d → is_inline_at s.rows n ≡ false
+pub reference_of_part : (s : State) (n : ℕ) (d : Data) → IsSubschema (plan_of s None) false (work_of s) n d
+    → is_in_place s.rows s.settings.inlines [] n ≡ false
     → (name : Text) × (name_of n s.settings.contract s.names ≡ Some name) × IsKey name s.definitions
     × (d ≡ reference (reference_to (plan_of s None).path name))
-unfolding Describes
-reference_of_part s n d (inl (r, inl h, same)) apart = cc
-reference_of_part s n d (inl (r, inr h, same)) apart = (h.0, h.1, h.2, same ∙ ap reference h.3)
-reference_of_part s n d (inr h) apart =
-    let none : depth_in_place s.rows n ≡ 0 = ap (λ b. if b then suc (height s.rows n) else 0) apart in
-    let P : ℕ → Type 0 = λ k. Describes (basis_of (plan_of s None)) (Refers (plan_of s None) false (work_of s)) k n d in
-    let nothing : P 0 = subst P none h in
-    absurd nothing
+reference_of_part s n d (inl (r, (inl h, e), same)) apart = cc
+reference_of_part s n d (inl (r, (inr h, e), same)) apart = (h.0, h.1, h.2, same ∙ ap reference h.3)
+reference_of_part s n d (inr h) apart = absurd (true≢false (sym h.1 ∙ apart))
 
 -- what the running call has marked doesn't matter without a root
 pub part_kept : (s new : State) (w : Work) (n : ℕ) (d : Data) → new ≡ record s { names = w.names; definitions = w.definitions }
-    → IsSubschema (plan_of s None) false w n d → IsSubschema (plan_of new None) false (work_of new) n d
-part_kept s new w n d same h =
+    → w.pending ≡ [] → IsSubschema (plan_of s None) false w n d → IsSubschema (plan_of new None) false (work_of new) n d
+part_kept s new w n d same none h =
+    let plan = plan_of s None in
     let P : State → Type 0 = λ x. IsSubschema (plan_of x None) false (work_of x) n d in
-    subst P (sym same) (written_map (Refers (plan_of s None) false w) (Refers (plan_of s None) false v) _ _ moved
-    (describes-wider (basis_of (plan_of s None)) (Refers (plan_of s None) false w) (Refers (plan_of s None) false v) moved
-    (depth_in_place s.rows n) (depth_in_place s.rows n) (omega arith)) n d h)
+    let Q : List ℕ → Type 0 = λ p. IsPlaced plan.rows plan.inlines p (Refers plan false w)
+    (IsDocument (basis_of plan) plan.inlines (Refers plan false w) p) n d in
+    subst P (sym same) (placed_map plan.rows plan.inlines [] (Refers plan false w) (Refers plan false v)
+    (IsDocument (basis_of plan) plan.inlines (Refers plan false w) []) (IsDocument (basis_of plan) plan.inlines (Refers plan false v) [])
+    moved (document-wider (basis_of plan) plan.inlines (Refers plan false w) (Refers plan false v) moved []) n d (subst Q none h))
   where
     v : Work
     v = work_of (record s { names = w.names; definitions = w.definitions })
@@ -297,13 +185,21 @@ part_kept s new w n d same h =
 
 pub step_kept : (s : State) (w : Work) → Step (plan_of s None) (work_of s) w
     → Step (plan_of s None) (work_of s) (work_of (record s { names = w.names; definitions = w.definitions }))
+unfolding definition-moved
 step_kept s w h = record {
   names = h.names;
   stays = h.stays;
-  adds = λ k d none some. definition-moved (plan_of s None) (plan_of s None) w v refl refl refl (λ n name e. e) moved k d
-      (h.adds k d none some);
+  adds = λ k d none some.
+      let added = h.adds k d none some in
+      record {
+        definition = definition-moved (plan_of s None) (plan_of s None) w v refl refl refl refl (λ n name e. e) moved k d
+            added.definition;
+        more = added.more;
+        within = added.within;
+      };
   still_begun = λ k is. is;
   still_meets = λ e. e;
+  still_pending = refl;
 }
   where
     v : Work
@@ -360,7 +256,7 @@ cannot_place s n old w t path ms between step titled same_path same none = recor
   work = w;
   step = subst (λ x. Step (plan_of s (Some n)) x w) between step;
   own = titled.own;
-  describes = titled.describes;
+  is_document = subst (λ p. IsDocumentOf (plan_of s (Some n)) true w p n titled.own) (ap (λ x. x.pending) between) titled.is_document;
   no_place = sym (λ i. with_definitions (same_path i) (same i) (titled.is_root i)) ∙ none;
   reached = λ plain. subst (λ x. AreReached (plan_of s (Some n)) false x w (references titled.own)) between (titled.reached plain);
 }
@@ -371,7 +267,7 @@ pub root_of : (s : State) (n : ℕ) (old w : Work) (t d : Data) (path : Text) (m
 root_of s n old w t d path ms between step titled same_path same made = record {
   step = subst (λ x. Step (plan_of s (Some n)) x w) between step;
   own = titled.own;
-  describes = titled.describes;
+  is_document = subst (λ p. IsDocumentOf (plan_of s (Some n)) true w p n titled.own) (ap (λ x. x.pending) between) titled.is_document;
   is_root = sym (λ i. with_definitions (same_path i) (same i) (titled.is_root i)) ∙ made;
   reached = λ plain. subst (λ x. AreReached (plan_of s (Some n)) false x w (references titled.own)) between (titled.reached plain);
 }

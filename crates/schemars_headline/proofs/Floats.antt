@@ -22,7 +22,7 @@ use Rattle.schemars_rewrite.specs.Variants.{unit_variant}
 use Rattle.schemars_shapes.specs.IntKind.{format_of}
 use Rattle.schemars_shapes.specs.Shape as shape
 use Rattle.schemars_shapes.specs.Shape.{Shape, Entry, Field, Payload, Variant, no_payload, newtype_payload, tuple_payload, struct_payload}
-use Rattle.schemars_types.specs.Rows.{Row, entry_at}
+use Rattle.schemars_types.specs.Rows.{entry_at}
 use Rattle.schemars_types.specs.Meaning.{Contract, Deserialize, Serialize, least_of, greatest_of, tagged_fields, tagged_closed}
 use Rattle.schemars_types.specs.KeyOptions.{KeyOptions, any_key, only_keys, key_options}
 use Rattle.schemars_documents.specs.Documents.{annotated, with_title, with_meta_schema, root_document, int_keywords}
@@ -31,7 +31,7 @@ use Rattle.schemars_templates.specs.Basis.{Basis}
 use Rattle.schemars_templates.specs.Template.{Template, finished, row, list, members, nullable, noted, Templates, no_templates}
 use Rattle.schemars_templates.specs.Template.{template, rows_of, left, keyed, filled, filled_in}
 use Rattle.schemars_templates.specs.OfShape.{KeywordTemplate, templates_of, property, map_template, tuple_template, struct_template}
-use Rattle.schemars_templates.specs.OfShape.{payload_template, named_template, is_bare_unit, bare_units, other_items, choice_of}
+use Rattle.schemars_templates.specs.OfShape.{payload_template, named_template, bare_units, other_items, choice_of}
 use Rattle.schemars_templates.specs.OfShape.{values_template, payload_item, titled, untagged_template, template_of}
 use Rattle.schemars_templates.specs.OfShape.{entry_template, tagged_template, internal_item, internal_template}
 use Rattle.schemars_templates.specs.Describes.{IsOwnDocument, IsWritten, Describes}
@@ -39,6 +39,7 @@ use Rattle.schemars_documents.specs.PlainTable.{FieldsHaveNoFloat, PayloadHasNoF
 use Rattle.schemars_documents.specs.PlainTable.{EntryHasNoFloat, HasNoFloat}
 use Rattle.schemars_schema.specs.Edits.{without, replaced}
 use Rattle.schemars_schema.specs.Placing.{placed, placed_at, tokens_of}
+use Rattle.schemars_shapes.specs.Units.{is_bare_unit}
 use Rattle.schemars_naming.specs.Work.{Plan, Work, basis_of}
 use Rattle.schemars_headline.proofs.Leading.{MayRefer, AllStand}
 use Rattle.schemars_headline.specs.Headline.{with_definitions}

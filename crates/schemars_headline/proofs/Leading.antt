@@ -29,6 +29,7 @@ use Rattle.schemars_naming.specs.Work.{Plan, Work, IsKey, Refers, IsDefinition, 
 use Rattle.schemars_headline.specs.Headline.{AcceptsItsValues}
 use Rattle.schemars_headline.proofs.Keys.{key_here, key_later, key_cases}
 use Rattle.schemars_meaning.proofs.Mapping.{describes-wider, written_map}
+use Rattle.schemars_build.proofs.Placing.{document_describes}
 use Rattle.schemars_meaning.proofs.Enums.{IsNewtypeIn}
 use Rattle.schemars_meaning.proofs.Meanings.{IsSame}
 use Rattle.schemars_meaning.proofs.Following.{References, InList, Setting, written_says, described_schema}
@@ -229,9 +230,10 @@ stands_now plan w name d h = record {
   row = h.row;
   is_named = h.is_named;
   is_text = h.is_text;
-  depth = h.depth;
+  depth = h.document.0;
   describes = describes-wider (basis_of plan) (Refers plan false w) (MayRefer plan w) (refers_may plan w false)
-      h.depth h.depth (omega arith) h.row d h.describes;
+      h.document.0 h.document.0 (omega arith) h.row d
+      (document_describes (basis_of plan) plan.inlines (Refers plan false w) h.pending h.row d h.document);
 }
 
 pub stands_before : (plan : Plan) (w : Work) (name : Text) (d : Data) → IsDefinition (rootless plan) w name d → Stands plan w name d
@@ -239,9 +241,10 @@ stands_before plan w name d h = record {
   row = h.row;
   is_named = h.is_named;
   is_text = h.is_text;
-  depth = h.depth;
+  depth = h.document.0;
   describes = describes-wider (basis_of plan) (Refers (rootless plan) false w) (MayRefer plan w)
-      (λ j r e. inr (free_refers (rootless plan) w false j r e)) h.depth h.depth (omega arith) h.row d h.describes;
+      (λ j r e. inr (free_refers (rootless plan) w false j r e)) h.document.0 h.document.0 (omega arith) h.row d
+      (document_describes (basis_of plan) plan.inlines (Refers (rootless plan) false w) h.pending h.row d h.document);
 }
 
 -- the root is the document itself, or says the same

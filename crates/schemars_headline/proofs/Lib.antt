@@ -8,5 +8,8 @@ pub mod Placed
 pub mod Roots
 pub mod NamedKeys
 pub mod Calls
+pub mod Larger
+pub mod Inlined
+pub mod Same
 pub mod Endless
 pub mod Paths

@@ -12,6 +12,7 @@ use Rattle.schemars_documents.specs.PlainTable.{IsPlainTable}
 use Rattle.schemars_naming.specs.Work.{IsKey, Refers, reference_to, basis_of}
 use Rattle.schemars_headline.specs.State.{State, plan_of, work_of, HasOwnDefinitions, ReferencesNameKeys}
 use Rattle.schemars_headline.proofs.Keys.{key_here, key_later, key_cases}
+use Rattle.schemars_build.proofs.Placing.{document_describes}
 use Rattle.schemars_headline.proofs.Resolving.{resolve-each, described_resolved}
 
 -- whether this is the reference of one of these keys
@@ -62,7 +63,8 @@ pub references_name_keys : (s : State) → HasOwnDefinitions s → IsPlainTable 
 references_name_keys s own plain k d r found among =
     let definition = own k d found in
     let all = (described_resolved test (basis_of (plan_of s None)) (Refers (plan_of s None) false (work_of s)) plain leads
-    definition.depth definition.row d definition.describes).1 in
+    definition.document.0 definition.row d (document_describes (basis_of (plan_of s None)) s.settings.inlines
+    (Refers (plan_of s None) false (work_of s)) definition.pending definition.row d definition.document)).1 in
     key_named (plan_of s None).path s.definitions r (resolve-each test (references d) r all among)
   where
     test : Data → Bool

@@ -12,8 +12,7 @@ use Rattle.schemars_schema.specs.SchemaData.{IsSchema}
 use Rattle.schemars_schema.specs.References.{found_in, found_in_members, found_in_keywords, references, resolves, all_resolve}
 use Rattle.schemars_schema.proofs.Contents.{found_under}
 use Rattle.schemars_shapes.specs.Shape.{Entry}
-use Rattle.schemars_types.specs.Rows.{Row, entry_at}
-use Rattle.schemars_types.specs.Meaning.{Contract}
+use Rattle.schemars_types.specs.Rows.{entry_at}
 use Rattle.schemars_documents.specs.Documents.{reference, root_document}
 use Rattle.schemars_templates.specs.Basis.{Basis}
 use Rattle.schemars_templates.specs.Describes.{ArePartsWritten, IsOwnDocument, IsWritten, Describes, references_of}

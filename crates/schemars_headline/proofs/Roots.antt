@@ -1,5 +1,5 @@
 -- Root documents mean their types, and so do subschemas beside their definitions.
-use Rattle.std.proofs.Common.{◌≡◌, inl, inr, ℕ, suc, List, Option, Some, None, Bool, true, refl, sym, ap, ◌∙◌, subst, arith}
+use Rattle.std.proofs.Common.{[], ◌≡◌, inl, inr, ℕ, List, Option, Some, None, Bool, true, refl, sym, ap, ◌∙◌, subst, arith}
 use Rattle.std.specs.Prelude.{is_some}
 use Rattle.serde_json.specs.Data.{Data, object, Members}
 use Rattle.serde_json.specs.Find.{get_member}
@@ -12,7 +12,6 @@ use Rattle.schemars_schema.proofs.Objects.{IsSilent, judge-put}
 use Rattle.schemars_rewrite.specs.NullLaw.{context2020_12}
 use Rattle.schemars_shapes.specs.Shape.{Entry}
 use Rattle.schemars_types.specs.Rows.{Row, name_at, entry_at}
-use Rattle.schemars_types.specs.Edges.{height}
 use Rattle.schemars_types.specs.Faults.{IsChecked}
 use Rattle.schemars_documents.specs.Documents.{root_document}
 use Rattle.schemars_templates.specs.Describes.{IsWritten, Describes}
@@ -27,6 +26,8 @@ use Rattle.schemars_headline.specs.Keys.{HasKeysOnce}
 use Rattle.schemars_headline.proofs.Keys.{all_members, IsDefinitionsKey}
 use Rattle.schemars_headline.proofs.OwnKeys.{no_definitions_in}
 use Rattle.schemars_meaning.proofs.Mapping.{describes-wider, written_map}
+use Rattle.schemars_build.specs.Parts.{IsSubschema}
+use Rattle.schemars_build.proofs.Placing.{document_describes, placed_written}
 use Rattle.schemars_meaning.proofs.Following.{described_schema}
 use Rattle.schemars_headline.proofs.Resolving.{all_pass-resolve, Resolve, AllResolve, described_resolved}
 use Rattle.schemars_headline.proofs.Resolving.{written_resolved, root_resolved, placed_resolved}
@@ -151,9 +152,9 @@ pub root_call_means : (old : State) (n : ℕ) (w : Work) (document : Data) → I
     → IsDraftPath (plan_of old (Some n)).path → Headline old.rows (contract_of old.settings.contract) (plan_of old (Some n)).path n document
 root_call_means old n w document h checked one once definitions draft =
     let plan = plan_of old (Some n) in
-    let depth = suc (height old.rows n) in
+    let depth = h.is_document.0 in
     let described = describes-wider (basis_of plan) (Refers plan true w) (MayRefer plan w) (refers_may plan w true)
-    depth depth (omega arith) n h.own h.describes in
+    depth depth (omega arith) n h.own (document_describes (basis_of plan) plan.inlines (Refers plan true w) [] n h.own h.is_document) in
     root_headline plan w n (name_at old.rows n) old.settings.meta_schema depth h.own document checked one once refl definitions described
     draft h.is_root
 
@@ -180,11 +181,11 @@ subschema_means plan w n free depth schema document checked one none definitions
           ∙ definition_resolved plan w document checked plain one definitions holds is_root name d found;
     }
 
-pub subschema_headline : (s : State) (n : ℕ) (free : Bool) (depth : ℕ) (schema : Data) → IsChecked s.rows → IsOneToOne s.names
-    → HasOwnDefinitions s
-    → IsWritten (Refers (plan_of s None) free (work_of s)) (Describes (basis_of (plan_of s None))
-    (Refers (plan_of s None) free (work_of s)) depth) n schema → SubschemaHeadline s n schema
-subschema_headline s n free depth schema checked one definitions h plain known document holding =
-    subschema_means (plan_of s None) (work_of s) n free depth schema document checked one refl
-    (λ name d found. stands_now (plan_of s None) (work_of s) name d (definitions name d found)) h plain
-    (held (plan_of s None).path s.definitions document known holding)
+pub subschema_headline : (s : State) (n : ℕ) (free : Bool) (schema : Data) → IsChecked s.rows → IsOneToOne s.names
+    → HasOwnDefinitions s → IsSubschema (plan_of s None) free (work_of s) n schema → SubschemaHeadline s n schema
+subschema_headline s n free schema checked one definitions h plain known document holding =
+    let plan = plan_of s None in
+    let written = placed_written (basis_of plan) plan.inlines (Refers plan free (work_of s)) [] n schema h in
+    subschema_means plan (work_of s) n free written.0 schema document checked one refl
+    (λ name d found. stands_now plan (work_of s) name d (definitions name d found)) written.1 plain
+    (held plan.path s.definitions document known holding)

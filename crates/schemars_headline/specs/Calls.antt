@@ -1,11 +1,11 @@
 -- What the calls of a generator answer and add, by what it holds before and after.
-use Rattle.std.specs.Prelude.{◌≡◌, ℕ, List, true, false, Some, None}
+use Rattle.std.specs.Prelude.{◌≡◌, ℕ, List, [], true, false, Some, None}
 use Rattle.serde_json.specs.Data.{Data}
 use Rattle.schemars_json.specs.Json.{Text}
-use Rattle.schemars_types.specs.Edges.{is_inline_at}
 use Rattle.schemars_documents.specs.Documents.{reference}
 use Rattle.schemars_documents.specs.PlainTable.{IsPlainTable}
 use Rattle.schemars_naming.specs.Naming.{name_of}
+use Rattle.schemars_naming.specs.Placed.{is_in_place}
 use Rattle.schemars_naming.specs.Work.{Work, Step, IsKey, reference_to}
 use Rattle.schemars_build.specs.Parts.{IsSubschema}
 use Rattle.schemars_build.specs.Reached.{AreReached}
@@ -19,7 +19,7 @@ IsPartOf s n d = IsSubschema (plan_of s None) false (work_of s) n d
 -- the reference to the definition of row n, where the row is not written in place
 abbrev pub IsReferenceOf : State → State → ℕ → Data → Type 0
 IsReferenceOf old new n d =
-    is_inline_at old.rows n ≡ false
+    is_in_place old.rows old.settings.inlines [] n ≡ false
     → (name : Text) × (name_of n old.settings.contract new.names ≡ Some name) × IsKey name new.definitions
     × (d ≡ reference (reference_to (path_of old) name))
 

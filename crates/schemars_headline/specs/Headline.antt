@@ -1,5 +1,5 @@
 -- What a generated document promises: it accepts just the values that belong to its type.
-use Rattle.std.specs.Prelude.{◌≡◌, ◌≤◌, ◌⊎◌, ℕ, suc, List, true, false, Option, Some, None, codes}
+use Rattle.std.specs.Prelude.{◌≡◌, ◌≤◌, ◌⊎◌, ℕ, List, [], Contains, true, false, Option, Some, None, codes}
 use Rattle.serde_json.specs.Data.{Data, object, Members, no_members, member}
 use Rattle.serde_json.specs.Find.{get_member, pointer}
 use Rattle.schemars_schema.specs.Verdict.{verdict}
@@ -8,13 +8,14 @@ use Rattle.schemars_schema.specs.Acceptance.{Patterns, draft2020_12, accepts, bo
 use Rattle.schemars_schema.specs.References.{ReferencesResolve, all_resolve, references}
 use Rattle.schemars_schema.specs.Placing.{placed_at}
 use Rattle.schemars_types.specs.Rows.{Row, name_at}
-use Rattle.schemars_types.specs.Edges.{height}
+use Rattle.schemars_types.specs.Edges.{numbers_at}
+use Rattle.schemars_cycles.specs.Walks.{OnCycle, IsFree}
 use Rattle.schemars_types.specs.Meaning.{Contract, belongs}
 use Rattle.schemars_documents.specs.PlainTable.{IsPlainTable}
 use Rattle.schemars_documents.specs.ContractOf.{contract_of}
 use Rattle.schemars_documents.specs.Documents.{root_document}
-use Rattle.schemars_templates.specs.Describes.{Describes}
-use Rattle.schemars_naming.specs.Work.{Work, Refers, Step, basis_of}
+use Rattle.schemars_naming.specs.Work.{Work, Step}
+use Rattle.schemars_build.specs.Parts.{IsDocumentOf}
 use Rattle.schemars_build.specs.Reached.{AreReached}
 use Rattle.schemars_headline.specs.State.{State, path_of, plan_of, work_of, HasOwnDefinitions}
 
@@ -31,6 +32,12 @@ AcceptsItsValues rows contract path n document schema =
 pub record MeansItsType (rows : List Row) (contract : Contract) (path : Text) (n : ℕ) (document : Data) : Type 0 where
   pub accepts_its_values : AcceptsItsValues rows contract path n document document
   pub references_resolve : ReferencesResolve document
+
+-- two documents accept the same values, under every reading of patterns and each from its own bound on
+abbrev pub HaveSameAcceptance : Text → Data → Text → Data → Type 0
+HaveSameAcceptance path document other_path other =
+    (patterns : Patterns) (v : Data) → IsJson v → (m n : ℕ) → bound path document v ≤ m → bound other_path other v ≤ n
+    → accepts draft2020_12 document patterns m document v ≡ accepts draft2020_12 other patterns n other v
 
 abbrev pub Headline : List Row → Contract → Text → ℕ → Data → Type 0
 Headline rows contract path n document = IsPlainTable rows → MeansItsType rows contract path n document
@@ -55,8 +62,7 @@ with_definitions path (member k d ms) document = placed_at path (member k d ms) 
 -- the document of row n as a root document, without the definitions, where all that joined is reached from it
 pub record IsTitledRoot (old : State) (before : Work) (n : ℕ) (work : Work) (document : Data) : Type 0 where
   pub own : Data
-  pub describes : Describes (basis_of (plan_of old (Some n))) (Refers (plan_of old (Some n)) true work)
-      (suc (height old.rows n)) n own
+  pub is_document : IsDocumentOf (plan_of old (Some n)) true work before.pending n own
   pub is_root : document ≡ root_document (name_at old.rows n) old.settings.meta_schema own
   pub reached : IsPlainTable old.rows → AreReached (plan_of old (Some n)) false before work (references own)
 
@@ -64,8 +70,7 @@ pub record IsTitledRoot (old : State) (before : Work) (n : ℕ) (work : Work) (d
 pub record IsRootOf (old : State) (n : ℕ) (work : Work) (document : Data) : Type 0 where
   pub step : Step (plan_of old (Some n)) (work_of old) work
   pub own : Data
-  pub describes : Describes (basis_of (plan_of old (Some n))) (Refers (plan_of old (Some n)) true work)
-      (suc (height old.rows n)) n own
+  pub is_document : IsDocumentOf (plan_of old (Some n)) true work [] n own
   pub is_root : with_definitions (plan_of old (Some n)).path work.definitions
       (root_document (name_at old.rows n) old.settings.meta_schema own) ≡ Some document
   pub reached : IsPlainTable old.rows → AreReached (plan_of old (Some n)) false (work_of old) work (references own)
@@ -75,8 +80,7 @@ pub record CannotPlace (old : State) (n : ℕ) : Type 0 where
   pub work : Work
   pub step : Step (plan_of old (Some n)) (work_of old) work
   pub own : Data
-  pub describes : Describes (basis_of (plan_of old (Some n))) (Refers (plan_of old (Some n)) true work)
-      (suc (height old.rows n)) n own
+  pub is_document : IsDocumentOf (plan_of old (Some n)) true work [] n own
   pub no_place : with_definitions (plan_of old (Some n)).path work.definitions
       (root_document (name_at old.rows n) old.settings.meta_schema own) ≡ None
   pub reached : IsPlainTable old.rows → AreReached (plan_of old (Some n)) false (work_of old) work (references own)
@@ -99,3 +103,17 @@ abbrev pub SubschemaHeadline : State → ℕ → Data → Type 0
 SubschemaHeadline s n schema =
     IsPlainTable s.rows → IsKnownPath (path_of s) → (document : Data) → IsHolding (path_of s) s.definitions document
     → MeansItsTypeIn s.rows (contract_of s.settings.contract) (path_of s) n s.definitions document schema
+
+-- ---- rows in place
+
+-- a row refers to another
+abbrev pub Edge : List Row → ℕ → ℕ → Type 0
+Edge rows n m = Contains (numbers_at rows n) m
+
+-- no row refers to itself, at once or through others
+abbrev pub HasNoCycle : List Row → Type 0
+HasNoCycle rows = IsFree (OnCycle (Edge rows))
+
+-- where rows are inlined, a table without a cycle gives documents without references
+abbrev pub IsInlined : State → Data → Type 0
+IsInlined s d = s.settings.inlines ≡ true → IsPlainTable s.rows → HasNoCycle s.rows → references d ≡ []

@@ -16,6 +16,8 @@ pub record Settings : Type 0 where
   pub contract : Contract
   -- whether the variants of an untagged enum have their names as titles
   pub titles : Bool
+  -- whether rows are written in place wherever they are not pending
+  pub inlines : Bool
 
 abbrev pub settings2020_12 : Settings
 settings2020_12 = record {
@@ -23,6 +25,7 @@ settings2020_12 = record {
   meta_schema = Some (codes "https://json-schema.org/draft/2020-12/schema");
   contract = Deserialize;
   titles = false;
+  inlines = false;
 }
 
 pub record State : Type 0 where
@@ -54,10 +57,24 @@ path_of s = stripped s.settings.definitions_path
 -- ---- between calls
 
 abbrev pub work_of : State → Work
-work_of s = record { names = s.names; definitions = s.definitions; begun = []; kept = length s.names; meets_root = false }
+work_of s = record {
+  names = s.names;
+  definitions = s.definitions;
+  begun = [];
+  kept = length s.names;
+  meets_root = false;
+  pending = [];
+}
 
 abbrev pub plan_of : State → Option ℕ → Plan
-plan_of s root = record { rows = s.rows; contract = s.settings.contract; titles = s.settings.titles; path = path_of s; root = root }
+plan_of s root = record {
+  rows = s.rows;
+  contract = s.settings.contract;
+  titles = s.settings.titles;
+  inlines = s.settings.inlines;
+  path = path_of s;
+  root = root;
+}
 
 -- each definition is the document of the row of its name, with references to other definitions alone: so it is where
 -- the caller changed none

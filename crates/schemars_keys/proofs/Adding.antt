@@ -1,15 +1,13 @@
 -- Options that are added to others.
 use Rattle.std.proofs.Common.{◌≡◌, ◌||◌, ◌∙◌, ℕ, List, [], ◌∷◌, ◌++◌, Bool, true, false, Option, Some, None, Bor, map, refl, ap, sym}
-use Rattle.std.proofs.Common.{subst, length, arith, IsTrue, Vec}
+use Rattle.std.proofs.Common.{subst, length, Vec}
 use Rattle.std.specs.declared.alloc.Global.{Global}
 use Rattle.std.specs.Prelude.{bytes_eq, nat_eq}
 use Rattle.std.specs.List.{list_any}
 use Rattle.std.proofs.lemmas.Bool.{eqb-true}
 use Rattle.std.proofs.lemmas.List.Folds.{list_any-append}
-use Rattle.serde_json.specs.View.{members_view}
 use Rattle.indexmap.specs.IndexSet.{insert_key}
 use Rattle.schemars_json.specs.Json.{Text}
-use Rattle.serde_json.proofs.Views.{Entry as Entries}
 use Rattle.schemars_shapes.specs.declared.shape.IntKind.{IntKind}
 use Rattle.schemars_shapes.specs.declared.shape.Shape as src-shape
 use Rattle.schemars_shapes.specs.declared.shape.Shape.TheVariants as src
@@ -19,7 +17,7 @@ use Rattle.schemars_types.specs.Rows.{Row}
 use Rattle.schemars_shapes.specs.declared.shape.IntegerKeys.{IntegerKeys}
 use Rattle.schemars_shapes.specs.declared.shape.IntegerKeys.TheVariants.{Unsigned, Signed}
 use Rattle.schemars_types.specs.KeyOptions.{KeyOptions, any_key, only_keys, either_integers, either_options, each_once, all_options}
-use Rattle.schemars_types.specs.KeyOptions.{is_none, members_options, untagged_options, shape_options}
+use Rattle.schemars_types.specs.KeyOptions.{members_options, untagged_options, shape_options}
 use Rattle.schemars_keys.specs.Found.{adding, AreAmong, HoldsRows}
 use Rattle.schemars_keys.proofs.Texts.{listed_more, listed_own, nothing_joins, insert_all-append, once_by_joining}
 
@@ -136,12 +134,6 @@ untagged_some part [] some = absurd (some refl)
 untagged_some part (x ∷ xs) some = refl
 
 -- ---- shapes and members as the program holds them
-
-pub no_members_there : (b : Bool) (es : List Entries) → (IsTrue b → length es ≡ 0) × (length es ≡ 0 → IsTrue b)
-    → b ≡ is_none (members_view es)
-no_members_there b [] h = h.1 refl
-no_members_there true (e ∷ es) h = absurd (omega (arith, h.0 refl))
-no_members_there false (e ∷ es) h = refl
 
 -- a shape that is none of these allows any text
 pub other_shape : (part : ℕ → KeyOptions) (s : src-shape.Shape) → ((k : IntKind) → s ≡ src.Int k → ⊥)

@@ -3,12 +3,13 @@ ghost use Rattle.std.specs.Prelude.{◌≡◌, ℕ, None, IfOk, OnOk, Contains, 
 ghost use Rattle.schemars_shapes.specs.Shape.{variant_of, payload_of, newtype_payload, newtype_numbers};
 ghost use Rattle.schemars_types.specs.Edges.{SameValueEdge};
 ghost use Rattle.schemars_types.specs.Faults.{IsChecked};
-ghost use Rattle.schemars_types.specs.KeyOptions.{only_keys, is_bare_unit, are_names, external_options, untagged_options, all_options};
+ghost use Rattle.schemars_types.specs.KeyOptions.{only_keys, are_names, external_options, untagged_options, all_options};
 ghost use Rattle.schemars_types.specs.KeyOptions.{member_options, key_options};
 ghost use Rattle.schemars_keys.specs.Found.{options_of, adding, HoldsRows};
 
 use crate::options::KeyOptions;
 use indexmap::IndexSet;
+use schemars_shapes::is_bare_unit;
 use schemars_types::{IntegerKeys, Payload, Shape, TypeNo, Types, Variant};
 use std::alloc::{AllocError, Global};
 
@@ -162,16 +163,4 @@ fn are_names(variants: &[Variant]) -> bool
         }
     }
     true
-}
-
-// Whether the variant is a unit without notes.
-fn is_bare_unit(variant: &Variant) -> bool
-    ensures { result ≡ is_bare_unit (variant_of variant.now) }
-{
-    match &variant.payload {
-        Payload::Unit => variant.notes.is_empty(),
-        Payload::Newtype(_) => false,
-        Payload::Tuple(_) => false,
-        Payload::Struct(_) => false,
-    }
 }

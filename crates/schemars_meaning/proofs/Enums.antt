@@ -20,6 +20,7 @@ use Rattle.schemars_rewrite.specs.Variants.{unit_variant}
 use Rattle.schemars_rewrite.proofs.Nulls.{IsReady, AreReady, ready-schema}
 use Rattle.schemars_shapes.specs.Shape as shape
 use Rattle.schemars_shapes.specs.Shape.{Shape, Field, Payload, Variant, no_payload, newtype_payload, tuple_payload, struct_payload, needed}
+use Rattle.schemars_shapes.specs.Units.{is_bare_unit}
 use Rattle.schemars_types.specs.Meaning.{Contract, Deserialize, Serialize, has_shape, has_payload}
 use Rattle.schemars_types.specs.Meaning.{has_variant, has_fields, is_map_of, is_text, holds}
 use Rattle.schemars_types.specs.Meaning.{every_member, member_fits, has_required, none, exactly_one, field_named}
@@ -30,7 +31,7 @@ use Rattle.schemars_templates.specs.Basis.{Basis}
 use Rattle.schemars_templates.specs.Template.{Template, finished, row, list, members, nullable, noted, Templates, no_templates}
 use Rattle.schemars_templates.specs.Template.{template, rows_of, rows_in, filled, filled_in, left, left_in, keyed}
 use Rattle.schemars_templates.specs.OfShape.{templates_of, one_of, any_of, member_template, payload_template, named_template}
-use Rattle.schemars_templates.specs.OfShape.{is_bare_unit, bare_units, other_items, units_template, choice_of, external_template}
+use Rattle.schemars_templates.specs.OfShape.{bare_units, other_items, units_template, choice_of, external_template}
 use Rattle.schemars_templates.specs.OfShape.{payload_item, untagged_template, titled, title_alone}
 use Rattle.schemars_templates.specs.Describes.{ArePartsWritten}
 use Rattle.schemars_meaning.proofs.ByShape.{without_end, by_shape, field_keywords, tuple_document, member_document, units_document}

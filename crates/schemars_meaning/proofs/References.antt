@@ -18,6 +18,7 @@ use Rattle.schemars_rewrite.specs.Variants.{unit_variant}
 use Rattle.schemars_shapes.specs.Shape as shape
 use Rattle.schemars_shapes.specs.Shape.{Shape, Field, Entry, Payload, Variant, no_payload, newtype_payload, tuple_payload, struct_payload}
 use Rattle.schemars_shapes.specs.IntKind.{format_of}
+use Rattle.schemars_shapes.specs.Units.{is_bare_unit}
 use Rattle.schemars_types.specs.Meaning.{Contract, Deserialize, Serialize, least_of, greatest_of, tagged_fields, tagged_closed}
 use Rattle.schemars_documents.specs.Documents.{int_keywords, is_signed, required_names, bytes_document}
 use Rattle.schemars_types.specs.KeyOptions.{KeyOptions, any_key, only_keys, all_options, key_options, each_once, once}
@@ -27,7 +28,7 @@ use Rattle.schemars_templates.specs.Basis.{Basis}
 use Rattle.schemars_templates.specs.Template.{Template, finished, row, list, members, nullable, noted, Templates, no_templates}
 use Rattle.schemars_templates.specs.Template.{template, rows_of, rows_in, first, behind, left, left_in, keyed, filled, filled_in}
 use Rattle.schemars_templates.specs.OfShape.{KeywordTemplate, templates_of, object_with, property, map_template, template_of}
-use Rattle.schemars_templates.specs.OfShape.{entry_template, member_template, payload_template, named_template, is_bare_unit, bare_units}
+use Rattle.schemars_templates.specs.OfShape.{entry_template, member_template, payload_template, named_template, bare_units}
 use Rattle.schemars_templates.specs.OfShape.{other_items, choice_of, payload_item, titled}
 use Rattle.schemars_templates.specs.OfShape.{values_template, untagged_template, tagged_template, internal_item, internal_template}
 use Rattle.schemars_templates.specs.Describes.{references_of}

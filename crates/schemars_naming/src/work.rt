@@ -1,6 +1,6 @@
 //! What documents are made into.
 ghost use Rattle.std.specs.Prelude.{ℕ, List, true, false, map, ◌≡◌, ◌∷◌, ◌++◌, ◌||◌, [], None, Some, length};
-ghost use Rattle.std.specs.Prelude.{IfOk, OnOk, OnErr, is_some, string_bytes};
+ghost use Rattle.std.specs.Prelude.{IfOk, OnOk, OnErr, is_some, string_bytes, not, ◌&&◌, if◌then◌else◌};
 ghost use Rattle.serde_json.specs.Data.{boolean, put, no_members};
 ghost use Rattle.serde_json.specs.Find.{get_member, as_object};
 ghost use Rattle.schemars_schema.specs.SchemaData.{members_in};
@@ -8,11 +8,13 @@ ghost use Rattle.serde_json.specs.View.{members_view};
 ghost use Rattle.schemars_schema.specs.Edits.{replaced};
 ghost use Rattle.schemars_naming.specs.Naming.{name_of, IsOneToOne};
 ghost use Rattle.schemars_documents.specs.declared.contract.Contract.{Contract};
-ghost use Rattle.schemars_naming.specs.Work.{GivesNames, undone, without_all};
+ghost use Rattle.schemars_naming.specs.Placed.{is_pending, pending_in};
+ghost use Rattle.schemars_naming.specs.Work.{GivesNames, undone, without_all, without_last};
 ghost use Rattle.std.specs.Borrow.{Lends, sem};
 ghost use Rattle.serde_json.specs.Rows.{map_row};
 
 use crate::names::Names;
+use indexmap::IndexSet;
 use schemars_documents::Contract;
 use schemars_schema::Schema;
 use schemars_types::{TypeNo, Types};
@@ -29,6 +31,8 @@ pub struct Work {
     begun: Vec<String>,
     kept: usize,
     meets_root: bool,
+    // the rows whose documents are being made, the innermost last
+    pending: IndexSet<TypeNo>,
 }
 
 impl Model for Work {
@@ -49,6 +53,7 @@ impl Model for Work {
       begun = map string_bytes w.begun.items;
       kept = w.kept;
       meets_root = w.meets_root;
+      pending = w.pending.keys;
     } };
 
     ghost invariant = { λ w. (is_some (as_object w.definitions) ≡ true) × (w.kept ≤ length w.names) };
@@ -59,7 +64,14 @@ impl Work {
 
     /// No names and no definitions.
     pub fn new(alloc: Global) -> Work
-        ensures { result ≡ record { names = []; definitions = no_members; begun = []; kept = 0; meets_root = false } }
+        ensures { result ≡ record {
+          names = [];
+          definitions = no_members;
+          begun = [];
+          kept = 0;
+          meets_root = false;
+          pending = [];
+        } }
     {
         Work {
             names: Names::new(alloc),
@@ -67,6 +79,7 @@ impl Work {
             begun: Vec::new(alloc),
             kept: 0,
             meets_root: false,
+            pending: IndexSet::new(alloc),
         }
     }
 
@@ -137,6 +150,38 @@ impl Work {
         ensures { result ≡ self.now.meets_root }
     {
         self.meets_root
+    }
+
+    /// Whether the document of row `n` is being made.
+    pub fn is_pending(&self, n: TypeNo) -> bool
+        ensures { result ≡ is_pending self.now.pending n }
+    {
+        self.pending.contains(&n)
+    }
+
+    /// Notes, where rows are inlined, that the document of row `n` is being made. The answer is whether
+    /// it was not noted before.
+    pub fn enter(&mut self, inlines: bool, n: TypeNo) -> Result<bool, AllocError>
+        ensures is_new { IfOk result (λ b. b ≡ inlines && not (is_pending self.old.pending n)) }
+        ensures ok { OnOk result (self.new ≡ record self.old { pending = pending_in inlines self.old.pending n }) }
+        ensures err { OnErr result (self.new ≡ self.old) }
+    {
+        if !inlines {
+            return Ok(false);
+        }
+        let is_new = self.pending.insert(n)?;
+        Ok(is_new)
+    }
+
+    /// Notes that the document of the row that was entered last is made, where one was.
+    pub fn leave(&mut self, entered: bool)
+        ensures { self.new
+            ≡ record self.old { pending = if entered then without_last self.old.pending else self.old.pending } }
+    {
+        if entered {
+            let rest = self.pending.len().saturating_sub(1);
+            self.pending.truncate(rest);
+        }
     }
 
     /// The definitions.
@@ -212,6 +257,7 @@ impl Work {
         ensures { self.new ≡ undone self.old }
     {
         self.names.truncate(self.kept);
+        self.pending.clear();
         self.forget();
     }
 }

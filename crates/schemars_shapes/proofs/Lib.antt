@@ -3,3 +3,4 @@ pub mod EqualEntries
 pub mod SelfEqual
 pub mod Copies
 pub mod Numbers
+pub mod Units

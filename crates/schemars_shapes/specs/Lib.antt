@@ -4,3 +4,4 @@ pub mod Shape
 pub mod Equality
 pub mod Repeated
 pub mod Decimals
+pub mod Units

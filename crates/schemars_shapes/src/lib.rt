@@ -8,4 +8,4 @@ mod shape;
 mod variant;
 
 pub use shape::{Field, Fields, IntKind, IntegerKeys, Required, Shape, TypeEntry, TypeNo};
-pub use variant::{Internal, InternalPayload, InternalVariant, Payload, Variant};
+pub use variant::{Internal, InternalPayload, InternalVariant, Payload, Variant, is_bare_unit};

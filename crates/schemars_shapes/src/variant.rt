@@ -6,6 +6,7 @@ ghost use Rattle.schemars_shapes.specs.Shape.{payload_names, variant_names};
 ghost use Rattle.schemars_shapes.specs.Shape.{internal_payload_of, internal_variant_of, internal_view};
 ghost use Rattle.schemars_shapes.specs.Repeated.{IsRepeated, AreDistinctLists, IsFirstRepeated};
 ghost use Rattle.schemars_shapes.specs.Equality.{bool_eq, payload_eq, variant_eq, variants_eq};
+ghost use Rattle.schemars_shapes.specs.Units.{is_bare_unit};
 
 use crate::names::first_repeated;
 use crate::shape::{Fields, TypeNo, first_unknown};
@@ -116,6 +117,18 @@ impl Variant {
         self.name == other.name
             && self.payload.is_equal(&other.payload)
             && json_eq_members(&self.notes, &other.notes)
+    }
+}
+
+/// Whether the variant is a unit without notes, which its name alone tells.
+pub fn is_bare_unit(variant: &Variant) -> bool
+    ensures { result ≡ is_bare_unit (variant_of variant.now) }
+{
+    match &variant.payload {
+        Payload::Unit => variant.notes.is_empty(),
+        Payload::Newtype(_) => false,
+        Payload::Tuple(_) => false,
+        Payload::Struct(_) => false,
     }
 }
 

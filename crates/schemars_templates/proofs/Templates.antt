@@ -1,18 +1,15 @@
 -- Nodes of templates as the code makes them.
 use Rattle.std.proofs.Common.{◌≡◌, List, [], ◌∷◌, ◌++◌, length, map, Bool, true, false, refl, sym, ap, ◌∙◌, true≢false, append_assoc}
-use Rattle.std.proofs.Common.{rules, arith, Vec, Global, Bor, IsTrue, ℕ, suc}
-use Rattle.std.proofs.lemmas.Bool.Decides.{nat_tests}
+use Rattle.std.proofs.Common.{rules, arith, Vec, Global, Bor}
 use Rattle.std.specs.Prelude.{codes, ◌==◌}
-use Rattle.serde_json.specs.Data.{Data, null, boolean, number, string, array, object, no_members, Items}
-use Rattle.serde_json.specs.View.{view, items_view, members_view}
+use Rattle.serde_json.specs.Data.{Data, null, boolean, number, string, array, object, no_members}
+use Rattle.serde_json.specs.View.{view, items_view}
 use Rattle.serde_json.specs.declared.value.Value.{Value, Array, Bool as Bool', the_lemmas as value_lemmas}
-use Rattle.serde_json.proofs.Views.{view-Array, Entry}
+use Rattle.serde_json.proofs.Views.{view-Array}
 use Rattle.schemars_json.specs.Json.{Text}
-use Rattle.schemars_rewrite.specs.NullLaw.{text_items}
 use Rattle.schemars_schema.specs.SchemaData.{IsSchema, members_in}
-use Rattle.schemars_templates.specs.Template as spec
 use Rattle.schemars_templates.specs.Template.{finished, list, members, keyed}
-use Rattle.schemars_templates.specs.OfShape.{KeywordTemplate, said, typed, object_with, required_at, closed_at, is_none, one_of, choice_of}
+use Rattle.schemars_templates.specs.OfShape.{KeywordTemplate, said, required_at, closed_at}
 use Rattle.schemars_templates.specs.View.{template_view, templates_view}
 use Rattle.schemars_templates.specs.declared.template.Template.{Template, Value as Value', List as List', Object, the_lemmas}
 
@@ -63,35 +60,3 @@ view-false = search (rules, value_lemmas)
 pub closed_true : (b : Bool) → b ≡ true → (codes "additionalProperties", template_view (Value' (Bool' false))) ∷ [] ≡ closed_at b
 closed_true true e = ap (λ t. (codes "additionalProperties", t) ∷ []) (template_view-Value (Bool' false) ∙ ap finished view-false)
 closed_true false e = absurd (true≢false (sym e))
-
--- ---- enums
-
-pub none_view : (b : Bool) (es : List Entry) → (IsTrue b → length es ≡ 0) × (length es ≡ 0 → IsTrue b) → b ≡ is_none (members_view es)
-none_view b [] h = h.1 refl
-none_view true (e ∷ es) h = absurd (omega (arith, h.0 refl))
-none_view false (e ∷ es) h = refl
-
-not_none : (n : ℕ) → (suc n == 0) ≡ false
-not_none n = grind (arith, nat_tests)
-
--- what stands under `enum`, whatever the items are
-abbrev pub units_of : Items → spec.Template
-units_of names = object_with (typed (codes "string") ∷ said (codes "enum") (array names) ∷ [])
-
-pub units_alone : (ks : List Text) (vs : List Value) (ts : List spec.Template) → (length vs == 0) ≡ false → items_view vs ≡ text_items ks
-    → (length ts == 0) ≡ true → units_of (items_view vs) ≡ choice_of ks ts
-units_alone ks [] ts some same none = absurd (true≢false some)
-units_alone [] (v ∷ vs) ts some same none = cc
-units_alone (k ∷ ks) (v ∷ vs) [] some same none = ap units_of same
-units_alone (k ∷ ks) (v ∷ vs) (t ∷ ts) some same none = absurd (true≢false (sym none ∙ not_none (length ts)))
-
-pub units_lead : (ks : List Text) (vs : List Value) (ts : List spec.Template) → (length vs == 0) ≡ false → items_view vs ≡ text_items ks
-    → (length ts == 0) ≡ false → one_of (units_of (items_view vs) ∷ ts) ≡ choice_of ks ts
-units_lead ks [] ts none same some = absurd (true≢false none)
-units_lead [] (v ∷ vs) ts none same some = cc
-units_lead (k ∷ ks) (v ∷ vs) [] none same some = absurd (true≢false some)
-units_lead (k ∷ ks) (v ∷ vs) (t ∷ ts) none same some = ap (λ u. one_of (u ∷ t ∷ ts)) (ap units_of same)
-
-pub seen : (ts : List Template) → (length (map template_view ts) == 0) ≡ (length ts == 0)
-seen [] = refl
-seen (t ∷ ts) = not_none (length (map template_view ts)) ∙ sym (not_none (length ts))

@@ -10,6 +10,7 @@ use Rattle.schemars_types.specs.Meaning.{Contract, tagged_fields, tagged_closed}
 use Rattle.schemars_types.specs.KeyOptions.{KeyOptions, any_key, only_keys, key_options}
 use Rattle.schemars_shapes.specs.declared.shape.IntegerKeys.{IntegerKeys}
 use Rattle.schemars_shapes.specs.IntegerKeys.{pattern_of}
+use Rattle.schemars_shapes.specs.Units.{is_bare_unit}
 use Rattle.schemars_documents.specs.Documents.{type_alone, int_document, non_zero_document, char_document}
 use Rattle.schemars_documents.specs.Documents.{formatted_document, empty_list_document, bytes_document, schema_document}
 use Rattle.schemars_documents.specs.Documents.{required_names}
@@ -131,18 +132,6 @@ named_template contract name (tuple_payload ns) = member_template true name (pay
 named_template contract name (struct_payload xs closed) = member_template true name (payload_template contract (struct_payload xs closed))
 
 -- units without notes share one item
-abbrev pub is_none : Members → Bool
-is_none no_members = true
-is_none (member k d ms) = false
-
-abbrev pub is_bare_unit : Variant → Bool
-is_bare_unit x = elim x.payload [
-  | no_payload ↦ is_none x.notes
-  | newtype_payload n ↦ false
-  | tuple_payload ns ↦ false
-  | struct_payload xs closed ↦ false
-]
-
 abbrev pub bare_units : List Variant → List Text
 bare_units [] = []
 bare_units (x ∷ xs) = if is_bare_unit x then x.name ∷ bare_units xs else bare_units xs

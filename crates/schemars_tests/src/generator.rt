@@ -45,12 +45,34 @@ const TITLED: &str =
 // A call, its row, and what it answers.
 type Answer = (&'static str, TypeNo, &'static str);
 
-// The path of the definitions, whether untagged variants have titles, a table, and calls of a generator in order.
-const CALLS: [(&str, bool, &str, &[Answer]); 7] = [
+// A and B with rows in place.
+const INLINED_ROOT: &str =
+    r##"{"$schema":"https://json-schema.org/draft/2020-12/schema","title":"A","type":"object","properties":{"b":{"type":"object","properties":{"a":{"anyOf":[{"$ref":"#"},{"type":"null"}]}}}},"required":["b"]}"##;
+
+// The same beside definitions that were there before.
+const INLINED_ROOT_AGAIN: &str =
+    r##"{"$schema":"https://json-schema.org/draft/2020-12/schema","title":"A","type":"object","properties":{"b":{"type":"object","properties":{"a":{"anyOf":[{"$ref":"#"},{"type":"null"}]}}}},"required":["b"],"$defs":{"A":{"type":"object","properties":{"b":{"$ref":"#/$defs/B"}},"required":["b"]},"B":{"type":"object","properties":{"a":{"anyOf":[{"$ref":"#/$defs/A"},{"type":"null"}]}}}}}"##;
+
+const INLINED_A: &str =
+    r##"{"type":"object","properties":{"b":{"type":"object","properties":{"a":{"anyOf":[{"$ref":"#/$defs/A"},{"type":"null"}]}}}},"required":["b"]}"##;
+
+const INLINED_B: &str =
+    r##"{"type":"object","properties":{"a":{"type":["object","null"],"properties":{"b":{"$ref":"#defs/B"}},"required":["b"]}}}"##;
+
+// What the settings say beside the path.
+#[derive(Clone, Copy)]
+enum Asks {
+    Nothing,
+    Titles,
+    Inlining,
+}
+
+// The path of the definitions, what else the settings say, a table, and calls of a generator in order.
+const CALLS: [(&str, Asks, &str, &[Answer]); 9] = [
     // A root document that refers to itself leaves no definitions, and a part has those it leads to.
     (
         "/$defs",
-        false,
+        Asks::Nothing,
         EACH_OTHER,
         &[
             ("root", 0, ROOT),
@@ -64,7 +86,7 @@ const CALLS: [(&str, bool, &str, &[Answer]); 7] = [
     // Definitions are taken, and made again.
     (
         "/$defs",
-        false,
+        Asks::Nothing,
         EACH_OTHER,
         &[
             ("part", 0, REF_A),
@@ -77,7 +99,7 @@ const CALLS: [(&str, bool, &str, &[Answer]); 7] = [
     // The own table changes nothing, and one without its rows is refused.
     (
         "/$defs",
-        false,
+        Asks::Nothing,
         EACH_OTHER,
         &[
             ("part", 1, REF_B),
@@ -94,7 +116,7 @@ const CALLS: [(&str, bool, &str, &[Answer]); 7] = [
     // A path without a slash in front has no place for definitions, and the names are taken back.
     (
         "defs",
-        false,
+        Asks::Nothing,
         CONFIGS,
         &[
             ("root", 2, "9 DefinitionsPath"),
@@ -105,11 +127,11 @@ const CALLS: [(&str, bool, &str, &[Answer]); 7] = [
         ],
     ),
     // Without definitions there is no need of a path.
-    ("defs", false, BOOL, &[("root", 0, BOOL_ROOT)]),
+    ("defs", Asks::Nothing, BOOL, &[("root", 0, BOOL_ROOT)]),
     // A name stands in a reference by the encoding of pointers and of addresses.
     (
         "#/components/schemas/",
-        false,
+        Asks::Nothing,
         SLASHES,
         &[(
             "part",
@@ -118,7 +140,32 @@ const CALLS: [(&str, bool, &str, &[Answer]); 7] = [
         )],
     ),
     // A title stands in each variant's document, also beside a reference.
-    ("/$defs", true, UNTAGGED, &[("root", 0, TITLED)]),
+    ("/$defs", Asks::Titles, UNTAGGED, &[("root", 0, TITLED)]),
+    // Rows stand in place, but for those inside their own documents.
+    (
+        "/$defs",
+        Asks::Inlining,
+        EACH_OTHER,
+        &[
+            ("root", 0, INLINED_ROOT),
+            ("definitions", 0, "{}"),
+            ("part", 0, INLINED_A),
+            ("definitions", 0, BOTH),
+            ("part", 0, INLINED_A),
+            ("root", 0, INLINED_ROOT_AGAIN),
+        ],
+    ),
+    // After a refusal no row is inside its own document any more.
+    (
+        "defs",
+        Asks::Inlining,
+        EACH_OTHER,
+        &[
+            ("root", 2, "9 DefinitionsPath"),
+            ("definitions", 0, "{}"),
+            ("part", 1, INLINED_B),
+        ],
+    ),
 ];
 
 fn write_definition(
@@ -203,20 +250,24 @@ fn assert_calls(
 fn generator_at(
     alloc: Global,
     path: &'static str,
-    titles: bool,
+    asks: Asks,
     table: &str,
 ) -> Result<SchemaGenerator, Fail> {
     let types = table_of(alloc, table)?;
     let mut settings = SchemaSettings::draft2020_12(alloc);
     settings.definitions_path = CowStr::Borrowed(path);
-    settings.untagged_enum_variant_titles = titles;
+    match asks {
+        Asks::Nothing => {}
+        Asks::Titles => settings.untagged_enum_variant_titles = true,
+        Asks::Inlining => settings.inline_subschemas = true,
+    }
     Ok(SchemaGenerator::with_types(alloc, settings, types)?)
 }
 
 #[test]
 fn generators_answer(rt: HostRuntime) -> Result<(), Fail> {
-    for (path, titles, table, answers) in CALLS {
-        let generator = generator_at(rt.alloc(), path, titles, table)?;
+    for (path, asks, table, answers) in CALLS {
+        let generator = generator_at(rt.alloc(), path, asks, table)?;
         assert_calls(&rt, rt.alloc(), generator, answers)?;
     }
     Ok(())

@@ -2,7 +2,6 @@ pub mod TableLemmas
 pub mod Extensions
 pub mod Registered
 pub mod Times
-pub mod EdgeLemmas
 pub mod Accepted
 pub mod Copies
 pub mod Within

@@ -1,17 +1,14 @@
 -- The faults of a table, which of them is told, and what a table without any offers.
-use Rattle.std.specs.Prelude.{◌≡◌, ◌<◌, ◌≤◌, ℕ, List, length, None, IsSome, bytes_eq, string_bytes}
+use Rattle.std.specs.Prelude.{◌<◌, ◌≤◌, ℕ, List, length, IsSome, bytes_eq, string_bytes}
 use Rattle.std.specs.List.{IsDistinct}
 use Rattle.schemars_json.specs.Json.{Text}
 use Rattle.schemars_types.specs.Rows.{Row, entry_at}
+pub use Rattle.schemars_rows.specs.Undefined.{IsUndefined}
 use Rattle.schemars_cycles.specs.Walks.{OnCycle, IsFree, IsLeast}
 use Rattle.schemars_shapes.specs.Repeated.{AreDistinctLists, IsFirstRepeated}
 use Rattle.schemars_types.specs.Edges.{RefersWithin, DirectEdge, SameValueEdge, height, rank, names_at}
 use Rattle.schemars_types.specs.declared.error.TypesError.{TypesError}
 use Rattle.schemars_types.specs.declared.error.TypesError.TheVariants.{UndefinedType, RepeatedName, DirectCycle, EmptyCycle}
-
--- row n is in the table and has no entry
-abbrev pub IsUndefined : List Row → ℕ → Type 0
-IsUndefined rows n = (n < length rows) × (entry_at rows n ≡ None)
 
 -- a list of fields or of variants in row n's entry has a name twice
 abbrev pub HasRepeated : List Row → ℕ → Type 0

@@ -3,7 +3,6 @@ use Rattle.std.specs.Prelude.{ℕ, zero, suc, List, [], ◌∷◌, ◌++◌, map
 use Rattle.std.specs.Prelude.{Option, Some, None, if◌then◌else◌, bytes_eq, codes}
 use Rattle.std.specs.List.{list_all}
 use Rattle.std.specs.Option.{option_map_or}
-use Rattle.serde_json.specs.Data.{Members, no_members, member}
 use Rattle.schemars_json.specs.Json.{Text}
 use Rattle.schemars_json.specs.OrderedText.{is_listed}
 use Rattle.schemars_schema.specs.Acceptance.{Patterns, matches}
@@ -13,6 +12,7 @@ use Rattle.schemars_types.specs.Rows.{Row, entry_at}
 use Rattle.schemars_shapes.specs.declared.shape.IntegerKeys.{IntegerKeys}
 use Rattle.schemars_shapes.specs.declared.shape.IntegerKeys.TheVariants.{Unsigned, Signed}
 use Rattle.schemars_shapes.specs.IntegerKeys.{pattern_of, integers_of}
+use Rattle.schemars_shapes.specs.Units.{is_bare_unit}
 
 -- any text, or only these texts and these whole numbers
 pub data KeyOptions : Type 0 where
@@ -36,19 +36,6 @@ abbrev pub either_options : KeyOptions → KeyOptions → KeyOptions
 either_options any_key o = any_key
 either_options (only_keys ts i) any_key = any_key
 either_options (only_keys ts i) (only_keys us j) = only_keys (ts ++ us) (either_integers i j)
-
-abbrev pub is_none : Members → Bool
-is_none no_members = true
-is_none (member k d ms) = false
-
--- a unit without notes is known by its name alone
-abbrev pub is_bare_unit : Variant → Bool
-is_bare_unit x = elim x.payload [
-  | no_payload ↦ is_none x.notes
-  | newtype_payload n ↦ false
-  | tuple_payload ns ↦ false
-  | struct_payload xs closed ↦ false
-]
 
 abbrev pub are_names : List Variant → Bool
 are_names [] = false

@@ -1,11 +1,9 @@
 pub mod Rows
-pub mod Slots
 pub mod Refusals
 pub mod Names
 pub mod Times
 pub mod KeyOptions
 pub mod Meaning
 pub mod Edges
-pub mod EdgeKind
 pub mod Faults
 pub mod Extends

@@ -1,49 +1,20 @@
-ghost use Rattle.std.specs.Prelude.{◌≡◌, ◌≢◌, ◌<◌, ◌↔◌, ◌&&◌, [], length, take, map, false, bytes_eq, None, Some};
+ghost use Rattle.std.specs.Prelude.{◌≡◌, ◌≢◌, ◌<◌, ◌↔◌, [], length, take, map, false, None, Some};
 ghost use Rattle.std.specs.Prelude.{IsTrue, IfOk, OnOk, OnErr, IfErr, Err, option_map, string_bytes};
 ghost use Rattle.std.specs.Prelude.{slice_get};
 ghost use Rattle.schemars_shapes.specs.Shape.{entry_of, shape_of};
 ghost use Rattle.schemars_types.specs.Rows.{place_of, entry_at, unknown_in, reserved, defined};
 ghost use Rattle.schemars_types.specs.Edges.{RefersWithin};
 ghost use Rattle.schemars_types.specs.Refusals.{first_unknown, refusal_of};
-ghost use Rattle.schemars_shapes.specs.Equality.{entry_eq};
 ghost use Rattle.schemars_types.specs.Extends.{begins_with, rows_have_float};
-ghost use Rattle.schemars_types.specs.Slots.{row_of};
-ghost use Rattle.std.specs.Option.{option_eq};
+ghost use Rattle.schemars_rows.specs.Slots.{row_of};
 ghost use Rattle.std.specs.Result.{result_err};
 
 use crate::error::TypesError;
 use indexmap::IndexMap;
+use schemars_rows::{Slot, entry, slots_begin_with};
 use schemars_shapes::{Shape, TypeEntry, TypeNo};
 use std::alloc::{AllocError, Global};
 use std::marker::Model;
-
-/// A row without its id.
-#[derive(Drop)]
-struct Slot {
-    name: String,
-    entry: Option<TypeEntry>,
-}
-
-impl Slot {
-    fn define(&mut self, entry: TypeEntry)
-        ensures { self.new ≡ record self.old { entry = Some entry } }
-    {
-        self.entry = Some(entry);
-    }
-
-    fn is_equal(&self, other: &Slot) -> bool
-        ensures { result ≡ (bytes_eq (string_bytes self.now.name) (string_bytes other.now.name)
-            && option_eq entry_eq (option_map entry_of self.now.entry)
-            (option_map entry_of other.now.entry)) }
-    {
-        self.name == other.name
-            && match (&self.entry, &other.entry) {
-                (Some(entry), Some(other)) => entry.is_equal(other),
-                (None, None) => true,
-                _ => false,
-            }
-    }
-}
 
 /// A table of types, by number and by id.
 ///
@@ -52,7 +23,7 @@ impl Slot {
 /// may be reserved first and refer to itself.
 #[derive(Drop)]
 pub struct Types {
-    slots: IndexMap<String, Slot>,
+    pub(crate) slots: IndexMap<String, Slot>,
 }
 
 impl Model for Types {
@@ -65,26 +36,12 @@ impl Model for Types {
 
     ghost coded = { Prim.hlevel (codes, members_code) };
 
-    ghost use Rattle.schemars_types.specs.Slots.{row_of};
+    ghost use Rattle.schemars_rows.specs.Slots.{row_of};
     ghost use Rattle.schemars_types.specs.Edges.{RefersWithin};
 
     ghost view = { λ t. map row_of t.slots.entries };
 
     ghost invariant = { λ t. RefersWithin (map row_of t.slots.entries) };
-}
-
-impl Clone for Slot {
-    ghost use Rattle.std.specs.Prelude.{◌≡◌, option_map, string_bytes};
-    ghost use Rattle.schemars_types.specs.Slots.{SameSlot};
-
-    ghost is_clone = { SameSlot };
-
-    fn clone(&self) -> Result<Slot, AllocError> {
-        Ok(Slot {
-            name: self.name.clone()?,
-            entry: self.entry.clone()?,
-        })
-    }
 }
 
 /// The same rows under the same numbers.
@@ -152,8 +109,7 @@ impl Types {
     pub fn entry(&self, n: TypeNo) -> Option<&TypeEntry>
         ensures { option_map (λ e. entry_of e.now) result ≡ entry_at self.now n }
     {
-        let (_id, slot) = self.slots.get_index(n)?;
-        slot.entry.as_ref()
+        entry(&self.slots, n)
     }
 
     /// The number of the row with this id. An id that is not there gets the next number, and this
@@ -227,20 +183,4 @@ impl Types {
     {
         self.slots[n].define(entry);
     }
-}
-
-// Whether the first slots are these, in this order.
-fn slots_begin_with(slots: &IndexMap<String, Slot>, first: &IndexMap<String, Slot>) -> bool
-    ensures { result ≡ begins_with (map row_of slots.now.entries) (map row_of first.now.entries) }
-{
-    let mut rest = slots.iter();
-    for (id, slot) in first.iter() {
-        let Some((own_id, own)) = rest.next() else {
-            return false;
-        };
-        if own_id != id || !own.is_equal(slot) {
-            return false;
-        }
-    }
-    true
 }

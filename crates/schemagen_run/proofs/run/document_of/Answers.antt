@@ -11,11 +11,11 @@ returns c =
     let made = c.into_root_schema_for_type.ensures in
     let r = c.into_root_schema_for_type.result in
     let checked = c.in_ok-generator.ensures.checked in
-    let same = fresh_of g _ c.args.contract c.args.types c.settings_for-settings.ensures c.in_ok-generator.ensures.made in
-    let memory = wants_only_memory g c.args.contract c.args.types c.args.root c.requires checked same made.only_memory in
+    let same = fresh_of g _ c.args.asked c.args.types c.settings_for-settings.ensures c.in_ok-generator.ensures.made in
+    let memory = wants_only_memory g c.args.asked c.args.types c.args.root c.requires checked same made.only_memory in
     record {
-      ok = is_document r g c.args.contract c.args.types c.args.root c.requires checked same made.headline made.root;
-      whole = is_whole r g c.args.contract c.args.types c.args.root c.requires same made.whole;
+      ok = is_document r g c.args.asked c.args.types c.args.root c.requires checked same made.headline made.root;
+      whole = is_whole r g c.args.asked c.args.types c.args.root c.requires same made.whole;
       accepted = so_at_ok r c.in_ok-generator.ensures.accepted;
       refused = IfErr-weaker r _ _ (λ e is. inl is) memory;
       only_memory = λ _. memory;

@@ -14,7 +14,7 @@ returns-clause-write g c = λ _.
       consumed,
       end,
       (
-        c.in-Some.contract,
+        c.in-Some.asked,
         (
           c.in_ok-types.types,
           (
@@ -43,9 +43,9 @@ returns-in_err-types g c =
     record {
       usage = (
         λ u. absurd (read_is_no_usage e why.faults (same_error r e Usage is u)),
-        λ unknown. absurd (unknown (c.in-Some.contract, c.in-Some.ensures)),
+        λ unknown. absurd (unknown (c.in-Some.asked, c.in-Some.ensures)),
       );
-      known = λ _. (c.in-Some.contract, c.in-Some.ensures);
+      known = λ _. (c.in-Some.asked, c.in-Some.ensures);
       unread = λ u. absurd (read_is_no_usage e why.faults (same_error r e Usage is u));
       read = λ _. (
         λ u. why.read.0 (ap Err (same_error r e (Refused READ) is u)),
@@ -76,9 +76,9 @@ returns-in_err-line g c =
     record {
       usage = (
         λ u. absurd (line_is_no_other e Usage why.faults refl (same_error r e Usage is u)),
-        λ unknown. absurd (unknown (c.in-Some.contract, c.in-Some.ensures)),
+        λ unknown. absurd (unknown (c.in-Some.asked, c.in-Some.ensures)),
       );
-      known = λ _. (c.in-Some.contract, c.in-Some.ensures);
+      known = λ _. (c.in-Some.asked, c.in-Some.ensures);
       unread = λ u. absurd (line_is_no_other e Usage why.faults refl (same_error r e Usage is u));
       read = λ _. (
         λ u. absurd (line_is_no_other e (Refused READ) why.faults refl (same_error r e (Refused READ) is u)),

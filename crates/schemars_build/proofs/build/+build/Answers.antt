@@ -1,8 +1,8 @@
 use Rattle.std.proofs.Common.{◌≡◌, ◌≢◌, ◌<◌, ◌+◌, ◌++◌, ◌∷◌, [], ℕ, List, Option, Bool, false, length, take, true, inl, inr}
 use Rattle.std.proofs.Common.{Some, None, refl, ap, sym, ◌∙◌, subst, arith, rules, string_bytes, All, get_or, not, is_some, eqb}
 use Rattle.std.proofs.Common.{true≢false}
-use Rattle.std.specs.Prelude.{◌||◌, codes}
-use Rattle.std.specs.Option.{option_map_or, option_eq}
+use Rattle.std.specs.Prelude.{◌||◌, codes, if◌then◌else◌}
+use Rattle.std.specs.Option.{option_eq}
 use Rattle.std.proofs.lemmas.Bool.{eqb-true}
 use Rattle.std.proofs.lemmas.Bool.Decides.{nat_tests}
 use Rattle.std.proofs.lemmas.List.{take_more}
@@ -18,19 +18,21 @@ use Rattle.schemars_schema.specs.SchemaData.{IsSchema}
 use Rattle.schemars_templates.specs.Template.{Template, rows_of, filled}
 use Rattle.schemars_templates.specs.OfShape.{entry_template}
 use Rattle.schemars_naming.specs.Naming.{name_of}
-use Rattle.schemars_naming.specs.Work.{Work, Step, undone, reference_to, basis_of}
+use Rattle.schemars_naming.specs.Placed.{is_in_place, pending_in}
+use Rattle.schemars_naming.specs.Work.{Plan, Work, Step, undone, reference_to, basis_of, without_last}
 use Rattle.schemars_naming.proofs.Given.{gives-keeps}
 use Rattle.schemars_build.specs.Missing.{StandsIn, missing}
-use Rattle.schemars_build.specs.Parts.{IsPart, AreParts, IsMade}
+use Rattle.schemars_build.specs.Parts.{IsPart, AreParts, IsOwn, IsMade}
 use Rattle.schemars_build.specs.Plans.{plan_of}
 use Rattle.schemars_build.specs.Reached.{AreReached}
 use Rattle.schemars_build.proofs.Building.{parts_more, filled_by_parts, own_of_parts, in_place, stand_rows}
 use Rattle.schemars_build.proofs.Descending.{left_of_subschema, left_of_own_document, left_of_subschemas, left_of_define}
-use Rattle.schemars_build.proofs.Descending.{to_part, to_define, to_definition}
+use Rattle.schemars_build.proofs.Descending.{to_part, to_parts, to_own, to_define, to_definition}
+use Rattle.schemars_build.proofs.Placing.{left_pending, pending_grows}
 use Rattle.schemars_build.proofs.Reaching.{reached_defines, reached_by_name, reached_root, nothing_added}
 use Rattle.schemars_build.proofs.Steps.{begun_with, finished_with, begun-fewer, undone-begun, undone-finished}
 use Rattle.schemars_build.proofs.Steps.{begun-contains, finished-found, key-found, step_trans, step_names}
-use Rattle.schemars_build.proofs.Steps.{step_defines, step_wider, missing-wider}
+use Rattle.schemars_build.proofs.Steps.{step_defines, step_entered, step_wider, missing-wider}
 use Rattle.schemars_build.proofs.build.+build.Goals as goal
 
 -- ---- the parts of a document
@@ -40,10 +42,11 @@ subschemas-subschema-requires t c =
     let plan = plan_of c.args.plan.now in
     let m : ℕ = get_or c.args.rows.now c.loop-row.row-index 0 in
     let one : StandsIn plan.rows c.args.n m = c.requires.stand c.loop-row.row-index 0 (omega arith) in
+    let step = c.loop-row.invariant.step in
     let fewer = missing-wider plan.rows plan.contract c.args.work.now c.loop-row.work
-    (step_wider plan c.args.work.now c.loop-row.work c.loop-row.invariant.step) in
+    (step_wider plan c.args.work.now c.loop-row.work step) in
     let down : left_of_subschema plan c.loop-row.work m < left_of_subschemas plan c.args.work.now c.args.n =
-    to_part plan c.args.work.now c.loop-row.work c.args.n m 2 one fewer (omega arith) in
+    to_part plan c.args.work.now c.loop-row.work c.args.n m one fewer step.still_pending in
     (search rules, (c.requires.checked, one.is_known))
 
 pub subschemas-loop-row-preserved : goal.subschemas-loop-row-preserved
@@ -56,50 +59,95 @@ subschemas-loop-row-preserved t c =
     let m : ℕ = get_or c.args.rows.now i 0 in
     let done = c.loop-row.parts.items in
     let less : i < length c.args.rows.now = omega arith in
-    let one : StandsIn plan.rows c.args.n m = c.requires.stand i 0 less in
     let grown : take (i + 1) c.args.rows.now ≡ take i c.args.rows.now ++ m ∷ [] = take_more c.args.rows.now i 0 less in
-    let P : List ℕ → List Data → Type 0 = λ ms ts. AreParts plan c.args.in_definition start now c.args.n ms ts in
+    let P : List ℕ → List Data → Type 0 = λ ms ts. AreParts plan c.args.in_definition start now ms ts in
     record {
       undone = c.in_ok-part.ensures.undone ∙ c.loop-row.invariant.undone;
       step = step_trans plan start old now c.loop-row.invariant.step c.in_ok-part.ensures.step;
       are = subst (λ ms. P ms c.push_back.new.self.items) (sym grown)
           (subst (λ ts. P (take i c.args.rows.now ++ m ∷ []) ts) (sym c.in_ok-push_back.ensures.items)
-          (parts_more plan c.args.in_definition start old now c.args.n (take i c.args.rows.now) done m c.in_ok-part.part
-          c.loop-row.invariant.step c.in_ok-part.ensures.step one c.loop-row.invariant.are c.in_ok-part.ensures.is));
+          (parts_more plan c.args.in_definition start old now (take i c.args.rows.now) done m c.in_ok-part.part
+          c.loop-row.invariant.step c.in_ok-part.ensures.step c.loop-row.invariant.are c.in_ok-part.ensures.is));
     }
 
 -- ---- the document of a row
 
+abbrev inner_of : Plan → Work → ℕ → List ℕ
+inner_of plan w n = pending_in plan.inlines w.pending n
+
 pub own_document-subschemas-requires : goal.own_document-subschemas-requires
 own_document-subschemas-requires t c =
     let plan = plan_of c.args.plan.now in
+    let old = c.args.work.now in
     let e = entry_of c.in-Some.entry.now in
     let same : c.deref.result.now ≡ rows_of (entry_template (basis_of plan) e) =
     c.deref.ensures.value ∙ (c.in_ok-rows.ensures ∙ ap rows_of c.in_ok-template.ensures) in
     let P : List ℕ → Type 0 = λ ms. All (StandsIn plan.rows c.args.n) ms in
     let all : All (StandsIn plan.rows c.args.n) c.deref.result.now =
     subst P (sym same) (stand_rows plan c.args.n e c.requires.checked (sym c.in-Some.ensures)) in
-    let less : left_of_subschemas plan c.args.work.now c.args.n < left_of_own_document plan c.args.work.now c.args.n = omega arith in
+    let Q : Work → Type 0 = λ w. left_of_subschemas plan w c.args.n < left_of_own_document plan old c.args.n in
+    let entered : c.enter.new.self ≡ record old { pending = inner_of plan old c.args.n } = c.in_ok-entered.ensures.ok in
+    let less : left_of_subschemas plan c.enter.new.self c.args.n < left_of_own_document plan old c.args.n =
+    subst Q (sym entered) (to_parts plan old (record old { pending = inner_of plan old c.args.n }) c.args.n
+    (missing-wider plan.rows plan.contract old (record old { pending = inner_of plan old c.args.n })
+    (record { names = λ n name e. e; keys = λ q is. is; meets = λ e. e })) refl) in
     (search rules, (c.requires.checked, all))
+
+-- what the work is while parts are made, and after
+own_entered : (t : ℕ) (c : goal.own_document-After-drop-rows-2 t) → c.enter.new.self
+    ≡ record c.args.work.now { pending = inner_of (plan_of c.args.plan.now) c.args.work.now c.args.n }
+own_entered t c = c.in_ok-entered.ensures.ok
+
+own_step : (t : ℕ) (c : goal.own_document-After-drop-rows-2 t) → Step (plan_of c.args.plan.now)
+    (record c.args.work.now { pending = inner_of (plan_of c.args.plan.now) c.args.work.now c.args.n }) c.subschemas.new.work
+own_step t c = subst (λ w. Step (plan_of c.args.plan.now) w c.subschemas.new.work) (own_entered t c) c.in_ok-parts.ensures.step
+
+own_left : (t : ℕ) (c : goal.own_document-After-drop-rows-2 t) → c.leave.new.self
+    ≡ record c.subschemas.new.work { pending = c.args.work.now.pending }
+own_left t c =
+    let plan = plan_of c.args.plan.now in
+    let old = c.args.work.now in
+    let mid = c.subschemas.new.work in
+    let entered = c.in_ok-entered.entered in
+    let inner : mid.pending ≡ inner_of plan old c.args.n = (own_step t c).still_pending in
+    let back : (if entered then without_last mid.pending else mid.pending) ≡ old.pending =
+    ap (λ p. if entered then without_last p else p) inner
+    ∙ left_pending plan.inlines old.pending c.args.n entered c.in_ok-entered.ensures.is_new in
+    c.leave.ensures ∙ ap (λ p. record mid { pending = p }) back
+
+pub own_document-returns-clause-undone : goal.own_document-returns-clause-undone
+own_document-returns-clause-undone t c =
+    ap undone (own_left t c) ∙ (c.in_ok-parts.ensures.undone ∙ ap undone (own_entered t c))
+
+pub own_document-returns-clause-step : goal.own_document-returns-clause-step
+own_document-returns-clause-step t c =
+    let plan = plan_of c.args.plan.now in
+    let old = c.args.work.now in
+    let inner = pending_grows plan.inlines old.pending c.args.n in
+    subst (λ w. Step plan old w) (sym (own_left t c))
+    (step_entered plan old c.subschemas.new.work inner.0
+    (subst (λ p. Step plan (record old { pending = p }) c.subschemas.new.work) inner.1 (own_step t c)))
 
 pub own_document-returns-clause-is : goal.own_document-returns-clause-is
 own_document-returns-clause-is t c =
     let plan = plan_of c.args.plan.now in
     let inside = c.args.in_definition in
     let old = c.args.work.now in
-    let now = c.subschemas.new.work in
+    let mid = c.subschemas.new.work in
+    let inner = inner_of plan old c.args.n in
     let e = entry_of c.in-Some.entry.now in
     let template = c.in_ok-template.ensures in
     let ts = c.in_ok-parts.parts.items in
     let same : c.deref.result.now ≡ rows_of (entry_template (basis_of plan) e) =
     c.deref.ensures.value ∙ (c.in_ok-rows.ensures ∙ ap rows_of template) in
-    let P : List ℕ → Type 0 = λ ms. AreParts plan inside old now c.args.n ms ts in
-    let all : AreParts plan inside old now c.args.n (rows_of (entry_template (basis_of plan) e)) ts =
-    subst P same c.in_ok-parts.ensures.are in
-    let schema = filled_by_parts plan inside old now c.args.n e ts all in
+    let P : List ℕ → Type 0 = λ ms. AreParts plan inside c.enter.new.self mid ms ts in
+    let R : Work → Type 0 = λ w. AreParts plan inside w mid (rows_of (entry_template (basis_of plan) e)) ts in
+    let all : R (record old { pending = inner }) = subst R (own_entered t c) (subst P same c.in_ok-parts.ensures.are) in
+    let schema = filled_by_parts plan inside (record old { pending = inner }) mid e ts all in
     let Q : Template → Type 0 = λ u. IsSchema (filled u ts) → c.in_ok-schema.schema ≡ filled u ts in
-    own_of_parts plan inside old now c.args.n e ts c.in_ok-schema.schema (sym c.in-Some.ensures) all
-    (subst Q template c.in_ok-schema.ensures schema)
+    subst (λ w. IsOwn plan inside old w c.args.n c.in_ok-schema.schema) (sym (own_left t c))
+    (own_of_parts plan inside old mid inner c.args.n e ts c.in_ok-schema.schema (sym c.in-Some.ensures) refl (own_step t c) all
+    (subst Q template c.in_ok-schema.ensures schema))
 
 -- ---- a definition
 
@@ -162,9 +210,9 @@ define-returns-clause-step t c =
     let finished : c.finish.new.self ≡ finished_with mid k c.in_ok-definition.definition = define_finished t c in
     let step : Step plan (begun_with old k) mid = subst (λ w. Step plan w mid) begun c.in_ok-definition.ensures.step in
     subst (λ w. Step plan old w) (sym finished)
-    (step_defines plan old mid c.args.n k c.in_ok-definition.definition _ none (IsUtf8-string_bytes c.args.name.now) step
+    (step_defines plan old mid c.args.n k c.in_ok-definition.definition none (IsUtf8-string_bytes c.args.name.now) step
     (gives-keeps plan.rows old.names mid.names c.args.n plan.contract k step.names c.requires.named)
-    c.in_ok-definition.ensures.is.describes)
+    c.in_ok-definition.ensures.is.document)
 
 pub define-returns-clause-is : goal.define-returns-clause-is
 define-returns-clause-is t c =
@@ -204,7 +252,7 @@ subschema-define-requires t c =
     (step_names plan old c.name_for.new.self.names c.in_ok-name.ensures.given) in
     let less : left_of_define plan c.name_for.new.self < left_of_subschema plan old c.args.n =
     to_define plan old c.name_for.new.self c.args.n (missing-wider plan.rows plan.contract old c.name_for.new.self
-    (step_wider plan old c.name_for.new.self step)) in
+    (step_wider plan old c.name_for.new.self step)) step.still_pending in
     (search rules, (c.requires.checked, (c.requires.known, c.in_ok-name.ensures.named)))
 
 -- ---- what a reference is made of
@@ -221,6 +269,10 @@ other_row (Some m) n h is =
 root_row : (o : Option ℕ) (n : ℕ) → true ≡ option_eq eqb o (Some n) → o ≡ Some n
 root_row None n h = cc
 root_row (Some m) n h = ap Some (eqb-true m n (sym h))
+
+not_inline : (a b : Bool) → a || b ≡ false → a ≡ false
+not_inline true b h = h
+not_inline false b h = refl
 
 free_or_met : (inside met : Bool) → not inside || (met || inside) ≡ true
 free_or_met true true = refl
@@ -256,14 +308,18 @@ subschema-returns-clause-is t c =
     let same : c.in_ok-reference.reference ≡ reference (reference_to plan.path k) = subschema_reference t c in
     let named : name_of c.args.n plan.contract now.names ≡ Some k = gives-keeps plan.rows mid.names now.names c.args.n
     plan.contract k c.in_ok-define.ensures.step.names c.in_ok-name.ensures.named in
-    let apart : is_inline_at plan.rows c.args.n ≡ false = ap (λ o. option_map_or (λ e. e.inline) o false) (sym c.in-Some.ensures)
-    ∙ c.if-inline.false in
+    let placed : is_in_place plan.rows plan.inlines old.pending c.args.n ≡ false =
+    sym c.is_in_place.ensures ∙ c.if-is_in_place.false in
+    let kept : is_in_place plan.rows plan.inlines now.pending c.args.n ≡ false =
+    ap (λ p. is_in_place plan.rows plan.inlines p c.args.n) (c.in_ok-define.ensures.step.still_pending ∙ ap (λ w. w.pending) given)
+    ∙ placed in
+    let apart : is_inline_at plan.rows c.args.n ≡ false = not_inline (is_inline_at plan.rows c.args.n) _ placed in
     let other : plan.root ≢ Some c.args.n = other_row plan.root c.args.n c.if-eq.ensures in
     let made = c.in_ok-define.ensures.is in
     let P : Work → Type 0 = λ w. AreReached plan false w now (string (reference_to plan.path k) ∷ []) in
     let Q : Data → Type 0 = λ s. AreReached plan inside old now (references s) in
     record {
-      written = inl (reference_to plan.path k, inr (k, named, made.defined, refl, (c.requires.known, apart), other), same);
+      written = inl (reference_to plan.path k, (inr (k, named, made.defined, refl, (c.requires.known, apart), other), kept), same);
       reached = λ plain. subst Q (sym same) (reached_by_name plan inside old mid.names now c.args.n k c.in_ok-name.ensures.no_other named
           made.defined (subst P given (made.reached plain)));
     }
@@ -273,18 +329,32 @@ subschema-returns-then-eq-clause-is t c =
     let plan = plan_of c.args.plan.now in
     let old = c.args.work.now in
     let inside = c.args.in_definition in
-    let apart : is_inline_at plan.rows c.args.n ≡ false = ap (λ o. option_map_or (λ e. e.inline) o false) (sym c.in-Some.ensures)
-    ∙ c.if-inline.false in
+    let placed : is_in_place plan.rows plan.inlines old.pending c.args.n ≡ false =
+    sym c.is_in_place.ensures ∙ c.if-is_in_place.false in
+    let apart : is_inline_at plan.rows c.args.n ≡ false = not_inline (is_inline_at plan.rows c.args.n) _ placed in
     let root : plan.root ≡ Some c.args.n = root_row plan.root c.args.n c.if-eq.ensures in
     let P : Work → Type 0 = λ w. IsPart plan inside old w c.args.n c.in_ok-root.root in
     let Q : Data → Type 0 = λ s. AreReached plan inside old (record old { meets_root = old.meets_root || inside }) (references s) in
     subst P (sym c.meet_root.ensures) (record {
-      written = inl (codes "#", inl (root, free_or_met inside old.meets_root, refl, (c.requires.known, apart)), c.in_ok-root.ensures);
+      written = inl (
+        codes "#",
+        (inl (root, free_or_met inside old.meets_root, refl, (c.requires.known, apart)), placed),
+        c.in_ok-root.ensures,
+      );
       reached = λ plain. subst Q (sym c.in_ok-root.ensures) (reached_root plan inside old);
     })
 
-pub subschema-returns-then-inline-clause-is : goal.subschema-returns-then-inline-clause-is
-subschema-returns-then-inline-clause-is t c =
+pub subschema-own_document-requires : goal.subschema-own_document-requires
+subschema-own_document-requires t c =
+    let plan = plan_of c.args.plan.now in
+    let placed : is_in_place plan.rows plan.inlines c.args.work.now.pending c.args.n ≡ true =
+    sym c.is_in_place.ensures ∙ c.if-is_in_place.true in
+    let less : left_of_own_document plan c.args.work.now c.args.n < left_of_subschema plan c.args.work.now c.args.n =
+    to_own plan c.args.work.now c.args.n c.requires.checked c.requires.known placed in
+    (search rules, (c.requires.checked, c.requires.known))
+
+pub subschema-returns-then-is_in_place-clause-is : goal.subschema-returns-then-is_in_place-clause-is
+subschema-returns-then-is_in_place-clause-is t c =
     let plan = plan_of c.args.plan.now in
     in_place plan c.args.in_definition c.args.work.now c.own_document.new.work c.args.n c.in_ok-in_place.in_place
-    (ap (λ o. option_map_or (λ e. e.inline) o false) (sym c.in-Some.ensures) ∙ c.if-inline.true) c.in_ok-in_place.ensures.is
+    c.in_ok-in_place.ensures.step (sym c.is_in_place.ensures ∙ c.if-is_in_place.true) c.in_ok-in_place.ensures.is

@@ -21,5 +21,5 @@ abbrev pub invariant-subschemas-loop-row : goal.invariant-subschemas-loop-row
 invariant-subschemas-loop-row l = record {
   undone : undone l.work ≡ undone l.fn.work;
   step : Step (plan_of l.plan) l.fn.work l.work;
-  are : AreParts (plan_of l.plan) l.in_definition l.fn.work l.work l.n (take l.row-index l.rows) l.parts.items;
+  are : AreParts (plan_of l.plan) l.in_definition l.fn.work l.work (take l.row-index l.rows) l.parts.items;
 }

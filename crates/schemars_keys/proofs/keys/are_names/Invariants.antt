@@ -2,7 +2,8 @@
 use Rattle.std.proofs.Common.{◌≡◌, map, drop}
 use Rattle.std.specs.List.{list_all}
 use Rattle.schemars_shapes.specs.Shape.{variant_of}
-use Rattle.schemars_types.specs.KeyOptions.{is_bare_unit, are_names}
+use Rattle.schemars_shapes.specs.Units.{is_bare_unit}
+use Rattle.schemars_types.specs.KeyOptions.{are_names}
 use Rattle.schemars_keys.proofs.keys.are_names.Given as goal
 
 abbrev pub invariant-loop-variant : goal.invariant-loop-variant

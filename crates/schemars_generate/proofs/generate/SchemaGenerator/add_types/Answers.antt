@@ -1,7 +1,7 @@
 use Rattle.std.proofs.Common.{◌≡◌, length, take, sym, subst, rules}
 use Rattle.schemars_generate.specs.Settings.{state_of}
 use Rattle.schemars_headline.specs.State.{HasOwnDefinitions}
-use Rattle.schemars_headline.proofs.Calls.{more_types_own}
+use Rattle.schemars_headline.proofs.Larger.{more_types_own}
 use Rattle.schemars_headline.proofs.NamedKeys.{references_name_keys}
 use Rattle.schemars_generate.proofs.generate.SchemaGenerator.add_types.Goals as goal
 

@@ -3,6 +3,7 @@ use Rattle.schemars_types.specs.Faults.{IsChecked}
 use Rattle.schemars_headline.specs.State.{State}
 use Rattle.schemars_generate.specs.declared.error.GenerateError.TheVariants.{OutOfMemory}
 use Rattle.schemars_headline.proofs.Calls.{root_means, root_is_whole, always_placed}
+use Rattle.schemars_headline.proofs.Inlined.{root_inlined}
 use Rattle.schemars_generate.proofs.generate.SchemaGenerator.into_root_schema_for_type.Goals as goal
 
 pub returns-clause-headline : goal.returns-clause-headline
@@ -29,3 +30,8 @@ returns-in_err-document-clause-only_memory c =
 
 pub returns-clause-root : goal.returns-clause-root
 returns-clause-root c = let root = c.in_ok-document.ensures.root in (root.0, root.1)
+
+pub returns-clause-inlined : goal.returns-clause-inlined
+returns-clause-inlined c =
+    let root = c.in_ok-document.ensures.root in
+    root_inlined c.args.self c.args.n root.0 c.in_ok-document.document root.1

@@ -8,6 +8,9 @@ use Rattle.schemars_headline.specs.State.{State, plan_of, HasOwnDefinitions}
 use Rattle.schemars_naming.specs.Work.{Work}
 use Rattle.schemars_generate.specs.declared.error.GenerateError.TheVariants.{OutOfMemory}
 use Rattle.schemars_headline.proofs.Calls.{root_means, root_is_whole, after_root_own, always_placed}
+use Rattle.serde_json.specs.Data.{no_members}
+use Rattle.schemars_headline.specs.Headline.{IsInlined}
+use Rattle.schemars_headline.proofs.Inlined.{root_inlined}
 use Rattle.schemars_headline.proofs.NamedKeys.{references_name_keys}
 use Rattle.schemars_generate.proofs.generate.SchemaGenerator.root_schema_for_type.Goals as goal
 
@@ -20,6 +23,13 @@ returns-clause-headline c =
     let P : State → Type 0 = λ x. HasOwnDefinitions x → IsDraftPath (plan_of x None).path
     → Headline x.rows (contract_of x.settings.contract) (plan_of x None).path n d in
     subst P c.self.view_is (λ own path. root_means s n root.0 d c.self.invariant.0 root.1 root.2 root.3 own path)
+
+pub returns-clause-inlined : goal.returns-clause-inlined
+returns-clause-inlined c =
+    let s = state_of c.self.inside.settings c.self.inside.types c.self.inside.work in
+    let root = c.in_ok-document.ensures.root in
+    let P : State → Type 0 = λ x. x.definitions ≡ no_members → IsInlined x c.in_ok-document.document in
+    subst P c.self.view_is (root_inlined s c.args.n root.0 c.in_ok-document.document root.1)
 
 pub returns-clause-own : goal.returns-clause-own
 returns-clause-own c =

@@ -1,9 +1,8 @@
-use Rattle.std.proofs.Common.{◌≡◌, List, ℕ, None, Some, true, false, refl, sym, subst}
+use Rattle.std.proofs.Common.{◌≡◌, List, [], ℕ, None, Some, true, false, refl, sym, subst}
 use Rattle.schemars_schema.specs.References.{references}
-use Rattle.schemars_types.specs.Edges.{is_inline_at}
+use Rattle.schemars_naming.specs.Placed.{is_in_place}
 use Rattle.schemars_documents.specs.Documents.{reference}
 use Rattle.schemars_build.specs.Parts.{IsSubschema}
-use Rattle.schemars_build.specs.Missing.{depth_in_place}
 use Rattle.schemars_naming.specs.Naming.{name_of}
 use Rattle.schemars_documents.specs.PlainTable.{IsPlainTable}
 use Rattle.schemars_build.specs.Reached.{AreReached}
@@ -13,6 +12,8 @@ use Rattle.schemars_naming.specs.Work.{Work, Step, IsKey, reference_to}
 use Rattle.schemars_headline.proofs.Calls.{part_own, reference_of_part}
 use Rattle.schemars_headline.proofs.NamedKeys.{references_name_keys}
 use Rattle.schemars_headline.proofs.Roots.{subschema_headline}
+use Rattle.schemars_headline.specs.Headline.{IsInlined}
+use Rattle.schemars_headline.proofs.Inlined.{part_inlined}
 use Rattle.schemars_generate.proofs.generate.SchemaGenerator.subschema_for_type.Goals as goal
 
 pub returns-in_err-schema-clause-own : goal.returns-in_err-schema-clause-own
@@ -35,7 +36,7 @@ returns-clause-means c =
     let new = state_of c.self.inside.settings c.self.inside.types c.part_of.new.work in
     let P : Work → Type 0 = λ w. IsSubschema (plan_of new None) false w c.args.n c.in_ok-schema.schema in
     λ own.
-    subschema_headline new c.args.n false (depth_in_place new.rows c.args.n) c.in_ok-schema.schema c.self.invariant.0
+    subschema_headline new c.args.n false c.in_ok-schema.schema c.self.invariant.0
     c.in_ok-schema.ensures.one_to_one (returns-clause-own c own)
     (subst P c.in_ok-schema.ensures.between c.in_ok-schema.ensures.part)
 
@@ -43,11 +44,19 @@ pub returns-clause-reference : goal.returns-clause-reference
 returns-clause-reference c =
     let new = state_of c.self.inside.settings c.self.inside.types c.part_of.new.work in
     let P : Work → Type 0 = λ w. IsSubschema (plan_of new None) false w c.args.n c.in_ok-schema.schema in
-    let Q : State → Type 0 = λ x. is_inline_at x.rows c.args.n ≡ false
+    let Q : State → Type 0 = λ x. is_in_place x.rows x.settings.inlines [] c.args.n ≡ false
     → (name : List ℕ) × (name_of c.args.n x.settings.contract new.names ≡ Some name) × IsKey name new.definitions
     × (c.in_ok-schema.schema ≡ reference (reference_to (plan_of x None).path name)) in
     subst Q c.self.view_is (λ apart. reference_of_part new c.args.n c.in_ok-schema.schema
     (subst P c.in_ok-schema.ensures.between c.in_ok-schema.ensures.part) apart)
+
+pub returns-clause-inlined : goal.returns-clause-inlined
+returns-clause-inlined c =
+    let new = state_of c.self.inside.settings c.self.inside.types c.part_of.new.work in
+    let P : Work → Type 0 = λ w. IsSubschema (plan_of new None) false w c.args.n c.in_ok-schema.schema in
+    let Q : State → Type 0 = λ x. IsInlined x c.in_ok-schema.schema in
+    subst Q c.self.view_is (part_inlined new c.args.n c.in_ok-schema.schema
+    (subst P c.in_ok-schema.ensures.between c.in_ok-schema.ensures.part))
 
 pub returns-clause-reached : goal.returns-clause-reached
 returns-clause-reached c =

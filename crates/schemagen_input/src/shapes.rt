@@ -1,0 +1,203 @@
+//! Shapes and entries.
+ghost use Rattle.std.specs.Prelude.{◌≡◌, None, Some, IfOk, IfErr, option_map};
+ghost use Rattle.serde_json.specs.View.{view};
+ghost use Rattle.schemars_shapes.specs.Shape.{shape_of, entry_of, formatted};
+ghost use Rattle.schemagen_input.specs.Input.{counted_in, array_in, up_to_in, tuple_in, list_under};
+ghost use Rattle.schemagen_input.specs.Input.{plain_under, two_in, result_in, either_in, map_in, fixed_under};
+ghost use Rattle.schemagen_input.specs.Input.{shape_named, shape_under, shape_in, entry_in};
+ghost use Rattle.serde_json.specs.Find.{as_str};
+
+use schemagen_forms::InputError;
+use schemagen_forms::fields::struct_in;
+use schemagen_forms::members::{
+    flag_in, has_only, kind_in, lone_member, notes_in, number_in, number_of, parts_in,
+};
+use schemagen_forms::variants::{external_in, internal_in, untagged_in};
+use schemars_types::{Shape, TypeEntry, TypeNo};
+use serde_json::{Map, Value};
+use std::alloc::{AllocError, Global};
+
+fn shape_named(name: &str) -> Option<Shape>
+    ensures { option_map shape_of result ≡ shape_named name.now }
+{
+    match name {
+        "null" => Some(Shape::Null),
+        "bool" => Some(Shape::Bool),
+        "number" => Some(Shape::Number),
+        "text" => Some(Shape::Text),
+        "char" => Some(Shape::Char),
+        "any" => Some(Shape::Any),
+        "bytes" => Some(Shape::Bytes),
+        "schema" => Some(Shape::SchemaItself),
+        _ => None,
+    }
+}
+
+// The row of a list's items, and their number under this name.
+fn counted_in(value: &Value, count: &str) -> Option<(TypeNo, u64)>
+    ensures { result ≡ counted_in count.now (view value.now) }
+{
+    if !has_only(value, &["of", count]) {
+        return None;
+    }
+    let n = number_of(value, "of")?;
+    let count = value.get(count)?.as_u64()?;
+    Some((n, count))
+}
+
+fn array_in(value: &Value) -> Option<Shape>
+    ensures { option_map shape_of result ≡ array_in (view value.now) }
+{
+    let (n, len) = counted_in(value, "len")?;
+    Some(Shape::Array(n, len))
+}
+
+fn up_to_in(value: &Value) -> Option<Shape>
+    ensures { option_map shape_of result ≡ up_to_in (view value.now) }
+{
+    let (n, cap) = counted_in(value, "cap")?;
+    Some(Shape::UpTo(n, cap))
+}
+
+fn tuple_in(alloc: Global, value: &Value) -> Result<Option<Shape>, AllocError>
+    ensures { IfOk result (λ s. option_map shape_of s ≡ tuple_in (view value.now)) }
+{
+    let parts = parts_in(alloc, value)?;
+    Ok(parts.map(Shape::Tuple))
+}
+
+// The shape that an object with this one member says.
+fn shape_under(alloc: Global, name: &str, value: &Value) -> Result<Shape, InputError>
+    ensures ok { IfOk result (λ s. shape_under name.now (view value.now) ≡ Some (shape_of s)) }
+    ensures bad { IfErr result
+        (λ e. e ≡ InputError.BadTable → shape_under name.now (view value.now) ≡ None) }
+{
+    match name {
+        "struct" => struct_in(alloc, value),
+        "external" => external_in(alloc, value),
+        "untagged" => untagged_in(alloc, value),
+        "internal" => internal_in(alloc, value),
+        _ => match plain_under(alloc, name, value)? {
+            Some(shape) => Ok(shape),
+            None => Err(InputError::BadTable),
+        },
+    }
+}
+
+// A shape without fields and variants.
+fn plain_under(alloc: Global, name: &str, value: &Value) -> Result<Option<Shape>, AllocError>
+    ensures { IfOk result (λ s. option_map shape_of s ≡ plain_under name.now (view value.now)) }
+{
+    Ok(match name {
+        "int" => kind_in(value).map(Shape::Int),
+        "nonzero" => kind_in(value).map(Shape::NonZero),
+        "format" => format_in(alloc, value)?,
+        "option" => number_in(value).map(Shape::Option),
+        "newtype" => number_in(value).map(Shape::Newtype),
+        _ => list_under(alloc, name, value)?,
+    })
+}
+
+// A list, of the kind that this name tells.
+fn list_under(alloc: Global, name: &str, value: &Value) -> Result<Option<Shape>, AllocError>
+    ensures { IfOk result (λ s. option_map shape_of s ≡ list_under name.now (view value.now)) }
+{
+    Ok(match name {
+        "seq" => number_in(value).map(Shape::Seq),
+        "set" => number_in(value).map(Shape::Set),
+        "array" => array_in(value),
+        "up_to" => up_to_in(value),
+        "tuple" => tuple_in(alloc, value)?,
+        _ => fixed_under(name, value),
+    })
+}
+
+// Two rows under these names.
+fn two_in(value: &Value, first: &str, second: &str) -> Option<(TypeNo, TypeNo)>
+    ensures { result ≡ two_in first.now second.now (view value.now) }
+{
+    if !has_only(value, &[first, second]) {
+        return None;
+    }
+    let m = number_of(value, first)?;
+    let n = number_of(value, second)?;
+    Some((m, n))
+}
+
+fn result_in(value: &Value) -> Option<Shape>
+    ensures { option_map shape_of result ≡ result_in (view value.now) }
+{
+    let (ok, err) = two_in(value, "ok", "err")?;
+    Some(Shape::Result(ok, err))
+}
+
+fn either_in(value: &Value) -> Option<Shape>
+    ensures { option_map shape_of result ≡ either_in (view value.now) }
+{
+    let (left, right) = two_in(value, "left", "right")?;
+    Some(Shape::Either(left, right))
+}
+
+fn map_in(value: &Value) -> Option<Shape>
+    ensures { option_map shape_of result ≡ map_in (view value.now) }
+{
+    let (key, value) = two_in(value, "key", "value")?;
+    Some(Shape::Map(key, value))
+}
+
+// A map, of the kind that this name tells.
+fn fixed_under(name: &str, value: &Value) -> Option<Shape>
+    ensures { option_map shape_of result ≡ fixed_under name.now (view value.now) }
+{
+    match name {
+        "bound" => number_in(value).map(Shape::Bound),
+        "range" => number_in(value).map(Shape::Range),
+        "result" => result_in(value),
+        "either" => either_in(value),
+        "map" => map_in(value),
+        _ => None,
+    }
+}
+
+fn format_in(alloc: Global, value: &Value) -> Result<Option<Shape>, AllocError>
+    ensures { IfOk result (λ s. option_map shape_of s
+        ≡ option_map formatted (as_str (view value.now))) }
+{
+    let Some(format) = value.as_str() else {
+        return Ok(None);
+    };
+    Ok(Some(Shape::Formatted(String::from_str(alloc, format)?)))
+}
+
+fn shape_in(alloc: Global, value: &Value) -> Result<Shape, InputError>
+    ensures ok { IfOk result (λ s. shape_in (view value.now) ≡ Some (shape_of s)) }
+    ensures bad { IfErr result (λ e. e ≡ InputError.BadTable → shape_in (view value.now) ≡ None) }
+{
+    match value {
+        Value::String(name) => shape_named(name.as_str()).ok_or(InputError::BadTable),
+        Value::Object(members) => {
+            let Some((name, part)) = lone_member(members) else {
+                return Err(InputError::BadTable);
+            };
+            shape_under(alloc, name.as_str(), part)
+        }
+        _ => Err(InputError::BadTable),
+    }
+}
+
+/// The entry of a row.
+pub fn entry_in(alloc: Global, value: &Value) -> Result<TypeEntry, InputError>
+    ensures ok { IfOk result (λ e. entry_in (view value.now) ≡ Some (entry_of e)) }
+    ensures bad { IfErr result (λ e. e ≡ InputError.BadTable → entry_in (view value.now) ≡ None) }
+{
+    let (Some(inline), Some(shape)) = (flag_in(value, "inline"), value.get("shape")) else {
+        return Err(InputError::BadTable);
+    };
+    let notes = notes_in(alloc, value)?;
+    let shape = shape_in(alloc, shape)?;
+    Ok(TypeEntry {
+        inline,
+        notes,
+        shape,
+    })
+}

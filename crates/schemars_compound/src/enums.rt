@@ -1,0 +1,187 @@
+//! The templates of enums whose variants are tagged by their names, or by nothing.
+ghost use Rattle.std.specs.Prelude.{◌≡◌, ◌∷◌, [], codes, map, IfOk};
+ghost use Rattle.serde_json.specs.Data.{array};
+ghost use Rattle.serde_json.specs.View.{items_view};
+ghost use Rattle.schemars_shapes.specs.Shape.{payload_of, variant_of};
+ghost use Rattle.schemars_rewrite.specs.NullLaw.{text_items};
+ghost use Rattle.schemars_documents.specs.ContractOf.{contract_of};
+ghost use Rattle.schemars_templates.specs.View.{template_view};
+ghost use Rattle.schemars_templates.specs.OfShape.{object_with, typed, said, payload_template, named_template};
+ghost use Rattle.schemars_templates.specs.OfShape.{bare_units, other_items, external_template};
+ghost use Rattle.schemars_templates.specs.OfShape.{payload_item, untagged_template, titled};
+
+use schemars_documents::Contract;
+use schemars_documents::documents::type_alone;
+use schemars_rewrite::builders::new_unit_enum_variant;
+use schemars_schema::Schema;
+use schemars_shapes::is_bare_unit;
+use schemars_templates::lists::tuple_template;
+use schemars_templates::maps::{member_template, struct_template};
+use schemars_templates::nodes::{any_of, finished, one_of, row, text};
+use schemars_templates::template::Template;
+use schemars_types::{Payload, Variant};
+use serde_json::Value;
+use std::alloc::{AllocError, Global};
+
+/// The item of the units without notes, if there is one, and the others; it stands alone where there is no other.
+pub fn external_template<'t>(
+    alloc: Global,
+    contract: Contract,
+    variants: &'t [Variant],
+) -> Result<Template<'t>, AllocError>
+    ensures { IfOk result (λ t. template_view t
+        ≡ external_template (contract_of contract) (map variant_of variants.now)) }
+{
+    let names = bare_units(alloc, variants)?;
+    let others = other_items(alloc, contract, variants)?;
+    if names.is_empty() {
+        if others.is_empty() {
+            return finished(Schema::from(false));
+        }
+        return one_of(alloc, others);
+    }
+    let units = units_template(alloc, names)?;
+    if others.is_empty() {
+        return Ok(units);
+    }
+    let items = led_by(alloc, units, others)?;
+    one_of(alloc, items)
+}
+
+/// One item at least, of those of the variants' payloads.
+pub fn untagged_template<'t>(
+    alloc: Global,
+    contract: Contract,
+    titles: bool,
+    variants: &'t [Variant],
+) -> Result<Template<'t>, AllocError>
+    ensures { IfOk result (λ t. template_view t
+        ≡ untagged_template (contract_of contract) titles (map variant_of variants.now)) }
+{
+    if variants.is_empty() {
+        return finished(Schema::from(false));
+    }
+    let items = payload_items(alloc, contract, titles, variants)?;
+    any_of(alloc, items)
+}
+
+fn bare_units(alloc: Global, variants: &[Variant]) -> Result<Vec<Value>, AllocError>
+    ensures { IfOk result (λ v. items_view v.items ≡ text_items (bare_units (map variant_of variants.now))) }
+{
+    let mut names = Vec::new(alloc);
+    for variant in variants {
+        if is_bare_unit(variant) {
+            let name = Value::try_from_str(alloc, variant.name.as_str())?;
+            serde_json::push(&mut names, name)?;
+        }
+    }
+    Ok(names)
+}
+
+// The items of the other variants, each with its notes.
+fn other_items<'t>(
+    alloc: Global,
+    contract: Contract,
+    variants: &'t [Variant],
+) -> Result<Vec<Template<'t>>, AllocError>
+    ensures { IfOk result (λ v. map template_view v.items
+        ≡ other_items (contract_of contract) (map variant_of variants.now)) }
+{
+    let mut items = Vec::new(alloc);
+    for variant in variants {
+        if !is_bare_unit(variant) {
+            let item = named_template(alloc, contract, variant.name.as_str(), &variant.payload)?;
+            items.push(Template::Noted(&variant.notes, Box::new(alloc, item)?))?;
+        }
+    }
+    Ok(items)
+}
+
+fn units_template<'t>(alloc: Global, names: Vec<Value>) -> Result<Template<'t>, AllocError>
+    ensures { IfOk result (λ t. template_view t
+        ≡ object_with (typed (codes "string") ∷ said (codes "enum") (array (items_view names.items)) ∷ [])) }
+{
+    let string = text(alloc, "string")?;
+    let keys = vec![in alloc; "type", "enum"]?;
+    let values = vec![in alloc; string, Template::Value(Value::Array(names))]?;
+    Ok(Template::Object(keys, values))
+}
+
+fn led_by<'t>(
+    alloc: Global,
+    first: Template<'t>,
+    mut rest: Vec<Template<'t>>,
+) -> Result<Vec<Template<'t>>, AllocError>
+    ensures { IfOk result (λ v. map template_view v.items
+        ≡ template_view first.entry ∷ map template_view rest.entry.items) }
+{
+    let mut items: Vec<Template<'t>> = vec![in alloc; first]?;
+    items.append(&mut rest)?;
+    Ok(items)
+}
+
+// A unit by its name, and another payload under that name alone.
+fn named_template<'t>(
+    alloc: Global,
+    contract: Contract,
+    name: &'t str,
+    payload: &'t Payload,
+) -> Result<Template<'t>, AllocError>
+    ensures { IfOk result (λ t. template_view t ≡ named_template (contract_of contract) name.now (payload_of payload.now)) }
+{
+    if let Payload::Unit = payload {
+        return finished(new_unit_enum_variant(alloc, name)?);
+    }
+    let part = payload_template(alloc, contract, payload)?;
+    member_template(alloc, name, part, true)
+}
+
+// The payload of each variant, with the variant's notes.
+fn payload_items<'t>(
+    alloc: Global,
+    contract: Contract,
+    titles: bool,
+    variants: &'t [Variant],
+) -> Result<Vec<Template<'t>>, AllocError>
+    ensures { IfOk result (λ v. map template_view v.items
+        ≡ map (payload_item (contract_of contract) titles) (map variant_of variants.now)) }
+{
+    let mut items = Vec::new(alloc);
+    for variant in variants {
+        let payload = payload_template(alloc, contract, &variant.payload)?;
+        let item = titled(alloc, titles, variant.name.as_str(), payload)?;
+        items.push(Template::Noted(&variant.notes, Box::new(alloc, item)?))?;
+    }
+    Ok(items)
+}
+
+// The template under this title, where there are titles.
+fn titled<'t>(
+    alloc: Global,
+    titles: bool,
+    name: &'t str,
+    template: Template<'t>,
+) -> Result<Template<'t>, AllocError>
+    ensures { IfOk result (λ t. template_view t ≡ titled titles name.now (template_view template.entry)) }
+{
+    if titles {
+        return Ok(Template::Titled(name, Box::new(alloc, template)?));
+    }
+    Ok(template)
+}
+
+// What a variant has beside its name.
+fn payload_template<'t>(
+    alloc: Global,
+    contract: Contract,
+    payload: &'t Payload,
+) -> Result<Template<'t>, AllocError>
+    ensures { IfOk result (λ t. template_view t ≡ payload_template (contract_of contract) (payload_of payload.now)) }
+{
+    match payload {
+        Payload::Unit => finished(type_alone(alloc, "null")?),
+        Payload::Newtype(n) => Ok(row(*n)),
+        Payload::Tuple(parts) => tuple_template(alloc, parts),
+        Payload::Struct(fields) => struct_template(alloc, contract, fields),
+    }
+}

@@ -1,0 +1,4 @@
+-- The definitions that contracts cite.
+pub mod Unevaluated
+pub mod Formats
+pub mod Inner

@@ -1,0 +1,2 @@
+pub mod EdgeLemmas
+pub mod Names

@@ -1,0 +1,3 @@
+-- The definitions that contracts cite.
+pub mod Built
+pub mod Nullable

@@ -1,7 +1,0 @@
--- The rows before are defined.
-use Rattle.std.proofs.Common.{ℕ, ◌<◌}
-use Rattle.schemars_types.specs.Faults.{IsUndefined}
-use Rattle.schemars_types.proofs.table.Types.first_undefined.Given as goal
-
-abbrev pub invariant-loop-n : goal.invariant-loop-n
-invariant-loop-n l = (k : ℕ) → k < l.n → ¬ IsUndefined l.self k

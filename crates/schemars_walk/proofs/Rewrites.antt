@@ -1,0 +1,206 @@
+-- A rewrite from the bottom up, call by call.
+use Rattle.std.proofs.Common.{◌≡◌, ℕ, zero, suc, ◌+◌, ◌<◌, ◌≤◌, max, List, [], ◌∷◌, ◌++◌, length, get_or, take}
+use Rattle.std.proofs.Common.{drop, set, String, Global, Some, None, string_bytes, string_cmp, sym, ap, ◌∙◌, subst, refl, add-one, arith}
+use Rattle.std.specs.List.Sorted.{IsStrictlySortedBy}
+use Rattle.std.specs.Map.{keys_of}
+use Rattle.std.specs.BTreeMap.{insert_entry}
+use Rattle.serde_json.specs.Data.{Data, null, boolean, number, string, array, object, Items}
+use Rattle.serde_json.specs.Data.{no_items, item, Members, no_members, member, depth, items_depth, members_depth}
+use Rattle.serde_json.specs.Find.{as_array, as_object}
+use Rattle.serde_json.specs.View.{view, items_view, members_view}
+use Rattle.serde_json.specs.declared.value.Value.{Value}
+use Rattle.serde_json.proofs.Views.{Entry}
+use Rattle.schemars_json.specs.Json.{Text}
+use Rattle.schemars_schema.specs.SchemaData.{IsSchema}
+use Rattle.schemars_schema.specs.References.{SchemaList, SchemaOrList, SchemasByName}
+use Rattle.schemars_walk.specs.Rewritten.{Rules, form_at, forms, in_items, in_names}
+use Rattle.schemars_walk.specs.Rewritten.{in_keywords, read_at, as_schema_in, rewritten, with_subschemas}
+use Rattle.schemars_walk.proofs.Walks.{then_items, then_members, then_items-none, then_members-none}
+use Rattle.schemars_walk.proofs.Walks.{member_put_back, item_written, items_from, nothing_left, all_taken}
+
+-- ---- depths
+
+pub depth_of_object : (d : Data) (ms : Members) → Some ms ≡ as_object d → depth d ≡ suc (members_depth ms)
+depth_of_object null ms e = cc
+depth_of_object (boolean b) ms e = cc
+depth_of_object (number n) ms e = cc
+depth_of_object (string s) ms e = cc
+depth_of_object (array ds) ms e = cc
+depth_of_object (object fs) ms e = let same : fs ≡ ms = cc in ap (λ m. suc (members_depth m)) same
+
+pub depth_of_array : (d : Data) (ds : Items) → Some ds ≡ as_array d → depth d ≡ suc (items_depth ds)
+depth_of_array null ds e = cc
+depth_of_array (boolean b) ds e = cc
+depth_of_array (number n) ds e = cc
+depth_of_array (string s) ds e = cc
+depth_of_array (array fs) ds e = let same : fs ≡ ds = cc in ap (λ m. suc (items_depth m)) same
+depth_of_array (object ms) ds e = cc
+
+pub depth_of_first : (it more : List Entry) (k : String Global) (v : Value) → it ≡ (k, v) ∷ more
+    → (depth (view v) ≤ members_depth (members_view it)) × (members_depth (members_view more) ≤ members_depth (members_view it))
+depth_of_first it more k v e =
+    let same : members_depth (members_view it) ≡ max (depth (view v)) (members_depth (members_view more)) = ap (λ i. members_depth
+    (members_view i)) e in
+    (omega arith, omega arith)
+
+pub depth_at : (xs : List Value) (i : ℕ) (d : Value) → i < length xs → depth (view (get_or xs i d)) ≤ items_depth (items_view (drop i xs))
+depth_at [] i d h = absurd (omega arith)
+depth_at (x ∷ xs) zero d h = omega arith
+depth_at (x ∷ xs) (suc i) d h = depth_at xs i d (omega arith)
+
+pub depth_past : (xs : List Value) (i : ℕ) (v : Value) → i < length xs
+    → items_depth (items_view (drop (i + 1) (set xs i v))) ≤ items_depth (items_view (drop i xs))
+depth_past xs i v h =
+    let same : items_depth (items_view (drop i xs)) ≡ max (depth (view (get_or xs i v))) (items_depth (items_view (drop (suc i) (set xs i
+    v)))) = ap items_depth (items_from xs i v v h) in
+    rw add-one (omega arith)
+
+-- ---- loops
+
+-- one turn of a loop over members that go back one after another, for a function that works member by member
+module _ (f : Members → Members) (g : Text → Data → Data) (cons : (k : Text) (d : Data) (ms : Members)
+    → f (member k d ms) ≡ member k (g k d) (f ms)) where
+  pub member_done : (all : Members) (it done more now : List Entry) (k : String Global) (v x : Value)
+      → IsStrictlySortedBy string_cmp (keys_of (done ++ it)) → it ≡ (k, v) ∷ more
+      → now ≡ insert_entry string_cmp done k x → view x ≡ g (string_bytes k) (view v)
+      → then_members (members_view done) (f (members_view it)) ≡ all
+      → then_members (members_view now) (f (members_view more)) ≡ all
+  member_done all it done more now k v x sorted step put call before =
+      let order : IsStrictlySortedBy string_cmp (keys_of (done ++ (k, v) ∷ more)) = subst (λ i. IsStrictlySortedBy string_cmp (keys_of
+      (done ++ i))) step sorted in
+      member_put_back done now more k v x (f (members_view more)) order put
+      ∙ ap (then_members (members_view done)) (ap (λ d. member (string_bytes k) d (f (members_view more))) call ∙ sym (cons (string_bytes
+      k) (view v) (members_view more)) ∙ ap (λ i. f (members_view i)) (sym step))
+      ∙ before
+
+module _ (f : Members → Members) (nothing : f no_members ≡ no_members) where
+  pub members_done : (all : Members) (it done : List Entry) → it ≡ [] → then_members (members_view done) (f (members_view it)) ≡ all
+      → members_view done ≡ all
+  members_done all it done end before =
+      sym (then_members-none (members_view done)) ∙ ap (then_members (members_view done)) (sym nothing ∙ ap (λ i. f (members_view i))
+      (sym end)) ∙ before
+
+module _ (f : Items → Items) (g : Data → Data) (cons : (d : Data) (ds : Items) → f (item d ds) ≡ item (g d) (f ds)) where
+  pub item_done : (all : Items) (xs : List Value) (i : ℕ) (d v : Value) → i < length xs → view v ≡ g (view (get_or xs i d))
+      → then_items (items_view (take i xs)) (f (items_view (drop i xs))) ≡ all
+      → then_items (items_view (take (i + 1) (set xs i v))) (f (items_view (drop (i + 1) (set xs i v)))) ≡ all
+  item_done all xs i d v within call before =
+      rw add-one (item_written xs i v (f (items_view (drop (suc i) (set xs i v)))) within
+      ∙ ap (then_items (items_view (take i xs))) (ap (λ e. item e (f (items_view (drop (suc i) (set xs i v))))) call ∙ sym (cons (view
+      (get_or xs i d)) (items_view (drop (suc i) (set xs i v)))) ∙ ap f (sym (items_from xs i v d within)))
+      ∙ before)
+
+module _ (f : Items → Items) (nothing : f no_items ≡ no_items) where
+  pub items_done : (all : Items) (xs : List Value) (i : ℕ) → length xs ≤ i
+      → then_items (items_view (take i xs)) (f (items_view (drop i xs))) ≡ all → items_view xs ≡ all
+  items_done all xs i end before =
+      sym (all_taken xs i end) ∙ sym (then_items-none (items_view (take i xs))) ∙ ap (then_items (items_view (take i xs))) (sym nothing ∙
+      ap f (sym (nothing_left xs i end))) ∙ before
+
+-- ---- the function, case by case
+
+module _ {R : Type 0} (ρ : Rules R) (r : R) where
+  pub keywords_more : (k : Text) (d : Data) (ms : Members) → in_keywords ρ r (member k d ms) ≡ member k (form_at (ρ.place r k d) d (forms
+      ρ r d)) (in_keywords ρ r ms)
+  unfolding in_keywords
+  keywords_more k d ms = refl
+
+  pub keywords_none : in_keywords ρ r no_members ≡ no_members
+  unfolding in_keywords
+  keywords_none = refl
+
+  pub names_more : (k : Text) (d : Data) (ms : Members) → in_names ρ r (member k d ms) ≡ member k (forms ρ r d).as_schema (in_names ρ r ms)
+  unfolding in_names
+  names_more k d ms = refl
+
+  pub names_none : in_names ρ r no_members ≡ no_members
+  unfolding in_names
+  names_none = refl
+
+  pub items_more : (d : Data) (ds : Items) → in_items ρ r (item d ds) ≡ item (forms ρ r d).as_schema (in_items ρ r ds)
+  unfolding in_items
+  items_more d ds = refl
+
+  pub items_none : in_items ρ r no_items ≡ no_items
+  unfolding in_items
+  items_none = refl
+
+  pub a_list : (d : Data) (ds : Items) → Some ds ≡ as_array d → array (in_items ρ r ds) ≡ read_at ρ SchemaList r d
+  unfolding forms
+  a_list null ds e = cc
+  a_list (boolean b) ds e = cc
+  a_list (number n) ds e = cc
+  a_list (string s) ds e = cc
+  a_list (array fs) ds e = let same : ds ≡ fs = cc in ap (λ x. array (in_items ρ r x)) same
+  a_list (object ms) ds e = cc
+
+  pub no_list : (d : Data) → None ≡ as_array d → d ≡ read_at ρ SchemaList r d
+  unfolding forms
+  no_list null e = refl
+  no_list (boolean b) e = refl
+  no_list (number n) e = refl
+  no_list (string s) e = refl
+  no_list (array fs) e = cc
+  no_list (object ms) e = refl
+
+  pub either_list : (d : Data) (ds : Items) → Some ds ≡ as_array d → array (in_items ρ r ds) ≡ read_at ρ SchemaOrList r d
+  unfolding forms
+  either_list null ds e = cc
+  either_list (boolean b) ds e = cc
+  either_list (number n) ds e = cc
+  either_list (string s) ds e = cc
+  either_list (array fs) ds e = let same : ds ≡ fs = cc in ap (λ x. array (in_items ρ r x)) same
+  either_list (object ms) ds e = cc
+
+  pub either_schema : (d : Data) → None ≡ as_array d → as_schema_in ρ r d ≡ read_at ρ SchemaOrList r d
+  unfolding forms
+  either_schema null e = refl
+  either_schema (boolean b) e = refl
+  either_schema (number n) e = refl
+  either_schema (string s) e = refl
+  either_schema (array fs) e = cc
+  either_schema (object ms) e = refl
+
+  pub some_names : (d : Data) (ms : Members) → Some ms ≡ as_object d → object (in_names ρ r ms) ≡ read_at ρ SchemasByName r d
+  unfolding forms
+  some_names null ms e = cc
+  some_names (boolean b) ms e = cc
+  some_names (number n) ms e = cc
+  some_names (string s) ms e = cc
+  some_names (array ds) ms e = cc
+  some_names (object fs) ms e = let same : ms ≡ fs = cc in ap (λ x. object (in_names ρ r x)) same
+
+  pub no_names : (d : Data) → None ≡ as_object d → d ≡ read_at ρ SchemasByName r d
+  unfolding forms
+  no_names null e = refl
+  no_names (boolean b) e = refl
+  no_names (number n) e = refl
+  no_names (string s) e = refl
+  no_names (array fs) e = refl
+  no_names (object ms) e = cc
+
+  pub no_schema : (d : Data) → ¬ IsSchema d → d ≡ as_schema_in ρ r d
+  unfolding forms
+  no_schema null e = refl
+  no_schema (boolean b) e = absurd (e tt)
+  no_schema (number n) e = refl
+  no_schema (string s) e = refl
+  no_schema (array fs) e = refl
+  no_schema (object ms) e = absurd (e tt)
+
+  pub rewritten_by : (d : Data) → IsSchema d → rewritten ρ r d ≡ ρ.finish (ρ.inside r d) (with_subschemas ρ (ρ.inside r d) d)
+  unfolding forms
+  rewritten_by null e = absurd e
+  rewritten_by (boolean b) e = refl
+  rewritten_by (number n) e = absurd e
+  rewritten_by (string s) e = absurd e
+  rewritten_by (array fs) e = absurd e
+  rewritten_by (object ms) e = refl
+
+  pub subschemas_of_object : (d : Data) (ms : Members) → Some ms ≡ as_object d → object (in_keywords ρ r ms) ≡ with_subschemas ρ r d
+  subschemas_of_object null ms e = cc
+  subschemas_of_object (boolean b) ms e = cc
+  subschemas_of_object (number n) ms e = cc
+  subschemas_of_object (string s) ms e = cc
+  subschemas_of_object (array ds) ms e = cc
+  subschemas_of_object (object fs) ms e = let same : ms ≡ fs = cc in ap (λ x. object (in_keywords ρ r x)) same

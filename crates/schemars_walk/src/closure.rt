@@ -1,0 +1,49 @@
+//! Closures, and references to transforms, as transforms.
+ghost use Rattle.std.specs.Prelude.{◌≡◌};
+
+use crate::transform::{Transform, TransformError};
+use schemars_schema::Schema;
+use std::alloc::Global;
+
+/// A closure that changes a schema, in a box.
+pub type Call = Box<dyn FnMut(&mut Schema) -> Result<(), TransformError> + Drop>;
+
+/// The transform that calls a closure.
+#[derive(Drop)]
+pub struct FnTransform {
+    call: Call,
+    ghost callable: { Call.IsAlwaysCallable call },
+}
+
+impl FnTransform {
+    /// Takes a closure that may be called on every schema.
+    pub fn new(call: Call) -> FnTransform
+        requires { Call.IsAlwaysCallable call }
+        ensures { result.call ≡ call }
+    {
+        FnTransform { call }
+    }
+}
+
+impl Transform for FnTransform {
+    ghost use Rattle.std.specs.Prelude.{◌≡◌};
+
+    // What the closure states.
+    ghost makes = { λ t s r u v. (p : _) × (q : _) × (p.now ≡ s) × (q.now ≡ v)
+        × Call.step t.call p r q u.call };
+
+    fn transform(&mut self, _alloc: Global, schema: &mut Schema) -> Result<(), TransformError> {
+        (self.call)(schema)
+    }
+}
+
+impl<T: Transform> Transform for &mut T {
+    ghost use Rattle.std.specs.Prelude.{◌≡◌};
+
+    ghost makes = { λ t s r u v. T.makes t.now s r u.now v × (u.ghost_name ≡ t.ghost_name) };
+
+    fn transform(&mut self, alloc: Global, schema: &mut Schema) -> Result<(), TransformError> {
+        let inner = &mut **self;
+        inner.transform(alloc, schema)
+    }
+}

@@ -1,0 +1,33 @@
+//! A transform of a JSON value that may be a schema.
+ghost use Rattle.serde_json.specs.View.{view};
+ghost use Rattle.schemars_walk.specs.Walk.{OnValue};
+
+use crate::transform::{Transform, TransformError};
+use schemars_schema::{NotASchema, Schema};
+use serde_json::Value;
+use std::alloc::Global;
+use std::mem;
+
+/// Applies a transform to a value that is a schema, and answers true. A value that is no schema is
+/// left alone, and the answer is false. After a refusal the value is what the transform left, a
+/// schema still.
+pub fn on_value<T: Transform>(
+    alloc: Global,
+    value: &mut Value,
+    t: &mut T,
+) -> Result<bool, TransformError>
+    ensures { OnValue T.makes t.old (view value.old) result t.new (view value.new) }
+{
+    match Schema::try_from(mem::replace(value, Value::Null)) {
+        Ok(mut schema) => {
+            let answer = t.transform(alloc, &mut schema);
+            *value = schema.to_value();
+            answer?;
+            Ok(true)
+        }
+        Err(NotASchema(other)) => {
+            *value = other;
+            Ok(false)
+        }
+    }
+}
