@@ -10,18 +10,20 @@ mod cases;
 mod edits;
 mod runs;
 mod schemas;
+mod transforms;
 
 use crate::cases::{Asked, work_cases};
 use std::{fs, io};
 
 // The files, and whom their cases ask.
-const FILES: [(&str, Asked); 6] = [
+const FILES: [(&str, Asked); 7] = [
     ("rows.tsv", Asked::Program),
     ("structs.tsv", Asked::Program),
     ("enums.tsv", Asked::Program),
     ("inline.tsv", Asked::Program),
     ("damaged.tsv", Asked::Program),
     ("calls.tsv", Asked::Libraries),
+    ("transforms.tsv", Asked::Libraries),
 ];
 
 fn main(rt: HostRuntime) -> io::Result<()> {

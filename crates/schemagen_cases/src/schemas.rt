@@ -1,6 +1,6 @@
 //! What calls answer that look at one schema.
 use crate::calls::{NoAnswer, text_of_bool};
-use crate::edits;
+use crate::{edits, transforms};
 use schemars_schema::Schema;
 use serde_json::Value;
 use std::alloc::{AllocError, Global};
@@ -33,6 +33,9 @@ pub fn answer(
             edits::answer_of_two(alloc, call, argument, value)
         }
         "to_value" => to_value(alloc, value),
+        "transform" => transformed(alloc, argument, value),
+        "on_value" => transforms::answer_of_value(alloc, value),
+        "recursive_transform_at_depth" => transforms::answer_nested(alloc, value),
         _ => answer_of(alloc, call, argument, value),
     }
 }
@@ -40,6 +43,13 @@ pub fn answer(
 fn answer_of(alloc: Global, call: &str, argument: &str, value: &Value) -> Result<String, NoAnswer> {
     let mut schema = schema_in(value)?;
     edits::answer(alloc, call, argument, &mut schema)
+}
+
+// The first word of the argument names the transform.
+fn transformed(alloc: Global, argument: &str, value: &Value) -> Result<String, NoAnswer> {
+    let (name, argument) = argument.split_once(' ').unwrap_or((argument, ""));
+    let mut schema = schema_in(value)?;
+    transforms::answer(alloc, name, argument, &mut schema)
 }
 
 /// What a call answers that only looks at this schema.

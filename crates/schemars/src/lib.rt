@@ -4,8 +4,10 @@
 //! those: that is the contract of `SchemaGenerator::root_schema_for_type`.
 #![tactic(auto)]
 
+pub mod builders;
+pub mod transform;
+
 pub use schemars_documents::Contract;
 pub use schemars_generate::{GenerateError, SchemaGenerator, SchemaSettings, generate};
-pub use schemars_rewrite::builders;
 pub use schemars_schema::{NotASchema, Schema, consts, encoding, json_eq, schema};
 pub use schemars_types as types;

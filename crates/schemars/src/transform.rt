@@ -1,0 +1,10 @@
+//! Transforms: changes of schemas, at one or at each of the schemas inside.
+pub use schemars_gen_transform::{ReplaceUnevaluatedProperties, RestrictFormats};
+pub use schemars_transform::{
+    AddNullable, RemoveRefSiblings, ReplaceBoolSchemas, ReplaceConstValue, ReplacePrefixItems,
+    SetSingleExample,
+};
+pub use schemars_walk::{
+    DEPTH_LIMIT, FnTransform, RecursiveTransform, Transform, TransformError, on_value,
+    transform_subschemas,
+};
