@@ -1,0 +1,4 @@
+-- Lemmas that several proofs share.
+mod Examples
+pub mod Escapes
+pub mod Headings

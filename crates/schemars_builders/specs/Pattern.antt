@@ -1,0 +1,22 @@
+-- Texts in regular expressions.
+use Rattle.std.specs.Prelude.{ℕ, ◌==◌, Bool, List, [], ◌∷◌, ◌++◌, if◌then◌else◌, codes}
+use Rattle.std.specs.List.{list_any}
+use Rattle.schemars_json.specs.Json.{Text}
+
+-- these stand for something else than themselves
+abbrev pub is_special : ℕ → Bool
+is_special b = list_any (λ s. b == s) (codes "\\.+*?()|[]{}^$#&-~")
+
+-- a backslash before each that is special
+abbrev pub escaped_byte : ℕ → Text
+escaped_byte b = if is_special b then 92 ∷ b ∷ [] else b ∷ []
+
+unfoldable pub escaped : Text → Text
+escaped [] = []
+escaped (b ∷ bs) = escaped_byte b ++ escaped bs
+
+-- a backslash takes the next byte as it is, and goes
+unfoldable pub unescaped : Text → Text
+unescaped [] = []
+unescaped (b ∷ []) = b ∷ []
+unescaped (b ∷ c ∷ bs) = if b == 92 then c ∷ unescaped bs else b ∷ unescaped (c ∷ bs)

@@ -1,0 +1,119 @@
+//! Keywords that are put into a schema where they say something.
+ghost use Rattle.std.specs.Prelude.{◌≡◌, Some, OnOk, OnErr, codes};
+ghost use Rattle.serde_json.specs.Data.{string};
+ghost use Rattle.serde_json.specs.Find.{as_str};
+ghost use Rattle.serde_json.specs.View.{view, items_view};
+ghost use Rattle.schemars_rewrite.specs.AllowNull.{is_text, holds_text};
+ghost use Rattle.schemars_schema.specs.SchemaData.{inserted};
+ghost use Rattle.schemars_builders.specs.Keywords.{with_metadata, with_validation};
+ghost use Rattle.schemars_builders.specs.Keywords.{names_type, has_type, validates};
+ghost use Rattle.schemars_builders.specs.Pattern.{escaped};
+
+use crate::pattern::escape;
+use schemars_schema::Schema;
+use serde_json::Value;
+use std::alloc::{AllocError, Global};
+
+/// Puts a text into a schema, in place of any value at the key, unless the text is empty.
+///
+/// A truth value becomes an object first, as under `ensure_object`. Where memory runs out, the
+/// schema stays as it was.
+pub fn insert_metadata_property_if_nonempty(
+    alloc: Global,
+    schema: &mut Schema,
+    key: &str,
+    value: &str,
+) -> Result<(), AllocError>
+    ensures ok { OnOk result (schema.new ≡ with_metadata key.now value.now schema.old) }
+    ensures err { OnErr result (schema.new ≡ schema.old) }
+{
+    if value.is_empty() {
+        return Ok(());
+    }
+    let text = Value::try_from_str(alloc, value)?;
+    set_keyword(alloc, schema, key, text)
+}
+
+/// Puts a value into the schema of values of this type, in place of any value at the key.
+///
+/// The schema's `type` has to be this type, or a list with it. For `number` it may be `integer` as
+/// well. Any other schema stays as it was, and so does each one where memory runs out.
+pub fn insert_validation_property(
+    alloc: Global,
+    schema: &mut Schema,
+    required_type: &str,
+    key: &str,
+    value: Value,
+) -> Result<(), AllocError>
+    ensures ok { OnOk result (schema.new
+        ≡ with_validation required_type.now key.now (view value) schema.old) }
+    ensures err { OnErr result (schema.new ≡ schema.old) }
+{
+    if !validates(schema, required_type) {
+        return Ok(());
+    }
+    set_keyword(alloc, schema, key, value)
+}
+
+/// Makes this text, escaped, the `pattern` of the schema of texts, in place of any pattern.
+///
+/// Any other schema stays as it was, and so does each one where memory runs out.
+pub fn must_contain(alloc: Global, schema: &mut Schema, text: &str) -> Result<(), AllocError>
+    ensures ok { OnOk result (schema.new ≡ with_validation (codes "string") (codes "pattern")
+        (string (escaped text.now)) schema.old) }
+    ensures err { OnErr result (schema.new ≡ schema.old) }
+{
+    let pattern = escape(alloc, text)?;
+    insert_validation_property(alloc, schema, "string", "pattern", Value::String(pattern))
+}
+
+fn set_keyword(
+    alloc: Global,
+    schema: &mut Schema,
+    key: &str,
+    value: Value,
+) -> Result<(), AllocError>
+    ensures ok { OnOk result (schema.new ≡ inserted key.now (view value) schema.old) }
+    ensures err { OnErr result (schema.new ≡ schema.old) }
+{
+    let key = String::from_str(alloc, key)?;
+    let _ = schema.insert(alloc, key, value)?;
+    Ok(())
+}
+
+fn validates(schema: &Schema, required_type: &str) -> bool
+    ensures { result ≡ validates required_type.now schema.now }
+{
+    has_type(schema, required_type) || (required_type == "number" && has_type(schema, "integer"))
+}
+
+fn has_type(schema: &Schema, name: &str) -> bool
+    ensures { result ≡ has_type name.now schema.now }
+{
+    match schema.get("type") {
+        Some(names) => names_type(names, name),
+        None => false,
+    }
+}
+
+fn names_type(names: &Value, name: &str) -> bool
+    ensures { result ≡ names_type name.now (Some (view names.now)) }
+{
+    match names {
+        Value::String(only) => only.as_str() == name,
+        Value::Array(names) => holds_text(names, name),
+        _ => false,
+    }
+}
+
+fn holds_text(values: &[Value], text: &str) -> bool
+    ensures { result ≡ holds_text text.now (items_view values.now) }
+{
+    values.iter().any(|value| is_text(value, text))
+}
+
+fn is_text(value: &Value, text: &str) -> bool
+    ensures { result ≡ is_text text.now (as_str (view value.now)) }
+{
+    value.as_str().is_some_and(|found| found == text)
+}
