@@ -1,9 +1,8 @@
 -- What the builders make of texts and schemas, computed.
-use Rattle.std.proofs.Common.{◌≡◌, List, [], ◌∷◌, true, false, refl}
+use Rattle.std.proofs.Common.{◌≡◌, [], ◌∷◌, true, false, refl}
 use Rattle.std.specs.Prelude.{codes}
 use Prim.Native.String.{String}
 use Rattle.serde_json.specs.Data.{Data, boolean, number, unsigned, string, array, no_items, item}
-use Rattle.schemars_json.specs.Json.{Text}
 use Rattle.schemars_schema.specs.SchemaData.{object_of}
 use Rattle.schemars_builders.specs.Documentation.{title_in, description_in}
 use Rattle.schemars_builders.specs.Keywords.{with_metadata, with_validation}

@@ -1,5 +1,5 @@
 -- One character more, and no character more.
-use Rattle.std.proofs.Common.{◌≡◌, ◌++◌, [], ◌∷◌, List, ℕ, string_bytes, encode_utf8_all, chars, sym, ap, ◌∙◌, map-id, append-nil}
+use Rattle.std.proofs.Common.{◌≡◌, List, ℕ, encode_utf8_all, chars, sym, ap, ◌∙◌, map-id, append-nil}
 use Rattle.std.specs.Prelude.{IsUtf8, map}
 use Rattle.std.proofs.lemmas.Iterator.{YieldsList-from_chars}
 use Rattle.std.proofs.lemmas.Iterator.Consumers.{YieldsList-end}
