@@ -18,8 +18,8 @@ escaped-append [] ys = refl
 escaped-append (b ∷ xs) ys = rw (escaped-append xs ys) (sym (append_assoc (escaped_byte b) (escaped xs) (escaped ys)))
 
 -- a text that was pushed, where the push succeeded
-pub pushed : {T E : Type 0} (r : Result T E) (new old more whole : Text) → new ≡ (if is_ok r then old ++ more else old) → old ++ more ≡ whole
-    → OnOk r (new ≡ whole)
+pub pushed : {T E : Type 0} (r : Result T E) (new old more whole : Text)
+    → new ≡ (if is_ok r then old ++ more else old) → old ++ more ≡ whole → OnOk r (new ≡ whole)
 pushed (Ok x) new old more whole e same = e ∙ same
 pushed (Err x) new old more whole e same = tt
 
@@ -73,7 +73,8 @@ escaped_above (b ∷ bs) above =
 
 bytes_above : (c k : ℕ) → 128 ≤ c → k < length (encode_utf8 c) → 128 ≤ get_or (encode_utf8 c) k 0
 bytes_above c k above here =
-    ⊎_elim (λ low. absurd (let same = inside_one c [] (encode_utf8 c) k (sym (append-nil (encode_utf8 c))) here low in omega arith))
+    ⊎_elim
+    (λ low. absurd (let same = inside_one c [] (encode_utf8 c) k (sym (append-nil (encode_utf8 c))) here low in omega arith))
     (λ high. high) (cases_lt (get_or (encode_utf8 c) k 0) 128)
 
 -- a character's bytes follow a backslash where it is special
@@ -86,4 +87,5 @@ escaped-special c special =
 pub escaped-plain : (c : ℕ) → is_special c ≡ false → escaped (encode_utf8 c) ≡ encode_utf8 c
 unfolding escaped
 escaped-plain c plain =
-    ⊎_elim (λ low. rw (encode_ascii c low) (rw plain)) (λ high. escaped_above (encode_utf8 c) (λ k h. bytes_above c k high h)) (cases_lt c 128)
+    ⊎_elim (λ low. rw (encode_ascii c low) (rw plain))
+    (λ high. escaped_above (encode_utf8 c) (λ k h. bytes_above c k high h)) (cases_lt c 128)

@@ -70,7 +70,8 @@ text s = string (codes s)
 abbrev minimum : Data → Data
 minimum schema = with_validation (codes "number") (codes "minimum") (number (unsigned 1)) schema
 
-text_joins : with_metadata (codes "title") (codes "T") (one "type" (text "string")) ≡ two "type" (text "string") "title" (text "T")
+text_joins : with_metadata (codes "title") (codes "T") (one "type" (text "string"))
+    ≡ two "type" (text "string") "title" (text "T")
 text_joins = refl
 
 text_replaces : with_metadata (codes "title") (codes "T") (one "title" (text "S")) ≡ one "title" (text "T")
@@ -101,6 +102,6 @@ no_type = refl
 truth_value : minimum (boolean true) ≡ boolean true
 truth_value = refl
 
-numbers_are_not_whole : with_validation (codes "integer") (codes "minimum") (number (unsigned 1)) (one "type" (text "number"))
-    ≡ one "type" (text "number")
+numbers_are_not_whole : with_validation (codes "integer") (codes "minimum") (number (unsigned 1))
+    (one "type" (text "number")) ≡ one "type" (text "number")
 numbers_are_not_whole = refl

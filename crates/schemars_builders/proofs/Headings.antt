@@ -1,6 +1,6 @@
 -- What calls that trim and cut a text give, in the words of contracts.
-use Rattle.std.proofs.Common.{◌≡◌, ℕ, suc, ◌+◌, List, [], ◌∷◌, Bool, true, false, refl, sym, ap, ◌∙◌, arith, take, drop, length}
-use Rattle.std.proofs.Common.{eqb-true}
+use Rattle.std.proofs.Common.{◌≡◌, ℕ, suc, ◌+◌, List, [], ◌∷◌, Bool, true, false, refl, sym, ap, ◌∙◌, arith, take, drop}
+use Rattle.std.proofs.Common.{length, eqb-true}
 use Rattle.std.proofs.lemmas.List.{take_all, drop_all}
 use Rattle.std.proofs.lemmas.Str.{encode_ascii, len_utf8_ascii}
 use Rattle.std.proofs.lemmas.Str.Ascii.{trim_ascii_is}
@@ -19,12 +19,15 @@ ends_trimmed t r is = trim_ascii_is t r (trimmed_start t) refl is
 -- ---- marks
 
 without_mark : (t : Text) → without_marks (35 ∷ t) ≡ without_marks t
-without_mark t = let one : 1 + prefix_len is_mark t ≡ suc (prefix_len is_mark t) = omega arith in ap (λ n. drop n (35 ∷ t)) one
+without_mark t =
+    let one : 1 + prefix_len is_mark t ≡ suc (prefix_len is_mark t) = omega arith in
+    ap (λ n. drop n (35 ∷ t)) one
 
 mark_cut : (s : Text) (n : ℕ) → FindsCharPrefix 35 s (Some n) → without_marks s ≡ without_marks (drop n s)
 mark_cut s n is = ap without_marks (drop_at_char 35 s 0 n is (omega arith)) ∙ without_mark (drop n s)
 
-marks_cut : (s : Text) (ns : List ℕ) (r : Text) → CutsPrefixes (FindsCharPrefix 35) s ns r → without_marks s ≡ without_marks r
+marks_cut : (s : Text) (ns : List ℕ) (r : Text) → CutsPrefixes (FindsCharPrefix 35) s ns r
+    → without_marks s ≡ without_marks r
 marks_cut s [] r is = ap without_marks (sym is)
 marks_cut s (n ∷ ns) r is = marks_cut s ns is.0 is.1 ∙ (mark_cut is.0 n is.2 ∙ ap without_marks (sym is.3))
 
@@ -64,8 +67,8 @@ heading_title doc t line title text headed first is =
     let of : trimmed (without_marks (before_first ends_line t)) ≡ title_of t = rw headed in
     is ∙ (ap (λ l. trimmed (without_marks l)) first ∙ (of ∙ ap title_of text))
 
-pub rest_description : (doc t rest description : Text) → t ≡ trimmed doc → is_headed t ≡ true → rest ≡ after_first ends_line t
-    → description ≡ trimmed rest → description ≡ description_in doc
+pub rest_description : (doc t rest description : Text) → t ≡ trimmed doc → is_headed t ≡ true
+    → rest ≡ after_first ends_line t → description ≡ trimmed rest → description ≡ description_in doc
 rest_description doc t rest description text headed after is =
     let of : trimmed (after_first ends_line t) ≡ description_of t = rw headed in
     is ∙ (ap trimmed after ∙ (of ∙ ap description_of text))

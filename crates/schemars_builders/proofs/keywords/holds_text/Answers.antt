@@ -11,7 +11,8 @@ use Rattle.schemars_json.specs.Json.{Text}
 use Rattle.schemars_rewrite.specs.AllowNull.{is_text, holds_text}
 use Rattle.schemars_builders.proofs.keywords.holds_text.Goals as goal
 
-holds_text-values : (t : Text) (vs : List Value) → list_any (λ v. is_text t (as_str (view v))) vs ≡ holds_text t (items_view vs)
+holds_text-values : (t : Text) (vs : List Value)
+    → list_any (λ v. is_text t (as_str (view v))) vs ≡ holds_text t (items_view vs)
 holds_text-values t [] = refl
 holds_text-values t (v ∷ vs) = ap (λ b. is_text t (as_str (view v)) || b) (holds_text-values t vs)
 
@@ -19,5 +20,6 @@ pub returns : goal.returns
 returns c =
     let t = c.args.text.now in
     let vs = c.args.values.now in
-    any_from_yields_List (λ v. is_text t (as_str (view v))) _ _ _ c.any.ensures.ran (YieldsList-from_slice vs cc) (λ x b q k. search (rules, tests))
+    any_from_yields_List (λ v. is_text t (as_str (view v))) _ _ _ c.any.ensures.ran (YieldsList-from_slice vs cc)
+    (λ x b q k. search (rules, tests))
     ∙ holds_text-values t vs

@@ -13,7 +13,8 @@ empty_stays : (k text : Text) (schema : Data) → (length text == 0) ≡ true �
 empty_stays k [] schema empty = refl
 empty_stays k (b ∷ bs) schema empty = absurd (omega (arith, eqb-true (length (b ∷ bs)) 0 empty))
 
-text_joins : (k text : Text) (d schema : Data) → (length text == 0) ≡ false → d ≡ string text → inserted k d schema ≡ with_metadata k text schema
+text_joins : (k text : Text) (d schema : Data) → (length text == 0) ≡ false → d ≡ string text
+    → inserted k d schema ≡ with_metadata k text schema
 text_joins k [] d schema some is = absurd (true≢false some)
 text_joins k (b ∷ bs) d schema some is = ap (λ e. inserted k e schema) is
 
@@ -23,7 +24,9 @@ returns-then-is_empty-clause-ok c =
 
 pub returns-clause-ok : goal.returns-clause-ok
 returns-clause-ok c =
-    let joins = text_joins c.args.key.now c.args.value.now _ c.args.schema.now (sym c.is_empty.ensures ∙ c.if-is_empty.false) c.in_ok-text.ensures in
+    let joins = text_joins c.args.key.now c.args.value.now _ c.args.schema.now
+    (sym c.is_empty.ensures ∙ c.if-is_empty.false) c.in_ok-text.ensures in
     on_ok_weaker c.set_keyword.result
-    (λ (set : c.set_keyword.new.schema ≡ inserted c.args.key.now (view c.in_ok-text.text) c.args.schema.now). set ∙ joins)
+    (λ (set : c.set_keyword.new.schema ≡ inserted c.args.key.now (view c.in_ok-text.text) c.args.schema.now).
+    set ∙ joins)
     c.set_keyword.ensures.ok

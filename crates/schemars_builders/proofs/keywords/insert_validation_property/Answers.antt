@@ -5,5 +5,6 @@ use Rattle.schemars_builders.proofs.keywords.insert_validation_property.Goals as
 
 pub returns-clause-ok : goal.returns-clause-ok
 returns-clause-ok c =
-    let is : validates c.args.required_type.now c.args.schema.now ≡ true = sym c.validates.ensures ∙ c.if-not-validates.false in
+    let is : validates c.args.required_type.now c.args.schema.now ≡ true =
+    sym c.validates.ensures ∙ c.if-not-validates.false in
     rw is c.set_keyword.ensures.ok
