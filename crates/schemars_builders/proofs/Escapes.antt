@@ -74,7 +74,7 @@ escaped_above (b ∷ bs) above =
 bytes_above : (c k : ℕ) → 128 ≤ c → k < length (encode_utf8 c) → 128 ≤ get_or (encode_utf8 c) k 0
 bytes_above c k above here =
     ⊎_elim
-    (λ low. absurd (let same = inside_one c [] (encode_utf8 c) k (sym (append-nil (encode_utf8 c))) here low in omega arith))
+    (λ low. let same = inside_one c [] (encode_utf8 c) k (sym (append-nil (encode_utf8 c))) here low in omega arith)
     (λ high. high) (cases_lt (get_or (encode_utf8 c) k 0) 128)
 
 -- a character's bytes follow a backslash where it is special

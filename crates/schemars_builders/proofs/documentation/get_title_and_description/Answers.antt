@@ -26,8 +26,8 @@ returns-in-Some-clause-title c =
     let headed = headed-test t c.starts_with.result true starts c.if-not-starts_with.false in
     let parts = split_once_first 10 t (Some (c.in-Some.heading, c.in-Some.rest)) c.in-Some.ensures.cases
     (omega arith) in
-    heading_title c.args.doc.now t c.in-Some.heading.now _ (ends_trimmed _ _ c.trim_ascii-text.ensures.value) headed parts.1
-    c.title.ensures
+    heading_title c.args.doc.now t c.in-Some.heading.now _ (ends_trimmed _ _ c.trim_ascii-text.ensures.value) headed
+    parts.1 c.title.ensures
 
 pub returns-in-Some-clause-description : goal.returns-in-Some-clause-description
 returns-in-Some-clause-description c =

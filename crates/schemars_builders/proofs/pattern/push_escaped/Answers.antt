@@ -16,7 +16,8 @@ returns c =
           let is : escaped character ≡ 92 ∷ character =
           escaped-special c.args.character (sym c.is_special.ensures ∙ w.if-is_special.true) in
           let before : string_bytes c.if-is_special.pattern ≡ old ++ 92 ∷ [] =
-          ap string_bytes w.pattern-is ∙ (w.in_ok-push.ensures.bytes ∙ ap (λ l. old ++ l) (encode_ascii 92 (omega arith))) in
+          ap string_bytes w.pattern-is
+          ∙ (w.in_ok-push.ensures.bytes ∙ ap (λ l. old ++ l) (encode_ascii 92 (omega arith))) in
           pushed c.push-2.result _ (string_bytes c.if-is_special.pattern) character _ c.push-2.ensures.bytes
           (ap (λ l. l ++ character) before ∙ (append_assoc old (92 ∷ []) character ∙ ap (λ l. old ++ l) (sym is)))
       | else-is_special w ↦
