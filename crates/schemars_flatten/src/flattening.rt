@@ -4,6 +4,7 @@ ghost use Rattle.serde_json.specs.Data.{put};
 ghost use Rattle.serde_json.specs.View.{view, members_view};
 ghost use Rattle.schemars_flatten.specs.Flatten.{stands, has_subschema, moved, moved_beside};
 ghost use Rattle.schemars_flatten.specs.Flatten.{rest_keyword, opened, united_all, flattened};
+ghost use Rattle.schemars_flatten.specs.FlattenLaw.{AreJoinable, AcceptsBoth};
 
 use crate::union::{put_keywords, remove};
 use schemars_schema::Schema;
@@ -20,6 +21,15 @@ use std::alloc::{AllocError, Global};
 /// other's stays under a name of both; a second `oneOf` or `anyOf` goes with the first into `allOf`;
 /// of other keywords the schema's own stays.
 pub fn flatten(alloc: Global, schema: &mut Schema, other: Schema) -> Result<(), AllocError>
+    ensures becomes { OnOk result (schema.new ≡ flattened schema.old other) }
+    ensures law { OnOk result (AreJoinable schema.old other
+        → AcceptsBoth schema.old other schema.new) }
+{
+    put_schema(alloc, schema, other)?;
+    Ok(())
+}
+
+fn put_schema(alloc: Global, schema: &mut Schema, other: Schema) -> Result<(), AllocError>
     ensures { OnOk result (schema.new ≡ flattened schema.old other) }
 {
     match other.to_value() {
