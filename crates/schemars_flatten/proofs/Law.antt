@@ -12,8 +12,8 @@ use Rattle.schemars_schema.proofs.Verdicts.{both-yes}
 use Rattle.schemars_schema.proofs.Objects.{IsKeyword, says, says-agree, judge-object, keyword-plain}
 use Rattle.schemars_rewrite.specs.AllowNull.{is_text}
 use Rattle.schemars_rewrite.proofs.Nulls.{and-parts}
-use Rattle.schemars_flatten.specs.Flatten.{with_keywords, united_all, flattened}
-use Rattle.schemars_flatten.specs.FlattenLaw.{has_keys_once, is_object_keyword, are_object_keywords, is_object_schema}
+use Rattle.schemars_flatten.specs.Flatten.{with_keywords, flattened}
+use Rattle.schemars_flatten.specs.FlattenLaw.{has_keys_once, is_object_keyword, are_object_keywords}
 use Rattle.schemars_flatten.specs.FlattenLaw.{are_schemas_by_name, are_texts, are_apart, AreJoinable, AcceptsBoth}
 use Rattle.schemars_flatten.proofs.Lookups.{united_option, keyword_at, lacks, keywords_at, united_plain}
 use Rattle.schemars_flatten.proofs.Verdicts.{Holds, members_at, both-pairs, type_both, required_both, properties_both}

@@ -1,8 +1,8 @@
 -- Members that are taken out, put in and changed, in the words of what is meant.
 use Rattle.std.proofs.Common.{◌≡◌, List, [], ◌∷◌, ◌++◌, Option, Some, None, Bool, true, false, Ordering, Less, Equal, Greater}
-use Rattle.std.proofs.Common.{refl, sym, ap, ◌∙◌, is_eq, true≢false, nat_cmp, string_bytes, ℕ}
+use Rattle.std.proofs.Common.{refl, sym, ap, ◌∙◌, is_eq, true≢false, nat_cmp, string_bytes}
 use Rattle.std.proofs.lemmas.Map.Text.{is_eq-slice_cmp}
-use Rattle.std.specs.Prelude.{bytes_eq, if◌then◌else◌, codes}
+use Rattle.std.specs.Prelude.{◌||◌, bytes_eq, if◌then◌else◌, codes}
 use Rattle.std.specs.Ordering.{match_ordering}
 use Rattle.std.specs.Cmp.Lexicographic.{slice_cmp}
 use Rattle.std.specs.Map.{set_value}
@@ -18,6 +18,7 @@ use Rattle.schemars_schema.specs.SchemaData.{members_in, put_members}
 use Rattle.schemars_schema.specs.Edits.{replaced, without}
 use Rattle.schemars_schema.specs.Acceptance.{both_some}
 use Rattle.schemars_schema.proofs.MapEdits.{members_view-set_value}
+use Rattle.schemars_rewrite.proofs.Nulls.{or-false}
 use Rattle.schemars_flatten.specs.Flatten.{moved, appended, joined, merged, united, with_united, both_choices, with_choice}
 use Rattle.schemars_flatten.specs.Flatten.{opened, opened_schema, united_all, flattened}
 
@@ -41,6 +42,16 @@ at_some (Some e) d none f h = let is : d ≡ e = cc in ap f is
 at_none : (o : Option Data) (none : Members) (f : Data → Members) → None ≡ o → none ≡ elim o [ None ↦ none | Some e ↦ f e ]
 at_none None none f h = refl
 at_none (Some e) none f h = cc
+
+-- ---- one of two names
+
+pub first_listed : (r a b : Bool) → r ≡ a → r ≡ true → r ≡ a || (b || false)
+first_listed r true b is met = is
+first_listed r false b is met = absurd (true≢false (sym met ∙ is))
+
+pub second_listed : (q r a b : Bool) → r ≡ a → r ≡ false → q ≡ b → q ≡ a || (b || false)
+second_listed q r true b is never also = absurd (true≢false (sym is ∙ never))
+second_listed q r false b is never also = also ∙ sym (or-false b)
 
 -- ---- what is additional
 

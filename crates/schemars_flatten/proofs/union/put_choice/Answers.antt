@@ -1,5 +1,5 @@
 -- A second choice goes with the first into `allOf`.
-use Rattle.std.proofs.Common.{◌≡◌, Some, None, codes, string_bytes, sym, ap, ◌∙◌}
+use Rattle.std.proofs.Common.{◌≡◌, Some, None, codes, string_bytes, ap, ◌∙◌}
 use Rattle.std.proofs.lemmas.Result.{on_ok_weaker}
 use Rattle.serde_json.specs.Data.{put}
 use Rattle.serde_json.specs.Find.{get_member}
