@@ -2,26 +2,24 @@
 use Rattle.std.proofs.Common.{◌≡◌, List, [], ◌∷◌, true, false, refl}
 use Rattle.std.specs.Prelude.{codes}
 use Prim.Native.String.{String}
-use Rattle.serde_json.specs.Data.{Data, boolean, string, array, object, Items, no_items, item, Members, no_members, member}
-use Rattle.schemars_flatten.specs.Flatten.{flattened}
+use Rattle.serde_json.specs.Data.{Data, boolean, string, array, object, Members, no_members, member}
+use Rattle.serde_json.specs.View.{items_of}
+use Rattle.schemars_flatten.specs.Flatten.{alone, flattened}
+use Rattle.schemars_flatten.specs.FlattenLaw.{AreJoinable}
 
 -- ---- JSON in short
 
 abbrev text : String → Data
 text s = string (codes s)
 
-abbrev list_of : List Data → Items
-list_of [] = no_items
-list_of (d ∷ ds) = item d (list_of ds)
-
 abbrev list : List Data → Data
-list ds = array (list_of ds)
+list ds = array (items_of ds)
 
 abbrev entry : String → Data → Members → Members
 entry k d ms = member (codes k) d ms
 
 abbrev one : String → Data → Data
-one k d = object (entry k d no_members)
+one k d = alone (codes k) d
 
 abbrev empty : Data
 empty = object no_members
@@ -42,6 +40,16 @@ both_objects : flattened (object_with (one "a" yes) (text "a" ∷ [])) (object_w
     ≡ object_with (object (entry "a" yes (entry "b" yes no_members))) (text "a" ∷ text "b" ∷ [])
 both_objects = refl
 
+abbrev with_a : Data
+with_a = object_with (one "a" yes) (text "a" ∷ [])
+
+abbrev with_b : Data
+with_b = object_with (one "b" yes) (text "b" ∷ [])
+
+-- so these two in one accept what both accept
+no_property_of_both : AreJoinable with_a with_b
+no_property_of_both = record { first = refl; second = refl; apart = refl }
+
 same_property : flattened (object_with (one "a" yes) (text "a" ∷ [])) (object_with (one "a" empty) (text "a" ∷ []))
     ≡ object_with (one "a" empty) (text "a" ∷ text "a" ∷ [])
 same_property = refl
@@ -49,7 +57,8 @@ same_property = refl
 no_object_of_properties : flattened (one "properties" yes) (one "properties" (one "a" yes)) ≡ one "properties" yes
 no_object_of_properties = refl
 
-no_list_of_names : flattened (one "required" (text "a")) (one "required" (list (text "b" ∷ []))) ≡ one "required" (text "a")
+no_list_of_names : flattened (one "required" (text "a")) (one "required" (list (text "b" ∷ [])))
+    ≡ one "required" (text "a")
 no_list_of_names = refl
 
 no_list_from_the_other : flattened (one "required" (list (text "a" ∷ []))) (one "required" (text "b"))
@@ -70,7 +79,8 @@ two_choices : flattened (one "oneOf" (list (yes ∷ []))) (one "oneOf" (list (no
 two_choices = refl
 
 -- those of the second side stand behind its `allOf`
-choices_beside_a_list : flattened (object (entry "allOf" (list (yes ∷ [])) (entry "oneOf" (list (yes ∷ [])) no_members)))
+choices_beside_a_list : flattened
+    (object (entry "allOf" (list (yes ∷ [])) (entry "oneOf" (list (yes ∷ [])) no_members)))
     (object (entry "allOf" (list (no_one ∷ [])) (entry "oneOf" (list (no_one ∷ [])) no_members)))
     ≡ one "allOf" (list (yes ∷ no_one ∷ one "oneOf" (list (yes ∷ [])) ∷ one "oneOf" (list (no_one ∷ [])) ∷ []))
 choices_beside_a_list = refl
@@ -91,9 +101,11 @@ one_choice = refl
 
 -- ---- what is left of an object
 
-closed_beside_a_choice : flattened (object (entry "additionalProperties" no_one (entry "type" (text "object") no_members)))
+closed_beside_a_choice : flattened
+    (object (entry "additionalProperties" no_one (entry "type" (text "object") no_members)))
     (one "anyOf" (list (yes ∷ [])))
-    ≡ object (entry "anyOf" (list (yes ∷ [])) (entry "type" (text "object") (entry "unevaluatedProperties" no_one no_members)))
+    ≡ object (entry "anyOf" (list (yes ∷ []))
+    (entry "type" (text "object") (entry "unevaluatedProperties" no_one no_members)))
 closed_beside_a_choice = refl
 
 choice_beside_a_closed_one : flattened (one "if" yes) (one "additionalProperties" no_one)
@@ -101,11 +113,14 @@ choice_beside_a_closed_one : flattened (one "if" yes) (one "additionalProperties
 choice_beside_a_closed_one = refl
 
 -- the first side's moves, and so does the second's then
-both_closed : flattened (one "additionalProperties" yes) (object (entry "additionalProperties" no_one (entry "$ref" (text "#") no_members)))
-    ≡ flattened (one "unevaluatedProperties" yes) (object (entry "additionalProperties" no_one (entry "$ref" (text "#") no_members)))
+both_closed : flattened (one "additionalProperties" yes)
+    (object (entry "additionalProperties" no_one (entry "$ref" (text "#") no_members)))
+    ≡ flattened (one "unevaluatedProperties" yes)
+    (object (entry "additionalProperties" no_one (entry "$ref" (text "#") no_members)))
 both_closed = refl
 
-closed_twice : flattened (one "additionalProperties" yes) (one "additionalProperties" no_one) ≡ one "additionalProperties" yes
+closed_twice : flattened (one "additionalProperties" yes) (one "additionalProperties" no_one)
+    ≡ one "additionalProperties" yes
 closed_twice = refl
 
 -- ---- truth values

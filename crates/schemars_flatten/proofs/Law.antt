@@ -44,7 +44,8 @@ no_const_says : (reads : Bool) (v : Data) → const_says reads None v ≡ Yes
 no_const_says true v = refl
 no_const_says false v = refl
 
-none_unevaluated : (reads : Bool) (judged : Text → Bool) (v : Data) → unevaluated_properties_say reads judged None v ≡ Yes
+none_unevaluated : (reads : Bool) (judged : Text → Bool) (v : Data)
+    → unevaluated_properties_say reads judged None v ≡ Yes
 none_unevaluated true judged v = refl
 none_unevaluated false judged v = refl
 
@@ -68,10 +69,13 @@ silent_at k ms all is no_type no_properties no_required =
     lacks k ms all (λ d. rw (no_type, no_properties, no_required) (keyword-plain k is))
 
 one_agrees : (ms : Members) → are_object_keywords ms ≡ true → (k : Text) → IsKeyword k → get_member k ms
-    ≡ object_raw (get_member (codes "type") ms) (get_member (codes "properties") ms) (get_member (codes "required") ms) k
-one_agrees ms all k is = go (bytes_eq k (codes "type")) (bytes_eq k (codes "properties")) (bytes_eq k (codes "required")) refl refl refl
+    ≡ object_raw (get_member (codes "type") ms) (get_member (codes "properties") ms)
+    (get_member (codes "required") ms) k
+one_agrees ms all k is = go (bytes_eq k (codes "type")) (bytes_eq k (codes "properties"))
+    (bytes_eq k (codes "required")) refl refl refl
   where
-    go : (t p q : Bool) → bytes_eq k (codes "type") ≡ t → bytes_eq k (codes "properties") ≡ p → bytes_eq k (codes "required") ≡ q
+    go : (t p q : Bool) → bytes_eq k (codes "type") ≡ t → bytes_eq k (codes "properties") ≡ p
+        → bytes_eq k (codes "required") ≡ q
         → get_member k ms ≡ (if t then get_member (codes "type") ms else if p then get_member (codes "properties") ms
         else if q then get_member (codes "required") ms else None)
     go true p q x y z = ap (λ l. get_member l ms) ((bytes_eq-Decides k (codes "type")).0 x)
@@ -90,7 +94,8 @@ module _ (ms ns : Members) (first : are_object_keywords ms ≡ true) (second : a
       keywords_at k ns ms second once
       ∙ go (bytes_eq k (codes "type")) (bytes_eq k (codes "properties")) (bytes_eq k (codes "required")) refl refl refl
     where
-      go : (t p q : Bool) → bytes_eq k (codes "type") ≡ t → bytes_eq k (codes "properties") ≡ p → bytes_eq k (codes "required") ≡ q
+      go : (t p q : Bool) → bytes_eq k (codes "type") ≡ t → bytes_eq k (codes "properties") ≡ p
+          → bytes_eq k (codes "required") ≡ q
           → in_both k ≡ (if t then in_both (codes "type") else if p then in_both (codes "properties")
           else if q then in_both (codes "required") else None)
       go true p q x y z = ap in_both ((bytes_eq-Decides k (codes "type")).0 x)
@@ -107,14 +112,19 @@ holds_at q form ms all same = go (get_member q ms) refl
     go (Some d) is = sym (same d) ∙ keyword_at q ms d all is
 
 one_fits : (c : Context) (ms : Members) → are_object_keywords ms ≡ true → (v : Data) → (judge c (object ms)).fits v
-    ≡ object_fits c (get_member (codes "type") ms) (get_member (codes "properties") ms) (get_member (codes "required") ms) v
+    ≡ object_fits c (get_member (codes "type") ms) (get_member (codes "properties") ms)
+    (get_member (codes "required") ms) v
 one_fits c ms all v =
     ap (λ j. j.fits v) (judge-object c ms ∙ says-agree c _ _ (λ k is. one_agrees ms all k is))
-    ∙ object_says c (get_member (codes "type") ms) (get_member (codes "properties") ms) (get_member (codes "required") ms) v
+    ∙ object_says c (get_member (codes "type") ms) (get_member (codes "properties") ms)
+    (get_member (codes "required") ms) v
 
-keywords_fit : (c : Context) (ms ns : Members) → are_object_keywords ms ≡ true → are_object_keywords ns ≡ true → has_keys_once ns ≡ true
-    → are_apart (members_at (get_member (codes "properties") ms)) (members_at (get_member (codes "properties") ns)) ≡ true → (v : Data)
-    → (judge c (object (with_keywords ns ms))).fits v ≡ both ((judge c (object ms)).fits v) ((judge c (object ns)).fits v)
+keywords_fit : (c : Context) (ms ns : Members) → are_object_keywords ms ≡ true → are_object_keywords ns ≡ true
+    → has_keys_once ns ≡ true
+    → are_apart (members_at (get_member (codes "properties") ms)) (members_at (get_member (codes "properties") ns))
+    ≡ true → (v : Data)
+    → (judge c (object (with_keywords ns ms))).fits v
+    ≡ both ((judge c (object ms)).fits v) ((judge c (object ns)).fits v)
 keywords_fit c ms ns first second once apart v =
     let t1 = get_member (codes "type") ms in
     let t2 = get_member (codes "type") ns in
@@ -125,8 +135,9 @@ keywords_fit c ms ns first second once apart v =
     let says_type : Option Data → Verdict = λ o. type_says c.dialect.reads_nullable o None v in
     let says_properties : Option Data → Verdict = λ o. properties_say (option_map (read_data c) o) v in
     let says_required : Option Data → Verdict = λ o. required_says o v in
-    let types = type_both t1 t2 (holds_at (codes "type") (λ d. is_text (codes "object") (as_str d)) ms first (λ d. refl))
-    (holds_at (codes "type") (λ d. is_text (codes "object") (as_str d)) ns second (λ d. refl)) c.dialect.reads_nullable v in
+    let names_object : Data → Bool = λ d. is_text (codes "object") (as_str d) in
+    let types = type_both t1 t2 (holds_at (codes "type") names_object ms first (λ d. refl))
+    (holds_at (codes "type") names_object ns second (λ d. refl)) c.dialect.reads_nullable v in
     let required = required_both q1 q2 (holds_at (codes "required") are_texts ms first (λ d. refl))
     (holds_at (codes "required") are_texts ns second (λ d. refl)) v in
     let properties = properties_both c p1 p2 (holds_at (codes "properties") are_schemas_by_name ms first (λ d. refl))
@@ -138,7 +149,8 @@ keywords_fit c ms ns first second once apart v =
     ∙ ((λ i. both (types i) (both (required i) (properties i)))
     ∙ (ap (both (both (says_type t1) (says_type t2)))
     (both-pairs (says_required q1) (says_required q2) (says_properties p1) (says_properties p2))
-    ∙ (both-pairs (says_type t1) (says_type t2) (both (says_required q1) (says_properties p1)) (both (says_required q2) (says_properties p2))
+    ∙ (both-pairs (says_type t1) (says_type t2) (both (says_required q1) (says_properties p1))
+    (both (says_required q2) (says_properties p2))
     ∙ sym (λ i. both (one_fits c ms first v i) (one_fits c ns second v i))))))
 
 -- ---- the law

@@ -1,5 +1,6 @@
 -- What is found in members after others are put in.
-use Rattle.std.proofs.Common.{◌≡◌, Option, Some, None, Bool, true, false, Ordering, Less, Equal, Greater, refl, sym, ap, ◌∙◌}
+use Rattle.std.proofs.Common.{◌≡◌, Option, Some, None, Bool, true, false, Ordering, Less, Equal, Greater, refl, sym, ap}
+use Rattle.std.proofs.Common.{◌∙◌}
 use Rattle.std.proofs.Common.{is_eq, true≢false, nat_cmp}
 use Rattle.std.proofs.lemmas.Map.Text.{is_eq-slice_cmp}
 use Rattle.std.proofs.lemmas.Slice.Eq.{bytes_eq-Decides}
@@ -13,7 +14,8 @@ use Rattle.schemars_json.specs.Json.{Text}
 use Rattle.schemars_schema.specs.SchemaData.{put_members}
 use Rattle.schemars_schema.specs.Edits.{replaced}
 use Rattle.schemars_rewrite.proofs.Nulls.{and-parts}
-use Rattle.schemars_flatten.specs.Flatten.{stands, is_choice, united, with_united, with_keyword, with_keywords, moved_beside, united_all}
+use Rattle.schemars_flatten.specs.Flatten.{stands, is_choice, united, with_united, with_keyword, with_keywords}
+use Rattle.schemars_flatten.specs.Flatten.{moved_beside, united_all}
 use Rattle.schemars_flatten.specs.FlattenLaw.{has_keys_once, is_object_keyword, are_object_keywords, are_apart}
 
 -- ---- look-ups by the equality of keys
@@ -22,20 +24,23 @@ abbrev at : Text → Members → Option Data
 at k no_members = None
 at k (member l e ms) = if bytes_eq k l then Some e else at k ms
 
-at_step : (o : Ordering) (b : Bool) (e : Data) (r : Option Data) → is_eq o ≡ b → match_ordering o r (Some e) r ≡ (if b then Some e else r)
+at_step : (o : Ordering) (b : Bool) (e : Data) (r : Option Data) → is_eq o ≡ b
+    → match_ordering o r (Some e) r ≡ (if b then Some e else r)
 at_step Less b e r is = rw (← is)
 at_step Equal b e r is = rw (← is)
 at_step Greater b e r is = rw (← is)
 
 get_member-at : (k : Text) (ms : Members) → get_member k ms ≡ at k ms
 get_member-at k no_members = refl
-get_member-at k (member l e ms) = rw (get_member-at k ms) (at_step (slice_cmp nat_cmp k l) (bytes_eq k l) e (at k ms) (is_eq-slice_cmp k l))
+get_member-at k (member l e ms) =
+    rw (get_member-at k ms) (at_step (slice_cmp nat_cmp k l) (bytes_eq k l) e (at k ms) (is_eq-slice_cmp k l))
 
 at_replaced : (k : Text) (d e : Data) (ms : Members) → at k ms ≡ Some e → at k (replaced k d ms) ≡ Some d
 at_replaced k d e no_members h = cc
 at_replaced k d e (member l f ms) h = go (bytes_eq k l) refl h (at_replaced k d e ms)
   where
-    go : (b : Bool) → bytes_eq k l ≡ b → (if b then Some f else at k ms) ≡ Some e → (at k ms ≡ Some e → at k (replaced k d ms) ≡ Some d)
+    go : (b : Bool) → bytes_eq k l ≡ b → (if b then Some f else at k ms) ≡ Some e
+        → (at k ms ≡ Some e → at k (replaced k d ms) ≡ Some d)
         → at k (if b then member l d ms else member l f (replaced k d ms)) ≡ Some d
     go true is h later = rw is refl
     go false is h later = rw is (later h)
@@ -66,19 +71,23 @@ united_none : (k : Text) (a : Option Data) → united_option k a None ≡ a
 united_none k None = refl
 united_none k (Some e) = refl
 
-united_here : (k : Text) (d : Data) (ms : Members) → get_member k (with_united k d ms) ≡ united_option k (get_member k ms) (Some d)
+united_here : (k : Text) (d : Data) (ms : Members)
+    → get_member k (with_united k d ms) ≡ united_option k (get_member k ms) (Some d)
 united_here k d ms = go (get_member k ms) refl
   where
     go : (o : Option Data) → get_member k ms ≡ o
-        → get_member k (elim o [ None ↦ put k d ms | Some e ↦ replaced k (united k e d) ms ]) ≡ united_option k o (Some d)
+        → get_member k (elim o [ None ↦ put k d ms | Some e ↦ replaced k (united k e d) ms ])
+        ≡ united_option k o (Some d)
     go None is = get_member-put k d ms
     go (Some e) is = get_member-at k (replaced k (united k e d) ms)
         ∙ at_replaced k (united k e d) e ms (sym (get_member-at k ms) ∙ is)
 
-united_beside : (q k : Text) (d : Data) (ms : Members) → bytes_eq q k ≡ false → get_member q (with_united k d ms) ≡ get_member q ms
+united_beside : (q k : Text) (d : Data) (ms : Members) → bytes_eq q k ≡ false
+    → get_member q (with_united k d ms) ≡ get_member q ms
 united_beside q k d ms other = go (get_member k ms)
   where
-    go : (o : Option Data) → get_member q (elim o [ None ↦ put k d ms | Some e ↦ replaced k (united k e d) ms ]) ≡ get_member q ms
+    go : (o : Option Data) → get_member q (elim o [ None ↦ put k d ms | Some e ↦ replaced k (united k e d) ms ])
+        ≡ get_member q ms
     go None = get_member-put_other q k d ms (differ q k other)
     go (Some e) = get_member-at q (replaced k (united k e d) ms)
         ∙ (at_replaced_other q k (united k e d) ms other ∙ sym (get_member-at q ms))
@@ -99,7 +108,8 @@ keyword_at q ms e all h = go ms all (sym (get_member-at q ms) ∙ h)
             → (at q ns ≡ Some e → is_object_keyword q e ≡ true) → is_object_keyword q e ≡ true
         step true is h here later =
             let value : d ≡ e = cc in
-            ap (λ x. is_object_keyword x e) ((bytes_eq-Decides q k).0 is) ∙ (ap (is_object_keyword k) (sym value) ∙ here)
+            ap (λ x. is_object_keyword x e) ((bytes_eq-Decides q k).0 is)
+            ∙ (ap (is_object_keyword k) (sym value) ∙ here)
         step false is h here later = later h
 
 pub lacks : (q : Text) (ms : Members) → are_object_keywords ms ≡ true → ((d : Data) → is_object_keyword q d ≡ false)
@@ -130,10 +140,12 @@ not_there k ms h = go (get_member k ms) h
 here_first : (q k : Text) (d : Data) (ms : Members) → bytes_eq q k ≡ true → get_member q (member k d ms) ≡ Some d
 here_first q k d ms is = get_member-at q (member k d ms) ∙ rw is refl
 
-here_later : (q k : Text) (d : Data) (ms : Members) → bytes_eq q k ≡ false → get_member q (member k d ms) ≡ get_member q ms
+here_later : (q k : Text) (d : Data) (ms : Members) → bytes_eq q k ≡ false
+    → get_member q (member k d ms) ≡ get_member q ms
 here_later q k d ms is = get_member-at q (member k d ms) ∙ rw is (sym (get_member-at q ms))
 
-keyword_put : (k : Text) (d : Data) (ms : Members) → is_object_keyword k d ≡ true → with_keyword k d ms ≡ with_united k d ms
+keyword_put : (k : Text) (d : Data) (ms : Members) → is_object_keyword k d ≡ true
+    → with_keyword k d ms ≡ with_united k d ms
 keyword_put k d ms h = rw (no_choice k d h) refl
 
 pub keywords_at : (q : Text) (ns ms : Members) → are_object_keywords ns ≡ true → has_keys_once ns ≡ true
@@ -176,18 +188,21 @@ properties_at q (member k d ns) ms once =
     properties_at q ns (put k d ms) alone.1 ∙ go (bytes_eq q k) refl (not_there k ns alone.0)
   where
     go : (b : Bool) → bytes_eq q k ≡ b → get_member k ns ≡ None
-        → either_option (get_member q ns) (get_member q (put k d ms)) ≡ either_option (get_member q (member k d ns)) (get_member q ms)
+        → either_option (get_member q ns) (get_member q (put k d ms))
+        ≡ either_option (get_member q (member k d ns)) (get_member q ms)
     go true is none =
         let same = (bytes_eq-Decides q k).0 is in
         let gone : get_member q ns ≡ None = ap (λ x. get_member x ns) same ∙ none in
-        let put_in : get_member q (put k d ms) ≡ Some d = ap (λ x. get_member x (put k d ms)) same ∙ get_member-put k d ms in
+        let put_in : get_member q (put k d ms) ≡ Some d = ap (λ x. get_member x (put k d ms)) same
+        ∙ get_member-put k d ms in
         ap (λ o. either_option o (get_member q (put k d ms))) gone
         ∙ (put_in ∙ ap (λ o. either_option o (get_member q ms)) (sym (here_first q k d ns is)))
     go false is none =
         ap (either_option (get_member q ns)) (get_member-put_other q k d ms (differ q k is))
         ∙ ap (λ o. either_option o (get_member q ms)) (sym (here_later q k d ns is))
 
-pub apart_at : (q : Text) (ms ns : Members) (d : Data) → are_apart ms ns ≡ true → get_member q ns ≡ Some d → get_member q ms ≡ None
+pub apart_at : (q : Text) (ms ns : Members) (d : Data) → are_apart ms ns ≡ true → get_member q ns ≡ Some d
+    → get_member q ms ≡ None
 apart_at q ms ns d apart h = go ns apart (sym (get_member-at q ns) ∙ h)
   where
     go : (ls : Members) → are_apart ms ls ≡ true → at q ls ≡ Some d → get_member q ms ≡ None

@@ -1,5 +1,6 @@
 -- Members that are taken out, put in and changed, in the words of what is meant.
-use Rattle.std.proofs.Common.{◌≡◌, List, [], ◌∷◌, ◌++◌, Option, Some, None, Bool, true, false, Ordering, Less, Equal, Greater}
+use Rattle.std.proofs.Common.{◌≡◌, List, [], ◌∷◌, ◌++◌, Option, Some, None, Bool, true, false, Ordering, Less, Equal}
+use Rattle.std.proofs.Common.{Greater}
 use Rattle.std.proofs.Common.{refl, sym, ap, ◌∙◌, is_eq, true≢false, nat_cmp, string_bytes}
 use Rattle.std.proofs.lemmas.Map.Text.{is_eq-slice_cmp}
 use Rattle.std.specs.Prelude.{◌||◌, bytes_eq, if◌then◌else◌, codes}
@@ -19,13 +20,15 @@ use Rattle.schemars_schema.specs.Edits.{replaced, without}
 use Rattle.schemars_schema.specs.Acceptance.{both_some}
 use Rattle.schemars_schema.proofs.MapEdits.{members_view-set_value}
 use Rattle.schemars_rewrite.proofs.Nulls.{or-false}
-use Rattle.schemars_flatten.specs.Flatten.{moved, appended, joined, merged, united, with_united, both_choices, with_choice}
+use Rattle.schemars_flatten.specs.Flatten.{moved, appended, joined, merged, united, with_united, both_choices}
+use Rattle.schemars_flatten.specs.Flatten.{with_choice}
 use Rattle.schemars_flatten.specs.Flatten.{opened, opened_schema, united_all, flattened}
 
 -- what isn't there can't be taken out
 pub without_missing : (k : Text) (ms : Members) → None ≡ get_member k ms → without k ms ≡ ms
 without_missing k no_members h = refl
-without_missing k (member l d ms) h = go (slice_cmp nat_cmp k l) (bytes_eq k l) (is_eq-slice_cmp k l) h (without_missing k ms)
+without_missing k (member l d ms) h =
+    go (slice_cmp nat_cmp k l) (bytes_eq k l) (is_eq-slice_cmp k l) h (without_missing k ms)
   where
     go : (o : Ordering) (b : Bool) → is_eq o ≡ b → None ≡ match_ordering o (get_member k ms) (Some d) (get_member k ms)
         → (None ≡ get_member k ms → without k ms ≡ ms) → (if b then ms else member l d (without k ms)) ≡ member l d ms
@@ -35,11 +38,13 @@ without_missing k (member l d ms) h = go (slice_cmp nat_cmp k l) (bytes_eq k l) 
     go Greater true is h later = absurd (true≢false (sym is))
     go Greater false is h later = ap (member l d) (later h)
 
-at_some : (o : Option Data) (d : Data) (none : Members) (f : Data → Members) → Some d ≡ o → f d ≡ elim o [ None ↦ none | Some e ↦ f e ]
+at_some : (o : Option Data) (d : Data) (none : Members) (f : Data → Members) → Some d ≡ o
+    → f d ≡ elim o [ None ↦ none | Some e ↦ f e ]
 at_some None d none f h = cc
 at_some (Some e) d none f h = let is : d ≡ e = cc in ap f is
 
-at_none : (o : Option Data) (none : Members) (f : Data → Members) → None ≡ o → none ≡ elim o [ None ↦ none | Some e ↦ f e ]
+at_none : (o : Option Data) (none : Members) (f : Data → Members) → None ≡ o
+    → none ≡ elim o [ None ↦ none | Some e ↦ f e ]
 at_none None none f h = refl
 at_none (Some e) none f h = cc
 
@@ -71,30 +76,37 @@ moved_missing ms new missing taken =
 
 -- ---- a keyword that both sides have
 
-pub united_there : (k : Text) (es : List Entry) (old new : Value) (d : Data) → Some (view old) ≡ get_member k (members_view es)
+pub united_there : (k : Text) (es : List Entry) (old new : Value) (d : Data)
+    → Some (view old) ≡ get_member k (members_view es)
     → view new ≡ united k (view old) d
-    → members_view (set_value (is_at (λ l. slice_cmp nat_cmp k (string_bytes l))) es new) ≡ with_united k d (members_view es)
+    → members_view (set_value (is_at (λ l. slice_cmp nat_cmp k (string_bytes l))) es new)
+    ≡ with_united k d (members_view es)
 united_there k es old new d found is =
     members_view-set_value k es new
     ∙ (ap (λ e. replaced k e (members_view es)) is
-    ∙ at_some (get_member k (members_view es)) (view old) (put k d (members_view es)) (λ e. replaced k (united k e d) (members_view es)) found)
+    ∙ at_some (get_member k (members_view es)) (view old) (put k d (members_view es))
+    (λ e. replaced k (united k e d) (members_view es)) found)
 
-pub united_missing : (k : Text) (ms old new : Members) (d : Data) → None ≡ get_member k ms → old ≡ ms → new ≡ put k d old
+pub united_missing : (k : Text) (ms old new : Members) (d : Data) → None ≡ get_member k ms → old ≡ ms
+    → new ≡ put k d old
     → new ≡ with_united k d ms
 united_missing k ms old new d missing same made =
     made ∙ (ap (put k d) same ∙ at_none (get_member k ms) (put k d ms) (λ e. replaced k (united k e d) ms) missing)
 
-pub choice_there : (k : Text) (ms mid new : Members) (first d : Data) → Some first ≡ get_member k ms → mid ≡ without k ms
+pub choice_there : (k : Text) (ms mid new : Members) (first d : Data) → Some first ≡ get_member k ms
+    → mid ≡ without k ms
     → new ≡ with_united (codes "allOf") (both_choices k first d) mid → new ≡ with_choice k d ms
 choice_there k ms mid new first d found taken made =
     made ∙ (ap (with_united (codes "allOf") (both_choices k first d)) taken
-    ∙ at_some (get_member k ms) first (put k d ms) (λ e. with_united (codes "allOf") (both_choices k e d) (without k ms)) found)
+    ∙ at_some (get_member k ms) first (put k d ms)
+    (λ e. with_united (codes "allOf") (both_choices k e d) (without k ms)) found)
 
 pub choice_missing : (k : Text) (ms mid new : Members) (d : Data) → None ≡ get_member k ms → mid ≡ without k ms
     → new ≡ put k d mid → new ≡ with_choice k d ms
 choice_missing k ms mid new d missing taken made =
     made ∙ (ap (put k d) (taken ∙ without_missing k ms missing)
-    ∙ at_none (get_member k ms) (put k d ms) (λ e. with_united (codes "allOf") (both_choices k e d) (without k ms)) missing)
+    ∙ at_none (get_member k ms) (put k d ms)
+    (λ e. with_united (codes "allOf") (both_choices k e d) (without k ms)) missing)
 
 -- ---- lists and objects
 
@@ -118,7 +130,8 @@ objects_merged first second new ms ns is_first is_second made = rw (is_first, is
 pub no_object_merged : (first second : Data) → None ≡ as_object first → first ≡ merged first second
 no_object_merged first second h = go (as_object second) (as_object first) h
   where
-    go : (o p : Option Members) → None ≡ p → first ≡ elim (both_some put_members o p) [ None ↦ first | Some ms ↦ object ms ]
+    go : (o p : Option Members) → None ≡ p
+        → first ≡ elim (both_some put_members o p) [ None ↦ first | Some ms ↦ object ms ]
     go None p h = refl
     go (Some es) None h = refl
     go (Some es) (Some ds) h = cc
@@ -136,7 +149,8 @@ appended_more (y ∷ ys) x es = ap (item (view y)) (appended_more ys x es)
 
 pub flattened_object : (s o new : Data) (old left others : Members) → old ≡ members_in s → o ≡ object others
     → left ≡ united_all old others → new ≡ object left → new ≡ flattened s o
-flattened_object s o new old left others start is united made = rw is (made ∙ ap object (united ∙ ap (λ ms. united_all ms others) start))
+flattened_object s o new old left others start is united made = rw is (made
+    ∙ ap object (united ∙ ap (λ ms. united_all ms others) start))
 
 pub flattened_opened : (s o new : Data) (old left : Members) → Some old ≡ as_object s → o ≡ boolean true
     → left ≡ opened old → new ≡ object left → new ≡ flattened s o

@@ -1,5 +1,6 @@
 -- What keywords of two objects say together.
-use Rattle.std.proofs.Common.{◌≡◌, List, [], ◌∷◌, ◌++◌, Option, Some, None, Bool, true, false, Ordering, Less, Equal, Greater}
+use Rattle.std.proofs.Common.{◌≡◌, List, [], ◌∷◌, ◌++◌, Option, Some, None, Bool, true, false, Ordering, Less, Equal}
+use Rattle.std.proofs.Common.{Greater}
 use Rattle.std.proofs.Common.{refl, sym, ap, ◌∙◌, is_eq, true≢false, nat_cmp, option_map}
 use Rattle.std.proofs.lemmas.Map.Text.{is_eq-slice_cmp}
 use Rattle.std.proofs.lemmas.Slice.Eq.{bytes_eq-Decides}
@@ -13,7 +14,8 @@ use Rattle.schemars_json.specs.Json.{Text}
 use Rattle.schemars_schema.specs.SchemaData.{IsSchema, is_schema, put_members}
 use Rattle.schemars_schema.specs.Verdict.{Verdict, Yes, No, Open, both, verdict}
 use Rattle.schemars_schema.specs.Acceptance.{Context, Judge, judge, read_data, read_members, all_named, where_some}
-use Rattle.schemars_schema.specs.Acceptance.{schema_named, each_member, texts_in, have_all, type_says, required_says, properties_say}
+use Rattle.schemars_schema.specs.Acceptance.{schema_named, each_member, texts_in, have_all, type_says, required_says}
+use Rattle.schemars_schema.specs.Acceptance.{properties_say}
 use Rattle.schemars_schema.proofs.Verdicts.{both-yes, both-verdict}
 use Rattle.schemars_schema.proofs.Objects.{schema-judge}
 use Rattle.schemars_rewrite.specs.AllowNull.{is_text}
@@ -43,7 +45,8 @@ both-group No No Open = refl
 
 pub both-pairs : (a b x y : Verdict) → both (both a b) (both x y) ≡ both (both a x) (both b y)
 both-pairs a b x y =
-    both-group a b (both x y) ∙ (ap (both a) (sym (both-group b x y) ∙ (ap (λ z. both z y) (both-swap b x) ∙ both-group x b y))
+    both-group a b (both x y)
+    ∙ (ap (both a) (sym (both-group b x y) ∙ (ap (λ z. both z y) (both-swap b x) ∙ both-group x b y))
     ∙ sym (both-group a x (both b y)))
 
 both-same : (x : Verdict) → x ≡ both x x
@@ -73,7 +76,8 @@ type_both None b first second n v = refl
 type_both (Some d) None first second n v = sym (both-yes (type_says n (Some d) None v))
 type_both (Some d) (Some e) first second n v =
     both-same (type_says n (Some d) None v)
-    ∙ ap (λ x. both (type_says n (Some d) None v) (type_says n (Some x) None v)) (object_text d first ∙ sym (object_text e second))
+    ∙ ap (λ x. both (type_says n (Some d) None v) (type_says n (Some x) None v))
+    (object_text d first ∙ sym (object_text e second))
 
 -- ---- required names
 
@@ -83,7 +87,8 @@ texts_appended no_items es [] ls h i = i
 texts_appended no_items es (k ∷ ks) ls h i = cc
 texts_appended (item d ds) es ks ls h i = go (as_str d) (texts_in ds) refl h (λ js is. texts_appended ds es js ls is i)
   where
-    go : (o : Option Text) (p : Option (List Text)) → texts_in ds ≡ p → option_and_then (λ t. option_map (λ ts. t ∷ ts) p) o ≡ Some ks
+    go : (o : Option Text) (p : Option (List Text)) → texts_in ds ≡ p
+        → option_and_then (λ t. option_map (λ ts. t ∷ ts) p) o ≡ Some ks
         → ((js : List Text) → texts_in ds ≡ Some js → texts_in (appended ds es) ≡ Some (js ++ ls))
         → option_and_then (λ t. option_map (λ ts. t ∷ ts) (texts_in (appended ds es))) o ≡ Some (ks ++ ls)
     go None p is h later = cc
@@ -101,7 +106,8 @@ have_all_appended (k ∷ ks) ls ms = go (is_some (get_member k ms)) (have_all_ap
     go true later = later
     go false later = refl
 
-listed_texts : (d : Data) → are_texts d ≡ true → (ds : Items) × (ks : List Text) × (d ≡ array ds) × (texts_in ds ≡ Some ks)
+listed_texts : (d : Data) → are_texts d ≡ true
+    → (ds : Items) × (ks : List Text) × (d ≡ array ds) × (texts_in ds ≡ Some ks)
 listed_texts (array ds) h = go (texts_in ds) refl h
   where
     go : (o : Option (List Text)) → texts_in ds ≡ o → is_some o ≡ true
@@ -131,11 +137,13 @@ required_both (Some d) (Some e) first second v =
     let left = listed_texts d first in
     let right = listed_texts e second in
     rw (left.2, right.2) (
-      names_say (appended left.0 right.0) (left.1 ++ right.1) (texts_appended left.0 right.0 left.1 right.1 left.3 right.3) v
-      ∙ (where_both (as_object v) (λ ms. verdict (have_all (left.1 ++ right.1) ms)) (λ ms. verdict (have_all left.1 ms))
-      (λ ms. verdict (have_all right.1 ms))
-      (λ ms. ap verdict (have_all_appended left.1 right.1 ms) ∙ sym (both-verdict (have_all left.1 ms) (have_all right.1 ms)))
-      ∙ sym (λ i. both (names_say left.0 left.1 left.3 v i) (names_say right.0 right.1 right.3 v i)))
+    names_say (appended left.0 right.0) (left.1 ++ right.1)
+    (texts_appended left.0 right.0 left.1 right.1 left.3 right.3) v
+    ∙ (where_both (as_object v) (λ ms. verdict (have_all (left.1 ++ right.1) ms)) (λ ms. verdict (have_all left.1 ms))
+    (λ ms. verdict (have_all right.1 ms))
+    (λ ms. ap verdict (have_all_appended left.1 right.1 ms)
+    ∙ sym (both-verdict (have_all left.1 ms) (have_all right.1 ms)))
+    ∙ sym (λ i. both (names_say left.0 left.1 left.3 v i) (names_say right.0 right.1 right.3 v i)))
     )
 
 -- ---- properties
@@ -148,9 +156,11 @@ schema_is (number n) h = absurd (true≢false (sym h))
 schema_is (string t) h = absurd (true≢false (sym h))
 schema_is (array ds) h = absurd (true≢false (sym h))
 
-schemas_put : (k : Text) (d : Data) (ms : Members) → is_schema d ≡ true → are_schemas ms ≡ true → are_schemas (put k d ms) ≡ true
+schemas_put : (k : Text) (d : Data) (ms : Members) → is_schema d ≡ true → are_schemas ms ≡ true
+    → are_schemas (put k d ms) ≡ true
 schemas_put k d no_members i h = rw i refl
-schemas_put k d (member l e ms) i h = go (slice_cmp nat_cmp k l) (and-parts (is_schema e) (are_schemas ms) h) (schemas_put k d ms i)
+schemas_put k d (member l e ms) i h =
+    go (slice_cmp nat_cmp k l) (and-parts (is_schema e) (are_schemas ms) h) (schemas_put k d ms i)
   where
     go : (o : Ordering) → (is_schema e ≡ true) × (are_schemas ms ≡ true)
         → (are_schemas ms ≡ true → are_schemas (put k d ms) ≡ true)
@@ -159,7 +169,8 @@ schemas_put k d (member l e ms) i h = go (slice_cmp nat_cmp k l) (and-parts (is_
     go Equal parts later = rw (i, parts.1) refl
     go Greater parts later = rw (parts.0, later parts.1) refl
 
-schemas_merged : (qs ps : Members) → are_schemas qs ≡ true → are_schemas ps ≡ true → are_schemas (put_members qs ps) ≡ true
+schemas_merged : (qs ps : Members) → are_schemas qs ≡ true → are_schemas ps ≡ true
+    → are_schemas (put_members qs ps) ≡ true
 schemas_merged no_members ps h i = i
 schemas_merged (member k d qs) ps h i =
     let parts = and-parts (is_schema d) (are_schemas qs) h in
@@ -170,7 +181,8 @@ unfoldable judges_under : Context → Members → List (Text × Judge)
 judges_under c no_members = []
 judges_under c (member k d ms) = (k, judge c d) ∷ judges_under c ms
 
-read_names : (c : Context) (ms : Members) → are_schemas ms ≡ true → all_named (read_members c ms) ≡ Some (judges_under c ms)
+read_names : (c : Context) (ms : Members) → are_schemas ms ≡ true
+    → all_named (read_members c ms) ≡ Some (judges_under c ms)
 unfolding read_data judges_under
 read_names c no_members h = refl
 read_names c (member k d ms) h =
@@ -181,7 +193,8 @@ read_names c (member k d ms) h =
 abbrev asked : Context → Option Data → Data → Verdict
 asked c o w = where_some o (λ d. (judge c d).fits w)
 
-asked_step : (c : Context) (o : Ordering) (b : Bool) (d : Data) (r : Option Judge) (q : Option Data) (w : Data) → is_eq o ≡ b
+asked_step : (c : Context) (o : Ordering) (b : Bool) (d : Data) (r : Option Judge) (q : Option Data) (w : Data)
+    → is_eq o ≡ b
     → where_some r (λ s. s.fits w) ≡ asked c q w
     → where_some (if b then Some (judge c d) else r) (λ s. s.fits w) ≡ asked c (match_ordering o q (Some d) q) w
 asked_step c Less true d r q w is rest = absurd (true≢false (sym is))
@@ -196,7 +209,8 @@ asked_under : (c : Context) (ms : Members) (k : Text) (w : Data)
 unfolding judges_under
 asked_under c no_members k w = refl
 asked_under c (member l d ms) k w =
-    asked_step c (slice_cmp nat_cmp k l) (bytes_eq k l) d (schema_named k (judges_under c ms)) (get_member k ms) w (is_eq-slice_cmp k l)
+    asked_step c (slice_cmp nat_cmp k l) (bytes_eq k l) d (schema_named k (judges_under c ms)) (get_member k ms) w
+    (is_eq-slice_cmp k l)
     (asked_under c ms k w)
 
 each_same : (f g : Text → Data → Verdict) → ((k : Text) (w : Data) → f k w ≡ g k w) → (ms : Members)
@@ -208,9 +222,11 @@ each_both : (f g h : Text → Data → Verdict) → ((k : Text) (w : Data) → f
     → each_member f ms ≡ both (each_member g ms) (each_member h ms)
 each_both f g h same no_members = refl
 each_both f g h same (member k w ms) =
-    (λ i. both (same k w i) (each_both f g h same ms i)) ∙ both-pairs (g k w) (h k w) (each_member g ms) (each_member h ms)
+    (λ i. both (same k w i) (each_both f g h same ms i))
+    ∙ both-pairs (g k w) (h k w) (each_member g ms) (each_member h ms)
 
-where_same : (o : Option Members) (f g : Members → Verdict) → ((ms : Members) → f ms ≡ g ms) → where_some o f ≡ where_some o g
+where_same : (o : Option Members) (f g : Members → Verdict) → ((ms : Members) → f ms ≡ g ms)
+    → where_some o f ≡ where_some o g
 where_same None f g same = refl
 where_same (Some ms) f g same = same ms
 
@@ -223,7 +239,8 @@ properties_ask c ps h v =
 
 named_schemas : (d : Data) → are_schemas_by_name d ≡ true
     → (ms : Members) × (d ≡ object ms) × (are_schemas ms ≡ true) × (has_keys_once ms ≡ true)
-named_schemas (object ms) h = let parts = and-parts (are_schemas ms) (has_keys_once ms) h in (ms, refl, parts.0, parts.1)
+named_schemas (object ms) h =
+    let parts = and-parts (are_schemas ms) (has_keys_once ms) h in (ms, refl, parts.0, parts.1)
 named_schemas null h = absurd (true≢false (sym h))
 named_schemas (boolean b) h = absurd (true≢false (sym h))
 named_schemas (number n) h = absurd (true≢false (sym h))
@@ -262,7 +279,8 @@ properties_both c (Some d) (Some e) first second apart v =
         let apart_too : are_apart left.0 right.0 ≡ true =
         (λ i. are_apart (members_at (Some (sym left.1 i))) (members_at (Some (sym right.1 i)))) ∙ free in
         rw (left.1, right.1) (
-          properties_ask c (put_members right.0 left.0) (schemas_merged right.0 left.0 right.2 left.2) v
-          ∙ (where_both (as_object v) _ _ _ (λ ms. each_both _ _ _ (λ k w. asked_both c left.0 right.0 right.3 apart_too k w) ms)
-          ∙ sym (λ i. both (properties_ask c left.0 left.2 v i) (properties_ask c right.0 right.2 v i)))
+        properties_ask c (put_members right.0 left.0) (schemas_merged right.0 left.0 right.2 left.2) v
+        ∙ (where_both (as_object v) _ _ _
+        (λ ms. each_both _ _ _ (λ k w. asked_both c left.0 right.0 right.3 apart_too k w) ms)
+        ∙ sym (λ i. both (properties_ask c left.0 left.2 v i) (properties_ask c right.0 right.2 v i)))
         )

@@ -18,7 +18,8 @@ stands k ms = is_some (get_member k ms)
 abbrev pub has_subschema : Members → Bool
 has_subschema ms =
     stands (codes "if") ms
-    || (stands (codes "allOf") ms || (stands (codes "anyOf") ms || (stands (codes "oneOf") ms || stands (codes "$ref") ms)))
+    || (stands (codes "allOf") ms
+    || (stands (codes "anyOf") ms || (stands (codes "oneOf") ms || stands (codes "$ref") ms)))
 
 -- what was additional is unevaluated
 abbrev pub moved : Members → Members
@@ -49,11 +50,17 @@ appended (item d ds) es = item d (appended ds es)
 
 -- two lists make one; of what is no list the first stays
 abbrev pub joined : Data → Data → Data
-joined first second = elim (both_some (λ es ds. appended ds es) (as_array second) (as_array first)) [ None ↦ first | Some ds ↦ array ds ]
+joined first second = elim (both_some (λ es ds. appended ds es) (as_array second) (as_array first)) [
+  | None ↦ first
+  | Some ds ↦ array ds
+]
 
 -- two objects make one, with the second's value where both have a name; of what is no object the first stays
 abbrev pub merged : Data → Data → Data
-merged first second = elim (both_some put_members (as_object second) (as_object first)) [ None ↦ first | Some ms ↦ object ms ]
+merged first second = elim (both_some put_members (as_object second) (as_object first)) [
+  | None ↦ first
+  | Some ms ↦ object ms
+]
 
 abbrev pub is_joined : Text → Bool
 is_joined k = is_listed k (codes "required" ∷ codes "allOf" ∷ [])

@@ -5,7 +5,8 @@ ghost use Rattle.serde_json.specs.Find.{get_member};
 ghost use Rattle.serde_json.specs.View.{view, items_view, members_view};
 ghost use Rattle.schemars_schema.specs.SchemaData.{put_members};
 ghost use Rattle.schemars_schema.specs.Edits.{without};
-ghost use Rattle.schemars_flatten.specs.Flatten.{is_joined, is_merged, is_choice, appended, joined, merged, united};
+ghost use Rattle.schemars_flatten.specs.Flatten.{is_joined, is_merged, is_choice};
+ghost use Rattle.schemars_flatten.specs.Flatten.{appended, joined, merged, united};
 ghost use Rattle.schemars_flatten.specs.Flatten.{with_united, alone, both_choices, with_choice};
 ghost use Rattle.schemars_flatten.specs.Flatten.{with_keyword, with_keywords};
 
@@ -62,12 +63,7 @@ fn put_choice(
     }
 }
 
-fn both_choices(
-    alloc: Global,
-    key: &str,
-    first: Value,
-    second: Value,
-) -> Result<Value, AllocError>
+fn both_choices(alloc: Global, key: &str, first: Value, second: Value) -> Result<Value, AllocError>
     ensures { IfOk result (λ v. view v ≡ both_choices key.now (view first) (view second)) }
 {
     let first = alone(alloc, key, first)?;
@@ -85,11 +81,7 @@ fn alone(alloc: Global, key: &str, value: Value) -> Result<Value, AllocError>
 }
 
 // Puts a keyword in, or its value into the one that stands there.
-fn put_united(
-    members: &mut Map<String, Value>,
-    key: String,
-    value: Value,
-) -> Result<(), AllocError>
+fn put_united(members: &mut Map<String, Value>, key: String, value: Value) -> Result<(), AllocError>
     ensures { OnOk result (members_view members.new.entries
         ≡ with_united (string_bytes key) (view value) (members_view members.old.entries)) }
 {
@@ -145,10 +137,7 @@ fn push_all(items: &mut Vec<Value>, more: Vec<Value>) -> Result<(), AllocError>
     Ok(())
 }
 
-fn put_members(
-    members: &mut Map<String, Value>,
-    more: Map<String, Value>,
-) -> Result<(), AllocError>
+fn put_members(members: &mut Map<String, Value>, more: Map<String, Value>) -> Result<(), AllocError>
     ensures { OnOk result (members_view members.new.entries
         ≡ put_members (members_view more.entries) (members_view members.old.entries)) }
 {

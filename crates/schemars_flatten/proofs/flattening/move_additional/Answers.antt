@@ -13,10 +13,12 @@ returns-in-Some c =
     let new = members_view c.put.new.map.entries in
     let d = view c.in-Some.additional in
     on_ok_weaker c.put.result
-    (λ (made : new ≡ put (codes "unevaluatedProperties") d mid). moved_there old mid new d c.in-Some.ensures.value c.in-Some.ensures.removed made)
+    (λ (made : new ≡ put (codes "unevaluatedProperties") d mid). moved_there old mid new d c.in-Some.ensures.value
+    c.in-Some.ensures.removed made)
     c.put.ensures.ok
 
 pub returns-in-None : goal.returns-in-None
 returns-in-None c =
-    moved_missing (members_view c.args.members.now.entries) (members_view c.remove.new.members.entries) c.in-None.ensures.value
+    moved_missing (members_view c.args.members.now.entries)
+    (members_view c.remove.new.members.entries) c.in-None.ensures.value
     c.in-None.ensures.removed

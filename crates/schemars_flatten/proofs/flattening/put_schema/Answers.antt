@@ -17,7 +17,8 @@ returns-in-Object c =
     let is = sym c.in-Object.ensures.value ∙ view-Object c.in-Object.others in
     on_ok_weaker c.unite.result
     (λ (united : left ≡ united_all old others).
-    flattened_object c.args.schema.now c.args.other (object left) old left others c.in_ok-members-in-Object.ensures.value is united refl)
+    flattened_object c.args.schema.now c.args.other
+    (object left) old left others c.in_ok-members-in-Object.ensures.value is united refl)
     c.unite.ensures
 
 pub returns-in-Some : goal.returns-in-Some

@@ -5,10 +5,12 @@ use Rattle.schemars_flatten.proofs.union.is_joined.Goals as goal
 
 pub returns-then-eq : goal.returns-then-eq
 returns-then-eq c =
-    first_listed c.eq.result (bytes_eq c.args.key.now (codes "required")) (bytes_eq c.args.key.now (codes "allOf")) c.eq.ensures
+    first_listed c.eq.result (bytes_eq c.args.key.now (codes "required"))
+    (bytes_eq c.args.key.now (codes "allOf")) c.eq.ensures
     c.if-eq.true
 
 pub returns-else-eq : goal.returns-else-eq
 returns-else-eq c =
-    second_listed c.eq-else-eq.result c.eq.result (bytes_eq c.args.key.now (codes "required")) (bytes_eq c.args.key.now (codes "allOf"))
+    second_listed c.eq-else-eq.result c.eq.result (bytes_eq c.args.key.now (codes "required"))
+    (bytes_eq c.args.key.now (codes "allOf"))
     c.eq.ensures c.if-eq.false c.eq-else-eq.ensures

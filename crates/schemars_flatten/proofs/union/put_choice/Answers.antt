@@ -24,7 +24,8 @@ returns-in_ok-from_str-in-Some c =
     c.in_ok-choices-in-Some.ensures ∙ ap (λ k. both_choices k first second) c.as_str-in-Some.ensures.value in
     let all_of : string_bytes c.in_ok-from_str-in-Some.field-0 ≡ codes "allOf" = c.in_ok-from_str-in-Some.ensures.ok in
     on_ok_weaker c.put_united.result
-    (λ (put_in : new ≡ with_united (string_bytes c.in_ok-from_str-in-Some.field-0) (view c.in_ok-choices-in-Some.choices) mid).
+    (λ (put_in : new ≡ with_united (string_bytes c.in_ok-from_str-in-Some.field-0)
+    (view c.in_ok-choices-in-Some.choices) mid).
     choice_there key old mid new first second found taken
     (put_in ∙ (ap (λ k. with_united k (view c.in_ok-choices-in-Some.choices) mid) all_of
     ∙ ap (λ d. with_united (codes "allOf") d mid) choices)))
