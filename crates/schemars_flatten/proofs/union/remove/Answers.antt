@@ -1,0 +1,14 @@
+-- What a map's `remove` says, in the words of members.
+use Rattle.std.proofs.Common.{ap, ◌∙◌, option_map}
+use Rattle.serde_json.specs.View.{view, members_view}
+use Rattle.serde_json.proofs.Views.{view-lookup}
+use Rattle.schemars_schema.proofs.MapEdits.{members_view-remove_entry}
+use Rattle.schemars_flatten.proofs.union.remove.Goals as goal
+
+pub returns-clause-value : goal.returns-clause-value
+returns-clause-value c = ap (option_map view) c.remove.ensures.value
+    ∙ view-lookup c.args.key.now c.args.members.now.entries
+
+pub returns-clause-removed : goal.returns-clause-removed
+returns-clause-removed c = ap members_view c.remove.ensures.entries
+    ∙ members_view-remove_entry c.args.key.now c.args.members.now.entries

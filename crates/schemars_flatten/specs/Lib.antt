@@ -1,0 +1,2 @@
+pub mod Flatten
+pub mod FlattenLaw

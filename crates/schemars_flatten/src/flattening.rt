@@ -1,0 +1,128 @@
+//! A schema with the keywords of another put in.
+ghost use Rattle.std.specs.Prelude.{◌≡◌, codes, OnOk};
+ghost use Rattle.serde_json.specs.Data.{put};
+ghost use Rattle.serde_json.specs.View.{view, members_view};
+ghost use Rattle.schemars_flatten.specs.Flatten.{stands, has_subschema, moved, moved_beside};
+ghost use Rattle.schemars_flatten.specs.Flatten.{rest_keyword, opened, united_all, flattened};
+ghost use Rattle.schemars_flatten.specs.FlattenLaw.{AreJoinable, AcceptsBoth};
+
+use crate::union::{put_keywords, remove};
+use schemars_schema::Schema;
+use serde_json::{Map, Value};
+use std::alloc::{AllocError, Global};
+
+/// Puts the keywords of another schema into a schema, as a flattened field needs it.
+///
+/// `false` puts nothing in. `true` lets further members of the object in, unless the schema is a
+/// truth value or speaks of them. Where the other is an object, a truth value becomes one first, as
+/// under `ensure_object`. Then `additionalProperties` of each side becomes `unevaluatedProperties`
+/// where the other side has that keyword or applies schemas to the same value. Keywords that are
+/// missing are taken; `required` and `allOf` are joined; `properties` and `patternProperties` are
+/// merged, and the other's stays under a name of both; a second `oneOf` or `anyOf` goes with the
+/// first into `allOf`; of other keywords the schema's own stays. Where what would be joined or
+/// merged is no list or no object, the schema's own stays too, and of two choices beside an `allOf`
+/// that is no list neither does.
+pub fn flatten(alloc: Global, schema: &mut Schema, other: Schema) -> Result<(), AllocError>
+    ensures becomes { OnOk result (schema.new ≡ flattened schema.old other) }
+    ensures law { OnOk result (AreJoinable schema.old other
+        → AcceptsBoth schema.old other schema.new) }
+{
+    put_schema(alloc, schema, other)?;
+    Ok(())
+}
+
+fn put_schema(alloc: Global, schema: &mut Schema, other: Schema) -> Result<(), AllocError>
+    ensures { OnOk result (schema.new ≡ flattened schema.old other) }
+{
+    match other.to_value() {
+        Value::Object(others) => {
+            let members = schema.ensure_object(alloc)?;
+            unite(alloc, members, others)
+        }
+        Value::Bool(true) => match schema.as_object_mut() {
+            Some(members) => open(alloc, members),
+            None => Ok(()),
+        },
+        _ => Ok(()),
+    }
+}
+
+// Puts the keywords of another object in.
+fn unite(
+    alloc: Global,
+    members: &mut Map<String, Value>,
+    others: Map<String, Value>,
+) -> Result<(), AllocError>
+    ensures { OnOk result (members_view members.new.entries
+        ≡ united_all (members_view members.old.entries) (members_view others.entries)) }
+{
+    let mut others = others;
+    move_beside(alloc, members, &others)?;
+    move_beside(alloc, &mut others, members)?;
+    put_keywords(alloc, members, others)
+}
+
+// Makes `additionalProperties` `unevaluatedProperties` where the other side asks for it.
+fn move_beside(
+    alloc: Global,
+    members: &mut Map<String, Value>,
+    others: &Map<String, Value>,
+) -> Result<(), AllocError>
+    ensures { OnOk result (members_view members.new.entries
+        ≡ moved_beside (members_view others.now.entries) (members_view members.old.entries)) }
+{
+    if stands(others, "unevaluatedProperties") || has_subschema(others) {
+        move_additional(alloc, members)
+    } else {
+        Ok(())
+    }
+}
+
+fn move_additional(alloc: Global, members: &mut Map<String, Value>) -> Result<(), AllocError>
+    ensures { OnOk result (members_view members.new.entries
+        ≡ moved (members_view members.old.entries)) }
+{
+    match remove(members, "additionalProperties") {
+        Some(additional) => serde_json::put(members, alloc, "unevaluatedProperties", additional),
+        None => Ok(()),
+    }
+}
+
+// Lets further members of the object in, unless a keyword speaks of them.
+fn open(alloc: Global, members: &mut Map<String, Value>) -> Result<(), AllocError>
+    ensures { OnOk result (members_view members.new.entries
+        ≡ opened (members_view members.old.entries)) }
+{
+    if stands(members, "additionalProperties") || stands(members, "unevaluatedProperties") {
+        return Ok(());
+    }
+    serde_json::put(members, alloc, rest_keyword(members), Value::Bool(true))
+}
+
+// The keyword that judges what is left of an object.
+fn rest_keyword(members: &Map<String, Value>) -> &'static str
+    ensures { result.now ≡ rest_keyword (members_view members.now.entries) }
+{
+    if has_subschema(members) {
+        "unevaluatedProperties"
+    } else {
+        "additionalProperties"
+    }
+}
+
+// Whether a keyword applies schemas to the same value.
+fn has_subschema(members: &Map<String, Value>) -> bool
+    ensures { result ≡ has_subschema (members_view members.now.entries) }
+{
+    stands(members, "if")
+        || stands(members, "allOf")
+        || stands(members, "anyOf")
+        || stands(members, "oneOf")
+        || stands(members, "$ref")
+}
+
+fn stands(members: &Map<String, Value>, key: &str) -> bool
+    ensures { result ≡ stands key.now (members_view members.now.entries) }
+{
+    members.contains_key(key)
+}
