@@ -1,5 +1,6 @@
 -- Lemmas that several proofs share.
 pub mod Walks
+pub mod Orders
 pub mod Rewrites
 pub mod KeywordLaws
 pub mod Changes

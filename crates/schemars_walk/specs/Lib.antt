@@ -1,3 +1,4 @@
 -- The definitions that contracts cite.
 pub mod Walk
+pub mod Order
 pub mod Rewritten

@@ -3,6 +3,7 @@
 
 pub mod change;
 mod closure;
+mod list;
 pub mod place;
 mod recursive;
 pub mod rewrite;
@@ -14,4 +15,4 @@ pub use closure::{Call, FnTransform};
 pub use recursive::{DEPTH_LIMIT, RecursiveTransform};
 pub use transform::{Transform, TransformError};
 pub use value::on_value;
-pub use walk::transform_subschemas;
+pub use walk::{transform_members, transform_subschemas};

@@ -27,6 +27,19 @@ pub fn transform_subschemas<T: Transform>(
     walk(t, alloc, schema, Reach::Once)
 }
 
+/// Applies a transform to each member of a map, in the order of its keys. A value that is no schema
+/// is passed over. The first refusal, of the transform or for want of memory, ends the walk.
+pub fn transform_members<T: Transform>(
+    t: &mut T,
+    alloc: Global,
+    members: &mut Map<String, Value>,
+) -> Result<(), TransformError>
+    ensures { EachMember (λ k. AtSchema T.makes) t.old (members_view members.old.entries) result
+        t.new (members_view members.new.entries) }
+{
+    walk_names(t, alloc, members, Reach::Once)
+}
+
 // How far a walk goes on below a schema that it reaches.
 #[derive(Clone, Copy)]
 pub(crate) enum Reach {

@@ -1,0 +1,4 @@
+-- Lemmas that several proofs share.
+pub mod Texts
+pub mod Lists
+pub mod Laws
