@@ -4,7 +4,8 @@ pub use schemars_transform::{
     AddNullable, RemoveRefSiblings, ReplaceBoolSchemas, ReplaceConstValue, ReplacePrefixItems,
     SetSingleExample,
 };
+pub use schemars_transforms::{CloneError, GenTransform, NoTransform, try_clone_all};
 pub use schemars_walk::{
     DEPTH_LIMIT, FnTransform, RecursiveTransform, Transform, TransformError, on_value,
-    transform_subschemas,
+    transform_members, transform_subschemas,
 };
