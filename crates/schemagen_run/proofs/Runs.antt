@@ -9,9 +9,9 @@ use Rattle.schemars_types.specs.Rows.{Row}
 use Rattle.schemars_types.specs.Faults.{IsAccepted, Refusal}
 use Rattle.schemars_types.specs.declared.error.TypesError as types
 use Rattle.schemars_types.specs.declared.error.TypesError.TheVariants as of_types
-use Rattle.schemars_generate.specs.declared.error.GenerateError.{GenerateError}
-use Rattle.schemars_generate.specs.declared.error.GenerateError.TheVariants.{OutOfMemory}
-use Rattle.schemars_generate.specs.Refusals.{code_of, error_of, HasFault}
+use Rattle.schemars_roots.specs.declared.error.GenerateError.{GenerateError}
+use Rattle.schemars_roots.specs.declared.error.GenerateError.TheVariants.{OutOfMemory}
+use Rattle.schemars_roots.specs.Refusals.{code_of, error_of, HasFault}
 use Rattle.schemagen_run.specs.declared.fault.Fault.{Fault}
 use Rattle.schemagen_run.specs.declared.fault.Fault.TheVariants.{Refused}
 use Rattle.schemagen_run.specs.declared.fault.TheConstants.{OUT_OF_MEMORY, NOT_JSON, BAD_TABLE, WRITE}

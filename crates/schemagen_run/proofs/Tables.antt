@@ -27,6 +27,8 @@ use Rattle.schemars_documents.specs.PlainTable.{IsPlainPayload, ArePlainVariants
 use Rattle.schemars_documents.specs.PlainTable.{IsNotedEntry, HasPlainNotes, TagStandsApart, IsTaggedApart, TagsStandApart}
 use Rattle.schemars_documents.specs.PlainTable.{FieldsHaveNoFloat, PayloadHasNoFloat, VariantsHaveNoFloat, ShapeHasNoFloat}
 use Rattle.schemars_documents.specs.PlainTable.{EntryHasNoFloat, HasNoFloat}
+use Rattle.schemars_roots.specs.Settings.{Held, state_with}
+use Rattle.schemars_roots.specs.Through.{IsUntransformed}
 use Rattle.schemars_headline.specs.State.{Settings, State, path_of, HasOwnDefinitions}
 use Rattle.schemars_shapes.specs.Units.{is_none}
 use Rattle.schemagen_input.specs.Input.{all_differ, ids_of, is_payload_bare, is_variant_bare, are_fields_bare, is_bare}
@@ -233,34 +235,32 @@ is_input d rows root count table many within = rw (table, below root (length row
 
 -- ---- a generator over the table
 
-pub fresh_of : (s : State) (settings : Settings) (asked : Asked) (rows : List Row) → settings ≡ settings_for asked
-    → s ≡ record { settings = settings; rows = rows; names = []; definitions = no_members } → s ≡ fresh asked rows
-fresh_of s settings asked rows same made =
-    made ∙ ap (λ (t : Settings). let state : State = record { settings = t; rows = rows; names = []; definitions = no_members } in state)
-    same
+pub fresh_of : (settings : Settings) (held : Held) (asked : Asked) (rows : List Row) → settings ≡ settings_for asked
+    → held ≡ record { rows = rows; names = []; definitions = no_members } → state_with settings held ≡ fresh asked rows
+fresh_of settings held asked rows same made = λ i. state_with (same i) (made i)
 
 has_own_definitions : (asked : Asked) (rows : List Row) → HasOwnDefinitions (fresh asked rows)
 has_own_definitions asked rows name d there = cc
 
 -- what the generator answers is the root document of the row
 pub is_document : {E : Type 0} (r : Result Data E) (s : State) (asked : Asked) (rows : List Row) (root : ℕ)
-    → is_table rows root ≡ true → IsChecked rows → s ≡ fresh asked rows → IfOk r (RootHeadline s root) → IfOk r (IsLastRootCall s root)
+    → is_table rows root ≡ true → IsChecked rows → s ≡ fresh asked rows → IfOk r (IsUntransformed s root)
     → IfOk r (IsDocumentOf asked rows root)
-is_document (Err e) s asked rows root table checked same means made = tt
-is_document (Ok document) s asked rows root table checked same means made =
-    let headline : RootHeadline (fresh asked rows) root document = subst (λ (t : State). RootHeadline t root document) same means in (
-      subst (λ (t : State). IsLastRootCall t root document) same made,
+is_document (Err e) s asked rows root table checked same made = tt
+is_document (Ok document) s asked rows root table checked same made =
+    let headline : RootHeadline (fresh asked rows) root document =
+    subst (λ (t : State). RootHeadline t root document) same made.headline in (
+      subst (λ (t : State). IsLastRootCall t root document) same made.last,
       λ apart. headline (has_own_definitions asked rows) (inl refl) (is_plain_table rows root table checked apart),
     )
 
 -- without a float
 pub is_whole : {E : Type 0} (r : Result Data E) (s : State) (asked : Asked) (rows : List Row) (root : ℕ)
-    → is_table rows root ≡ true → s ≡ fresh asked rows → IfOk r (λ d. HasNoFloat s.rows → HasOwnDefinitions s → has_float d ≡ false)
-    → IfOk r (λ d. has_float d ≡ false)
-is_whole (Err e) s asked rows root table same whole = tt
-is_whole (Ok document) s asked rows root table same whole =
+    → is_table rows root ≡ true → s ≡ fresh asked rows → IfOk r (IsUntransformed s root) → IfOk r (λ d. has_float d ≡ false)
+is_whole (Err e) s asked rows root table same made = tt
+is_whole (Ok document) s asked rows root table same made =
     let here : HasNoFloat rows → HasOwnDefinitions (fresh asked rows) → has_float document ≡ false =
-    subst (λ (t : State). HasNoFloat t.rows → HasOwnDefinitions t → has_float document ≡ false) same whole in
+    subst (λ (t : State). HasNoFloat t.rows → HasOwnDefinitions t → has_float document ≡ false) same made.whole in
     here (has_no_float rows root table) (has_own_definitions asked rows)
 
 -- memory is all that its root document may want

@@ -12,10 +12,10 @@ use Rattle.schemars_types.specs.Faults.{IsAccepted}
 use Rattle.schemars_documents.specs.PlainTable.{TagsStandApart}
 use Rattle.schemars_documents.specs.declared.contract.Contract.{Contract}
 use Rattle.schemars_documents.specs.declared.contract.Contract.TheVariants.{Deserialize, Serialize}
-use Rattle.schemars_generate.specs.declared.error.GenerateError.{GenerateError}
+use Rattle.schemars_roots.specs.declared.error.GenerateError.{GenerateError}
 use Rattle.schemars_headline.specs.Headline.{MeansItsType, IsRootOf}
 use Rattle.schemars_documents.specs.ContractOf.{contract_of}
-use Rattle.schemars_generate.specs.Refusals.{code_of, HasFault}
+use Rattle.schemars_roots.specs.Refusals.{code_of, HasFault}
 use Rattle.schemars_headline.specs.State.{Settings, State, settings2020_12}
 use Rattle.schemars_naming.specs.Work.{Work}
 use Rattle.schemagen_run.specs.declared.run.Asked.{Asked}

@@ -6,7 +6,7 @@ ghost use Rattle.serde_json.specs.View.{view};
 ghost use Rattle.schemars_types.specs.Faults.{IsAccepted};
 ghost use Rattle.serde_json.specs.Written.{has_float};
 ghost use Rattle.schemars_generate.specs.Settings.{settings_of};
-ghost use Rattle.schemars_generate.specs.Refusals.{HasFault};
+ghost use Rattle.schemars_roots.specs.Refusals.{HasFault};
 ghost use Rattle.schemagen_run.specs.Streams.{AppendsBeginning};
 ghost use Rattle.schemagen_input.specs.Input.{is_table, input_of};
 ghost use Rattle.schemagen_run.specs.Run.{AskFor, AreKnown, AreFlagsFor, AreKnownFlags};
@@ -204,7 +204,8 @@ fn input_of(alloc: Global, value: &Value) -> Result<(Types, TypeNo), Fault>
 }
 
 fn settings_for(alloc: Global, asked: Asked) -> SchemaSettings
-    ensures { settings_of result ≡ settings_for asked }
+    ensures settings { settings_of result ≡ settings_for asked }
+    ensures transforms { result.transforms.items ≡ [] }
 {
     let mut settings = SchemaSettings::draft2020_12(alloc);
     settings.contract = asked.contract;

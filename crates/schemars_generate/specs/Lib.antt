@@ -1,2 +1,2 @@
-pub mod Refusals
+-- The definitions that contracts cite.
 pub mod Settings

@@ -1,12 +1,21 @@
--- Settings and states as the program holds them.
-use Rattle.std.specs.Prelude.{List, option_map}
+-- Settings and states as the program holds them, and the settings of the drafts.
+use Rattle.std.specs.Prelude.{◌≡◌, List, [], ◌∷◌, Vec, Some, true, codes, option_map}
 use Rattle.std.specs.Cow.{cow_str_bytes}
-use Rattle.schemars_types.specs.Rows.{Row}
-use Rattle.schemars_headline.specs.State.{State, Settings}
-use Rattle.schemars_naming.specs.Work.{Work}
-use Rattle.schemars_generate.specs.declared.generate.SchemaSettings as src
+use Rattle.std.specs.declared.alloc.Global.{Global}
+use Rattle.schemars_headline.specs.State.{State, Settings, settings2020_12}
+use Rattle.schemars_walk.specs.Walk.{Step}
+use Rattle.schemars_walk.specs.Order.{InOrder}
+use Rattle.schemars_transforms.specs.Member.{OfMember, AreCopies}
+use Rattle.schemars_transforms.specs.declared.gen_transform.GenTransform.{GenTransform}
+use Rattle.schemars_transforms.specs.declared.gen_transform.GenTransform.TheVariants.{ReplaceBoolSchemas, RemoveRefSiblings}
+use Rattle.schemars_transforms.specs.declared.gen_transform.GenTransform.TheVariants.{SetSingleExample, ReplaceConstValue}
+use Rattle.schemars_transforms.specs.declared.gen_transform.GenTransform.TheVariants.{ReplacePrefixItems, AddNullable}
+use Rattle.schemars_transforms.specs.declared.gen_transform.GenTransform.TheVariants.{ReplaceUnevaluatedProperties}
+use Rattle.schemars_roots.specs.Settings.{state_with}
+use Rattle.schemars_generate.specs.declared.settings.SchemaSettings as src
+use Rattle.schemars_generate.specs.declared.generate.SchemaGenerator as generator
 
-abbrev pub settings_of : src.SchemaSettings → Settings
+abbrev pub settings_of : {O : Type 0} → src.SchemaSettings O → Settings
 settings_of s = record {
   definitions_path = cow_str_bytes s.definitions_path;
   meta_schema = option_map cow_str_bytes s.meta_schema;
@@ -15,5 +24,50 @@ settings_of s = record {
   inlines = s.inline_subschemas;
 }
 
-abbrev pub state_of : src.SchemaSettings → List Row → Work → State
-state_of s rows w = record { settings = settings_of s; rows = rows; names = w.names; definitions = w.definitions }
+-- what a generator holds, but for its transforms
+abbrev pub state : {O : Type 0} → generator.SchemaGenerator O → State
+state g = state_with (settings_of g.settings) g.contents
+
+-- ---- transforms
+
+-- the transforms of settings, one after another
+abbrev pub ApplyInOrder : {O : Type 0} → Step O → Step (Vec (GenTransform O) Global)
+ApplyInOrder Q ts s r us v = InOrder (OfMember Q) ts.items s r us.items v
+
+-- the same settings, with a copy of each transform
+abbrev pub AreSettingsCopied : {O P : Type 0} → src.SchemaSettings O → src.SchemaSettings P → Type 0
+AreSettingsCopied s t = (settings_of t ≡ settings_of s) × AreCopies s.transforms.items t.transforms.items
+
+-- ---- the drafts
+
+abbrev pub settings07 : Settings
+settings07 = record settings2020_12 {
+  definitions_path = codes "/definitions";
+  meta_schema = Some (codes "http://json-schema.org/draft-07/schema#");
+}
+
+abbrev pub settings2019_09 : Settings
+settings2019_09 = record settings2020_12 { meta_schema = Some (codes "https://json-schema.org/draft/2019-09/schema") }
+
+abbrev pub settings_openapi3 : Settings
+settings_openapi3 = record settings2020_12 {
+  definitions_path = codes "/components/schemas";
+  meta_schema = Some (codes "https://spec.openapis.org/oas/3.0/schema/2024-10-18#/definitions/Schema");
+}
+
+abbrev pub transforms07 : {O : Type 0} → List (GenTransform O)
+transforms07 = ReplaceUnevaluatedProperties (record {}) ∷ RemoveRefSiblings (record {}) ∷ ReplacePrefixItems (record {}) ∷ []
+
+abbrev pub transforms2019_09 : {O : Type 0} → List (GenTransform O)
+transforms2019_09 = ReplacePrefixItems (record {}) ∷ []
+
+abbrev pub transforms_openapi3 : {O : Type 0} → List (GenTransform O)
+transforms_openapi3 =
+    ReplaceUnevaluatedProperties (record {})
+    ∷ ReplaceBoolSchemas (record { skip_additional_properties = true })
+    ∷ AddNullable (record { remove_null_type = true; add_const_null = true })
+    ∷ RemoveRefSiblings (record {})
+    ∷ SetSingleExample (record {})
+    ∷ ReplaceConstValue (record {})
+    ∷ ReplacePrefixItems (record {})
+    ∷ []

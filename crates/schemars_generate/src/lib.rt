@@ -1,8 +1,8 @@
 //! The generator: from a table of types to the documents of its rows.
 #![tactic(auto)]
 
-mod error;
 pub mod generate;
+mod settings;
 
-pub use error::GenerateError;
 pub use generate::{SchemaGenerator, SchemaSettings};
+pub use schemars_roots::GenerateError;

@@ -1,3 +1,4 @@
+pub mod Copies
 pub mod NamingLemmas
 pub mod Given
 pub mod Members

@@ -38,6 +38,19 @@ impl Model for Names {
     ghost invariant = { λ t. length t.owners.keys ≡ length t.given.keys };
 }
 
+impl Clone for Names {
+    ghost use Rattle.std.specs.Prelude.{◌≡◌};
+
+    ghost is_clone = { λ t u. u ≡ t };
+
+    fn clone(&self) -> Result<Names, AllocError> {
+        Ok(Names {
+            owners: self.owners.clone()?,
+            given: self.given.clone()?,
+        })
+    }
+}
+
 /// The candidate that follows this many others.
 fn candidate(alloc: Global, base: &str, tries: usize) -> Result<String, AllocError>
     requires { tries < 2 ^ 63 }

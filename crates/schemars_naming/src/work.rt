@@ -59,6 +59,23 @@ impl Model for Work {
     ghost invariant = { λ w. (is_some (as_object w.definitions) ≡ true) × (w.kept ≤ length w.names) };
 }
 
+impl Clone for Work {
+    ghost use Rattle.std.specs.Prelude.{◌≡◌};
+
+    ghost is_clone = { λ v w. w ≡ v };
+
+    fn clone(&self) -> Result<Work, AllocError> {
+        Ok(Work {
+            names: self.names.clone()?,
+            definitions: self.definitions.clone()?,
+            begun: self.begun.clone()?,
+            kept: self.kept,
+            meets_root: self.meets_root,
+            pending: self.pending.clone()?,
+        })
+    }
+}
+
 impl Work {
     ghost use Rattle.schemars_naming.specs.contracts.work.Work.{the_row};
 

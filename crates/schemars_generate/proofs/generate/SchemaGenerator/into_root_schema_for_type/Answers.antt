@@ -1,37 +1,54 @@
-use Rattle.std.proofs.Common.{◌≡◌, inl, inr, subst, rules}
-use Rattle.schemars_types.specs.Faults.{IsChecked}
-use Rattle.schemars_headline.specs.State.{State}
-use Rattle.schemars_generate.specs.declared.error.GenerateError.TheVariants.{OutOfMemory}
-use Rattle.schemars_headline.proofs.Calls.{root_means, root_is_whole, always_placed}
-use Rattle.schemars_headline.proofs.Inlined.{root_inlined}
+use Rattle.std.proofs.Common.{◌≡◌, ◌<◌, ◌⊎◌, length, Vec, Global, IfOk, IfErr, subst}
+use Rattle.schemars_documents.specs.PlainTable.{HasPlainNotes}
+use Rattle.schemars_headline.specs.Calls.{IsLastRootCall}
+use Rattle.schemars_headline.specs.Headline.{IsDraftPath}
+use Rattle.schemars_headline.specs.State.{Settings, path_of}
+use Rattle.schemars_transforms.specs.declared.gen_transform.GenTransform.{GenTransform}
+use Rattle.schemars_roots.specs.Settings.{state_with}
+use Rattle.schemars_roots.specs.Through.{IsThrough, IsTurnedDown, IsRootRefused, IsUntransformed}
+use Rattle.schemars_roots.specs.declared.error.GenerateError.TheVariants.{OutOfMemory}
+use Rattle.schemars_roots.proofs.Untransformed.{ok_told, refusal_told}
+use Rattle.schemars_generate.specs.Settings.{settings_of, ApplyInOrder}
+use Rattle.schemars_generate.proofs.Untouched.{untouched, not_turned_down}
 use Rattle.schemars_generate.proofs.generate.SchemaGenerator.into_root_schema_for_type.Goals as goal
 
-pub returns-clause-headline : goal.returns-clause-headline
-returns-clause-headline c =
-    let s = c.args.self in
-    let root = c.in_ok-document.ensures.root in
-    let P : State → Type 0 = λ x. IsChecked x.rows in
-    λ own path. root_means s c.args.n root.0 c.in_ok-document.document (subst P c.self.view_is c.self.invariant.0) root.1 root.2 root.3
-    own path
-
-pub returns-clause-whole : goal.returns-clause-whole
-returns-clause-whole c =
-    let root = c.in_ok-document.ensures.root in
-    λ none own. root_is_whole c.args.self c.args.n root.0 c.in_ok-document.document root.1 root.2 none own
-
-pub returns-in_err-document-clause-only_memory : goal.returns-in_err-document-clause-only_memory
-returns-in_err-document-clause-only_memory c =
-    λ plain path known.
-    let memory : c.in_err-document.field-0.0 ≡ OutOfMemory = elim c.in_err-document.ensures.refused [
-      | inl e ↦ e
-      | inr h ↦ absurd (always_placed c.args.self c.args.n plain path h.1)
-    ] in
-    search rules
+abbrev Ts : Type 0 → Type 0
+Ts O = Vec (GenTransform O) Global
 
 pub returns-clause-root : goal.returns-clause-root
-returns-clause-root c = let root = c.in_ok-document.ensures.root in (root.0, root.1)
+returns-clause-root g c =
+    let P : Settings → Ts g.row.O.Denot → Type 0 =
+    λ x t. IfOk c.into_root_schema.result (IsThrough (ApplyInOrder g.O.Transform.makes) t c.into_root_schema.new.transforms (IsUntransformed (state_with x c.args.self.contents) c.args.n)) in
+    let told = subst (λ x. P x c.replace-transforms.result) c.document-document.ensures c.into_root_schema.ensures.root in
+    ok_told c.into_root_schema.result _ _ (λ d h. (c.into_root_schema.new.transforms, h))
+    (subst (λ t. P (settings_of c.args.self.settings) t) c.replace-transforms.ensures.value told)
 
-pub returns-clause-inlined : goal.returns-clause-inlined
-returns-clause-inlined c =
-    let root = c.in_ok-document.ensures.root in
-    root_inlined c.args.self c.args.n root.0 c.in_ok-document.document root.1
+pub returns-clause-refused : goal.returns-clause-refused
+returns-clause-refused g c =
+    let P : Settings → Ts g.row.O.Denot → Type 0 =
+    λ x t. IfErr c.into_root_schema.result (IsRootRefused (ApplyInOrder g.O.Transform.makes) t c.into_root_schema.new.transforms (state_with x c.args.self.contents) c.args.n) in
+    let told = subst (λ x. P x c.replace-transforms.result) c.document-document.ensures c.into_root_schema.ensures.refused in
+    refusal_told c.into_root_schema.result _ _ (λ e h. (c.into_root_schema.new.transforms, h))
+    (subst (λ t. P (settings_of c.args.self.settings) t) c.replace-transforms.ensures.value told)
+
+pub returns-clause-untransformed : goal.returns-clause-untransformed
+returns-clause-untransformed g c =
+    λ none.
+    ok_told c.into_root_schema.result _ _ (λ d h. untouched g.O.Transform.makes c.args.self.settings.transforms h.0 _ d none h.1) (returns-clause-root g c)
+
+pub returns-clause-headline : goal.returns-clause-headline
+returns-clause-headline g c =
+    λ none. ok_told c.into_root_schema.result _ _ (λ d h. h.headline) (returns-clause-untransformed g c none)
+
+pub returns-clause-only_memory : goal.returns-clause-only_memory
+returns-clause-only_memory g c =
+    let s = state_with (settings_of c.args.self.settings) c.args.self.contents in
+    let P : Settings → Ts g.row.O.Denot → Type 0 =
+    λ x t. HasPlainNotes c.args.self.contents.rows → IsDraftPath (path_of (state_with x c.args.self.contents))
+    → c.args.n < length c.args.self.contents.rows → IfErr c.into_root_schema.result (λ e. (e ≡ OutOfMemory)
+    ⊎ IsTurnedDown (ApplyInOrder g.O.Transform.makes) t c.into_root_schema.new.transforms (IsLastRootCall (state_with x c.args.self.contents) c.args.n) e) in
+    let told = subst (λ x. P x c.replace-transforms.result) c.document-document.ensures c.into_root_schema.ensures.only_memory in
+    let all = subst (λ t. P (settings_of c.args.self.settings) t) c.replace-transforms.ensures.value told in
+    λ none plain path known.
+    refusal_told c.into_root_schema.result _ _ (λ e h. not_turned_down g.O.Transform.makes c.args.self.settings.transforms c.into_root_schema.new.transforms
+    (IsLastRootCall s c.args.n) e none h) (all plain path known)

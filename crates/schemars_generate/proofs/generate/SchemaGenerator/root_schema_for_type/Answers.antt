@@ -1,77 +1,66 @@
-use Rattle.std.proofs.Common.{◌≡◌, inl, inr, sym, subst, rules, false, None}
-use Rattle.serde_json.specs.Written.{has_float}
-use Rattle.schemars_headline.specs.Headline.{Headline, IsDraftPath}
-use Rattle.schemars_documents.specs.ContractOf.{contract_of}
-use Rattle.schemars_documents.specs.PlainTable.{HasPlainNotes, HasNoFloat}
-use Rattle.schemars_generate.specs.Settings.{state_of}
-use Rattle.schemars_headline.specs.State.{State, plan_of, HasOwnDefinitions}
-use Rattle.schemars_naming.specs.Work.{Work}
-use Rattle.schemars_generate.specs.declared.error.GenerateError.TheVariants.{OutOfMemory}
-use Rattle.schemars_headline.proofs.Calls.{root_means, root_is_whole, after_root_own, always_placed}
-use Rattle.serde_json.specs.Data.{no_members}
-use Rattle.schemars_headline.specs.Headline.{IsInlined}
-use Rattle.schemars_headline.proofs.Inlined.{root_inlined}
+use Rattle.std.proofs.Common.{◌≡◌, ◌<◌, ◌⊎◌, length, Vec, Global, IfOk, IfErr, subst}
+use Rattle.schemars_documents.specs.PlainTable.{HasPlainNotes}
+use Rattle.schemars_headline.specs.Calls.{IsLastRootCall}
+use Rattle.schemars_headline.specs.Headline.{IsDraftPath}
+use Rattle.schemars_headline.specs.State.{Settings, path_of, HasOwnDefinitions}
 use Rattle.schemars_headline.proofs.NamedKeys.{references_name_keys}
+use Rattle.schemars_transforms.specs.declared.gen_transform.GenTransform.{GenTransform}
+use Rattle.schemars_roots.specs.Settings.{state_with}
+use Rattle.schemars_roots.specs.Through.{IsThrough, IsTurnedDown, IsRootRefused, IsUntransformedCall}
+use Rattle.schemars_roots.specs.declared.error.GenerateError.TheVariants.{OutOfMemory}
+use Rattle.schemars_roots.proofs.Untransformed.{ok_told, refusal_told}
+use Rattle.schemars_generate.specs.Settings.{settings_of, ApplyInOrder}
+use Rattle.schemars_generate.proofs.Untouched.{untouched, not_turned_down}
 use Rattle.schemars_generate.proofs.generate.SchemaGenerator.root_schema_for_type.Goals as goal
 
-pub returns-clause-headline : goal.returns-clause-headline
-returns-clause-headline c =
-    let s = state_of c.self.inside.settings c.self.inside.types c.self.inside.work in
-    let d = c.in_ok-document.document in
-    let n = c.args.n in
-    let root = c.in_ok-document.ensures.root in
-    let P : State → Type 0 = λ x. HasOwnDefinitions x → IsDraftPath (plan_of x None).path
-    → Headline x.rows (contract_of x.settings.contract) (plan_of x None).path n d in
-    subst P c.self.view_is (λ own path. root_means s n root.0 d c.self.invariant.0 root.1 root.2 root.3 own path)
+abbrev Ts : Type 0 → Type 0
+Ts O = Vec (GenTransform O) Global
 
-pub returns-clause-inlined : goal.returns-clause-inlined
-returns-clause-inlined c =
-    let s = state_of c.self.inside.settings c.self.inside.types c.self.inside.work in
-    let root = c.in_ok-document.ensures.root in
-    let P : State → Type 0 = λ x. x.definitions ≡ no_members → IsInlined x c.in_ok-document.document in
-    subst P c.self.view_is (root_inlined s c.args.n root.0 c.in_ok-document.document root.1)
+pub returns-clause-root : goal.returns-clause-root
+returns-clause-root g c =
+    let P : Settings → Ts g.row.O.Denot → Type 0 =
+    λ x t. IfOk c.root_schema-answer.result (IsThrough (ApplyInOrder g.O.Transform.makes) t c.root_schema-answer.new.transforms
+    (IsUntransformedCall (state_with x c.args.self.now.contents) c.args.n (state_with x c.root_schema-answer.new.self))) in
+    let told = subst (λ x. P x c.replace-transforms.result) c.document-settings.ensures c.root_schema-answer.ensures.root in
+    (subst (λ t. P (settings_of c.args.self.now.settings) t) c.replace-transforms.ensures.value told)
+
+pub returns-clause-refused : goal.returns-clause-refused
+returns-clause-refused g c =
+    let P : Settings → Ts g.row.O.Denot → Type 0 =
+    λ x t. IfErr c.root_schema-answer.result (IsRootRefused (ApplyInOrder g.O.Transform.makes) t c.root_schema-answer.new.transforms (state_with x c.args.self.now.contents) c.args.n) in
+    let told = subst (λ x. P x c.replace-transforms.result) c.document-settings.ensures c.root_schema-answer.ensures.refused in
+    (subst (λ t. P (settings_of c.args.self.now.settings) t) c.replace-transforms.ensures.value told)
 
 pub returns-clause-own : goal.returns-clause-own
-returns-clause-own c =
-    let s = state_of c.self.inside.settings c.self.inside.types c.self.inside.work in
-    let root = c.in_ok-document.ensures.root in
-    let P : Work → Type 0 = λ w. HasOwnDefinitions (state_of c.self.inside.settings c.self.inside.types w) in
-    λ own. subst P (sym root.4) (after_root_own s c.args.n root.0 root.1.step (subst HasOwnDefinitions (sym c.self.view_is) own))
-
-pub returns-clause-whole : goal.returns-clause-whole
-returns-clause-whole c =
-    let s = state_of c.self.inside.settings c.self.inside.types c.self.inside.work in
-    let d = c.in_ok-document.document in
-    let root = c.in_ok-document.ensures.root in
-    let P : State → Type 0 = λ x. HasNoFloat x.rows → HasOwnDefinitions x → has_float d ≡ false in
-    subst P c.self.view_is (λ none own. root_is_whole s c.args.n root.0 d root.1 root.2 none own)
-
-pub returns-in_err-document-clause-only_memory : goal.returns-in_err-document-clause-only_memory
-returns-in_err-document-clause-only_memory c =
-    let s = state_of c.self.inside.settings c.self.inside.types c.self.inside.work in
-    let P : State → Type 0 = λ x. HasPlainNotes x.rows in
-    let Q : State → Type 0 = λ x. IsDraftPath (plan_of x None).path in
-    λ plain path known.
-    let memory : c.in_err-document.field-0.0 ≡ OutOfMemory = elim c.in_err-document.ensures.refused [
-      | inl e ↦ e
-      | inr h ↦ absurd (always_placed s c.args.n (subst P (sym c.self.view_is) plain) (subst Q (sym c.self.view_is) path) h.1)
-    ] in
-    search rules
-
-pub returns-in_err-document-clause-own : goal.returns-in_err-document-clause-own
-returns-in_err-document-clause-own c =
-    let P : Work → Type 0 = λ w. HasOwnDefinitions (state_of c.self.inside.settings c.self.inside.types w) in
-    λ own. subst P (sym c.in_err-document.ensures.err) (subst HasOwnDefinitions (sym c.self.view_is) own)
+returns-clause-own g c =
+    let P : Settings → Type 0 =
+    λ x. HasOwnDefinitions (state_with x c.args.self.now.contents) → HasOwnDefinitions (state_with x c.root_schema-answer.new.self) in
+    subst P c.document-settings.ensures c.root_schema-answer.ensures.own
 
 pub returns-clause-keys : goal.returns-clause-keys
-returns-clause-keys c =
-    let new = state_of c.self.inside.settings c.self.inside.types c.root_document.new.work in
-    λ own plain. references_name_keys new (returns-clause-own c own) plain
+returns-clause-keys g c =
+    λ own plain.
+    references_name_keys (state_with (settings_of c.args.self.now.settings) c.root_schema-answer.new.self) (returns-clause-own g c own) plain
 
-pub returns-in_err-document-clause-keys : goal.returns-in_err-document-clause-keys
-returns-in_err-document-clause-keys c =
-    let new = state_of c.self.inside.settings c.self.inside.types c.root_document.new.work in
-    λ own plain. references_name_keys new (returns-in_err-document-clause-own c own) plain
+pub returns-clause-untransformed : goal.returns-clause-untransformed
+returns-clause-untransformed g c =
+    λ none.
+    ok_told c.root_schema-answer.result _ _ (λ d h. untouched g.O.Transform.makes c.args.self.now.settings.transforms c.root_schema-answer.new.transforms _ d none h)
+    (returns-clause-root g c)
 
-pub returns-in_err-known-clause-keys : goal.returns-in_err-known-clause-keys
-returns-in_err-known-clause-keys c = λ own plain. references_name_keys c.args.self.now own plain
+pub returns-clause-headline : goal.returns-clause-headline
+returns-clause-headline g c =
+    λ none. ok_told c.root_schema-answer.result _ _ (λ d h. h.0.headline) (returns-clause-untransformed g c none)
+
+pub returns-clause-only_memory : goal.returns-clause-only_memory
+returns-clause-only_memory g c =
+    let s = state_with (settings_of c.args.self.now.settings) c.args.self.now.contents in
+    let P : Settings → Ts g.row.O.Denot → Type 0 =
+    λ x t. HasPlainNotes c.args.self.now.contents.rows → IsDraftPath (path_of (state_with x c.args.self.now.contents))
+    → c.args.n < length c.args.self.now.contents.rows → IfErr c.root_schema-answer.result (λ e. (e ≡ OutOfMemory)
+    ⊎ IsTurnedDown (ApplyInOrder g.O.Transform.makes) t c.root_schema-answer.new.transforms (IsLastRootCall (state_with x c.args.self.now.contents) c.args.n) e) in
+    let told = subst (λ x. P x c.replace-transforms.result) c.document-settings.ensures c.root_schema-answer.ensures.only_memory in
+    let all = subst (λ t. P (settings_of c.args.self.now.settings) t) c.replace-transforms.ensures.value told in
+    λ none plain path known.
+    refusal_told c.root_schema-answer.result _ _ (λ e h. not_turned_down g.O.Transform.makes c.args.self.now.settings.transforms c.root_schema-answer.new.transforms
+    (IsLastRootCall s c.args.n) e none h) (all plain path known)

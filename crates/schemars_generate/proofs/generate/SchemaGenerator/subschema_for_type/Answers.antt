@@ -1,82 +1,49 @@
-use Rattle.std.proofs.Common.{◌≡◌, List, [], ℕ, None, Some, true, false, refl, sym, subst}
+use Rattle.std.proofs.Common.{IfOk, OnOk, subst}
 use Rattle.schemars_schema.specs.References.{references}
-use Rattle.schemars_naming.specs.Placed.{is_in_place}
-use Rattle.schemars_documents.specs.Documents.{reference}
-use Rattle.schemars_build.specs.Parts.{IsSubschema}
-use Rattle.schemars_naming.specs.Naming.{name_of}
-use Rattle.schemars_documents.specs.PlainTable.{IsPlainTable}
-use Rattle.schemars_build.specs.Reached.{AreReached}
-use Rattle.schemars_generate.specs.Settings.{state_of}
-use Rattle.schemars_headline.specs.State.{State, plan_of, work_of, HasOwnDefinitions}
-use Rattle.schemars_naming.specs.Work.{Work, Step, IsKey, reference_to}
-use Rattle.schemars_headline.proofs.Calls.{part_own, reference_of_part}
+use Rattle.schemars_headline.specs.Calls.{IsPartOf, IsReferenceOf, Adds, IsNeeded}
+use Rattle.schemars_headline.specs.Headline.{SubschemaHeadline, IsInlined}
+use Rattle.schemars_headline.specs.State.{Settings, HasOwnDefinitions}
 use Rattle.schemars_headline.proofs.NamedKeys.{references_name_keys}
-use Rattle.schemars_headline.proofs.Roots.{subschema_headline}
-use Rattle.schemars_headline.specs.Headline.{IsInlined}
-use Rattle.schemars_headline.proofs.Inlined.{part_inlined}
+use Rattle.schemars_roots.specs.Settings.{state_with}
+use Rattle.schemars_generate.specs.Settings.{settings_of}
 use Rattle.schemars_generate.proofs.generate.SchemaGenerator.subschema_for_type.Goals as goal
 
-pub returns-in_err-schema-clause-own : goal.returns-in_err-schema-clause-own
-returns-in_err-schema-clause-own c =
-    let P : Work → Type 0 = λ w. HasOwnDefinitions (state_of c.self.inside.settings c.self.inside.types w) in
-    λ own. subst P (sym c.in_err-schema.ensures.err) (subst HasOwnDefinitions (sym c.self.view_is) own)
-
-pub returns-clause-own : goal.returns-clause-own
-returns-clause-own c =
-    let s = state_of c.self.inside.settings c.self.inside.types c.self.inside.work in
-    let new = state_of c.self.inside.settings c.self.inside.types c.part_of.new.work in
-    let P : Work → Type 0 = λ w. Step (plan_of s None) w c.part_of.new.work in
-    let Q : Work → Type 0 = λ w. Step (plan_of s None) (work_of s) w in
-    let step : Step (plan_of s None) (work_of s) (work_of new) = subst Q c.in_ok-schema.ensures.between
-    (subst P c.self.invariant.2 c.in_ok-schema.ensures.step) in
-    λ own. part_own s new refl step (subst HasOwnDefinitions (sym c.self.view_is) own)
-
 pub returns-clause-means : goal.returns-clause-means
-returns-clause-means c =
-    let new = state_of c.self.inside.settings c.self.inside.types c.part_of.new.work in
-    let P : Work → Type 0 = λ w. IsSubschema (plan_of new None) false w c.args.n c.in_ok-schema.schema in
-    λ own.
-    subschema_headline new c.args.n false c.in_ok-schema.schema c.self.invariant.0
-    c.in_ok-schema.ensures.one_to_one (returns-clause-own c own)
-    (subst P c.in_ok-schema.ensures.between c.in_ok-schema.ensures.part)
+returns-clause-means g c =
+    let P : Settings → Type 0 = λ x. IfOk c.subschema.result (λ d. HasOwnDefinitions (state_with x c.args.self.now.contents) → SubschemaHeadline (state_with x c.subschema.new.self) c.args.n d) in
+    subst P c.document-settings.ensures c.subschema.ensures.means
+
+pub returns-clause-part : goal.returns-clause-part
+returns-clause-part g c =
+    let P : Settings → Type 0 = λ x. IfOk c.subschema.result (IsPartOf (state_with x c.subschema.new.self) c.args.n) in
+    subst P c.document-settings.ensures c.subschema.ensures.part
 
 pub returns-clause-reference : goal.returns-clause-reference
-returns-clause-reference c =
-    let new = state_of c.self.inside.settings c.self.inside.types c.part_of.new.work in
-    let P : Work → Type 0 = λ w. IsSubschema (plan_of new None) false w c.args.n c.in_ok-schema.schema in
-    let Q : State → Type 0 = λ x. is_in_place x.rows x.settings.inlines [] c.args.n ≡ false
-    → (name : List ℕ) × (name_of c.args.n x.settings.contract new.names ≡ Some name) × IsKey name new.definitions
-    × (c.in_ok-schema.schema ≡ reference (reference_to (plan_of x None).path name)) in
-    subst Q c.self.view_is (λ apart. reference_of_part new c.args.n c.in_ok-schema.schema
-    (subst P c.in_ok-schema.ensures.between c.in_ok-schema.ensures.part) apart)
+returns-clause-reference g c =
+    let P : Settings → Type 0 = λ x. IfOk c.subschema.result (IsReferenceOf (state_with x c.args.self.now.contents) (state_with x c.subschema.new.self) c.args.n) in
+    subst P c.document-settings.ensures c.subschema.ensures.reference
 
 pub returns-clause-inlined : goal.returns-clause-inlined
-returns-clause-inlined c =
-    let new = state_of c.self.inside.settings c.self.inside.types c.part_of.new.work in
-    let P : Work → Type 0 = λ w. IsSubschema (plan_of new None) false w c.args.n c.in_ok-schema.schema in
-    let Q : State → Type 0 = λ x. IsInlined x c.in_ok-schema.schema in
-    subst Q c.self.view_is (part_inlined new c.args.n c.in_ok-schema.schema
-    (subst P c.in_ok-schema.ensures.between c.in_ok-schema.ensures.part))
+returns-clause-inlined g c =
+    let P : Settings → Type 0 = λ x. IfOk c.subschema.result (IsInlined (state_with x c.args.self.now.contents)) in
+    subst P c.document-settings.ensures c.subschema.ensures.inlined
+
+pub returns-clause-step : goal.returns-clause-step
+returns-clause-step g c =
+    let P : Settings → Type 0 = λ x. OnOk c.subschema.result (Adds (state_with x c.args.self.now.contents) (state_with x c.subschema.new.self)) in
+    subst P c.document-settings.ensures c.subschema.ensures.step
 
 pub returns-clause-reached : goal.returns-clause-reached
-returns-clause-reached c =
-    let s = state_of c.self.inside.settings c.self.inside.types c.self.inside.work in
-    let new = state_of c.self.inside.settings c.self.inside.types c.part_of.new.work in
-    let schema = c.in_ok-schema.schema in
-    let P : Work → Type 0 = λ w. IsPlainTable s.rows → AreReached (plan_of s None) true w c.part_of.new.work (references schema) in
-    let Q : Work → Type 0 = λ w. IsPlainTable s.rows → AreReached (plan_of s None) true (work_of s) w (references schema) in
-    let R : State → Type 0 = λ x. IsPlainTable x.rows → AreReached (plan_of x None) true (work_of x) (work_of new) (references schema) in
-    subst R c.self.view_is (subst Q c.in_ok-schema.ensures.between (subst P c.self.invariant.2 c.in_ok-schema.ensures.reached))
+returns-clause-reached g c =
+    let P : Settings → Type 0 = λ x. IfOk c.subschema.result (λ d. IsNeeded (state_with x c.args.self.now.contents) (state_with x c.subschema.new.self) (references d)) in
+    subst P c.document-settings.ensures c.subschema.ensures.reached
+
+pub returns-clause-own : goal.returns-clause-own
+returns-clause-own g c =
+    let P : Settings → Type 0 = λ x. HasOwnDefinitions (state_with x c.args.self.now.contents) → HasOwnDefinitions (state_with x c.subschema.new.self) in
+    subst P c.document-settings.ensures c.subschema.ensures.own
 
 pub returns-clause-keys : goal.returns-clause-keys
-returns-clause-keys c =
-    let new = state_of c.self.inside.settings c.self.inside.types c.part_of.new.work in
-    λ own plain. references_name_keys new (returns-clause-own c own) plain
-
-pub returns-in_err-schema-clause-keys : goal.returns-in_err-schema-clause-keys
-returns-in_err-schema-clause-keys c =
-    let new = state_of c.self.inside.settings c.self.inside.types c.part_of.new.work in
-    λ own plain. references_name_keys new (returns-in_err-schema-clause-own c own) plain
-
-pub returns-in_err-known-clause-keys : goal.returns-in_err-known-clause-keys
-returns-in_err-known-clause-keys c = λ own plain. references_name_keys c.args.self.now own plain
+returns-clause-keys g c =
+    λ own plain.
+    references_name_keys (state_with (settings_of c.args.self.now.settings) c.subschema.new.self) (returns-clause-own g c own) plain

@@ -1,0 +1,28 @@
+-- A list without transforms changes nothing and refuses nothing.
+use Rattle.std.proofs.Common.{◌≡◌, ◌⊎◌, inl, inr, List, [], ◌∷◌, Vec, Ok, Err, Global, sym, subst}
+use Rattle.serde_json.specs.Data.{Data}
+use Rattle.schemars_walk.specs.Walk.{Answer, Step}
+use Rattle.schemars_walk.specs.Order.{InOrder}
+use Rattle.schemars_transforms.specs.Member.{OfMember}
+use Rattle.schemars_transforms.specs.declared.gen_transform.GenTransform.{GenTransform}
+use Rattle.schemars_transforms.proofs.Laws.{no_transforms}
+use Rattle.schemars_roots.specs.Through.{IsThrough, IsTurnedDown}
+use Rattle.schemars_roots.specs.declared.error.GenerateError.{GenerateError}
+use Rattle.schemars_roots.specs.declared.error.GenerateError.TheVariants.{OutOfMemory}
+use Rattle.schemars_generate.specs.Settings.{ApplyInOrder}
+
+in_order_none : {O : Type 0} (Q : Step O) (ts us : List (GenTransform O)) (s v : Data) (r : Answer) → ts ≡ []
+    → InOrder (OfMember Q) ts s r us v → (r ≡ Ok tt) × (v ≡ s)
+in_order_none Q [] us s v r none h = no_transforms (OfMember Q) s r us v h
+in_order_none Q (t ∷ ts) us s v r none h = cc
+
+pub untouched : {O : Type 0} (Q : Step O) (ts us : Vec (GenTransform O) Global) (R : Data → Type 0) (d : Data) → ts.items ≡ []
+    → IsThrough (ApplyInOrder Q) ts us R d → R d
+untouched Q ts us R d none h = subst R (sym (in_order_none Q ts.items us.items h.0 d (Ok tt) none h.2).1) h.1
+
+pub not_turned_down : {O : Type 0} (Q : Step O) (ts us : Vec (GenTransform O) Global) (R : Data → Type 0) (e : GenerateError)
+    → ts.items ≡ [] → (e ≡ OutOfMemory) ⊎ IsTurnedDown (ApplyInOrder Q) ts us R e → e ≡ OutOfMemory
+not_turned_down Q ts us R e none (inl memory) = memory
+not_turned_down Q ts us R e none (inr h) =
+    let none_refused = (in_order_none Q ts.items us.items h.1 h.2 (Err h.0) none h.4).0 in
+    cc

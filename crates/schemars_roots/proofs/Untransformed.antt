@@ -1,0 +1,61 @@
+-- What is told of root documents before transforms, and what is told where one is refused.
+use Rattle.std.proofs.Common.{◌≡◌, ◌⊎◌, inl, inr, ℕ, Result, Err, IfErr, subst, sym, refl, ◌∙◌}
+use Rattle.serde_json.specs.Data.{Data}
+use Rattle.schemars_types.specs.Faults.{IsChecked}
+use Rattle.schemars_documents.specs.PlainTable.{HasPlainNotes}
+use Rattle.schemars_naming.specs.Naming.{IsOneToOne}
+use Rattle.schemars_naming.specs.Work.{Work}
+use Rattle.schemars_headline.specs.Calls.{IsLastRootCall}
+use Rattle.schemars_headline.specs.Headline.{IsRootOf, IsDraftPath}
+use Rattle.schemars_headline.specs.Keys.{HasKeysOnce}
+use Rattle.schemars_headline.specs.State.{State, path_of}
+use Rattle.schemars_headline.proofs.Calls.{root_means, root_is_whole, always_placed}
+use Rattle.schemars_headline.proofs.Inlined.{root_inlined}
+use Rattle.schemars_walk.specs.Walk.{Step}
+use Rattle.schemars_walk.specs.declared.transform.TransformError.{TransformError}
+use Rattle.schemars_walk.specs.declared.transform.TransformError.TheVariants as refusal
+use Rattle.schemars_roots.specs.Refusals.{told}
+use Rattle.schemars_roots.specs.Through.{IsUntransformed, IsRefused, IsRefusedThrough, IsTurnedDown}
+use Rattle.schemars_roots.specs.declared.error.GenerateError.{GenerateError}
+use Rattle.schemars_roots.specs.declared.error.GenerateError.TheVariants.{OutOfMemory, UnknownType}
+
+pub untransformed : (s : State) (n : ℕ) (w : Work) (d : Data) → IsChecked s.rows → IsRootOf s n w d → HasKeysOnce w.definitions
+    → IsOneToOne w.names → IsUntransformed s n d
+untransformed s n w d checked root once one = record {
+  last = (w, root);
+  headline = λ own path. root_means s n w d checked root once one own path;
+  inlined = root_inlined s n w d root;
+  whole = λ none own. root_is_whole s n w d root once none own;
+}
+
+told_is_known : (a : TransformError) (n : ℕ) → told a ≡ UnknownType n → ⊥
+told_is_known refusal.Memory n is = cc
+told_is_known refusal.TooDeep n is = cc
+told_is_known (refusal.Own k) n is = cc
+
+pub refused_is_known : (s : State) (n m : ℕ) (e : GenerateError) → IsRefused s n e → e ≡ UnknownType m → ⊥
+refused_is_known s n m e (inl same) is = cc
+refused_is_known s n m e (inr h) is = let same = h.0 in cc
+
+pub known : {T : Type 0} (Q : Step T) (t u : T) (s : State) (n m : ℕ) (e : GenerateError) → IsRefusedThrough Q t u s n e
+    → e ≡ UnknownType m → ⊥
+known Q t u s n m e (inl h) is = refused_is_known s n m e h.0 is
+known Q t u s n m e (inr h) is = told_is_known h.0 m (sym h.5 ∙ is)
+
+-- an answer whose refusals are none of these is none of them
+pub never : {X E : Type 0} (r : Result X E) (e : E) → IfErr r (λ x. x ≡ e → ⊥) → r ≡ Err e → ⊥
+never {X} {E} r e other is =
+    let P : Result X E → Type 0 = λ q. IfErr q (λ x. x ≡ e → ⊥) in
+    let at : P (Err e) = subst P is other in
+    at refl
+
+-- where notes are annotations and the path is a draft's, memory alone is refused before transforms
+pub refused_memory : (s : State) (n : ℕ) (e : GenerateError) → HasPlainNotes s.rows → IsDraftPath (path_of s) → IsRefused s n e
+    → e ≡ OutOfMemory
+refused_memory s n e plain path (inl same) = same
+refused_memory s n e plain path (inr h) = absurd (always_placed s n plain path h.1)
+
+pub only_memory : {T : Type 0} (Q : Step T) (t u : T) (s : State) (n : ℕ) (e : GenerateError) → HasPlainNotes s.rows
+    → IsDraftPath (path_of s) → IsRefusedThrough Q t u s n e → (e ≡ OutOfMemory) ⊎ IsTurnedDown Q t u (IsLastRootCall s n) e
+only_memory Q t u s n e plain path (inl h) = inl (refused_memory s n e plain path h.0)
+only_memory Q t u s n e plain path (inr h) = inr h

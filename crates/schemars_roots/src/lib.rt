@@ -1,0 +1,12 @@
+//! Root documents and parts of documents, of the rows of a table: the generator without its settings.
+#![tactic(auto)]
+
+pub mod contents;
+mod document;
+mod error;
+mod path;
+mod settings;
+
+pub use contents::Contents;
+pub use error::GenerateError;
+pub use settings::DocumentSettings;
