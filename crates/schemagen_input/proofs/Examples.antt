@@ -3,9 +3,11 @@ use Rattle.std.proofs.Common.{◌≡◌, ℕ, List, [], ◌∷◌, true, false, 
 use Rattle.serde_json.specs.Read.{read}
 use Rattle.serde_json.proofs.OnLiterals.{serde_json_on_literals}
 use Rattle.schemars_json.specs.Json.{Text}
-use Rattle.serde_json.specs.Data.{null, boolean, number, unsigned, string, array, no_items, item, Members, no_members, member}
+use Rattle.serde_json.specs.Data.{null, boolean, number, unsigned, string, array, no_items, item}
+use Rattle.serde_json.specs.Data.{Members, no_members, member}
 use Rattle.schemars_shapes.specs.declared.shape.IntKind.TheVariants.{U8, I32, I128}
-use Rattle.schemars_shapes.specs.Shape.{Shape, Field, Required, without_notes, in_place, int, non_zero, formatted, char, any}
+use Rattle.schemars_shapes.specs.Shape.{Shape, Field, Required, without_notes, in_place, int, non_zero}
+use Rattle.schemars_shapes.specs.Shape.{formatted, char, any}
 use Rattle.schemars_shapes.specs.Shape.{option, seq, struct, external, untagged, internal, Payload, Variant, no_payload, newtype_payload}
 use Rattle.schemars_shapes.specs.Shape.{tuple_payload, struct_payload}
 use Rattle.schemars_types.specs.Rows.{Row}
@@ -27,6 +29,9 @@ variant name payload = record { name = name; payload = payload; notes = no_membe
 
 titled : Members
 titled = member (codes "title") (string (codes "t")) no_members
+
+noted_unit : Text → Variant
+noted_unit name = record { name = name; payload = no_payload; notes = titled }
 
 -- a field of the first row, with a note
 noted_field : Field
@@ -162,8 +167,8 @@ unknown_payload = refl
 
 variant_with_notes : said
     (codes "{\"types\":[{\"id\":\"E\",\"name\":\"E\",\"shape\":{\"external\":{\"variants\":[{\"name\":\"A\",\"notes\":{\"title\":\"t\"}}]}}}],\"root\":0}")
-    ≡ Some (named (codes "E") (external (record { name = codes "A"; payload = no_payload; notes = titled } ∷ [])) ∷ [], 0)
-unfolding serde_json_on_literals said named titled
+    ≡ Some (named (codes "E") (external (noted_unit (codes "A") ∷ [])) ∷ [], 0)
+unfolding serde_json_on_literals said named noted_unit titled
 variant_with_notes = refl
 
 field_of_a_variant_with_notes : said
@@ -174,11 +179,8 @@ field_of_a_variant_with_notes = refl
 
 tagged_variant_with_notes : said
     (codes "{\"types\":[{\"id\":\"E\",\"name\":\"E\",\"shape\":{\"internal\":{\"tag\":\"t\",\"variants\":[{\"name\":\"A\",\"notes\":{\"title\":\"t\"}}]}}}],\"root\":0}")
-    ≡ Some (
-      named (codes "E") (internal (codes "t") false (record { name = codes "A"; payload = no_payload; notes = titled } ∷ [])) ∷ [],
-      0,
-    )
-unfolding serde_json_on_literals said named titled
+    ≡ Some (named (codes "E") (internal (codes "t") false (noted_unit (codes "A") ∷ [])) ∷ [], 0)
+unfolding serde_json_on_literals said named noted_unit titled
 tagged_variant_with_notes = refl
 
 notes_of_a_variant_in_a_list : said
@@ -238,7 +240,14 @@ null_for_missing = refl
 
 with_notes : said
     (codes "{\"types\":[{\"id\":\"a\",\"name\":\"a\",\"inline\":true,\"notes\":{\"title\":\"t\"},\"shape\":\"any\"}],\"root\":0}")
-    ≡ Some (record { id = codes "a"; name = codes "a"; entry = Some (record { inline = true; notes = titled; shape = any }) } ∷ [], 0)
+    ≡ Some (
+      record {
+        id = codes "a";
+        name = codes "a";
+        entry = Some (record { inline = true; notes = titled; shape = any });
+      } ∷ [],
+      0,
+    )
 unfolding serde_json_on_literals said titled
 with_notes = refl
 

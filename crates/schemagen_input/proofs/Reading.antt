@@ -23,7 +23,8 @@ use Rattle.schemars_types.specs.declared.error.TypesError.{TypesError}
 use Rattle.schemars_types.specs.declared.error.TypesError.TheVariants.{UnknownType, AlreadyDefined}
 use Rattle.schemagen_forms.specs.Forms.{number_in, has_only, needed}
 use Rattle.schemagen_input.specs.Input.{table_in, unentered, row_names, heading_in}
-use Rattle.schemagen_input.specs.Input.{entry_in, row_in, rows_in, all_differ, ids_of, refers_within, all_fit, is_complete}
+use Rattle.schemagen_input.specs.Input.{entry_in, row_in, rows_in, all_differ, ids_of, refers_within}
+use Rattle.schemagen_input.specs.Input.{all_fit, is_complete}
 use Rattle.schemagen_input.specs.Reading.{headings_in, reserved_after, fitting_after}
 
 -- ---- options
@@ -356,7 +357,8 @@ defining_goes_on rows count n types new row e is here before entry taken grown =
       headings = next.there;
       rest = before.rest ∙ ap (fitting_after count done) (next_item rows n row is here)
           ∙ fitting_after-item count done (view row) (items_view (drop (n + 1) rows)) r whole;
-      fit = list_all-append (λ q. option_map_or (refers_within count) q.entry false) done (r ∷ []) ∙ rw (before.fit, within);
+      fit = list_all-append (λ q. option_map_or (refers_within count) q.entry false) done (r ∷ [])
+          ∙ rw (before.fit, within);
     }
   where
     length-snoc : (xs : List Row) (x : Row) → length (xs ++ x ∷ []) ≡ length xs + 1
@@ -372,7 +374,8 @@ defining_fails rows count n types row is here before none =
 
 -- a row's entry does not fit
 does_not_fit : (rows : List Value) (count n : ℕ) (types : List Row) (row : Value) (e : Entry) → row ≡ get_or rows n row → n < length rows
-    → Defining rows count n types → entry_in (view row) ≡ Some e → refers_within count e ≡ false → fitting_after count [] (items_view rows) ≡ None
+    → Defining rows count n types → entry_in (view row) ≡ Some e → refers_within count e ≡ false
+    → fitting_after count [] (items_view rows) ≡ None
 does_not_fit rows count n types row e is here before entry bad =
     let next = next_headings rows count n row types is here before in
     let r = with_entry e next.heading in
