@@ -1,5 +1,6 @@
 -- Which words a run knows, and what it refuses.
-use Rattle.std.proofs.Common.{◌≡◌, ◌⊎◌, ◌<◌, refl, inl, inr, ℕ, List, [], ◌∷◌, ◌++◌, append-nil, subst, Option, Some, None}
+use Rattle.std.proofs.Common.{◌≡◌, ◌⊎◌, ◌<◌, refl, inl, inr, ℕ, List, [], ◌∷◌, ◌++◌, append-nil, subst}
+use Rattle.std.proofs.Common.{Option, Some, None}
 use Rattle.std.proofs.Common.{length, get_or, ◌&&◌, true, String, Global, string_bytes, codes, sym, ap}
 use Rattle.std.proofs.Common.{◌∙◌, arith}
 use Rattle.std.specs.Str.{bytes_eq}
@@ -21,7 +22,8 @@ use Rattle.schemagen_input.specs.Input.{input_of}
 use Rattle.schemagen_run.specs.declared.run.Asked.{Asked}
 use Rattle.std.specs.Prelude.{MatchOption}
 use Rattle.schemagen_run.specs.Run.{AskFor, AreKnown, AreFlagsFor, AreKnownFlags, IsLineOf}
-use Rattle.schemagen_run.specs.Run.{GivesAll, IsNoJson, IsBadTable, IsTableText, IsAcceptedText, IsNotedText, IsFaultyTable, Tells}
+use Rattle.schemagen_run.specs.Run.{GivesAll, IsNoJson, IsBadTable, IsTableText, IsAcceptedText, IsNotedText}
+use Rattle.schemagen_run.specs.Run.{IsFaultyTable, Tells}
 use Rattle.schemagen_run.proofs.Tables.{both}
 use Rattle.std.proofs.Common.{Bool, false, nat_lt, ◌||◌, true≢false}
 use Rattle.schemagen_run.specs.declared.fault.Fault.TheVariants.{Usage}
@@ -105,8 +107,10 @@ four_words (u ∷ v ∷ w ∷ x ∷ []) a b c d four first second third fourth t
 -- ---- lines
 
 -- a line has its newline
-pub line_is_some : (asked : Asked) (rows : List Row) (root : ℕ) (line : List ℕ) → IsLineOf asked rows root line → 0 < length line
-line_is_some asked rows root line (document, (text, of, ordered, same)) = subst (λ (t : List ℕ). 0 < length t) (sym same) (ends text)
+pub line_is_some : (asked : Asked) (rows : List Row) (root : ℕ) (line : List ℕ) → IsLineOf asked rows root line
+    → 0 < length line
+line_is_some asked rows root line (document, (text, of, ordered, same)) =
+    subst (λ (t : List ℕ). 0 < length t) (sym same) (ends text)
   where
     ends : (t : List ℕ) → 0 < length (t ++ 10 ∷ [])
     ends [] = omega arith
@@ -143,8 +147,8 @@ read_outside bytes old new e known text (inr (inr (inr is))) not_json bad_table 
     absurd (no_table bytes (gave bytes old new known (bad_table is)) text)
 
 -- one text is that of one table
-same_table : (bytes : List ℕ) (rows others : List Row) (root other : ℕ) → IsTableText rows root bytes → IsTableText others other bytes
-    → others ≡ rows
+same_table : (bytes : List ℕ) (rows others : List Row) (root other : ℕ) → IsTableText rows root bytes
+    → IsTableText others other bytes → others ≡ rows
 same_table bytes rows others root other (d, (utf8, is), said) (e, (text, also), told) =
     let same : d ≡ e = cc in
     first_same (sym said ∙ ap input_of same ∙ told)
@@ -153,7 +157,8 @@ same_table bytes rows others root other (d, (utf8, is), said) (e, (text, also), 
     first_same h = cc
 
 -- the table that was read is the one without faults
-pub read_is_accepted : (bytes : List ℕ) (rows : List Row) (root : ℕ) → IsTableText rows root bytes → IsAcceptedText bytes → IsAccepted rows
+pub read_is_accepted : (bytes : List ℕ) (rows : List Row) (root : ℕ) → IsTableText rows root bytes → IsAcceptedText bytes
+    → IsAccepted rows
 read_is_accepted bytes rows root text (others, (other, also, accepted)) =
     subst IsAccepted (same_table bytes rows others root other text also) accepted
 
@@ -189,7 +194,8 @@ pub read_is_faulty : {U : Type 0} (rows : List Row) (root : ℕ) (old new : Opti
     → (e ≡ Refused OUT_OF_MEMORY) ⊎ Tells rows e ⊎ ((e ≡ Refused DEFINITIONS_PATH) × U)
     → IsTableFault e → GivesAll old new (IsFaultyTable e)
 read_is_faulty rows root old new e given (inl memory) fault = absurd (memory_is_not_of_table e memory fault)
-read_is_faulty rows root old new e (bytes, consumed, end, text) (inr (inl told)) fault = (bytes, consumed, end, (rows, (root, text, told)))
+read_is_faulty rows root old new e (bytes, consumed, end, text) (inr (inl told)) fault =
+    (bytes, consumed, end, (rows, (root, text, told)))
 read_is_faulty rows root old new e given (inr (inr path)) fault = absurd (path_is_not_of_table e path.0 fault)
 
 -- ---- refusals of the generator
@@ -198,7 +204,8 @@ of_code : (e d : GenerateError) (f : Fault) → f ≡ Refused (code_of e) → e 
 of_code e d f same is = same ∙ ap (λ (x : GenerateError). Refused (code_of x)) is
 
 -- the fault of a table, told by its number
-of_table : (rows : List Row) (e : GenerateError) (f : Fault) → HasFault rows e → f ≡ Refused (code_of e) → IsTableFault f
+of_table : (rows : List Row) (e : GenerateError) (f : Fault) → HasFault rows e → f ≡ Refused (code_of e)
+    → IsTableFault f
 of_table rows e f fault same = by fault.fault fault.refusal (of_code e (error_of fault.fault) f same fault.is_told)
   where
     by : (t : types.TypesError) → Refusal rows t → f ≡ Refused (code_of (error_of t)) → IsTableFault f
@@ -232,9 +239,11 @@ of_line rows e f (inr (inr (path, why))) same = inr (inr (of_code e DefinitionsP
 
 -- a refusal of its document
 pub has_no_place : {U : Type 0} (rows : List Row) (e : Fault)
-    → (e ≡ Refused OUT_OF_MEMORY) ⊎ Tells rows e ⊎ ((e ≡ Refused DEFINITIONS_PATH) × U) → e ≡ Refused DEFINITIONS_PATH → U
+    → (e ≡ Refused OUT_OF_MEMORY) ⊎ Tells rows e ⊎ ((e ≡ Refused DEFINITIONS_PATH) × U) → e ≡ Refused DEFINITIONS_PATH
+    → U
 has_no_place rows e (inl memory) path = absurd (memory_is_no_path e memory path)
-has_no_place rows e (inr (inl (x, fault, same))) path = absurd (path_is_not_of_table e path (of_table rows x e fault same))
+has_no_place rows e (inr (inl (x, fault, same))) path =
+    absurd (path_is_not_of_table e path (of_table rows x e fault same))
 has_no_place rows e (inr (inr (is, why))) path = why
 
 -- a refusal of a table without faults

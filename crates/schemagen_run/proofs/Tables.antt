@@ -55,7 +55,8 @@ pub is_document : {E : Type 0} (r : Result Data E) (s : State) (asked : Asked) (
     → IfOk r (IsDocumentOf asked rows root)
 is_document (Err e) s asked rows root same means made whole = tt
 is_document (Ok document) s asked rows root same means made whole =
-    let headline : RootHeadline (fresh asked rows) root document = subst (λ (t : State). RootHeadline t root document) same means in
+    let headline : RootHeadline (fresh asked rows) root document =
+    subst (λ (t : State). RootHeadline t root document) same means in
     let here : HasNoFloat rows → HasOwnDefinitions (fresh asked rows) → has_float document ≡ false =
     subst (λ (t : State). HasNoFloat t.rows → HasOwnDefinitions t → has_float document ≡ false) same whole in (
       subst (λ (t : State). IsLastRootCall t root document) same made,
@@ -64,8 +65,8 @@ is_document (Ok document) s asked rows root same means made whole =
     )
 
 -- it refuses for want of memory, or where there is no place for the definitions
-pub is_refused : (r : Result Data GenerateError) (s : State) (asked : Asked) (rows : List Row) (root : ℕ) → is_table rows root ≡ true
-    → IsAccepted rows → s ≡ fresh asked rows → ((r ≡ Err (UnknownType root)) ↔ (length s.rows ≤ root))
+pub is_refused : (r : Result Data GenerateError) (s : State) (asked : Asked) (rows : List Row) (root : ℕ)
+    → is_table rows root ≡ true → IsAccepted rows → s ≡ fresh asked rows → ((r ≡ Err (UnknownType root)) ↔ (length s.rows ≤ root))
     → IfErr r (λ e. (e ≡ OutOfMemory) ⊎ (e ≡ UnknownType root) ⊎ ((e ≡ DefinitionsPath) × CannotPlace s root))
     → IfErr r (λ e. (e ≡ OutOfMemory) ⊎ ((e ≡ DefinitionsPath) × IsUnplaced asked rows root))
 is_refused (Ok d) s asked rows root table accepted same unknown why = tt
@@ -79,7 +80,8 @@ is_refused (Err e) s asked rows root table accepted same unknown (inr (inr (is, 
 
 -- where the notes of rows are annotations, memory is all that it may want
 pub wants_only_memory : {P : Type 0} (s : State) (asked : Asked) (rows : List Row) (root : ℕ) → is_table rows root ≡ true
-    → s ≡ fresh asked rows → (HasPlainNotes s.rows → IsDraftPath (path_of s) → root < length s.rows → P) → HasPlainNotes rows → P
+    → s ≡ fresh asked rows → (HasPlainNotes s.rows → IsDraftPath (path_of s) → root < length s.rows → P)
+    → HasPlainNotes rows → P
 wants_only_memory {P} s asked rows root table same only plain =
     let here : HasPlainNotes rows → IsDraftPath (path_of (fresh asked rows)) → root < length rows → P =
     subst (λ (t : State). HasPlainNotes t.rows → IsDraftPath (path_of t) → root < length t.rows → P) same only in

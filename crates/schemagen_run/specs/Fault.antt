@@ -3,7 +3,8 @@ use Rattle.std.specs.Prelude.{◌≡◌, ◌⊎◌, ℕ}
 use Rattle.schemagen_run.specs.declared.fault.Fault.{Fault}
 use Rattle.schemagen_run.specs.declared.fault.Fault.TheVariants.{Usage, Refused}
 use Rattle.schemagen_run.specs.declared.fault.TheConstants.{OUT_OF_MEMORY, UNDEFINED_TYPE, REPEATED_NAME, DIRECT_CYCLE}
-use Rattle.schemagen_run.specs.declared.fault.TheConstants.{EMPTY_CYCLE, DEFINITIONS_PATH, NOT_JSON, BAD_TABLE, READ, WRITE}
+use Rattle.schemagen_run.specs.declared.fault.TheConstants.{EMPTY_CYCLE, DEFINITIONS_PATH, NOT_JSON, BAD_TABLE}
+use Rattle.schemagen_run.specs.declared.fault.TheConstants.{READ, WRITE}
 
 abbrev pub status_of : Fault → ℕ
 status_of Usage = 2

@@ -69,7 +69,8 @@ IsAcceptedText bytes = (rows : List Row) × ((root : ℕ) × IsTableText rows ro
 
 -- and one whose rows have annotations alone for notes
 abbrev pub IsNotedText : List ℕ → Type 0
-IsNotedText bytes = (rows : List Row) × ((root : ℕ) × IsTableText rows root bytes × IsAccepted rows × HasPlainNotes rows)
+IsNotedText bytes =
+    (rows : List Row) × ((root : ℕ) × IsTableText rows root bytes × IsAccepted rows × HasPlainNotes rows)
 
 -- the refusal tells the fault of this table
 abbrev pub Tells : List Row → Fault → Type 0
@@ -88,8 +89,8 @@ settings_for asked = record settings2020_12 { contract = asked.contract; inlines
 abbrev pub fresh : Asked → List Row → State
 fresh asked rows = record { settings = settings_for asked; rows = rows; names = []; definitions = no_members }
 
--- the root document of this row: it is made by the rules, and where the table is plain it accepts just the values of the
--- type; the numbers in it are whole, where those in notes are
+-- the root document of this row: it is made by the rules, and where the table is plain it accepts just the values of
+-- the type; the numbers in it are whole, where those in notes are
 abbrev pub IsDocumentOf : Asked → List Row → ℕ → Data → Type 0
 IsDocumentOf asked rows root document =
     ((w : Work) × IsRootOf (fresh asked rows) root w document)
@@ -100,7 +101,8 @@ IsDocumentOf asked rows root document =
 abbrev pub IsLineOf : Asked → List Row → ℕ → Text → Type 0
 IsLineOf asked rows root line =
     (document : Data) × ((text : Text)
-    × IsDocumentOf asked rows root document × (has_float document ≡ false → text ≡ ordered_text document) × (line ≡ text ++ 10 ∷ []))
+    × IsDocumentOf asked rows root document × (has_float document ≡ false → text ≡ ordered_text document)
+    × (line ≡ text ++ 10 ∷ []))
 
 -- the root document of this row has definitions, and no place for them
 abbrev pub IsUnplaced : Asked → List Row → ℕ → Type 0
@@ -112,7 +114,9 @@ IsLineFor words bytes Q =
     (asked : Asked) × ((rows : List Row) × ((root : ℕ) × ((line : Text)
     × AskFor words asked × IsTableText rows root bytes × IsAccepted rows × IsLineOf asked rows root line × Q line)))
 
--- the bytes are the text of a table without faults, and the document that the words ask for has no place for its definitions
+-- the bytes are the text of a table without faults, and the document that the words ask for has no place for its
+-- definitions
 abbrev pub IsUnplacedFor : List (String Global) → List ℕ → Type 0
 IsUnplacedFor words bytes =
-    (asked : Asked) × ((rows : List Row) × ((root : ℕ) × AskFor words asked × IsTableText rows root bytes × IsUnplaced asked rows root))
+    (asked : Asked) × ((rows : List Row) × ((root : ℕ)
+    × AskFor words asked × IsTableText rows root bytes × IsUnplaced asked rows root))

@@ -2,7 +2,8 @@
 use Rattle.std.proofs.Common.{◌∙◌, inl}
 use Rattle.std.proofs.lemmas.Result.{IfErr-weaker}
 use Rattle.schemagen_run.proofs.Results.{ok_at_err, err_passed, so_at_ok}
-use Rattle.schemagen_run.proofs.Tables.{fresh_of, is_document, is_refused, wants_only_memory, is_faulty, of_three, of_two}
+use Rattle.schemagen_run.proofs.Tables.{fresh_of, is_document, is_refused, wants_only_memory, is_faulty}
+use Rattle.schemagen_run.proofs.Tables.{of_three, of_two}
 use Rattle.schemagen_run.proofs.run.document_of.Goals as goal
 
 pub returns-in_err-generator : goal.returns-in_err-generator
@@ -32,5 +33,6 @@ returns c =
       accepted = so_at_ok r accepted;
       refused = IfErr-weaker r _ _ (λ e is. of_three is) why;
       unfaulty = λ _. IfErr-weaker r _ _ (λ e is. of_two is) why;
-      only_memory = λ _ plain. wants_only_memory g c.args.asked c.args.types c.args.root c.requires same made.only_memory plain;
+      only_memory = λ _ plain.
+          wants_only_memory g c.args.asked c.args.types c.args.root c.requires same made.only_memory plain;
     }

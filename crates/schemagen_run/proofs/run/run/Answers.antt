@@ -3,7 +3,8 @@ use Rattle.std.proofs.Common.{◌<◌, ℕ, List, length, sym, ap, subst, refl, 
 use Rattle.schemagen_run.specs.declared.fault.Fault.TheVariants.{Usage, Refused}
 use Rattle.schemagen_run.specs.declared.fault.TheConstants.{DEFINITIONS_PATH, NOT_JSON, BAD_TABLE, READ, WRITE}
 use Rattle.schemagen_run.proofs.Results.{passed_on, same_error, other_result, ok_is_no_error}
-use Rattle.schemagen_run.proofs.Runs.{read_is_no_usage, read_is_no_write, read_is_no_path, read_is_of_no_table, line_is_no_other}
+use Rattle.schemagen_run.proofs.Runs.{read_is_no_usage, read_is_no_write, read_is_no_path, read_is_of_no_table}
+use Rattle.schemagen_run.proofs.Runs.{line_is_no_other}
 use Rattle.schemagen_run.proofs.Runs.{gave, read_outside, read_is_accepted, read_is_noted, noted_is_accepted}
 use Rattle.schemagen_run.proofs.Runs.{read_is_faulty, has_no_place, is_outside, line_is_some}
 use Rattle.schemagen_run.proofs.run.run.Goals as goal
@@ -93,7 +94,8 @@ returns-in_err-types g c =
       unwritten = rw is (λ _. refl);
       faults = rw is (inr (inl why.faults));
       accepted = λ _ bytes known text. rw is
-          (inl (read_outside bytes _ _ e known text why.faults (λ f. why.not_json (ap Err f)) (λ f. why.bad_table (ap Err f))));
+          (inl (read_outside bytes _ _ e known text why.faults (λ f. why.not_json (ap Err f))
+          (λ f. why.bad_table (ap Err f))));
       noted = λ _ bytes known text. rw is
           (read_outside bytes _ _ e known (noted_is_accepted bytes text) why.faults (λ f. why.not_json (ap Err f))
           (λ f. why.bad_table (ap Err f)));
@@ -123,7 +125,8 @@ returns-in_err-line g c =
       bad_table = λ u. absurd (line_is_no_other e (Refused BAD_TABLE) why.faults refl (same_error r e (Refused BAD_TABLE) is u));
       faulty = rw is (read_is_faulty _ _ _ _ e given why.refused);
       unplaced = λ u.
-          let unplaced = has_no_place c.in_ok-types.types e why.refused (same_error r e (Refused DEFINITIONS_PATH) is u) in
+          let path = same_error r e (Refused DEFINITIONS_PATH) is u in
+          let unplaced = has_no_place c.in_ok-types.types e why.refused path in
           let (bytes, consumed, end, text) = given in (
             bytes,
             consumed,
