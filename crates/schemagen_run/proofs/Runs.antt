@@ -157,8 +157,8 @@ same_table bytes rows others root other (d, (utf8, is), said) (e, (text, also), 
     first_same h = cc
 
 -- the table that was read is the one without faults
-pub read_is_accepted : (bytes : List ℕ) (rows : List Row) (root : ℕ) → IsTableText rows root bytes → IsAcceptedText bytes
-    → IsAccepted rows
+pub read_is_accepted : (bytes : List ℕ) (rows : List Row) (root : ℕ) → IsTableText rows root bytes
+    → IsAcceptedText bytes → IsAccepted rows
 read_is_accepted bytes rows root text (others, (other, also, accepted)) =
     subst IsAccepted (same_table bytes rows others root other text also) accepted
 

@@ -66,7 +66,8 @@ is_document (Ok document) s asked rows root same means made whole =
 
 -- it refuses for want of memory, or where there is no place for the definitions
 pub is_refused : (r : Result Data GenerateError) (s : State) (asked : Asked) (rows : List Row) (root : ℕ)
-    → is_table rows root ≡ true → IsAccepted rows → s ≡ fresh asked rows → ((r ≡ Err (UnknownType root)) ↔ (length s.rows ≤ root))
+    → is_table rows root ≡ true → IsAccepted rows → s ≡ fresh asked rows
+    → ((r ≡ Err (UnknownType root)) ↔ (length s.rows ≤ root))
     → IfErr r (λ e. (e ≡ OutOfMemory) ⊎ (e ≡ UnknownType root) ⊎ ((e ≡ DefinitionsPath) × CannotPlace s root))
     → IfErr r (λ e. (e ≡ OutOfMemory) ⊎ ((e ≡ DefinitionsPath) × IsUnplaced asked rows root))
 is_refused (Ok d) s asked rows root table accepted same unknown why = tt
