@@ -41,7 +41,7 @@ lone_in (member k d (member l e ms)) = None
 abbrev pub number_in : Data → Option ℕ
 number_in d = option_and_then as_u64 (as_number d)
 
--- the notes of a row or a field: none where they are missing
+-- the notes of a row, a field or a variant: an object with any members, and none where they are missing
 abbrev pub notes_in : Data → Option Members
 notes_in d = optional no_members as_object (codes "notes") d
 

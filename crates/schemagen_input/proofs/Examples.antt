@@ -3,9 +3,11 @@ use Rattle.std.proofs.Common.{◌≡◌, ℕ, List, [], ◌∷◌, true, false, 
 use Rattle.serde_json.specs.Read.{read}
 use Rattle.serde_json.proofs.OnLiterals.{serde_json_on_literals}
 use Rattle.schemars_json.specs.Json.{Text}
-use Rattle.serde_json.specs.Data.{no_members}
+use Rattle.serde_json.specs.Data.{null, boolean, number, unsigned, string, array, no_items, item}
+use Rattle.serde_json.specs.Data.{Members, no_members, member}
 use Rattle.schemars_shapes.specs.declared.shape.IntKind.TheVariants.{U8, I32, I128}
-use Rattle.schemars_shapes.specs.Shape.{Shape, Field, Required, without_notes, in_place, int, non_zero, formatted, char}
+use Rattle.schemars_shapes.specs.Shape.{Shape, Field, Required, without_notes, in_place, int, non_zero}
+use Rattle.schemars_shapes.specs.Shape.{formatted, char, any}
 use Rattle.schemars_shapes.specs.Shape.{option, seq, struct, external, untagged, internal, Payload, Variant, no_payload, newtype_payload}
 use Rattle.schemars_shapes.specs.Shape.{tuple_payload, struct_payload}
 use Rattle.schemars_types.specs.Rows.{Row}
@@ -24,6 +26,16 @@ field name ty need = record { name = name; ty = ty; required = need; notes = no_
 
 variant : Text → Payload → Variant
 variant name payload = record { name = name; payload = payload; notes = no_members }
+
+titled : Members
+titled = member (codes "title") (string (codes "t")) no_members
+
+noted_unit : Text → Variant
+noted_unit name = record { name = name; payload = no_payload; notes = titled }
+
+-- a field of the first row, with a note
+noted_field : Field
+noted_field = record { name = codes "b"; ty = 0; required = required true true; notes = titled }
 
 -- the input that a text says
 said : Text → Option (List Row × ℕ)
@@ -154,14 +166,27 @@ unfolding serde_json_on_literals said
 unknown_payload = refl
 
 variant_with_notes : said
-    (codes "{\"types\":[{\"id\":\"E\",\"name\":\"E\",\"shape\":{\"external\":{\"variants\":[{\"name\":\"A\",\"notes\":{\"title\":\"t\"}}]}}}],\"root\":0}") ≡ None
-unfolding serde_json_on_literals said
+    (codes "{\"types\":[{\"id\":\"E\",\"name\":\"E\",\"shape\":{\"external\":{\"variants\":[{\"name\":\"A\",\"notes\":{\"title\":\"t\"}}]}}}],\"root\":0}")
+    ≡ Some (named (codes "E") (external (noted_unit (codes "A") ∷ [])) ∷ [], 0)
+unfolding serde_json_on_literals said named noted_unit titled
 variant_with_notes = refl
 
 field_of_a_variant_with_notes : said
-    (codes "{\"types\":[{\"id\":\"E\",\"name\":\"E\",\"shape\":{\"untagged\":{\"variants\":[{\"name\":\"A\",\"payload\":{\"struct\":{\"fields\":[{\"name\":\"b\",\"type\":0,\"notes\":{\"title\":\"t\"}}]}}}]}}}],\"root\":0}") ≡ None
-unfolding serde_json_on_literals said
+    (codes "{\"types\":[{\"id\":\"E\",\"name\":\"E\",\"shape\":{\"untagged\":{\"variants\":[{\"name\":\"A\",\"payload\":{\"struct\":{\"fields\":[{\"name\":\"b\",\"type\":0,\"notes\":{\"title\":\"t\"}}]}}}]}}}],\"root\":0}")
+    ≡ Some (named (codes "E") (untagged (variant (codes "A") (struct_payload (noted_field ∷ []) false) ∷ [])) ∷ [], 0)
+unfolding serde_json_on_literals said named variant noted_field titled
 field_of_a_variant_with_notes = refl
+
+tagged_variant_with_notes : said
+    (codes "{\"types\":[{\"id\":\"E\",\"name\":\"E\",\"shape\":{\"internal\":{\"tag\":\"t\",\"variants\":[{\"name\":\"A\",\"notes\":{\"title\":\"t\"}}]}}}],\"root\":0}")
+    ≡ Some (named (codes "E") (internal (codes "t") false (noted_unit (codes "A") ∷ [])) ∷ [], 0)
+unfolding serde_json_on_literals said named noted_unit titled
+tagged_variant_with_notes = refl
+
+notes_of_a_variant_in_a_list : said
+    (codes "{\"types\":[{\"id\":\"E\",\"name\":\"E\",\"shape\":{\"external\":{\"variants\":[{\"name\":\"A\",\"notes\":[]}]}}}],\"root\":0}") ≡ None
+unfolding serde_json_on_literals said
+notes_of_a_variant_in_a_list = refl
 
 variant_of_no_row : said
     (codes "{\"types\":[{\"id\":\"E\",\"name\":\"E\",\"shape\":{\"untagged\":{\"variants\":[{\"name\":\"A\",\"payload\":{\"newtype\":1}}]}}}],\"root\":0}") ≡ None
@@ -180,9 +205,15 @@ unfolding serde_json_on_literals said
 field_of_no_row = refl
 
 field_with_notes : said
-    (codes "{\"types\":[{\"id\":\"a\",\"name\":\"a\",\"shape\":{\"struct\":{\"fields\":[{\"name\":\"b\",\"type\":0,\"notes\":{\"title\":\"t\"}}]}}}],\"root\":0}") ≡ None
-unfolding serde_json_on_literals said
+    (codes "{\"types\":[{\"id\":\"a\",\"name\":\"a\",\"shape\":{\"struct\":{\"fields\":[{\"name\":\"b\",\"type\":0,\"notes\":{\"title\":\"t\"}}]}}}],\"root\":0}")
+    ≡ Some (named (codes "a") (struct (noted_field ∷ []) false) ∷ [], 0)
+unfolding serde_json_on_literals said named noted_field titled
 field_with_notes = refl
+
+notes_of_a_field_as_a_text : said
+    (codes "{\"types\":[{\"id\":\"a\",\"name\":\"a\",\"shape\":{\"struct\":{\"fields\":[{\"name\":\"b\",\"type\":0,\"notes\":\"t\"}]}}}],\"root\":0}") ≡ None
+unfolding serde_json_on_literals said
+notes_of_a_field_as_a_text = refl
 
 with_flatten : said
     (codes "{\"types\":[{\"id\":\"a\",\"name\":\"a\",\"shape\":{\"struct\":{\"fields\":[],\"flatten\":[]}}}],\"root\":0}") ≡ None
@@ -208,9 +239,36 @@ unfolding serde_json_on_literals said
 null_for_missing = refl
 
 with_notes : said
-    (codes "{\"types\":[{\"id\":\"a\",\"name\":\"a\",\"inline\":true,\"notes\":{\"title\":\"t\"},\"shape\":\"any\"}],\"root\":0}") ≡ None
-unfolding serde_json_on_literals said
+    (codes "{\"types\":[{\"id\":\"a\",\"name\":\"a\",\"inline\":true,\"notes\":{\"title\":\"t\"},\"shape\":\"any\"}],\"root\":0}")
+    ≡ Some (
+      record {
+        id = codes "a";
+        name = codes "a";
+        entry = Some (record { inline = true; notes = titled; shape = any });
+      } ∷ [],
+      0,
+    )
+unfolding serde_json_on_literals said titled
 with_notes = refl
+
+-- any members: a schema's keywords, values of all kinds, in the order of their names
+other_notes : said
+    (codes "{\"types\":[{\"id\":\"a\",\"name\":\"a\",\"notes\":{\"title\":null,\"$defs\":[true,3]},\"shape\":\"any\"}],\"root\":0}")
+    ≡ Some (
+      record {
+        id = codes "a";
+        name = codes "a";
+        entry = Some (record {
+          inline = false;
+          notes = member (codes "$defs") (array (item (boolean true) (item (number (unsigned 3)) no_items)))
+              (member (codes "title") null no_members);
+          shape = any;
+        });
+      } ∷ [],
+      0,
+    )
+unfolding serde_json_on_literals said
+other_notes = refl
 
 id_twice : said
     (codes "{\"types\":[{\"id\":\"a\",\"name\":\"a\",\"inline\":true,\"shape\":\"any\"},{\"id\":\"a\",\"name\":\"b\",\"inline\":true,\"shape\":\"any\"}],\"root\":0}") ≡ None

@@ -1,8 +1,8 @@
 -- Why reading the headings of all rows first, and then their entries, gives the table that the value says.
 use Rattle.std.proofs.Common.{◌≡◌, ◌+◌, ◌<◌, ◌≤◌, ℕ, zero, suc, nat_lt, nat_le, List, [], ◌∷◌, ◌++◌, length, get_or}
-use Rattle.std.proofs.Common.{drop, map, slice_get, Bool, true, false, not, ◌&&◌, ◌||◌, Option, Some, None, option_map}
+use Rattle.std.proofs.Common.{drop, slice_get, Bool, true, false, not, ◌&&◌, ◌||◌, Option, Some, None, option_map}
 use Rattle.std.proofs.Common.{option_and_then, is_some, cond, codes, refl, ap, ◌∙◌, sym, arith, append_assoc}
-use Rattle.std.proofs.Common.{append-nil, add-one, true≢false, subst, String, IsTrue, ◌↔◌}
+use Rattle.std.proofs.Common.{append-nil, add-one, true≢false, subst}
 use Rattle.std.specs.List.{list_all, list_any, position_from, find}
 use Rattle.std.specs.Option.{option_map_or}
 use Rattle.std.specs.Str.{bytes_eq}
@@ -13,20 +13,18 @@ use Rattle.std.proofs.lemmas.Bool.Decides.{nat_tests}
 use Rattle.std.proofs.lemmas.Slice.Eq.{bytes_eq-Decides}
 use Rattle.serde_json.specs.Data.{Data, Items, no_items, item}
 use Rattle.serde_json.specs.Find.{as_str, as_array, get}
-use Rattle.serde_json.specs.View.{view, items_view, members_view}
-use Rattle.std.specs.declared.alloc.Global.{Global}
+use Rattle.serde_json.specs.View.{view, items_view}
 use Rattle.serde_json.specs.declared.value.Value.{Value}
 use Rattle.schemars_json.specs.Json.{Text}
-use Rattle.schemars_shapes.specs.declared.shape.Field as src-field
-use Rattle.schemars_shapes.specs.Shape.{Entry, field_of, numbers_of}
+use Rattle.schemars_shapes.specs.Shape.{Entry, numbers_of}
 use Rattle.schemars_types.specs.Rows.{Row, place_of, with_entry, defined, reserved, unknown_in, holds_another}
 use Rattle.schemars_types.specs.Refusals.{refusal_of}
 use Rattle.schemars_types.specs.declared.error.TypesError.{TypesError}
 use Rattle.schemars_types.specs.declared.error.TypesError.TheVariants.{UnknownType, AlreadyDefined}
 use Rattle.schemagen_forms.specs.Forms.{number_in, has_only, needed}
 use Rattle.schemagen_input.specs.Input.{table_in, unentered, row_names, heading_in}
-use Rattle.schemars_shapes.specs.Units.{is_none}
-use Rattle.schemagen_input.specs.Input.{entry_in, row_in, rows_in, all_differ, ids_of, is_bare, refers_within, fits, all_fit, is_complete}
+use Rattle.schemagen_input.specs.Input.{entry_in, row_in, rows_in, all_differ, ids_of, refers_within}
+use Rattle.schemagen_input.specs.Input.{all_fit, is_complete}
 use Rattle.schemagen_input.specs.Reading.{headings_in, reserved_after, fitting_after}
 
 -- ---- options
@@ -340,9 +338,9 @@ refused_is_not_within done after r e x none refused =
 
 pub defining_goes_on : (rows : List Value) (count n : ℕ) (types new : List Row) (row : Value) (e : Entry) → row ≡ get_or rows n row
     → n < length rows
-    → Defining rows count n types → entry_in (view row) ≡ Some e → is_bare e ≡ true → refusal_of types n e ≡ None
+    → Defining rows count n types → entry_in (view row) ≡ Some e → refusal_of types n e ≡ None
     → new ≡ defined n e types → Defining rows count (n + 1) new
-defining_goes_on rows count n types new row e is here before entry bare taken grown =
+defining_goes_on rows count n types new row e is here before entry taken grown =
     let next = next_headings rows count n row types is here before in
     let done = before.done in
     let r = with_entry e next.heading in
@@ -359,7 +357,8 @@ defining_goes_on rows count n types new row e is here before entry bare taken gr
       headings = next.there;
       rest = before.rest ∙ ap (fitting_after count done) (next_item rows n row is here)
           ∙ fitting_after-item count done (view row) (items_view (drop (n + 1) rows)) r whole;
-      fit = list_all-append (λ q. option_map_or (fits count) q.entry false) done (r ∷ []) ∙ rw (before.fit, bare, within);
+      fit = list_all-append (λ q. option_map_or (refers_within count) q.entry false) done (r ∷ [])
+          ∙ rw (before.fit, within);
     }
   where
     length-snoc : (xs : List Row) (x : Row) → length (xs ++ x ∷ []) ≡ length xs + 1
@@ -375,7 +374,8 @@ defining_fails rows count n types row is here before none =
 
 -- a row's entry does not fit
 does_not_fit : (rows : List Value) (count n : ℕ) (types : List Row) (row : Value) (e : Entry) → row ≡ get_or rows n row → n < length rows
-    → Defining rows count n types → entry_in (view row) ≡ Some e → fits count e ≡ false → fitting_after count [] (items_view rows) ≡ None
+    → Defining rows count n types → entry_in (view row) ≡ Some e → refers_within count e ≡ false
+    → fitting_after count [] (items_view rows) ≡ None
 does_not_fit rows count n types row e is here before entry bad =
     let next = next_headings rows count n row types is here before in
     let r = with_entry e next.heading in
@@ -384,20 +384,13 @@ does_not_fit rows count n types row e is here before entry bad =
     ∙ rw whole (by before.done r (rows_in (items_view (drop (n + 1) rows))) refl)
   where
     unfit : (done : List Row) (r : Row) (rs : List Row) → r.entry ≡ Some e → all_fit count (done ++ r ∷ rs) ≡ false
-    unfit done r rs has = list_all-append (λ q. option_map_or (fits count) q.entry false) done (r ∷ rs)
+    unfit done r rs has = list_all-append (λ q. option_map_or (refers_within count) q.entry false) done (r ∷ rs)
         ∙ rw (has, bad) (both_false (all_fit count done))
 
     by : (done : List Row) (r : Row) (o : Option (List Row)) → r.entry ≡ Some e
         → option_and_then (λ rs. cond (all_fit count (done ++ rs)) (Some (done ++ rs)) None) (option_map (λ rs. r ∷ rs) o) ≡ None
     by done r None has = refl
     by done r (Some rs) has = rw (unfit done r rs has)
-
--- a row or a field has notes
-pub defining_is_not_bare : (rows : List Value) (count n : ℕ) (types : List Row) (row : Value) (e : Entry) → row ≡ get_or rows n row
-    → n < length rows
-    → Defining rows count n types → entry_in (view row) ≡ Some e → is_bare e ≡ false → fitting_after count [] (items_view rows) ≡ None
-defining_is_not_bare rows count n types row e is here before entry noted =
-    does_not_fit rows count n types row e is here before entry (rw noted)
 
 -- the table refuses the entry
 pub defining_is_refused : (rows : List Value) (count n : ℕ) (types : List Row) (row : Value) (e : Entry) (x : TypesError)
@@ -412,7 +405,7 @@ defining_is_refused rows count n types row e x is here before entry refused =
     ∙ ap (λ (rs : List Row). refusal_of rs n e) (sym whole) ∙ refused in
     let outside = refused_is_not_within before.done next.later next.heading e x (no_entry (view row) next.heading next.here) at_place in
     let so_many : count ≡ length (before.done ++ next.heading ∷ next.later) = sym before.long ∙ ap length whole in
-    does_not_fit rows count n types row e is here before entry (ap (λ (k : ℕ). fits k e) so_many ∙ rw outside (both_false (is_bare e)))
+    does_not_fit rows count n types row e is here before entry (ap (λ (k : ℕ). refers_within k e) so_many ∙ outside)
 
 pub defining_ends : (rows : List Value) (count n : ℕ) (types : List Row) → length rows ≤ n → Defining rows count n types
     → fitting_after count [] (items_view rows) ≡ Some types
@@ -533,21 +526,6 @@ rows_done ds headings rows reserved fitting =
 pub tabled-done : (ds : Items) (root : ℕ) (rows : List Row) → (rows_in ds ≡ Some rows) × (is_complete rows ≡ true)
     → tabled ds root ≡ Some (rows, root)
 tabled-done ds root rows done = rw (done.0, done.1)
-
-pub is_none-members_view : (es : List (String Global × Value)) (b : Bool) → (IsTrue b ↔ (length es ≡ 0)) → b ≡ is_none (members_view es)
-is_none-members_view [] true e = refl
-is_none-members_view [] false e = e.1 refl
-is_none-members_view (m ∷ es) true e = absurd (omega (arith, e.0 refl))
-is_none-members_view (m ∷ es) false e = refl
-
--- a field with notes
-pub noted_field : (fs : List src-field.Field) (i : ℕ) (f : src-field.Field) (b : Bool) → f ≡ get_or fs i f → i < length fs
-    → (IsTrue b ↔ (length f.notes.entries ≡ 0)) → b ≡ false
-    → list_all (λ g. is_none g.notes) (map field_of (drop i fs)) ≡ false
-noted_field fs i f b is here empty has =
-    let noted : is_none (members_view f.notes.entries) ≡ false = sym (is_none-members_view f.notes.entries b empty) ∙ has in
-    ap (λ (l : List src-field.Field). list_all (λ g. is_none g.notes) (map field_of l)) (drop-cons fs i f here)
-    ∙ ap (λ (g : src-field.Field). list_all (λ h. is_none h.notes) (map field_of (g ∷ drop (suc i) fs))) (sym is) ∙ rw noted
 
 -- the parts of an input
 pub table_in-parts : (d : Data) (ds : Items) (root : ℕ) → has_only (codes "types" ∷ codes "root" ∷ []) d ≡ true

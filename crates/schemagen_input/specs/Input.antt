@@ -6,12 +6,12 @@ use Rattle.std.specs.Option.{option_map_or}
 use Rattle.serde_json.specs.Data.{Data, null, boolean, number, string, array, object, Items, no_items, item}
 use Rattle.serde_json.specs.Find.{as_bool, as_str, as_array}
 use Rattle.schemars_json.specs.Json.{Text}
-use Rattle.schemars_shapes.specs.Shape.{Payload, Variant, Shape, Entry, either, map_from, external, untagged, internal, numbers_of}
-use Rattle.schemars_shapes.specs.Shape.{struct_payload, null as null_shape, bool, int, non_zero}
+use Rattle.schemars_shapes.specs.Shape.{Shape, Entry, numbers_of, either, map_from}
+use Rattle.schemars_shapes.specs.Shape.{null as null_shape, bool, int, non_zero}
 use Rattle.schemars_shapes.specs.Shape.{number as number_shape, text, char, formatted, any, bytes, schema_itself}
-use Rattle.schemars_shapes.specs.Shape.{option, seq, set, array as array_shape, up_to, tuple, struct, newtype, result, bound, range}
+use Rattle.schemars_shapes.specs.Shape.{option, seq, set, array as array_shape, up_to, tuple, newtype}
+use Rattle.schemars_shapes.specs.Shape.{result, bound, range}
 use Rattle.schemars_types.specs.Rows.{Row, with_entry}
-use Rattle.schemars_shapes.specs.Units.{is_none}
 use Rattle.schemagen_forms.specs.Forms.{has_only, needed, optional, lone_in, number_in, notes_in, kind_in, struct_in, parts_in}
 use Rattle.schemagen_forms.specs.Forms.{external_in, untagged_in, internal_in}
 
@@ -138,39 +138,15 @@ all_differ (t ∷ ts) = not (list_any (λ u. bytes_eq u t) ts) && all_differ ts
 abbrev pub ids_of : List Row → List Text
 ids_of rows = map (λ r. r.id) rows
 
--- no field of a variant has notes
-abbrev pub is_payload_bare : Payload → Bool
-is_payload_bare (struct_payload fields closed) = list_all (λ f. is_none f.notes) fields
-is_payload_bare _ = true
-
--- neither the variant nor a field of it has notes
-abbrev pub is_variant_bare : Variant → Bool
-is_variant_bare x = is_none x.notes && is_payload_bare x.payload
-
--- no field of a struct has notes, no variant of an enum, and no field of a variant
-abbrev pub are_fields_bare : Shape → Bool
-are_fields_bare (struct fields closed) = list_all (λ f. is_none f.notes) fields
-are_fields_bare (external xs) = list_all is_variant_bare xs
-are_fields_bare (untagged xs) = list_all is_variant_bare xs
-are_fields_bare (internal tag closed xs) = list_all is_variant_bare xs
-are_fields_bare _ = true
-
--- neither the row nor a field or a variant of it has notes
-abbrev pub is_bare : Entry → Bool
-is_bare e = is_none e.notes && are_fields_bare e.shape
-
 -- every number in the entry is one of so many rows
 abbrev pub refers_within : ℕ → Entry → Bool
 refers_within count e = list_all (λ m. nat_lt m count) (numbers_of e.shape)
 
-abbrev pub fits : ℕ → Entry → Bool
-fits count e = is_bare e && refers_within count e
-
--- each row has an entry without notes, whose numbers are those of so many rows
+-- each row has an entry whose numbers are those of so many rows
 abbrev pub all_fit : ℕ → List Row → Bool
-all_fit count rows = list_all (λ r. option_map_or (fits count) r.entry false) rows
+all_fit count rows = list_all (λ r. option_map_or (refers_within count) r.entry false) rows
 
--- The rows of a table: the ids all differ, every number in an entry is a row's, and there are no notes.
+-- the rows of a table: the ids all differ, and every number in an entry is a row's
 abbrev pub is_complete : List Row → Bool
 is_complete rows = all_differ (ids_of rows) && all_fit (length rows) rows
 

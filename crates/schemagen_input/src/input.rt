@@ -1,23 +1,15 @@
 //! The table that a JSON value says.
-ghost use Rattle.std.specs.Prelude.{◌≡◌, [], true, None, Some, IfOk, IfErr, option_map, length, map};
-ghost use Rattle.std.specs.List.{list_all};
+ghost use Rattle.std.specs.Prelude.{◌≡◌, [], true, None, Some, IfOk, IfErr, option_map, length};
 ghost use Rattle.serde_json.specs.View.{view, items_view};
-ghost use Rattle.schemars_shapes.specs.Shape.{shape_of, field_of, entry_of};
-ghost use Rattle.schemars_shapes.specs.Shape.{payload_of, variant_of, internal_payload_of, internal_variant_of};
-ghost use Rattle.schemagen_input.specs.Input.{is_payload_bare, is_variant_bare};
 ghost use Rattle.schemagen_forms.specs.Forms.{needed};
-ghost use Rattle.schemagen_input.specs.Input.{heading_in, unentered, are_fields_bare, is_bare, is_complete, table_in};
-ghost use Rattle.schemars_shapes.specs.Units.{is_none};
+ghost use Rattle.schemagen_input.specs.Input.{heading_in, unentered, is_complete, table_in};
 ghost use Rattle.schemagen_input.specs.Reading.{headings_in, reserved_after, fitting_after};
 ghost use Rattle.serde_json.specs.Find.{as_array};
 
 use crate::shapes::entry_in;
 use schemagen_forms::InputError;
 use schemagen_forms::members::{has_only, number_of, text_in};
-use schemars_types::{
-    Field, Internal, InternalPayload, InternalVariant, Payload, Shape, TypeEntry, TypeNo, Types,
-    Variant,
-};
+use schemars_types::{TypeNo, Types};
 use serde_json::Value;
 use std::alloc::Global;
 
@@ -33,90 +25,6 @@ fn heading_in(value: &Value) -> Option<(&str, &str)>
     let id = text_in(value, "id")?;
     let name = text_in(value, "name")?;
     Some((id, name))
-}
-
-// Whether no field has notes.
-fn are_bare(fields: &[Field]) -> bool
-    ensures { result ≡ list_all (λ f. is_none f.notes) (map field_of fields.now) }
-{
-    for field in fields {
-        if !field.notes.is_empty() {
-            return false;
-        }
-    }
-    true
-}
-
-fn is_payload_bare(payload: &Payload) -> bool
-    ensures { result ≡ is_payload_bare (payload_of payload.now) }
-{
-    match payload {
-        Payload::Struct(fields) => are_bare(&fields.list),
-        _ => true,
-    }
-}
-
-// Whether neither the variant nor a field of it has notes.
-fn is_variant_bare(variant: &Variant) -> bool
-    ensures { result ≡ is_variant_bare (variant_of variant.now) }
-{
-    variant.notes.is_empty() && is_payload_bare(&variant.payload)
-}
-
-fn are_variants_bare(variants: &[Variant]) -> bool
-    ensures { result ≡ list_all is_variant_bare (map variant_of variants.now) }
-{
-    for variant in variants {
-        if !is_variant_bare(variant) {
-            return false;
-        }
-    }
-    true
-}
-
-// Whether neither the variant nor a field of it has notes.
-fn is_internal_bare(variant: &InternalVariant) -> bool
-    ensures { result ≡ is_variant_bare (internal_variant_of variant.now) }
-{
-    variant.notes.is_empty() && is_inside_bare(&variant.payload)
-}
-
-fn is_inside_bare(payload: &InternalPayload) -> bool
-    ensures { result ≡ is_payload_bare (internal_payload_of payload.now) }
-{
-    match payload {
-        InternalPayload::Unit => true,
-        InternalPayload::Struct(fields) => are_bare(&fields.list),
-    }
-}
-
-fn are_internals_bare(variants: &[InternalVariant]) -> bool
-    ensures { result ≡ list_all is_variant_bare (map internal_variant_of variants.now) }
-{
-    for variant in variants {
-        if !is_internal_bare(variant) {
-            return false;
-        }
-    }
-    true
-}
-
-fn are_fields_bare(shape: &Shape) -> bool
-    ensures { result ≡ are_fields_bare (shape_of shape.now) }
-{
-    match shape {
-        Shape::Struct(fields) => are_bare(&fields.list),
-        Shape::External(variants) | Shape::Untagged(variants) => are_variants_bare(variants),
-        Shape::Internal(internal) => are_internals_bare(&internal.variants),
-        _ => true,
-    }
-}
-
-// Whether neither the row nor a field or a variant of it has notes.
-fn is_bare(entry: &TypeEntry) -> bool
-    ensures { result ≡ is_bare (entry_of entry.now) }
-{
-    entry.notes.is_empty() && are_fields_bare(&entry.shape)
 }
 
 // A table with the ids and the names of these rows.
@@ -149,9 +57,6 @@ fn define_rows(alloc: Global, mut types: Types, rows: &[Value]) -> Result<Types,
 {
     for (n, row) in rows.iter().enumerate() {
         let entry = entry_in(alloc, row)?;
-        if !is_bare(&entry) {
-            return Err(InputError::BadTable);
-        }
         types.define(n, entry)?;
     }
     Ok(types)
@@ -169,7 +74,8 @@ fn items_in<'v>(value: &'v Value, name: &str) -> Option<&'v Vec<Value>>
 /// The value is an object with the members `types`, a list of rows, and `root`, a number. Whether
 /// that is a row's is not asked here. A row has the members `id`, `name` and `shape`, and may have
 /// `inline` and `notes`. No two rows have one id, and each number in a shape is a row's: the row's
-/// own, or one before or behind it. No row, no field and no variant has notes.
+/// own, or one before or behind it. The notes of rows, fields and variants are objects with any
+/// members.
 pub fn read_input(alloc: Global, value: &Value) -> Result<(Types, TypeNo), InputError>
     ensures ok { IfOk result (λ t. table_in (view value.now) ≡ Some (t.0, t.1)) }
     ensures complete { IfOk result (λ t. is_complete t.0 ≡ true) }

@@ -1,26 +1,29 @@
 -- Which words a run knows, and what it refuses.
-use Rattle.std.proofs.Common.{◌≡◌, ◌⊎◌, refl, inl, inr, ℕ, List, [], ◌∷◌, ◌++◌, append-nil, subst, Option, Some, None}
+use Rattle.std.proofs.Common.{◌≡◌, ◌⊎◌, ◌<◌, refl, inl, inr, ℕ, List, [], ◌∷◌, ◌++◌, append-nil, subst}
+use Rattle.std.proofs.Common.{Option, Some, None}
 use Rattle.std.proofs.Common.{length, get_or, ◌&&◌, true, String, Global, string_bytes, codes, sym, ap}
 use Rattle.std.proofs.Common.{◌∙◌, arith}
 use Rattle.std.specs.Str.{bytes_eq}
 use Rattle.std.proofs.lemmas.Slice.Eq.{bytes_eq-Decides}
-use Rattle.schemars_documents.specs.declared.contract.Contract.TheVariants.{Deserialize, Serialize}
+use Rattle.schemars_documents.specs.declared.contract.Contract.TheVariants.{Deserialize}
 use Rattle.schemars_types.specs.Rows.{Row}
 use Rattle.schemars_types.specs.Faults.{IsAccepted, Refusal}
+use Rattle.schemars_documents.specs.PlainTable.{HasPlainNotes}
 use Rattle.schemars_types.specs.declared.error.TypesError as types
 use Rattle.schemars_types.specs.declared.error.TypesError.TheVariants as of_types
 use Rattle.schemars_roots.specs.declared.error.GenerateError.{GenerateError}
-use Rattle.schemars_roots.specs.declared.error.GenerateError.TheVariants.{OutOfMemory}
+use Rattle.schemars_roots.specs.declared.error.GenerateError.TheVariants.{OutOfMemory, DefinitionsPath}
 use Rattle.schemars_roots.specs.Refusals.{code_of, error_of, HasFault}
 use Rattle.schemagen_run.specs.declared.fault.Fault.{Fault}
 use Rattle.schemagen_run.specs.declared.fault.Fault.TheVariants.{Refused}
-use Rattle.schemagen_run.specs.declared.fault.TheConstants.{OUT_OF_MEMORY, NOT_JSON, BAD_TABLE, WRITE}
-use Rattle.schemagen_run.specs.Fault.{IsReadFault, IsTableFault, IsOutside, IsFault}
+use Rattle.schemagen_run.specs.declared.fault.TheConstants.{OUT_OF_MEMORY, DEFINITIONS_PATH, NOT_JSON, BAD_TABLE, WRITE}
+use Rattle.schemagen_run.specs.Fault.{IsReadFault, IsTableFault, IsLineFault, IsOutside}
 use Rattle.schemagen_input.specs.Input.{input_of}
 use Rattle.schemagen_run.specs.declared.run.Asked.{Asked}
 use Rattle.std.specs.Prelude.{MatchOption}
-use Rattle.schemagen_run.specs.Run.{AskFor, AreKnown, AreFlagsFor, AreKnownFlags}
-use Rattle.schemagen_run.specs.Run.{GivesAll, IsNoJson, IsBadTable, IsTableText, IsAcceptedText, IsFaultyTable, Tells}
+use Rattle.schemagen_run.specs.Run.{AskFor, AreKnown, AreFlagsFor, AreKnownFlags, IsLineOf}
+use Rattle.schemagen_run.specs.Run.{GivesAll, IsNoJson, IsBadTable, IsTableText, IsAcceptedText, IsNotedText}
+use Rattle.schemagen_run.specs.Run.{IsFaultyTable, Tells}
 use Rattle.schemagen_run.proofs.Tables.{both}
 use Rattle.std.proofs.Common.{Bool, false, nat_lt, ◌||◌, true≢false}
 use Rattle.schemagen_run.specs.declared.fault.Fault.TheVariants.{Usage}
@@ -101,6 +104,18 @@ four_words (u ∷ v ∷ w ∷ x ∷ []) a b c d four first second third fourth t
           rw (is_word a u (codes "types") first parts.0, is_word b v (codes "2020-12") second parts.1, sym same, sym alike) refl,
         )
 
+-- ---- lines
+
+-- a line has its newline
+pub line_is_some : (asked : Asked) (rows : List Row) (root : ℕ) (line : List ℕ) → IsLineOf asked rows root line
+    → 0 < length line
+line_is_some asked rows root line (document, (text, of, ordered, same)) =
+    subst (λ (t : List ℕ). 0 < length t) (sym same) (ends text)
+  where
+    ends : (t : List ℕ) → 0 < length (t ++ 10 ∷ [])
+    ends [] = omega arith
+    ends (x ∷ t) = omega arith
+
 -- ---- tables without faults
 
 -- what is known to be left is what the source gives
@@ -131,15 +146,30 @@ read_outside bytes old new e known text (inr (inr (inl is))) not_json bad_table 
 read_outside bytes old new e known text (inr (inr (inr is))) not_json bad_table =
     absurd (no_table bytes (gave bytes old new known (bad_table is)) text)
 
--- the table that was read is the one without faults
-pub read_is_accepted : (bytes : List ℕ) (rows : List Row) (root : ℕ) → IsTableText rows root bytes → IsAcceptedText bytes → IsAccepted rows
-read_is_accepted bytes rows root (d, (utf8, is), said) (others, (other, (e, (text, also), told), accepted)) =
+-- one text is that of one table
+same_table : (bytes : List ℕ) (rows others : List Row) (root other : ℕ) → IsTableText rows root bytes
+    → IsTableText others other bytes → others ≡ rows
+same_table bytes rows others root other (d, (utf8, is), said) (e, (text, also), told) =
     let same : d ≡ e = cc in
-    let tables : others ≡ rows = pair_same (sym said ∙ ap input_of same ∙ told) in
-    subst IsAccepted tables accepted
+    first_same (sym said ∙ ap input_of same ∙ told)
   where
-    pair_same : {p q : List Row × ℕ} → Some p ≡ Some q → q.0 ≡ p.0
-    pair_same h = cc
+    first_same : {p q : List Row × ℕ} → Some p ≡ Some q → q.0 ≡ p.0
+    first_same h = cc
+
+-- the table that was read is the one without faults
+pub read_is_accepted : (bytes : List ℕ) (rows : List Row) (root : ℕ) → IsTableText rows root bytes
+    → IsAcceptedText bytes → IsAccepted rows
+read_is_accepted bytes rows root text (others, (other, also, accepted)) =
+    subst IsAccepted (same_table bytes rows others root other text also) accepted
+
+pub read_is_noted : (bytes : List ℕ) (rows : List Row) (root : ℕ) → IsTableText rows root bytes → IsNotedText bytes
+    → IsAccepted rows × HasPlainNotes rows
+read_is_noted bytes rows root text (others, (other, also, accepted, plain)) =
+    let same = same_table bytes rows others root other text also in
+    (subst IsAccepted same accepted, subst HasPlainNotes same plain)
+
+pub noted_is_accepted : (bytes : List ℕ) → IsNotedText bytes → IsAcceptedText bytes
+noted_is_accepted bytes (rows, (root, text, accepted, plain)) = (rows, (root, text, accepted))
 
 -- ---- tables with a fault
 
@@ -149,32 +179,34 @@ memory_is_not_of_table e memory (inr (inl is)) = cc
 memory_is_not_of_table e memory (inr (inr (inl is))) = cc
 memory_is_not_of_table e memory (inr (inr (inr is))) = cc
 
+path_is_not_of_table : (e : Fault) → e ≡ Refused DEFINITIONS_PATH → IsTableFault e → ⊥
+path_is_not_of_table e path (inl is) = cc
+path_is_not_of_table e path (inr (inl is)) = cc
+path_is_not_of_table e path (inr (inr (inl is))) = cc
+path_is_not_of_table e path (inr (inr (inr is))) = cc
+
+memory_is_no_path : (e : Fault) → e ≡ Refused OUT_OF_MEMORY → e ≡ Refused DEFINITIONS_PATH → ⊥
+memory_is_no_path e memory path = cc
+
 -- a refusal of the table that was read
-pub read_is_faulty : (rows : List Row) (root : ℕ) (old new : Option (List ℕ)) (e : Fault) → GivesAll old new (IsTableText rows root)
-    → (e ≡ Refused OUT_OF_MEMORY) ⊎ Tells rows e
+pub read_is_faulty : {U : Type 0} (rows : List Row) (root : ℕ) (old new : Option (List ℕ)) (e : Fault)
+    → GivesAll old new (IsTableText rows root)
+    → (e ≡ Refused OUT_OF_MEMORY) ⊎ Tells rows e ⊎ ((e ≡ Refused DEFINITIONS_PATH) × U)
     → IsTableFault e → GivesAll old new (IsFaultyTable e)
 read_is_faulty rows root old new e given (inl memory) fault = absurd (memory_is_not_of_table e memory fault)
-read_is_faulty rows root old new e (bytes, consumed, end, text) (inr told) fault = (bytes, consumed, end, (rows, (root, text, told)))
-
--- a refusal of a line
-pub refused_is_fault : (e : Fault) → (e ≡ Refused OUT_OF_MEMORY) ⊎ IsTableFault e → IsFault e
-refused_is_fault e (inl memory) = inr (inl (inl memory))
-refused_is_fault e (inr table) = inr (inr (inl table))
+read_is_faulty rows root old new e (bytes, consumed, end, text) (inr (inl told)) fault =
+    (bytes, consumed, end, (rows, (root, text, told)))
+read_is_faulty rows root old new e given (inr (inr path)) fault = absurd (path_is_not_of_table e path.0 fault)
 
 -- ---- refusals of the generator
 
--- a refusal of the generator, told by its number
-pub told : (rows : List Row) (e : GenerateError) (f : Fault) → (e ≡ OutOfMemory) ⊎ HasFault rows e → f ≡ Refused (code_of e)
-    → (f ≡ Refused OUT_OF_MEMORY) ⊎ Tells rows f
-told rows e f (inl memory) same = inl (same ∙ ap (λ (x : GenerateError). Refused (code_of x)) memory)
-told rows e f (inr fault) same = inr (e, fault, same)
+of_code : (e d : GenerateError) (f : Fault) → f ≡ Refused (code_of e) → e ≡ d → f ≡ Refused (code_of d)
+of_code e d f same is = same ∙ ap (λ (x : GenerateError). Refused (code_of x)) is
 
--- is a fault of a table
-pub of_table : (rows : List Row) (e : GenerateError) (f : Fault) → (e ≡ OutOfMemory) ⊎ HasFault rows e → f ≡ Refused (code_of e)
-    → (f ≡ Refused OUT_OF_MEMORY) ⊎ IsTableFault f
-of_table rows e f (inl memory) same = inl (same ∙ ap (λ (x : GenerateError). Refused (code_of x)) memory)
-of_table rows e f (inr fault) same = inr
-    (by fault.fault fault.refusal (same ∙ ap (λ (x : GenerateError). Refused (code_of x)) fault.is_told))
+-- the fault of a table, told by its number
+of_table : (rows : List Row) (e : GenerateError) (f : Fault) → HasFault rows e → f ≡ Refused (code_of e)
+    → IsTableFault f
+of_table rows e f fault same = by fault.fault fault.refusal (of_code e (error_of fault.fault) f same fault.is_told)
   where
     by : (t : types.TypesError) → Refusal rows t → f ≡ Refused (code_of (error_of t)) → IsTableFault f
     by (of_types.UndefinedType n) refusal is = inl is
@@ -184,6 +216,41 @@ of_table rows e f (inr fault) same = inr
     by of_types.OutOfMemory refusal is = absurd refusal
     by (of_types.AlreadyDefined n) refusal is = absurd refusal
     by (of_types.UnknownType n) refusal is = absurd refusal
+
+-- a refusal of the generator, told by its number
+pub told : {U : Type 0} (rows : List Row) (e : GenerateError) (f : Fault)
+    → (e ≡ OutOfMemory) ⊎ HasFault rows e ⊎ ((e ≡ DefinitionsPath) × U) → f ≡ Refused (code_of e)
+    → (f ≡ Refused OUT_OF_MEMORY) ⊎ Tells rows f ⊎ ((f ≡ Refused DEFINITIONS_PATH) × U)
+told rows e f (inl memory) same = inl (of_code e OutOfMemory f same memory)
+told rows e f (inr (inl fault)) same = inr (inl (e, fault, same))
+told rows e f (inr (inr (path, why))) same = inr (inr (of_code e DefinitionsPath f same path, why))
+
+pub told_of_two : (e : GenerateError) (f : Fault) → (e ≡ OutOfMemory) ⊎ (e ≡ DefinitionsPath) → f ≡ Refused (code_of e)
+    → (f ≡ Refused OUT_OF_MEMORY) ⊎ (f ≡ Refused DEFINITIONS_PATH)
+told_of_two e f (inl memory) same = inl (of_code e OutOfMemory f same memory)
+told_of_two e f (inr path) same = inr (of_code e DefinitionsPath f same path)
+
+-- is one of a line
+pub of_line : {U : Type 0} (rows : List Row) (e : GenerateError) (f : Fault)
+    → (e ≡ OutOfMemory) ⊎ HasFault rows e ⊎ ((e ≡ DefinitionsPath) × U) → f ≡ Refused (code_of e) → IsLineFault f
+of_line rows e f (inl memory) same = inl (of_code e OutOfMemory f same memory)
+of_line rows e f (inr (inl fault)) same = inr (inl (of_table rows e f fault same))
+of_line rows e f (inr (inr (path, why))) same = inr (inr (of_code e DefinitionsPath f same path))
+
+-- a refusal of its document
+pub has_no_place : {U : Type 0} (rows : List Row) (e : Fault)
+    → (e ≡ Refused OUT_OF_MEMORY) ⊎ Tells rows e ⊎ ((e ≡ Refused DEFINITIONS_PATH) × U) → e ≡ Refused DEFINITIONS_PATH
+    → U
+has_no_place rows e (inl memory) path = absurd (memory_is_no_path e memory path)
+has_no_place rows e (inr (inl (x, fault, same))) path =
+    absurd (path_is_not_of_table e path (of_table rows x e fault same))
+has_no_place rows e (inr (inr (is, why))) path = why
+
+-- a refusal of a table without faults
+pub is_outside : (e : Fault) → (e ≡ Refused OUT_OF_MEMORY) ⊎ (e ≡ Refused DEFINITIONS_PATH)
+    → IsOutside e ⊎ (e ≡ Refused DEFINITIONS_PATH)
+is_outside e (inl memory) = inl (inl memory)
+is_outside e (inr path) = inr path
 
 -- ---- one fault is no other
 
@@ -216,17 +283,22 @@ pub read_is_no_write : (e : Fault) → IsReadFault e → e ≡ Refused WRITE →
 unfolding is_read_fault
 read_is_no_write e read is = true≢false (sym (of_reading e read) ∙ ap is_read_fault is)
 
+pub read_is_no_path : (e : Fault) → IsReadFault e → e ≡ Refused DEFINITIONS_PATH → ⊥
+unfolding is_read_fault
+read_is_no_path e read is = true≢false (sym (of_reading e read) ∙ ap is_read_fault is)
+
 abbrev pub is_line_fault : Fault → Bool
 is_line_fault Usage = false
-is_line_fault (Refused n) = nat_lt n 6
+is_line_fault (Refused n) = nat_lt n 10
 
-of_line : (e : Fault) → (e ≡ Refused OUT_OF_MEMORY) ⊎ IsTableFault e → is_line_fault e ≡ true
-of_line e (inl is) = ap is_line_fault is
-of_line e (inr (inl is)) = ap is_line_fault is
-of_line e (inr (inr (inl is))) = ap is_line_fault is
-of_line e (inr (inr (inr (inl is)))) = ap is_line_fault is
-of_line e (inr (inr (inr (inr is)))) = ap is_line_fault is
+of_writing : (e : Fault) → IsLineFault e → is_line_fault e ≡ true
+of_writing e (inl is) = ap is_line_fault is
+of_writing e (inr (inl (inl is))) = ap is_line_fault is
+of_writing e (inr (inl (inr (inl is)))) = ap is_line_fault is
+of_writing e (inr (inl (inr (inr (inl is))))) = ap is_line_fault is
+of_writing e (inr (inl (inr (inr (inr is))))) = ap is_line_fault is
+of_writing e (inr (inr is)) = ap is_line_fault is
 
 -- a refusal of the table that was read is none of these
-pub line_is_no_other : (e f : Fault) → (e ≡ Refused OUT_OF_MEMORY) ⊎ IsTableFault e → is_line_fault f ≡ false → e ≡ f → ⊥
-line_is_no_other e f line other is = true≢false (sym (of_line e line) ∙ ap is_line_fault is ∙ other)
+pub line_is_no_other : (e f : Fault) → IsLineFault e → is_line_fault f ≡ false → e ≡ f → ⊥
+line_is_no_other e f line other is = true≢false (sym (of_writing e line) ∙ ap is_line_fault is ∙ other)

@@ -3,7 +3,8 @@ use Rattle.std.specs.Prelude.{◌≡◌, ◌⊎◌, ℕ}
 use Rattle.schemagen_run.specs.declared.fault.Fault.{Fault}
 use Rattle.schemagen_run.specs.declared.fault.Fault.TheVariants.{Usage, Refused}
 use Rattle.schemagen_run.specs.declared.fault.TheConstants.{OUT_OF_MEMORY, UNDEFINED_TYPE, REPEATED_NAME, DIRECT_CYCLE}
-use Rattle.schemagen_run.specs.declared.fault.TheConstants.{EMPTY_CYCLE, NOT_JSON, BAD_TABLE, READ, WRITE}
+use Rattle.schemagen_run.specs.declared.fault.TheConstants.{EMPTY_CYCLE, DEFINITIONS_PATH, NOT_JSON, BAD_TABLE}
+use Rattle.schemagen_run.specs.declared.fault.TheConstants.{READ, WRITE}
 
 abbrev pub status_of : Fault → ℕ
 status_of Usage = 2
@@ -17,9 +18,13 @@ IsReadFault e = (e ≡ Refused OUT_OF_MEMORY) ⊎ (e ≡ Refused READ) ⊎ (e �
 abbrev pub IsTableFault : Fault → Type 0
 IsTableFault e = (e ≡ Refused UNDEFINED_TYPE) ⊎ (e ≡ Refused REPEATED_NAME) ⊎ (e ≡ Refused DIRECT_CYCLE) ⊎ (e ≡ Refused EMPTY_CYCLE)
 
+-- while its document is made
+abbrev pub IsLineFault : Fault → Type 0
+IsLineFault e = (e ≡ Refused OUT_OF_MEMORY) ⊎ IsTableFault e ⊎ (e ≡ Refused DEFINITIONS_PATH)
+
 -- for want of memory, or of the source or the sink
 abbrev pub IsOutside : Fault → Type 0
 IsOutside e = (e ≡ Refused OUT_OF_MEMORY) ⊎ (e ≡ Refused READ) ⊎ (e ≡ Refused WRITE)
 
 abbrev pub IsFault : Fault → Type 0
-IsFault e = (e ≡ Usage) ⊎ IsReadFault e ⊎ IsTableFault e ⊎ (e ≡ Refused WRITE)
+IsFault e = (e ≡ Usage) ⊎ IsReadFault e ⊎ IsLineFault e ⊎ (e ≡ Refused WRITE)

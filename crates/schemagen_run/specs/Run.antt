@@ -5,15 +5,16 @@ use Rattle.std.specs.declared.alloc.Global.{Global}
 use Rattle.std.specs.Io.KnownBytes.{Consumes, IsAtEnd}
 use Rattle.serde_json.specs.Data.{Data, no_members}
 use Rattle.serde_json.specs.Read.{read}
+use Rattle.serde_json.specs.Written.{has_float}
 use Rattle.schemars_json.specs.Json.{Text}
 use Rattle.schemars_json.specs.OrderedText.{ordered_text}
 use Rattle.schemars_types.specs.Rows.{Row}
 use Rattle.schemars_types.specs.Faults.{IsAccepted}
-use Rattle.schemars_documents.specs.PlainTable.{TagsStandApart}
+use Rattle.schemars_documents.specs.PlainTable.{IsPlainTable, HasPlainNotes, HasNoFloat}
 use Rattle.schemars_documents.specs.declared.contract.Contract.{Contract}
 use Rattle.schemars_documents.specs.declared.contract.Contract.TheVariants.{Deserialize, Serialize}
 use Rattle.schemars_roots.specs.declared.error.GenerateError.{GenerateError}
-use Rattle.schemars_headline.specs.Headline.{MeansItsType, IsRootOf}
+use Rattle.schemars_headline.specs.Headline.{MeansItsType, IsRootOf, CannotPlace}
 use Rattle.schemars_documents.specs.ContractOf.{contract_of}
 use Rattle.schemars_roots.specs.Refusals.{code_of, HasFault}
 use Rattle.schemars_headline.specs.State.{Settings, State, settings2020_12}
@@ -66,6 +67,11 @@ IsTableText rows root bytes = (d : Data) × IsTextOf d bytes × (input_of d ≡ 
 abbrev pub IsAcceptedText : List ℕ → Type 0
 IsAcceptedText bytes = (rows : List Row) × ((root : ℕ) × IsTableText rows root bytes × IsAccepted rows)
 
+-- and one whose rows have annotations alone for notes
+abbrev pub IsNotedText : List ℕ → Type 0
+IsNotedText bytes =
+    (rows : List Row) × ((root : ℕ) × IsTableText rows root bytes × IsAccepted rows × HasPlainNotes rows)
+
 -- the refusal tells the fault of this table
 abbrev pub Tells : List Row → Fault → Type 0
 Tells rows fault = (e : GenerateError) × HasFault rows e × (fault ≡ Refused (code_of e))
@@ -83,22 +89,34 @@ settings_for asked = record settings2020_12 { contract = asked.contract; inlines
 abbrev pub fresh : Asked → List Row → State
 fresh asked rows = record { settings = settings_for asked; rows = rows; names = []; definitions = no_members }
 
--- the root document of this row: it is made by the rules, and where tags stand apart it accepts just the values of the type
+-- the root document of this row: it is made by the rules, and where the table is plain it accepts just the values of
+-- the type; the numbers in it are whole, where those in notes are
 abbrev pub IsDocumentOf : Asked → List Row → ℕ → Data → Type 0
 IsDocumentOf asked rows root document =
     ((w : Work) × IsRootOf (fresh asked rows) root w document)
-    × (TagsStandApart rows → MeansItsType rows (contract_of asked.contract) (codes "/$defs") root document)
+    × (IsPlainTable rows → MeansItsType rows (contract_of asked.contract) (codes "/$defs") root document)
+    × (HasNoFloat rows → has_float document ≡ false)
 
--- a document's text, and a newline
-abbrev pub line_of : Data → Text
-line_of document = ordered_text document ++ 10 ∷ []
-
--- the line of a root document of this row
+-- the line of a root document of this row: its text in order, where the numbers in it are whole, and a newline
 abbrev pub IsLineOf : Asked → List Row → ℕ → Text → Type 0
-IsLineOf asked rows root line = (document : Data) × IsDocumentOf asked rows root document × (line ≡ line_of document)
+IsLineOf asked rows root line =
+    (document : Data) × ((text : Text)
+    × IsDocumentOf asked rows root document × (has_float document ≡ false → text ≡ ordered_text document)
+    × (line ≡ text ++ 10 ∷ []))
+
+-- the root document of this row has definitions, and no place for them
+abbrev pub IsUnplaced : Asked → List Row → ℕ → Type 0
+IsUnplaced asked rows root = IsAccepted rows × CannotPlace (fresh asked rows) root
 
 -- the bytes are the text of a table without faults, and Q holds of the line of its root that the words ask for
 abbrev pub IsLineFor : List (String Global) → List ℕ → (Text → Type 0) → Type 0
 IsLineFor words bytes Q =
     (asked : Asked) × ((rows : List Row) × ((root : ℕ) × ((line : Text)
     × AskFor words asked × IsTableText rows root bytes × IsAccepted rows × IsLineOf asked rows root line × Q line)))
+
+-- the bytes are the text of a table without faults, and the document that the words ask for has no place for its
+-- definitions
+abbrev pub IsUnplacedFor : List (String Global) → List ℕ → Type 0
+IsUnplacedFor words bytes =
+    (asked : Asked) × ((rows : List Row) × ((root : ℕ)
+    × AskFor words asked × IsTableText rows root bytes × IsUnplaced asked rows root))

@@ -4,17 +4,18 @@ ghost use Rattle.std.specs.Prelude.{MatchOption, string_bytes, bytes_eq, codes, 
 ghost use Rattle.std.specs.Io.KnownBytes.{Appends};
 ghost use Rattle.serde_json.specs.View.{view};
 ghost use Rattle.schemars_types.specs.Faults.{IsAccepted};
-ghost use Rattle.serde_json.specs.Written.{has_float};
+ghost use Rattle.schemars_documents.specs.PlainTable.{HasPlainNotes};
 ghost use Rattle.schemars_generate.specs.Settings.{settings_of};
 ghost use Rattle.schemars_roots.specs.Refusals.{HasFault};
 ghost use Rattle.schemagen_run.specs.Streams.{AppendsBeginning};
 ghost use Rattle.schemagen_input.specs.Input.{is_table, input_of};
 ghost use Rattle.schemagen_run.specs.Run.{AskFor, AreKnown, AreFlagsFor, AreKnownFlags};
 ghost use Rattle.schemagen_run.specs.Run.{GivesAll, IsTextOf, IsNoJson, IsBadTable, IsTableText};
-ghost use Rattle.schemagen_run.specs.Run.{IsAcceptedText, IsFaultyTable, Tells, settings_for, IsDocumentOf, IsLineOf, IsLineFor};
-ghost use Rattle.schemagen_run.specs.Fault.{IsReadFault, IsTableFault, IsOutside, IsFault};
+ghost use Rattle.schemagen_run.specs.Run.{IsAcceptedText, IsNotedText, IsFaultyTable, Tells, settings_for};
+ghost use Rattle.schemagen_run.specs.Run.{IsDocumentOf, IsLineOf, IsLineFor, IsUnplaced, IsUnplacedFor};
+ghost use Rattle.schemagen_run.specs.Fault.{IsReadFault, IsTableFault, IsLineFault, IsOutside, IsFault};
 
-use crate::fault::{BAD_TABLE, Fault, NOT_JSON, OUT_OF_MEMORY, READ, WRITE};
+use crate::fault::{BAD_TABLE, DEFINITIONS_PATH, Fault, NOT_JSON, OUT_OF_MEMORY, READ, WRITE};
 use crate::streams::{Failed, ReadError, Sink, Source, read_all, write_all};
 use schemagen_input::{InputError, read_input};
 use schemars::{Contract, GenerateError, Schema, SchemaGenerator, SchemaSettings};
@@ -29,8 +30,9 @@ use std::alloc::Global;
 /// `--inline` where rows are to be written in place and `--serialize` where the document is to be for
 /// the values that are written. Other words are refused first, with
 /// nothing read. Then a run is refused where the source fails, where the bytes are no JSON, where
-/// the value is no table with a root, where the table has a fault, and where the sink fails, in
-/// this order. It may also be refused for want of memory.
+/// the value is no table with a root, where the table has a fault, where the notes of its rows leave no
+/// place for the definitions, and where the sink fails, in this order. It may also be refused for want
+/// of memory.
 ///
 /// A run that is refused has written nothing, unless the sink has failed: that has taken a
 /// beginning of the text.
@@ -52,6 +54,8 @@ pub fn run<S: Source, K: Sink>(
         → GivesAll (S.left source.old) (S.left source.new) IsBadTable }
     ensures faulty { IfErr result (λ e. IsTableFault e
         → GivesAll (S.left source.old) (S.left source.new) (IsFaultyTable e)) }
+    ensures unplaced { result ≡ Err (Fault.Refused DEFINITIONS_PATH)
+        → GivesAll (S.left source.old) (S.left source.new) (IsUnplacedFor words.now) }
     ensures write { result ≡ Err (Fault.Refused WRITE)
         → GivesAll (S.left source.old) (S.left source.new) (λ bytes. IsLineFor words.now bytes
         (AppendsBeginning (K.bytes sink.old) (K.bytes sink.new))) }
@@ -65,7 +69,9 @@ pub fn run<S: Source, K: Sink>(
         (λ e. e ≢ Fault.Refused WRITE → sink.new ≡ sink.old) }
     ensures faults { IfErr result IsFault }
     ensures accepted { AreKnown words.now → (bytes : List ℕ) → S.left source.old ≡ Some bytes
-        → IsAcceptedText bytes → IfErr result IsOutside }
+        → IsAcceptedText bytes → IfErr result (λ e. IsOutside e ⊎ (e ≡ Fault.Refused DEFINITIONS_PATH)) }
+    ensures noted { AreKnown words.now → (bytes : List ℕ) → S.left source.old ≡ Some bytes
+        → IsNotedText bytes → IfErr result IsOutside }
 {
     let Some(asked) = asked_in(words) else {
         return Err(Fault::Usage);
@@ -218,9 +224,13 @@ fn line_for(alloc: Global, asked: Asked, types: Types, root: TypeNo) -> Result<S
     requires { is_table types root ≡ true }
     ensures ok { IfOk result (λ s. IsLineOf asked types root (string_bytes s)) }
     ensures accepted { OnOk result (IsAccepted types) }
-    ensures refused { IfErr result (λ e. (e ≡ Fault.Refused OUT_OF_MEMORY) ⊎ Tells types e) }
-    ensures faults { IfErr result (λ e. (e ≡ Fault.Refused OUT_OF_MEMORY) ⊎ IsTableFault e) }
-    ensures only_memory { IsAccepted types → IfErr result (λ e. e ≡ Fault.Refused OUT_OF_MEMORY) }
+    ensures refused { IfErr result (λ e. (e ≡ Fault.Refused OUT_OF_MEMORY) ⊎ Tells types e
+        ⊎ ((e ≡ Fault.Refused DEFINITIONS_PATH) × IsUnplaced asked types root)) }
+    ensures faults { IfErr result IsLineFault }
+    ensures unfaulty { IsAccepted types
+        → IfErr result (λ e. (e ≡ Fault.Refused OUT_OF_MEMORY) ⊎ (e ≡ Fault.Refused DEFINITIONS_PATH)) }
+    ensures only_memory { IsAccepted types → HasPlainNotes types
+        → IfErr result (λ e. e ≡ Fault.Refused OUT_OF_MEMORY) }
 {
     let document = document_of(alloc, asked, types, root)?;
     let mut line = document.to_ordered_string(alloc)?;
@@ -237,10 +247,13 @@ fn document_of(
 ) -> Result<Schema, GenerateError>
     requires { is_table types root ≡ true }
     ensures ok { IfOk result (λ d. IsDocumentOf asked types root d) }
-    ensures whole { IfOk result (λ d. has_float d ≡ false) }
     ensures accepted { OnOk result (IsAccepted types) }
-    ensures refused { IfErr result (λ e. (e ≡ GenerateError.OutOfMemory) ⊎ HasFault types e) }
-    ensures only_memory { IsAccepted types → IfErr result (λ e. e ≡ GenerateError.OutOfMemory) }
+    ensures refused { IfErr result (λ e. (e ≡ GenerateError.OutOfMemory) ⊎ HasFault types e
+        ⊎ ((e ≡ GenerateError.DefinitionsPath) × IsUnplaced asked types root)) }
+    ensures unfaulty { IsAccepted types
+        → IfErr result (λ e. (e ≡ GenerateError.OutOfMemory) ⊎ (e ≡ GenerateError.DefinitionsPath)) }
+    ensures only_memory { IsAccepted types → HasPlainNotes types
+        → IfErr result (λ e. e ≡ GenerateError.OutOfMemory) }
 {
     let settings = settings_for(alloc, asked);
     let generator = SchemaGenerator::with_types(alloc, settings, types)?;

@@ -1,14 +1,15 @@
 -- A list without transforms changes nothing and refuses nothing.
-use Rattle.std.proofs.Common.{◌≡◌, ◌⊎◌, inl, inr, List, [], ◌∷◌, Vec, Ok, Err, Global, sym, subst}
+use Rattle.std.proofs.Common.{◌≡◌, ◌⊎◌, inl, inr, ℕ, List, [], ◌∷◌, Vec, Ok, Err, Global, sym, subst}
 use Rattle.serde_json.specs.Data.{Data}
+use Rattle.schemars_headline.specs.State.{State}
 use Rattle.schemars_walk.specs.Walk.{Answer, Step}
 use Rattle.schemars_walk.specs.Order.{InOrder}
 use Rattle.schemars_transforms.specs.Member.{OfMember}
 use Rattle.schemars_transforms.specs.declared.gen_transform.GenTransform.{GenTransform}
 use Rattle.schemars_transforms.proofs.Laws.{no_transforms}
-use Rattle.schemars_roots.specs.Through.{IsThrough, IsTurnedDown}
+use Rattle.schemars_roots.specs.Through.{IsThrough, IsTurnedDown, IsRefused, IsRootRefused}
 use Rattle.schemars_roots.specs.declared.error.GenerateError.{GenerateError}
-use Rattle.schemars_roots.specs.declared.error.GenerateError.TheVariants.{OutOfMemory}
+use Rattle.schemars_roots.specs.declared.error.GenerateError.TheVariants.{OutOfMemory, UnknownType}
 use Rattle.schemars_generate.specs.Settings.{ApplyInOrder}
 
 in_order_none : {O : Type 0} (Q : Step O) (ts us : List (GenTransform O)) (s v : Data) (r : Answer) → ts ≡ []
@@ -24,5 +25,13 @@ pub not_turned_down : {O : Type 0} (Q : Step O) (ts us : Vec (GenTransform O) Gl
     → ts.items ≡ [] → (e ≡ OutOfMemory) ⊎ IsTurnedDown (ApplyInOrder Q) ts us R e → e ≡ OutOfMemory
 not_turned_down Q ts us R e none (inl memory) = memory
 not_turned_down Q ts us R e none (inr h) =
+    let none_refused = (in_order_none Q ts.items us.items h.1 h.2 (Err h.0) none h.4).0 in
+    cc
+
+pub refused_untouched : {O : Type 0} (Q : Step O) (ts us : Vec (GenTransform O) Global) (s : State) (n : ℕ) (e : GenerateError)
+    → ts.items ≡ [] → IsRootRefused (ApplyInOrder Q) ts us s n e → (e ≡ UnknownType n) ⊎ IsRefused s n e
+refused_untouched Q ts us s n e none (inl h) = inl h.0
+refused_untouched Q ts us s n e none (inr (inl h)) = inr h.0
+refused_untouched Q ts us s n e none (inr (inr h)) =
     let none_refused = (in_order_none Q ts.items us.items h.1 h.2 (Err h.0) none h.4).0 in
     cc

@@ -13,7 +13,7 @@ ghost use Rattle.schemars_naming.specs.Naming.{IsOneToOne};
 ghost use Rattle.schemars_documents.specs.PlainTable.{IsPlainTable, HasPlainNotes};
 ghost use Rattle.schemars_roots.specs.Refusals.{HasFault};
 ghost use Rattle.schemars_roots.specs.Through.{IsThrough, AreThrough, AreTurnedDown, IsRootRefused};
-ghost use Rattle.schemars_roots.specs.Through.{IsUntransformed, IsUntransformedCall};
+ghost use Rattle.schemars_roots.specs.Through.{IsUntransformed, IsUntransformedCall, IsRefused};
 ghost use Rattle.schemars_transforms.specs.Member.{some_own};
 ghost use Rattle.schemars_generate.specs.Settings.{settings_of, state, ApplyInOrder, AreSettingsCopied};
 
@@ -250,6 +250,8 @@ impl<O: Transform + Drop> SchemaGenerator<O> {
         ensures unknown { (result ≡ Err (GenerateError.UnknownType n)) ↔ (length self.old.contents.rows ≤ n) }
         ensures refused { IfErr result (IsRootRefused (ApplyInOrder O.makes) self.old.settings.transforms
             self.new.settings.transforms (state self.old) n) }
+        ensures refused_untransformed { self.old.settings.transforms.items ≡ []
+            → IfErr result (λ e. (e ≡ GenerateError.UnknownType n) ⊎ IsRefused (state self.old) n e) }
         ensures only_memory { self.old.settings.transforms.items ≡ [] → HasPlainNotes self.old.contents.rows
             → IsDraftPath (path_of (state self.old)) → n < length self.old.contents.rows
             → IfErr result (λ e. e ≡ GenerateError.OutOfMemory) }
@@ -277,6 +279,8 @@ impl<O: Transform + Drop> SchemaGenerator<O> {
         ensures unknown { (result ≡ Err (GenerateError.UnknownType n)) ↔ (length self.contents.rows ≤ n) }
         ensures refused { IfErr result (λ e. (after : _) × IsRootRefused (ApplyInOrder O.makes) self.settings.transforms after
             (state self) n e) }
+        ensures refused_untransformed { self.settings.transforms.items ≡ []
+            → IfErr result (λ e. (e ≡ GenerateError.UnknownType n) ⊎ IsRefused (state self) n e) }
         ensures only_memory { self.settings.transforms.items ≡ [] → HasPlainNotes self.contents.rows
             → IsDraftPath (path_of (state self)) → n < length self.contents.rows
             → IfErr result (λ e. e ≡ GenerateError.OutOfMemory) }

@@ -28,27 +28,6 @@ untransformed s n w d checked root once one = record {
   whole = λ none own. root_is_whole s n w d root once none own;
 }
 
-told_is_known : (a : TransformError) (n : ℕ) → told a ≡ UnknownType n → ⊥
-told_is_known refusal.Memory n is = cc
-told_is_known refusal.TooDeep n is = cc
-told_is_known (refusal.Own k) n is = cc
-
-pub refused_is_known : (s : State) (n m : ℕ) (e : GenerateError) → IsRefused s n e → e ≡ UnknownType m → ⊥
-refused_is_known s n m e (inl same) is = cc
-refused_is_known s n m e (inr h) is = let same = h.0 in cc
-
-pub known : {T : Type 0} (Q : Step T) (t u : T) (s : State) (n m : ℕ) (e : GenerateError) → IsRefusedThrough Q t u s n e
-    → e ≡ UnknownType m → ⊥
-known Q t u s n m e (inl h) is = refused_is_known s n m e h.0 is
-known Q t u s n m e (inr h) is = told_is_known h.0 m (sym h.5 ∙ is)
-
--- an answer whose refusals are none of these is none of them
-pub never : {X E : Type 0} (r : Result X E) (e : E) → IfErr r (λ x. x ≡ e → ⊥) → r ≡ Err e → ⊥
-never {X} {E} r e other is =
-    let P : Result X E → Type 0 = λ q. IfErr q (λ x. x ≡ e → ⊥) in
-    let at : P (Err e) = subst P is other in
-    at refl
-
 -- where notes are annotations and the path is a draft's, memory alone is refused before transforms
 pub refused_memory : (s : State) (n : ℕ) (e : GenerateError) → HasPlainNotes s.rows → IsDraftPath (path_of s) → IsRefused s n e
     → e ≡ OutOfMemory

@@ -1,17 +1,10 @@
--- A row takes its entry, unless it has notes or the table refuses it.
-use Rattle.std.proofs.Common.{◌≡◌, [], length, false, true, None, sym, rules}
+-- A row takes its entry, unless the table refuses it.
+use Rattle.std.proofs.Common.{◌≡◌, [], length, None, sym, rules}
 use Rattle.schemars_shapes.specs.Shape.{entry_of}
 use Rattle.serde_json.specs.View.{items_view}
-use Rattle.schemagen_input.specs.Input.{is_bare}
 use Rattle.schemagen_input.specs.Reading.{fitting_after}
-use Rattle.schemagen_input.proofs.Reading.{defining_goes_on, defining_is_not_bare, defining_is_refused}
+use Rattle.schemagen_input.proofs.Reading.{defining_goes_on, defining_is_refused}
 use Rattle.schemagen_input.proofs.input.define_rows.Goals as goal
-
-pub returns-then-not-is_bare-clause-bad : goal.returns-then-not-is_bare-clause-bad
-returns-then-not-is_bare-clause-bad c = λ _.
-    let noted : is_bare (entry_of c.in_ok-entry.entry) ≡ false = cc in
-    defining_is_not_bare _ _ _ _ c.index-rows-n.result (entry_of c.in_ok-entry.entry) c.index-rows-n.is c.loop-n-test.true
-    c.loop-n.invariant c.in_ok-entry.ensures.ok noted
 
 pub returns-in_err-define-clause-bad : goal.returns-in_err-define-clause-bad
 returns-in_err-define-clause-bad c =
@@ -22,6 +15,5 @@ returns-in_err-define-clause-bad c =
 
 pub loop-n-preserved : goal.loop-n-preserved
 loop-n-preserved c =
-    let bare : is_bare (entry_of c.in_ok-entry.entry) ≡ true = cc in
     defining_goes_on _ _ _ _ _ c.index-rows-n.result (entry_of c.in_ok-entry.entry) c.index-rows-n.is c.loop-n-test.true
-    c.loop-n.invariant c.in_ok-entry.ensures.ok bare (sym c.in_ok-define.ensures.refused) c.in_ok-define.ensures.ok
+    c.loop-n.invariant c.in_ok-entry.ensures.ok (sym c.in_ok-define.ensures.refused) c.in_ok-define.ensures.ok

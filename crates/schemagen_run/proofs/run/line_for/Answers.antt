@@ -1,10 +1,10 @@
 -- The document has a text, and a refusal of the generator is told by its number.
-use Rattle.std.proofs.Common.{◌≡◌, ◌∙◌, ◌++◌, ◌∷◌, [], ℕ, List, string_bytes, ap}
+use Rattle.std.proofs.Common.{◌∙◌, ap, string_bytes}
 use Rattle.schemars_roots.specs.declared.error.GenerateError.{GenerateError}
 use Rattle.schemars_roots.specs.Refusals.{code_of}
 use Rattle.schemagen_run.specs.declared.fault.Fault.TheVariants.{Refused}
 use Rattle.schemagen_run.proofs.Results.{ok_at_err, err_passed}
-use Rattle.schemagen_run.proofs.Runs.{told, of_table}
+use Rattle.schemagen_run.proofs.Runs.{told, of_line, told_of_two}
 use Rattle.schemagen_run.proofs.run.line_for.Goals as goal
 
 pub returns-in_err-document : goal.returns-in_err-document
@@ -17,23 +17,23 @@ returns-in_err-document c =
       ok = ok_at_err _ _ r passed;
       accepted = ok_at_err _ _ r passed;
       refused = err_passed r passed (λ f same. told c.args.types e f why.refused same);
-      faults = err_passed r passed (λ f same. of_table c.args.types e f why.refused same);
-      only_memory = λ accepted. err_passed r passed
-          (λ f same. same ∙ ap (λ (x : GenerateError). Refused (code_of x)) (why.only_memory accepted));
+      faults = err_passed r passed (λ f same. of_line c.args.types e f why.refused same);
+      unfaulty = λ accepted. err_passed r passed (λ f same. told_of_two e f (why.unfaulty accepted) same);
+      only_memory = λ accepted plain. err_passed r passed
+          (λ f same. same ∙ ap (λ (x : GenerateError). Refused (code_of x)) (why.only_memory accepted plain));
     }
 
 pub returns : goal.returns
 returns c =
-    let newline : string_bytes c.push_str.new.self ≡ string_bytes c.in_ok-line.line ++ 10 ∷ [] = c.in_ok-push_str.ensures.bytes in
     let document = c.in_ok-document.ensures in
     record {
       ok = (
         c.in_ok-document.document,
-        document.ok,
-        newline ∙ ap (λ (t : List ℕ). t ++ 10 ∷ []) (c.in_ok-line.ensures.ordered document.whole),
+        (string_bytes c.in_ok-line.line, document.ok, c.in_ok-line.ensures.ordered, c.in_ok-push_str.ensures.bytes),
       );
       accepted = document.accepted;
       refused = tt;
       faults = tt;
-      only_memory = λ _. tt;
+      unfaulty = λ _. tt;
+      only_memory = λ _ _. tt;
     }

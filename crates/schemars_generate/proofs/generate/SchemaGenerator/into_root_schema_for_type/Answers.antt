@@ -7,9 +7,9 @@ use Rattle.schemars_transforms.specs.declared.gen_transform.GenTransform.{GenTra
 use Rattle.schemars_roots.specs.Settings.{state_with}
 use Rattle.schemars_roots.specs.Through.{IsThrough, IsTurnedDown, IsRootRefused, IsUntransformed}
 use Rattle.schemars_roots.specs.declared.error.GenerateError.TheVariants.{OutOfMemory}
-use Rattle.schemars_roots.proofs.Untransformed.{ok_told, refusal_told}
+use Rattle.std.proofs.lemmas.Result.{IfOk-weaker, IfErr-weaker}
 use Rattle.schemars_generate.specs.Settings.{settings_of, ApplyInOrder}
-use Rattle.schemars_generate.proofs.Untouched.{untouched, not_turned_down}
+use Rattle.schemars_generate.proofs.Untouched.{untouched, not_turned_down, refused_untouched}
 use Rattle.schemars_generate.proofs.generate.SchemaGenerator.into_root_schema_for_type.Goals as goal
 
 abbrev Ts : Type 0 → Type 0
@@ -20,7 +20,7 @@ returns-clause-root g c =
     let P : Settings → Ts g.row.O.Denot → Type 0 =
     λ x t. IfOk c.into_root_schema.result (IsThrough (ApplyInOrder g.O.Transform.makes) t c.into_root_schema.new.transforms (IsUntransformed (state_with x c.args.self.contents) c.args.n)) in
     let told = subst (λ x. P x c.replace-transforms.result) c.document-document.ensures c.into_root_schema.ensures.root in
-    ok_told c.into_root_schema.result _ _ (λ d h. (c.into_root_schema.new.transforms, h))
+    IfOk-weaker c.into_root_schema.result _ _ (λ d h. (c.into_root_schema.new.transforms, h))
     (subst (λ t. P (settings_of c.args.self.settings) t) c.replace-transforms.ensures.value told)
 
 pub returns-clause-refused : goal.returns-clause-refused
@@ -28,17 +28,17 @@ returns-clause-refused g c =
     let P : Settings → Ts g.row.O.Denot → Type 0 =
     λ x t. IfErr c.into_root_schema.result (IsRootRefused (ApplyInOrder g.O.Transform.makes) t c.into_root_schema.new.transforms (state_with x c.args.self.contents) c.args.n) in
     let told = subst (λ x. P x c.replace-transforms.result) c.document-document.ensures c.into_root_schema.ensures.refused in
-    refusal_told c.into_root_schema.result _ _ (λ e h. (c.into_root_schema.new.transforms, h))
+    IfErr-weaker c.into_root_schema.result _ _ (λ e h. (c.into_root_schema.new.transforms, h))
     (subst (λ t. P (settings_of c.args.self.settings) t) c.replace-transforms.ensures.value told)
 
 pub returns-clause-untransformed : goal.returns-clause-untransformed
 returns-clause-untransformed g c =
     λ none.
-    ok_told c.into_root_schema.result _ _ (λ d h. untouched g.O.Transform.makes c.args.self.settings.transforms h.0 _ d none h.1) (returns-clause-root g c)
+    IfOk-weaker c.into_root_schema.result _ _ (λ d h. untouched g.O.Transform.makes c.args.self.settings.transforms h.0 _ d none h.1) (returns-clause-root g c)
 
 pub returns-clause-headline : goal.returns-clause-headline
 returns-clause-headline g c =
-    λ none. ok_told c.into_root_schema.result _ _ (λ d h. h.headline) (returns-clause-untransformed g c none)
+    λ none. IfOk-weaker c.into_root_schema.result _ _ (λ d h. h.headline) (returns-clause-untransformed g c none)
 
 pub returns-clause-only_memory : goal.returns-clause-only_memory
 returns-clause-only_memory g c =
@@ -50,5 +50,11 @@ returns-clause-only_memory g c =
     let told = subst (λ x. P x c.replace-transforms.result) c.document-document.ensures c.into_root_schema.ensures.only_memory in
     let all = subst (λ t. P (settings_of c.args.self.settings) t) c.replace-transforms.ensures.value told in
     λ none plain path known.
-    refusal_told c.into_root_schema.result _ _ (λ e h. not_turned_down g.O.Transform.makes c.args.self.settings.transforms c.into_root_schema.new.transforms
+    IfErr-weaker c.into_root_schema.result _ _ (λ e h. not_turned_down g.O.Transform.makes c.args.self.settings.transforms c.into_root_schema.new.transforms
     (IsLastRootCall s c.args.n) e none h) (all plain path known)
+
+pub returns-clause-refused_untransformed : goal.returns-clause-refused_untransformed
+returns-clause-refused_untransformed g c =
+    λ none.
+    IfErr-weaker c.into_root_schema.result _ _ (λ e h. refused_untouched g.O.Transform.makes c.args.self.settings.transforms h.0
+    (state_with (settings_of c.args.self.settings) c.args.self.contents) c.args.n e none h.1) (returns-clause-refused g c)

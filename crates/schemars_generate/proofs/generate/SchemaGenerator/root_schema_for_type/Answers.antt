@@ -8,9 +8,9 @@ use Rattle.schemars_transforms.specs.declared.gen_transform.GenTransform.{GenTra
 use Rattle.schemars_roots.specs.Settings.{state_with}
 use Rattle.schemars_roots.specs.Through.{IsThrough, IsTurnedDown, IsRootRefused, IsUntransformedCall}
 use Rattle.schemars_roots.specs.declared.error.GenerateError.TheVariants.{OutOfMemory}
-use Rattle.schemars_roots.proofs.Untransformed.{ok_told, refusal_told}
+use Rattle.std.proofs.lemmas.Result.{IfOk-weaker, IfErr-weaker}
 use Rattle.schemars_generate.specs.Settings.{settings_of, ApplyInOrder}
-use Rattle.schemars_generate.proofs.Untouched.{untouched, not_turned_down}
+use Rattle.schemars_generate.proofs.Untouched.{untouched, not_turned_down, refused_untouched}
 use Rattle.schemars_generate.proofs.generate.SchemaGenerator.root_schema_for_type.Goals as goal
 
 abbrev Ts : Type 0 → Type 0
@@ -45,12 +45,12 @@ returns-clause-keys g c =
 pub returns-clause-untransformed : goal.returns-clause-untransformed
 returns-clause-untransformed g c =
     λ none.
-    ok_told c.root_schema-answer.result _ _ (λ d h. untouched g.O.Transform.makes c.args.self.now.settings.transforms c.root_schema-answer.new.transforms _ d none h)
+    IfOk-weaker c.root_schema-answer.result _ _ (λ d h. untouched g.O.Transform.makes c.args.self.now.settings.transforms c.root_schema-answer.new.transforms _ d none h)
     (returns-clause-root g c)
 
 pub returns-clause-headline : goal.returns-clause-headline
 returns-clause-headline g c =
-    λ none. ok_told c.root_schema-answer.result _ _ (λ d h. h.0.headline) (returns-clause-untransformed g c none)
+    λ none. IfOk-weaker c.root_schema-answer.result _ _ (λ d h. h.0.headline) (returns-clause-untransformed g c none)
 
 pub returns-clause-only_memory : goal.returns-clause-only_memory
 returns-clause-only_memory g c =
@@ -62,5 +62,11 @@ returns-clause-only_memory g c =
     let told = subst (λ x. P x c.replace-transforms.result) c.document-settings.ensures c.root_schema-answer.ensures.only_memory in
     let all = subst (λ t. P (settings_of c.args.self.now.settings) t) c.replace-transforms.ensures.value told in
     λ none plain path known.
-    refusal_told c.root_schema-answer.result _ _ (λ e h. not_turned_down g.O.Transform.makes c.args.self.now.settings.transforms c.root_schema-answer.new.transforms
+    IfErr-weaker c.root_schema-answer.result _ _ (λ e h. not_turned_down g.O.Transform.makes c.args.self.now.settings.transforms c.root_schema-answer.new.transforms
     (IsLastRootCall s c.args.n) e none h) (all plain path known)
+
+pub returns-clause-refused_untransformed : goal.returns-clause-refused_untransformed
+returns-clause-refused_untransformed g c =
+    λ none.
+    IfErr-weaker c.root_schema-answer.result _ _ (λ e h. refused_untouched g.O.Transform.makes c.args.self.now.settings.transforms c.root_schema-answer.new.transforms
+    (state_with (settings_of c.args.self.now.settings) c.args.self.now.contents) c.args.n e none h) (returns-clause-refused g c)
