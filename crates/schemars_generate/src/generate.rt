@@ -15,6 +15,8 @@ ghost use Rattle.schemars_roots.specs.Refusals.{HasFault};
 ghost use Rattle.schemars_roots.specs.Through.{IsThrough, AreThrough, AreTurnedDown, IsRootRefused};
 ghost use Rattle.schemars_roots.specs.Through.{IsUntransformed, IsUntransformedCall, IsRefused};
 ghost use Rattle.schemars_transforms.specs.Member.{some_own};
+ghost use Rattle.std.specs.Borrow.{sem};
+ghost use Rattle.schemars_generate.specs.Lends.{LendsDefinitions};
 ghost use Rattle.schemars_generate.specs.Settings.{settings_of, state, ApplyInOrder, AreSettingsCopied};
 
 pub use crate::settings::SchemaSettings;
@@ -167,6 +169,7 @@ impl<O> SchemaGenerator<O> {
     /// The definitions, for writing. What a call promises of the documents that refer to definitions
     /// holds for those that the generator made.
     pub fn definitions_mut(&mut self) -> &mut Map<String, Value>
+        ensures* writes_back { sem 𝓛 (LendsDefinitions O.row self.entry result) }
         ensures value { members_view result.now.entries ≡ (state self.old).definitions }
     {
         self.contents.definitions_mut()
