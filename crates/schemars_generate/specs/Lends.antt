@@ -8,4 +8,6 @@ use Rattle.schemars_generate.specs.declared.generate.SchemaGenerator.{SchemaGene
 -- once the borrow r ends, the generator has the definitions last written through r
 abbrev pub LendsDefinitions : (O : RattleType) → MutBor (SchemaGenerator O.Denot) → MutBor map_row.Denot → Fml
 LendsDefinitions O s r =
-    Lends (the_row O) map_row s r (λ m. record s.now { contents = record s.now.contents { definitions = members_view m.entries } })
+    Lends (the_row O) map_row s r (λ m. record s.now {
+      contents = record s.now.contents { definitions = members_view m.entries };
+    })

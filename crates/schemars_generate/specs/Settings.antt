@@ -56,7 +56,11 @@ settings_openapi3 = record settings2020_12 {
 }
 
 abbrev pub transforms07 : {O : Type 0} → List (GenTransform O)
-transforms07 = ReplaceUnevaluatedProperties (record {}) ∷ RemoveRefSiblings (record {}) ∷ ReplacePrefixItems (record {}) ∷ []
+transforms07 =
+    ReplaceUnevaluatedProperties (record {})
+    ∷ RemoveRefSiblings (record {})
+    ∷ ReplacePrefixItems (record {})
+    ∷ []
 
 abbrev pub transforms2019_09 : {O : Type 0} → List (GenTransform O)
 transforms2019_09 = ReplacePrefixItems (record {}) ∷ []

@@ -23,7 +23,8 @@ IsThrough Q t u R document = (d : Data) × R d × Q t d (Ok tt) u document
 abbrev pub IsTurnedDown : {T : Type 0} → Step T → T → T → (Data → Type 0) → GenerateError → Type 0
 IsTurnedDown Q t u R e = (a : TransformError) × (d : Data) × (v : Data) × R d × Q t d (Err a) u v × (e ≡ told a)
 
--- the transforms, from their old state to their new one, made this of each definition, in map order; what is no schema stays
+-- the transforms, from their old state to their new one, made this of each definition, in map order; what is no schema
+-- stays
 abbrev pub AreThrough : {T : Type 0} → Step T → T → T → Members → Members → Type 0
 AreThrough Q t u definitions taken = EachMember (λ k. AtSchema Q) t definitions (Ok tt) u taken
 
