@@ -17,44 +17,67 @@ Ts O = Vec (GenTransform O) Global
 
 pub returns-clause-root : goal.returns-clause-root
 returns-clause-root g c =
+    let r = c.into_root_schema.result in
+    let old = c.args.self.contents in
+    let u = c.into_root_schema.new.transforms in
+    let Q = g.O.Transform.makes in
+    let before = c.args.self.settings in
     let P : Settings → Ts g.row.O.Denot → Type 0 =
-    λ x t. IfOk c.into_root_schema.result (IsThrough (ApplyInOrder g.O.Transform.makes) t c.into_root_schema.new.transforms (IsUntransformed (state_with x c.args.self.contents) c.args.n)) in
+    λ x t. IfOk r (IsThrough (ApplyInOrder Q) t u (IsUntransformed (state_with x old) c.args.n)) in
     let told = subst (λ x. P x c.replace-transforms.result) c.document-document.ensures c.into_root_schema.ensures.root in
-    IfOk-weaker c.into_root_schema.result _ _ (λ d h. (c.into_root_schema.new.transforms, h))
-    (subst (λ t. P (settings_of c.args.self.settings) t) c.replace-transforms.ensures.value told)
+    IfOk-weaker r _ _ (λ d h. (u, h))
+    (subst (λ t. P (settings_of before) t) c.replace-transforms.ensures.value told)
 
 pub returns-clause-refused : goal.returns-clause-refused
 returns-clause-refused g c =
+    let r = c.into_root_schema.result in
+    let old = c.args.self.contents in
+    let u = c.into_root_schema.new.transforms in
+    let Q = g.O.Transform.makes in
+    let before = c.args.self.settings in
     let P : Settings → Ts g.row.O.Denot → Type 0 =
-    λ x t. IfErr c.into_root_schema.result (IsRootRefused (ApplyInOrder g.O.Transform.makes) t c.into_root_schema.new.transforms (state_with x c.args.self.contents) c.args.n) in
+    λ x t. IfErr r (IsRootRefused (ApplyInOrder Q) t u (state_with x old) c.args.n) in
     let told = subst (λ x. P x c.replace-transforms.result) c.document-document.ensures c.into_root_schema.ensures.refused in
-    IfErr-weaker c.into_root_schema.result _ _ (λ e h. (c.into_root_schema.new.transforms, h))
-    (subst (λ t. P (settings_of c.args.self.settings) t) c.replace-transforms.ensures.value told)
+    IfErr-weaker r _ _ (λ e h. (u, h))
+    (subst (λ t. P (settings_of before) t) c.replace-transforms.ensures.value told)
 
 pub returns-clause-untransformed : goal.returns-clause-untransformed
 returns-clause-untransformed g c =
+    let r = c.into_root_schema.result in
+    let Q = g.O.Transform.makes in
+    let before = c.args.self.settings in
     λ none.
-    IfOk-weaker c.into_root_schema.result _ _ (λ d h. untouched g.O.Transform.makes c.args.self.settings.transforms h.0 _ d none h.1) (returns-clause-root g c)
+    IfOk-weaker r _ _ (λ d h. untouched Q before.transforms h.0 _ d none h.1) (returns-clause-root g c)
 
 pub returns-clause-headline : goal.returns-clause-headline
 returns-clause-headline g c =
-    λ none. IfOk-weaker c.into_root_schema.result _ _ (λ d h. h.headline) (returns-clause-untransformed g c none)
+    let r = c.into_root_schema.result in
+    λ none. IfOk-weaker r _ _ (λ d h. h.headline) (returns-clause-untransformed g c none)
 
 pub returns-clause-only_memory : goal.returns-clause-only_memory
 returns-clause-only_memory g c =
-    let s = state_with (settings_of c.args.self.settings) c.args.self.contents in
+    let r = c.into_root_schema.result in
+    let old = c.args.self.contents in
+    let u = c.into_root_schema.new.transforms in
+    let Q = g.O.Transform.makes in
+    let before = c.args.self.settings in
+    let s = state_with (settings_of before) old in
     let P : Settings → Ts g.row.O.Denot → Type 0 =
-    λ x t. HasPlainNotes c.args.self.contents.rows → IsDraftPath (path_of (state_with x c.args.self.contents))
-    → c.args.n < length c.args.self.contents.rows → IfErr c.into_root_schema.result (λ e. (e ≡ OutOfMemory)
-    ⊎ IsTurnedDown (ApplyInOrder g.O.Transform.makes) t c.into_root_schema.new.transforms (IsLastRootCall (state_with x c.args.self.contents) c.args.n) e) in
+    λ x t. HasPlainNotes old.rows → IsDraftPath (path_of (state_with x old))
+    → c.args.n < length old.rows → IfErr r (λ e. (e ≡ OutOfMemory)
+    ⊎ IsTurnedDown (ApplyInOrder Q) t u (IsLastRootCall (state_with x old) c.args.n) e) in
     let told = subst (λ x. P x c.replace-transforms.result) c.document-document.ensures c.into_root_schema.ensures.only_memory in
-    let all = subst (λ t. P (settings_of c.args.self.settings) t) c.replace-transforms.ensures.value told in
+    let all = subst (λ t. P (settings_of before) t) c.replace-transforms.ensures.value told in
     λ none plain path known.
-    IfErr-weaker c.into_root_schema.result _ _ (λ e h. not_turned_down g.O.Transform.makes c.args.self.settings.transforms c.into_root_schema.new.transforms
+    IfErr-weaker r _ _ (λ e h. not_turned_down Q before.transforms u
     (IsLastRootCall s c.args.n) e none h) (all plain path known)
 
 pub returns-clause-refused_untransformed : goal.returns-clause-refused_untransformed
 returns-clause-refused_untransformed g c =
+    let r = c.into_root_schema.result in
+    let old = c.args.self.contents in
+    let Q = g.O.Transform.makes in
+    let before = c.args.self.settings in
     λ none.
-    IfErr-weaker c.into_root_schema.result _ _ (λ e h. refused_untouched g.O.Transform.makes c.args.self.settings.transforms h.0
-    (state_with (settings_of c.args.self.settings) c.args.self.contents) c.args.n e none h.1) (returns-clause-refused g c)
+    IfErr-weaker r _ _ (λ e h. refused_untouched Q before.transforms h.0
+    (state_with (settings_of before) old) c.args.n e none h.1) (returns-clause-refused g c)

@@ -18,55 +18,85 @@ Ts O = Vec (GenTransform O) Global
 
 pub returns-clause-root : goal.returns-clause-root
 returns-clause-root g c =
+    let r = c.root_schema-answer.result in
+    let old = c.args.self.now.contents in
+    let new = c.root_schema-answer.new.self in
+    let u = c.root_schema-answer.new.transforms in
+    let Q = g.O.Transform.makes in
+    let before = c.args.self.now.settings in
     let P : Settings → Ts g.row.O.Denot → Type 0 =
-    λ x t. IfOk c.root_schema-answer.result (IsThrough (ApplyInOrder g.O.Transform.makes) t c.root_schema-answer.new.transforms
-    (IsUntransformedCall (state_with x c.args.self.now.contents) c.args.n (state_with x c.root_schema-answer.new.self))) in
+    λ x t. IfOk r (IsThrough (ApplyInOrder Q) t u
+    (IsUntransformedCall (state_with x old) c.args.n (state_with x new))) in
     let told = subst (λ x. P x c.replace-transforms.result) c.document-settings.ensures c.root_schema-answer.ensures.root in
-    (subst (λ t. P (settings_of c.args.self.now.settings) t) c.replace-transforms.ensures.value told)
+    subst (λ t. P (settings_of before) t) c.replace-transforms.ensures.value told
 
 pub returns-clause-refused : goal.returns-clause-refused
 returns-clause-refused g c =
+    let r = c.root_schema-answer.result in
+    let old = c.args.self.now.contents in
+    let u = c.root_schema-answer.new.transforms in
+    let Q = g.O.Transform.makes in
+    let before = c.args.self.now.settings in
     let P : Settings → Ts g.row.O.Denot → Type 0 =
-    λ x t. IfErr c.root_schema-answer.result (IsRootRefused (ApplyInOrder g.O.Transform.makes) t c.root_schema-answer.new.transforms (state_with x c.args.self.now.contents) c.args.n) in
+    λ x t. IfErr r (IsRootRefused (ApplyInOrder Q) t u (state_with x old) c.args.n) in
     let told = subst (λ x. P x c.replace-transforms.result) c.document-settings.ensures c.root_schema-answer.ensures.refused in
-    (subst (λ t. P (settings_of c.args.self.now.settings) t) c.replace-transforms.ensures.value told)
+    subst (λ t. P (settings_of before) t) c.replace-transforms.ensures.value told
 
 pub returns-clause-own : goal.returns-clause-own
 returns-clause-own g c =
+    let old = c.args.self.now.contents in
+    let new = c.root_schema-answer.new.self in
     let P : Settings → Type 0 =
-    λ x. HasOwnDefinitions (state_with x c.args.self.now.contents) → HasOwnDefinitions (state_with x c.root_schema-answer.new.self) in
+    λ x. HasOwnDefinitions (state_with x old) → HasOwnDefinitions (state_with x new) in
     subst P c.document-settings.ensures c.root_schema-answer.ensures.own
 
 pub returns-clause-keys : goal.returns-clause-keys
 returns-clause-keys g c =
+    let new = c.root_schema-answer.new.self in
+    let before = c.args.self.now.settings in
     λ own plain.
-    references_name_keys (state_with (settings_of c.args.self.now.settings) c.root_schema-answer.new.self) (returns-clause-own g c own) plain
+    references_name_keys (state_with (settings_of before) new) (returns-clause-own g c own) plain
 
 pub returns-clause-untransformed : goal.returns-clause-untransformed
 returns-clause-untransformed g c =
+    let r = c.root_schema-answer.result in
+    let u = c.root_schema-answer.new.transforms in
+    let Q = g.O.Transform.makes in
+    let before = c.args.self.now.settings in
     λ none.
-    IfOk-weaker c.root_schema-answer.result _ _ (λ d h. untouched g.O.Transform.makes c.args.self.now.settings.transforms c.root_schema-answer.new.transforms _ d none h)
+    IfOk-weaker r _ _ (λ d h. untouched Q before.transforms u _ d none h)
     (returns-clause-root g c)
 
 pub returns-clause-headline : goal.returns-clause-headline
 returns-clause-headline g c =
-    λ none. IfOk-weaker c.root_schema-answer.result _ _ (λ d h. h.0.headline) (returns-clause-untransformed g c none)
+    let r = c.root_schema-answer.result in
+    λ none. IfOk-weaker r _ _ (λ d h. h.0.headline) (returns-clause-untransformed g c none)
 
 pub returns-clause-only_memory : goal.returns-clause-only_memory
 returns-clause-only_memory g c =
-    let s = state_with (settings_of c.args.self.now.settings) c.args.self.now.contents in
+    let r = c.root_schema-answer.result in
+    let old = c.args.self.now.contents in
+    let u = c.root_schema-answer.new.transforms in
+    let Q = g.O.Transform.makes in
+    let before = c.args.self.now.settings in
+    let s = state_with (settings_of before) old in
     let P : Settings → Ts g.row.O.Denot → Type 0 =
-    λ x t. HasPlainNotes c.args.self.now.contents.rows → IsDraftPath (path_of (state_with x c.args.self.now.contents))
-    → c.args.n < length c.args.self.now.contents.rows → IfErr c.root_schema-answer.result (λ e. (e ≡ OutOfMemory)
-    ⊎ IsTurnedDown (ApplyInOrder g.O.Transform.makes) t c.root_schema-answer.new.transforms (IsLastRootCall (state_with x c.args.self.now.contents) c.args.n) e) in
+    λ x t. HasPlainNotes old.rows → IsDraftPath (path_of (state_with x old))
+    → c.args.n < length old.rows → IfErr r (λ e. (e ≡ OutOfMemory)
+    ⊎ IsTurnedDown (ApplyInOrder Q) t u (IsLastRootCall (state_with x old) c.args.n) e) in
     let told = subst (λ x. P x c.replace-transforms.result) c.document-settings.ensures c.root_schema-answer.ensures.only_memory in
-    let all = subst (λ t. P (settings_of c.args.self.now.settings) t) c.replace-transforms.ensures.value told in
+    let all = subst (λ t. P (settings_of before) t) c.replace-transforms.ensures.value told in
     λ none plain path known.
-    IfErr-weaker c.root_schema-answer.result _ _ (λ e h. not_turned_down g.O.Transform.makes c.args.self.now.settings.transforms c.root_schema-answer.new.transforms
+    IfErr-weaker r _ _ (λ e h. not_turned_down Q before.transforms u
     (IsLastRootCall s c.args.n) e none h) (all plain path known)
 
 pub returns-clause-refused_untransformed : goal.returns-clause-refused_untransformed
 returns-clause-refused_untransformed g c =
+    let r = c.root_schema-answer.result in
+    let old = c.args.self.now.contents in
+    let u = c.root_schema-answer.new.transforms in
+    let Q = g.O.Transform.makes in
+    let before = c.args.self.now.settings in
     λ none.
-    IfErr-weaker c.root_schema-answer.result _ _ (λ e h. refused_untouched g.O.Transform.makes c.args.self.now.settings.transforms c.root_schema-answer.new.transforms
-    (state_with (settings_of c.args.self.now.settings) c.args.self.now.contents) c.args.n e none h) (returns-clause-refused g c)
+    IfErr-weaker r _ _ (λ e h. refused_untouched Q before.transforms u
+    (state_with (settings_of before) old) c.args.n e none h) (returns-clause-refused g c)

@@ -10,40 +10,59 @@ use Rattle.schemars_generate.proofs.generate.SchemaGenerator.subschema_for_type.
 
 pub returns-clause-means : goal.returns-clause-means
 returns-clause-means g c =
-    let P : Settings → Type 0 = λ x. IfOk c.subschema.result (λ d. HasOwnDefinitions (state_with x c.args.self.now.contents) → SubschemaHeadline (state_with x c.subschema.new.self) c.args.n d) in
+    let r = c.subschema.result in
+    let old = c.args.self.now.contents in
+    let new = c.subschema.new.self in
+    let P : Settings → Type 0 = λ x. IfOk r (λ d. HasOwnDefinitions (state_with x old) → SubschemaHeadline (state_with x new) c.args.n d) in
     subst P c.document-settings.ensures c.subschema.ensures.means
 
 pub returns-clause-part : goal.returns-clause-part
 returns-clause-part g c =
-    let P : Settings → Type 0 = λ x. IfOk c.subschema.result (IsPartOf (state_with x c.subschema.new.self) c.args.n) in
+    let r = c.subschema.result in
+    let new = c.subschema.new.self in
+    let P : Settings → Type 0 = λ x. IfOk r (IsPartOf (state_with x new) c.args.n) in
     subst P c.document-settings.ensures c.subschema.ensures.part
 
 pub returns-clause-reference : goal.returns-clause-reference
 returns-clause-reference g c =
-    let P : Settings → Type 0 = λ x. IfOk c.subschema.result (IsReferenceOf (state_with x c.args.self.now.contents) (state_with x c.subschema.new.self) c.args.n) in
+    let r = c.subschema.result in
+    let old = c.args.self.now.contents in
+    let new = c.subschema.new.self in
+    let P : Settings → Type 0 = λ x. IfOk r (IsReferenceOf (state_with x old) (state_with x new) c.args.n) in
     subst P c.document-settings.ensures c.subschema.ensures.reference
 
 pub returns-clause-inlined : goal.returns-clause-inlined
 returns-clause-inlined g c =
-    let P : Settings → Type 0 = λ x. IfOk c.subschema.result (IsInlined (state_with x c.args.self.now.contents)) in
+    let r = c.subschema.result in
+    let old = c.args.self.now.contents in
+    let P : Settings → Type 0 = λ x. IfOk r (IsInlined (state_with x old)) in
     subst P c.document-settings.ensures c.subschema.ensures.inlined
 
 pub returns-clause-step : goal.returns-clause-step
 returns-clause-step g c =
-    let P : Settings → Type 0 = λ x. OnOk c.subschema.result (Adds (state_with x c.args.self.now.contents) (state_with x c.subschema.new.self)) in
+    let r = c.subschema.result in
+    let old = c.args.self.now.contents in
+    let new = c.subschema.new.self in
+    let P : Settings → Type 0 = λ x. OnOk r (Adds (state_with x old) (state_with x new)) in
     subst P c.document-settings.ensures c.subschema.ensures.step
 
 pub returns-clause-reached : goal.returns-clause-reached
 returns-clause-reached g c =
-    let P : Settings → Type 0 = λ x. IfOk c.subschema.result (λ d. IsNeeded (state_with x c.args.self.now.contents) (state_with x c.subschema.new.self) (references d)) in
+    let r = c.subschema.result in
+    let old = c.args.self.now.contents in
+    let new = c.subschema.new.self in
+    let P : Settings → Type 0 = λ x. IfOk r (λ d. IsNeeded (state_with x old) (state_with x new) (references d)) in
     subst P c.document-settings.ensures c.subschema.ensures.reached
 
 pub returns-clause-own : goal.returns-clause-own
 returns-clause-own g c =
-    let P : Settings → Type 0 = λ x. HasOwnDefinitions (state_with x c.args.self.now.contents) → HasOwnDefinitions (state_with x c.subschema.new.self) in
+    let old = c.args.self.now.contents in
+    let new = c.subschema.new.self in
+    let P : Settings → Type 0 = λ x. HasOwnDefinitions (state_with x old) → HasOwnDefinitions (state_with x new) in
     subst P c.document-settings.ensures c.subschema.ensures.own
 
 pub returns-clause-keys : goal.returns-clause-keys
 returns-clause-keys g c =
+    let new = c.subschema.new.self in
     λ own plain.
-    references_name_keys (state_with (settings_of c.args.self.now.settings) c.subschema.new.self) (returns-clause-own g c own) plain
+    references_name_keys (state_with (settings_of c.args.self.now.settings) new) (returns-clause-own g c own) plain
