@@ -95,12 +95,12 @@ const REFUSED: [Answer; 7] = [
         0,
         r##"{"A":{"type":"object","properties":{"b":{"$ref":"#/$defs/B"}},"required":["b"]},"B":{"type":"object","properties":{"a":{"anyOf":[{"$ref":"#/$defs/A"},{"type":"null"}]}}}}"##,
     ),
+    ("replace own", 0, "true"),
     (
         "take",
         0,
         r##"{"A":{"type":"object","properties":{"b":{"$ref":"#/$defs/B"}},"required":["b"]},"B":{"type":"object","properties":{"a":{"anyOf":[{"$ref":"#/$defs/A"},{"type":"null"}]}}}}"##,
     ),
-    ("replace own", 0, "true"),
     (
         "root",
         1,
