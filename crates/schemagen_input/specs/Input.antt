@@ -10,7 +10,8 @@ use Rattle.schemars_shapes.specs.Shape.{Shape, Entry, numbers_of, either, map_fr
 use Rattle.schemars_shapes.specs.Shape.{null as null_shape, bool, int, non_zero}
 use Rattle.schemars_shapes.specs.Shape.{number as number_shape, text, char, formatted, any, bytes, schema_itself}
 use Rattle.schemars_shapes.specs.Shape.{option, seq, set, array as array_shape, up_to, tuple, newtype}
-use Rattle.schemars_shapes.specs.Shape.{result, bound, range}
+use Rattle.schemars_shapes.specs.Shape.{result, bound, range, literal}
+use Rattle.schemars_schema.specs.Lookup.{schema_only}
 use Rattle.schemars_types.specs.Rows.{Row, with_entry}
 use Rattle.schemagen_forms.specs.Forms.{has_only, needed, optional, lone_in, number_in, notes_in, kind_in, struct_in, parts_in}
 use Rattle.schemagen_forms.specs.Forms.{external_in, untagged_in, internal_in}
@@ -73,6 +74,10 @@ list_under name d =
     else (if bytes_eq name (codes "array") then array_in d else (if bytes_eq name (codes "up_to") then up_to_in d
     else (if bytes_eq name (codes "tuple") then tuple_in d else fixed_under name d))))
 
+-- a schema that stands as it is written
+abbrev pub literal_in : Data → Option Shape
+literal_in d = option_map literal (schema_only d)
+
 -- other shapes without fields and variants
 abbrev pub plain_under : Text → Data → Option Shape
 plain_under name d =
@@ -80,7 +85,8 @@ plain_under name d =
     (if bytes_eq name (codes "nonzero") then option_map non_zero (kind_in d)
     else (if bytes_eq name (codes "format") then option_map formatted (as_str d) else
     (if bytes_eq name (codes "option") then option_map option (number_in d)
-    else (if bytes_eq name (codes "newtype") then option_map newtype (number_in d) else list_under name d))))
+    else (if bytes_eq name (codes "newtype") then option_map newtype (number_in d)
+    else (if bytes_eq name (codes "literal") then literal_in d else list_under name d)))))
 
 -- and those that are said by an object with this one member
 abbrev pub shape_under : Text → Data → Option Shape

@@ -3,7 +3,7 @@ ghost use Rattle.std.specs.Prelude.{◌≡◌, None, Some, IfOk, IfErr, option_m
 ghost use Rattle.serde_json.specs.View.{view};
 ghost use Rattle.schemars_shapes.specs.Shape.{shape_of, entry_of, formatted};
 ghost use Rattle.schemagen_input.specs.Input.{counted_in, array_in, up_to_in, tuple_in, list_under};
-ghost use Rattle.schemagen_input.specs.Input.{plain_under, two_in, result_in, either_in, map_in, fixed_under};
+ghost use Rattle.schemagen_input.specs.Input.{plain_under, literal_in, two_in, result_in, either_in, map_in, fixed_under};
 ghost use Rattle.schemagen_input.specs.Input.{shape_named, shape_under, shape_in, entry_in};
 ghost use Rattle.serde_json.specs.Find.{as_str};
 
@@ -13,6 +13,7 @@ use schemagen_forms::members::{
     flag_in, has_only, kind_in, lone_member, notes_in, number_in, number_of, parts_in,
 };
 use schemagen_forms::variants::{external_in, internal_in, untagged_in};
+use schemars_schema::Schema;
 use schemars_types::{Shape, TypeEntry, TypeNo};
 use serde_json::{Map, Value};
 use std::alloc::{AllocError, Global};
@@ -94,8 +95,19 @@ fn plain_under(alloc: Global, name: &str, value: &Value) -> Result<Option<Shape>
         "format" => format_in(alloc, value)?,
         "option" => number_in(value).map(Shape::Option),
         "newtype" => number_in(value).map(Shape::Newtype),
+        "literal" => literal_in(value)?,
         _ => list_under(alloc, name, value)?,
     })
+}
+
+// A schema that stands as it is written.
+fn literal_in(value: &Value) -> Result<Option<Shape>, AllocError>
+    ensures { IfOk result (λ s. option_map shape_of s ≡ literal_in (view value.now)) }
+{
+    match Schema::try_from(value.clone()?) {
+        Ok(schema) => Ok(Some(Shape::Literal(schema))),
+        Err(_) => Ok(None),
+    }
 }
 
 // A list, of the kind that this name tells.

@@ -1,16 +1,16 @@
 //! The templates of maps by their keys.
-ghost use Rattle.std.specs.Prelude.{◌≡◌, ◌++◌, map, IfOk, OnOk};
+ghost use Rattle.std.specs.Prelude.{◌≡◌, ◌∷◌, ◌++◌, None, map, filter, not, bytes_eq, IfOk, OnOk};
 ghost use Rattle.schemars_types.specs.Faults.{IsChecked};
 ghost use Rattle.schemars_types.specs.KeyOptions.{key_options, any_key, only_keys};
 ghost use Rattle.schemars_templates.specs.Template.{row};
 ghost use Rattle.schemars_templates.specs.View.{template_view, keyword_view};
-ghost use Rattle.schemars_templates.specs.OfShape.{pattern_properties_at, values_template};
+ghost use Rattle.schemars_templates.specs.OfShape.{pattern_properties_at, values_template, values_of};
 
 use schemars_keys::{KeyOptions, key_options};
 use schemars_templates::maps::{add_closed, add_properties, typed};
-use schemars_templates::nodes::{object_with, row, text};
+use schemars_templates::nodes::{object_with, text};
 use schemars_templates::template::Template;
-use schemars_types::{IntegerKeys, TypeNo, Types};
+use schemars_types::{TypeNo, Types};
 use std::alloc::{AllocError, Global};
 
 /// A map with the keys that row `key` allows, and values of row `value`.
@@ -25,12 +25,17 @@ pub fn values_template<'t>(
 {
     match key_options(alloc, types, key)? {
         KeyOptions::Any => any_key_template(alloc, value),
-        KeyOptions::Only { texts, integers } => only_keys_template(
-            alloc,
-            texts.as_slice(),
+        KeyOptions::Only {
+            texts,
             integers,
-            value,
-        ),
+            patterns,
+        } => match integers {
+            None => only_keys_template(alloc, texts.as_slice(), patterns.as_slice(), value),
+            Some(integers) => {
+                let patterns = with_first(alloc, integers.pattern(), patterns.as_slice())?;
+                only_keys_template(alloc, texts.as_slice(), &patterns, value)
+            }
+        },
     }
 }
 
@@ -44,18 +49,38 @@ fn any_key_template<'t>(alloc: Global, value: TypeNo) -> Result<Template<'t>, Al
     Ok(Template::Object(keys, values))
 }
 
-// A map whose keys are these texts, or those of a pattern.
+// This pattern, and the others of these.
+fn with_first<'t>(
+    alloc: Global,
+    first: &'t str,
+    patterns: &[&'t str],
+) -> Result<Vec<&'t str>, AllocError>
+    ensures { IfOk result (λ v. map (λ t. t.now) v.items
+        ≡ first.now ∷ filter (λ p. not (bytes_eq p first.now)) (map (λ t. t.now) patterns.now)) }
+{
+    let mut all = Vec::new(alloc);
+    all.push(first)?;
+    for pattern in patterns {
+        if *pattern != first {
+            all.push(*pattern)?;
+        }
+    }
+    Ok(all)
+}
+
+// A map whose keys are these texts, or match one of the patterns.
 fn only_keys_template<'t>(
     alloc: Global,
     texts: &[&'t str],
-    integers: Option<IntegerKeys>,
+    patterns: &[&'t str],
     value: TypeNo,
 ) -> Result<Template<'t>, AllocError>
-    ensures { IfOk result (λ t. template_view t ≡ values_template (only_keys (map (λ t. t.now) texts.now) integers) value) }
+    ensures { IfOk result (λ t. template_view t ≡ values_template (only_keys (map (λ t. t.now) texts.now) None
+        (map (λ t. t.now) patterns.now)) value) }
 {
     let mut keywords: Vec<(&'t str, Template<'t>)> = typed(alloc, "object")?;
     add_closed(&mut keywords, true)?;
-    add_pattern_properties(alloc, &mut keywords, integers, value)?;
+    add_pattern_properties(alloc, &mut keywords, patterns, value)?;
     let properties = values_at(alloc, texts, value)?;
     add_properties(alloc, &mut keywords, properties)?;
     object_with(alloc, keywords)
@@ -64,17 +89,16 @@ fn only_keys_template<'t>(
 fn add_pattern_properties<'t>(
     alloc: Global,
     keywords: &mut Vec<(&'t str, Template<'t>)>,
-    integers: Option<IntegerKeys>,
+    patterns: &[&'t str],
     value: TypeNo,
 ) -> Result<(), AllocError>
     ensures { OnOk result (map keyword_view keywords.new.items
-        ≡ map keyword_view keywords.old.items ++ pattern_properties_at integers value) }
+        ≡ map keyword_view keywords.old.items ++ pattern_properties_at (values_of value (map (λ t. t.now) patterns.now))) }
 {
-    let Some(integers) = integers else {
+    if patterns.is_empty() {
         return Ok(());
-    };
-    let pattern: &'t str = integers.pattern();
-    let values: Vec<(&'t str, Template<'t>)> = vec![in alloc; (pattern, row(value))]?;
+    }
+    let values = values_at(alloc, patterns, value)?;
     let by_pattern = object_with(alloc, values)?;
     keywords.push(("patternProperties", by_pattern))?;
     Ok(())
@@ -86,7 +110,7 @@ fn values_at<'t>(
     keys: &[&'t str],
     value: TypeNo,
 ) -> Result<Vec<(&'t str, Template<'t>)>, AllocError>
-    ensures { IfOk result (λ v. map keyword_view v.items ≡ map (λ t. (t, row value)) (map (λ t. t.now) keys.now)) }
+    ensures { IfOk result (λ v. map keyword_view v.items ≡ values_of value (map (λ t. t.now) keys.now)) }
 {
     let mut values = Vec::new(alloc);
     for key in keys {

@@ -1,8 +1,9 @@
 -- Tables of plain parts.
 use Rattle.std.specs.Prelude.{◌≡◌, ℕ, List, [], ◌∷◌, Option, Some, None, false, bytes_eq}
-use Rattle.serde_json.specs.Written.{members_have_float}
+use Rattle.serde_json.specs.Written.{has_float, members_have_float}
 use Rattle.schemars_json.specs.Json.{Text}
 use Rattle.schemars_schema.specs.Annotations.{AreNotes}
+use Rattle.schemars_schema.specs.Literal.{IsPlainLiteral}
 use Rattle.schemars_shapes.specs.Shape as shape
 use Rattle.schemars_shapes.specs.Shape.{Shape, Field, Entry, Payload, Variant, no_payload, newtype_payload, tuple_payload, struct_payload}
 use Rattle.schemars_types.specs.Rows.{Row, entry_at}
@@ -81,21 +82,26 @@ IsPlainShape (shape.map_from key value) = Unit {0}
 IsPlainShape (shape.external xs) = AreDistinctVariants xs × ArePlainVariants xs
 IsPlainShape (shape.untagged xs) = ArePlainVariants xs
 IsPlainShape (shape.internal tag closed xs) = AreDistinctVariants xs × ArePlainVariants xs × AreTagged tag xs
+IsPlainShape (shape.literal d) = IsPlainLiteral d
 
 abbrev pub IsPlainEntry : Option Entry → Type 0
 IsPlainEntry None = Unit {0}
 IsPlainEntry (Some e) = AreNotes e.notes × IsPlainShape e.shape
 
--- the notes of rows, fields and variants are annotations alone, and the names of each list of fields are all different, and of the
--- variants that are told by their names; no field is named as a tag beside it
+-- literals are plain, the notes of rows, fields and variants are annotations alone, and the names of each list of
+-- fields are all different, and of the variants that are told by their names; no field is named as a tag beside it
 abbrev pub IsPlainTable : List Row → Type 0
 IsPlainTable rows = (n : ℕ) → IsPlainEntry (entry_at rows n)
 
+abbrev pub HasPlainLiteral : Shape → Type 0
+HasPlainLiteral (shape.literal d) = IsPlainLiteral d
+HasPlainLiteral _ = Unit {0}
+
 abbrev pub IsNotedEntry : Option Entry → Type 0
 IsNotedEntry None = Unit {0}
-IsNotedEntry (Some e) = AreNotes e.notes
+IsNotedEntry (Some e) = AreNotes e.notes × HasPlainLiteral e.shape
 
--- the notes of rows are annotations alone, whatever those of their fields and variants are
+-- literals are plain, and the notes of rows are annotations alone, whatever those of their fields and variants are
 abbrev pub HasPlainNotes : List Row → Type 0
 HasPlainNotes rows = (n : ℕ) → IsNotedEntry (entry_at rows n)
 
@@ -111,7 +117,7 @@ IsTaggedApart (Some e) = TagStandsApart e.shape
 abbrev pub TagsStandApart : List Row → Type 0
 TagsStandApart rows = (n : ℕ) → IsTaggedApart (entry_at rows n)
 
--- ---- numbers in notes
+-- ---- numbers in notes and literals
 
 abbrev pub FieldsHaveNoFloat : List Field → Type 0
 FieldsHaveNoFloat [] = Unit {0}
@@ -155,11 +161,12 @@ ShapeHasNoFloat (shape.map_from key value) = Unit {0}
 ShapeHasNoFloat (shape.external xs) = VariantsHaveNoFloat xs
 ShapeHasNoFloat (shape.untagged xs) = VariantsHaveNoFloat xs
 ShapeHasNoFloat (shape.internal tag closed xs) = VariantsHaveNoFloat xs
+ShapeHasNoFloat (shape.literal d) = has_float d ≡ false
 
 abbrev pub EntryHasNoFloat : Option Entry → Type 0
 EntryHasNoFloat None = Unit {0}
 EntryHasNoFloat (Some e) = (members_have_float e.notes ≡ false) × ShapeHasNoFloat e.shape
 
--- the numbers in the notes are whole numbers
+-- the numbers in notes and literals are whole numbers
 abbrev pub HasNoFloat : List Row → Type 0
 HasNoFloat rows = (n : ℕ) → EntryHasNoFloat (entry_at rows n)

@@ -9,7 +9,7 @@ ghost use Rattle.schemars_documents.specs.Documents.{bytes_document};
 ghost use Rattle.schemars_templates.specs.Basis.{basis_of};
 ghost use Rattle.schemars_templates.specs.Template.{row, finished, nullable};
 ghost use Rattle.schemars_templates.specs.View.{template_view};
-ghost use Rattle.schemars_templates.specs.OfShape.{template_of, entry_template};
+ghost use Rattle.schemars_templates.specs.OfShape.{template_of, entry_template, literal_document};
 
 use schemars_compound::{
     bound_template, either_template, external_template, internal_template, result_template,
@@ -86,6 +86,7 @@ fn template_of<'t>(
             variants,
         ),
         Shape::Internal(internal) => internal_template(alloc, basis.contract, internal),
+        Shape::Literal(schema) => literal_template(schema),
     }
 }
 
@@ -94,6 +95,13 @@ fn bytes_template<'t>(alloc: Global, contract: Contract) -> Result<Template<'t>,
 {
     let byte = int_document(alloc, IntKind::U8)?;
     finished(bytes_document(alloc, contract, byte)?)
+}
+
+fn literal_template<'t>(schema: &Schema) -> Result<Template<'t>, AllocError>
+    ensures { IfOk result (λ t. template_view t ≡ finished (literal_document schema.now)) }
+{
+    let _ = schema.as_value();
+    finished(schema.clone()?)
 }
 
 fn option_template<'t>(alloc: Global, some: TypeNo) -> Result<Template<'t>, AllocError>

@@ -30,6 +30,9 @@ use Rattle.schemars_documents.specs.Documents.{is_signed, bytes_document, requir
 use Rattle.schemars_templates.specs.Basis.{Basis}
 use Rattle.schemars_templates.specs.Template.{Template, finished, row, list, members, nullable, noted, Templates, no_templates}
 use Rattle.schemars_templates.specs.Template.{template, rows_of, left, keyed, filled, filled_in}
+use Rattle.schemars_templates.specs.OfShape.{object_with, typed, said, values_of, all_patterns, pattern_properties_at}
+use Rattle.schemars_templates.specs.OfShape.{properties_at}
+use Rattle.schemars_schema.specs.SchemaData.{is_schema}
 use Rattle.schemars_templates.specs.OfShape.{KeywordTemplate, templates_of, property, map_template, tuple_template, struct_template}
 use Rattle.schemars_templates.specs.OfShape.{payload_template, named_template, bare_units, other_items, choice_of}
 use Rattle.schemars_templates.specs.OfShape.{values_template, payload_item, titled, untagged_template, template_of}
@@ -357,12 +360,17 @@ texts_whole_at : (value : ℕ) (texts : List Text)
 texts_whole_at value [] = tt
 texts_whole_at value (t ∷ texts) = (tt, texts_whole_at value texts)
 
+keyed_whole : (texts qs : List Text) (value : ℕ) → SaysWhole (object_with (typed (codes "object")
+    ∷ said (codes "additionalProperties") (boolean false)
+    ∷ (pattern_properties_at (values_of value qs) ++ properties_at (values_of value texts))))
+keyed_whole [] [] value = search
+keyed_whole (t ∷ texts) [] value = search (texts_whole_at value (t ∷ texts))
+keyed_whole [] (q ∷ qs) value = search (texts_whole_at value (q ∷ qs))
+keyed_whole (t ∷ texts) (q ∷ qs) value = search (texts_whole_at value (t ∷ texts), texts_whole_at value (q ∷ qs))
+
 values_whole : (options : KeyOptions) (value : ℕ) → SaysWhole (values_template options value)
 values_whole any_key value = search
-values_whole (only_keys [] None) value = search
-values_whole (only_keys (t ∷ texts) None) value = search (texts_whole_at value (t ∷ texts))
-values_whole (only_keys [] (Some keys)) value = search
-values_whole (only_keys (t ∷ texts) (Some keys)) value = search (texts_whole_at value (t ∷ texts))
+values_whole (only_keys texts integers ps) value = keyed_whole texts (all_patterns integers ps) value
 
 shape_whole : (basis : Basis) (kind : Shape) → ShapeHasNoFloat kind → SaysWhole (template_of basis kind)
 shape_whole basis shape.null n = refl
@@ -394,6 +402,7 @@ shape_whole basis (shape.map_from key value) n = values_whole (key_options basis
 shape_whole basis (shape.external xs) n = choice_whole (bare_units xs) (other_items basis.contract xs) (others_whole basis.contract xs n)
 shape_whole basis (shape.untagged xs) n = untagged_whole basis.contract basis.titles xs n
 shape_whole basis (shape.internal tag closed xs) n = internal_whole basis.contract tag closed xs n
+shape_whole basis (shape.literal d) n = either IsWhole (is_schema d) d (boolean true) n refl
 
 own_whole : (W : ℕ → Data → Type 0) (basis : Basis) → ((j : ℕ) (t : Data) → W j t → IsWhole t) → (o : Option Entry)
     → EntryHasNoFloat o → (s : Data) → IsOwnDocument W basis o s → IsWhole s

@@ -54,6 +54,7 @@ template-more basis more (shape.map_from key value) same =
 template-more basis more (shape.external xs) same = refl
 template-more basis more (shape.untagged xs) same = refl
 template-more basis more (shape.internal tag closed xs) same = refl
+template-more basis more (shape.literal d) same = refl
 
 -- a document stays one as rows join
 module _ (basis : Basis) (more : List Row) (inlines : Bool) (R : ℕ → Text → Type 0)

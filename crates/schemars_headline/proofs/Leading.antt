@@ -87,6 +87,7 @@ same_number (shape.map_from key value) j same = absurd same
 same_number (shape.external xs) j same = absurd same
 same_number (shape.untagged xs) j same = newtype_number xs j same
 same_number (shape.internal tag closed xs) j same = absurd same
+same_number (shape.literal d) j same = absurd same
 
 rank_below : (rows : List Row) → IsChecked rows → (n : ℕ) (e : Entry) (j : ℕ) → entry_at rows n ≡ Some e → IsSame e.shape j
     → rank rows j < rank rows n

@@ -32,7 +32,12 @@ use Rattle.schemars_templates.specs.Template.{filled, filled_in}
 use Rattle.schemars_templates.specs.OfShape.{KeywordTemplate, property, map_template, bare_units, other_items, choice_of}
 use Rattle.schemars_templates.specs.OfShape.{values_template, template_of, entry_template}
 use Rattle.schemars_templates.specs.Describes.{IsOwnDocument, IsWritten, Describes}
-use Rattle.schemars_documents.specs.PlainTable.{IsNotedEntry, HasPlainNotes}
+use Rattle.schemars_documents.specs.PlainTable.{HasPlainLiteral, IsNotedEntry, HasPlainNotes}
+use Rattle.schemars_schema.specs.Literal.{IsPlainLiteral}
+use Rattle.schemars_schema.proofs.Literals.{plain_absent}
+use Rattle.schemars_templates.specs.OfShape.{typed, said, object_with, values_of, all_patterns, pattern_properties_at}
+use Rattle.schemars_templates.specs.OfShape.{properties_at}
+use Rattle.schemars_templates.specs.OfShape.{literal_document}
 use Rattle.schemars_headline.proofs.Keys.{IsDefinitionsKey, IsOther, other_apart, annotation_other}
 use Rattle.schemars_headline.proofs.Parts.{either, first_all, parts_all}
 
@@ -76,46 +81,65 @@ choice_other [] (t ∷ ts) = search
 choice_other (k ∷ ks) [] = search
 choice_other (k ∷ ks) (t ∷ ts) = search
 
+keyed_other : (texts qs : List Text) (value : ℕ) → SaysOther (object_with (typed (codes "object")
+    ∷ said (codes "additionalProperties") (boolean false)
+    ∷ (pattern_properties_at (values_of value qs) ++ properties_at (values_of value texts))))
+keyed_other [] [] value = search
+keyed_other (t ∷ texts) [] value = search
+keyed_other [] (q ∷ qs) value = search
+keyed_other (t ∷ texts) (q ∷ qs) value = search
+
 values_other : (options : KeyOptions) (value : ℕ) → SaysOther (values_template options value)
 values_other any_key value = search
-values_other (only_keys [] None) value = search
-values_other (only_keys (t ∷ texts) None) value = search
-values_other (only_keys [] (Some keys)) value = search
-values_other (only_keys (t ∷ texts) (Some keys)) value = search
+values_other (only_keys texts integers ps) value = keyed_other texts (all_patterns integers ps) value
 
-shape_other : (basis : Basis) (kind : Shape) → SaysOther (template_of basis kind)
-shape_other basis shape.null = (refl, refl)
-shape_other basis shape.bool = (refl, refl)
-shape_other basis (shape.int k) = (int_other (format_of k) (least_of k) (greatest_of k)).0
-shape_other basis (shape.non_zero k) = either HasNeither (is_signed k) _ _
+literal_other : (d : Data) → IsPlainLiteral d → HasNeither (literal_document d)
+literal_other (boolean true) plain = (refl, refl)
+literal_other (boolean false) plain = (refl, refl)
+literal_other (object ms) plain = (
+  plain_absent (codes "$defs") ms plain.members (λ d. refl),
+  plain_absent (codes "definitions") ms plain.members (λ d. refl),
+)
+literal_other null plain = absurd plain
+literal_other (number n) plain = absurd plain
+literal_other (string s) plain = absurd plain
+literal_other (array ds) plain = absurd plain
+
+shape_other : (basis : Basis) (kind : Shape) → HasPlainLiteral kind → SaysOther (template_of basis kind)
+shape_other basis shape.null p = (refl, refl)
+shape_other basis shape.bool p = (refl, refl)
+shape_other basis (shape.int k) p = (int_other (format_of k) (least_of k) (greatest_of k)).0
+shape_other basis (shape.non_zero k) p = either HasNeither (is_signed k) _ _
     (int_other (format_of k) (least_of k) (greatest_of k)).1 (int_other (format_of k) (Some (pos 1)) (greatest_of k)).0
-shape_other basis shape.number = (refl, refl)
-shape_other basis shape.text = (refl, refl)
-shape_other basis shape.char = (refl, refl)
-shape_other basis (shape.formatted f) = (refl, refl)
-shape_other basis shape.any = (refl, refl)
-shape_other basis shape.bytes = (refl, refl)
-shape_other basis shape.schema_itself = (refl, refl)
-shape_other basis (shape.option n) = tt
-shape_other basis (shape.seq n) = search
-shape_other basis (shape.set n) = search
-shape_other basis (shape.array n zero) = (refl, refl)
-shape_other basis (shape.array n (suc len)) = search
-shape_other basis (shape.up_to n cap) = search
-shape_other basis (shape.tuple []) = (refl, refl)
-shape_other basis (shape.tuple (n ∷ ns)) = search
-shape_other basis (shape.struct xs closed) = map_other (map property xs) (text_items (required_names basis.contract xs)) closed
-shape_other basis (shape.newtype n) = tt
-shape_other basis (shape.result a b) = search
-shape_other basis (shape.bound n) = search
-shape_other basis (shape.range n) = search
-shape_other basis (shape.either a b) = search
-shape_other basis (shape.map_from key value) = values_other (key_options basis.rows key) value
-shape_other basis (shape.external xs) = choice_other (bare_units xs) (other_items basis.contract xs)
-shape_other basis (shape.untagged []) = (refl, refl)
-shape_other basis (shape.untagged (x ∷ xs)) = search
-shape_other basis (shape.internal tag closed []) = (refl, refl)
-shape_other basis (shape.internal tag closed (x ∷ xs)) = search
+shape_other basis shape.number p = (refl, refl)
+shape_other basis shape.text p = (refl, refl)
+shape_other basis shape.char p = (refl, refl)
+shape_other basis (shape.formatted f) p = (refl, refl)
+shape_other basis shape.any p = (refl, refl)
+shape_other basis shape.bytes p = (refl, refl)
+shape_other basis shape.schema_itself p = (refl, refl)
+shape_other basis (shape.option n) p = tt
+shape_other basis (shape.seq n) p = search
+shape_other basis (shape.set n) p = search
+shape_other basis (shape.array n zero) p = (refl, refl)
+shape_other basis (shape.array n (suc len)) p = search
+shape_other basis (shape.up_to n cap) p = search
+shape_other basis (shape.tuple []) p = (refl, refl)
+shape_other basis (shape.tuple (n ∷ ns)) p = search
+shape_other basis (shape.struct xs closed) p =
+    map_other (map property xs) (text_items (required_names basis.contract xs)) closed
+shape_other basis (shape.newtype n) p = tt
+shape_other basis (shape.result a b) p = search
+shape_other basis (shape.bound n) p = search
+shape_other basis (shape.range n) p = search
+shape_other basis (shape.either a b) p = search
+shape_other basis (shape.map_from key value) p = values_other (key_options basis.rows key) value
+shape_other basis (shape.external xs) p = choice_other (bare_units xs) (other_items basis.contract xs)
+shape_other basis (shape.untagged []) p = (refl, refl)
+shape_other basis (shape.untagged (x ∷ xs)) p = search
+shape_other basis (shape.internal tag closed []) p = (refl, refl)
+shape_other basis (shape.internal tag closed (x ∷ xs)) p = search
+shape_other basis (shape.literal d) p = literal_other d p
 
 module _ (key : Text) (is_key : IsDefinitionsKey key) where
   abbrev Lacks : Members → Type 0
@@ -221,7 +245,7 @@ module _ (key : Text) (is_key : IsDefinitionsKey key) where
   own_lacks W basis all None plain s is = absurd is
   own_lacks W basis all (Some e) plain s is =
       let t = entry_template basis e in
-      rw is.is (lacks_filled t is.parts (plain, shape_other basis e.shape)
+      rw is.is (lacks_filled t is.parts (plain.0, shape_other basis e.shape plain.1)
       (parts_all LacksIn W all (rows_of t) is.parts is.written))
 
   module _ (basis : Basis) (Refers : ℕ → Text → Type 0) (plain : HasPlainNotes basis.rows) where

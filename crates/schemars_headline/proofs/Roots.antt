@@ -15,7 +15,10 @@ use Rattle.schemars_types.specs.Rows.{Row, name_at, entry_at}
 use Rattle.schemars_types.specs.Faults.{IsChecked}
 use Rattle.schemars_documents.specs.Documents.{root_document}
 use Rattle.schemars_templates.specs.Describes.{IsWritten, Describes}
-use Rattle.schemars_documents.specs.PlainTable.{IsPlainEntry, IsPlainTable, IsNotedEntry, HasPlainNotes}
+use Rattle.schemars_shapes.specs.Shape as shape
+use Rattle.schemars_shapes.specs.Shape.{Shape}
+use Rattle.schemars_documents.specs.PlainTable.{IsPlainShape, HasPlainLiteral, IsPlainEntry, IsPlainTable}
+use Rattle.schemars_documents.specs.PlainTable.{IsNotedEntry, HasPlainNotes}
 use Rattle.schemars_documents.specs.ContractOf.{contract_of}
 use Rattle.schemars_naming.specs.Naming.{IsOneToOne}
 use Rattle.schemars_naming.specs.Work.{Plan, Work, Refers, basis_of}
@@ -118,12 +121,16 @@ root_means plan w n name uri depth own document checked one once root definition
           (root_resolved (resolves document) name uri own resolved_own);
     }
 
+plain_literal : (s : Shape) → IsPlainShape s → HasPlainLiteral s
+plain_literal (shape.literal d) h = h
+plain_literal s h = tt
+
 plain_notes : (rows : List Row) → IsPlainTable rows → HasPlainNotes rows
 plain_notes rows plain n = by (entry_at rows n) (plain n)
   where
     by : (o : Option Entry) → IsPlainEntry o → IsNotedEntry o
     by None h = tt
-    by (Some e) h = h.0
+    by (Some e) h = (h.0, plain_literal e.shape h.1)
 
 module _ (plan : Plan) (w : Work) (n : ℕ) (name : Text) (uri : Option Text) (depth : ℕ) (own : Data) (plain : HasPlainNotes plan.rows)
     (R : ℕ → Text → Type 0) (h : Describes (basis_of plan) R depth n own) where

@@ -2,11 +2,15 @@
 use Rattle.std.proofs.Common.{◌≡◌, ◌||◌, ◌∙◌, ℕ, List, [], ◌∷◌, ◌++◌, Bool, true, false, Option, Some, None, Bor, map, refl, ap, sym}
 use Rattle.std.proofs.Common.{subst, length, Vec}
 use Rattle.std.specs.declared.alloc.Global.{Global}
-use Rattle.std.specs.Prelude.{bytes_eq, nat_eq}
+use Rattle.std.specs.Prelude.{bytes_eq, nat_eq, option_map, option_and_then}
 use Rattle.std.specs.List.{list_any}
 use Rattle.std.proofs.lemmas.Bool.{eqb-true}
 use Rattle.std.proofs.lemmas.List.Folds.{list_any-append}
 use Rattle.indexmap.specs.IndexSet.{insert_key}
+use Rattle.serde_json.specs.Data.{Data, null, boolean, number, unsigned, negative, float, string, array, object}
+use Rattle.serde_json.specs.Data.{Items, item}
+use Rattle.serde_json.specs.Find.{as_str, as_number, as_u64}
+use Rattle.schemars_schema.specs.Acceptance.{texts_in, count_of_number}
 use Rattle.schemars_json.specs.Json.{Text}
 use Rattle.schemars_shapes.specs.declared.shape.IntKind.{IntKind}
 use Rattle.schemars_shapes.specs.declared.shape.Shape as src-shape
@@ -17,7 +21,7 @@ use Rattle.schemars_types.specs.Rows.{Row}
 use Rattle.schemars_shapes.specs.declared.shape.IntegerKeys.{IntegerKeys}
 use Rattle.schemars_shapes.specs.declared.shape.IntegerKeys.TheVariants.{Unsigned, Signed}
 use Rattle.schemars_types.specs.KeyOptions.{KeyOptions, any_key, only_keys, either_integers, either_options, each_once, all_options}
-use Rattle.schemars_types.specs.KeyOptions.{members_options, untagged_options, shape_options}
+use Rattle.schemars_types.specs.KeyOptions.{members_options, untagged_options, shape_options, texts_options}
 use Rattle.schemars_keys.specs.Found.{adding, AreAmong, HoldsRows}
 use Rattle.schemars_keys.proofs.Texts.{listed_more, listed_own, nothing_joins, insert_all-append, once_by_joining}
 
@@ -59,40 +63,42 @@ either_kept (Some Unsigned) (Some Signed) k h = cc
 
 pub adding-any : (o : KeyOptions) → adding o any_key ≡ any_key
 adding-any any_key = refl
-adding-any (only_keys ts i) = refl
+adding-any (only_keys ts i ps) = refl
 
-pub adding-nothing : (o : KeyOptions) → adding o (only_keys [] None) ≡ o
+pub adding-nothing : (o : KeyOptions) → adding o (only_keys [] None []) ≡ o
 adding-nothing any_key = refl
-adding-nothing (only_keys ts i) = ap (only_keys ts) (either_none i)
+adding-nothing (only_keys ts i ps) = ap (λ j. only_keys ts j ps) (either_none i)
 
 pub adding-either : (o p q : KeyOptions) → adding (adding o p) q ≡ adding o (either_options p q)
 adding-either any_key p q = refl
-adding-either (only_keys ts i) any_key q = refl
-adding-either (only_keys ts i) (only_keys us j) any_key = refl
-adding-either (only_keys ts i) (only_keys us j) (only_keys vs k) =
-    λ x. only_keys (sym (insert_all-append us vs ts) x) (either_assoc i j k x)
+adding-either (only_keys ts i ps) any_key q = refl
+adding-either (only_keys ts i ps) (only_keys us j qs) any_key = refl
+adding-either (only_keys ts i ps) (only_keys us j qs) (only_keys vs k rs) =
+    λ x. only_keys (sym (insert_all-append us vs ts) x) (either_assoc i j k x) (sym (insert_all-append qs rs ps) x)
 
-pub adding-once : (o : KeyOptions) → adding (only_keys [] None) o ≡ each_once o
+pub adding-once : (o : KeyOptions) → adding (only_keys [] None []) o ≡ each_once o
 adding-once any_key = refl
-adding-once (only_keys us j) = ap (λ ts. only_keys ts j) (once_by_joining us)
+adding-once (only_keys us j qs) = λ x. only_keys (once_by_joining us x) j (once_by_joining qs x)
 
 -- ---- options that are there
 
 pub adding-there : (o p : KeyOptions) → AreAmong p o → adding o p ≡ o
 adding-there any_key p h = refl
-adding-there (only_keys ts i) any_key h = absurd h
-adding-there (only_keys ts i) (only_keys us j) h = λ x. only_keys (nothing_joins us ts h.0 x) (h.1 x)
+adding-there (only_keys ts i ps) any_key h = absurd h
+adding-there (only_keys ts i ps) (only_keys us j qs) h =
+    λ x. only_keys (nothing_joins us ts h.0 x) (h.1 x) (nothing_joins qs ps h.2 x)
 
 pub among_added : (o p : KeyOptions) → AreAmong p (adding o p)
 among_added any_key p = tt
-among_added (only_keys ts i) any_key = tt
-among_added (only_keys ts i) (only_keys us j) = (listed_own us ts, either_same i j)
+among_added (only_keys ts i ps) any_key = tt
+among_added (only_keys ts i ps) (only_keys us j qs) = (listed_own us ts, either_same i j, listed_own qs ps)
 
 among_more : (o p q : KeyOptions) → AreAmong p o → AreAmong p (adding o q)
 among_more any_key p q h = tt
-among_more (only_keys ts i) p any_key h = tt
-among_more (only_keys ts i) any_key (only_keys vs k) h = absurd h
-among_more (only_keys ts i) (only_keys us j) (only_keys vs k) h = (listed_more us ts vs h.0, either_kept i j k h.1)
+among_more (only_keys ts i ps) p any_key h = tt
+among_more (only_keys ts i ps) any_key (only_keys vs k rs) h = absurd h
+among_more (only_keys ts i ps) (only_keys us j qs) (only_keys vs k rs) h =
+    (listed_more us ts vs h.0, either_kept i j k h.1, listed_more qs ps rs h.2)
 
 pub holds_none : (rows : List Row) (o : KeyOptions) → HoldsRows rows [] o
 holds_none rows o = record { holds = λ m h. cc }
@@ -126,8 +132,30 @@ holds_met rows met n o h new = record { holds = λ m is. by (list_any (nat_eq n)
 -- ---- one name, or one member, and those that are left
 
 pub names_more : (o : KeyOptions) (t : Text) (ts : List Text)
-    → adding (adding o (only_keys (t ∷ []) None)) (only_keys ts None) ≡ adding o (only_keys (t ∷ ts) None)
-names_more o t ts = adding-either o (only_keys (t ∷ []) None) (only_keys ts None)
+    → adding (adding o (only_keys (t ∷ []) None [])) (only_keys ts None []) ≡ adding o (only_keys (t ∷ ts) None [])
+names_more o t ts = adding-either o (only_keys (t ∷ []) None []) (only_keys ts None [])
+
+abbrev options_in : Option (List Text) → KeyOptions
+options_in r = elim r [ Some ts ↦ only_keys ts None [] | None ↦ any_key ]
+
+-- with a value in front
+abbrev with_first : Items → Option Text → KeyOptions
+with_first ds first = options_in (option_and_then (λ t. option_map (λ ts. t ∷ ts) (texts_in ds)) first)
+
+-- a value that is a text, and those behind it
+pub text_more : (o : KeyOptions) (d : Data) (t : Text) (ds : Items) → as_str d ≡ Some t
+    → adding (adding o (only_keys (t ∷ []) None [])) (texts_options ds) ≡ adding o (texts_options (item d ds))
+text_more o d t ds is = go (texts_in ds) ∙ ap (λ first. adding o (with_first ds first)) (sym is)
+  where
+    go : (r : Option (List Text)) → adding (adding o (only_keys (t ∷ []) None [])) (options_in r)
+        ≡ adding o (options_in (option_map (λ ts. t ∷ ts) r))
+    go (Some ts) = names_more o t ts
+    go None = adding-any (adding o (only_keys (t ∷ []) None [])) ∙ sym (adding-any o)
+
+-- one that is no text
+pub no_text : (o : KeyOptions) (d : Data) (ds : Items) → as_str d ≡ None
+    → adding any_key (texts_options ds) ≡ adding o (texts_options (item d ds))
+no_text o d ds is = sym (adding-any o) ∙ ap (λ first. adding o (with_first ds first)) (sym is)
 
 pub untagged_some : (part : ℕ → KeyOptions) (xs : List Variant) → (length xs ≡ 0 → ⊥) → untagged_options part xs ≡ members_options part xs
 untagged_some part [] some = absurd (some refl)
@@ -139,34 +167,36 @@ untagged_some part (x ∷ xs) some = refl
 pub other_shape : (part : ℕ → KeyOptions) (s : src-shape.Shape) → ((k : IntKind) → s ≡ src.Int k → ⊥)
     → ((k : IntKind) → s ≡ src.NonZero k → ⊥) → ((n : ℕ) → s ≡ src.Newtype n → ⊥)
     → ((xs : Vec src-variant.Variant Global) → s ≡ src.External xs → ⊥)
-    → ((xs : Vec src-variant.Variant Global) → s ≡ src.Untagged xs → ⊥) → shape_options part (shape_of s) ≡ any_key
-other_shape part src.Null i z w x u = refl
-other_shape part src.Bool i z w x u = refl
-other_shape part (src.Int k) i z w x u = absurd (i k refl)
-other_shape part (src.NonZero k) i z w x u = absurd (z k refl)
-other_shape part src.Number i z w x u = refl
-other_shape part src.Text i z w x u = refl
-other_shape part src.Char i z w x u = refl
-other_shape part (src.Formatted t) i z w x u = refl
-other_shape part src.Any i z w x u = refl
-other_shape part src.Bytes i z w x u = refl
-other_shape part src.SchemaItself i z w x u = refl
-other_shape part (src.Option n) i z w x u = refl
-other_shape part (src.Seq n) i z w x u = refl
-other_shape part (src.Set n) i z w x u = refl
-other_shape part (src.Array n len) i z w x u = refl
-other_shape part (src.UpTo n cap) i z w x u = refl
-other_shape part (src.Tuple ns) i z w x u = refl
-other_shape part (src.Struct fields) i z w x u = refl
-other_shape part (src.Newtype n) i z w x u = absurd (w n refl)
-other_shape part (src.Result a b) i z w x u = refl
-other_shape part (src.Bound n) i z w x u = refl
-other_shape part (src.Range n) i z w x u = refl
-other_shape part (src.Either a b) i z w x u = refl
-other_shape part (src.Map key value) i z w x u = refl
-other_shape part (src.Internal internal) i z w x u = refl
-other_shape part (src.External xs) i z w x u = absurd (x xs refl)
-other_shape part (src.Untagged xs) i z w x u = absurd (u xs refl)
+    → ((xs : Vec src-variant.Variant Global) → s ≡ src.Untagged xs → ⊥) → ((d : Data) → s ≡ src.Literal d → ⊥)
+    → shape_options part (shape_of s) ≡ any_key
+other_shape part src.Null i z w x u l = refl
+other_shape part src.Bool i z w x u l = refl
+other_shape part (src.Int k) i z w x u l = absurd (i k refl)
+other_shape part (src.NonZero k) i z w x u l = absurd (z k refl)
+other_shape part src.Number i z w x u l = refl
+other_shape part src.Text i z w x u l = refl
+other_shape part src.Char i z w x u l = refl
+other_shape part (src.Formatted t) i z w x u l = refl
+other_shape part src.Any i z w x u l = refl
+other_shape part src.Bytes i z w x u l = refl
+other_shape part src.SchemaItself i z w x u l = refl
+other_shape part (src.Option n) i z w x u l = refl
+other_shape part (src.Seq n) i z w x u l = refl
+other_shape part (src.Set n) i z w x u l = refl
+other_shape part (src.Array n len) i z w x u l = refl
+other_shape part (src.UpTo n cap) i z w x u l = refl
+other_shape part (src.Tuple ns) i z w x u l = refl
+other_shape part (src.Struct fields) i z w x u l = refl
+other_shape part (src.Newtype n) i z w x u l = absurd (w n refl)
+other_shape part (src.Result a b) i z w x u l = refl
+other_shape part (src.Bound n) i z w x u l = refl
+other_shape part (src.Range n) i z w x u l = refl
+other_shape part (src.Either a b) i z w x u l = refl
+other_shape part (src.Map key value) i z w x u l = refl
+other_shape part (src.Internal internal) i z w x u l = refl
+other_shape part (src.External xs) i z w x u l = absurd (x xs refl)
+other_shape part (src.Untagged xs) i z w x u l = absurd (u xs refl)
+other_shape part (src.Literal d) i z w x u l = absurd (l d refl)
 
 -- a text joins as the program holds them
 abbrev now_of : Bor (List ℕ) → Text
@@ -202,9 +232,29 @@ joined_keys ks t = by (list_any (bytes_eq t.now) (map now_of ks)) refl
     by true e = ap (map now_of) (there (same_test ks t ∙ e)) ∙ sym (now_there e)
     by false e = ap (map now_of) (new (same_test ks t ∙ e)) ∙ (map_one ks ∙ sym (now_new e))
 
-pub text_joins : (o : KeyOptions) (ks new : List (Bor (List ℕ))) (i : Option IntegerKeys) (t : Bor (List ℕ))
-    → o ≡ only_keys (map now_of ks) i → new ≡ insert_key (λ a b. bytes_eq a.now b.now) ks t
-    → only_keys (map now_of new) i ≡ adding o (only_keys (t.now ∷ []) None)
-text_joins o ks new i t is grown =
-    (λ x. only_keys ((ap (map now_of) grown ∙ joined_keys ks t) x) (sym (either_none i) x))
-    ∙ ap (λ p. adding p (only_keys (t.now ∷ []) None)) (sym is)
+pub text_joins : (o : KeyOptions) (ks new : List (Bor (List ℕ))) (i : Option IntegerKeys) (ps : List Text)
+    (t : Bor (List ℕ))
+    → o ≡ only_keys (map now_of ks) i ps → new ≡ insert_key (λ a b. bytes_eq a.now b.now) ks t
+    → only_keys (map now_of new) i ps ≡ adding o (only_keys (t.now ∷ []) None [])
+text_joins o ks new i ps t is grown =
+    (λ x. only_keys ((ap (map now_of) grown ∙ joined_keys ks t) x) (sym (either_none i) x) ps)
+    ∙ ap (λ p. adding p (only_keys (t.now ∷ []) None [])) (sym is)
+
+pub pattern_joins : (o : KeyOptions) (ts : List Text) (i : Option IntegerKeys) (ks new : List (Bor (List ℕ)))
+    (t : Bor (List ℕ))
+    → o ≡ only_keys ts i (map now_of ks) → new ≡ insert_key (λ a b. bytes_eq a.now b.now) ks t
+    → only_keys ts i (map now_of new) ≡ adding o (only_keys [] None (t.now ∷ []))
+pattern_joins o ts i ks new t is grown =
+    (λ x. only_keys ts (sym (either_none i) x) ((ap (map now_of) grown ∙ joined_keys ks t) x))
+    ∙ ap (λ p. adding p (only_keys [] None (t.now ∷ []))) (sym is)
+
+-- a number that counts is one without a sign
+pub counts : (d : Data) → count_of_number d ≡ option_and_then as_u64 (as_number d)
+counts null = refl
+counts (boolean b) = refl
+counts (number (unsigned n)) = refl
+counts (number (negative z)) = refl
+counts (number (float x)) = refl
+counts (string s) = refl
+counts (array ds) = refl
+counts (object ms) = refl

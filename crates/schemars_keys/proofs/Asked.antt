@@ -79,6 +79,7 @@ same_number (shape.either a b) m c = absurd (nothing_in m c)
 same_number (shape.map_from key value) m c = absurd (nothing_in m c)
 same_number (shape.external xs) m c = absurd (nothing_in m c)
 same_number (shape.internal tag closed xs) m c = absurd (nothing_in m c)
+same_number (shape.literal d) m c = absurd (nothing_in m c)
 same_number (shape.untagged xs) m c = newtype_number xs m c
 
 -- they are ends of edges

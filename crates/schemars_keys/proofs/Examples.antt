@@ -2,11 +2,13 @@
 use Rattle.std.proofs.Common.{◌≡◌, ℕ, List, [], ◌∷◌, Some, None, Bool, true, false, refl}
 use Rattle.std.specs.Prelude.{codes}
 use Prim.Native.String.{String}
-use Rattle.serde_json.specs.Data.{Members, no_members, member, string}
+use Rattle.serde_json.specs.Data.{Data, boolean, number, unsigned, string, array, Items, no_items, item, Members}
+use Rattle.serde_json.specs.Data.{no_members, member}
 use Rattle.schemars_shapes.specs.declared.shape.IntKind.TheVariants.{U8, I8, I32, U64}
-use Rattle.schemars_shapes.specs.Shape.{Shape, int, non_zero, text, any, newtype, external, untagged, in_place}
+use Rattle.schemars_shapes.specs.Shape.{Shape, int, non_zero, text, any, newtype, external, untagged, literal, in_place}
 use Rattle.schemars_shapes.specs.Shape.{Variant, Payload, no_payload, newtype_payload}
 use Rattle.schemars_json.specs.Json.{Text}
+use Rattle.schemars_schema.specs.SchemaData.{object_of}
 use Rattle.schemars_schema.specs.Acceptance.{Patterns}
 use Rattle.schemars_types.specs.Rows.{Row}
 use Rattle.schemars_shapes.specs.declared.shape.IntegerKeys.TheVariants.{Unsigned, Signed}
@@ -37,11 +39,11 @@ table s =
 options : Shape → KeyOptions
 options s = key_options (table s) 7
 
-without_sign : options (int U64) ≡ only_keys [] (Some Unsigned)
+without_sign : options (int U64) ≡ only_keys [] (Some Unsigned) []
 unfolding options table row options_within
 without_sign = refl
 
-without_zero : options (non_zero U8) ≡ only_keys [] (Some Signed)
+without_zero : options (non_zero U8) ≡ only_keys [] (Some Signed) []
 unfolding options table row options_within
 without_zero = refl
 
@@ -49,7 +51,7 @@ texts : options text ≡ any_key
 unfolding options table row options_within
 texts = refl
 
-names : options (external (unit "A" ∷ unit "B" ∷ [])) ≡ only_keys (codes "A" ∷ codes "B" ∷ []) None
+names : options (external (unit "A" ∷ unit "B" ∷ [])) ≡ only_keys (codes "A" ∷ codes "B" ∷ []) None []
 unfolding options table row options_within unit variant
 names = refl
 
@@ -61,7 +63,7 @@ no_names : options (external []) ≡ any_key
 unfolding options table row options_within
 no_names = refl
 
-both_integers : options (untagged (of_row 0 ∷ of_row 1 ∷ [])) ≡ only_keys [] (Some Signed)
+both_integers : options (untagged (of_row 0 ∷ of_row 1 ∷ [])) ≡ only_keys [] (Some Signed) []
 unfolding options table row options_within of_row variant
 both_integers = refl
 
@@ -73,12 +75,54 @@ one_of_none : options (untagged (of_row 0 ∷ unit "A" ∷ [])) ≡ any_key
 unfolding options table row options_within of_row unit variant
 one_of_none = refl
 
-newtypes : options (newtype 4) ≡ only_keys [] (Some Signed)
+newtypes : options (newtype 4) ≡ only_keys [] (Some Signed) []
 unfolding options table row options_within
 newtypes = refl
 
+-- ---- literals
+
+abbrev of_type : String → List (Text × Data) → Shape
+of_type name rest = literal (object_of ((codes "type", string (codes name)) ∷ rest))
+
+abbrev texts_of : Items → Text × Data
+texts_of ds = (codes "enum", array ds)
+
+abbrev a_and_one : Items
+a_and_one = item (string (codes "a")) (item (number (unsigned 1)) no_items)
+
+by_pattern : options (of_type "string" ((codes "pattern", string (codes "^a$")) ∷ texts_of no_items ∷ []))
+    ≡ only_keys [] None (codes "^a$" ∷ [])
+unfolding options table row options_within
+by_pattern = refl
+
+by_list : options (of_type "string" (texts_of (item (string (codes "a")) no_items) ∷ []))
+    ≡ only_keys (codes "a" ∷ []) None []
+unfolding options table row options_within
+by_list = refl
+
+not_texts_alone : options (of_type "string" (texts_of a_and_one ∷ [])) ≡ any_key
+unfolding options table row options_within
+not_texts_alone = refl
+
+from_zero : options (of_type "integer" ((codes "minimum", number (unsigned 0)) ∷ [])) ≡ only_keys [] (Some Unsigned) []
+unfolding options table row options_within
+from_zero = refl
+
+from_one : options (of_type "integer" ((codes "minimum", number (unsigned 1)) ∷ [])) ≡ only_keys [] (Some Signed) []
+unfolding options table row options_within
+from_one = refl
+
+truth_value : options (literal (boolean true)) ≡ any_key
+unfolding options table row options_within
+truth_value = refl
+
+other_type : options (of_type "number" []) ≡ any_key
+unfolding options table row options_within
+other_type = refl
+
 -- the names of row 5 stand once, and the numbers of row 1 cover those of row 0
-nested : options (untagged (of_row 6 ∷ of_row 5 ∷ of_row 1 ∷ [])) ≡ only_keys (codes "A" ∷ codes "B" ∷ []) (Some Signed)
+nested : options (untagged (of_row 6 ∷ of_row 5 ∷ of_row 1 ∷ []))
+    ≡ only_keys (codes "A" ∷ codes "B" ∷ []) (Some Signed) []
 unfolding options table row options_within of_row unit variant
 nested = refl
 

@@ -10,13 +10,15 @@ use Rattle.schemars_types.specs.KeyOptions.{KeyOptions, any_key, only_keys, eith
 
 abbrev pub options_of : src.KeyOptions → KeyOptions
 options_of variant.Any = any_key
-options_of (variant.Only texts integers) = only_keys (map (λ t. t.now) texts.keys) integers
+options_of (variant.Only texts integers patterns) =
+    only_keys (map (λ t. t.now) texts.keys) integers (map (λ t. t.now) patterns.keys)
 
--- with these too, and no text that is there
+-- with these too, and no text or pattern that is there
 abbrev pub adding : KeyOptions → KeyOptions → KeyOptions
 adding any_key o = any_key
-adding (only_keys ts i) any_key = any_key
-adding (only_keys ts i) (only_keys us j) = only_keys (insert_all bytes_eq ts us) (either_integers i j)
+adding (only_keys ts i ps) any_key = any_key
+adding (only_keys ts i ps) (only_keys us j qs) =
+    only_keys (insert_all bytes_eq ts us) (either_integers i j) (insert_all bytes_eq ps qs)
 
 abbrev pub AreListed : List Text → List Text → Type 0
 AreListed [] ts = Unit {0}
@@ -25,8 +27,8 @@ AreListed (u ∷ us) ts = (list_any (bytes_eq u) ts ≡ true) × AreListed us ts
 -- these options are among those
 abbrev pub AreAmong : KeyOptions → KeyOptions → Type 0
 AreAmong o any_key = Unit {0}
-AreAmong any_key (only_keys ts i) = ⊥
-AreAmong (only_keys us j) (only_keys ts i) = AreListed us ts × (either_integers i j ≡ i)
+AreAmong any_key (only_keys ts i ps) = ⊥
+AreAmong (only_keys us j qs) (only_keys ts i ps) = AreListed us ts × (either_integers i j ≡ i) × AreListed qs ps
 
 -- the options of each of these rows are
 pub record HoldsRows (rows : List Row) (met : List ℕ) (o : KeyOptions) : Type 0 where

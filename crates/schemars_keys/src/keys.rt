@@ -1,16 +1,21 @@
 //! Which keys the type of a row allows.
-ghost use Rattle.std.specs.Prelude.{◌≡◌, ℕ, None, IfOk, OnOk, Contains, map};
+ghost use Rattle.std.specs.Prelude.{◌≡◌, ℕ, [], None, IfOk, OnOk, Contains, map, option_map, option_and_then};
 ghost use Rattle.schemars_shapes.specs.Shape.{variant_of, payload_of, newtype_payload, newtype_numbers};
 ghost use Rattle.schemars_types.specs.Edges.{SameValueEdge};
 ghost use Rattle.schemars_types.specs.Faults.{IsChecked};
 ghost use Rattle.schemars_types.specs.KeyOptions.{only_keys, are_names, external_options, untagged_options, all_options};
-ghost use Rattle.schemars_types.specs.KeyOptions.{member_options, key_options};
+ghost use Rattle.schemars_types.specs.KeyOptions.{member_options, key_options, literal_options, literal_texts};
+ghost use Rattle.schemars_types.specs.KeyOptions.{texts_options, literal_integers};
+ghost use Rattle.serde_json.specs.Find.{as_str, get};
+ghost use Rattle.serde_json.specs.View.{items_view};
 ghost use Rattle.schemars_keys.specs.Found.{options_of, adding, HoldsRows};
 
 use crate::options::KeyOptions;
 use indexmap::IndexSet;
+use schemars_schema::Schema;
 use schemars_shapes::is_bare_unit;
 use schemars_types::{IntegerKeys, Payload, Shape, TypeNo, Types, Variant};
+use serde_json::Value;
 use std::alloc::{AllocError, Global};
 
 /// The keys that a map may have whose keys are of row `key`, in a table without faults.
@@ -74,6 +79,7 @@ fn add_own<'t>(types: &'t Types, n: TypeNo, found: &mut Found<'t>) -> Result<(),
         Shape::Newtype(m) => add_row(types, *m, found)?,
         Shape::External(variants) => add_external(variants, &mut found.options)?,
         Shape::Untagged(variants) => add_untagged(types, n, variants, found)?,
+        Shape::Literal(schema) => add_literal(schema, &mut found.options)?,
         _ => found.options.allow_any(),
     }
     Ok(())
@@ -142,12 +148,82 @@ fn add_external<'t>(variants: &'t [Variant], options: &mut KeyOptions<'t>) -> Re
 
 fn add_names<'t>(variants: &'t [Variant], options: &mut KeyOptions<'t>) -> Result<(), AllocError>
     ensures { OnOk result (options_of options.new
-        ≡ adding (options_of options.old) (only_keys (map (λ x. x.name) (map variant_of variants.now)) None)) }
+        ≡ adding (options_of options.old) (only_keys (map (λ x. x.name) (map variant_of variants.now)) None [])) }
 {
     for variant in variants {
         options.add_text(variant.name.as_str())?;
     }
     Ok(())
+}
+
+// Adds what a literal allows, by its type.
+fn add_literal<'t>(schema: &'t Schema, options: &mut KeyOptions<'t>) -> Result<(), AllocError>
+    ensures { OnOk result (options_of options.new ≡ adding (options_of options.old) (literal_options schema.now)) }
+{
+    let Some(name) = text_at(schema, "type") else {
+        options.allow_any();
+        return Ok(());
+    };
+    if name == "string" {
+        return add_literal_texts(schema, options);
+    }
+    if name == "integer" {
+        options.add_integers(literal_integers(schema));
+        return Ok(());
+    }
+    options.allow_any();
+    Ok(())
+}
+
+// The text under a keyword.
+fn text_at<'t>(schema: &'t Schema, key: &str) -> Option<&'t str>
+    ensures { option_map (λ t. t.now) result ≡ option_and_then as_str (get key.now schema.now) }
+{
+    match schema.get(key) {
+        Some(value) => value.as_str(),
+        None => None,
+    }
+}
+
+// Those of its pattern, or else those in its list.
+fn add_literal_texts<'t>(schema: &'t Schema, options: &mut KeyOptions<'t>) -> Result<(), AllocError>
+    ensures { OnOk result (options_of options.new ≡ adding (options_of options.old) (literal_texts schema.now)) }
+{
+    if let Some(pattern) = text_at(schema, "pattern") {
+        return options.add_pattern(pattern);
+    }
+    match schema.get("enum") {
+        Some(Value::Array(values)) => add_texts(values, options),
+        _ => {
+            options.allow_any();
+            Ok(())
+        }
+    }
+}
+
+// Adds these texts, or any where one of the values is no text.
+fn add_texts<'t>(values: &'t [Value], options: &mut KeyOptions<'t>) -> Result<(), AllocError>
+    ensures { OnOk result (options_of options.new ≡ adding (options_of options.old) (texts_options (items_view values.now))) }
+{
+    for value in values {
+        match value.as_str() {
+            Some(text) => options.add_text(text)?,
+            None => options.allow_any(),
+        }
+    }
+    Ok(())
+}
+
+fn literal_integers(schema: &Schema) -> IntegerKeys
+    ensures { result ≡ literal_integers schema.now }
+{
+    let Some(least) = schema.get("minimum") else {
+        return IntegerKeys::Signed;
+    };
+    match least.as_u64() {
+        Some(0) => IntegerKeys::Unsigned,
+        _ => IntegerKeys::Signed,
+    }
 }
 
 // Whether there are variants, and each is written as its name.

@@ -23,20 +23,22 @@ fn wider(present: Option<IntegerKeys>, more: IntegerKeys) -> IntegerKeys
 pub enum KeyOptions<'t> {
     /// any text
     Any,
-    /// these texts, and these whole numbers
+    /// these texts, these whole numbers, and what matches one of these patterns
     Only {
         texts: IndexSet<&'t str>,
         integers: Option<IntegerKeys>,
+        patterns: IndexSet<&'t str>,
     },
 }
 
 impl<'t> KeyOptions<'t> {
     pub(crate) fn none(alloc: Global) -> KeyOptions<'t>
-        ensures { options_of result ≡ only_keys [] None }
+        ensures { options_of result ≡ only_keys [] None [] }
     {
         KeyOptions::Only {
             texts: IndexSet::new(alloc),
             integers: None,
+            patterns: IndexSet::new(alloc),
         }
     }
 
@@ -47,7 +49,7 @@ impl<'t> KeyOptions<'t> {
     }
 
     pub(crate) fn add_text(&mut self, text: &'t str) -> Result<(), AllocError>
-        ensures { OnOk result (options_of self.new ≡ adding (options_of self.old) (only_keys (text.now ∷ []) None)) }
+        ensures { OnOk result (options_of self.new ≡ adding (options_of self.old) (only_keys (text.now ∷ []) None [])) }
     {
         if let KeyOptions::Only { texts, .. } = self {
             texts.insert(text)?;
@@ -55,8 +57,17 @@ impl<'t> KeyOptions<'t> {
         Ok(())
     }
 
+    pub(crate) fn add_pattern(&mut self, pattern: &'t str) -> Result<(), AllocError>
+        ensures { OnOk result (options_of self.new ≡ adding (options_of self.old) (only_keys [] None (pattern.now ∷ []))) }
+    {
+        if let KeyOptions::Only { patterns, .. } = self {
+            patterns.insert(pattern)?;
+        }
+        Ok(())
+    }
+
     pub(crate) fn add_integers(&mut self, more: IntegerKeys)
-        ensures { options_of self.new ≡ adding (options_of self.old) (only_keys [] (Some more)) }
+        ensures { options_of self.new ≡ adding (options_of self.old) (only_keys [] (Some more) []) }
     {
         if let KeyOptions::Only { integers, .. } = self {
             *integers = Some(wider(*integers, more));

@@ -19,6 +19,7 @@ use Rattle.schemars_documents.specs.Documents.{schema_document, required_names, 
 use Rattle.schemars_templates.specs.Basis.{Basis}
 use Rattle.schemars_templates.specs.Template.{row, rows_of, rows_in, filled, filled_in, keyed, finished}
 use Rattle.schemars_templates.specs.OfShape.{templates_of, property, map_template, template_of, entry_template}
+use Rattle.schemars_templates.specs.OfShape.{literal_document}
 use Rattle.schemars_templates.specs.OfShape.{values_template, external_template, untagged_template, internal_template, tagged_template}
 use Rattle.schemars_templates.specs.Describes.{ArePartsWritten, Fills}
 use Rattle.schemars_meaning.proofs.Rows.{rows_at, rows_same, rows_tagged}
@@ -159,6 +160,7 @@ IsDocument Written basis (shape.map_from key value) s = Fills Written (values_te
 IsDocument Written basis (shape.external xs) s = Fills Written (external_template basis.contract xs) s
 IsDocument Written basis (shape.untagged xs) s = Fills Written (untagged_template basis.contract basis.titles xs) s
 IsDocument Written basis (shape.internal tag closed xs) s = Fills Written (internal_template basis.contract tag closed xs) s
+IsDocument Written basis (shape.literal d) s = s ≡ literal_document d
 
 -- ---- what fills a template
 
@@ -323,6 +325,7 @@ module _ (W : ℕ → Data → Type 0) where
   fills basis (shape.external xs) s ts h e = record { parts = ts; written = h; is = e }
   fills basis (shape.untagged xs) s ts h e = record { parts = ts; written = h; is = e }
   fills basis (shape.internal tag closed xs) s ts h e = record { parts = ts; written = h; is = e }
+  fills basis (shape.literal d) s ts h e = e
 
   pub by_shape : (basis : Basis) (kind : Shape) (s : Data) → Fills W (template_of basis kind) s → IsDocument W basis kind s
   by_shape basis kind s h = fills basis kind s h.parts h.written h.is

@@ -1,15 +1,15 @@
 -- What a choice of documents says under 2020-12, and the documents of maps with members that have to be there.
-use Rattle.std.proofs.Common.{◌≡◌, ℕ, ◌<◌, List, [], ◌∷◌, map, Option, Some, None, Bool, true, false, refl, sym, ap, ◌∙◌}
-use Rattle.std.specs.Prelude.{codes, if◌then◌else◌, not, ◌&&◌, ◌||◌, bytes_eq, is_some}
+use Rattle.std.proofs.Common.{◌≡◌, ℕ, ◌<◌, List, [], ◌∷◌, map, Some, None, Bool, true, false, refl, ap, ◌∙◌}
+use Rattle.std.specs.Prelude.{codes, not, ◌&&◌, ◌||◌, bytes_eq}
 use Rattle.serde_json.specs.Data.{Data, null, boolean, number, string, array, object, depth}
-use Rattle.schemars_schema.specs.Verdict.{Verdict, Yes, No, both, verdict, opposite, none_of, one_of}
+use Rattle.schemars_schema.specs.Verdict.{both, verdict, opposite, none_of, one_of}
 use Rattle.serde_json.specs.Find.{as_str}
 use Rattle.std.specs.List.{list_any}
 use Rattle.schemars_rewrite.specs.NullLaw.{text_items}
 use Rattle.schemars_json.specs.Json.{Text, IsJson, json_eq, is_among}
 use Rattle.schemars_schema.specs.SchemaData.{IsSchema}
 use Rattle.schemars_schema.specs.Acceptance.{Patterns, Judge, Context, judge, read_data, read_items, all_keywords}
-use Rattle.schemars_schema.proofs.Verdicts.{both-yes, both-verdict}
+use Rattle.schemars_schema.proofs.Verdicts.{both-yes}
 use Rattle.schemars_schema.proofs.Objects.{schema-judge}
 use Rattle.schemars_rewrite.specs.NullLaw.{context2020_12}
 use Rattle.schemars_rewrite.specs.Variants.{unit_variant}

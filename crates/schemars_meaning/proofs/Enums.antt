@@ -1,29 +1,28 @@
 -- What the documents of enums say under 2020-12.
 use Rattle.std.proofs.Common.{◌≡◌, ◌⊎◌, ℕ, ◌<◌, List, [], ◌∷◌, ◌++◌, map, Option, Some, None, Bool, true, false, inl, inr}
-use Rattle.std.proofs.Common.{refl, sym, ap, ◌∙◌, subst, append-nil, append_assoc, arith, true≢false}
-use Rattle.std.specs.Prelude.{codes, bytes_eq, if◌then◌else◌, not, is_some, ◌&&◌, ◌||◌}
+use Rattle.std.proofs.Common.{refl, sym, ap, ◌∙◌, subst, append_assoc, arith, true≢false}
+use Rattle.std.specs.Prelude.{bytes_eq, if◌then◌else◌, is_some, ◌&&◌, ◌||◌}
 use Rattle.std.specs.List.{list_any}
 use Rattle.std.specs.Option.{option_map_or}
 use Rattle.std.proofs.lemmas.Slice.Eq.{bytes_eq-Decides}
-use Rattle.serde_json.specs.Data.{Data, null, boolean, number, string, array, object, Items, no_items, item, Members, no_members}
+use Rattle.serde_json.specs.Data.{Data, null, boolean, number, string, array, object, Members, no_members}
 use Rattle.serde_json.specs.Data.{member, depth}
-use Rattle.serde_json.specs.Find.{get_member, as_object}
+use Rattle.serde_json.specs.Find.{get_member}
 use Rattle.serde_json.specs.View.{items_of}
-use Rattle.schemars_schema.specs.Verdict.{Verdict, Yes, No, both, verdict}
+use Rattle.schemars_schema.specs.Verdict.{verdict}
 use Rattle.schemars_json.specs.Json.{Text, IsJson}
 use Rattle.schemars_schema.specs.SchemaData.{IsSchema, put_all}
 use Rattle.schemars_schema.specs.Acceptance.{Patterns, Judge, Context, judge, read_data}
 use Rattle.schemars_schema.specs.Annotations.{AreNotes}
 use Rattle.schemars_rewrite.specs.AllowNull.{allow_null}
-use Rattle.schemars_rewrite.specs.NullLaw.{context2020_12, text_items}
-use Rattle.schemars_rewrite.specs.Variants.{unit_variant}
+use Rattle.schemars_rewrite.specs.NullLaw.{context2020_12}
 use Rattle.schemars_rewrite.proofs.Nulls.{IsReady, AreReady, ready-schema}
 use Rattle.schemars_shapes.specs.Shape as shape
 use Rattle.schemars_shapes.specs.Shape.{Shape, Field, Payload, Variant, no_payload, newtype_payload, tuple_payload, struct_payload, needed}
 use Rattle.schemars_shapes.specs.Units.{is_bare_unit}
 use Rattle.schemars_types.specs.Meaning.{Contract, Deserialize, Serialize, has_shape, has_payload}
-use Rattle.schemars_types.specs.Meaning.{has_variant, has_fields, is_map_of, is_text, holds}
-use Rattle.schemars_types.specs.Meaning.{every_member, member_fits, has_required, none, exactly_one, field_named}
+use Rattle.schemars_types.specs.Meaning.{has_variant, has_fields, is_map_of, is_text}
+use Rattle.schemars_types.specs.Meaning.{every_member, member_fits, has_required, none, exactly_one}
 use Rattle.schemars_types.specs.KeyOptions.{key_options}
 use Rattle.schemars_documents.specs.Documents.{annotated, required_names}
 use Rattle.schemars_documents.specs.PlainTable.{IsNoVariant, AreDistinctVariants, IsPlainPayload, ArePlainVariants}
@@ -34,7 +33,7 @@ use Rattle.schemars_templates.specs.OfShape.{templates_of, one_of, any_of, membe
 use Rattle.schemars_templates.specs.OfShape.{bare_units, other_items, units_template, choice_of, external_template}
 use Rattle.schemars_templates.specs.OfShape.{payload_item, untagged_template, titled, title_alone}
 use Rattle.schemars_templates.specs.Describes.{ArePartsWritten}
-use Rattle.schemars_meaning.proofs.ByShape.{without_end, by_shape, field_keywords, tuple_document, member_document, units_document}
+use Rattle.schemars_meaning.proofs.ByShape.{without_end, by_shape, field_keywords, tuple_document, member_document}
 use Rattle.schemars_meaning.proofs.Ready.{map_ready, tuple_ready, one_of_ready, any_of_ready, units_ready}
 use Rattle.schemars_meaning.proofs.Notes.{judge-annotated, ready-annotated, annotated-schema}
 use Rattle.schemars_meaning.proofs.EachShape.{null_says, tuple_says}
@@ -85,7 +84,7 @@ module _ (W : ℕ → Data → Type 0) where
         (λ i. first i ∷ rest i, ap (left_in es) behind ∙ later.1)
 
   -- the first template's own parts, and those of the others
-  parted : (t : Template) (es : Templates) (us : List Data) → Fit (rows_in (template t es)) us
+  pub parted : (t : Template) (es : Templates) (us : List Data) → Fit (rows_in (template t es)) us
       → (a : List Data) × (b : List Data) × Fit (rows_of t) a × Fit (rows_in es) b × (filled t us ≡ filled t a) × (left t us ≡ b)
   parted t es us h =
       let s = split (rows_of t) (rows_in es) us h in
@@ -100,7 +99,8 @@ title_noted name = (refl, tt)
 module _ (W : ℕ → Data → Type 0) (basis : Basis) (ready : (j : ℕ) (t : Data) → W j t → IsReady t) where
   payload_ready : (p : Payload) (us : List Data) → Fit W (rows_of (payload_template basis.contract p)) us
       → IsReady (filled (payload_template basis.contract p) us)
-  payload_ready no_payload us h = inr (record { alone = refl; type_form = refl; no_const = refl; not_form = inl refl })
+  payload_ready no_payload us h =
+      inr (record { alone = refl; type_form = refl; values = inl refl; not_form = inl refl })
   payload_ready (newtype_payload n) [] h = absurd h
   payload_ready (newtype_payload n) (t ∷ us) h = ready n t h.0
   payload_ready (tuple_payload ns) us h =

@@ -1,11 +1,17 @@
 -- What the document of a map says under 2020-12, whose keys are those that the type of its keys allows.
 use Rattle.std.proofs.Common.{◌≡◌, ℕ, ◌<◌, ◌≤◌, List, [], ◌∷◌, ◌++◌, map, Option, Some, None, Bool, true, false, refl, sym, ap, ◌∙◌}
-use Rattle.std.proofs.Common.{arith, option_map, subst, true≢false, inl, inr}
+use Rattle.std.proofs.Common.{arith, option_map, true≢false, inl, inr}
 use Rattle.std.specs.Prelude.{codes, bytes_eq, if◌then◌else◌, is_some, ◌&&◌, ◌||◌}
 use Rattle.std.proofs.lemmas.Slice.Eq.{bytes_eq-Decides}
 use Rattle.serde_json.specs.Data.{Data, null, boolean, number, string, array, object, Members, no_members, member, put}
 use Rattle.serde_json.specs.Data.{depth, members_depth}
-use Rattle.serde_json.specs.Find.{get_member}
+use Rattle.serde_json.specs.Find.{get_member, as_object}
+use Rattle.std.specs.Cmp.Lexicographic.{slice_cmp}
+use Rattle.std.specs.Ordering.{match_ordering}
+use Rattle.std.proofs.Common.{Ordering, Less, Equal, Greater, nat_cmp, filter, not}
+use Rattle.std.proofs.lemmas.Map.Lookups.{exact_bytes}
+use Rattle.std.specs.List.{list_any}
+use Rattle.std.specs.Option.{option_map_or}
 use Rattle.serde_json.proofs.Views.{get_member-put, get_member-put_other}
 use Rattle.schemars_schema.specs.Verdict.{Verdict, Yes, No, both, verdict}
 use Rattle.schemars_json.specs.Json.{Text, IsJson, AreJsonMembers}
@@ -21,28 +27,40 @@ use Rattle.schemars_rewrite.proofs.Nulls.{IsReady}
 use Rattle.schemars_shapes.specs.declared.shape.IntegerKeys.{IntegerKeys}
 use Rattle.schemars_shapes.specs.IntegerKeys.{pattern_of}
 use Rattle.schemars_types.specs.KeyOptions.{KeyOptions, any_key, only_keys, is_key_allowed}
-use Rattle.schemars_types.specs.Meaning.{every_member, has_keys}
+use Rattle.schemars_types.specs.Meaning.{every_member, has_keys, holds}
 use Rattle.schemars_documents.specs.Documents.{Keyword, typed}
-use Rattle.schemars_templates.specs.Template.{row, rows_of, rows_in, filled, filled_in, keyed}
-use Rattle.schemars_templates.specs.OfShape.{KeywordTemplate, templates_of, values_template}
+use Rattle.schemars_templates.specs.Template.{Template, no_templates, template, row, rows_of, rows_in, filled}
+use Rattle.schemars_templates.specs.Template.{filled_in, keyed}
+use Rattle.schemars_templates.specs.OfShape.{KeywordTemplate, templates_of, values_template, object_with, said}
+use Rattle.schemars_templates.specs.OfShape.{values_of}
+use Rattle.schemars_templates.specs.OfShape.{typed as typed_at, all_patterns, pattern_properties_at, properties_at}
 use Rattle.schemars_meaning.proofs.ByShape.{map_document, without_end}
 use Rattle.schemars_meaning.proofs.Maps.{AreEntries, judges_of, schema_named-judges_in, named_says, other_says, judge-map_object}
 use Rattle.schemars_meaning.proofs.Maps.{judge-map_other, judges_in, all_named-schemas, AreSchemas-put_all}
 use Rattle.schemars_meaning.proofs.Maps.{properties_value, closed_value, each_agree, named_part}
 use Rattle.schemars_meaning.proofs.Structs.{both-middle}
-use Rattle.schemars_meaning.proofs.Enums.{Fit}
+use Rattle.schemars_meaning.proofs.Enums.{Fit, parted}
+
+-- a map with these keys, and those that match one of the patterns
+abbrev keyed_template : ℕ → List Text → List Text → Template
+keyed_template value texts qs =
+    object_with (typed_at (codes "object") ∷ said (codes "additionalProperties") (boolean false)
+    ∷ (pattern_properties_at (values_of value qs) ++ properties_at (values_of value texts)))
 
 -- ---- null can be added
 
+keyed_ready : (texts qs : List Text) (value : ℕ) (us : List Data) → IsReady (filled (keyed_template value texts qs) us)
+keyed_ready [] [] value us = inr (record { alone = refl; type_form = refl; values = inl refl; not_form = inl refl })
+keyed_ready (t ∷ texts) [] value us =
+    inr (record { alone = refl; type_form = refl; values = inl refl; not_form = inl refl })
+keyed_ready [] (q ∷ qs) value us =
+    inr (record { alone = refl; type_form = refl; values = inl refl; not_form = inl refl })
+keyed_ready (t ∷ texts) (q ∷ qs) value us =
+    inr (record { alone = refl; type_form = refl; values = inl refl; not_form = inl refl })
+
 pub values_ready : (options : KeyOptions) (value : ℕ) (us : List Data) → IsReady (filled (values_template options value) us)
-values_ready any_key value us = inr (record { alone = refl; type_form = refl; no_const = refl; not_form = inl refl })
-values_ready (only_keys [] None) value us = inr (record { alone = refl; type_form = refl; no_const = refl; not_form = inl refl })
-values_ready (only_keys (t ∷ texts) None) value us =
-    inr (record { alone = refl; type_form = refl; no_const = refl; not_form = inl refl })
-values_ready (only_keys [] (Some keys)) value us =
-    inr (record { alone = refl; type_form = refl; no_const = refl; not_form = inl refl })
-values_ready (only_keys (t ∷ texts) (Some keys)) value us =
-    inr (record { alone = refl; type_form = refl; no_const = refl; not_form = inl refl })
+values_ready any_key value us = inr (record { alone = refl; type_form = refl; values = inl refl; not_form = inl refl })
+values_ready (only_keys texts integers ps) value us = keyed_ready texts (all_patterns integers ps) value us
 
 -- ---- members
 
@@ -62,6 +80,46 @@ each_tests says test (member k w ms) json same =
 idem : (b : Bool) → both (verdict b) (verdict b) ≡ verdict b
 idem true = refl
 idem false = refl
+
+or-false : (b : Bool) → b || false ≡ b
+or-false true = refl
+or-false false = refl
+
+or-twice : (a b : Bool) → a || b ≡ a || (a || b)
+or-twice true b = refl
+or-twice false b = refl
+
+or-turned : (a b d : Bool) → a || (b || d) ≡ b || (a || d)
+or-turned true true d = refl
+or-turned true false d = refl
+or-turned false b d = refl
+
+or-moved : (a b d : Bool) → b || (a || d) ≡ (a || b) || d
+or-moved true true d = refl
+or-moved true false d = refl
+or-moved false b d = refl
+
+-- a pattern in front of the others
+some_first : (test : Text → Bool) (r : Text) (ps : List Text)
+    → test r || list_any test (filter (λ q. not (bytes_eq q r)) ps) ≡ test r || list_any test ps
+some_first test r ps = by (test r) refl
+  where
+    left_out : test r ≡ false → (qs : List Text)
+        → list_any test (filter (λ q. not (bytes_eq q r)) qs) ≡ list_any test qs
+    left_out none [] = refl
+    left_out none (q ∷ qs) = go (bytes_eq q r) refl (left_out none qs)
+      where
+        go : (b : Bool) → bytes_eq q r ≡ b → list_any test (filter (λ x. not (bytes_eq x r)) qs) ≡ list_any test qs
+            → list_any test
+            (if not b then q ∷ filter (λ x. not (bytes_eq x r)) qs else filter (λ x. not (bytes_eq x r)) qs)
+            ≡ test q || list_any test qs
+        go true same rest =
+            let no_test : test q ≡ false = ap test ((bytes_eq-Decides q r).0 same) ∙ none in rw no_test rest
+        go false other rest = ap (λ b. test q || b) rest
+
+    by : (b : Bool) → test r ≡ b → b || list_any test (filter (λ q. not (bytes_eq q r)) ps) ≡ b || list_any test ps
+    by true is = refl
+    by false is = left_out is ps
 
 module _ (patterns : Patterns) (f : Text → Judge) (W : ℕ → Data → Type 0) (p : Data → Bool) (value : ℕ)
     (schemas : (t : Data) → W value t → IsSchema t) where
@@ -136,86 +194,159 @@ module _ (patterns : Patterns) (f : Text → Judge) (W : ℕ → Data → Type 0
   text_says false o w h agree = rw h refl
   text_says true o w h agree = rw h.2 (both-yes _ ∙ agree h.0 h.1)
 
-  or-false : (b : Bool) → b || false ≡ b
-  or-false true = refl
-  or-false false = refl
+  -- which keys there are
+  abbrev HasKeys : (Text → Bool) → Data → Bool
+  HasKeys allowed v = holds (as_object v) (every_member (λ k w. allowed k && p w))
 
-  texts_say : (texts : List Text) (us : List Data) → Fit W (text_rows texts) us → (v : Data) → IsJson v → Agrees v
-      → (judge c (map_document (entries_at texts us) [] true)).fits v ≡ verdict (has_keys patterns (only_keys texts None) p v)
-  texts_say texts us h (object ms) json agree =
+  texts_say : (texts : List Text) (us : List Data) → Fit W (text_rows texts) us → (allowed : Text → Bool)
+      → ((k : Text) → allowed k ≡ is_listed k texts) → (v : Data) → IsJson v → Agrees v
+      → (judge c (map_document (entries_at texts us) [] true)).fits v ≡ verdict (HasKeys allowed v)
+  texts_say texts us h allowed same (object ms) json agree =
       let es = entries_at texts us in
       judge-map_object patterns f es [] true (are_entries texts us h) ms
       ∙ (each_both (named_says patterns f (judges_of patterns f es)) (other_says patterns f true (judges_of patterns f es)) ms
-      ∙ each_tests _ (λ k w. (is_listed k texts || false) && p w) ms json
-      (λ k w is less. rw (schema_named-judges_in, or-false (is_listed k texts)) (text_says (is_listed k texts) _ w
+      ∙ each_tests _ (λ k w. allowed k && p w) ms json
+      (λ k w is less. rw (schema_named-judges_in, same k) (text_says (is_listed k texts) _ w
       (found k texts us no_members h) (λ t here. agree t w here is (omega arith)))))
-  texts_say texts us h null json agree = judge-map_other patterns f (entries_at texts us) [] true null tt
-  texts_say texts us h (boolean b) json agree = judge-map_other patterns f (entries_at texts us) [] true (boolean b) tt
-  texts_say texts us h (number n) json agree = judge-map_other patterns f (entries_at texts us) [] true (number n) tt
-  texts_say texts us h (string s) json agree = judge-map_other patterns f (entries_at texts us) [] true (string s) tt
-  texts_say texts us h (array ds) json agree = judge-map_other patterns f (entries_at texts us) [] true (array ds) tt
+  texts_say texts us h allowed same null json agree = judge-map_other patterns f (entries_at texts us) [] true null tt
+  texts_say texts us h allowed same (boolean b) json agree =
+      judge-map_other patterns f (entries_at texts us) [] true (boolean b) tt
+  texts_say texts us h allowed same (number n) json agree =
+      judge-map_other patterns f (entries_at texts us) [] true (number n) tt
+  texts_say texts us h allowed same (string s) json agree =
+      judge-map_other patterns f (entries_at texts us) [] true (string s) tt
+  texts_say texts us h allowed same (array ds) json agree =
+      judge-map_other patterns f (entries_at texts us) [] true (array ds) tt
 
-  -- ---- these texts, and those that match the pattern
+  -- ---- schemas by pattern
+
+  -- each of them is one of the values
+  abbrev OfValue : Members → Type 0
+  OfValue no_members = Unit {0}
+  OfValue (member k d ms) = W value d × OfValue ms
+
+  of_value-match : (o : Ordering) (x y z : Members) → OfValue x → OfValue y → OfValue z
+      → OfValue (match_ordering o x y z)
+  of_value-match Less x y z a b d = a
+  of_value-match Equal x y z a b d = b
+  of_value-match Greater x y z a b d = d
+
+  of_value-put : (k : Text) (d : Data) (ms : Members) → W value d → OfValue ms → OfValue (put k d ms)
+  of_value-put k d no_members here h = (here, tt)
+  of_value-put k d (member l e ms) here h = of_value-match (slice_cmp nat_cmp k l) _ _ _ (here, h) (here, h.1)
+      (h.0, of_value-put k d ms here h.1)
+
+  of_value : (ps : List Text) (vs : List Data) (ms : Members) → Fit W (text_rows ps) vs → OfValue ms
+      → OfValue (put_all (entries_at ps vs) ms)
+  of_value [] vs ms fit h = h
+  of_value (q ∷ ps) [] ms fit h = absurd fit
+  of_value (q ∷ ps) (u ∷ vs) ms fit h = of_value ps vs (put q u ms) fit.1 (of_value-put q u ms fit.0 h)
+
+  abbrev some_of : Members → Text → Bool
+  some_of ms k = matches_some patterns (judges_in c ms) k
+
+  -- where one of the patterns matches, the value is asked
+  matching : (ms : Members) (k : Text) (w : Data) → OfValue ms
+      → ((t : Data) → W value t → (judge c t).fits w ≡ verdict (p w))
+      → by_patterns patterns (judges_in c ms) k w ≡ (if some_of ms k then verdict (p w) else Yes)
+  unfolding judges_in
+  matching no_members k w h agree = refl
+  matching (member q d ms) k w h agree =
+      rw (agree d h.0, matching ms k w h.1 agree) (go (matches patterns q k) (some_of ms k))
+    where
+      go : (a b : Bool) → both (if a then verdict (p w) else Yes) (if b then verdict (p w) else Yes)
+          ≡ (if a || b then verdict (p w) else Yes)
+      go true true = idem (p w)
+      go true false = both-yes _
+      go false b = refl
+
+  some-put : (q : Text) (d : Data) (ms : Members) (k : Text)
+      → some_of (put q d ms) k ≡ matches patterns q k || some_of ms k
+  unfolding judges_in
+  some-put q d no_members k = refl
+  some-put q d (member l e ms) k = go (slice_cmp nat_cmp q l) refl (some-put q d ms k)
+    where
+      go : (o : Ordering) → slice_cmp nat_cmp q l ≡ o → some_of (put q d ms) k ≡ matches patterns q k || some_of ms k
+          → some_of (match_ordering o (member q d (member l e ms)) (member l d ms) (member l e (put q d ms))) k
+          ≡ matches patterns q k || (matches patterns l k || some_of ms k)
+      go Less is rest = refl
+      go Equal is rest = rw (exact_bytes q l is) (or-twice (matches patterns l k) (some_of ms k))
+      go Greater is rest = rw rest (or-turned (matches patterns l k) (matches patterns q k) (some_of ms k))
+
+  some-put_all : (ps : List Text) (vs : List Data) (ms : Members) (k : Text) → Fit W (text_rows ps) vs
+      → some_of (put_all (entries_at ps vs) ms) k ≡ list_any (λ q. matches patterns q k) ps || some_of ms k
+  some-put_all [] vs ms k fit = refl
+  some-put_all (q ∷ ps) [] ms k fit = absurd fit
+  some-put_all (q ∷ ps) (u ∷ vs) ms k fit =
+      some-put_all ps vs (put q u ms) k fit.1
+      ∙ (ap (λ b. list_any (λ x. matches patterns x k) ps || b) (some-put q u ms k)
+      ∙ or-moved (matches patterns q k) (list_any (λ x. matches patterns x k) ps) (some_of ms k))
+
+  some_matches : (ps : List Text) (vs : List Data) (k : Text) → Fit W (text_rows ps) vs
+      → some_of (put_all (entries_at ps vs) no_members) k ≡ list_any (λ q. matches patterns q k) ps
+  unfolding judges_in
+  some_matches ps vs k fit = some-put_all ps vs no_members k fit ∙ or-false (list_any (λ q. matches patterns q k) ps)
+
+  -- ---- these texts, and those that match one of the patterns
 
   abbrev properties_keyword : List Keyword → List Keyword
   properties_keyword [] = []
   properties_keyword (e ∷ es) = (codes "properties", object_of (e ∷ es)) ∷ []
 
-  abbrev pattern_document : Text → Data → List Keyword → Data
-  pattern_document pattern u es = object_of (typed (codes "object") ∷ (codes "additionalProperties", boolean false)
-      ∷ (codes "patternProperties", object_of ((pattern, u) ∷ [])) ∷ properties_keyword es)
+  abbrev pattern_document : List Keyword → List Keyword → Data
+  pattern_document qs es = object_of (typed (codes "object") ∷ (codes "additionalProperties", boolean false)
+      ∷ (codes "patternProperties", object_of qs) ∷ properties_keyword es)
 
-  abbrev of_pattern : Text → Data → List (Text × Judge)
-  of_pattern pattern u = (pattern, judge c u) ∷ []
+  abbrev covered : List Keyword → List (Text × Judge) → Text → Bool
+  covered qs ss k = is_some (schema_named k ss) || some_of (put_all qs no_members) k
 
-  abbrev covered : Text → Data → List (Text × Judge) → Text → Bool
-  covered pattern u ss k = is_some (schema_named k ss) || matches_some patterns (of_pattern pattern u) k
+  pattern_value : List Keyword → Option Reading
+  pattern_value qs = Some (read_data c (object_of qs))
 
-  pattern_value : Text → Data → Option Reading
-  pattern_value pattern u = Some (read_data c (object_of ((pattern, u) ∷ [])))
-
-  keyed_says : Text → Data → List Keyword → Data → Verdict
-  keyed_says pattern u es v =
+  keyed_says : List Keyword → List Keyword → Data → Verdict
+  keyed_says qs es v =
       both (type_says false (Some (string (codes "object"))) None v)
       (both (properties_say (properties_value c es) v)
-      (both (pattern_properties_say patterns (pattern_value pattern u) v)
-      (additional_properties_say (is_covered patterns (properties_value c es) (pattern_value pattern u)) (closed_value c true) v)))
+      (both (pattern_properties_say patterns (pattern_value qs) v)
+      (additional_properties_say (is_covered patterns (properties_value c es) (pattern_value qs))
+      (closed_value c true) v)))
 
-  judge-keyed : (pattern : Text) (u : Data) (es : List Keyword) (v : Data)
-      → (judge c (pattern_document pattern u es)).fits v ≡ keyed_says pattern u es v
+  judge-keyed : (qs es : List Keyword) (v : Data) → (judge c (pattern_document qs es)).fits v ≡ keyed_says qs es v
   unfolding read_data all_keywords keyed_says properties_value pattern_value closed_value
-  judge-keyed pattern u [] v = rw both-yes refl
-  judge-keyed pattern u (e ∷ es) v = rw both-yes refl
+  judge-keyed qs [] v = rw both-yes refl
+  judge-keyed qs (e ∷ es) v = rw both-yes refl
 
-  pattern_part : (pattern : Text) (u : Data) → IsSchema u → (ms : Members)
-      → pattern_properties_say patterns (pattern_value pattern u) (object ms) ≡ each_member (by_patterns patterns (of_pattern pattern u)) ms
-  unfolding pattern_value read_data judges_in
-  pattern_part pattern u is ms = rw (all_named-schemas c (member pattern u no_members) (is, tt))
+  pattern_part : (qs : List Keyword) → AreEntries qs → (ms : Members)
+      → pattern_properties_say patterns (pattern_value qs) (object ms)
+      ≡ each_member (by_patterns patterns (judges_in c (put_all qs no_members))) ms
+  unfolding pattern_value read_data
+  pattern_part qs are ms = rw (all_named-schemas c (put_all qs no_members) (AreSchemas-put_all qs no_members are tt))
 
-  covered_part : (pattern : Text) (u : Data) (es : List Keyword) → IsSchema u → AreEntries es → (k : Text)
-      → is_covered patterns (properties_value c es) (pattern_value pattern u) k ≡ covered pattern u (judges_of patterns f es) k
+  covered_part : (qs es : List Keyword) → AreEntries qs → AreEntries es → (k : Text)
+      → is_covered patterns (properties_value c es) (pattern_value qs) k ≡ covered qs (judges_of patterns f es) k
   unfolding pattern_value properties_value read_data judges_in
-  covered_part pattern u [] is h k = rw (all_named-schemas c (member pattern u no_members) (is, tt))
-  covered_part pattern u (e ∷ es) is h k = rw (
-    all_named-schemas c (member pattern u no_members) (is, tt),
+  covered_part qs [] are h k =
+      rw (all_named-schemas c (put_all qs no_members) (AreSchemas-put_all qs no_members are tt))
+  covered_part qs (e ∷ es) are h k = rw (
+    all_named-schemas c (put_all qs no_members) (AreSchemas-put_all qs no_members are tt),
     all_named-schemas c (put_all (e ∷ es) no_members) (AreSchemas-put_all (e ∷ es) no_members h tt),
   )
 
-  other_part : (pattern : Text) (u : Data) (es : List Keyword) → IsSchema u → AreEntries es → (ms : Members)
-      → additional_properties_say (is_covered patterns (properties_value c es) (pattern_value pattern u)) (closed_value c true) (object ms)
-      ≡ each_member (λ k w. if covered pattern u (judges_of patterns f es) k then Yes else No) ms
+  other_part : (qs es : List Keyword) → AreEntries qs → AreEntries es → (ms : Members)
+      → additional_properties_say (is_covered patterns (properties_value c es) (pattern_value qs))
+      (closed_value c true) (object ms)
+      ≡ each_member (λ k w. if covered qs (judges_of patterns f es) k then Yes else No) ms
   unfolding closed_value read_data
-  other_part pattern u es is h ms =
-      each_agree _ _ (λ k w. ap (λ b. if b then Yes else No) (covered_part pattern u es is h k)) ms
+  other_part qs es are h ms = each_agree _ _ (λ k w. ap (λ b. if b then Yes else No) (covered_part qs es are h k)) ms
 
-  pattern_judges : (pattern : Text) (u : Data) (es : List Keyword) → IsSchema u → AreEntries es → (ms : Members)
-      → (judge c (pattern_document pattern u es)).fits (object ms)
+  pattern_judges : (qs es : List Keyword) → AreEntries qs → AreEntries es → (ms : Members)
+      → (judge c (pattern_document qs es)).fits (object ms)
       ≡ both (each_member (named_says patterns f (judges_of patterns f es)) ms)
-      (both (each_member (by_patterns patterns (of_pattern pattern u)) ms)
-      (each_member (λ k w. if covered pattern u (judges_of patterns f es) k then Yes else No) ms))
+      (both (each_member (by_patterns patterns (judges_in c (put_all qs no_members))) ms)
+      (each_member (λ k w. if covered qs (judges_of patterns f es) k then Yes else No) ms))
   unfolding keyed_says
-  pattern_judges pattern u es is h ms = judge-keyed pattern u es (object ms)
-      ∙ rw (named_part patterns f es h ms, pattern_part pattern u is ms, other_part pattern u es is h ms)
+  pattern_judges qs es are h ms = judge-keyed qs es (object ms)
+      ∙ rw (named_part patterns f es h ms, pattern_part qs are ms, other_part qs es are h ms)
 
   abbrev IsNoMap : Data → Type 0
   IsNoMap null = Unit {0}
@@ -225,63 +356,94 @@ module _ (patterns : Patterns) (f : Text → Judge) (W : ℕ → Data → Type 0
   IsNoMap (array ds) = Unit {0}
   IsNoMap (object ms) = ⊥
 
-  pattern_other : (pattern : Text) (u : Data) (es : List Keyword) (v : Data) → IsNoMap v
-      → (judge c (pattern_document pattern u es)).fits v ≡ No
+  pattern_other : (qs es : List Keyword) (v : Data) → IsNoMap v → (judge c (pattern_document qs es)).fits v ≡ No
   unfolding read_data all_keywords
-  pattern_other pattern u [] null h = refl
-  pattern_other pattern u [] (boolean b) h = refl
-  pattern_other pattern u [] (number n) h = refl
-  pattern_other pattern u [] (string s) h = refl
-  pattern_other pattern u [] (array ds) h = refl
-  pattern_other pattern u (e ∷ es) null h = refl
-  pattern_other pattern u (e ∷ es) (boolean b) h = refl
-  pattern_other pattern u (e ∷ es) (number n) h = refl
-  pattern_other pattern u (e ∷ es) (string s) h = refl
-  pattern_other pattern u (e ∷ es) (array ds) h = refl
-  pattern_other pattern u es (object ms) h = absurd h
+  pattern_other qs [] null h = refl
+  pattern_other qs [] (boolean b) h = refl
+  pattern_other qs [] (number n) h = refl
+  pattern_other qs [] (string s) h = refl
+  pattern_other qs [] (array ds) h = refl
+  pattern_other qs (e ∷ es) null h = refl
+  pattern_other qs (e ∷ es) (boolean b) h = refl
+  pattern_other qs (e ∷ es) (number n) h = refl
+  pattern_other qs (e ∷ es) (string s) h = refl
+  pattern_other qs (e ∷ es) (array ds) h = refl
+  pattern_other qs es (object ms) h = absurd h
 
-  keys_say : (listed matched : Bool) (o : Option Data) (u w : Data) → Found listed o None
-      → ((t : Data) → W value t → (judge c t).fits w ≡ verdict (p w)) → (judge c u).fits w ≡ verdict (p w)
-      → both (where_some (option_map (judge c) o) (λ s. s.fits w)) (both (both (if matched then (judge c u).fits w else Yes) Yes)
-      (if is_some (option_map (judge c) o) || (matched || false) then Yes else No))
+  keys_say : (listed matched : Bool) (o : Option Data) (w : Data) → Found listed o None
+      → ((t : Data) → W value t → (judge c t).fits w ≡ verdict (p w))
+      → both (where_some (option_map (judge c) o) (λ s. s.fits w)) (both (if matched then verdict (p w) else Yes)
+      (if is_some (option_map (judge c) o) || matched then Yes else No))
       ≡ verdict ((listed || matched) && p w)
-  keys_say false false o u w h agree own = rw h refl
-  keys_say false true o u w h agree own = rw (h, own) (both-yes _ ∙ both-yes _)
-  keys_say true false o u w h agree own = rw h.2 (both-yes _ ∙ agree h.0 h.1)
-  keys_say true true o u w h agree own =
-      rw (h.2, own, agree h.0 h.1) (ap (both (verdict (p w))) (both-yes _ ∙ both-yes _) ∙ idem (p w))
+  keys_say false false o w h agree = rw h refl
+  keys_say false true o w h agree = rw h (both-yes _)
+  keys_say true false o w h agree = rw h.2 (both-yes _ ∙ agree h.0 h.1)
+  keys_say true true o w h agree = rw (h.2, agree h.0 h.1) (ap (both (verdict (p w))) (both-yes _) ∙ idem (p w))
 
-  patterns_say : (keys : IntegerKeys) (u : Data) → W value u → (texts : List Text) (us : List Data) → Fit W (text_rows texts) us
+  patterns_say : (ps : List Text) (vs : List Data) → Fit W (text_rows ps) vs → (texts : List Text) (us : List Data)
+      → Fit W (text_rows texts) us → (allowed : Text → Bool)
+      → ((k : Text) → allowed k ≡ is_listed k texts || list_any (λ q. matches patterns q k) ps)
       → (v : Data) → IsJson v → Agrees v
-      → (judge c (pattern_document (pattern_of keys) u (entries_at texts us))).fits v
-      ≡ verdict (has_keys patterns (only_keys texts (Some keys)) p v)
-  patterns_say keys u here texts us h (object ms) json agree =
+      → (judge c (pattern_document (entries_at ps vs) (entries_at texts us))).fits v ≡ verdict (HasKeys allowed v)
+  patterns_say ps vs fit texts us h allowed same (object ms) json agree =
+      let qs = entries_at ps vs in
       let es = entries_at texts us in
       let ss = judges_of patterns f es in
-      let pattern = pattern_of keys in
-      pattern_judges pattern u es (schemas u here) (are_entries texts us h) ms
-      ∙ (ap (both (each_member (named_says patterns f ss) ms)) (each_both (by_patterns patterns (of_pattern pattern u))
-      (λ k w. if covered pattern u ss k then Yes else No) ms)
+      pattern_judges qs es (are_entries ps vs fit) (are_entries texts us h) ms
+      ∙ (ap (both (each_member (named_says patterns f ss) ms))
+      (each_both (by_patterns patterns (judges_in c (put_all qs no_members)))
+      (λ k w. if covered qs ss k then Yes else No) ms)
       ∙ (each_both (named_says patterns f ss) _ ms
-      ∙ each_tests _ (λ k w. (is_listed k texts || matches patterns pattern k) && p w) ms json
-      (λ k w is less. rw (schema_named-judges_in) (keys_say (is_listed k texts) (matches patterns pattern k) _ u w
-      (found k texts us no_members h) (λ t there. agree t w there is (omega arith)) (agree u w here is (omega arith))))))
-  patterns_say keys u here texts us h null json agree = pattern_other (pattern_of keys) u (entries_at texts us) null tt
-  patterns_say keys u here texts us h (boolean b) json agree = pattern_other (pattern_of keys) u (entries_at texts us) (boolean b) tt
-  patterns_say keys u here texts us h (number n) json agree = pattern_other (pattern_of keys) u (entries_at texts us) (number n) tt
-  patterns_say keys u here texts us h (string s) json agree = pattern_other (pattern_of keys) u (entries_at texts us) (string s) tt
-  patterns_say keys u here texts us h (array ds) json agree = pattern_other (pattern_of keys) u (entries_at texts us) (array ds) tt
+      ∙ each_tests _ (λ k w. allowed k && p w) ms json
+      (λ k w is less. rw (
+        matching (put_all qs no_members) k w (of_value ps vs no_members fit tt)
+            (λ t there. agree t w there is (omega arith)),
+        some_matches ps vs k fit,
+        same k,
+        schema_named-judges_in,
+      ) (keys_say (is_listed k texts) (list_any (λ q. matches patterns q k) ps) _ w
+      (found k texts us no_members h) (λ t there. agree t w there is (omega arith))))))
+  patterns_say ps vs fit texts us h allowed same null json agree =
+      pattern_other (entries_at ps vs) (entries_at texts us) null tt
+  patterns_say ps vs fit texts us h allowed same (boolean b) json agree =
+      pattern_other (entries_at ps vs) (entries_at texts us) (boolean b) tt
+  patterns_say ps vs fit texts us h allowed same (number n) json agree =
+      pattern_other (entries_at ps vs) (entries_at texts us) (number n) tt
+  patterns_say ps vs fit texts us h allowed same (string s) json agree =
+      pattern_other (entries_at ps vs) (entries_at texts us) (string s) tt
+  patterns_say ps vs fit texts us h allowed same (array ds) json agree =
+      pattern_other (entries_at ps vs) (entries_at texts us) (array ds) tt
+
+  -- ---- all maps
+
+  keyed_say : (texts qs : List Text) (allowed : Text → Bool)
+      → ((k : Text) → allowed k ≡ is_listed k texts || list_any (λ q. matches patterns q k) qs)
+      → (v : Data) → IsJson v → Agrees v → (us : List Data) → Fit W (rows_of (keyed_template value texts qs)) us
+      → (judge c (filled (keyed_template value texts qs) us)).fits v ≡ verdict (HasKeys allowed v)
+  keyed_say [] [] allowed same v json agree us h = texts_say [] us h allowed same v json agree
+  keyed_say (t ∷ texts) [] allowed same v json agree us h =
+      texts_say (t ∷ texts) us (without_end W (text_rows (t ∷ texts)) us h) allowed
+      (λ k. same k ∙ or-false (is_listed k (t ∷ texts))) v json agree
+  keyed_say [] (q ∷ qs) allowed same v json agree us h =
+      let parts = parted W (object_with (values_of value (q ∷ qs))) no_templates us h in
+      rw parts.4 (patterns_say (q ∷ qs) parts.0 parts.2 [] [] refl allowed same v json agree)
+  keyed_say (t ∷ texts) (q ∷ qs) allowed same v json agree us h =
+      let rest = template (object_with (values_of value (t ∷ texts))) no_templates in
+      let parts = parted W (object_with (values_of value (q ∷ qs))) rest us h in
+      rw (parts.4, parts.5) (patterns_say (q ∷ qs) parts.0 parts.2 (t ∷ texts) parts.1
+      (without_end W (text_rows (t ∷ texts)) parts.1 parts.3) allowed same v json agree)
+
+  all_match : (integers : Option IntegerKeys) (ps : List Text) (k : Text)
+      → list_any (λ q. matches patterns q k) (all_patterns integers ps)
+      ≡ option_map_or (λ i. matches patterns (pattern_of i) k) integers false || list_any (λ q. matches patterns q k) ps
+  all_match None ps k = refl
+  all_match (Some keys) ps k = some_first (λ q. matches patterns q k) (pattern_of keys) ps
 
   pub values_say : (options : KeyOptions) (v : Data) → IsJson v → Agrees v → (us : List Data)
       → Fit W (rows_of (values_template options value)) us
       → (judge c (filled (values_template options value) us)).fits v ≡ verdict (has_keys patterns options p v)
   values_say any_key v json agree [] h = absurd h
   values_say any_key v json agree (u ∷ us) h = any_says u h.0 v json agree
-  values_say (only_keys [] None) v json agree us h = texts_say [] us h v json agree
-  values_say (only_keys (t ∷ texts) None) v json agree us h =
-      texts_say (t ∷ texts) us (without_end W (text_rows (t ∷ texts)) us h) v json agree
-  values_say (only_keys [] (Some keys)) v json agree [] h = absurd h
-  values_say (only_keys [] (Some keys)) v json agree (u ∷ us) h = patterns_say keys u h.0 [] us h.1 v json agree
-  values_say (only_keys (t ∷ texts) (Some keys)) v json agree [] h = absurd h
-  values_say (only_keys (t ∷ texts) (Some keys)) v json agree (u ∷ us) h =
-      patterns_say keys u h.0 (t ∷ texts) us (without_end W (text_rows (t ∷ texts)) us h.1) v json agree
+  values_say (only_keys texts integers ps) v json agree us h =
+      keyed_say texts (all_patterns integers ps) (is_key_allowed patterns (only_keys texts integers ps))
+      (λ k. ap (λ b. is_listed k texts || b) (sym (all_match integers ps k))) v json agree us h

@@ -1,5 +1,5 @@
 -- In a table in order, a document of a row accepts just the values that belong to it.
-use Rattle.std.proofs.Common.{◌≡◌, ◌⊎◌, ℕ, zero, suc, ◌<◌, inl, inr, List, [], ◌∷◌, Bool, true, false, refl, sym, true≢false}
+use Rattle.std.proofs.Common.{◌≡◌, ◌⊎◌, ℕ, zero, suc, ◌<◌, inl, inr, [], ◌∷◌, Bool, true, false, refl, ◌∙◌}
 use Rattle.serde_json.specs.Data.{Data, depth}
 use Rattle.schemars_schema.specs.Verdict.{verdict}
 use Rattle.schemars_json.specs.Json.{Text, IsJson}
@@ -14,50 +14,60 @@ use Rattle.schemars_meaning.proofs.Keyed.{values_ready, values_say}
 use Rattle.schemars_meaning.proofs.Tagged.{internal_ready, internal_says}
 use Rattle.schemars_shapes.specs.Shape as shape
 use Rattle.schemars_shapes.specs.Shape.{Shape, Entry, numbers_of}
-use Rattle.schemars_types.specs.Meaning.{Contract, Deserialize, Serialize, has_shape}
+use Rattle.schemars_types.specs.Meaning.{Contract, has_shape}
 use Rattle.schemars_templates.specs.Basis.{Basis}
 use Rattle.schemars_rewrite.specs.Variants.{unit_variant}
-use Rattle.schemars_meaning.proofs.ByShape.{IsDocument, map_document, tuple_document, one_of_document, member_document}
+use Rattle.schemars_meaning.proofs.ByShape.{IsDocument, member_document}
 use Rattle.schemars_documents.specs.PlainTable.{IsPlainShape}
 use Rattle.schemars_meaning.proofs.EachShape.{bytes_say, schema_says, null_says, bool_says, number_says, text_says}
 use Rattle.schemars_meaning.proofs.EachShape.{formatted_says, char_says, any_says, seq_says, set_says, array_says}
 use Rattle.schemars_meaning.proofs.EachShape.{up_to_says, tuple_says, int_says, non_zero_says}
 use Rattle.schemars_meaning.proofs.Structs.{struct_says}
+use Rattle.schemars_schema.proofs.Literals.{literal_is_schema, literal_judged}
+use Rattle.schemars_rewrite.proofs.LiteralNulls.{literal_ready}
+use Rattle.schemars_templates.proofs.Literals.{literal_document-schema}
 use Rattle.schemars_meaning.proofs.Choices.{result_says, bound_says, range_says, either_says}
-use Rattle.schemars_shapes.specs.declared.shape.IntKind.{IntKind}
-use Rattle.schemars_shapes.specs.declared.shape.IntKind.TheVariants.{I8, I16, I32, I64, I128, Isize, U8, U16, U32, U64, U128, Usize}
-use Rattle.schemars_documents.specs.Documents.{Keyword, int_document, non_zero_document, bytes_document}
 use Rattle.std.specs.Prelude.{codes}
 
 -- ---- null can be added to each document
 
 module _ (W : ℕ → Data → Type 0) (basis : Basis) (ready : (j : ℕ) (t : Data) → W j t → IsReady t) where
   pub shape_ready : (kind : Shape) (s : Data) → IsPlainShape kind → IsDocument W basis kind s → IsReady s
-  shape_ready shape.null s p is = rw is (inr (record { alone = refl; type_form = refl; no_const = refl; not_form = inl refl }))
-  shape_ready shape.bool s p is = rw is (inr (record { alone = refl; type_form = refl; no_const = refl; not_form = inl refl }))
+  shape_ready shape.null s p is =
+      rw is (inr (record { alone = refl; type_form = refl; values = inl refl; not_form = inl refl }))
+  shape_ready shape.bool s p is =
+      rw is (inr (record { alone = refl; type_form = refl; values = inl refl; not_form = inl refl }))
   shape_ready (shape.int k) s p is = rw is (int_ready k)
   shape_ready (shape.non_zero k) s p is = rw is (non_zero_ready k)
-  shape_ready shape.number s p is = rw is (inr (record { alone = refl; type_form = refl; no_const = refl; not_form = inl refl }))
-  shape_ready shape.text s p is = rw is (inr (record { alone = refl; type_form = refl; no_const = refl; not_form = inl refl }))
-  shape_ready shape.char s p is = rw is (inr (record { alone = refl; type_form = refl; no_const = refl; not_form = inl refl }))
-  shape_ready (shape.formatted f) s p is = rw is (inr (record { alone = refl; type_form = refl; no_const = refl; not_form = inl refl }))
+  shape_ready shape.number s p is =
+      rw is (inr (record { alone = refl; type_form = refl; values = inl refl; not_form = inl refl }))
+  shape_ready shape.text s p is =
+      rw is (inr (record { alone = refl; type_form = refl; values = inl refl; not_form = inl refl }))
+  shape_ready shape.char s p is =
+      rw is (inr (record { alone = refl; type_form = refl; values = inl refl; not_form = inl refl }))
+  shape_ready (shape.formatted f) s p is =
+      rw is (inr (record { alone = refl; type_form = refl; values = inl refl; not_form = inl refl }))
   shape_ready shape.any s p is = rw is tt
   shape_ready shape.bytes s p is = rw is (bytes_ready basis.contract)
   shape_ready shape.schema_itself s p is = rw is (inr (record {
     alone = refl;
     type_form = (codes "object" ∷ codes "boolean" ∷ [], refl, refl);
-    no_const = refl;
+    values = inl refl;
     not_form = inl refl;
   }))
   shape_ready (shape.option n) s p is = rw is.2 (ready-allow_null is.0 (ready n is.0 is.1))
   shape_ready (shape.struct xs closed) s p is = rw is.2 (map_ready _ _ closed)
   shape_ready (shape.newtype n) s p is = ready n s is
-  shape_ready (shape.seq n) s p is = rw is.2 (inr (record { alone = refl; type_form = refl; no_const = refl; not_form = inl refl }))
-  shape_ready (shape.set n) s p is = rw is.2 (inr (record { alone = refl; type_form = refl; no_const = refl; not_form = inl refl }))
-  shape_ready (shape.array n zero) s p is = rw is (inr (record { alone = refl; type_form = refl; no_const = refl; not_form = inl refl }))
+  shape_ready (shape.seq n) s p is =
+      rw is.2 (inr (record { alone = refl; type_form = refl; values = inl refl; not_form = inl refl }))
+  shape_ready (shape.set n) s p is =
+      rw is.2 (inr (record { alone = refl; type_form = refl; values = inl refl; not_form = inl refl }))
+  shape_ready (shape.array n zero) s p is =
+      rw is (inr (record { alone = refl; type_form = refl; values = inl refl; not_form = inl refl }))
   shape_ready (shape.array n (suc len)) s p is = rw is.2 (inr (record
-      { alone = refl; type_form = refl; no_const = refl; not_form = inl refl }))
-  shape_ready (shape.up_to n cap) s p is = rw is.2 (inr (record { alone = refl; type_form = refl; no_const = refl; not_form = inl refl }))
+      { alone = refl; type_form = refl; values = inl refl; not_form = inl refl }))
+  shape_ready (shape.up_to n cap) s p is =
+      rw is.2 (inr (record { alone = refl; type_form = refl; values = inl refl; not_form = inl refl }))
   shape_ready (shape.tuple ns) s p is = rw is.2 (tuple_ready is.0)
   shape_ready (shape.result a b) s p is =
       one_of_ready (member_document false (codes "Ok") is.0 ∷ member_document false (codes "Err") is.1 ∷ []) s is.4
@@ -72,6 +82,8 @@ module _ (W : ℕ → Data → Type 0) (basis : Basis) (ready : (j : ℕ) (t : D
   shape_ready (shape.external xs) s p is = rw is.is (external_ready W basis ready xs is.parts)
   shape_ready (shape.untagged xs) s p is = rw is.is (untagged_ready W basis ready xs p is.parts is.written)
   shape_ready (shape.internal tag closed xs) s p is = rw is.is (internal_ready basis.contract tag closed xs is.parts)
+  shape_ready (shape.literal d) s p is =
+      rw (is ∙ literal_document-schema d (literal_is_schema d p)) (literal_ready d p)
 
 -- ---- one shape
 
@@ -104,6 +116,7 @@ IsSame (shape.map_from key value) j = ⊥
 IsSame (shape.external xs) j = ⊥
 IsSame (shape.untagged xs) j = IsNewtypeIn j xs
 IsSame (shape.internal tag closed xs) j = ⊥
+IsSame (shape.literal d) j = ⊥
 
 -- where a part is asked: inside the value, or of the value itself
 abbrev pub Inside : Shape → Data → ℕ → Data → Type 0
@@ -170,3 +183,5 @@ module _ (patterns : Patterns) (f : Text → Judge) (basis : Basis) (W : ℕ →
       (λ j t w x js less. agree j t w x js (inl less)) xs p (λ n t same x. agree n t v x json (inr (same, refl))) is.parts is.written)
   shape_says (shape.internal tag closed xs) s p is v json agree = rw is.is (internal_says patterns f basis W M ready v json
       (λ j t w x js less. agree j t w x js (inl less)) tag closed xs p.0 p.1 is.parts is.written)
+  shape_says (shape.literal d) s p is v json agree =
+      rw (is ∙ literal_document-schema d (literal_is_schema d p)) (literal_judged c refl refl d v p)

@@ -1,6 +1,7 @@
 -- Notes say nothing of a value, and leave a schema one to which null can be added.
 use Rattle.std.proofs.Common.{◌≡◌, inl, inr, Option, Some, None, Bool, true, false, refl, sym, ap, ◌∙◌, true≢false}
-use Rattle.std.specs.Prelude.{codes, is_some, if◌then◌else◌}
+use Rattle.std.specs.Prelude.{codes, is_some, bytes_eq, if◌then◌else◌}
+use Rattle.std.proofs.lemmas.Slice.Eq.{bytes_eq-Decides}
 use Rattle.serde_json.specs.Data.{Data, null, boolean, number, string, array, object, Members, no_members, member, put}
 use Rattle.serde_json.specs.Find.{get_member}
 use Rattle.serde_json.proofs.Views.{get_member-put, get_member-put_other}
@@ -8,19 +9,18 @@ use Rattle.schemars_json.specs.Json.{Text}
 use Rattle.schemars_schema.specs.SchemaData.{put_members, IsSchema, members_in}
 use Rattle.schemars_schema.specs.Acceptance.{Context, Patterns, Judge, judge, read_data, all_keywords}
 use Rattle.schemars_schema.specs.Annotations.{is_annotation, AreNotes}
-use Rattle.schemars_schema.proofs.Objects.{judge-put, annotation-silent}
+use Rattle.schemars_schema.proofs.Objects.{judge-put}
+use Rattle.schemars_schema.proofs.Literals.{judge-put_members}
+use Rattle.schemars_schema.specs.Edits.{without}
 use Rattle.schemars_rewrite.specs.AllowNull.{is_null_choice}
-use Rattle.schemars_rewrite.specs.NullLaw.{context2020_12}
+use Rattle.schemars_rewrite.specs.NullLaw.{context2020_12, HasPlainValues}
+use Rattle.schemars_rewrite.proofs.Removals.{without-put}
 use Rattle.schemars_rewrite.proofs.Nulls.{IsReady, choice_key}
 use Rattle.schemars_documents.specs.Documents.{annotated, with_title, with_meta_schema, root_document}
 
 module _ (patterns : Patterns) (f : Text → Judge) where
   abbrev c : Context
   c = context2020_12 patterns f
-
-  judge-put_members : (notes ms : Members) → AreNotes notes → judge c (object (put_members notes ms)) ≡ judge c (object ms)
-  judge-put_members no_members ms h = refl
-  judge-put_members (member k d notes) ms h = judge-put_members notes (put k d ms) h.1 ∙ judge-put c k d ms (annotation-silent k h.0)
 
   -- a truth value and the object that it becomes say the same
   judge-members_in : (s : Data) → IsSchema s → judge c (object (members_in s)) ≡ judge c s
@@ -35,7 +35,8 @@ module _ (patterns : Patterns) (f : Text → Judge) where
 
   pub judge-annotated : (notes : Members) (s : Data) → AreNotes notes → IsSchema s → judge c (annotated notes s) ≡ judge c s
   judge-annotated no_members s h is = refl
-  judge-annotated (member k d notes) s h is = judge-put_members (member k d notes) (members_in s) h ∙ judge-members_in s is
+  judge-annotated (member k d notes) s h is = judge-put_members c (member k d notes) (members_in s) h
+      ∙ judge-members_in s is
 
   judge-with_title : (name : Text) (ms : Members) → judge c (object (with_title name ms)) ≡ judge c (object ms)
   judge-with_title name ms = go (is_some (get_member (codes "title") ms))
@@ -71,9 +72,27 @@ put_members-noted (member k d notes) ms h noted = put_members-noted notes (put k
 noted-not_choice : (ms : Members) → HasNote ms → is_null_choice (object ms) ≡ true → ⊥
 noted-not_choice ms noted stays = true≢false (sym noted.2 ∙ ap is_annotation (choice_key ms stays noted.0 noted.1 noted.3))
 
+-- notes change nothing of how often a keyword stands there
+once_still : (l : Text) (notes ms : Members) → is_annotation l ≡ false → AreNotes notes
+    → get_member l (without l (put_members notes ms)) ≡ get_member l (without l ms)
+once_still l no_members ms e h = refl
+once_still l (member k d notes) ms e h = once_still l notes (put k d ms) e h.1
+    ∙ without-put l k d ms (go (bytes_eq l k) refl)
+  where
+    go : (b : Bool) → bytes_eq l k ≡ b → b ≡ false
+    go true same = absurd (true≢false (sym h.0 ∙ (ap is_annotation (sym ((bytes_eq-Decides l k).0 same)) ∙ e)))
+    go false same = refl
+
+values-agree : (ms ns : Members) → ((l : Text) → is_annotation l ≡ false → get_member l ms ≡ get_member l ns)
+    → get_member (codes "const") (without (codes "const") ms) ≡ get_member (codes "const") (without (codes "const") ns)
+    → HasPlainValues ns → HasPlainValues ms
+values-agree ms ns e once (inl none) = inl (e (codes "const") refl ∙ none)
+values-agree ms ns e once (inr one) = inr (e (codes "enum") refl ∙ one.0, once ∙ one.1)
+
 ready-agree : (ms ns : Members) → HasNote ms → ((l : Text) → is_annotation l ≡ false → get_member l ms ≡ get_member l ns)
+    → get_member (codes "const") (without (codes "const") ms) ≡ get_member (codes "const") (without (codes "const") ns)
     → IsReady (object ns) → IsReady (object ms)
-ready-agree ms ns noted e (inl p) = inl (
+ready-agree ms ns noted e once (inl p) = inl (
   record {
     combined = rw (
       e (codes "if") refl,
@@ -87,7 +106,7 @@ ready-agree ms ns noted e (inl p) = inl (
   },
   e (codes "type") refl ∙ p.1,
 )
-ready-agree ms ns noted e (inr p) = inr (record {
+ready-agree ms ns noted e once (inr p) = inr (record {
   alone = rw (
     e (codes "if") refl,
     e (codes "allOf") refl,
@@ -97,12 +116,13 @@ ready-agree ms ns noted e (inr p) = inr (record {
     e (codes "not") refl,
   ) p.alone;
   type_form = rw (e (codes "type") refl) p.type_form;
-  no_const = e (codes "const") refl ∙ p.no_const;
+  values = values-agree ms ns e once p.values;
   not_form = rw (e (codes "not") refl) p.not_form;
 })
 
 ready-members_in : (s : Data) → IsReady s → IsReady (object (members_in s))
-ready-members_in (boolean true) r = inr (record { alone = refl; type_form = tt; no_const = refl; not_form = inl refl })
+ready-members_in (boolean true) r =
+    inr (record { alone = refl; type_form = tt; values = inl refl; not_form = inl refl })
 ready-members_in (boolean false) r = inl (record { combined = refl; offers = λ stays. absurd (true≢false (sym stays)) }, refl)
 ready-members_in (object ms) r = r
 ready-members_in null r = absurd r
@@ -116,7 +136,8 @@ ready-annotated (member k d notes) s h r =
     let noted : HasNote (put_members (member k d notes) (members_in s)) =
     put_members-noted notes (put k d (members_in s)) h.1 (k, d, h.0, get_member-put k d (members_in s)) in
     ready-agree (put_members (member k d notes) (members_in s)) (members_in s) noted
-    (λ l e. put_members-other l (member k d notes) (members_in s) e h) (ready-members_in s r)
+    (λ l e. put_members-other l (member k d notes) (members_in s) e h)
+    (once_still (codes "const") (member k d notes) (members_in s) refl h) (ready-members_in s r)
 
 pub annotated-schema : (notes : Members) (s : Data) → IsSchema s → IsSchema (annotated notes s)
 annotated-schema no_members s is = is

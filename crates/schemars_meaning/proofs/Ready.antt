@@ -3,7 +3,6 @@ use Rattle.std.proofs.Common.{◌≡◌, inl, inr, List, [], ◌∷◌, Bool, tr
 use Rattle.std.specs.Prelude.{codes}
 use Rattle.serde_json.specs.Data.{Data}
 use Rattle.schemars_json.specs.Json.{Text}
-use Rattle.schemars_rewrite.specs.NullLaw.{text_items}
 use Rattle.schemars_rewrite.proofs.Nulls.{IsReady, AreReady, some_accepts_null}
 use Rattle.schemars_shapes.specs.declared.shape.IntKind.{IntKind}
 use Rattle.schemars_shapes.specs.declared.shape.IntKind.TheVariants.{I8, I16, I32, I64, I128, Isize, U8, U16, U32, U64, U128, Usize}
@@ -12,55 +11,57 @@ use Rattle.schemars_documents.specs.Documents.{Keyword, int_document, non_zero_d
 use Rattle.schemars_meaning.proofs.ByShape.{map_document, tuple_document, one_of_document, any_of_document, units_document}
 
 pub int_ready : (kind : IntKind) → IsReady (int_document kind)
-int_ready I8 = inr (record { alone = refl; type_form = refl; no_const = refl; not_form = inl refl })
-int_ready I16 = inr (record { alone = refl; type_form = refl; no_const = refl; not_form = inl refl })
-int_ready I32 = inr (record { alone = refl; type_form = refl; no_const = refl; not_form = inl refl })
-int_ready I64 = inr (record { alone = refl; type_form = refl; no_const = refl; not_form = inl refl })
-int_ready I128 = inr (record { alone = refl; type_form = refl; no_const = refl; not_form = inl refl })
-int_ready Isize = inr (record { alone = refl; type_form = refl; no_const = refl; not_form = inl refl })
-int_ready U8 = inr (record { alone = refl; type_form = refl; no_const = refl; not_form = inl refl })
-int_ready U16 = inr (record { alone = refl; type_form = refl; no_const = refl; not_form = inl refl })
-int_ready U32 = inr (record { alone = refl; type_form = refl; no_const = refl; not_form = inl refl })
-int_ready U64 = inr (record { alone = refl; type_form = refl; no_const = refl; not_form = inl refl })
-int_ready U128 = inr (record { alone = refl; type_form = refl; no_const = refl; not_form = inl refl })
-int_ready Usize = inr (record { alone = refl; type_form = refl; no_const = refl; not_form = inl refl })
+int_ready I8 = inr (record { alone = refl; type_form = refl; values = inl refl; not_form = inl refl })
+int_ready I16 = inr (record { alone = refl; type_form = refl; values = inl refl; not_form = inl refl })
+int_ready I32 = inr (record { alone = refl; type_form = refl; values = inl refl; not_form = inl refl })
+int_ready I64 = inr (record { alone = refl; type_form = refl; values = inl refl; not_form = inl refl })
+int_ready I128 = inr (record { alone = refl; type_form = refl; values = inl refl; not_form = inl refl })
+int_ready Isize = inr (record { alone = refl; type_form = refl; values = inl refl; not_form = inl refl })
+int_ready U8 = inr (record { alone = refl; type_form = refl; values = inl refl; not_form = inl refl })
+int_ready U16 = inr (record { alone = refl; type_form = refl; values = inl refl; not_form = inl refl })
+int_ready U32 = inr (record { alone = refl; type_form = refl; values = inl refl; not_form = inl refl })
+int_ready U64 = inr (record { alone = refl; type_form = refl; values = inl refl; not_form = inl refl })
+int_ready U128 = inr (record { alone = refl; type_form = refl; values = inl refl; not_form = inl refl })
+int_ready Usize = inr (record { alone = refl; type_form = refl; values = inl refl; not_form = inl refl })
 
 pub non_zero_ready : (kind : IntKind) → IsReady (non_zero_document kind)
-non_zero_ready I8 = inr (record { alone = refl; type_form = refl; no_const = refl; not_form = inr refl })
-non_zero_ready I16 = inr (record { alone = refl; type_form = refl; no_const = refl; not_form = inr refl })
-non_zero_ready I32 = inr (record { alone = refl; type_form = refl; no_const = refl; not_form = inr refl })
-non_zero_ready I64 = inr (record { alone = refl; type_form = refl; no_const = refl; not_form = inr refl })
-non_zero_ready I128 = inr (record { alone = refl; type_form = refl; no_const = refl; not_form = inr refl })
-non_zero_ready Isize = inr (record { alone = refl; type_form = refl; no_const = refl; not_form = inr refl })
-non_zero_ready U8 = inr (record { alone = refl; type_form = refl; no_const = refl; not_form = inl refl })
-non_zero_ready U16 = inr (record { alone = refl; type_form = refl; no_const = refl; not_form = inl refl })
-non_zero_ready U32 = inr (record { alone = refl; type_form = refl; no_const = refl; not_form = inl refl })
-non_zero_ready U64 = inr (record { alone = refl; type_form = refl; no_const = refl; not_form = inl refl })
-non_zero_ready U128 = inr (record { alone = refl; type_form = refl; no_const = refl; not_form = inl refl })
-non_zero_ready Usize = inr (record { alone = refl; type_form = refl; no_const = refl; not_form = inl refl })
+non_zero_ready I8 = inr (record { alone = refl; type_form = refl; values = inl refl; not_form = inr refl })
+non_zero_ready I16 = inr (record { alone = refl; type_form = refl; values = inl refl; not_form = inr refl })
+non_zero_ready I32 = inr (record { alone = refl; type_form = refl; values = inl refl; not_form = inr refl })
+non_zero_ready I64 = inr (record { alone = refl; type_form = refl; values = inl refl; not_form = inr refl })
+non_zero_ready I128 = inr (record { alone = refl; type_form = refl; values = inl refl; not_form = inr refl })
+non_zero_ready Isize = inr (record { alone = refl; type_form = refl; values = inl refl; not_form = inr refl })
+non_zero_ready U8 = inr (record { alone = refl; type_form = refl; values = inl refl; not_form = inl refl })
+non_zero_ready U16 = inr (record { alone = refl; type_form = refl; values = inl refl; not_form = inl refl })
+non_zero_ready U32 = inr (record { alone = refl; type_form = refl; values = inl refl; not_form = inl refl })
+non_zero_ready U64 = inr (record { alone = refl; type_form = refl; values = inl refl; not_form = inl refl })
+non_zero_ready U128 = inr (record { alone = refl; type_form = refl; values = inl refl; not_form = inl refl })
+non_zero_ready Usize = inr (record { alone = refl; type_form = refl; values = inl refl; not_form = inl refl })
 
 pub bytes_ready : (contract : Contract) → IsReady (bytes_document contract)
 bytes_ready Deserialize = inr (record {
   alone = refl;
   type_form = (codes "array" ∷ codes "string" ∷ [], refl, refl);
-  no_const = refl;
+  values = inl refl;
   not_form = inl refl;
 })
-bytes_ready Serialize = inr (record { alone = refl; type_form = refl; no_const = refl; not_form = inl refl })
+bytes_ready Serialize = inr (record { alone = refl; type_form = refl; values = inl refl; not_form = inl refl })
 
 pub map_ready : (es : List Keyword) (ns : List Text) (closed : Bool) → IsReady (map_document es ns closed)
-map_ready [] [] false = inr (record { alone = refl; type_form = refl; no_const = refl; not_form = inl refl })
-map_ready [] [] true = inr (record { alone = refl; type_form = refl; no_const = refl; not_form = inl refl })
-map_ready [] (n ∷ ns) false = inr (record { alone = refl; type_form = refl; no_const = refl; not_form = inl refl })
-map_ready [] (n ∷ ns) true = inr (record { alone = refl; type_form = refl; no_const = refl; not_form = inl refl })
-map_ready (e ∷ es) [] false = inr (record { alone = refl; type_form = refl; no_const = refl; not_form = inl refl })
-map_ready (e ∷ es) [] true = inr (record { alone = refl; type_form = refl; no_const = refl; not_form = inl refl })
-map_ready (e ∷ es) (n ∷ ns) false = inr (record { alone = refl; type_form = refl; no_const = refl; not_form = inl refl })
-map_ready (e ∷ es) (n ∷ ns) true = inr (record { alone = refl; type_form = refl; no_const = refl; not_form = inl refl })
+map_ready [] [] false = inr (record { alone = refl; type_form = refl; values = inl refl; not_form = inl refl })
+map_ready [] [] true = inr (record { alone = refl; type_form = refl; values = inl refl; not_form = inl refl })
+map_ready [] (n ∷ ns) false = inr (record { alone = refl; type_form = refl; values = inl refl; not_form = inl refl })
+map_ready [] (n ∷ ns) true = inr (record { alone = refl; type_form = refl; values = inl refl; not_form = inl refl })
+map_ready (e ∷ es) [] false = inr (record { alone = refl; type_form = refl; values = inl refl; not_form = inl refl })
+map_ready (e ∷ es) [] true = inr (record { alone = refl; type_form = refl; values = inl refl; not_form = inl refl })
+map_ready (e ∷ es) (n ∷ ns) false =
+    inr (record { alone = refl; type_form = refl; values = inl refl; not_form = inl refl })
+map_ready (e ∷ es) (n ∷ ns) true =
+    inr (record { alone = refl; type_form = refl; values = inl refl; not_form = inl refl })
 
 pub tuple_ready : (ts : List Data) → IsReady (tuple_document ts)
-tuple_ready [] = inr (record { alone = refl; type_form = refl; no_const = refl; not_form = inl refl })
-tuple_ready (t ∷ ts) = inr (record { alone = refl; type_form = refl; no_const = refl; not_form = inl refl })
+tuple_ready [] = inr (record { alone = refl; type_form = refl; values = inl refl; not_form = inl refl })
+tuple_ready (t ∷ ts) = inr (record { alone = refl; type_form = refl; values = inl refl; not_form = inl refl })
 
 pub one_of_ready : (ts : List Data) (s : Data) → s ≡ one_of_document ts → IsReady s
 one_of_ready ts s is = rw is (inl (record { combined = refl; offers = λ stays. absurd (true≢false (sym stays)) }, refl))
@@ -72,4 +73,4 @@ any_of_ready ts r = inl (
 )
 
 pub units_ready : (ks : List Text) → IsReady (units_document ks)
-units_ready ks = inr (record { alone = refl; type_form = refl; no_const = refl; not_form = inl refl })
+units_ready ks = inr (record { alone = refl; type_form = refl; values = inl refl; not_form = inl refl })

@@ -5,7 +5,8 @@ use Rattle.std.specs.Prelude.{codes, bytes_eq, filter, not, if◌then◌else◌}
 use Rattle.std.proofs.lemmas.Slice.Eq.{bytes_eq-Decides}
 use Rattle.std.proofs.lemmas.List.{nil_from_length}
 use Rattle.std.proofs.lemmas.List.Elements.{Contains-append_left}
-use Rattle.serde_json.specs.Data.{Data, Items, no_items, item, Members, no_members, put}
+use Rattle.serde_json.specs.Data.{Data, Items, no_items, item, Members, no_members, put, null, boolean, number}
+use Rattle.serde_json.specs.Data.{string, array, object}
 use Rattle.serde_json.specs.View.{items_of}
 use Rattle.schemars_json.specs.Json.{Text}
 use Rattle.schemars_schema.specs.SchemaData.{put_all, IsSchema, object_of}
@@ -30,6 +31,12 @@ use Rattle.schemars_templates.specs.Template.{template, rows_of, rows_in, first,
 use Rattle.schemars_templates.specs.OfShape.{KeywordTemplate, templates_of, object_with, property, map_template, template_of}
 use Rattle.schemars_templates.specs.OfShape.{entry_template, member_template, payload_template, named_template, bare_units}
 use Rattle.schemars_templates.specs.OfShape.{other_items, choice_of, payload_item, titled}
+use Rattle.schemars_templates.specs.OfShape.{typed, said, values_of, all_patterns, pattern_properties_at}
+use Rattle.schemars_templates.specs.OfShape.{properties_at, literal_document}
+use Rattle.schemars_templates.proofs.Literals.{literal_document-schema}
+use Rattle.schemars_schema.proofs.Literals.{literal_is_schema, literal_refers_nowhere}
+use Rattle.schemars_shapes.specs.declared.shape.IntegerKeys.{IntegerKeys}
+use Rattle.schemars_shapes.specs.IntegerKeys.{pattern_of}
 use Rattle.schemars_templates.specs.OfShape.{values_template, untagged_template, tagged_template, internal_item, internal_template}
 use Rattle.schemars_templates.specs.Describes.{references_of}
 use Rattle.schemars_meaning.proofs.Notes.{annotated-schema}
@@ -410,14 +417,19 @@ once_apart : (ks : List Text) → AreApart (once ks)
 once_apart [] = tt
 once_apart (k ∷ ks) = (others_apart k (once ks), apart-filter (λ u. not (bytes_eq u k)) (once ks) (once_apart ks))
 
--- the texts among options are all different
+-- the texts among options are all different, and so are the patterns
 abbrev AreKeysApart : KeyOptions → Type 0
 AreKeysApart any_key = Unit {0}
-AreKeysApart (only_keys texts keys) = AreApart texts
+AreKeysApart (only_keys texts integers ps) = AreApart texts × AreApart ps
 
 keys_apart : (options : KeyOptions) → AreKeysApart (each_once options)
 keys_apart any_key = tt
-keys_apart (only_keys texts keys) = once_apart texts
+keys_apart (only_keys texts integers ps) = (once_apart texts, once_apart ps)
+
+patterns_apart : (integers : Option IntegerKeys) (ps : List Text) → AreApart ps → AreApart (all_patterns integers ps)
+patterns_apart None ps h = h
+patterns_apart (Some keys) ps h =
+    (others_apart (pattern_of keys) ps, apart-filter (λ u. not (bytes_eq u (pattern_of keys))) ps h)
 
 abbrev texts_at : ℕ → List Text → List KeywordTemplate
 texts_at value texts = map (λ t. (t, row value)) texts
@@ -435,20 +447,30 @@ texts_apart : (value : ℕ) (texts : List Text) → AreApart texts → AreApart 
 texts_apart value [] h = tt
 texts_apart value (t ∷ texts) h = (texts_no_key t value texts h.0, texts_apart value texts h.1)
 
+keyed_as_schema : (texts qs : List Text) (value : ℕ) → AreApart texts → AreApart qs
+    → AsSchema (object_with (typed (codes "object")
+    ∷ said (codes "additionalProperties") (boolean false)
+    ∷ (pattern_properties_at (values_of value qs) ++ properties_at (values_of value texts))))
+unfolding found_in
+keyed_as_schema [] [] value h g = search
+keyed_as_schema (t ∷ texts) [] value h g = search (texts_named value (t ∷ texts), texts_apart value (t ∷ texts) h)
+keyed_as_schema [] (q ∷ qs) value h g = search (texts_named value (q ∷ qs), texts_apart value (q ∷ qs) g)
+keyed_as_schema (t ∷ texts) (q ∷ qs) value h g = search (
+  texts_named value (t ∷ texts),
+  texts_apart value (t ∷ texts) h,
+  texts_named value (q ∷ qs),
+  texts_apart value (q ∷ qs) g,
+)
+
 values_as_schema : (options : KeyOptions) (value : ℕ) → AreKeysApart options → AsSchema (values_template options value)
 unfolding found_in
 values_as_schema any_key value h = search
-values_as_schema (only_keys [] None) value h = search
-values_as_schema (only_keys (t ∷ texts) None) value h = search (texts_named value (t ∷ texts), texts_apart value (t ∷ texts) h)
-values_as_schema (only_keys [] (Some keys)) value h = search
-values_as_schema (only_keys (t ∷ texts) (Some keys)) value h = search (texts_named value (t ∷ texts), texts_apart value (t ∷ texts) h)
+values_as_schema (only_keys texts integers ps) value h = keyed_as_schema texts (all_patterns integers ps) value h.0
+    (patterns_apart integers ps h.1)
 
 values_make : (options : KeyOptions) (value : ℕ) → MakesSchema (values_template options value)
 values_make any_key value = tt
-values_make (only_keys [] None) value = tt
-values_make (only_keys (t ∷ texts) None) value = tt
-values_make (only_keys [] (Some keys)) value = tt
-values_make (only_keys (t ∷ texts) (Some keys)) value = tt
+values_make (only_keys texts integers ps) value = tt
 
 -- what a variant has beside its tag: fields with names and notes as those of a struct
 pub plain_fields : (p : Payload) → IsPlainPayload p → AreDistinct (tagged_fields p) × AreNoted (tagged_fields p)
@@ -564,10 +586,20 @@ shape_as_schema basis (shape.external xs) p =
     choice_as_schema (bare_units xs) (other_items basis.contract xs) (others_as_items basis.contract xs p.1)
 shape_as_schema basis (shape.untagged xs) p = untagged_as_schema basis.contract basis.titles xs p
 shape_as_schema basis (shape.internal tag closed xs) p = internal_as_schema basis.contract tag closed xs p.1 p.2
+shape_as_schema basis (shape.literal d) p =
+    ap references (literal_document-schema d (literal_is_schema d p)) ∙ literal_refers_nowhere d p
 
 non_zero_makes : (b : Bool) (d e : Data) → IsSchema d → IsSchema e → IsSchema (if b then d else e)
 non_zero_makes true d e h g = h
 non_zero_makes false d e h g = g
+
+literal_makes : (d : Data) → IsSchema (literal_document d)
+literal_makes (boolean b) = tt
+literal_makes (object ms) = tt
+literal_makes null = tt
+literal_makes (number n) = tt
+literal_makes (string s) = tt
+literal_makes (array ds) = tt
 
 shape_makes : (basis : Basis) (kind : Shape) → MakesSchema (template_of basis kind)
 shape_makes basis shape.null = tt
@@ -599,6 +631,7 @@ shape_makes basis (shape.map_from key value) = values_make (key_options basis.ro
 shape_makes basis (shape.external xs) = choice_makes (bare_units xs) (other_items basis.contract xs)
 shape_makes basis (shape.untagged xs) = untagged_makes basis.contract basis.titles xs
 shape_makes basis (shape.internal tag closed xs) = internal_makes basis.contract tag closed xs
+shape_makes basis (shape.literal d) = literal_makes d
 
 -- ---- a row's document
 

@@ -1,5 +1,5 @@
 -- The rows that stand in a shape's template are those of the shape.
-use Rattle.std.proofs.Common.{◌≡◌, ℕ, zero, suc, List, [], ◌∷◌, Bool, true, false, Some, None, map, refl, sym, ap, ◌∙◌, subst}
+use Rattle.std.proofs.Common.{◌≡◌, ℕ, zero, suc, List, [], ◌∷◌, Bool, true, false, map, refl, sym, ap, ◌∙◌, subst}
 use Rattle.std.proofs.Common.{append-nil, arith, All, ◌++◌}
 use Rattle.std.specs.Prelude.{if◌then◌else◌}
 use Rattle.std.proofs.lemmas.List.Elements.{All-append}
@@ -17,7 +17,8 @@ use Rattle.schemars_templates.specs.Basis.{Basis}
 use Rattle.schemars_templates.specs.Template.{Template, finished, row, noted, rows_of, rows_in}
 use Rattle.schemars_templates.specs.OfShape.{templates_of, property, map_template, tuple_template, struct_template, template_of}
 use Rattle.schemars_templates.specs.OfShape.{payload_template, named_template, bare_units, other_items, choice_of}
-use Rattle.schemars_templates.specs.OfShape.{KeywordTemplate, values_template, payload_item, titled}
+use Rattle.schemars_templates.specs.OfShape.{KeywordTemplate, values_template, values_of, all_patterns}
+use Rattle.schemars_templates.specs.OfShape.{pattern_properties_at, properties_at, payload_item, titled}
 use Rattle.schemars_templates.specs.OfShape.{untagged_template, tagged_template, internal_item, internal_template}
 
 pub rows_same : (ns : List ℕ) → rows_in (templates_of (map row ns)) ≡ ns
@@ -186,11 +187,16 @@ module _ (P : ℕ → Type 0) where
   -- a map has the row of its values, as often as it is written
   values_rows : (options : KeyOptions) (value : ℕ) → All P (value ∷ []) → All P (rows_of (values_template options value))
   values_rows any_key value h = h
-  values_rows (only_keys [] None) value h = nothing
-  values_rows (only_keys (t ∷ texts) None) value h = ended (text_rows value (t ∷ texts)) (texts_rows value (t ∷ texts) h)
-  values_rows (only_keys [] (Some keys)) value h = h
-  values_rows (only_keys (t ∷ texts) (Some keys)) value h =
-      All-append P (value ∷ []) (text_rows value (t ∷ texts) ++ []) h (ended (text_rows value (t ∷ texts)) (texts_rows value (t ∷ texts) h))
+  values_rows (only_keys texts integers ps) value h = go texts (all_patterns integers ps)
+    where
+      go : (ts qs : List Text) → All P (rows_in (templates_of (map (λ (e : KeywordTemplate). e.1)
+          (pattern_properties_at (values_of value qs) ++ properties_at (values_of value ts)))))
+      go [] [] = nothing
+      go (t ∷ ts) [] = ended (text_rows value (t ∷ ts)) (texts_rows value (t ∷ ts) h)
+      go [] (q ∷ qs) = ended (text_rows value (q ∷ qs)) (texts_rows value (q ∷ qs) h)
+      go (t ∷ ts) (q ∷ qs) =
+          All-append P (text_rows value (q ∷ qs)) (text_rows value (t ∷ ts) ++ []) (texts_rows value (q ∷ qs) h)
+          (ended (text_rows value (t ∷ ts)) (texts_rows value (t ∷ ts) h))
 
   pub all_rows : (basis : Basis) (kind : Shape) → All P (numbers_of kind) → All P (rows_of (template_of basis kind))
   all_rows basis shape.null h = nothing
@@ -222,3 +228,4 @@ module _ (P : ℕ → Type 0) where
       choice_rows (bare_units xs) (other_items basis.contract xs) (other_rows basis.contract xs h)
   all_rows basis (shape.untagged xs) h = untagged_rows basis.contract basis.titles xs h
   all_rows basis (shape.internal tag closed xs) h = internal_rows basis.contract tag closed xs h
+  all_rows basis (shape.literal d) h = nothing

@@ -1,2 +1,4 @@
 pub mod Changes
+pub mod Removals
 pub mod Nulls
+pub mod LiteralNulls

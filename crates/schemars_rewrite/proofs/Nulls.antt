@@ -27,16 +27,22 @@ use Rattle.schemars_json.specs.Json.{Text, json_eq, is_among}
 use Rattle.schemars_schema.specs.SchemaData.{IsSchema}
 use Rattle.schemars_json.specs.OrderedText.{is_listed}
 use Rattle.schemars_schema.specs.Acceptance.{Patterns, Judge, Context, Raw, judge, read_data, read_items, all_keywords}
-use Rattle.schemars_schema.specs.Acceptance.{where_some, type_says, enum_says, texts_in, type_names, are_type_names}
+use Rattle.schemars_schema.specs.Edits.{without}
+use Rattle.schemars_schema.specs.Acceptance.{where_some, type_says, const_says, enum_says, texts_in, type_names}
+use Rattle.schemars_schema.specs.Acceptance.{are_type_names}
 use Rattle.schemars_schema.specs.Acceptance.{is_of_type, is_of_some_type, is_null, each_says, both_some, nothing}
 use Rattle.schemars_schema.proofs.Verdicts.{both-yes, either-verdict}
 use Rattle.schemars_schema.proofs.Objects.{schema-judge, judge-object, says, says-agree}
 use Rattle.schemars_rewrite.specs.AllowNull.{null_schema, is_combined, is_null_choice, offers_null, holds_text}
 use Rattle.schemars_rewrite.specs.AllowNull.{holds_null, with_item, type_with_null, null_in_type, enum_with_null}
-use Rattle.schemars_rewrite.specs.AllowNull.{is_text, enum_admits_null, is_null_schema, holds_null_schema}
-use Rattle.schemars_rewrite.specs.AllowNull.{null_in_enum, null_in_const, null_in_values, or_null, allow_null}
+use Rattle.schemars_rewrite.specs.AllowNull.{is_text, const_admits_null, enum_admits_null, is_null_schema}
+use Rattle.schemars_rewrite.specs.AllowNull.{holds_null_schema}
+use Rattle.schemars_rewrite.specs.AllowNull.{null_in_enum, const_or_null, null_in_const, null_in_values, or_null}
+use Rattle.schemars_rewrite.specs.AllowNull.{allow_null}
 use Rattle.schemars_rewrite.specs.NullLaw.{text_items, HasTypeForm, zero_schema, AcceptsNull, SomeAcceptsNull}
-use Rattle.schemars_rewrite.specs.NullLaw.{OffersNull, IsChoice, IsPlain, IsNullable, context2020_12, AcceptsNullToo}
+use Rattle.schemars_rewrite.specs.NullLaw.{OffersNull, IsChoice, HasPlainValues, IsPlain, IsNullable, context2020_12}
+use Rattle.schemars_rewrite.specs.NullLaw.{AcceptsNullToo}
+use Rattle.schemars_rewrite.proofs.Removals.{without-other, without-put}
 
 -- ---- truth values
 
@@ -211,6 +217,50 @@ enum_null (Some (number n)) = refl
 enum_null (Some (string s)) = refl
 enum_null (Some (object ms)) = refl
 
+-- ---- one value, or null in its place
+
+const_plus : Option Data → Option Data
+const_plus None = None
+const_plus (Some c) = if is_null c then Some c else None
+
+values_plus : Option Data → Option Data → Option Data
+values_plus None values = enum_plus values
+values_plus (Some c) values = if is_null c then values else Some (array (item c (item null no_items)))
+
+const_null : (o : Option Data) → const_says true (const_plus o) null ≡ Yes
+unfolding const_plus
+const_null None = refl
+const_null (Some c) = go (is_null c) refl
+  where
+    go : (b : Bool) → is_null c ≡ b → const_says true (if b then Some c else None) null ≡ Yes
+    go true e = ap verdict (json_eq-null c ∙ e)
+    go false e = refl
+
+values_null : (o values : Option Data) → (o ≡ None) ⊎ (values ≡ None) → enum_says (values_plus o values) null ≡ Yes
+unfolding values_plus
+values_null None values one = enum_null values
+values_null (Some c) values (inl none) = cc
+values_null (Some c) values (inr no_enum) = rw no_enum (go (is_null c))
+  where
+    go : (b : Bool) → enum_says (if b then None else Some (array (item c (item null no_items)))) null ≡ Yes
+    go true = refl
+    go false = rw null-json_eq (ap verdict (or-true (json_eq c null)))
+
+values_other : (o values : Option Data) → (o ≡ None) ⊎ (values ≡ None) → (v : Data) → is_null v ≡ false
+    → (rest : Verdict)
+    → both (const_says true (const_plus o) v) (both (enum_says (values_plus o values) v) rest)
+    ≡ both (const_says true o v) (both (enum_says values v) rest)
+unfolding const_plus values_plus
+values_other None values one v other rest = rw (enum_other values v other) refl
+values_other (Some c) values (inl none) v other rest = cc
+values_other (Some c) values (inr no_enum) v other rest = rw no_enum (go (is_null c))
+  where
+    go : (b : Bool) → both (const_says true (if b then Some c else None) v)
+        (both (enum_says (if b then None else Some (array (item c (item null no_items)))) v) rest)
+        ≡ both (verdict (json_eq c v)) rest
+    go true = refl
+    go false = rw (null-json_eq, other, or-false) refl
+
 -- ---- an object that is not combined
 
 abbrev with_null_type : Members → Members
@@ -247,6 +297,18 @@ null_in_enum-enum (Some d) ms e = get_member-put (codes "enum") _ ms
 at_type : (ms : Members) (k : Text) → bytes_eq k (codes "type") ≡ false → get_member k (with_null_type ms) ≡ get_member k ms
 at_type ms k e = null_in_type-other k (get_member (codes "type") ms) ms e
 
+-- the look-ups with another type and other values
+abbrev with_changed : Option Data → Option Data → Option Data → Raw → Raw
+with_changed type const values g k =
+    if bytes_eq k (codes "type") then type
+    else if bytes_eq k (codes "const") then const
+    else if bytes_eq k (codes "enum") then values
+    else g k
+
+abbrev nulled : Raw → Raw
+nulled g = with_changed (type_plus (g (codes "type"))) (const_plus (g (codes "const")))
+    (values_plus (g (codes "const")) (g (codes "enum"))) g
+
 -- where no `const` stands, the type and the values are changed alone
 without_const : (ms : Members) → get_member (codes "const") ms ≡ None
     → with_null ms ≡ null_in_enum (get_member (codes "enum") ms) (with_null_type ms)
@@ -254,27 +316,107 @@ without_const ms none =
     ap (λ o. null_in_const o (with_null_type ms)) (at_type ms (codes "const") refl ∙ none)
     ∙ ap (λ o. null_in_enum o (with_null_type ms)) (at_type ms (codes "enum") refl)
 
--- the look-ups with another type and other values
-abbrev with_both : Option Data → Option Data → Raw → Raw
-with_both type values g k = if bytes_eq k (codes "type") then type else (if bytes_eq k (codes "enum") then values else g k)
+-- where one stands that isn't null, it is one value of two
+with_const : (ms : Members) (c : Data) → get_member (codes "const") ms ≡ Some c
+    → with_null ms ≡ (if is_null c then with_null_type ms else const_or_null c (with_null_type ms))
+with_const ms c some = ap (λ o. null_in_const o (with_null_type ms)) (at_type ms (codes "const") refl ∙ some)
 
-with_null-agree : (ms : Members) → get_member (codes "const") ms ≡ None → (k : Text)
-    → get_member k (with_null ms) ≡ with_both (type_plus (get_member (codes "type") ms)) (enum_plus (get_member (codes "enum") ms))
-    (λ l. get_member l ms) k
-with_null-agree ms none k = ap (get_member k) (without_const ms none) ∙ go (bytes_eq k (codes "type")) (bytes_eq k (codes "enum")) refl refl
+same_text : (k l : Text) → bytes_eq k l ≡ true → k ≡ l
+same_text k l is = (bytes_eq-Decides k l).0 is
+
+const_or_null-other : (k : Text) (c : Data) (ms : Members) → bytes_eq k (codes "const") ≡ false
+    → bytes_eq k (codes "enum") ≡ false
+    → get_member k (const_or_null c ms) ≡ get_member k ms
+const_or_null-other k c ms no_const no_enum =
+    put_other k (codes "enum") _ (without (codes "const") ms) no_enum ∙ without-other k (codes "const") ms no_const
+
+const_or_null-const : (c : Data) (ms : Members) → get_member (codes "const") (without (codes "const") ms) ≡ None
+    → get_member (codes "const") (const_or_null c ms) ≡ None
+const_or_null-const c ms once = put_other (codes "const") (codes "enum") _ (without (codes "const") ms) refl ∙ once
+
+type_once : (ms : Members) → get_member (codes "const") (without (codes "const") ms) ≡ None
+    → get_member (codes "const") (without (codes "const") (with_null_type ms)) ≡ None
+type_once ms once = go (get_member (codes "type") ms)
   where
-    values : Option Data
-    values = get_member (codes "enum") ms
+    go : (o : Option Data) → get_member (codes "const") (without (codes "const") (null_in_type o ms)) ≡ None
+    go None = once
+    go (Some d) = without-put (codes "const") (codes "type") (type_with_null d) ms refl ∙ once
 
-    go : (b d : Bool) → bytes_eq k (codes "type") ≡ b → bytes_eq k (codes "enum") ≡ d
-        → get_member k (null_in_enum values (with_null_type ms)) ≡ (if b then type_plus (get_member (codes "type") ms) else
-        (if d then enum_plus values else get_member k ms))
-    go true d e f =
-        rw ((bytes_eq-Decides k (codes "type")).0 e)
-        (null_in_enum-other (codes "type") values (with_null_type ms) refl ∙ null_in_type-type (get_member (codes "type") ms) ms refl)
-    go false true e f = rw ((bytes_eq-Decides k (codes "enum")).0 f) (null_in_enum-enum values (with_null_type ms)
-        (at_type ms (codes "enum") refl))
-    go false false e f = null_in_enum-other k values (with_null_type ms) f ∙ at_type ms k e
+-- what becomes of the members
+module _ (ms : Members) where
+  abbrev given : Raw
+  given k = get_member k ms
+
+  type_found : get_member (codes "type") (with_null_type ms) ≡ type_plus (given (codes "type"))
+  type_found = null_in_type-type (given (codes "type")) ms refl
+
+  type_of_enum : (k : Text) → bytes_eq k (codes "enum") ≡ false
+      → get_member k (null_in_enum (given (codes "enum")) (with_null_type ms)) ≡ get_member k (with_null_type ms)
+  type_of_enum k other = null_in_enum-other k (given (codes "enum")) (with_null_type ms) other
+
+  -- by the keys that are asked for: `type`, `const`, `enum`, another
+  by_key : (o : Members) (const values : Option Data)
+      → get_member (codes "type") o ≡ type_plus (given (codes "type"))
+      → get_member (codes "const") o ≡ const → get_member (codes "enum") o ≡ values
+      → ((k : Text) → bytes_eq k (codes "type") ≡ false → bytes_eq k (codes "const") ≡ false
+      → bytes_eq k (codes "enum") ≡ false
+      → get_member k o ≡ given k)
+      → (k : Text) → get_member k o ≡ with_changed (type_plus (given (codes "type"))) const values given k
+  by_key o const values type_is const_is values_are rest k =
+      go (bytes_eq k (codes "type")) (bytes_eq k (codes "const")) (bytes_eq k (codes "enum")) refl refl refl
+    where
+      go : (a b d : Bool) → bytes_eq k (codes "type") ≡ a → bytes_eq k (codes "const") ≡ b
+          → bytes_eq k (codes "enum") ≡ d
+          → get_member k o
+          ≡ (if a then type_plus (given (codes "type")) else if b then const else if d then values else given k)
+      go true b d p q r = ap (λ l. get_member l o) (same_text k (codes "type") p) ∙ type_is
+      go false true d p q r = ap (λ l. get_member l o) (same_text k (codes "const") q) ∙ const_is
+      go false false true p q r = ap (λ l. get_member l o) (same_text k (codes "enum") r) ∙ values_are
+      go false false false p q r = rest k p q r
+
+  agree-none : given (codes "const") ≡ None → (k : Text) → get_member k (with_null ms)
+      ≡ with_changed (type_plus (given (codes "type"))) None (enum_plus (given (codes "enum"))) given k
+  agree-none none k =
+      ap (get_member k) (without_const ms none)
+      ∙ by_key (null_in_enum (given (codes "enum")) (with_null_type ms)) None (enum_plus (given (codes "enum")))
+      (type_of_enum (codes "type") refl ∙ type_found)
+      (type_of_enum (codes "const") refl ∙ (at_type ms (codes "const") refl ∙ none))
+      (null_in_enum-enum (given (codes "enum")) (with_null_type ms) (at_type ms (codes "enum") refl))
+      (λ l p q r. type_of_enum l r ∙ at_type ms l p) k
+
+  agree-some : (c : Data) (n : Bool) → is_null c ≡ n → given (codes "const") ≡ Some c → given (codes "enum") ≡ None
+      → get_member (codes "const") (without (codes "const") ms) ≡ None → (k : Text)
+      → get_member k (if n then with_null_type ms else const_or_null c (with_null_type ms))
+      ≡ with_changed (type_plus (given (codes "type"))) (if n then Some c else None)
+      (if n then None else Some (array (item c (item null no_items)))) given k
+  agree-some c true is some no_enum once k =
+      by_key (with_null_type ms) (Some c) None type_found (at_type ms (codes "const") refl ∙ some)
+      (at_type ms (codes "enum") refl ∙ no_enum) (λ l p q r. at_type ms l p) k
+  agree-some c false is some no_enum once k =
+      by_key (const_or_null c (with_null_type ms)) None (Some (array (item c (item null no_items))))
+      (const_or_null-other (codes "type") c (with_null_type ms) refl refl ∙ type_found)
+      (const_or_null-const c (with_null_type ms) (type_once ms once))
+      (get_member-put (codes "enum") _ (without (codes "const") (with_null_type ms)))
+      (λ l p q r. const_or_null-other l c (with_null_type ms) q r ∙ at_type ms l p) k
+
+with_null-agree : (ms : Members) → HasPlainValues ms → (k : Text)
+    → get_member k (with_null ms) ≡ nulled (λ l. get_member l ms) k
+unfolding const_plus values_plus
+with_null-agree ms values k = go (get_member (codes "const") ms) refl values
+  where
+    go : (o : Option Data) → get_member (codes "const") ms ≡ o → HasPlainValues ms
+        → get_member k (with_null ms) ≡ with_changed (type_plus (get_member (codes "type") ms)) (const_plus o)
+        (values_plus o (get_member (codes "enum") ms)) (λ l. get_member l ms) k
+    go None is values = agree-none ms is k
+    go (Some c) is (inl none) = let never : Some c ≡ None = sym is ∙ none in cc
+    go (Some c) is (inr one) =
+        rw (with_const ms c is, one.0) (agree-some ms c (is_null c) refl is one.0 one.1 k)
+
+-- no `const`, or no `enum`
+one_form : (ms : Members) → HasPlainValues ms
+    → (get_member (codes "const") ms ≡ None) ⊎ (get_member (codes "enum") ms ≡ None)
+one_form ms (inl none) = inl none
+one_form ms (inr one) = inr one.0
 
 silent : {A : Type 0} (o : Option A) → where_some o (λ x. Yes) ≡ Yes
 silent None = refl
@@ -390,22 +532,41 @@ module _ (patterns : Patterns) (f : Text → Judge) where
   abbrev c : Context
   c = context2020_12 patterns f
 
-  abbrev nulled : Raw → Raw
-  nulled g = with_both (type_plus (g (codes "type"))) (enum_plus (g (codes "enum"))) g
-
-  other_says : (g : Raw) → HasTypeForm (g (codes "type")) → (v : Data) → is_null v ≡ false → (says c (nulled g)).fits v ≡ (says c g).fits v
+  other_says : (g : Raw) → HasTypeForm (g (codes "type")) → ((g (codes "const") ≡ None) ⊎ (g (codes "enum") ≡ None))
+      → (v : Data) → is_null v ≡ false → (says c (nulled g)).fits v ≡ (says c g).fits v
   unfolding says all_keywords
-  other_says g h v other = rw (type_other (g (codes "type")) h v other, enum_other (g (codes "enum")) v other)
+  other_says g h values v other =
+      rw (type_other (g (codes "type")) h v other, values_other (g (codes "const")) (g (codes "enum")) values v other)
 
-  null_says : (g : Raw) → HasTypeForm (g (codes "type")) → (g (codes "const") ≡ None)
+  null_says : (g : Raw) → HasTypeForm (g (codes "type")) → ((g (codes "const") ≡ None) ⊎ (g (codes "enum") ≡ None))
       → ((g (codes "not") ≡ None) ⊎ (g (codes "not") ≡ Some zero_schema))
       → (g (codes "allOf") ≡ None) → (g (codes "anyOf") ≡ None) → (g (codes "oneOf") ≡ None) → (g (codes "$ref") ≡ None)
       → (says c (nulled g)).fits null ≡ Yes
   unfolding says all_keywords read_data json_eq
-  null_says g h no_const (inl no_not) no_all no_any no_one no_ref =
-      rw (type_null (g (codes "type")) h, enum_null (g (codes "enum")), no_const, no_not, no_all, no_any, no_one, no_ref) (simp silent)
-  null_says g h no_const (inr not_zero) no_all no_any no_one no_ref =
-      rw (type_null (g (codes "type")) h, enum_null (g (codes "enum")), no_const, not_zero, no_all, no_any, no_one, no_ref) (simp silent)
+  null_says g h values (inl no_not) no_all no_any no_one no_ref =
+      rw (
+        type_null (g (codes "type")) h,
+        const_null (g (codes "const")),
+        values_null _ _ values,
+        no_not,
+        no_all,
+        no_any,
+        no_one,
+        no_ref,
+      )
+      (simp silent)
+  null_says g h values (inr not_zero) no_all no_any no_one no_ref =
+      rw (
+        type_null (g (codes "type")) h,
+        const_null (g (codes "const")),
+        values_null _ _ values,
+        not_zero,
+        no_all,
+        no_any,
+        no_one,
+        no_ref,
+      )
+      (simp silent)
 
   of_null : (v : Data) → (judge c null_schema).fits v ≡ verdict (is_null v)
   unfolding read_data all_keywords
@@ -473,12 +634,12 @@ module _ (patterns : Patterns) (f : Text → Judge) where
       let g : Raw = λ k. get_member k ms in
       let parts = alone_parts ms alone in
       rw (is_null_value v is) (ap (λ j. j.fits null) (judge-object c (with_null ms)
-      ∙ says-agree c _ _ (λ k key. with_null-agree ms p.no_const k))
-      ∙ null_says g p.type_form p.no_const p.not_form parts.0 parts.1 parts.2 parts.3)
+      ∙ says-agree c _ _ (λ k key. with_null-agree ms p.values k))
+      ∙ null_says g p.type_form (one_form ms p.values) p.not_form parts.0 parts.1 parts.2 parts.3)
   plain_says ms alone p v false b is e =
       let g : Raw = λ k. get_member k ms in
-      ap (λ j. j.fits v) (judge-object c (with_null ms) ∙ says-agree c _ _ (λ k key. with_null-agree ms p.no_const k))
-      ∙ (other_says g p.type_form v is ∙ (sym (ap (λ j. j.fits v) (judge-object c ms)) ∙ e))
+      ap (λ j. j.fits v) (judge-object c (with_null ms) ∙ says-agree c _ _ (λ k key. with_null-agree ms p.values k))
+      ∙ (other_says g p.type_form (one_form ms p.values) v is ∙ (sym (ap (λ j. j.fits v) (judge-object c ms)) ∙ e))
 
   pub allow_null-says : (t : Data) → IsNullable t → (v : Data) (b : Bool) → (judge c t).fits v ≡ verdict b
       → (judge c (allow_null t)).fits v ≡ verdict (is_null v || b)
@@ -525,26 +686,44 @@ type_plus-form (Some (boolean b)) h = absurd h
 type_plus-form (Some (number n)) h = absurd h
 type_plus-form (Some (object ms)) h = absurd h
 
-at_other : (ms : Members) → get_member (codes "const") ms ≡ None → (k : Text) → bytes_eq k (codes "type") ≡ false
-    → bytes_eq k (codes "enum") ≡ false → get_member k (with_null ms) ≡ get_member k ms
-at_other ms none k e f = with_null-agree ms none k ∙ rw (e, f) refl
+at_other : (ms : Members) → HasPlainValues ms → (k : Text) → bytes_eq k (codes "type") ≡ false
+    → bytes_eq k (codes "const") ≡ false → bytes_eq k (codes "enum") ≡ false
+    → get_member k (with_null ms) ≡ get_member k ms
+at_other ms values k e f h = with_null-agree ms values k ∙ rw (e, f, h) refl
+
+values-with_null : (ms : Members) → HasPlainValues ms → HasPlainValues (with_null ms)
+unfolding const_plus values_plus
+values-with_null ms values = go (get_member (codes "const") ms) refl values
+  where
+    of_const : (c : Data) (b : Bool) → is_null c ≡ b → get_member (codes "const") ms ≡ Some c
+        → get_member (codes "enum") ms ≡ None
+        → get_member (codes "const") (without (codes "const") ms) ≡ None
+        → HasPlainValues (if b then with_null_type ms else const_or_null c (with_null_type ms))
+    of_const c true is some no_enum once = inr (at_type ms (codes "enum") refl ∙ no_enum, type_once ms once)
+    of_const c false is some no_enum once = inl (const_or_null-const c (with_null_type ms) (type_once ms once))
+
+    go : (o : Option Data) → get_member (codes "const") ms ≡ o → HasPlainValues ms → HasPlainValues (with_null ms)
+    go None is values = inl (agree-none ms is (codes "const"))
+    go (Some c) is (inl none) = let never : Some c ≡ None = sym is ∙ none in cc
+    go (Some c) is (inr one) = rw (with_const ms c is) (of_const c (is_null c) refl is one.0 one.1)
 
 plain-with_null : (ms : Members) → IsPlain ms → IsPlain (with_null ms)
 plain-with_null ms p =
-    let at : (k : Text) → bytes_eq k (codes "type") ≡ false → bytes_eq k (codes "enum") ≡ false
-    → get_member k (with_null ms) ≡ get_member k ms = at_other ms p.no_const in
+    let at : (k : Text) → bytes_eq k (codes "type") ≡ false → bytes_eq k (codes "const") ≡ false
+    → bytes_eq k (codes "enum") ≡ false
+    → get_member k (with_null ms) ≡ get_member k ms = at_other ms p.values in
     record {
       alone = rw (
-        at (codes "if") refl refl,
-        at (codes "allOf") refl refl,
-        at (codes "anyOf") refl refl,
-        at (codes "oneOf") refl refl,
-        at (codes "$ref") refl refl,
-        at (codes "not") refl refl,
+        at (codes "if") refl refl refl,
+        at (codes "allOf") refl refl refl,
+        at (codes "anyOf") refl refl refl,
+        at (codes "oneOf") refl refl refl,
+        at (codes "$ref") refl refl refl,
+        at (codes "not") refl refl refl,
       ) p.alone;
-      type_form = rw (with_null-agree ms p.no_const (codes "type")) (type_plus-form _ p.type_form);
-      no_const = at (codes "const") refl refl ∙ p.no_const;
-      not_form = rw (at (codes "not") refl refl) p.not_form;
+      type_form = rw (with_null-agree ms p.values (codes "type")) (type_plus-form _ p.type_form);
+      values = values-with_null ms p.values;
+      not_form = rw (at (codes "not") refl refl refl) p.not_form;
     }
 
 -- a schema to which null can be added, that combines schemas without a type or is plain
@@ -567,7 +746,8 @@ ready_nullable (array ds) r = absurd r
 
 pub ready-allow_null : (t : Data) → IsReady t → IsReady (allow_null t)
 ready-allow_null (boolean true) r = tt
-ready-allow_null (boolean false) r = inr (record { alone = refl; type_form = refl; no_const = refl; not_form = inl refl })
+ready-allow_null (boolean false) r =
+    inr (record { alone = refl; type_form = refl; values = inl refl; not_form = inl refl })
 ready-allow_null (object ms) r = go (is_null_choice (object ms)) (is_combined (object ms)) refl r
   where
     go : (s o : Bool) → is_combined (object ms) ≡ o → IsReady (object ms)
@@ -604,16 +784,32 @@ kept_enum (Some (number n)) h = refl
 kept_enum (Some (string t)) h = refl
 kept_enum (Some (object ms)) h = refl
 
+kept_const : (o : Option Data) → const_admits_null o ≡ true → const_plus o ≡ o
+unfolding const_plus
+kept_const None h = refl
+kept_const (Some c) h = rw h refl
+
+kept_values : (o values : Option Data) → const_admits_null o ≡ true → enum_admits_null values ≡ true
+    → values_plus o values ≡ values
+unfolding values_plus
+kept_values None values h e = kept_enum values e
+kept_values (Some c) values h e = rw h refl
+
 -- where the type and the values admit null already, nothing changes
-kept : (g : Raw) → is_text (codes "null") (option_and_then as_str (g (codes "type"))) ≡ true → enum_admits_null (g (codes "enum")) ≡ true
-    → (k : Text) → g k ≡ with_both (type_plus (g (codes "type"))) (enum_plus (g (codes "enum"))) g k
-kept g typed admits k = go (bytes_eq k (codes "type")) (bytes_eq k (codes "enum")) refl refl
+kept : (g : Raw) → is_text (codes "null") (option_and_then as_str (g (codes "type"))) ≡ true
+    → const_admits_null (g (codes "const")) ≡ true
+    → enum_admits_null (g (codes "enum")) ≡ true → (k : Text) → g k ≡ nulled g k
+kept g typed admits_const admits k =
+    go (bytes_eq k (codes "type")) (bytes_eq k (codes "const")) (bytes_eq k (codes "enum")) refl refl refl
   where
-    go : (b d : Bool) → bytes_eq k (codes "type") ≡ b → bytes_eq k (codes "enum") ≡ d
-        → g k ≡ (if b then type_plus (g (codes "type")) else (if d then enum_plus (g (codes "enum")) else g k))
-    go true d e h = ap g ((bytes_eq-Decides k (codes "type")).0 e) ∙ sym (kept_type (g (codes "type")) typed)
-    go false true e h = ap g ((bytes_eq-Decides k (codes "enum")).0 h) ∙ sym (kept_enum (g (codes "enum")) admits)
-    go false false e h = refl
+    go : (a b d : Bool) → bytes_eq k (codes "type") ≡ a → bytes_eq k (codes "const") ≡ b → bytes_eq k (codes "enum") ≡ d
+        → g k ≡ (if a then type_plus (g (codes "type")) else if b then const_plus (g (codes "const"))
+        else if d then values_plus (g (codes "const")) (g (codes "enum")) else g k)
+    go true b d p q r = ap g (same_text k (codes "type") p) ∙ sym (kept_type (g (codes "type")) typed)
+    go false true d p q r = ap g (same_text k (codes "const") q) ∙ sym (kept_const (g (codes "const")) admits_const)
+    go false false true p q r = ap g (same_text k (codes "enum") r)
+        ∙ sym (kept_values (g (codes "const")) (g (codes "enum")) admits_const admits)
+    go false false false p q r = refl
 
 -- a plain schema whose type is null, and whose values admit it, accepts it
 plain_null : (ms : Members) → IsPlain ms → is_null_schema (object ms) ≡ true → AcceptsNull (object ms)
@@ -622,9 +818,9 @@ plain_null ms p is patterns f =
     let parts = alone_parts ms p.alone in
     let said = and-parts _ _ is in
     let values = and-parts _ _ said.1 in
-    ap (λ j. j.fits null) (judge-object (c patterns f) ms ∙ says-agree (c patterns f) g (nulled patterns f g)
-    (λ k key. kept g said.0 values.1 k))
-    ∙ null_says patterns f g p.type_form p.no_const p.not_form parts.0 parts.1 parts.2 parts.3
+    ap (λ j. j.fits null) (judge-object (c patterns f) ms ∙ says-agree (c patterns f) g (nulled g)
+    (λ k key. kept g said.0 values.0 values.1 k))
+    ∙ null_says patterns f g p.type_form (one_form ms p.values) p.not_form parts.0 parts.1 parts.2 parts.3
 
 pub ready_null : (t : Data) → IsReady t → is_null_schema t ≡ true → AcceptsNull t
 ready_null (boolean b) r is = absurd (true≢false (sym is))

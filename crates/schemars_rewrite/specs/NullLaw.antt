@@ -6,6 +6,7 @@ use Rattle.schemars_schema.specs.Verdict.{Yes, verdict}
 use Rattle.schemars_json.specs.Json.{Text}
 use Rattle.schemars_schema.specs.SchemaData.{object_of}
 use Rattle.schemars_json.specs.OrderedText.{is_listed}
+use Rattle.schemars_schema.specs.Edits.{without}
 use Rattle.schemars_schema.specs.Acceptance.{Patterns, Judge, Context, draft2020_12, judge, type_names, are_type_names, is_null}
 use Rattle.schemars_rewrite.specs.AllowNull.{is_combined, is_null_choice}
 
@@ -52,11 +53,17 @@ pub record IsChoice (ms : Members) : Type 0 where
   pub combined : is_combined (object ms) ≡ true
   pub offers : is_null_choice (object ms) ≡ true → OffersNull (get_member (codes "anyOf") ms)
 
--- an object that refuses null by its type and its `enum` alone
+-- no `const`, or one whose key stands once, and no `enum` beside it
+abbrev pub HasPlainValues : Members → Type 0
+HasPlainValues ms =
+    (get_member (codes "const") ms ≡ None)
+    ⊎ ((get_member (codes "enum") ms ≡ None) × (get_member (codes "const") (without (codes "const") ms) ≡ None))
+
+-- an object that refuses null by its type and its values alone
 pub record IsPlain (ms : Members) : Type 0 where
   pub alone : is_combined (object ms) ≡ false
   pub type_form : HasTypeForm (get_member (codes "type") ms)
-  pub no_const : get_member (codes "const") ms ≡ None
+  pub values : HasPlainValues ms
   pub not_form : (get_member (codes "not") ms ≡ None) ⊎ (get_member (codes "not") ms ≡ Some zero_schema)
 
 -- the schemas of the shapes so far

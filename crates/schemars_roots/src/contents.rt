@@ -38,7 +38,7 @@ pub struct Contents {
 impl Model for Contents {
     ghost use Rattle.std.specs.Prelude.{◌≡◌};
     ghost use Rattle.std.specs.Coded.{codes};
-    ghost use Rattle.schemars_schema.specs.DataCode.{members_code};
+    ghost use Rattle.schemars_schema.specs.DataCode.{data_code, members_code};
     ghost use Rattle.schemars_headline.specs.State.{work_of};
     ghost use Rattle.schemars_roots.specs.Settings.{Held, held_work};
     ghost use Rattle.schemars_types.specs.Faults.{IsChecked};
@@ -46,7 +46,7 @@ impl Model for Contents {
 
     ghost Value = { Held };
 
-    ghost coded = { Prim.hlevel (codes, members_code) };
+    ghost coded = { Prim.hlevel (codes, data_code, members_code) };
 
     ghost view = { λ c. record {
       rows = c.types;

@@ -7,4 +7,6 @@ pub mod Pointers
 pub mod Placings
 pub mod PlacedFound
 pub mod Switched
+pub mod Literals
 mod AcceptanceExamples
+mod LiteralExamples

@@ -5,6 +5,7 @@ pub mod SchemaData
 pub mod Lookup
 pub mod Acceptance
 pub mod Annotations
+pub mod Literal
 pub mod References
 pub mod Edits
 pub mod Placing

@@ -15,7 +15,8 @@ use Rattle.schemars_shapes.specs.Shape.{Required, Field, Shape, Entry, null, boo
 use Rattle.schemars_shapes.specs.Shape.{text, char, formatted, any, bytes, schema_itself, option, seq, set}
 use Rattle.schemars_shapes.specs.Shape.{array as array_shape, up_to, tuple, struct, newtype}
 use Rattle.schemars_shapes.specs.Shape.{result, bound, range, either, map_from, external}
-use Rattle.schemars_shapes.specs.Shape.{untagged, internal, Payload, Variant, no_payload, newtype_payload, tuple_payload, struct_payload}
+use Rattle.schemars_shapes.specs.Shape.{untagged, internal, literal, Payload, Variant, no_payload, newtype_payload}
+use Rattle.schemars_shapes.specs.Shape.{tuple_payload, struct_payload}
 use Rattle.schemars_shapes.specs.Equality.{bool_eq, required_eq, field_eq, list_eq, payload_eq, variant_eq, variants_eq, shape_eq, entry_eq}
 
 and_left : (a b : Bool) → (a && b) ≡ true → a ≡ true
@@ -165,6 +166,7 @@ same_shape (internal tag closed xs) (internal key sealed ys) h =
     let ends : closed ≡ sealed = same_bool closed sealed (and_left (bool_eq closed sealed) (variants_eq xs ys) rest) in
     let same : xs ≡ ys = same_variants xs ys (and_right (bool_eq closed sealed) (variants_eq xs ys) rest) in
     λ i. internal (tags i) (ends i) (same i)
+same_shape (literal d) (literal e) h = ap literal (same_data d e h)
 same_shape s t h = cc
 
 pub same_entry : (a b : Entry) → entry_eq a b ≡ true → a ≡ b

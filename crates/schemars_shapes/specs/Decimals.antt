@@ -1,7 +1,8 @@
--- Entries without decimals in their notes: numbers that are no 64-bit whole numbers.
+-- Entries without decimals in their notes and literals: numbers that are no 64-bit whole numbers.
 use Rattle.std.specs.Prelude.{List, [], ◌∷◌, Bool, false, ◌||◌}
-use Rattle.serde_json.specs.Written.{members_have_float}
-use Rattle.schemars_shapes.specs.Shape.{Shape, Field, Entry, Payload, Variant, struct, external, untagged, internal, struct_payload}
+use Rattle.serde_json.specs.Written.{has_float, members_have_float}
+use Rattle.schemars_shapes.specs.Shape.{Shape, Field, Entry, Payload, Variant, struct, external, untagged, internal}
+use Rattle.schemars_shapes.specs.Shape.{literal, struct_payload}
 
 abbrev pub fields_have_float : List Field → Bool
 fields_have_float [] = false
@@ -20,6 +21,7 @@ shape_has_float (struct list closed) = fields_have_float list
 shape_has_float (external xs) = variants_have_float xs
 shape_has_float (untagged xs) = variants_have_float xs
 shape_has_float (internal tag closed xs) = variants_have_float xs
+shape_has_float (literal d) = has_float d
 shape_has_float _ = false
 
 abbrev pub entry_has_float : Entry → Bool

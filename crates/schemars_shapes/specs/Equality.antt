@@ -1,11 +1,12 @@
 -- When two shapes are equal, and two entries.
 use Rattle.std.specs.Prelude.{◌==◌, ◌&&◌, List, Bool, true, false, not, if◌then◌else◌, nat_eq, bytes_eq}
 use Rattle.std.specs.Cmp.Lexicographic.{pointwise}
-use Rattle.schemars_json.specs.Json.{members_eq}
+use Rattle.schemars_json.specs.Json.{json_eq, members_eq}
 use Rattle.schemars_shapes.specs.IntKind.{kind_eq}
 use Rattle.schemars_shapes.specs.Shape.{Required, Field, Shape, Entry, null, bool, int, non_zero, number, text, char}
 use Rattle.schemars_shapes.specs.Shape.{formatted, any, bytes, schema_itself, option, seq, set, array, up_to, tuple}
-use Rattle.schemars_shapes.specs.Shape.{struct, newtype, result, bound, range, either, map_from, external, untagged, internal}
+use Rattle.schemars_shapes.specs.Shape.{struct, newtype, result, bound, range, either, map_from, external, untagged}
+use Rattle.schemars_shapes.specs.Shape.{internal, literal}
 use Rattle.schemars_shapes.specs.Shape.{Payload, Variant, no_payload, newtype_payload, tuple_payload, struct_payload}
 
 abbrev pub bool_eq : Bool → Bool → Bool
@@ -14,7 +15,7 @@ bool_eq a b = if a then b else not b
 abbrev pub required_eq : Required → Required → Bool
 required_eq a b = bool_eq a.deserialize b.deserialize && bool_eq a.serialize b.serialize
 
--- notes are compared as JSON values, where a number that is no 64-bit whole number equals nothing
+-- notes and literals are compared as JSON values, where a number that is no 64-bit whole number equals nothing
 abbrev pub field_eq : Field → Field → Bool
 field_eq a b = bytes_eq a.name b.name && (a.ty == b.ty && (required_eq a.required b.required && members_eq a.notes b.notes))
 
@@ -64,6 +65,7 @@ shape_eq (map_from m e) (map_from n f) = (m == n) && (e == f)
 shape_eq (external xs) (external ys) = variants_eq xs ys
 shape_eq (untagged xs) (untagged ys) = variants_eq xs ys
 shape_eq (internal tag closed xs) (internal key sealed ys) = bytes_eq tag key && (bool_eq closed sealed && variants_eq xs ys)
+shape_eq (literal d) (literal e) = json_eq d e
 shape_eq _ _ = false
 
 abbrev pub entry_eq : Entry → Entry → Bool

@@ -1,6 +1,6 @@
 -- What an entry of a table says: a row's shape, whether it is written in place, and its notes.
 use Rattle.std.specs.Prelude.{ℕ, ◌==◌, if◌then◌else◌, List, [], ◌∷◌, ◌++◌, map, Bool, true, Option, Some, None, string_bytes}
-use Rattle.serde_json.specs.Data.{Members, no_members}
+use Rattle.serde_json.specs.Data.{Data, Members, no_members}
 use Rattle.serde_json.specs.View.{members_view}
 use Rattle.schemars_json.specs.Json.{Text}
 use Rattle.schemars_shapes.specs.declared.shape.IntKind.{IntKind}
@@ -43,7 +43,9 @@ pub record Variant : Type 0 where
 
 -- Numbers are those of rows. An array has just so many items, and `up_to` has so many at most. A struct has fields, in order, and may
 -- be closed to other keys. A result has the row of `Ok` first, `either` that of `Left`, and a map that of its keys. The variants of an
--- enum are tagged by their names, or by nothing, or by a member of their own maps; there a unit may be closed to other keys.
+-- enum are tagged by their names, or by nothing, or by a member of their own maps; there a unit may be closed to
+-- other keys. A literal
+-- is given as a schema.
 pub data Shape : Type 0 where
   null : Shape
   bool : Shape
@@ -72,6 +74,7 @@ pub data Shape : Type 0 where
   external : List Variant → Shape
   untagged : List Variant → Shape
   internal : Text → Bool → List Variant → Shape
+  literal : Data → Shape
 
 pub record Entry : Type 0 where
   pub inline : Bool
@@ -137,6 +140,7 @@ shape_of (src.Map key value) = map_from key value
 shape_of (src.External variants) = external (map variant_of variants.items)
 shape_of (src.Untagged variants) = untagged (map variant_of variants.items)
 shape_of (src.Internal x) = internal (internal_view x).0 (internal_view x).1 (internal_view x).2
+shape_of (src.Literal schema) = literal schema
 
 abbrev pub entry_of : src-entry.TypeEntry → Entry
 entry_of e = record { inline = e.inline; notes = members_view e.notes.entries; shape = shape_of e.shape }

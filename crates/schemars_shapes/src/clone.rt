@@ -54,6 +54,7 @@ impl Clone for Shape {
             Shape::External(variants) => Shape::External(copies(variants)?),
             Shape::Untagged(variants) => Shape::Untagged(copies(variants)?),
             Shape::Internal(internal) => Shape::Internal(internal.clone()?),
+            Shape::Literal(schema) => Shape::Literal(schema.clone()?),
         })
     }
 }

@@ -11,7 +11,7 @@ use crate::names::first_repeated;
 use crate::variant::{
     Internal, Variant, first_unknown_in, newtypes_in, numbers_in, repeated_in, variants_equal,
 };
-use schemars_schema::json_eq_members;
+use schemars_schema::{Schema, json_eq, json_eq_members};
 use serde_json::{Map, Value};
 use std::alloc::{AllocError, Global};
 
@@ -175,6 +175,8 @@ pub enum Shape {
     Untagged(Vec<Variant>),
     /// a map with the name of a variant under a tag, and beside it what the variant has
     Internal(Internal),
+    /// a value that this schema accepts
+    Literal(Schema),
 }
 
 /// The fields of a struct.
@@ -280,7 +282,7 @@ impl Shape {
             Shape::Option(_) | Shape::Newtype(_) | Shape::Seq(_) | Shape::Set(_) => Ok(None),
             Shape::Array(..) | Shape::UpTo(..) | Shape::Tuple(_) => Ok(None),
             Shape::Result(..) | Shape::Either(..) | Shape::Bound(_) | Shape::Range(_) => Ok(None),
-            Shape::Map(..) => Ok(None),
+            Shape::Map(..) | Shape::Literal(_) => Ok(None),
         }
     }
 
@@ -315,6 +317,7 @@ impl Shape {
             (Shape::External(a), Shape::External(b)) => variants_equal(a, b),
             (Shape::Untagged(a), Shape::Untagged(b)) => variants_equal(a, b),
             (Shape::Internal(a), Shape::Internal(b)) => a.is_equal(b),
+            (Shape::Literal(a), Shape::Literal(b)) => json_eq(a.as_value(), b.as_value()),
             _ => false,
         }
     }

@@ -1,1 +1,2 @@
 pub mod Templates
+pub mod Literals

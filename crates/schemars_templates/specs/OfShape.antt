@@ -1,7 +1,10 @@
 -- The document of each shape, as a template.
-use Rattle.std.specs.Prelude.{ℕ, zero, suc, List, [], ◌∷◌, ◌++◌, length, map, Bool, true, false, Option, Some, None, if◌then◌else◌, codes}
+use Rattle.std.specs.Prelude.{ℕ, zero, suc, List, [], ◌∷◌, ◌++◌, length, map, filter, Bool, true, false, not, Option}
+use Rattle.std.specs.Prelude.{Some, None}
+use Rattle.std.specs.Prelude.{if◌then◌else◌, codes, bytes_eq}
 use Rattle.serde_json.specs.Data.{Data, boolean, number, unsigned, string, array, Items, item, no_items, Members, no_members, member}
 use Rattle.schemars_json.specs.Json.{Text}
+use Rattle.schemars_schema.specs.SchemaData.{is_schema}
 use Rattle.schemars_rewrite.specs.NullLaw.{text_items}
 use Rattle.schemars_rewrite.specs.Variants.{unit_variant}
 use Rattle.schemars_shapes.specs.Shape as shape
@@ -184,15 +187,29 @@ internal_template contract tag closed (x ∷ xs) = one_of (map (internal_item co
 
 -- ---- maps
 
-abbrev pub pattern_properties_at : Option IntegerKeys → ℕ → List KeywordTemplate
-pattern_properties_at None value = []
-pattern_properties_at (Some keys) value = (codes "patternProperties", object_with ((pattern_of keys, row value) ∷ [])) ∷ []
+-- that of whole numbers first, and once
+abbrev pub all_patterns : Option IntegerKeys → List Text → List Text
+all_patterns None ps = ps
+all_patterns (Some keys) ps = pattern_of keys ∷ filter (λ p. not (bytes_eq p (pattern_of keys))) ps
+
+abbrev pub values_of : ℕ → List Text → List KeywordTemplate
+values_of value ks = map (λ k. (k, row value)) ks
+
+abbrev pub pattern_properties_at : List KeywordTemplate → List KeywordTemplate
+pattern_properties_at [] = []
+pattern_properties_at (e ∷ es) = (codes "patternProperties", object_with (e ∷ es)) ∷ []
 
 -- a map with the keys that are allowed, and values of this row
 abbrev pub values_template : KeyOptions → ℕ → Template
 values_template any_key value = object_with (typed (codes "object") ∷ (codes "additionalProperties", row value) ∷ [])
-values_template (only_keys texts integers) value = object_with (typed (codes "object") ∷ said (codes "additionalProperties") (boolean false)
-    ∷ (pattern_properties_at integers value ++ properties_at (map (λ t. (t, row value)) texts)))
+values_template (only_keys texts integers patterns) value =
+    object_with (typed (codes "object") ∷ said (codes "additionalProperties") (boolean false)
+    ∷ (pattern_properties_at (values_of value (all_patterns integers patterns))
+    ++ properties_at (values_of value texts)))
+
+-- a literal is its own document; each is a schema
+abbrev pub literal_document : Data → Data
+literal_document d = if is_schema d then d else boolean true
 
 -- ---- by shape
 
@@ -224,6 +241,7 @@ template_of basis (shape.map_from key value) = values_template (key_options basi
 template_of basis (shape.external xs) = external_template basis.contract xs
 template_of basis (shape.untagged xs) = untagged_template basis.contract basis.titles xs
 template_of basis (shape.internal tag closed xs) = internal_template basis.contract tag closed xs
+template_of basis (shape.literal d) = finished (literal_document d)
 
 -- a row's document, with its notes
 abbrev pub entry_template : Basis → Entry → Template

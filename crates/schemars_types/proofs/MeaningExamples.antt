@@ -256,3 +256,16 @@ tagged_structs = (refl, refl)
 no_tagged : has Deserialize (shape.internal (codes "t") false []) (object_of (member_of "t" (text "U") ∷ [])) ≡ false
 unfolding has table belongs_within text member_of
 no_tagged = refl
+
+-- ---- literals
+
+of_a : Shape
+of_a = shape.literal (object_of (member_of "type" (text "string") ∷ member_of "maxLength" (whole 1) ∷ []))
+
+short_texts : TellsApart Deserialize of_a (text "a") (text "ab")
+unfolding TellsApart has table belongs_within whole text member_of of_a
+short_texts = (refl, refl)
+
+no_literal : has Deserialize (shape.literal (boolean false)) null ≡ false
+unfolding has table belongs_within
+no_literal = refl

@@ -1,6 +1,5 @@
 -- The faults of a table, which of them is told, and what a table without any offers.
-use Rattle.std.specs.Prelude.{◌<◌, ◌≤◌, ℕ, List, length, IsSome, bytes_eq, string_bytes}
-use Rattle.std.specs.List.{IsDistinct}
+use Rattle.std.specs.Prelude.{◌<◌, ◌≤◌, ℕ, List, length, IsSome, string_bytes}
 use Rattle.schemars_json.specs.Json.{Text}
 use Rattle.schemars_types.specs.Rows.{Row, entry_at}
 pub use Rattle.schemars_rows.specs.Undefined.{IsUndefined}

@@ -2,6 +2,7 @@ pub mod Rows
 pub mod Refusals
 pub mod Names
 pub mod Times
+pub mod Version
 pub mod KeyOptions
 pub mod Meaning
 pub mod Edges

@@ -9,10 +9,11 @@ use Rattle.serde_json.specs.Events.{items_len}
 use Rattle.schemars_json.specs.Json.{Text, are_distinct}
 use Rattle.schemars_schema.specs.SchemaData.{is_schema}
 use Rattle.schemars_schema.specs.Acceptance.{Patterns, is_null, whole_number, code_points}
+use Rattle.schemars_schema.specs.Literal.{has_literal}
 use Rattle.schemars_shapes.specs.Shape.{Required, Field, Shape, null, bool, int, non_zero, number, text, char}
 use Rattle.schemars_shapes.specs.Shape.{formatted, any, bytes, schema_itself, option, seq, set, array as array_shape}
 use Rattle.schemars_shapes.specs.Shape.{up_to, tuple, struct, newtype, result, bound}
-use Rattle.schemars_shapes.specs.Shape.{range, either, map_from, external, untagged, internal, needed}
+use Rattle.schemars_shapes.specs.Shape.{range, either, map_from, external, untagged, internal, literal, needed}
 use Rattle.schemars_shapes.specs.Shape.{Payload, Variant, no_payload, newtype_payload, tuple_payload, struct_payload}
 use Rattle.schemars_types.specs.KeyOptions.{KeyOptions, is_key_allowed, key_options}
 use Rattle.schemars_types.specs.Rows.{Row, entry_at}
@@ -184,6 +185,7 @@ has_shape contract patterns keys part (map_from key value) v = has_keys patterns
 has_shape contract patterns keys part (external xs) v = list_any (has_variant contract part v) xs
 has_shape contract patterns keys part (untagged xs) v = list_any (λ x. has_payload contract part x.payload v) xs
 has_shape contract patterns keys part (internal tag closed xs) v = list_any (has_internal contract part tag closed v) xs
+has_shape contract patterns keys part (literal d) v = has_literal patterns d v
 
 -- row n has the value; a row is asked at most `steps` deep
 unfoldable pub belongs_within : List Row → Contract → Patterns → ℕ → ℕ → Data → Bool

@@ -10,12 +10,14 @@ ghost use Rattle.schemars_shapes.specs.Shape.{Shape as shape, shape_of, in_place
 ghost use Rattle.schemars_shapes.specs.Shape.{field_of, fields_view, needed};
 ghost use Rattle.schemars_types.specs.Rows.{id_at, name_at, unknown_in};
 ghost use Rattle.schemars_types.specs.Refusals.{Registers, Refuses};
+ghost use Rattle.schemars_types.specs.Version.{version_schema};
 ghost use Rattle.schemars_types.specs.Times.{RegistersTime, RefusesTime};
 
 use crate::error::TypesError;
 use crate::table::Types;
+use schemars_schema::Schema;
 use schemars_shapes::{Field, Fields, IntKind, Required, Shape, TypeEntry, TypeNo};
-use serde_json::Map;
+use serde_json::{Map, Value};
 use std::alloc::{AllocError, Global};
 
 /// Rows of common types.
@@ -150,6 +152,24 @@ impl Types {
             "Schema",
             false,
             Shape::SchemaItself,
+        )
+    }
+
+    /// The type of versions, which are texts.
+    pub fn version(&mut self, alloc: Global) -> Result<TypeNo, TypesError>
+        ensures ok { IfOk result (Registers (codes "semver::Version") (codes "SemVer")
+            (without_notes false (shape.literal version_schema)) self.old self.new) }
+        ensures err { OnErr result (self.new ≡ self.old) }
+        ensures refused { IfErr result
+            (Refuses (codes "semver::Version") (without_notes false (shape.literal version_schema)) self.old) }
+    {
+        let schema = version_schema(alloc)?;
+        self.register_named(
+            alloc,
+            "semver::Version",
+            "SemVer",
+            false,
+            Shape::Literal(schema),
         )
     }
 
@@ -542,4 +562,23 @@ fn needed_field(alloc: Global, name: &str, ty: TypeNo) -> Result<Field, AllocErr
         },
         notes: Map::new(alloc),
     })
+}
+
+// Three numbers, behind a `-` parts of a pre-release, and behind a `+` parts of a build.
+const VERSION: &str =
+    "^(0|[1-9]\\d*)\\.(0|[1-9]\\d*)\\.(0|[1-9]\\d*)(?:-((?:0|[1-9]\\d*|\\d*[a-zA-Z-][0-9a-zA-Z-]*)(?:\\.(?:0|[1-9]\\d*|\\d*[a-zA-Z-][0-9a-zA-Z-]*))*))?(?:\\+([0-9a-zA-Z-]+(?:\\.[0-9a-zA-Z-]+)*))?$";
+
+fn version_schema(alloc: Global) -> Result<Schema, AllocError>
+    ensures { IfOk result (λ s. s ≡ version_schema) }
+{
+    let mut schema = Schema::default(alloc);
+    let text = String::from_str(alloc, "string")?;
+    schema.insert(alloc, String::from_str(alloc, "type")?, Value::String(text))?;
+    let pattern = String::from_str(alloc, VERSION)?;
+    schema.insert(
+        alloc,
+        String::from_str(alloc, "pattern")?,
+        Value::String(pattern),
+    )?;
+    Ok(schema)
 }

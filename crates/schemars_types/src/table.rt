@@ -30,11 +30,11 @@ impl Model for Types {
     ghost use Rattle.std.specs.Prelude.{List, map};
     ghost use Rattle.schemars_types.specs.Rows.{Row};
     ghost use Rattle.std.specs.Coded.{codes};
-    ghost use Rattle.schemars_schema.specs.DataCode.{members_code};
+    ghost use Rattle.schemars_schema.specs.DataCode.{data_code, members_code};
 
     ghost Value = { List Row };
 
-    ghost coded = { Prim.hlevel (codes, members_code) };
+    ghost coded = { Prim.hlevel (codes, data_code, members_code) };
 
     ghost use Rattle.schemars_rows.specs.Slots.{row_of};
     ghost use Rattle.schemars_types.specs.Edges.{RefersWithin};

@@ -8,7 +8,8 @@ use Rattle.schemars_shapes.specs.Shape.{entry_of, shape_of, variant_of, payload_
 use Rattle.schemars_types.specs.Rows.{Row, entry_at}
 use Rattle.schemars_types.specs.Edges.{SameValueEdge, rank}
 use Rattle.schemars_types.specs.Faults.{IsChecked}
-use Rattle.schemars_types.specs.KeyOptions.{only_keys, any_key, all_options, shape_options, external_options, untagged_options}
+use Rattle.schemars_types.specs.KeyOptions.{only_keys, any_key, all_options, shape_options, external_options}
+use Rattle.schemars_types.specs.KeyOptions.{untagged_options, literal_options}
 use Rattle.schemars_keys.specs.Found.{options_of, adding, AreAmong, HoldsRows}
 use Rattle.schemars_keys.proofs.Adding.{adding-any, adding-there, among_added, holds_any, holds_met, holds_more, other_shape}
 use Rattle.schemars_keys.proofs.Asked.{asked, newtype_at}
@@ -77,7 +78,7 @@ add_own-returns-in-Int-clause-added t c =
     let o = options_of c.args.found.now.options in
     let own = of_shape c.args.types.now c.requires.checked c.args.n c.in-Some.entry.now c.in-Some.ensures
     (src.Int c.in-Int.kind) c.in-Int.is in
-    c.add_integers.ensures ∙ (ap (λ k. adding o (only_keys [] (Some k))) c.of_kind.ensures ∙ ap (adding o) (sym own))
+    c.add_integers.ensures ∙ (ap (λ k. adding o (only_keys [] (Some k) [])) c.of_kind.ensures ∙ ap (adding o) (sym own))
 
 pub add_own-returns-in-NonZero-clause-added : goal.add_own-returns-in-NonZero-clause-added
 add_own-returns-in-NonZero-clause-added t c =
@@ -120,6 +121,21 @@ add_own-returns-in_ok-add_untagged-in-Untagged-clause-added t c =
     c.in_ok-add_untagged-in-Untagged.ensures.added
     ∙ (ap (λ vs. adding o (untagged_options part (map variant_of vs))) c.deref-in-Untagged.ensures.value ∙ ap (adding o) (sym own))
 
+pub add_own-returns-in_ok-add_literal-in-Literal-clause-added : goal.add_own-returns-in_ok-add_literal-in-Literal-clause-added
+add_own-returns-in_ok-add_literal-in-Literal-clause-added t c =
+    let o = options_of c.args.found.now.options in
+    let own = of_shape c.args.types.now c.requires.checked c.args.n c.in-Some.entry.now c.in-Some.ensures
+    (src.Literal c.in-Literal.schema) c.in-Literal.is in
+    c.in_ok-add_literal-in-Literal.ensures ∙ ap (adding o) (sym own)
+
+pub add_own-returns-in_ok-add_literal-in-Literal-clause-holds : goal.add_own-returns-in_ok-add_literal-in-Literal-clause-holds
+add_own-returns-in_ok-add_literal-in-Literal-clause-holds t c =
+    let rows = c.args.types.now in
+    let met = c.args.found.now.rows.keys in
+    let o = options_of c.args.found.now.options in
+    subst (HoldsRows rows met) (sym c.in_ok-add_literal-in-Literal.ensures)
+    (holds_more rows met o (literal_options c.in-Literal.schema) c.requires.holds)
+
 pub add_own-returns-in_default-shape : goal.add_own-returns-in_default-shape
 add_own-returns-in_default-shape t c =
     let rows = c.args.types.now in
@@ -127,7 +143,8 @@ add_own-returns-in_default-shape t c =
     let e = c.in-Some.entry.now in
     let other = c.in_default-shape in
     let own : all_options rows c.args.n ≡ any_key = of_shape rows c.requires.checked c.args.n e c.in-Some.ensures e.shape refl
-    ∙ other_shape (all_options rows) e.shape other.not-Int other.not-NonZero other.not-Newtype other.not-External other.not-Untagged in
+    ∙ other_shape (all_options rows) e.shape other.not-Int other.not-NonZero other.not-Newtype other.not-External
+    other.not-Untagged other.not-Literal in
     let any = c.allow_any-in_default-shape.ensures in
     record {
       added = any ∙ (sym (adding-any o) ∙ ap (adding o) (sym own));

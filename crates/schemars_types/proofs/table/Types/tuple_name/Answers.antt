@@ -1,4 +1,4 @@
-use Rattle.std.proofs.Common.{◌≡◌, ◌++◌, ◌∙◌, [], List, map, drop, ap, sym, subst, append-nil, IfOk, string_bytes, rules, codes}
+use Rattle.std.proofs.Common.{◌≡◌, ◌++◌, ◌∙◌, [], map, drop, ap, sym, subst, append-nil, IfOk, string_bytes, rules, codes}
 use Rattle.std.specs.List.{join_by}
 use Rattle.std.proofs.lemmas.List.{drop_all}
 use Rattle.schemars_json.specs.Json.{Text}
