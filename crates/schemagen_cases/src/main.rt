@@ -16,11 +16,14 @@ use crate::cases::{Asked, work_cases};
 use std::{fs, io};
 
 // The files, and whom their cases ask.
-const FILES: [(&str, Asked); 7] = [
+const FILES: [(&str, Asked); 10] = [
     ("rows.tsv", Asked::Program),
     ("structs.tsv", Asked::Program),
     ("enums.tsv", Asked::Program),
     ("inline.tsv", Asked::Program),
+    ("literals.tsv", Asked::Program),
+    ("corners.tsv", Asked::Program),
+    ("upstream.tsv", Asked::Program),
     ("damaged.tsv", Asked::Program),
     ("calls.tsv", Asked::Libraries),
     ("transforms.tsv", Asked::Libraries),
