@@ -16,12 +16,13 @@ use crate::cases::{Asked, work_cases};
 use std::{fs, io};
 
 // The files, and whom their cases ask.
-const FILES: [(&str, Asked); 10] = [
+const FILES: [(&str, Asked); 11] = [
     ("rows.tsv", Asked::Program),
     ("structs.tsv", Asked::Program),
     ("enums.tsv", Asked::Program),
     ("inline.tsv", Asked::Program),
     ("literals.tsv", Asked::Program),
+    ("flattened.tsv", Asked::Program),
     ("corners.tsv", Asked::Program),
     ("upstream.tsv", Asked::Program),
     ("damaged.tsv", Asked::Program),

@@ -8,7 +8,7 @@ use Rattle.schemars_json.specs.Json.{Text}
 use Rattle.schemars_json.specs.OrderedText.{is_listed}
 use Rattle.schemars_shapes.specs.declared.shape.IntKind.{IntKind}
 use Rattle.schemars_shapes.specs.declared.shape.IntKind.TheVariants.{I8, I16, I32, I64, I128, Isize, U8, U16, U32, U64, U128, Usize}
-use Rattle.schemars_shapes.specs.Shape.{Required, Field, Payload, Variant, Shape, no_payload, newtype_payload, tuple_payload}
+use Rattle.schemars_shapes.specs.Shape.{Required, Field, Flattened, Fields, Payload, Variant, Shape, no_payload, newtype_payload, tuple_payload}
 use Rattle.schemars_shapes.specs.Shape.{struct_payload, struct, external, untagged, internal}
 
 -- ---- the members of an object
@@ -96,15 +96,35 @@ fields_in (item d ds) = option_and_then (λ f. option_map (λ fs. f ∷ fs) (fie
 abbrev pub list_in : Data → Option (List Field)
 list_in d = optional [] (λ e. option_and_then fields_in (as_array e)) (codes "fields") d
 
--- the fields, and whether other keys are excluded
-abbrev pub fields_said : Data → Option (List Field × Bool)
-fields_said d =
-    if has_only (codes "fields" ∷ codes "closed" ∷ []) d
-    then option_and_then (λ fields. option_map (λ closed. (fields, closed)) (optional false as_bool (codes "closed") d)) (list_in d)
-    else None
+-- a row whose members are known by name
+abbrev pub flattened_of_members : Data → Option Flattened
+flattened_of_members d =
+    option_and_then (λ ty. option_map (λ need. record { ty = ty; required = need })
+    (optional (required true true) required_in (codes "required") d)) (needed number_in (codes "type") d)
+
+-- a row whose members stand in the map itself
+abbrev pub flattened_in : Data → Option Flattened
+flattened_in d = if has_only (codes "type" ∷ codes "required" ∷ []) d then flattened_of_members d else None
+
+abbrev pub all_flattened_in : Items → Option (List Flattened)
+all_flattened_in no_items = Some []
+all_flattened_in (item d ds) = option_and_then (λ p. option_map (λ ps. p ∷ ps) (all_flattened_in ds)) (flattened_in d)
+
+-- the rows flattened into a struct: none where they are missing
+abbrev pub flatten_in : Data → Option (List Flattened)
+flatten_in d = optional [] (λ e. option_and_then all_flattened_in (as_array e)) (codes "flatten") d
+
+-- the fields, the rows that are flattened, and whether other keys are excluded
+abbrev pub fields_of_members : Data → Option Fields
+fields_of_members d =
+    option_and_then (λ closed. option_and_then (λ list. option_map (λ flatten. record { list = list; flatten = flatten; closed = closed })
+    (flatten_in d)) (list_in d)) (optional false as_bool (codes "closed") d)
+
+abbrev pub fields_said : Data → Option Fields
+fields_said d = if has_only (codes "fields" ∷ codes "flatten" ∷ codes "closed" ∷ []) d then fields_of_members d else None
 
 abbrev pub struct_in : Data → Option Shape
-struct_in d = option_map (λ p. struct p.0 p.1) (fields_said d)
+struct_in d = option_map struct (fields_said d)
 
 -- ---- lists of rows
 
@@ -126,7 +146,7 @@ abbrev pub payload_under : Text → Data → Option Payload
 payload_under name d =
     if bytes_eq name (codes "newtype") then option_map newtype_payload (number_in d) else
     (if bytes_eq name (codes "tuple") then option_map tuple_payload (parts_in d)
-    else (if bytes_eq name (codes "struct") then option_map (λ p. struct_payload p.0 p.1) (fields_said d) else None))
+    else (if bytes_eq name (codes "struct") then option_map struct_payload (fields_said d) else None))
 
 abbrev pub payload_in : Data → Option Payload
 payload_in null = None
@@ -165,12 +185,12 @@ external_in d = option_map external (enum_in d)
 abbrev pub untagged_in : Data → Option Shape
 untagged_in d = option_map untagged (enum_in d)
 
--- beside a tag stand fields or nothing
+-- beside a tag stand fields, the members of a row, or nothing
 abbrev pub payload_inside : Payload → Option Payload
 payload_inside no_payload = Some no_payload
-payload_inside (newtype_payload n) = None
+payload_inside (newtype_payload n) = Some (newtype_payload n)
 payload_inside (tuple_payload ns) = None
-payload_inside (struct_payload fields closed) = Some (struct_payload fields closed)
+payload_inside (struct_payload x) = Some (struct_payload x)
 
 abbrev pub variant_inside : Variant → Option Variant
 variant_inside x = option_map (λ payload. record { name = x.name; payload = payload; notes = x.notes }) (payload_inside x.payload)

@@ -1,13 +1,13 @@
 //! Fields of structs.
 ghost use Rattle.std.specs.Prelude.{◌≡◌, true, None, Some, IfOk, IfErr, option_map, map, codes};
 ghost use Rattle.serde_json.specs.View.{view, items_view};
-ghost use Rattle.schemars_shapes.specs.Shape.{shape_of, field_of, fields_view, required_of};
+ghost use Rattle.schemars_shapes.specs.Shape.{shape_of, field_of, flattened_of, fields_of, required_of};
 ghost use Rattle.schemagen_forms.specs.Forms.{required, required_each, required_in, field_in, fields_in, list_in, fields_said, struct_in};
-ghost use Rattle.schemagen_forms.specs.Forms.{optional};
+ghost use Rattle.schemagen_forms.specs.Forms.{optional, flattened_in, all_flattened_in, flatten_in};
 
 use crate::error::InputError;
 use crate::members::{flag_in, has_only, notes_in, number_of, text_in};
-use schemars_types::{Field, Fields, Required, Shape};
+use schemars_types::{Field, Fields, Flattened, Required, Shape};
 use serde_json::Value;
 use std::alloc::Global;
 
@@ -105,19 +105,64 @@ fn list_in(alloc: Global, value: &Value) -> Result<Vec<Field>, InputError>
     }
 }
 
-/// The fields of a struct, and whether other keys are excluded.
+fn flattened_in(value: &Value) -> Option<Flattened>
+    ensures { option_map flattened_of result ≡ flattened_in (view value.now) }
+{
+    if !has_only(value, &["type", "required"]) {
+        return None;
+    }
+    let ty = number_of(value, "type")?;
+    let required = need_in(value)?;
+    Some(Flattened { ty, required })
+}
+
+fn all_flattened_in(alloc: Global, values: &[Value]) -> Result<Vec<Flattened>, InputError>
+    ensures ok { IfOk result (λ v. all_flattened_in (items_view values.now) ≡ Some (map flattened_of v.items)) }
+    ensures bad { IfErr result
+        (λ e. e ≡ InputError.BadTable → all_flattened_in (items_view values.now) ≡ None) }
+{
+    let mut rows = Vec::new(alloc);
+    for value in values {
+        let Some(row) = flattened_in(value) else {
+            return Err(InputError::BadTable);
+        };
+        rows.push(row)?;
+    }
+    Ok(rows)
+}
+
+// The rows flattened into a struct; there are none where they are missing.
+fn flatten_in(alloc: Global, value: &Value) -> Result<Vec<Flattened>, InputError>
+    ensures ok { IfOk result (λ v. flatten_in (view value.now) ≡ Some (map flattened_of v.items)) }
+    ensures bad { IfErr result (λ e. e ≡ InputError.BadTable → flatten_in (view value.now) ≡ None) }
+{
+    let Some(rows) = value.get("flatten") else {
+        return Ok(Vec::new(alloc));
+    };
+    match rows.as_array() {
+        Some(values) => all_flattened_in(alloc, values),
+        None => Err(InputError::BadTable),
+    }
+}
+
+/// The fields of a struct, the rows flattened into it, and whether other keys are excluded.
 pub fn fields_said(alloc: Global, value: &Value) -> Result<Fields, InputError>
-    ensures ok { IfOk result (λ f. fields_said (view value.now) ≡ Some (fields_view f)) }
+    ensures ok { IfOk result (λ f. fields_said (view value.now) ≡ Some (fields_of f)) }
     ensures bad { IfErr result (λ e. e ≡ InputError.BadTable → fields_said (view value.now) ≡ None) }
 {
-    if !has_only(value, &["fields", "closed"]) {
+    if !has_only(value, &["fields", "flatten", "closed"]) {
         return Err(InputError::BadTable);
     }
     let Some(closed) = flag_in(value, "closed") else {
         return Err(InputError::BadTable);
     };
     let list = list_in(alloc, value)?;
-    Ok(Fields { list, closed })
+    let flatten = flatten_in(alloc, value)?;
+    Ok(Fields {
+        list,
+        flatten,
+        closed,
+    })
 }
 
 /// A struct.

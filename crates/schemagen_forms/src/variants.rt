@@ -149,13 +149,13 @@ fn payload_inside(payload: Payload) -> Option<InternalPayload>
 {
     match payload {
         Payload::Unit => Some(InternalPayload::Unit),
-        Payload::Newtype(_) => None,
+        Payload::Newtype(n) => Some(InternalPayload::Newtype(n)),
         Payload::Tuple(_) => None,
         Payload::Struct(fields) => Some(InternalPayload::Struct(fields)),
     }
 }
 
-// A variant that has fields or nothing beside its tag.
+// A variant that has fields, the members of a row, or nothing beside its tag.
 fn variant_inside(variant: Variant) -> Option<InternalVariant>
     ensures { option_map internal_variant_of result ≡ variant_inside (variant_of variant) }
 {

@@ -6,7 +6,7 @@ use Rattle.schemars_json.specs.Json.{Text}
 use Rattle.serde_json.specs.Data.{null, boolean, number, unsigned, string, array, no_items, item}
 use Rattle.serde_json.specs.Data.{Members, no_members, member}
 use Rattle.schemars_shapes.specs.declared.shape.IntKind.TheVariants.{U8, I32, I128}
-use Rattle.schemars_shapes.specs.Shape.{Shape, Field, Required, without_notes, in_place, int, non_zero}
+use Rattle.schemars_shapes.specs.Shape.{Shape, Field, Flattened, Fields, Required, bare_fields, without_notes, in_place, int, non_zero}
 use Rattle.schemars_shapes.specs.Shape.{formatted, char, any}
 use Rattle.schemars_shapes.specs.Shape.{option, seq, struct, external, untagged, internal, Payload, Variant, no_payload, newtype_payload}
 use Rattle.schemars_shapes.specs.Shape.{tuple_payload, struct_payload}
@@ -69,7 +69,7 @@ node : said
     (codes "{\"types\":[{\"id\":\"int32\",\"name\":\"int32\",\"inline\":true,\"shape\":{\"int\":\"i32\"}},{\"id\":\"Node\",\"name\":\"Node\",\"shape\":{\"struct\":{\"fields\":[{\"name\":\"value\",\"type\":0,\"required\":true},{\"name\":\"next\",\"type\":2,\"required\":false}]}}},{\"id\":\"Option<Node>\",\"name\":\"Nullable_Node\",\"inline\":true,\"shape\":{\"option\":1}}],\"root\":1}")
     ≡ Some (
       row (codes "int32") (codes "int32") (int I32) ∷ named (codes "Node")
-          (struct (field (codes "value") 0 (required true true) ∷ field (codes "next") 2 (required false false) ∷ []) false)
+          (struct (bare_fields (field (codes "value") 0 (required true true) ∷ field (codes "next") 2 (required false false) ∷ []) false))
           ∷ row (codes "Option<Node>") (codes "Nullable_Node") (option 1) ∷ [],
       1,
     )
@@ -80,7 +80,7 @@ node = refl
 required_by_contract : said
     (codes "{\"types\":[{\"id\":\"a\",\"name\":\"a\",\"shape\":{\"struct\":{\"closed\":true,\"fields\":[{\"type\":0,\"name\":\"b\"},{\"name\":\"b\",\"type\":0,\"notes\":{},\"required\":{\"serialize\":true,\"deserialize\":false}}]}}}],\"root\":0}")
     ≡ Some (
-      named (codes "a") (struct (field (codes "b") 0 (required true true) ∷ field (codes "b") 0 (required false true) ∷ []) true)
+      named (codes "a") (struct (bare_fields (field (codes "b") 0 (required true true) ∷ field (codes "b") 0 (required false true) ∷ []) true))
           ∷ [],
       0,
     )
@@ -88,9 +88,35 @@ unfolding serde_json_on_literals said named field
 required_by_contract = refl
 
 no_fields : said (codes "{\"types\":[{\"id\":\"a\",\"name\":\"a\",\"shape\":{\"struct\":{}}}],\"root\":0}")
-    ≡ Some (named (codes "a") (struct [] false) ∷ [], 0)
+    ≡ Some (named (codes "a") (struct (bare_fields [] false)) ∷ [], 0)
 unfolding serde_json_on_literals said named
 no_fields = refl
+
+-- rows that are flattened; what is said of a field under `required` is said of them too
+flattening : List Flattened → Fields
+flattening rows = record { list = []; flatten = rows; closed = false }
+
+flattened_row : ℕ → Required → Flattened
+flattened_row n need = record { ty = n; required = need }
+
+flattened_rows : said
+    (codes "{\"types\":[{\"id\":\"a\",\"name\":\"a\",\"shape\":{\"struct\":{\"flatten\":[{\"type\":0},{\"type\":0,\"required\":{\"deserialize\":false,\"serialize\":true}}]}}}],\"root\":0}")
+    ≡ Some (
+      named (codes "a") (struct (flattening (flattened_row 0 (required true true) ∷ flattened_row 0 (required false true) ∷ []))) ∷ [],
+      0,
+    )
+unfolding serde_json_on_literals said named flattening flattened_row
+flattened_rows = refl
+
+flattened_by_name : said
+    (codes "{\"types\":[{\"id\":\"a\",\"name\":\"a\",\"shape\":{\"struct\":{\"flatten\":[{\"name\":\"b\",\"type\":0}]}}}],\"root\":0}") ≡ None
+unfolding serde_json_on_literals said
+flattened_by_name = refl
+
+flattened_unknown : said
+    (codes "{\"types\":[{\"id\":\"a\",\"name\":\"a\",\"shape\":{\"struct\":{\"flatten\":[{\"type\":1}]}}}],\"root\":0}") ≡ None
+unfolding serde_json_on_literals said
+flattened_unknown = refl
 
 -- a row may refer to itself, and to a later one
 any_row : said
@@ -111,7 +137,7 @@ other_payloads : said
     ≡ Some (
       named (codes "E") (untagged (
           variant (codes "A") no_payload ∷ variant (codes "B") (tuple_payload (0 ∷ 0 ∷ []))
-          ∷ variant (codes "C") (struct_payload (field (codes "b") 0 (required true true) ∷ []) true) ∷ [])) ∷ [],
+          ∷ variant (codes "C") (struct_payload (bare_fields (field (codes "b") 0 (required true true) ∷ []) true)) ∷ [])) ∷ [],
       0,
     )
 unfolding serde_json_on_literals said named field variant
@@ -128,7 +154,7 @@ tagged_variants : said
     ≡ Some (
       named (codes "E") (internal (codes "t") false (
           variant (codes "A") no_payload
-          ∷ variant (codes "B") (struct_payload (field (codes "b") 0 (required true true) ∷ []) true) ∷ [])) ∷ [],
+          ∷ variant (codes "B") (struct_payload (bare_fields (field (codes "b") 0 (required true true) ∷ []) true)) ∷ [])) ∷ [],
       0,
     )
 unfolding serde_json_on_literals said named field variant
@@ -146,8 +172,9 @@ unfolding serde_json_on_literals said
 tagged_without_a_tag = refl
 
 tagged_newtype : said
-    (codes "{\"types\":[{\"id\":\"E\",\"name\":\"E\",\"shape\":{\"internal\":{\"tag\":\"t\",\"variants\":[{\"name\":\"A\",\"payload\":{\"newtype\":0}}]}}}],\"root\":0}") ≡ None
-unfolding serde_json_on_literals said
+    (codes "{\"types\":[{\"id\":\"E\",\"name\":\"E\",\"shape\":{\"internal\":{\"tag\":\"t\",\"variants\":[{\"name\":\"A\",\"payload\":{\"newtype\":0}}]}}}],\"root\":0}")
+    ≡ Some (named (codes "E") (internal (codes "t") false (variant (codes "A") (newtype_payload 0) ∷ [])) ∷ [], 0)
+unfolding serde_json_on_literals said named variant
 tagged_newtype = refl
 
 tagged_tuple : said
@@ -173,7 +200,7 @@ variant_with_notes = refl
 
 field_of_a_variant_with_notes : said
     (codes "{\"types\":[{\"id\":\"E\",\"name\":\"E\",\"shape\":{\"untagged\":{\"variants\":[{\"name\":\"A\",\"payload\":{\"struct\":{\"fields\":[{\"name\":\"b\",\"type\":0,\"notes\":{\"title\":\"t\"}}]}}}]}}}],\"root\":0}")
-    ≡ Some (named (codes "E") (untagged (variant (codes "A") (struct_payload (noted_field ∷ []) false) ∷ [])) ∷ [], 0)
+    ≡ Some (named (codes "E") (untagged (variant (codes "A") (struct_payload (bare_fields (noted_field ∷ []) false)) ∷ [])) ∷ [], 0)
 unfolding serde_json_on_literals said named variant noted_field titled
 field_of_a_variant_with_notes = refl
 
@@ -206,7 +233,7 @@ field_of_no_row = refl
 
 field_with_notes : said
     (codes "{\"types\":[{\"id\":\"a\",\"name\":\"a\",\"shape\":{\"struct\":{\"fields\":[{\"name\":\"b\",\"type\":0,\"notes\":{\"title\":\"t\"}}]}}}],\"root\":0}")
-    ≡ Some (named (codes "a") (struct (noted_field ∷ []) false) ∷ [], 0)
+    ≡ Some (named (codes "a") (struct (bare_fields (noted_field ∷ []) false)) ∷ [], 0)
 unfolding serde_json_on_literals said named noted_field titled
 field_with_notes = refl
 
@@ -215,10 +242,11 @@ notes_of_a_field_as_a_text : said
 unfolding serde_json_on_literals said
 notes_of_a_field_as_a_text = refl
 
-with_flatten : said
-    (codes "{\"types\":[{\"id\":\"a\",\"name\":\"a\",\"shape\":{\"struct\":{\"fields\":[],\"flatten\":[]}}}],\"root\":0}") ≡ None
-unfolding serde_json_on_literals said
-with_flatten = refl
+no_flattened_row : said
+    (codes "{\"types\":[{\"id\":\"a\",\"name\":\"a\",\"shape\":{\"struct\":{\"fields\":[],\"flatten\":[]}}}],\"root\":0}")
+    ≡ Some (named (codes "a") (struct (bare_fields [] false)) ∷ [], 0)
+unfolding serde_json_on_literals said named
+no_flattened_row = refl
 
 no_rows : said (codes "{\"types\":[],\"root\":0}") ≡ None
 unfolding serde_json_on_literals said

@@ -1,33 +1,27 @@
--- How the document of a row is built from its parts.
-use Rattle.std.proofs.Common.{◌≡◌, ℕ, List, [], ◌∷◌, ◌++◌, Bool, true, not, Option, Some, refl, ap, sym, ◌∙◌, subst}
-use Rattle.std.proofs.Common.{append_assoc, All, inr}
+-- How the document of a row is built from what is answered in it.
+use Rattle.std.proofs.Common.{◌≡◌, ◌<◌, ℕ, zero, suc, List, [], ◌∷◌, ◌++◌, length, get_or, Bool, true, false, not, Some, inl, inr, refl}
+use Rattle.std.proofs.Common.{ap, sym, ◌∙◌, subst, append_assoc, All, arith}
+use Rattle.std.specs.Prelude.{◌||◌}
 use Rattle.std.proofs.lemmas.List.Elements.{Contains-append_right}
 use Rattle.serde_json.specs.Data.{Data}
-use Rattle.schemars_schema.specs.SchemaData.{IsSchema}
 use Rattle.schemars_schema.specs.References.{references}
 use Rattle.schemars_shapes.specs.Shape.{Entry}
 use Rattle.schemars_types.specs.Rows.{entry_at}
-use Rattle.schemars_types.specs.Faults.{IsChecked}
-use Rattle.schemars_templates.specs.Template.{rows_of, filled}
-use Rattle.schemars_templates.specs.OfShape.{entry_template}
-use Rattle.schemars_templates.specs.Describes.{ArePartsWritten, references_of}
-use Rattle.schemars_documents.specs.PlainTable.{IsPlainEntry}
+use Rattle.schemars_types.specs.Edges.{is_inline_at}
+use Rattle.schemars_parts.specs.Opening.{opened_inside, stands_in_place}
+use Rattle.schemars_templates.specs.Template.{Ask, part, members_of, content}
+use Rattle.schemars_templates.specs.Describes.{AreAnswered, references_of}
 use Rattle.schemars_meaning.proofs.ReferencesKept.{Among, among_left}
-use Rattle.schemars_meaning.proofs.References.{parts_among, filled_schema}
-use Rattle.schemars_meaning.proofs.Rows.{all_rows}
-use Rattle.schemars_meaning.proofs.Schemas.{written_schema, parts_schemas, parts_counted}
-use Rattle.schemars_naming.specs.Placed.{pending_in, is_in_place, IsPlaced, IsDocument}
+use Rattle.schemars_naming.specs.Placed.{pending_in, is_in_place, IsPlaced, IsFilled, IsDocument}
 use Rattle.schemars_naming.specs.Work.{Plan, Work, Refers, Step, basis_of}
-use Rattle.schemars_build.specs.Missing.{StandsIn}
-use Rattle.schemars_build.specs.Parts.{IsSubschema, IsPart, AreParts, IsOwn}
-use Rattle.schemars_build.proofs.Placing.{placed_map, document-wider, placed_written, document_of_parts}
-use Rattle.schemars_build.proofs.Descending.{stands}
+use Rattle.schemars_build.specs.Parts.{IsSubschema, IsFilledOf, IsSaid, IsPlainAsk, IsPart, IsAnswer, AreAnswers, IsFilledIn, IsOwn}
+use Rattle.schemars_meaning.proofs.Mapping.{answered_map}
+use Rattle.schemars_build.proofs.Placing.{Always, placed_map, filled-wider, document-wider}
 use Rattle.schemars_build.proofs.Steps.{step_wider, refers-wider}
-use Rattle.schemars_build.proofs.Reaching.{reached_more, reached_trans, reached_entered, nothing_added}
+use Rattle.schemars_build.proofs.Reaching.{reached_trans, reached_entered, nothing_added}
 
--- ---- parts
+-- ---- where more names and definitions are there
 
--- where more names and definitions are there
 subschema-wider : (plan : Plan) (free : Bool) (old new : Work) → Step plan old new → (m : ℕ) (t : Data)
     → IsSubschema plan free old m t → IsSubschema plan free new m t
 subschema-wider plan free old new step m t is =
@@ -39,11 +33,27 @@ subschema-wider plan free old new step m t is =
     (IsDocument (basis_of plan) plan.inlines (Refers plan free new) old.pending) wider
     (document-wider (basis_of plan) plan.inlines (Refers plan free old) (Refers plan free new) wider old.pending) m t is)
 
-parts_joined : (W V : ℕ → Data → Type 0) → ((j : ℕ) (t : Data) → W j t → V j t) → (ms : List ℕ) (ts : List Data) (n : ℕ) (t : Data)
-    → ArePartsWritten W ms ts → V n t → ArePartsWritten V (ms ++ n ∷ []) (ts ++ t ∷ [])
-parts_joined W V more [] ts n t h w = rw h (w, refl)
-parts_joined W V more (m ∷ ms) [] n t h w = absurd h
-parts_joined W V more (m ∷ ms) (u ∷ us) n t h w = (more m u h.0, parts_joined W V more ms us n t h.1 w)
+pub filled-step : (plan : Plan) (free : Bool) (old new : Work) → Step plan old new → (n : ℕ) (t : Data)
+    → IsFilledOf plan free old old.pending n t → IsFilledOf plan free new new.pending n t
+filled-step plan free old new step n t is =
+    let wider = refers-wider plan free old new (step_wider plan old new step) in
+    let P : List ℕ → Type 0 = λ p. IsFilled (basis_of plan) plan.inlines (Refers plan free new) p n t in
+    subst P (sym step.still_pending)
+    (filled-wider (basis_of plan) plan.inlines (Refers plan free old) (Refers plan free new) wider old.pending n t is)
+
+said-wider : (plan : Plan) (free : Bool) (old new : Work) → Step plan old new → (a : Ask) (t : Data) → IsSaid plan free old a t
+    → IsSaid plan free new a t
+said-wider plan free old new step = answered_map plan.rows (Always plan.rows plan.inlines) (Always plan.rows plan.inlines)
+    (IsSubschema plan free old) (IsSubschema plan free new) (IsFilledOf plan free old old.pending) (IsFilledOf plan free new new.pending)
+    (λ j b is. is) (subschema-wider plan free old new step) (filled-step plan free old new step)
+
+-- ---- several answers
+
+answers_joined : (A B : Ask → Data → Type 0) → ((a : Ask) (t : Data) → A a t → B a t) → (asks : List Ask) (ts : List Data) (a : Ask)
+    (t : Data) → AreAnswered A asks ts → B a t → AreAnswered B (asks ++ a ∷ []) (ts ++ t ∷ [])
+answers_joined A B more [] ts a t h w = rw h (w, refl)
+answers_joined A B more (b ∷ asks) [] a t h w = absurd h
+answers_joined A B more (b ∷ asks) (u ∷ us) a t h w = (more b u h.0, answers_joined A B more asks us a t h.1 w)
 
 references_joined : (ts : List Data) (t : Data) → references_of (ts ++ t ∷ []) ≡ references_of ts ++ (references t ++ [])
 references_joined [] t = refl
@@ -59,56 +69,70 @@ has ts t = let P : List Data → Type 0 = λ xs. Among (references t) xs in
     subst P (sym (references_joined ts t)) (λ x h. Contains-append_right (references_of ts) (references t ++ []) x
     (among_left (references t) [] x h))
 
-pub no_parts : (plan : Plan) (inside : Bool) (w : Work) → AreParts plan inside w w [] []
-no_parts plan inside w = record { written = refl; reached = λ plain. nothing_added plan inside w [] }
+all_more : {X : Type 0} (P : X → Type 0) (x : X) (xs : List X) → P x → All P xs → All P (x ∷ xs)
+all_more P x xs first rest zero d less = first
+all_more P x xs first rest (suc k) d less = rest k d (omega (arith, less))
 
--- one part more
-pub parts_more : (plan : Plan) (inside : Bool) (start old new : Work) (ms : List ℕ) (ts : List Data) (m : ℕ) (t : Data)
-    → Step plan start old → Step plan old new → AreParts plan inside start old ms ts → IsPart plan inside old new m t
-    → AreParts plan inside start new (ms ++ m ∷ []) (ts ++ t ∷ [])
-parts_more plan inside start old new ms ts m t before step all one = record {
-  written = parts_joined (IsSubschema plan (not inside) old) (IsSubschema plan (not inside) new)
-      (subschema-wider plan (not inside) old new step) ms ts m t all.written one.written;
-  reached = λ plain. reached_trans plan inside start old new (references_of ts) (references t) (references_of (ts ++ t ∷ [])) before step
-      (kept ts t) (has ts t) (all.reached plain) (one.reached plain);
+-- what holds of each holds of the first ones, and of the last
+first_ones : {X : Type 0} (P : X → Type 0) (xs : List X) (x : X) → All P (xs ++ x ∷ []) → All P xs
+first_ones P [] x h = λ k d less. absurd (omega (arith, less))
+first_ones P (y ∷ xs) x h = all_more P y xs (h zero y (omega arith)) (first_ones P xs x (λ k d less. h (suc k) d (omega (arith, less))))
+
+last_one : {X : Type 0} (P : X → Type 0) (xs : List X) (x : X) → All P (xs ++ x ∷ []) → P x
+last_one P [] x h = h zero x (omega arith)
+last_one P (y ∷ xs) x h = last_one P xs x (λ k d less. h (suc k) d (omega (arith, less)))
+
+pub no_answers : (plan : Plan) (inside : Bool) (w : Work) → AreAnswers plan inside w w [] []
+no_answers plan inside w = record { said = refl; reached = λ all plain. nothing_added plan inside w [] }
+
+-- one answer more
+pub answers_more : (plan : Plan) (inside : Bool) (start old new : Work) (asks : List Ask) (ts : List Data) (a : Ask) (t : Data)
+    → Step plan start old → Step plan old new → AreAnswers plan inside start old asks ts → IsAnswer plan inside old new a t
+    → AreAnswers plan inside start new (asks ++ a ∷ []) (ts ++ t ∷ [])
+answers_more plan inside start old new asks ts a t before step all one = record {
+  said = answers_joined (IsSaid plan (not inside) old) (IsSaid plan (not inside) new)
+      (said-wider plan (not inside) old new step) asks ts a t all.said one.said;
+  reached = λ are plain. reached_trans plan inside start old new (references_of ts) (references t) (references_of (ts ++ t ∷ [])) before
+      step (kept ts t) (has ts t) (all.reached (first_ones (IsPlainAsk plan.rows) asks a are) plain)
+      (one.reached (last_one (IsPlainAsk plan.rows) asks a are) plain);
+}
+
+-- ---- one answer
+
+pub part_answer : (plan : Plan) (inside : Bool) (old new : Work) (n : ℕ) (s : Data) → IsPart plan inside old new n s
+    → IsAnswer plan inside old new (part n) s
+part_answer plan inside old new n s h = record { said = h.written; reached = λ ok. h.reached }
+
+-- the content of a tagged variant, where it stands in place
+pub content_answer : (plan : Plan) (inside : Bool) (old new : Work) (n : ℕ) (b : Bool) (d s : Data)
+    → b ≡ (is_inline_at plan.rows n || plan.inlines) → IsFilledIn plan inside old new n d → stands_in_place b d ≡ true
+    → s ≡ opened_inside d → IsAnswer plan inside old new (content n) s
+content_answer plan inside old new n b d s place filled stands is = record {
+  said = (b, place, (d, filled.document, inl (stands, is)));
+  reached = λ no. absurd no;
+}
+
+-- and where it does not
+pub content_referred : (plan : Plan) (inside : Bool) (old mid new : Work) (n : ℕ) (b : Bool) (d s : Data)
+    → b ≡ (is_inline_at plan.rows n || plan.inlines) → Step plan mid new → IsFilledIn plan inside old mid n d
+    → stands_in_place b d ≡ false → IsPart plan inside mid new n s → IsAnswer plan inside old new (content n) s
+content_referred plan inside old mid new n b d s place step filled stands one = record {
+  said = (b, place, (d, filled-step plan (not inside) mid new step n d filled.document, inr (stands, one.written)));
+  reached = λ no. absurd no;
 }
 
 -- ---- the whole document
 
-part_schema : (plan : Plan) (free : Bool) (w : Work) (m : ℕ) (t : Data) → IsSubschema plan free w m t → IsSchema t
-part_schema plan free w m t h =
-    let written = placed_written (basis_of plan) plan.inlines (Refers plan free w) w.pending m t h in
-    written_schema (basis_of plan) (Refers plan free w) written.0 m t written.1
-
-pub filled_by_parts : (plan : Plan) (inside : Bool) (old new : Work) (e : Entry) (ts : List Data)
-    → AreParts plan inside old new (rows_of (entry_template (basis_of plan) e)) ts
-    → IsSchema (filled (entry_template (basis_of plan) e) ts)
-filled_by_parts plan inside old new e ts all =
-    filled_schema (basis_of plan) e ts (parts_schemas (IsSubschema plan (not inside) new) (part_schema plan (not inside) new) _ ts
-    all.written)
-
--- where the parts were made while the row was pending
-pub own_of_parts : (plan : Plan) (inside : Bool) (old mid : Work) (inner : List ℕ) (n : ℕ) (e : Entry) (ts : List Data) (s : Data)
-    → entry_at plan.rows n ≡ Some e → inner ≡ pending_in plan.inlines old.pending n
-    → Step plan (record old { pending = inner }) mid
-    → AreParts plan inside (record old { pending = inner }) mid (rows_of (entry_template (basis_of plan) e)) ts
-    → s ≡ filled (entry_template (basis_of plan) e) ts → IsOwn plan inside old (record mid { pending = old.pending }) n s
-own_of_parts plan inside old mid inner n e ts s at same step all is = record {
-  document = document_of_parts (basis_of plan) plan.inlines (Refers plan (not inside) mid) old.pending mid.pending n e ts s at
-      (step.still_pending ∙ same) all.written is;
-  reached = λ plain.
-      let P : Option Entry → Type 0 = λ o. IsPlainEntry o in
-      let Q : Data → Type 0 = λ d. Among (references_of ts) (references d) in
-      let among : Among (references_of ts) (references s) = subst Q (sym is)
-      (parts_among (basis_of plan) e (subst P at (plain n)) ts (sym (parts_counted _ _ ts all.written))) in
-      reached_entered plan inside old mid inner old.pending (references s)
-      (reached_more plan inside (record old { pending = inner }) mid (references_of ts) (references s) among (all.reached plain));
-}
-
-pub stand_rows : (plan : Plan) (n : ℕ) (e : Entry) → IsChecked plan.rows → entry_at plan.rows n ≡ Some e
-    → All (StandsIn plan.rows n) (rows_of (entry_template (basis_of plan) e))
-stand_rows plan n e checked at =
-    all_rows (StandsIn plan.rows n) (basis_of plan) e.shape (stands plan.rows n e checked at)
+-- where it was made while the row was pending
+pub own_of_filled : (plan : Plan) (inside : Bool) (old mid : Work) (inner : List ℕ) (n : ℕ) (s : Data)
+    → inner ≡ pending_in plan.inlines old.pending n → Step plan (record old { pending = inner }) mid
+    → IsFilledIn plan inside (record old { pending = inner }) mid n s → IsOwn plan inside old (record mid { pending = old.pending }) n s
+own_of_filled plan inside old mid inner n s same step filled =
+    let P : List ℕ → Type 0 = λ p. IsFilled (basis_of plan) plan.inlines (Refers plan (not inside) mid) p n s in
+    record {
+      document = subst P (step.still_pending ∙ same) filled.document;
+      reached = λ plain. reached_entered plan inside old mid inner old.pending (references s) (filled.reached plain);
+    }
 
 -- a row in place
 pub in_place : (plan : Plan) (inside : Bool) (old new : Work) (n : ℕ) (s : Data) → Step plan old new

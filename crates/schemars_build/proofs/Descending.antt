@@ -1,24 +1,25 @@
 -- How the recursion that makes documents goes down.
 use Rattle.std.proofs.Common.{◌≡◌, ◌<◌, ◌≤◌, ◌+◌, ◌*◌, ◌∙◌, ℕ, zero, suc, List, [], ◌∷◌, ◌++◌, length, Bool, true, false, Some}
-use Rattle.std.proofs.Common.{refl, ap, sym, subst, arith, All, get_or, Contains}
+use Rattle.std.proofs.Common.{refl, ap, sym, subst, arith, Contains, inl, inr}
 use Rattle.std.specs.Prelude.{if◌then◌else◌, ◌||◌, ◌&&◌, not, nat_eq}
 use Rattle.std.specs.Option.{option_map_or}
 use Rattle.std.proofs.Math.Nat.{mul-le-mul_right}
-use Rattle.std.proofs.lemmas.List.{get_or_default}
 use Rattle.std.proofs.lemmas.List.Folds.{list_any-append}
 use Rattle.std.proofs.lemmas.Bool.Decides.{nat_tests}
 use Rattle.indexmap.specs.IndexSet.{insert_key}
 use Rattle.schemars_shapes.specs.Shape.{Entry, numbers_of}
 use Rattle.schemars_types.specs.Rows.{Row, entry_at}
-use Rattle.schemars_types.specs.Edges.{numbers_at, is_inline_at, is_key_at, height}
+use Rattle.schemars_types.specs.Edges.{numbers_at, is_inline_at, asked_in, asked_at, height}
 use Rattle.schemars_types.specs.Faults.{IsChecked}
 use Rattle.schemars_naming.specs.Placed.{is_pending, pending_in, is_in_place}
 use Rattle.schemars_naming.specs.Work.{Plan, Work}
-use Rattle.schemars_build.specs.Missing.{failing_below, missing, fresh, depth_in_place, StandsIn}
+use Rattle.schemars_templates.specs.Template.{part, members_of, content}
+use Rattle.schemars_templates.specs.Describes.{without_options}
+use Rattle.schemars_build.specs.Missing.{failing_below, missing, fresh, depth_in_place, IsAskedIn}
 use Rattle.schemars_build.proofs.Counting.{failing-fewer, failing-less}
 
 abbrev pub width : List Row → ℕ
-width rows = 4 * length rows + 5
+width rows = 8 * length rows + 12
 
 -- the definitions that may still be made, and then the rows that may still be entered
 abbrev pub places : Plan → Work → List ℕ → ℕ
@@ -28,32 +29,48 @@ abbrev pub left_of_define : Plan → Work → ℕ
 left_of_define p w = places p w w.pending * width p.rows
 
 abbrev pub left_of_subschema : Plan → Work → ℕ → ℕ
-left_of_subschema p w n = places p w w.pending * width p.rows + (4 * depth_in_place p.rows n + 1)
+left_of_subschema p w n = places p w w.pending * width p.rows + (8 * depth_in_place p.rows n + 1)
 
 abbrev pub left_of_own_document : Plan → Work → ℕ → ℕ
-left_of_own_document p w n = places p w (pending_in p.inlines w.pending n) * width p.rows + (4 * height p.rows n + 4)
+left_of_own_document p w n = places p w (pending_in p.inlines w.pending n) * width p.rows + (8 * height p.rows n + 8)
 
-abbrev pub left_of_subschemas : Plan → Work → ℕ → ℕ
-left_of_subschemas p w n = places p w w.pending * width p.rows + (4 * height p.rows n + 2)
+abbrev pub left_of_filled : Plan → Work → ℕ → ℕ
+left_of_filled p w n = places p w w.pending * width p.rows + (8 * height p.rows n + 7)
 
--- ---- the rows that stand in a document
+abbrev pub left_of_answers : Plan → Work → ℕ → ℕ
+left_of_answers p w n = places p w w.pending * width p.rows + (8 * height p.rows n + 6)
 
-pub stands : (rows : List Row) (n : ℕ) (e : Entry) → IsChecked rows → entry_at rows n ≡ Some e → All (StandsIn rows n) (numbers_of e.shape)
-stands rows n e h at = λ k d less. one (get_or (numbers_of e.shape) k d)
-    (k, less, get_or_default (numbers_of e.shape) k (get_or (numbers_of e.shape) k d) d less)
-  where
-    numbers : numbers_at rows n ≡ numbers_of e.shape
-    numbers = ap (λ o. option_map_or (λ x. numbers_of x.shape) o []) at
+abbrev pub left_of_answer : Plan → Work → ℕ → ℕ
+left_of_answer p w n = places p w w.pending * width p.rows + (8 * height p.rows n + 5)
 
-    lower : (m : ℕ) → Contains (numbers_at rows n) m → (b : Bool) → is_inline_at rows m ≡ b
-        → (if b then suc (height rows m) else 0) ≤ height rows n
-    lower m is true inline = h.height_falls n m (is, ap (λ b. b || is_key_at rows n m) inline)
-    lower m is false inline = omega arith
+abbrev pub left_of_members : Plan → Work → ℕ → ℕ
+left_of_members p w n = places p w w.pending * width p.rows + (8 * height p.rows (without_options p.rows n) + 10)
 
-    one : (m : ℕ) → Contains (numbers_of e.shape) m → StandsIn rows n m
-    one m is =
-        let there : Contains (numbers_at rows n) m = subst (λ (ms : List ℕ). Contains ms m) (sym numbers) is in
-        record { is_known = h.within.within n m there; is_lower = lower m there (is_inline_at rows m) refl }
+abbrev pub left_of_content : Plan → Work → ℕ → ℕ
+left_of_content p w n = places p w w.pending * width p.rows + (8 * height p.rows n + 11)
+
+-- ---- what is asked in a document
+
+module _ (rows : List Row) (n : ℕ) (e : Entry) (h : IsChecked rows) (at : entry_at rows n ≡ Some e) where
+  numbers : numbers_at rows n ≡ numbers_of e.shape
+  numbers = ap (λ o. option_map_or (λ x. numbers_of x.shape) o []) at
+
+  asked : asked_at rows n ≡ asked_in rows e.shape
+  asked = ap (λ o. option_map_or (λ x. asked_in rows x.shape) o []) at
+
+  lower : (m : ℕ) → Contains (numbers_at rows n) m → (b : Bool) → is_inline_at rows m ≡ b
+      → (if b then suc (height rows m) else 0) ≤ height rows n
+  lower m is true inline = h.height_falls n m (inl (is, inline))
+  lower m is false inline = omega arith
+
+  pub part_asked : (m : ℕ) → Contains (numbers_of e.shape) m → IsAskedIn rows n (part m)
+  part_asked m is =
+      let there : Contains (numbers_at rows n) m = subst (λ (ms : List ℕ). Contains ms m) (sym numbers) is in
+      (h.within.within n m there, lower m there (is_inline_at rows m) refl)
+
+  -- a row that is asked whatever its flag lies lower
+  pub falls : (m : ℕ) → Contains (asked_in rows e.shape) m → m < length rows → height rows m < height rows n
+  falls m is below = h.height_falls n m (inr (subst (λ (ms : List ℕ). Contains ms m) (sym asked) is, below))
 
 -- ---- what is pending
 
@@ -101,7 +118,7 @@ fresh-less rows pending n less none = failing-less (is_pending pending) (is_pend
 
 -- ---- one step down
 
-part_less : (a b w p h k : ℕ) → a ≤ b → p ≤ h → 1 < k → a * w + (4 * p + 1) < b * w + (4 * h + k)
+part_less : (a b w p h k : ℕ) → a ≤ b → p ≤ h → 1 < k → a * w + (8 * p + 1) < b * w + (8 * h + k)
 part_less a b w p h k fewer lower more = let e : a * w ≤ b * w = mul-le-mul_right w fewer in omega arith
 
 closer : (a b w r : ℕ) → a < b → r < w → a * w + r < b * w
@@ -110,7 +127,7 @@ closer a b w r less small = let e : suc a * w ≤ b * w = mul-le-mul_right w les
 same_less : (a b w k : ℕ) → a ≤ b → 0 < k → a * w < b * w + k
 same_less a b w k fewer more = let e : a * w ≤ b * w = mul-le-mul_right w fewer in omega arith
 
-own_less : (a b w h : ℕ) → a ≤ b → a * w + (4 * h + 4) < b * w + (4 * suc h + 1)
+own_less : (a b w h : ℕ) → a ≤ b → a * w + (8 * h + 8) < b * w + (8 * suc h + 1)
 own_less a b w h fewer = let e : a * w ≤ b * w = mul-le-mul_right w fewer in omega arith
 
 further : (a b w r k : ℕ) → a < b → r < w → a * w + r < b * w + k
@@ -125,11 +142,45 @@ places-fewer p w v fewer same =
     let f : fresh p.rows v.pending ≡ fresh p.rows w.pending = ap (fresh p.rows) same in
     omega (arith, e, f)
 
--- from a document to a part
-pub to_part : (p : Plan) (w v : Work) (n m : ℕ) → StandsIn p.rows n m → missing p.rows p.contract v ≤ missing p.rows p.contract w
-    → v.pending ≡ w.pending → left_of_subschema p v m < left_of_subschemas p w n
-to_part p w v n m h fewer same = part_less (places p v v.pending) (places p w w.pending) (width p.rows)
-    (depth_in_place p.rows m) (height p.rows n) 2 (places-fewer p w v fewer same) h.is_lower (omega arith)
+-- from one function to the next, on the same row or a lower one
+down_less : (a b w r s : ℕ) → a ≤ b → r < s → a * w + r < b * w + s
+down_less a b w r s fewer less = let e : a * w ≤ b * w = mul-le-mul_right w fewer in omega arith
+
+-- from a document to its answers, and to each of them
+pub to_answers : (p : Plan) (w : Work) (n : ℕ) → left_of_answers p w n < left_of_filled p w n
+to_answers p w n = omega arith
+
+pub to_answer : (p : Plan) (w v : Work) (n : ℕ) → missing p.rows p.contract v ≤ missing p.rows p.contract w → v.pending ≡ w.pending
+    → left_of_answer p v n < left_of_answers p w n
+to_answer p w v n fewer same = down_less (places p v v.pending) (places p w w.pending) (width p.rows)
+    (8 * height p.rows n + 5) (8 * height p.rows n + 6) (places-fewer p w v fewer same) (omega arith)
+
+pub to_part : (p : Plan) (w : Work) (n m : ℕ) → IsAskedIn p.rows n (part m) → left_of_subschema p w m < left_of_answer p w n
+to_part p w n m h = part_less (places p w w.pending) (places p w w.pending) (width p.rows)
+    (depth_in_place p.rows m) (height p.rows n) 5 (omega arith) h.1 (omega arith)
+
+pub to_members : (p : Plan) (w : Work) (n m : ℕ) (required : Bool) → IsAskedIn p.rows n (members_of m required)
+    → left_of_members p w m < left_of_answer p w n
+to_members p w n m required h = let less = h.1 in omega (arith, less)
+
+pub to_content : (p : Plan) (w : Work) (n m : ℕ) → IsAskedIn p.rows n (content m) → left_of_content p w m < left_of_answer p w n
+to_content p w n m h = let less = h.1 in omega (arith, less)
+
+-- to the documents that these are made of
+pub members_to_filled : (p : Plan) (w : Work) (n : ℕ) → left_of_filled p w (without_options p.rows n) < left_of_members p w n
+members_to_filled p w n = omega arith
+
+pub content_to_filled : (p : Plan) (w : Work) (n : ℕ) → left_of_filled p w n < left_of_content p w n
+content_to_filled p w n = omega arith
+
+pub content_to_part : (p : Plan) (w v : Work) (n : ℕ) → missing p.rows p.contract v ≤ missing p.rows p.contract w
+    → v.pending ≡ w.pending → left_of_subschema p v n < left_of_content p w n
+content_to_part p w v n fewer same = down_less (places p v v.pending) (places p w w.pending) (width p.rows)
+    (8 * depth_in_place p.rows n + 1) (8 * height p.rows n + 11) (places-fewer p w v fewer same) (by (is_inline_at p.rows n))
+  where
+    by : (b : Bool) → 8 * (if b then suc (height p.rows n) else 0) + 1 < 8 * height p.rows n + 11
+    by true = omega arith
+    by false = omega arith
 
 -- to a part in place
 pub to_own : (p : Plan) (w : Work) (n : ℕ) → IsChecked p.rows → n < length p.rows
@@ -140,7 +191,7 @@ to_own p w n checked less placed = by (is_inline_at p.rows n) refl
     inner = places p w (pending_in p.inlines w.pending n)
 
     goal_at : ℕ → Type 0
-    goal_at depth = inner * width p.rows + (4 * height p.rows n + 4) < places p w w.pending * width p.rows + (4 * depth + 1)
+    goal_at depth = inner * width p.rows + (8 * height p.rows n + 8) < places p w w.pending * width p.rows + (8 * depth + 1)
 
     fewer : inner ≤ places p w w.pending
     fewer = let e = fresh-entered p.rows p.inlines w.pending n in omega (arith, e)
@@ -162,14 +213,14 @@ to_own p w n checked less placed = by (is_inline_at p.rows n) refl
         let bound = checked.height_bound n in
         let here : p.inlines && not (is_pending w.pending n) ≡ true =
         sym (ap (λ b. b || (p.inlines && not (is_pending w.pending n))) inline) ∙ placed in
-        further inner (places p w w.pending) (width p.rows) (4 * height p.rows n + 4) (4 * depth_in_place p.rows n + 1)
+        further inner (places p w w.pending) (width p.rows) (8 * height p.rows n + 8) (8 * depth_in_place p.rows n + 1)
         (entered p.inlines (is_pending w.pending n) refl refl here) (omega (arith, bound))
 
 -- to a part by reference
 pub to_define : (p : Plan) (w v : Work) (n : ℕ) → missing p.rows p.contract v ≤ missing p.rows p.contract w → v.pending ≡ w.pending
     → left_of_define p v < left_of_subschema p w n
 to_define p w v n fewer same = same_less (places p v v.pending) (places p w w.pending) (width p.rows)
-    (4 * depth_in_place p.rows n + 1) (places-fewer p w v fewer same) (omega arith)
+    (8 * depth_in_place p.rows n + 1) (places-fewer p w v fewer same) (omega arith)
 
 -- to a new definition
 pub to_definition : (p : Plan) (w v : Work) (n : ℕ) → IsChecked p.rows → missing p.rows p.contract v < missing p.rows p.contract w
@@ -181,12 +232,12 @@ to_definition p w v n h fewer =
     let less : places p v inner < places p w w.pending =
     let e = closer (missing p.rows p.contract v) (missing p.rows p.contract w) (suc (length p.rows)) (fresh p.rows inner) fewer small in
     omega (arith, e) in
-    closer (places p v inner) (places p w w.pending) (width p.rows) (4 * height p.rows n + 4) less (omega (arith, bound))
+    closer (places p v inner) (places p w w.pending) (width p.rows) (8 * height p.rows n + 8) less (omega (arith, bound))
 
--- to the parts of a document
-pub to_parts : (p : Plan) (w v : Work) (n : ℕ) → missing p.rows p.contract v ≤ missing p.rows p.contract w
-    → v.pending ≡ pending_in p.inlines w.pending n → left_of_subschemas p v n < left_of_own_document p w n
-to_parts p w v n fewer same =
+-- to the document of a row that was entered
+pub to_filled : (p : Plan) (w v : Work) (n : ℕ) → missing p.rows p.contract v ≤ missing p.rows p.contract w
+    → v.pending ≡ pending_in p.inlines w.pending n → left_of_filled p v n < left_of_own_document p w n
+to_filled p w v n fewer same =
     let e : missing p.rows p.contract v * suc (length p.rows) ≤ missing p.rows p.contract w * suc (length p.rows) =
     mul-le-mul_right (suc (length p.rows)) fewer in
     let f : fresh p.rows v.pending ≡ fresh p.rows (pending_in p.inlines w.pending n) = ap (fresh p.rows) same in

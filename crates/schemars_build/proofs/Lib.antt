@@ -3,4 +3,7 @@ pub mod Steps
 pub mod Placing
 pub mod Reaching
 pub mod Descending
+pub mod Asked
+pub mod Settled
 pub mod Building
+pub mod Filling

@@ -4,6 +4,8 @@ use Rattle.std.specs.Option.{option_map_or}
 use Rattle.serde_json.specs.Find.{get_member}
 use Rattle.schemars_types.specs.Rows.{Row}
 use Rattle.schemars_types.specs.Edges.{is_inline_at, height}
+use Rattle.schemars_templates.specs.Template.{Ask, part, members_of, content}
+use Rattle.schemars_templates.specs.Describes.{without_options}
 use Rattle.schemars_documents.specs.declared.contract.Contract.{Contract}
 use Rattle.schemars_naming.specs.Naming.{name_of}
 use Rattle.schemars_naming.specs.Placed.{is_pending}
@@ -30,7 +32,9 @@ fresh rows pending = failing_below (is_pending pending) (length rows)
 abbrev pub depth_in_place : List Row → ℕ → ℕ
 depth_in_place rows n = if is_inline_at rows n then suc (height rows n) else 0
 
--- row m may be a part of row n's document
-pub record StandsIn (rows : List Row) (n m : ℕ) : Type 0 where
-  pub is_known : m < length rows
-  pub is_lower : depth_in_place rows m ≤ height rows n
+-- what is asked in row n's document is of a row, and less deep
+abbrev pub IsAskedIn : List Row → ℕ → Ask → Type 0
+IsAskedIn rows n (part m) = (m < length rows) × (depth_in_place rows m ≤ height rows n)
+IsAskedIn rows n (members_of m required) =
+    (without_options rows m < length rows) × (height rows (without_options rows m) < height rows n)
+IsAskedIn rows n (content m) = (m < length rows) × (height rows m < height rows n)

@@ -1,13 +1,20 @@
 -- What the calls of the recursion answer, where they lead from one state of the work to another.
-use Rattle.std.specs.Prelude.{ℕ, Bool, false, not, List, [], ◌∷◌}
+use Rattle.std.specs.Prelude.{◌≡◌, ◌||◌, ℕ, Bool, true, false, not, List, [], ◌∷◌, All}
 use Rattle.serde_json.specs.Data.{Data, string}
 use Rattle.schemars_json.specs.Json.{Text}
 use Rattle.schemars_schema.specs.References.{references}
-use Rattle.schemars_templates.specs.Describes.{ArePartsWritten, references_of}
-use Rattle.schemars_documents.specs.PlainTable.{IsPlainTable}
-use Rattle.schemars_naming.specs.Placed.{IsDocument, IsPlaced}
+use Rattle.schemars_types.specs.Rows.{Row, entry_at}
+use Rattle.schemars_types.specs.Edges.{is_inline_at}
+use Rattle.schemars_templates.specs.Template.{Ask, part, members_of, content}
+use Rattle.schemars_templates.specs.Describes.{AreAnswered, IsAnswered, references_of}
+use Rattle.schemars_documents.specs.PlainTable.{IsPlainTable, IsOpenStruct}
+use Rattle.schemars_naming.specs.Placed.{IsFilled, IsDocument, IsPlaced}
 use Rattle.schemars_naming.specs.Work.{Plan, Work, Refers, IsKey, reference_to, basis_of}
 use Rattle.schemars_build.specs.Reached.{AreReached}
+
+-- a document of row n whose parts are placed while these rows are pending
+abbrev pub IsFilledOf : Plan → Bool → Work → List ℕ → ℕ → Data → Type 0
+IsFilledOf plan free w = IsFilled (basis_of plan) plan.inlines (Refers plan free w)
 
 -- the document of row n, made while these rows are pending
 abbrev pub IsDocumentOf : Plan → Bool → Work → List ℕ → ℕ → Data → Type 0
@@ -26,10 +33,31 @@ pub record IsPart (plan : Plan) (inside : Bool) (old new : Work) (n : ℕ) (s : 
   pub written : IsSubschema plan (not inside) new n s
   pub reached : AreNeeded plan inside old new (references s)
 
--- the parts of a document, for these rows
-pub record AreParts (plan : Plan) (inside : Bool) (old new : Work) (ms : List ℕ) (ts : List Data) : Type 0 where
-  pub written : ArePartsWritten (IsSubschema plan (not inside) new) ms ts
-  pub reached : AreNeeded plan inside old new (references_of ts)
+-- what is asked in a plain document: rows as parts, and the members of open structs
+abbrev pub IsPlainAsk : List Row → Ask → Type 0
+IsPlainAsk rows (part n) = Unit {0}
+IsPlainAsk rows (members_of n required) = IsOpenStruct (entry_at rows n)
+IsPlainAsk rows (content n) = ⊥
+
+-- what may be answered in a document
+abbrev pub IsSaid : Plan → Bool → Work → Ask → Data → Type 0
+IsSaid plan free w = IsAnswered plan.rows (λ m b. b ≡ (is_inline_at plan.rows m || plan.inlines)) (IsSubschema plan free w)
+    (IsFilledOf plan free w w.pending)
+
+-- an answer, and what joins for it
+pub record IsAnswer (plan : Plan) (inside : Bool) (old new : Work) (a : Ask) (s : Data) : Type 0 where
+  pub said : IsSaid plan (not inside) new a s
+  pub reached : IsPlainAsk plan.rows a → AreNeeded plan inside old new (references s)
+
+-- the answers in a document
+pub record AreAnswers (plan : Plan) (inside : Bool) (old new : Work) (asks : List Ask) (ts : List Data) : Type 0 where
+  pub said : AreAnswered (IsSaid plan (not inside) new) asks ts
+  pub reached : All (IsPlainAsk plan.rows) asks → AreNeeded plan inside old new (references_of ts)
+
+-- a document of row n whose parts are placed by what is pending
+pub record IsFilledIn (plan : Plan) (inside : Bool) (old new : Work) (n : ℕ) (s : Data) : Type 0 where
+  pub document : IsFilledOf plan (not inside) new new.pending n s
+  pub reached : AreNeeded plan inside old new (references s)
 
 -- the document of row n
 pub record IsOwn (plan : Plan) (inside : Bool) (old new : Work) (n : ℕ) (s : Data) : Type 0 where

@@ -1,21 +1,26 @@
 //! The documents of rows, with parts in place or by reference.
-ghost use Rattle.std.specs.Prelude.{Some, codes, ◌≡◌, ◌<◌, not, length, IfOk, OnOk, All, string_bytes};
+ghost use Rattle.std.specs.Prelude.{Some, codes, ◌≡◌, ◌<◌, not, length, IfOk, OnOk, All, map, string_bytes};
 ghost use Rattle.schemars_types.specs.Faults.{IsChecked};
 ghost use Rattle.schemars_documents.specs.Documents.{reference};
 ghost use Rattle.schemars_naming.specs.Naming.{name_of};
 ghost use Rattle.schemars_naming.specs.Placed.{is_in_place};
 ghost use Rattle.schemars_naming.specs.Work.{Step, undone, reference_to};
-ghost use Rattle.schemars_build.specs.Missing.{StandsIn};
 ghost use Rattle.schemars_build.specs.Plans.{plan_of};
-ghost use Rattle.schemars_build.specs.Parts.{IsPart, AreParts, IsOwn, IsMade};
+ghost use Rattle.schemars_types.specs.Edges.{is_inline_at, option_at};
+ghost use Rattle.schemars_templates.specs.Template as spec;
+ghost use Rattle.schemars_templates.specs.View.{ask_of};
+ghost use Rattle.schemars_templates.specs.Describes.{without_options};
+ghost use Rattle.schemars_build.specs.Missing.{IsAskedIn};
+ghost use Rattle.schemars_build.specs.Parts.{IsPart, IsAnswer, AreAnswers, IsOwn, IsFilledIn, IsMade};
 
 use schemars_documents::Contract;
 use schemars_entries::entry_template;
 use schemars_naming::work::Work;
+use schemars_parts::{as_flattened, open_inside, stands_in_place};
 use schemars_schema::Schema;
 use schemars_schema::encoding::encode_ref_name;
 use schemars_templates::basis::Basis;
-use schemars_templates::template::fill;
+use schemars_templates::template::{Ask, fill};
 use schemars_types::{TypeNo, Types};
 use std::alloc::{AllocError, Global};
 use std::collections::VecDeque;
@@ -70,11 +75,7 @@ pub fn subschema(
 fn is_in_place(plan: &Plan<'_>, work: &Work, n: TypeNo) -> bool
     ensures { result ≡ is_in_place (plan_of plan.now).rows plan.now.inlines work.now.pending n }
 {
-    let inline = match plan.types.entry(n) {
-        Some(entry) => entry.inline,
-        None => false,
-    };
-    inline || (plan.inlines && !work.is_pending(n))
+    is_inline(plan.types, n) || (plan.inlines && !work.is_pending(n))
 }
 
 // Makes the definition of row `n`, which has this name, unless it is there.
@@ -118,6 +119,27 @@ pub fn own_document(
     ensures step { OnOk result (Step (plan_of plan.now) work.old work.new) }
     ensures is { IfOk result (IsOwn (plan_of plan.now) in_definition work.old work.new n) }
 {
+    let entered = work.enter(plan.inlines, n)?;
+    let schema = filled_document(alloc, plan, work, in_definition, n)?;
+    work.leave(entered);
+    Ok(schema)
+}
+
+// The document of row `n`, with its notes, whose parts are placed by what is pending.
+#[cycle(build)]
+fn filled_document(
+    alloc: Global,
+    plan: &Plan<'_>,
+    work: &mut Work,
+    in_definition: bool,
+    n: TypeNo,
+) -> Result<Schema, AllocError>
+    requires checked { IsChecked (plan_of plan.now).rows }
+    requires known { n < length (plan_of plan.now).rows }
+    ensures undone { undone work.new ≡ undone work.old }
+    ensures step { OnOk result (Step (plan_of plan.now) work.old work.new) }
+    ensures is { IfOk result (IsFilledIn (plan_of plan.now) in_definition work.old work.new n) }
+{
     let entry = match plan.types.entry(n) {
         Some(entry) => entry,
         None => unreachable!(),
@@ -128,37 +150,139 @@ pub fn own_document(
         titles: plan.titles,
     };
     let template = entry_template(alloc, &basis, entry)?;
-    let rows = template.rows(alloc)?;
-    let entered = work.enter(plan.inlines, n)?;
-    let parts = subschemas(alloc, plan, work, in_definition, n, &rows)?;
-    work.leave(entered);
-    let schema = fill(alloc, template, parts)?;
+    let asks = template.asks(alloc)?;
+    let answers = answers(alloc, plan, work, in_definition, n, &asks)?;
+    let schema = fill(alloc, template, answers)?;
     Ok(schema)
 }
 
-// The schemas of these rows, which are parts of row `n`'s document, in their order.
+// What the rows answer that row `n`'s document asks, in this order.
 #[cycle(build)]
-fn subschemas(
+fn answers(
     alloc: Global,
     plan: &Plan<'_>,
     work: &mut Work,
     in_definition: bool,
     n: TypeNo,
-    rows: &[TypeNo],
+    asks: &[Ask],
 ) -> Result<VecDeque<Schema>, AllocError>
     requires checked { IsChecked (plan_of plan.now).rows }
-    requires stand { All (StandsIn (plan_of plan.now).rows n) rows.now }
+    requires stand { All (λ a. IsAskedIn (plan_of plan.now).rows n (ask_of a)) asks.now }
     ensures undone { undone work.new ≡ undone work.old }
     ensures step { OnOk result (Step (plan_of plan.now) work.old work.new) }
-    ensures are { IfOk result (λ v. AreParts (plan_of plan.now) in_definition work.old work.new rows.now v.items) }
+    ensures are { IfOk result (λ v. AreAnswers (plan_of plan.now) in_definition work.old work.new
+        (map ask_of asks.now) v.items) }
+{
+    let mut answers = VecDeque::new(alloc);
+    for ask in asks {
+        let answer = answer(alloc, plan, work, in_definition, n, *ask)?;
+        answers.push_back(answer)?;
+    }
+    Ok(answers)
+}
+
+#[cycle(build)]
+fn answer(
+    alloc: Global,
+    plan: &Plan<'_>,
+    work: &mut Work,
+    in_definition: bool,
+    n: TypeNo,
+    ask: Ask,
+) -> Result<Schema, AllocError>
+    requires checked { IsChecked (plan_of plan.now).rows }
+    requires stands { IsAskedIn (plan_of plan.now).rows n (ask_of ask) }
+    ensures undone { undone work.new ≡ undone work.old }
+    ensures step { OnOk result (Step (plan_of plan.now) work.old work.new) }
+    ensures is { IfOk result (IsAnswer (plan_of plan.now) in_definition work.old work.new (ask_of ask)) }
 {
     let _ = n;
-    let mut parts = VecDeque::new(alloc);
-    for row in rows {
-        let part = subschema(alloc, plan, work, in_definition, *row)?;
-        parts.push_back(part)?;
+    match ask {
+        Ask::Part(m) => subschema(alloc, plan, work, in_definition, m),
+        Ask::MembersOf(m, required) => members_of(alloc, plan, work, in_definition, m, required),
+        Ask::Content(m) => content(alloc, plan, work, in_definition, m),
     }
-    Ok(parts)
+}
+
+// A schema of the members of row `n`, which stand in another map.
+#[cycle(build)]
+fn members_of(
+    alloc: Global,
+    plan: &Plan<'_>,
+    work: &mut Work,
+    in_definition: bool,
+    n: TypeNo,
+    required: bool,
+) -> Result<Schema, AllocError>
+    requires checked { IsChecked (plan_of plan.now).rows }
+    requires known { without_options (plan_of plan.now).rows n < length (plan_of plan.now).rows }
+    ensures undone { undone work.new ≡ undone work.old }
+    ensures step { OnOk result (Step (plan_of plan.now) work.old work.new) }
+    ensures is { IfOk result (IsAnswer (plan_of plan.now) in_definition work.old work.new (spec.members_of n required)) }
+{
+    let inner = without_options(plan.types, n);
+    let mut schema = filled_document(alloc, plan, work, in_definition, inner)?;
+    let is_optional = !required && option(plan.types, n).is_some();
+    as_flattened(alloc, &mut schema, is_optional)?;
+    Ok(schema)
+}
+
+// The schema of what stands beside a tag, for row `n`: the row's own document, opened inside, where
+// it has to stand in place, and elsewhere the schema of the row.
+#[cycle(build)]
+fn content(
+    alloc: Global,
+    plan: &Plan<'_>,
+    work: &mut Work,
+    in_definition: bool,
+    n: TypeNo,
+) -> Result<Schema, AllocError>
+    requires checked { IsChecked (plan_of plan.now).rows }
+    requires known { n < length (plan_of plan.now).rows }
+    ensures undone { undone work.new ≡ undone work.old }
+    ensures step { OnOk result (Step (plan_of plan.now) work.old work.new) }
+    ensures is { IfOk result (IsAnswer (plan_of plan.now) in_definition work.old work.new (spec.content n)) }
+{
+    let mut schema = filled_document(alloc, plan, work, in_definition, n)?;
+    if !stands_in_place(&schema, is_inline(plan.types, n) || plan.inlines) {
+        let part = subschema(alloc, plan, work, in_definition, n)?;
+        return Ok(part);
+    }
+    open_inside(alloc, &mut schema)?;
+    Ok(schema)
+}
+
+// Row `n` without the Options around it.
+fn without_options(types: &Types, n: TypeNo) -> TypeNo
+    ensures { result ≡ without_options types.now n }
+{
+    let mut at = n;
+    for _step in 0..types.len() {
+        let Some(inner) = option(types, at) else {
+            return at;
+        };
+        at = inner;
+    }
+    at
+}
+
+// The row in row `n`, an Option.
+fn option(types: &Types, n: TypeNo) -> Option<TypeNo>
+    ensures { result ≡ option_at types.now n }
+{
+    match types.entry(n) {
+        Some(entry) => entry.shape.option(),
+        None => None,
+    }
+}
+
+fn is_inline(types: &Types, n: TypeNo) -> bool
+    ensures { result ≡ is_inline_at types.now n }
+{
+    match types.entry(n) {
+        Some(entry) => entry.inline,
+        None => false,
+    }
 }
 
 // The whole document.

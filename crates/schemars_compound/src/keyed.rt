@@ -8,7 +8,7 @@ ghost use Rattle.schemars_templates.specs.OfShape.{pattern_properties_at, values
 
 use schemars_keys::{KeyOptions, key_options};
 use schemars_templates::maps::{add_closed, add_properties, typed};
-use schemars_templates::nodes::{object_with, text};
+use schemars_templates::nodes::{object_with, row, text};
 use schemars_templates::template::Template;
 use schemars_types::{TypeNo, Types};
 use std::alloc::{AllocError, Global};
@@ -45,7 +45,7 @@ fn any_key_template<'t>(alloc: Global, value: TypeNo) -> Result<Template<'t>, Al
 {
     let object = text(alloc, "object")?;
     let keys = vec![in alloc; "type", "additionalProperties"]?;
-    let values = vec![in alloc; object, Template::Row(value)]?;
+    let values = vec![in alloc; object, row(value)]?;
     Ok(Template::Object(keys, values))
 }
 
@@ -114,7 +114,7 @@ fn values_at<'t>(
 {
     let mut values = Vec::new(alloc);
     for key in keys {
-        values.push((*key, Template::Row(value)))?;
+        values.push((*key, row(value)))?;
     }
     Ok(values)
 }

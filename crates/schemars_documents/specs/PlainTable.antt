@@ -1,13 +1,13 @@
 -- Tables of plain parts.
-use Rattle.std.specs.Prelude.{◌≡◌, ℕ, List, [], ◌∷◌, Option, Some, None, false, bytes_eq}
+use Rattle.std.specs.Prelude.{◌≡◌, ℕ, List, [], ◌∷◌, ◌++◌, Option, Some, None, true, false, bytes_eq}
 use Rattle.serde_json.specs.Written.{has_float, members_have_float}
 use Rattle.schemars_json.specs.Json.{Text}
 use Rattle.schemars_schema.specs.Annotations.{AreNotes}
 use Rattle.schemars_schema.specs.Literal.{IsPlainLiteral}
 use Rattle.schemars_shapes.specs.Shape as shape
-use Rattle.schemars_shapes.specs.Shape.{Shape, Field, Entry, Payload, Variant, no_payload, newtype_payload, tuple_payload, struct_payload}
+use Rattle.schemars_shapes.specs.Shape.{Shape, Field, Flattened, Fields, Entry, Payload, Variant, no_payload, newtype_payload, tuple_payload, struct_payload}
 use Rattle.schemars_types.specs.Rows.{Row, entry_at}
-use Rattle.schemars_types.specs.Meaning.{tagged_fields}
+use Rattle.schemars_types.specs.Effective.{spread_in}
 
 -- no field has this name
 abbrev pub IsNoName : Text → List Field → Type 0
@@ -40,20 +40,58 @@ abbrev pub IsPlainPayload : Payload → Type 0
 IsPlainPayload no_payload = Unit {0}
 IsPlainPayload (newtype_payload n) = Unit {0}
 IsPlainPayload (tuple_payload ns) = Unit {0}
-IsPlainPayload (struct_payload xs closed) = AreDistinct xs × AreNoted xs
+IsPlainPayload (struct_payload x) = AreDistinct x.list × AreNoted x.list
 
 -- the notes of each variant and of its fields are annotations
 abbrev pub ArePlainVariants : List Variant → Type 0
 ArePlainVariants [] = Unit {0}
 ArePlainVariants (x ∷ xs) = AreNotes x.notes × IsPlainPayload x.payload × ArePlainVariants xs
 
--- no field of a variant is named as the tag beside it
+-- what is tagged inside its map is a unit or has fields, none of which is named as the tag
+abbrev pub IsTagged : Text → Payload → Type 0
+IsTagged tag no_payload = Unit {0}
+IsTagged tag (newtype_payload n) = ⊥
+IsTagged tag (tuple_payload ns) = ⊥
+IsTagged tag (struct_payload x) = IsNoName tag x.list
+
 abbrev pub AreTagged : Text → List Variant → Type 0
 AreTagged tag [] = Unit {0}
-AreTagged tag (x ∷ xs) = IsNoName tag (tagged_fields x.payload) × AreTagged tag xs
+AreTagged tag (x ∷ xs) = IsTagged tag x.payload × AreTagged tag xs
+
+-- ---- flattened rows
+
+-- what is flattened into the maps of variants
+abbrev pub payload_parts : Payload → List Flattened
+payload_parts (struct_payload x) = x.flatten
+payload_parts _ = []
+
+abbrev pub variant_parts : List Variant → List Flattened
+variant_parts [] = []
+variant_parts (x ∷ xs) = payload_parts x.payload ++ variant_parts xs
+
+-- what is flattened into the maps of a shape
+abbrev pub parts_in : Shape → List Flattened
+parts_in (shape.struct x) = x.flatten
+parts_in (shape.external xs) = variant_parts xs
+parts_in (shape.untagged xs) = variant_parts xs
+parts_in (shape.internal tag closed xs) = variant_parts xs
+parts_in _ = []
+
+abbrev pub IsOpenStruct : Option Entry → Type 0
+IsOpenStruct None = ⊥
+IsOpenStruct (Some e) = (x : Fields) × (e.shape ≡ shape.struct x) × (x.closed ≡ false)
+
+-- an open struct whose members have to be there, read or written
+abbrev pub IsPlainPart : List Row → Flattened → Type 0
+IsPlainPart rows p = IsOpenStruct (entry_at rows p.ty) × (p.required.deserialize ≡ true) × (p.required.serialize ≡ true)
+
+abbrev pub ArePlainParts : List Row → List Flattened → Type 0
+ArePlainParts rows [] = Unit {0}
+ArePlainParts rows (p ∷ ps) = IsPlainPart rows p × ArePlainParts rows ps
 
 -- ---- shapes
 
+-- of a shape that has the fields of flattened rows among its own
 abbrev pub IsPlainShape : Shape → Type 0
 IsPlainShape shape.null = Unit {0}
 IsPlainShape shape.bool = Unit {0}
@@ -72,7 +110,7 @@ IsPlainShape (shape.set n) = Unit {0}
 IsPlainShape (shape.array n len) = Unit {0}
 IsPlainShape (shape.up_to n cap) = Unit {0}
 IsPlainShape (shape.tuple ns) = Unit {0}
-IsPlainShape (shape.struct xs closed) = AreDistinct xs × AreNoted xs
+IsPlainShape (shape.struct x) = AreDistinct x.list × AreNoted x.list
 IsPlainShape (shape.newtype n) = Unit {0}
 IsPlainShape (shape.result t e) = Unit {0}
 IsPlainShape (shape.bound n) = Unit {0}
@@ -84,14 +122,15 @@ IsPlainShape (shape.untagged xs) = ArePlainVariants xs
 IsPlainShape (shape.internal tag closed xs) = AreDistinctVariants xs × ArePlainVariants xs × AreTagged tag xs
 IsPlainShape (shape.literal d) = IsPlainLiteral d
 
-abbrev pub IsPlainEntry : Option Entry → Type 0
-IsPlainEntry None = Unit {0}
-IsPlainEntry (Some e) = AreNotes e.notes × IsPlainShape e.shape
+abbrev pub IsPlainEntry : List Row → Option Entry → Type 0
+IsPlainEntry rows None = Unit {0}
+IsPlainEntry rows (Some e) = AreNotes e.notes × IsPlainShape (spread_in rows e.shape) × ArePlainParts rows (parts_in e.shape)
 
--- literals are plain, the notes of rows, fields and variants are annotations alone, and the names of each list of
--- fields are all different, and of the variants that are told by their names; no field is named as a tag beside it
+-- Literals are plain, the notes of rows, fields and variants are annotations alone, and what is flattened is an open struct.
+-- The names of a struct's own and flattened fields are all different, and those of the variants that are told by their
+-- names; what is tagged inside its map is a unit or has fields, none of them named as the tag.
 abbrev pub IsPlainTable : List Row → Type 0
-IsPlainTable rows = (n : ℕ) → IsPlainEntry (entry_at rows n)
+IsPlainTable rows = (n : ℕ) → IsPlainEntry rows (entry_at rows n)
 
 abbrev pub HasPlainLiteral : Shape → Type 0
 HasPlainLiteral (shape.literal d) = IsPlainLiteral d
@@ -105,18 +144,6 @@ IsNotedEntry (Some e) = AreNotes e.notes × HasPlainLiteral e.shape
 abbrev pub HasPlainNotes : List Row → Type 0
 HasPlainNotes rows = (n : ℕ) → IsNotedEntry (entry_at rows n)
 
-abbrev pub TagStandsApart : Shape → Type 0
-TagStandsApart (shape.internal tag closed xs) = AreTagged tag xs
-TagStandsApart _ = Unit {0}
-
-abbrev pub IsTaggedApart : Option Entry → Type 0
-IsTaggedApart None = Unit {0}
-IsTaggedApart (Some e) = TagStandsApart e.shape
-
--- where variants are told by a tag, no field of a variant is named as the tag
-abbrev pub TagsStandApart : List Row → Type 0
-TagsStandApart rows = (n : ℕ) → IsTaggedApart (entry_at rows n)
-
 -- ---- numbers in notes and literals
 
 abbrev pub FieldsHaveNoFloat : List Field → Type 0
@@ -127,7 +154,7 @@ abbrev pub PayloadHasNoFloat : Payload → Type 0
 PayloadHasNoFloat no_payload = Unit {0}
 PayloadHasNoFloat (newtype_payload n) = Unit {0}
 PayloadHasNoFloat (tuple_payload ns) = Unit {0}
-PayloadHasNoFloat (struct_payload xs closed) = FieldsHaveNoFloat xs
+PayloadHasNoFloat (struct_payload x) = FieldsHaveNoFloat x.list
 
 abbrev pub VariantsHaveNoFloat : List Variant → Type 0
 VariantsHaveNoFloat [] = Unit {0}
@@ -151,7 +178,7 @@ ShapeHasNoFloat (shape.set n) = Unit {0}
 ShapeHasNoFloat (shape.array n len) = Unit {0}
 ShapeHasNoFloat (shape.up_to n cap) = Unit {0}
 ShapeHasNoFloat (shape.tuple ns) = Unit {0}
-ShapeHasNoFloat (shape.struct xs closed) = FieldsHaveNoFloat xs
+ShapeHasNoFloat (shape.struct x) = FieldsHaveNoFloat x.list
 ShapeHasNoFloat (shape.newtype n) = Unit {0}
 ShapeHasNoFloat (shape.result t e) = Unit {0}
 ShapeHasNoFloat (shape.bound n) = Unit {0}

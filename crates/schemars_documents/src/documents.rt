@@ -117,7 +117,8 @@ pub fn required_names(
     Ok(names)
 }
 
-fn is_required(contract: Contract, required: Required) -> bool
+/// Whether a member has to be there, under this contract.
+pub fn is_required(contract: Contract, required: Required) -> bool
     ensures { result ≡ is_required (contract_of contract) (required_of required) }
 {
     match contract {

@@ -107,5 +107,5 @@ fn literal_template<'t>(schema: &Schema) -> Result<Template<'t>, AllocError>
 fn option_template<'t>(alloc: Global, some: TypeNo) -> Result<Template<'t>, AllocError>
     ensures { IfOk result (λ t. template_view t ≡ nullable (row some)) }
 {
-    Ok(Template::Nullable(Box::new(alloc, Template::Row(some))?))
+    Ok(Template::Nullable(Box::new(alloc, row(some))?))
 }

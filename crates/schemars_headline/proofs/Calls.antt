@@ -12,7 +12,7 @@ use Rattle.serde_json.proofs.Views.{Entry as Entries}
 use Rattle.schemars_schema.specs.Placing.{placed_at}
 use Rattle.schemars_json.specs.Json.{Text}
 use Rattle.schemars_types.specs.Rows.{name_at}
-use Rattle.schemars_types.specs.Edges.{height, rank}
+use Rattle.schemars_types.specs.Edges.{DirectEdge, height, rank}
 use Rattle.schemars_types.specs.Faults.{IsChecked}
 use Rattle.schemars_documents.specs.ContractOf.{contract_of}
 use Rattle.schemars_naming.specs.Naming.{name_of, IsOneToOne}
@@ -29,7 +29,7 @@ use Rattle.schemars_build.proofs.Placing.{placed_map, document-wider, document_d
 use Rattle.schemars_schema.specs.References.{references}
 use Rattle.schemars_build.specs.Reached.{AreReached}
 use Rattle.schemars_build.proofs.Steps.{Wider, step_wider, definition-wider}
-use Rattle.schemars_headline.proofs.Leading.{Stands, AllStand, stands_now, stands_before}
+use Rattle.schemars_headline.proofs.Standing.{Stands, AllStand, stands_now, stands_before}
 use Rattle.schemars_headline.proofs.Floats.{described_whole, root_whole, definitions_whole, whole_with_definitions}
 use Rattle.schemars_headline.proofs.Roots.{root_placed, root_call_means}
 
@@ -234,6 +234,10 @@ some_definitions path (e ∷ es) document some = refl
 
 -- ---- nothing yet
 
+no_edge : (n m : ℕ) → DirectEdge [] n m → ⊥
+no_edge n m (inl e) = omega (arith, e.0.1)
+no_edge n m (inr e) = omega (arith, e.1)
+
 pub checked_nothing : IsChecked []
 unfolding height rank IsDistinct
 checked_nothing = record {
@@ -241,7 +245,7 @@ checked_nothing = record {
   defined = λ n less. absurd (omega arith);
   names_differ = λ n. tt;
   height_bound = λ n. omega arith;
-  height_falls = λ n m edge. absurd (omega (arith, edge.0.1));
+  height_falls = λ n m edge. absurd (no_edge n m edge);
   rank_bound = λ n less. absurd (omega arith);
   rank_falls = λ n m edge. absurd (omega (arith, edge.1));
 }

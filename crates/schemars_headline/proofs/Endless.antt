@@ -1,20 +1,22 @@
 -- A struct whose one field, which is required, is the struct itself: its table is accepted, and no value belongs to it.
 use Rattle.std.proofs.Common.{◌≡◌, ◌≤◌, ℕ, zero, suc, List, [], ◌∷◌, Bool, true, false, Option, Some, None, Ordering}
-use Rattle.std.proofs.Common.{Less, Equal, Greater, nat_cmp, nat_lt, true≢false, refl, sym, ◌∙◌, arith}
-use Rattle.std.specs.Prelude.{codes, ◌&&◌, ◌||◌, not, is_some}
+use Rattle.std.proofs.Common.{Less, Equal, Greater, nat_cmp, true≢false, refl, sym, ap, ◌∙◌, arith, inl, inr}
+use Rattle.std.specs.Prelude.{codes, ◌&&◌, ◌||◌, not, is_some, option_and_then}
 use Rattle.std.specs.List.{IsDistinct}
+use Rattle.std.specs.Option.{option_map_or}
 use Rattle.std.specs.Ordering.{match_ordering}
 use Rattle.std.specs.Cmp.Lexicographic.{slice_cmp}
 use Rattle.std.proofs.lemmas.Map.Lookups.{exact_bytes}
+use Rattle.std.proofs.lemmas.Option.{slice_get_past}
 use Rattle.serde_json.specs.Data.{Data, null, boolean, number, string, array, object, Members, no_members, member}
 use Rattle.serde_json.specs.Find.{get_member}
 use Rattle.schemars_schema.specs.Verdict.{No}
 use Rattle.schemars_json.specs.Json.{Text, IsJson}
 use Rattle.schemars_schema.specs.Acceptance.{Patterns, draft2020_12, accepts, bound}
-use Rattle.schemars_shapes.specs.Shape.{Field, struct}
-use Rattle.schemars_types.specs.Rows.{Row}
+use Rattle.schemars_shapes.specs.Shape.{Field, bare_fields, struct}
+use Rattle.schemars_types.specs.Rows.{Row, entry_at}
 use Rattle.schemars_cycles.specs.Walks.{Walk, one, then}
-use Rattle.schemars_types.specs.Edges.{DirectEdge, SameValueEdge, names_at}
+use Rattle.schemars_types.specs.Edges.{is_inline_at, DirectEdge, SameValueEdge, names_at}
 use Rattle.schemars_types.specs.Faults.{IsUndefined, HasRepeated, IsAccepted}
 use Rattle.schemars_types.specs.Meaning.{Contract, Deserialize, Serialize, belongs_within, every_member, member_fits, is_required}
 use Rattle.schemars_types.proofs.Accepted.{never_first_repeated}
@@ -28,7 +30,7 @@ endless = (record {
   id = codes "L";
   name = codes "L";
   entry = Some (record
-      { inline = false; notes = no_members; shape = struct (next ∷ []) false });
+      { inline = false; notes = no_members; shape = struct (bare_fields (next ∷ []) false) });
 }) ∷ []
 
 -- ---- it is accepted
@@ -38,13 +40,14 @@ no_walk Edge none n m (one _ e) = none n m e
 no_walk Edge none n m (then k _ w e) = none k m e
 
 no_direct : (n m : ℕ) → ¬ DirectEdge endless n m
-no_direct zero zero e = cc
-no_direct zero (suc m) e = absurd (true≢false (sym e.1 ∙ never (nat_lt (suc m) 1)))
-  where
-    never : (b : Bool) → b && false ≡ false
-    never true = refl
-    never false = refl
-no_direct (suc n) m e = absurd (omega (arith, e.0.1))
+no_direct zero zero (inl e) = cc (e.1)
+no_direct zero (suc m) (inl e) =
+    let out : entry_at endless (suc m) ≡ None = ap (option_and_then (λ r. r.entry)) (slice_get_past endless (suc m) (omega arith)) in
+    let apart : is_inline_at endless (suc m) ≡ false = ap (λ o. option_map_or (λ e. e.inline) o false) out in
+    true≢false (sym e.1 ∙ apart)
+no_direct zero m (inr e) = absurd (omega (arith, e.0.1))
+no_direct (suc n) m (inl e) = absurd (omega (arith, e.0.1))
+no_direct (suc n) m (inr e) = absurd (omega (arith, e.0.1))
 
 no_same_value : (n m : ℕ) → ¬ SameValueEdge endless n m
 no_same_value zero m e = absurd (omega (arith, e.0.1))

@@ -1,7 +1,7 @@
 -- A document has no float but those of its notes.
 use Rattle.std.proofs.Common.{◌≡◌, ℕ, zero, suc, ℤ, pos, negsuc, List, [], ◌∷◌, ◌++◌, map, Option, Some, None, Bool, true, false}
-use Rattle.std.proofs.Common.{refl, true≢false, Ordering, Less, Equal, Greater, nat_cmp, inl, inr}
-use Rattle.std.specs.Prelude.{codes, is_some, if◌then◌else◌, ◌||◌, bytes_eq, option_map, option_and_then}
+use Rattle.std.proofs.Common.{refl, subst, true≢false, Ordering, Less, Equal, Greater, nat_cmp}
+use Rattle.std.specs.Prelude.{codes, is_some, if◌then◌else◌, ◌||◌, ◌&&◌, bytes_eq, option_map, option_and_then}
 use Rattle.std.specs.Ordering.{match_ordering}
 use Rattle.std.specs.Cmp.Lexicographic.{slice_cmp}
 use Rattle.std.specs.List.{AllByRecursion}
@@ -18,37 +18,43 @@ use Rattle.schemars_rewrite.specs.AllowNull.{null_in_type, with_item, holds_text
 use Rattle.schemars_rewrite.specs.AllowNull.{null_in_enum, const_or_null, null_in_const, null_in_values}
 use Rattle.schemars_schema.specs.Acceptance.{is_null}
 use Rattle.schemars_rewrite.specs.NullLaw.{zero_schema, text_items}
+use Rattle.schemars_rewrite.specs.Properties as properties
+use Rattle.schemars_rewrite.specs.Properties.{with_member, with_first, changed_at, put_missing, closed_where}
+use Rattle.schemars_rewrite.specs.Properties.{has_null_type, internally_tagged_variant}
 use Rattle.schemars_rewrite.specs.Variants.{unit_variant}
 use Rattle.schemars_shapes.specs.IntKind.{format_of}
 use Rattle.schemars_shapes.specs.Shape as shape
-use Rattle.schemars_shapes.specs.Shape.{Shape, Entry, Field, Payload, Variant, no_payload, newtype_payload, tuple_payload, struct_payload}
+use Rattle.schemars_shapes.specs.Shape.{Shape, Entry, Field, Flattened, Fields, Payload, Variant, no_payload, newtype_payload}
+use Rattle.schemars_shapes.specs.Shape.{tuple_payload, struct_payload}
 use Rattle.schemars_types.specs.Rows.{entry_at}
-use Rattle.schemars_types.specs.Meaning.{Contract, Deserialize, Serialize, least_of, greatest_of, tagged_fields, tagged_closed}
+use Rattle.schemars_types.specs.Meaning.{Contract, Deserialize, Serialize, least_of, greatest_of}
 use Rattle.schemars_types.specs.KeyOptions.{KeyOptions, any_key, only_keys, key_options}
 use Rattle.schemars_documents.specs.Documents.{annotated, with_title, with_meta_schema, root_document, int_keywords}
 use Rattle.schemars_documents.specs.Documents.{is_signed, bytes_document, required_names}
 use Rattle.schemars_templates.specs.Basis.{Basis}
-use Rattle.schemars_templates.specs.Template.{Template, finished, row, list, members, nullable, noted, Templates, no_templates}
-use Rattle.schemars_templates.specs.Template.{template, rows_of, left, keyed, filled, filled_in}
+use Rattle.schemars_templates.specs.Template.{Template, finished, asked, row, list, members, nullable, noted, with_keywords, tagged}
+use Rattle.schemars_templates.specs.Template.{Templates, no_templates, template, left, keyed, filled, filled_in}
 use Rattle.schemars_templates.specs.OfShape.{object_with, typed, said, values_of, all_patterns, pattern_properties_at}
 use Rattle.schemars_templates.specs.OfShape.{properties_at}
 use Rattle.schemars_schema.specs.SchemaData.{is_schema}
-use Rattle.schemars_templates.specs.OfShape.{KeywordTemplate, templates_of, property, map_template, tuple_template, struct_template}
+use Rattle.schemars_templates.specs.OfShape.{KeywordTemplate, templates_of, property, map_template, tuple_template}
+use Rattle.schemars_templates.specs.OfShape.{with_flattened, struct_template, content_template}
 use Rattle.schemars_templates.specs.OfShape.{payload_template, named_template, bare_units, other_items, choice_of}
 use Rattle.schemars_templates.specs.OfShape.{values_template, payload_item, titled, untagged_template, template_of}
-use Rattle.schemars_templates.specs.OfShape.{entry_template, tagged_template, internal_item, internal_template}
-use Rattle.schemars_templates.specs.Describes.{IsOwnDocument, IsWritten, Describes}
+use Rattle.schemars_templates.specs.OfShape.{entry_template, internal_item, internal_template}
+use Rattle.schemars_templates.specs.Describes.{IsWritten, Describes}
+use Rattle.schemars_parts.proofs.Floats.{flattened-whole, flattened_part-whole, opened_inside-whole}
 use Rattle.schemars_documents.specs.PlainTable.{FieldsHaveNoFloat, PayloadHasNoFloat, VariantsHaveNoFloat, ShapeHasNoFloat}
 use Rattle.schemars_documents.specs.PlainTable.{EntryHasNoFloat, HasNoFloat}
 use Rattle.schemars_schema.specs.Edits.{without, replaced}
 use Rattle.schemars_schema.specs.Placing.{placed, placed_at, tokens_of}
 use Rattle.schemars_shapes.specs.Units.{is_bare_unit}
 use Rattle.schemars_naming.specs.Work.{Plan, Work, basis_of}
-use Rattle.schemars_headline.proofs.Leading.{MayRefer, AllStand}
+use Rattle.schemars_headline.proofs.Standing.{MayRefer, AllStand}
 use Rattle.schemars_headline.specs.Headline.{with_definitions}
 use Rattle.schemars_headline.specs.Keys.{HasKeysOnce}
 use Rattle.schemars_headline.proofs.Keys.{AllMembers, all_members}
-use Rattle.schemars_headline.proofs.Parts.{either, left_all, first_all, parts_all}
+use Rattle.schemars_meaning.proofs.Parts.{either, left_all, first_all, described_holds, written_holds}
 
 abbrev IsWhole : Data → Type 0
 IsWhole s = has_float s ≡ false
@@ -189,17 +195,83 @@ whole_items : (ds : List Data) → AllByRecursion IsWhole ds → items_have_floa
 whole_items [] h = refl
 whole_items (d ∷ ds) h = rw h.0 (whole_items ds h.1)
 
+-- ---- tags
+
+pub whole_replaced : (k : Text) (d : Data) (ms : Members) → has_float d ≡ false → members_have_float ms ≡ false
+    → members_have_float (replaced k d ms) ≡ false
+whole_replaced k d no_members new h = refl
+whole_replaced k d (member l e ms) new h = go (bytes_eq k l) (whole_replaced k d ms new parts.1)
+  where
+    parts : (has_float e ≡ false) × (members_have_float ms ≡ false)
+    parts = either_false (has_float e) (members_have_float ms) h
+
+    go : (b : Bool) → members_have_float (replaced k d ms) ≡ false → members_have_float
+        (if b then member l d ms else member l e (replaced k d ms)) ≡ false
+    go true later = rw new parts.1
+    go false later = rw (parts.0) later
+
+whole_changed_at : (k : Text) (change : Data → Data) (d : Data) (ms : Members) → ((e : Data) → IsWhole e → IsWhole (change e)) → IsWhole d
+    → members_have_float ms ≡ false → members_have_float (changed_at k change d ms) ≡ false
+whole_changed_at k change d ms keeps new h = go (get_member k ms) (whole_member k ms h)
+  where
+    go : (o : Option Data) → ((e : Data) → o ≡ Some e → IsWhole e) → members_have_float
+        (elim o [ None ↦ put k (change d) ms | Some e ↦ replaced k (change e) ms ]) ≡ false
+    go None at = members_have_float-put k (change d) ms (keeps d new) h
+    go (Some e) at = whole_replaced k (change e) ms (keeps e (at e refl)) h
+
+whole_with_member : (k : Text) (d s : Data) → IsWhole d → IsWhole s → IsWhole (with_member k d s)
+whole_with_member k d (object ms) new h = members_have_float-put k d ms new h
+whole_with_member k d null new h = h
+whole_with_member k d (boolean b) new h = h
+whole_with_member k d (number n) new h = h
+whole_with_member k d (string t) new h = h
+whole_with_member k d (array ds) new h = h
+
+whole_with_first : (d s : Data) → IsWhole d → IsWhole s → IsWhole (with_first d s)
+whole_with_first d (array ds) new h = rw new h
+whole_with_first d null new h = h
+whole_with_first d (boolean b) new h = h
+whole_with_first d (number n) new h = h
+whole_with_first d (string t) new h = h
+whole_with_first d (object ms) new h = h
+
+whole_tagged : (tag name : Text) (ms : Members) → members_have_float ms ≡ false → members_have_float (properties.tagged tag name ms) ≡ false
+whole_tagged tag name ms h =
+    let typed = put (codes "type") (string (codes "object")) ms in
+    let is_typed : members_have_float typed ≡ false = members_have_float-put (codes "type") (string (codes "object")) ms refl h in
+    let with_tag = changed_at (codes "properties") (with_member tag (unit_variant name)) (object no_members) typed in
+    let has_tag : members_have_float with_tag ≡ false =
+    whole_changed_at (codes "properties") (with_member tag (unit_variant name)) (object no_members) typed
+    (λ e. whole_with_member tag (unit_variant name) e refl) refl is_typed in
+    whole_changed_at (codes "required") (with_first (string tag)) (array no_items) with_tag (λ e. whole_with_first (string tag) e refl)
+    refl has_tag
+
+whole_closed : (closed : Bool) (ms : Members) → members_have_float ms ≡ false → members_have_float (closed_where closed ms) ≡ false
+whole_closed false ms h = h
+whole_closed true ms h = go (is_some (get_member (codes "additionalProperties") ms))
+  where
+    go : (b : Bool) → members_have_float (if b then ms else put (codes "additionalProperties") (boolean false) ms) ≡ false
+    go true = h
+    go false = members_have_float-put (codes "additionalProperties") (boolean false) ms refl h
+
+whole_tagged_variant : (tag name : Text) (closed : Bool) (s : Data) → IsWhole s → IsWhole (internally_tagged_variant tag name closed s)
+whole_tagged_variant tag name closed s h =
+    whole_closed (closed && has_null_type s) (properties.tagged tag name (members_in s))
+    (whole_tagged tag name (members_in s) (whole_members_in s h))
+
 -- ---- filled templates
 
 -- neither its finished JSON nor its notes have a float
 abbrev mutual
   SaysWhole : Template → Type 0
   SaysWhole (finished d) = IsWhole d
-  SaysWhole (row n) = Unit {0}
+  SaysWhole (asked a) = Unit {0}
   SaysWhole (list es) = SayWhole es
   SaysWhole (members ks es) = SayWhole es
   SaysWhole (nullable t) = SaysWhole t
   SaysWhole (noted notes t) = (members_have_float notes ≡ false) × SaysWhole t
+  SaysWhole (with_keywords t u) = SaysWhole t × SaysWhole u
+  SaysWhole (tagged tag name closed t) = SaysWhole t
 
   SayWhole : Templates → Type 0
   SayWhole no_templates = Unit {0}
@@ -208,11 +280,14 @@ abbrev mutual
 mutual
   whole_filled : (t : Template) (ts : List Data) → SaysWhole t → AllByRecursion IsWhole ts → IsWhole (filled t ts)
   whole_filled (finished d) ts is h = is
-  whole_filled (row n) ts is h = first_all IsWhole refl ts h
+  whole_filled (asked a) ts is h = first_all IsWhole refl ts h
   whole_filled (list es) ts is h = whole_items (filled_in es ts) (whole_filled_in es ts is h)
   whole_filled (members ks es) ts is h = whole_keyed ks (filled_in es ts) no_members (whole_filled_in es ts is h) refl
   whole_filled (nullable t) ts is h = whole_allow_null (filled t ts) (whole_filled t ts is h)
   whole_filled (noted notes t) ts is h = whole_annotated notes (filled t ts) is.0 (whole_filled t ts is.1 h)
+  whole_filled (with_keywords t u) ts is h = flattened-whole (filled t ts) (filled u (left t ts)) (whole_filled t ts is.0 h)
+      (whole_filled u (left t ts) is.1 (left_all IsWhole t ts h))
+  whole_filled (tagged tag name closed t) ts is h = whole_tagged_variant tag name closed (filled t ts) (whole_filled t ts is h)
 
   whole_filled_in : (es : Templates) (ts : List Data) → SayWhole es → AllByRecursion IsWhole ts → AllByRecursion IsWhole (filled_in es ts)
   whole_filled_in no_templates ts is h = tt
@@ -263,11 +338,15 @@ tuple_whole : (ns : List ℕ) → SaysWhole (tuple_template ns)
 tuple_whole [] = refl
 tuple_whole (n ∷ ns) = search (rows_whole ns)
 
-struct_whole : (contract : Contract) (xs : List Field) (closed : Bool) → FieldsHaveNoFloat xs
-    → SaysWhole (struct_template contract xs closed)
-struct_whole contract xs closed n =
-    map_whole (map property xs) (text_items (required_names contract xs)) closed (properties_whole xs n)
-    (texts_whole (required_names contract xs))
+flattened_template : (contract : Contract) (ps : List Flattened) (t : Template) → SaysWhole t → SaysWhole (with_flattened contract ps t)
+flattened_template contract [] t h = h
+flattened_template contract (p ∷ ps) t h = flattened_template contract ps _ (h, tt)
+
+struct_whole : (contract : Contract) (x : Fields) → FieldsHaveNoFloat x.list → SaysWhole (struct_template contract x)
+struct_whole contract x n =
+    flattened_template contract x.flatten _
+    (map_whole (map property x.list) (text_items (required_names contract x.list)) x.closed (properties_whole x.list n)
+    (texts_whole (required_names contract x.list)))
 
 -- ---- enums
 
@@ -275,14 +354,14 @@ payload_whole : (contract : Contract) (p : Payload) → PayloadHasNoFloat p → 
 payload_whole contract no_payload n = refl
 payload_whole contract (newtype_payload j) n = tt
 payload_whole contract (tuple_payload js) n = tuple_whole js
-payload_whole contract (struct_payload xs closed) n = struct_whole contract xs closed n
+payload_whole contract (struct_payload x) n = struct_whole contract x n
 
 -- under its name alone
 named_whole : (contract : Contract) (name : Text) (p : Payload) → PayloadHasNoFloat p → SaysWhole (named_template contract name p)
 named_whole contract name no_payload n = refl
 named_whole contract name (newtype_payload j) n = search
 named_whole contract name (tuple_payload js) n = search (tuple_whole js)
-named_whole contract name (struct_payload xs closed) n = search (struct_whole contract xs closed n)
+named_whole contract name (struct_payload x) n = search (struct_whole contract x n)
 
 others_whole : (contract : Contract) (xs : List Variant) → VariantsHaveNoFloat xs → SayWhole (templates_of (other_items contract xs))
 others_whole contract [] n = tt
@@ -320,31 +399,17 @@ untagged_whole : (contract : Contract) (titles : Bool) (xs : List Variant) → V
 untagged_whole contract titles [] n = refl
 untagged_whole contract titles (x ∷ xs) n = (items_whole contract titles (x ∷ xs) n, tt)
 
-fields_whole : (p : Payload) → PayloadHasNoFloat p → FieldsHaveNoFloat (tagged_fields p)
-fields_whole no_payload n = tt
-fields_whole (newtype_payload j) n = tt
-fields_whole (tuple_payload js) n = tt
-fields_whole (struct_payload xs closed) n = n
-
-tagged_whole : (contract : Contract) (tag name : Text) (xs : List Field) (closed : Bool) → FieldsHaveNoFloat xs
-    → SaysWhole (tagged_template contract tag name xs closed)
-tagged_whole contract tag name xs closed n =
-    map_whole (map property xs ++ (tag, finished (unit_variant name)) ∷ []) (text_items (tag ∷ required_names contract xs)) closed
-    (properties xs n) (texts_whole (tag ∷ required_names contract xs))
-  where
-    properties : (xs : List Field) → FieldsHaveNoFloat xs
-        → SayWhole (templates_of (map (λ e. e.1) (map property xs ++ (tag, finished (unit_variant name)) ∷ [])))
-    properties [] h = (refl, tt)
-    properties (x ∷ xs) h = ((h.0, tt), properties xs h.1)
+content_whole : (contract : Contract) (p : Payload) → PayloadHasNoFloat p → SaysWhole (content_template contract p)
+content_whole contract no_payload n = refl
+content_whole contract (newtype_payload j) n = tt
+content_whole contract (tuple_payload js) n = tuple_whole js
+content_whole contract (struct_payload x) n = struct_whole contract x n
 
 internals_whole : (contract : Contract) (tag : Text) (closed : Bool) (xs : List Variant) → VariantsHaveNoFloat xs
     → SayWhole (templates_of (map (internal_item contract tag closed) xs))
 internals_whole contract tag closed [] n = tt
 internals_whole contract tag closed (x ∷ xs) n = (
-  (
-    n.0,
-    tagged_whole contract tag x.name (tagged_fields x.payload) (tagged_closed closed x.payload) (fields_whole x.payload n.1),
-  ),
+  (n.0, content_whole contract x.payload n.1),
   internals_whole contract tag closed xs n.2,
 )
 
@@ -392,7 +457,7 @@ shape_whole basis (shape.array j zero) n = refl
 shape_whole basis (shape.array j (suc len)) n = search
 shape_whole basis (shape.up_to j cap) n = search
 shape_whole basis (shape.tuple js) n = tuple_whole js
-shape_whole basis (shape.struct xs closed) n = struct_whole basis.contract xs closed n
+shape_whole basis (shape.struct x) n = struct_whole basis.contract x n
 shape_whole basis (shape.newtype j) n = tt
 shape_whole basis (shape.result a b) n = search
 shape_whole basis (shape.bound j) n = search
@@ -404,28 +469,20 @@ shape_whole basis (shape.untagged xs) n = untagged_whole basis.contract basis.ti
 shape_whole basis (shape.internal tag closed xs) n = internal_whole basis.contract tag closed xs n
 shape_whole basis (shape.literal d) n = either IsWhole (is_schema d) d (boolean true) n refl
 
-own_whole : (W : ℕ → Data → Type 0) (basis : Basis) → ((j : ℕ) (t : Data) → W j t → IsWhole t) → (o : Option Entry)
-    → EntryHasNoFloat o → (s : Data) → IsOwnDocument W basis o s → IsWhole s
-own_whole W basis whole None none s is = absurd is
-own_whole W basis whole (Some e) none s is =
-    let t = entry_template basis e in
-    rw is.is (whole_filled t is.parts (none.0, shape_whole basis e.shape none.1)
-    (parts_all IsWhole W whole (rows_of t) is.parts is.written))
+-- ---- the document of a row
 
 module _ (basis : Basis) (Refers : ℕ → Text → Type 0) (none : HasNoFloat basis.rows) where
-  written_by : (d : ℕ) → ((j : ℕ) (t : Data) → Describes basis Refers d j t → IsWhole t) → (j : ℕ) (t : Data)
-      → IsWritten Refers (Describes basis Refers d) j t → IsWhole t
-  written_by d own j t (inl h) = rw h.2 refl
-  written_by d own j t (inr h) = own j t h
+  fills : (n : ℕ) (e : Entry) → entry_at basis.rows n ≡ Some e → (ts : List Data) → AllByRecursion IsWhole ts
+      → IsWhole (filled (entry_template basis e) ts)
+  fills n e at ts h =
+      let here : EntryHasNoFloat (Some e) = subst EntryHasNoFloat at (none n) in
+      whole_filled (entry_template basis e) ts (here.0, shape_whole basis e.shape here.1) h
 
   pub described_whole : (d n : ℕ) (s : Data) → Describes basis Refers d n s → has_float s ≡ false
-  unfolding Describes
-  described_whole zero n s h = absurd h
-  described_whole (suc d) n s h = own_whole (IsWritten Refers (Describes basis Refers d)) basis
-      (written_by d (described_whole d)) (entry_at basis.rows n) (none n) s h
+  described_whole = described_holds IsWhole flattened_part-whole opened_inside-whole basis Refers (λ j r h. refl) fills
 
   pub written_whole : (d n : ℕ) (s : Data) → IsWritten Refers (Describes basis Refers d) n s → has_float s ≡ false
-  written_whole d n s h = written_by d (described_whole d) n s h
+  written_whole = written_holds IsWhole flattened_part-whole opened_inside-whole basis Refers (λ j r h. refl) fills
 
 whole_with_title : (name : Text) (ms : Members) → members_have_float ms ≡ false → members_have_float (with_title name ms) ≡ false
 whole_with_title name ms e = go (is_some (get_member (codes "title") ms))
@@ -461,19 +518,6 @@ definitions_whole plan w none definitions once =
     found_whole w.definitions once (λ k d found.
     let definition = definitions k d found in
     described_whole (basis_of plan) (MayRefer plan w) none definition.depth definition.row d definition.describes)
-
-pub whole_replaced : (k : Text) (d : Data) (ms : Members) → has_float d ≡ false → members_have_float ms ≡ false
-    → members_have_float (replaced k d ms) ≡ false
-whole_replaced k d no_members new h = refl
-whole_replaced k d (member l e ms) new h = go (bytes_eq k l) (whole_replaced k d ms new parts.1)
-  where
-    parts : (has_float e ≡ false) × (members_have_float ms ≡ false)
-    parts = either_false (has_float e) (members_have_float ms) h
-
-    go : (b : Bool) → members_have_float (replaced k d ms) ≡ false → members_have_float
-        (if b then member l d ms else member l e (replaced k d ms)) ≡ false
-    go true later = rw new parts.1
-    go false later = rw (parts.0) later
 
 -- ---- placed at a path
 

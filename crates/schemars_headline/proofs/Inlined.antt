@@ -1,11 +1,10 @@
 -- Where rows are inlined, a reference closes a cycle.
 use Rattle.std.proofs.Common.{◌≡◌, inl, inr, ℕ, zero, suc, List, [], ◌∷◌, ◌++◌, Bool, true, false, Option, Some, None, refl, sym, ap, ◌∙◌}
-use Rattle.std.proofs.Common.{subst, arith, Contains, All, get_or, true≢false}
+use Rattle.std.proofs.Common.{subst, arith, length, Contains, true≢false}
 use Rattle.std.specs.Prelude.{◌⊎◌, ◌||◌, ◌&&◌, not, nat_eq}
 use Rattle.std.specs.List.{list_any}
 use Rattle.std.specs.Option.{option_map_or}
 use Rattle.std.specs.Ordering.{match_ordering}
-use Rattle.std.proofs.lemmas.List.{get_or_default}
 use Rattle.std.proofs.lemmas.Cmp.{tied_itself, nat_list_cmp_total}
 use Rattle.std.proofs.lemmas.Bool.{eqb-true}
 use Rattle.std.proofs.lemmas.List.Folds.{list_any-append}
@@ -17,15 +16,17 @@ use Rattle.schemars_schema.specs.References.{references}
 use Rattle.schemars_cycles.specs.Walks.{Walk, one, then}
 use Rattle.schemars_shapes.specs.Shape.{Entry, numbers_of}
 use Rattle.schemars_types.specs.Rows.{Row, entry_at, name_at}
-use Rattle.schemars_types.specs.Edges.{numbers_at, is_inline_at}
+use Rattle.schemars_types.specs.Edges.{numbers_at, is_inline_at, option_at}
 use Rattle.schemars_documents.specs.PlainTable.{IsPlainTable}
 use Rattle.schemars_documents.specs.Documents.{root_document}
 use Rattle.schemars_templates.specs.Basis.{Basis}
-use Rattle.schemars_templates.specs.Template.{rows_of}
-use Rattle.schemars_templates.specs.OfShape.{entry_template}
-use Rattle.schemars_templates.specs.Describes.{ArePartsWritten, IsOwnDocument, IsWritten, Describes}
-use Rattle.schemars_meaning.proofs.Rows.{all_rows}
-use Rattle.schemars_naming.specs.Placed.{is_pending, is_in_place, IsPlaced, IsDocumentWithin, IsDocument}
+use Rattle.schemars_templates.specs.Template.{Ask, part, members_of, content}
+use Rattle.schemars_templates.specs.Describes.{IsOwnDocument, IsAnswered, IsContent, IsWritten, Describes, without_options_within}
+use Rattle.schemars_templates.specs.Describes.{without_options}
+use Rattle.schemars_meaning.proofs.Referring.{plain_rows}
+use Rattle.schemars_naming.specs.Placed.{is_pending, pending_in, is_in_place, IsPlaced, IsFilledWithin, IsDocument}
+use Rattle.schemars_build.proofs.Placing.{Answers}
+use Rattle.schemars_headline.proofs.AskedRows.{row_asked, option_edges, own_asked}
 use Rattle.schemars_naming.specs.Work.{Work, Refers, basis_of}
 use Rattle.schemars_build.specs.Parts.{IsSubschema}
 use Rattle.schemars_build.specs.Reached.{IsReached, by_reference, by_definition}
@@ -74,65 +75,85 @@ placed_inlined false false h = cc
 abbrev Nothing : ℕ → Text → Type 0
 Nothing n r = ⊥
 
-parts_all : (P : ℕ → Type 0) (W V : ℕ → Data → Type 0) → ((j : ℕ) (t : Data) → P j → W j t → V j t) → (ms : List ℕ) (ts : List Data)
-    → ((j : ℕ) → Contains ms j → P j) → ArePartsWritten W ms ts → ArePartsWritten V ms ts
-parts_all P W V map [] ts all h = h
-parts_all P W V map (m ∷ ms) [] all h = h
-parts_all P W V map (m ∷ ms) (t ∷ ts) all h = (
-  map m t (all m (0, omega arith, refl)) h.0,
-  parts_all P W V map ms ts (λ j is. all j (suc is.0, omega (arith, is.1), is.2)) h.1,
-)
+module _ (rows : List Row) where
+  walk_on : (n m k : ℕ) → Edge rows n m → Walk (Edge rows) m k → Walk (Edge rows) n k
+  walk_on n m k edge (one _ e) = then m k (one m edge) e
+  walk_on n m k edge (then j _ w e) = then j k (walk_on n m j edge w) e
+
+  -- an Option leads to the row without the Options around it
+  options_lead : (steps m : ℕ) → IsAt rows (without_options_within rows steps m) m
+  options_lead zero m = inl refl
+  options_lead (suc steps) m = by (option_at rows m) refl (options_lead steps)
+    where
+      by : (o : Option ℕ) → option_at rows m ≡ o → ((k : ℕ) → IsAt rows (without_options_within rows steps k) k)
+          → IsAt rows (elim o [ None ↦ m | Some k ↦ without_options_within rows steps k ]) m
+      by None at rest = inl refl
+      by (Some k) at rest = elim (rest k) [
+        | inl same ↦ inr (subst (λ j. Walk (Edge rows) m j) same (one k (option_edges rows m k at).0))
+        | inr walk ↦ inr (walk_on m k (without_options_within rows steps k) (option_edges rows m k at).0 walk)
+      ]
+
+  further : (n j m : ℕ) → IsAt rows n m → IsAt rows j n → IsAt rows j m
+  further n j m (inl same) at = subst (IsAt rows j) (sym same) at
+  further n j m (inr walk) (inl same) = inr (subst (λ k. Walk (Edge rows) m k) same walk)
+  further n j m (inr walk) (inr more) = inr (joined walk more)
+    where
+      joined : {k : ℕ} → Walk (Edge rows) m n → Walk (Edge rows) n k → Walk (Edge rows) m k
+      joined w (one k e) = then n k w e
+      joined w (then i k v e) = then i k (joined w v) e
 
 module _ (basis : Basis) (R : ℕ → Text → Type 0) (free : HasNoCycle basis.rows) where
-  row_leads : (n : ℕ) (e : Entry) → entry_at basis.rows n ≡ Some e → (j : ℕ) → Contains (rows_of (entry_template basis e)) j
-      → Edge basis.rows n j
-  row_leads n e at j is =
-      let numbers : numbers_at basis.rows n ≡ numbers_of e.shape = ap (λ o. option_map_or (λ x. numbers_of x.shape) o []) at in
-      let P : ℕ → Type 0 = λ m. Contains (numbers_of e.shape) m in
-      let all : All P (rows_of (entry_template basis e)) =
-      all_rows P basis e.shape (λ k d less. (
-        k,
-        less,
-        get_or_default (numbers_of e.shape) k (get_or (numbers_of e.shape) k d) d less,
-      )) in
-      subst (λ (ms : List ℕ). Contains ms j) (sym numbers) (subst P is.2 (all is.0 j is.1))
+  abbrev rows : List Row
+  rows = basis.rows
 
-  bare-within : (d : ℕ) (pending : List ℕ) (n : ℕ) (s : Data) → AllLead basis.rows pending n
-      → IsDocumentWithin basis true R d pending n s → Describes basis Nothing d n s
-  unfolding IsDocumentWithin Describes
+  abbrev Filled : ℕ → List ℕ → ℕ → Data → Type 0
+  Filled = IsFilledWithin basis true R
+
+  abbrev Bare : ℕ → ℕ → Data → Type 0
+  Bare = Describes basis Nothing
+
+  -- while these rows are pending, each of which leads to row n
+  module _ (d : ℕ) (pending : List ℕ) (n : ℕ) (lead : AllLead rows pending n)
+      (deeper : (inner : List ℕ) (j : ℕ) (t : Data) → AllLead rows inner j → Filled d inner j t → Bare d j t) where
+    lead_to : (j : ℕ) → Edge rows n j → AllLead rows pending j
+    lead_to j edge m is = inr (leads_on rows n j m edge (lead m is))
+
+    written : (j : ℕ) (t : Data) → Edge rows n j → IsPlaced rows true pending R (λ m. Filled d (pending_in true pending m) m) j t
+        → IsWritten Nothing (Bare d) j t
+    written j t edge (inl g) =
+        let back = lead j (placed_inlined (is_inline_at rows j) (is_pending pending j) g.1.1) in
+        absurd (free j (leads_on rows n j j edge back))
+    written j t edge (inr g) = inr (deeper (pending_in true pending j) j t (lead_within rows pending j (lead_to j edge)) g.0)
+
+    content_bare : (b : Bool) (j : ℕ) (t : Data) → Edge rows n j
+        → IsContent b (Filled d pending j) (IsPlaced rows true pending R (λ m. Filled d (pending_in true pending m) m) j) t
+        → IsContent b (Bare d j) (IsWritten Nothing (Bare d) j) t
+    content_bare b j t edge (s, own, inl h) = (s, deeper pending j s (lead_to j edge) own, inl h)
+    content_bare b j t edge (s, own, inr h) = (s, deeper pending j s (lead_to j edge) own, inr (h.0, written j t edge h.1))
+
+    answer_bare : (a : Ask) (t : Data) → Edge rows n (row_asked a) → Answers basis true R d pending a t
+        → IsAnswered rows (λ m b. Unit {0}) (IsWritten Nothing (Bare d)) (Bare d) a t
+    answer_bare (part j) t edge h = written j t edge h
+    answer_bare (members_of j required) t edge h =
+        let inside : AllLead rows pending (without_options rows j) =
+        λ m is. further rows j (without_options rows j) m (lead_to j edge m is) (options_lead rows (length rows) j) in
+        (h.0, deeper pending (without_options rows j) h.0 inside h.1, h.2)
+    answer_bare (content j) t edge h = (h.0, tt, content_bare h.0 j t edge h.2)
+
+  bare-within : (d : ℕ) (pending : List ℕ) (n : ℕ) (s : Data) → AllLead rows pending n → Filled d pending n s → Bare d n s
+  unfolding IsFilledWithin Describes
   bare-within zero pending n s lead h = absurd h
-  bare-within (suc d) pending n s lead h = by (bare-within d (insert_key nat_eq pending n)) (entry_at basis.rows n) refl h
+  bare-within (suc d) pending n s lead h =
+      by (λ inner j t inner_lead. bare-within d inner j t inner_lead) (entry_at rows n) refl h
     where
-      inner : List ℕ
-      inner = insert_key nat_eq pending n
-
-      inner_lead : AllLead basis.rows inner n
-      inner_lead = lead_within basis.rows pending n lead
-
-      Old : ℕ → Data → Type 0
-      Old = IsPlaced basis.rows true inner R (IsDocumentWithin basis true R d inner)
-
-      New : ℕ → Data → Type 0
-      New = IsWritten Nothing (Describes basis Nothing d)
-
-      Deeper : Type 0
-      Deeper = (j : ℕ) (t : Data) → AllLead basis.rows inner j → IsDocumentWithin basis true R d inner j t → Describes basis Nothing d j t
-
-      part : Deeper → (j : ℕ) (t : Data) → Edge basis.rows n j → Old j t → New j t
-      part deeper j t edge (inl g) =
-          let back = inner_lead j (placed_inlined (is_inline_at basis.rows j) (is_pending inner j) g.1.1) in
-          absurd (free j (leads_on basis.rows n j j edge back))
-      part deeper j t edge (inr g) =
-          inr (deeper j t (λ m is. inr (leads_on basis.rows n j m edge (inner_lead m is))) g.0)
-
-      by : Deeper → (o : Option Entry) → entry_at basis.rows n ≡ o → IsOwnDocument Old basis o s → IsOwnDocument New basis o s
+      by : ((inner : List ℕ) (j : ℕ) (t : Data) → AllLead rows inner j → Filled d inner j t → Bare d j t) → (o : Option Entry)
+          → entry_at rows n ≡ o → IsOwnDocument (Answers basis true R d pending) basis o s
+          → IsOwnDocument (IsAnswered rows (λ m b. Unit {0}) (IsWritten Nothing (Bare d)) (Bare d)) basis o s
       by deeper None at g = absurd g
-      by deeper (Some e) at g = record {
-        parts = g.parts;
-        written = parts_all (Edge basis.rows n) Old New (part deeper) (rows_of (entry_template basis e)) g.parts
-            (row_leads n e at) g.written;
-        is = g.is;
-      }
+      by deeper (Some e) at g =
+          let numbers : numbers_at rows n ≡ numbers_of e.shape = ap (λ o. option_map_or (λ x. numbers_of x.shape) o []) at in
+          own_asked (Answers basis true R d pending) (IsAnswered rows (λ m b. Unit {0}) (IsWritten Nothing (Bare d)) (Bare d)) basis e
+          (λ a t c. answer_bare d pending n lead deeper a t (subst (λ (ms : List ℕ). Contains ms (row_asked a)) (sym numbers) c)) s g
 
 no_item : (xs : List Data) → all_pass (λ x. false) xs ≡ true → xs ≡ []
 no_item [] h = refl
@@ -142,8 +163,9 @@ no_item (x ∷ xs) h = cc
 pub bare : (basis : Basis) (R : ℕ → Text → Type 0) (n : ℕ) (s : Data) → IsPlainTable basis.rows → HasNoCycle basis.rows
     → IsDocument basis true R [] n s → references s ≡ []
 bare basis R n s plain free h =
-    let described = bare-within basis R free h.0 [] n s (λ m is. cc) h.1 in
-    no_item (references s) (described_resolved (λ x. false) basis Nothing plain (λ j r never. absurd never) h.0 n s described).1
+    let described = bare-within basis R free h.0 (pending_in true [] n) n s (lead_within basis.rows [] n (λ m is. cc)) h.1 in
+    no_item (references s)
+    (described_resolved (λ x. false) basis Nothing (plain_rows basis.rows plain) (λ j r never. absurd never) h.0 n s described).1
 
 -- where rows are inlined and none is pending, each stands in place
 pub part_inlined : (s : State) (n : ℕ) (d : Data) → IsSubschema (plan_of s None) false (work_of s) n d → IsInlined s d

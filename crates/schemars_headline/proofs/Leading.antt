@@ -1,10 +1,10 @@
 -- Where the references of a table's documents lead: to the root, or to the definition of their row.
-use Rattle.std.proofs.Common.{◌≡◌, ◌⊎◌, inl, inr, ℕ, zero, suc, ◌+◌, ◌*◌, ◌<◌, ◌≤◌, List, [], ◌∷◌, Option, Some, None}
-use Rattle.std.proofs.Common.{Bool, true, false, Contains, length, refl, sym, ap, ◌∙◌, arith, subst}
+use Rattle.std.proofs.Common.{◌≡◌, ◌⊎◌, inl, inr, ℕ, suc, ◌+◌, ◌*◌, ◌<◌, ◌≤◌, List, [], ◌∷◌, Option, Some, None}
+use Rattle.std.proofs.Common.{true, Contains, length, refl, sym, ap, ◌∙◌, arith, subst}
 use Rattle.std.specs.Prelude.{codes, is_some}
 use Rattle.std.specs.Str.{IsUtf8}
 use Rattle.std.proofs.Math.Nat.{mul-le-mul_left}
-use Rattle.std.proofs.lemmas.List.Elements.{Contains-append_right}
+use Rattle.std.proofs.lemmas.List.Elements.{Contains-append_left, Contains-append_right}
 use Rattle.serde_json.specs.Data.{Data, null, boolean, number, string, array, object, Members, no_members, member, depth}
 use Rattle.serde_json.specs.Find.{get_member}
 use Rattle.serde_json.specs.Events.{members_len}
@@ -16,86 +16,47 @@ use Rattle.schemars_schema.specs.Acceptance.{Patterns, Judge, judge, count_of_de
 use Rattle.schemars_json.proofs.Encodings.{lookup-encoded, lookup-ascii}
 use Rattle.schemars_rewrite.specs.NullLaw.{context2020_12}
 use Rattle.schemars_shapes.specs.Shape as shape
-use Rattle.schemars_shapes.specs.Shape.{Shape, Entry, Payload, Variant, no_payload, newtype_payload, tuple_payload, struct_payload}
-use Rattle.schemars_shapes.specs.Shape.{payload_numbers, variant_numbers, newtype_numbers, numbers_of, same_value_numbers}
+use Rattle.schemars_shapes.specs.Shape.{Shape, Entry, Variant, payload_same, of_variants, same_value_numbers}
 use Rattle.schemars_types.specs.Rows.{Row, entry_at}
-use Rattle.schemars_types.specs.Edges.{numbers_at, same_value_numbers_at, rank}
+use Rattle.schemars_types.specs.Edges.{rank}
 use Rattle.schemars_types.specs.Faults.{IsChecked}
+use Rattle.schemars_keys.proofs.Asked.{asked, entry_low}
 use Rattle.schemars_templates.specs.Describes.{IsWritten, Describes}
 use Rattle.schemars_documents.specs.PlainTable.{IsPlainTable}
 use Rattle.schemars_documents.specs.ContractOf.{contract_of}
 use Rattle.schemars_naming.specs.Naming.{Naming, IsOneToOne, name_of}
-use Rattle.schemars_naming.specs.Work.{Plan, Work, IsKey, Refers, IsDefinition, reference_to, basis_of}
+use Rattle.schemars_naming.specs.Work.{Plan, Work, IsKey, reference_to, basis_of}
 use Rattle.schemars_headline.specs.Headline.{AcceptsItsValues}
 use Rattle.schemars_headline.proofs.Keys.{key_here, key_later, key_cases}
 use Rattle.schemars_meaning.proofs.Mapping.{describes-wider, written_map}
-use Rattle.schemars_build.proofs.Placing.{document_describes}
 use Rattle.schemars_meaning.proofs.Enums.{IsNewtypeIn}
 use Rattle.schemars_meaning.proofs.Meanings.{IsSame}
 use Rattle.schemars_meaning.proofs.Following.{References, InList, Setting, written_says, described_schema}
+use Rattle.schemars_build.proofs.Settled.{fields_settled}
+use Rattle.schemars_headline.proofs.Standing.{MayRefer, AllStand}
 
 -- ---- ranks
 
-entry_low : (rows : List Row) (n : ℕ) (e : Entry) → entry_at rows n ≡ Some e → n < length rows
-entry_low [] n e at = cc
-entry_low (r ∷ rs) zero e at = omega arith
-entry_low (r ∷ rs) (suc n) e at = omega (arith, entry_low rs n e at)
-
-alone : (m j : ℕ) → j ≡ m → Contains (m ∷ []) j
-alone m j same = (0, omega arith, sym same)
-
--- the row of a newtype variant that has the value itself is among the numbers of the variants
-newtype_number : (xs : List Variant) (j : ℕ) → IsNewtypeIn j xs → Contains (newtype_numbers xs) j × Contains (variant_numbers xs) j
+-- the row of a newtype variant that has the value itself is among those of the variants
+newtype_number : (xs : List Variant) (j : ℕ) → IsNewtypeIn j xs → Contains (of_variants payload_same xs) j
 newtype_number [] j same = absurd same
-newtype_number (x ∷ xs) j (inl is) = rw is ((0, omega arith, refl), (0, omega arith, refl))
-newtype_number (x ∷ xs) j (inr later) =
-    let among = newtype_number xs j later in
-    (behind x.payload refl among.0, Contains-append_right (payload_numbers x.payload) (variant_numbers xs) j among.1)
-  where
-    behind : (p : Payload) → x.payload ≡ p → Contains (newtype_numbers xs) j → Contains (newtype_numbers (x ∷ xs)) j
-    behind no_payload is c = rw is c
-    behind (newtype_payload n) is c = rw is (Contains-append_right (n ∷ []) (newtype_numbers xs) j c)
-    behind (tuple_payload ns) is c = rw is c
-    behind (struct_payload list closed) is c = rw is c
+newtype_number (x ∷ xs) j (inl is) =
+    let here : Contains (payload_same x.payload) j = subst (λ p. Contains (payload_same p) j) (sym is) (0, omega arith, refl) in
+    Contains-append_left (payload_same x.payload) (of_variants payload_same xs) j here
+newtype_number (x ∷ xs) j (inr later) = Contains-append_right (payload_same x.payload) (of_variants payload_same xs) j
+    (newtype_number xs j later)
 
 -- a part that has the row's own values is among its numbers
-same_number : (kind : Shape) (j : ℕ) → IsSame kind j → Contains (same_value_numbers kind) j × Contains (numbers_of kind) j
-same_number (shape.option i) j same = (alone i j same, alone i j same)
-same_number (shape.newtype i) j same = (alone i j same, alone i j same)
-same_number shape.null j same = absurd same
-same_number shape.bool j same = absurd same
-same_number (shape.int k) j same = absurd same
-same_number (shape.non_zero k) j same = absurd same
-same_number shape.number j same = absurd same
-same_number shape.text j same = absurd same
-same_number shape.char j same = absurd same
-same_number (shape.formatted f) j same = absurd same
-same_number shape.any j same = absurd same
-same_number shape.bytes j same = absurd same
-same_number shape.schema_itself j same = absurd same
-same_number (shape.seq i) j same = absurd same
-same_number (shape.set i) j same = absurd same
-same_number (shape.array i len) j same = absurd same
-same_number (shape.up_to i cap) j same = absurd same
-same_number (shape.tuple ns) j same = absurd same
-same_number (shape.struct xs closed) j same = absurd same
-same_number (shape.result a b) j same = absurd same
-same_number (shape.bound i) j same = absurd same
-same_number (shape.range i) j same = absurd same
-same_number (shape.either a b) j same = absurd same
-same_number (shape.map_from key value) j same = absurd same
-same_number (shape.external xs) j same = absurd same
+same_number : (kind : Shape) (j : ℕ) → IsSame kind j → Contains (same_value_numbers kind) j
+same_number (shape.option i) j same = (0, omega arith, sym same)
+same_number (shape.newtype i) j same = (0, omega arith, sym same)
 same_number (shape.untagged xs) j same = newtype_number xs j same
-same_number (shape.internal tag closed xs) j same = absurd same
-same_number (shape.literal d) j same = absurd same
+same_number kind j same = absurd same
 
 rank_below : (rows : List Row) → IsChecked rows → (n : ℕ) (e : Entry) (j : ℕ) → entry_at rows n ≡ Some e → IsSame e.shape j
     → rank rows j < rank rows n
 rank_below rows checked n e j at same =
-    let among = same_number e.shape j same in
-    let edge : Contains (same_value_numbers_at rows n) j = rw at among.0 in
-    let within : Contains (numbers_at rows n) j = rw at among.1 in
-    checked.rank_falls n j (edge, checked.within.within n j within)
+    checked.rank_falls n j (asked rows checked.within n e at j (same_number e.shape j same))
 
 -- ---- what a reference leads to
 
@@ -197,55 +158,6 @@ pub holds_at : (path : Text) (definitions : Members) (document : Data) → looku
 holds_at path definitions document found counts = record {
   leads = λ name d text is. lookup-encoded (35 ∷ path) name document definitions text found ∙ is;
   counts = counts;
-}
-
--- with `#` free there are more references
-pub free_refers : (plan : Plan) (w : Work) (free : Bool) (j : ℕ) (r : Text) → Refers plan free w j r → Refers plan true w j r
-free_refers plan w free j r (inl h) = inl (h.0, refl, h.2, h.3)
-free_refers plan w free j r (inr h) = inr h
-
--- a call without a root, as earlier ones are to the definitions that they left
-abbrev pub rootless : Plan → Plan
-rootless plan = record plan { root = None }
-
--- how a definition that stands may refer: as the running call does, or as an earlier one did, by the name of each row
-abbrev pub MayRefer : Plan → Work → ℕ → Text → Type 0
-MayRefer plan w n r = Refers plan true w n r ⊎ Refers (rootless plan) true w n r
-
-pub refers_may : (plan : Plan) (w : Work) (free : Bool) (j : ℕ) (r : Text) → Refers plan free w j r → MayRefer plan w j r
-refers_may plan w free j r h = inl (free_refers plan w free j r h)
-
--- a definition that stands in the document of the running call
-pub record Stands (plan : Plan) (w : Work) (name : Text) (d : Data) : Type 0 where
-  pub row : ℕ
-  pub is_named : name_of row plan.contract w.names ≡ Some name
-  pub is_text : IsUtf8 name
-  pub depth : ℕ
-  pub describes : Describes (basis_of plan) (MayRefer plan w) depth row d
-
-abbrev pub AllStand : Plan → Work → Type 0
-AllStand plan w = (name : Text) (d : Data) → get_member name w.definitions ≡ Some d → Stands plan w name d
-
-pub stands_now : (plan : Plan) (w : Work) (name : Text) (d : Data) → IsDefinition plan w name d → Stands plan w name d
-stands_now plan w name d h = record {
-  row = h.row;
-  is_named = h.is_named;
-  is_text = h.is_text;
-  depth = h.document.0;
-  describes = describes-wider (basis_of plan) (Refers plan false w) (MayRefer plan w) (refers_may plan w false)
-      h.document.0 h.document.0 (omega arith) h.row d
-      (document_describes (basis_of plan) plan.inlines (Refers plan false w) h.pending h.row d h.document);
-}
-
-pub stands_before : (plan : Plan) (w : Work) (name : Text) (d : Data) → IsDefinition (rootless plan) w name d → Stands plan w name d
-stands_before plan w name d h = record {
-  row = h.row;
-  is_named = h.is_named;
-  is_text = h.is_text;
-  depth = h.document.0;
-  describes = describes-wider (basis_of plan) (Refers (rootless plan) false w) (MayRefer plan w)
-      (λ j r e. inr (free_refers (rootless plan) w false j r e)) h.document.0 h.document.0 (omega arith) h.row d
-      (document_describes (basis_of plan) plan.inlines (Refers (rootless plan) false w) h.pending h.row d h.document);
 }
 
 -- the root is the document itself, or says the same
@@ -365,6 +277,7 @@ module _ (plan : Plan) (w : Work) (document : Data) (checked : IsChecked plan.ro
               refers_listed to.2 to.2 (omega arith) j to.1 to.5,
         );
     plain = plain;
+    settled = fields_settled plan.rows checked;
     rank = rank plan.rows;
     ranks = length plan.rows;
     low_rank = λ n e at. checked.rank_bound n (entry_low plan.rows n e at);

@@ -1,8 +1,10 @@
 pub mod Keys
-pub mod Parts
-pub mod OwnKeys
-pub mod Resolving
+pub mod Standing
 pub mod Floats
+pub mod Lacking
+pub mod OwnKeys
+pub mod AskedRows
+pub mod Resolving
 pub mod Leading
 pub mod Placed
 pub mod Roots

@@ -13,6 +13,7 @@ use Rattle.schemars_naming.specs.Work.{IsKey, Refers, reference_to, basis_of}
 use Rattle.schemars_headline.specs.State.{State, plan_of, work_of, HasOwnDefinitions, ReferencesNameKeys}
 use Rattle.schemars_headline.proofs.Keys.{key_here, key_later, key_cases}
 use Rattle.schemars_build.proofs.Placing.{document_describes}
+use Rattle.schemars_meaning.proofs.Referring.{AreNotedRows, plain_rows}
 use Rattle.schemars_headline.proofs.Resolving.{resolve-each, described_resolved}
 
 -- whether this is the reference of one of these keys
@@ -56,13 +57,14 @@ key_named path (member k d ms) r h = elim (or_cases (option_map_or (bytes_eq (re
     text (boolean b) is = cc
     text (number n) is = cc
     text (array ds) is = cc
-    text (object members) is = cc
+    text (object es) is = cc
 
--- each reference in a definition names a key, where the definitions are the generator's own
-pub references_name_keys : (s : State) → HasOwnDefinitions s → IsPlainTable s.rows → ReferencesNameKeys s
-references_name_keys s own plain k d r found among =
+-- Each reference in a definition names a key, where the definitions are the generator's own, literals are plain, and all notes are
+-- annotations alone, whatever is flattened or stands beside a tag.
+pub noted_name_keys : (s : State) → HasOwnDefinitions s → AreNotedRows s.rows → ReferencesNameKeys s
+noted_name_keys s own noted k d r found among =
     let definition = own k d found in
-    let all = (described_resolved test (basis_of (plan_of s None)) (Refers (plan_of s None) false (work_of s)) plain leads
+    let all = (described_resolved test (basis_of (plan_of s None)) (Refers (plan_of s None) false (work_of s)) noted leads
     definition.document.0 definition.row d (document_describes (basis_of (plan_of s None)) s.settings.inlines
     (Refers (plan_of s None) false (work_of s)) definition.pending definition.row d definition.document)).1 in
     key_named (plan_of s None).path s.definitions r (resolve-each test (references d) r all among)
@@ -73,3 +75,7 @@ references_name_keys s own plain k d r found among =
     leads : (j : ℕ) (t : Text) → Refers (plan_of s None) false (work_of s) j t → test (string t) ≡ true
     leads j t (inl h) = cc
     leads j t (inr h) = rw (h.3) (names_a_key (plan_of s None).path s.definitions h.0 h.2)
+
+-- so it is in a plain table
+pub references_name_keys : (s : State) → HasOwnDefinitions s → IsPlainTable s.rows → ReferencesNameKeys s
+references_name_keys s own plain = noted_name_keys s own (plain_rows s.rows plain)

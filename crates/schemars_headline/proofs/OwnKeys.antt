@@ -1,14 +1,11 @@
 -- The document of a row has no definitions of its own.
 use Rattle.std.proofs.Common.{◌≡◌, ℕ, zero, suc, ℤ, List, [], ◌∷◌, ◌++◌, map, Option, Some, None, Bool, true, false}
-use Rattle.std.proofs.Common.{refl, ◌∙◌, pos, inl, inr, Ordering, Less, Equal, Greater, nat_cmp}
-use Rattle.std.specs.Prelude.{codes, is_some, if◌then◌else◌, bytes_eq}
-use Rattle.std.specs.Ordering.{match_ordering}
-use Rattle.std.specs.Cmp.Lexicographic.{slice_cmp}
+use Rattle.std.proofs.Common.{refl, subst, pos}
+use Rattle.std.specs.Prelude.{codes, is_some, if◌then◌else◌}
 use Rattle.std.specs.List.{AllByRecursion}
 use Rattle.serde_json.specs.Data.{Data, null, boolean, number, string, array, object, Items, no_items, item, Members, no_members}
 use Rattle.serde_json.specs.Data.{member, put}
 use Rattle.serde_json.specs.Find.{get_member}
-use Rattle.serde_json.proofs.Views.{get_member-put_other}
 use Rattle.schemars_json.specs.Json.{Text}
 use Rattle.schemars_schema.specs.Edits.{without}
 use Rattle.schemars_schema.specs.Acceptance.{is_null}
@@ -20,40 +17,41 @@ use Rattle.schemars_rewrite.specs.AllowNull.{null_in_const, null_in_values}
 use Rattle.schemars_rewrite.specs.NullLaw.{zero_schema, text_items}
 use Rattle.schemars_shapes.specs.IntKind.{format_of}
 use Rattle.schemars_shapes.specs.Shape as shape
-use Rattle.schemars_shapes.specs.Shape.{Shape, Entry}
+use Rattle.schemars_shapes.specs.Shape.{Shape, Flattened, Entry}
 use Rattle.schemars_types.specs.Rows.{entry_at}
-use Rattle.schemars_types.specs.Meaning.{least_of, greatest_of}
+use Rattle.schemars_types.specs.Meaning.{Contract, least_of, greatest_of}
 use Rattle.schemars_documents.specs.Documents.{annotated, with_title, with_meta_schema, root_document, int_keywords}
 use Rattle.schemars_documents.specs.Documents.{is_signed, required_names, reference}
 use Rattle.schemars_types.specs.KeyOptions.{KeyOptions, any_key, only_keys, key_options}
 use Rattle.schemars_templates.specs.Basis.{Basis}
-use Rattle.schemars_templates.specs.Template.{Template, finished, row, list, members, nullable, noted, rows_of, keyed}
-use Rattle.schemars_templates.specs.Template.{filled, filled_in}
-use Rattle.schemars_templates.specs.OfShape.{KeywordTemplate, property, map_template, bare_units, other_items, choice_of}
+use Rattle.schemars_templates.specs.Template.{Template, finished, asked, list, members, nullable, noted, with_keywords, tagged}
+use Rattle.schemars_templates.specs.Template.{keyed, left, filled, filled_in}
+use Rattle.schemars_templates.specs.OfShape.{KeywordTemplate, property, map_template, with_flattened, bare_units, other_items, choice_of}
 use Rattle.schemars_templates.specs.OfShape.{values_template, template_of, entry_template}
-use Rattle.schemars_templates.specs.Describes.{IsOwnDocument, IsWritten, Describes}
+use Rattle.schemars_templates.specs.Describes.{Describes}
 use Rattle.schemars_documents.specs.PlainTable.{HasPlainLiteral, IsNotedEntry, HasPlainNotes}
 use Rattle.schemars_schema.specs.Literal.{IsPlainLiteral}
 use Rattle.schemars_schema.proofs.Literals.{plain_absent}
 use Rattle.schemars_templates.specs.OfShape.{typed, said, object_with, values_of, all_patterns, pattern_properties_at}
 use Rattle.schemars_templates.specs.OfShape.{properties_at}
 use Rattle.schemars_templates.specs.OfShape.{literal_document}
-use Rattle.schemars_headline.proofs.Keys.{IsDefinitionsKey, IsOther, other_apart, annotation_other}
-use Rattle.schemars_headline.proofs.Parts.{either, first_all, parts_all}
+use Rattle.schemars_headline.proofs.Keys.{IsDefinitionsKey, IsOther, annotation_other}
+use Rattle.schemars_meaning.proofs.Parts.{either, first_all, left_all, described_holds}
+use Rattle.schemars_headline.proofs.Lacking.{HasNeither, Lacks, LacksIn, lacks_both, lacks-put, lacks_without, lacks_flattened}
+use Rattle.schemars_headline.proofs.Lacking.{lacks_flattened_part, lacks_opened_inside, lacks_tagged_variant}
 
 -- ---- the keys of a template
-
-abbrev HasNeither : Data → Type 0
-HasNeither d = (get_member (codes "$defs") (members_in d) ≡ None) × (get_member (codes "definitions") (members_in d) ≡ None)
 
 -- none of its own keys is one of the two
 abbrev SaysOther : Template → Type 0
 SaysOther (finished d) = HasNeither d
-SaysOther (row n) = Unit {0}
+SaysOther (asked a) = Unit {0}
 SaysOther (list es) = Unit {0}
 SaysOther (members ks es) = AllByRecursion IsOther ks
 SaysOther (nullable t) = SaysOther t
 SaysOther (noted notes t) = AreNotes notes × SaysOther t
+SaysOther (with_keywords t u) = SaysOther t × SaysOther u
+SaysOther (tagged tag name closed t) = SaysOther t
 
 -- ---- each shape
 
@@ -74,6 +72,10 @@ map_other (e ∷ es) no_items false = search
 map_other (e ∷ es) no_items true = search
 map_other (e ∷ es) (item d ds) false = search
 map_other (e ∷ es) (item d ds) true = search
+
+flattened_other : (contract : Contract) (ps : List Flattened) (t : Template) → SaysOther t → SaysOther (with_flattened contract ps t)
+flattened_other contract [] t h = h
+flattened_other contract (p ∷ ps) t h = flattened_other contract ps _ (h, tt)
 
 choice_other : (ks : List Text) (ts : List Template) → SaysOther (choice_of ks ts)
 choice_other [] [] = (refl, refl)
@@ -126,8 +128,9 @@ shape_other basis (shape.array n (suc len)) p = search
 shape_other basis (shape.up_to n cap) p = search
 shape_other basis (shape.tuple []) p = (refl, refl)
 shape_other basis (shape.tuple (n ∷ ns)) p = search
-shape_other basis (shape.struct xs closed) p =
-    map_other (map property xs) (text_items (required_names basis.contract xs)) closed
+shape_other basis (shape.struct x) p =
+    flattened_other basis.contract x.flatten _
+    (map_other (map property x.list) (text_items (required_names basis.contract x.list)) x.closed)
 shape_other basis (shape.newtype n) p = tt
 shape_other basis (shape.result a b) p = search
 shape_other basis (shape.bound n) p = search
@@ -142,89 +145,58 @@ shape_other basis (shape.internal tag closed (x ∷ xs)) p = search
 shape_other basis (shape.literal d) p = literal_other d p
 
 module _ (key : Text) (is_key : IsDefinitionsKey key) where
-  abbrev Lacks : Members → Type 0
-  Lacks ms = get_member key ms ≡ None
+  abbrev Lack : Members → Type 0
+  Lack ms = Lacks key is_key ms
 
-  -- of a schema, once it is an object
-  abbrev LacksIn : Data → Type 0
-  LacksIn s = Lacks (members_in s)
+  abbrev In : Data → Type 0
+  In s = LacksIn key is_key s
 
-  lacks-put : (k : Text) (d : Data) (ms : Members) → IsOther k → Lacks ms → Lacks (put k d ms)
-  lacks-put k d ms other h = get_member-put_other key k d ms (other_apart key k is_key other) ∙ h
-
-  lacks-keyed : (ks : List Text) (ds : List Data) (ms : Members) → AllByRecursion IsOther ks → Lacks ms
-      → Lacks (put_all (keyed ks ds) ms)
+  lacks-keyed : (ks : List Text) (ds : List Data) (ms : Members) → AllByRecursion IsOther ks → Lack ms
+      → Lack (put_all (keyed ks ds) ms)
   lacks-keyed [] ds ms others h = h
   lacks-keyed (k ∷ ks) [] ms others h = h
-  lacks-keyed (k ∷ ks) (d ∷ ds) ms others h = lacks-keyed ks ds (put k d ms) others.1 (lacks-put k d ms others.0 h)
+  lacks-keyed (k ∷ ks) (d ∷ ds) ms others h = lacks-keyed ks ds (put k d ms) others.1 (lacks-put key is_key k d ms others.0 h)
 
-  -- where both keys are told apart by computation
-  lacks_both : (d : Data) → HasNeither d → LacksIn d
-  lacks_both d h = go is_key
-    where
-      go : IsDefinitionsKey key → LacksIn d
-      go (inl is) = rw is h.0
-      go (inr is) = rw is h.1
-
-  lacks-put_members : (notes ms : Members) → AreNotes notes → Lacks ms → Lacks (put_members notes ms)
+  lacks-put_members : (notes ms : Members) → AreNotes notes → Lack ms → Lack (put_members notes ms)
   lacks-put_members no_members ms are h = h
   lacks-put_members (member k d notes) ms are h = lacks-put_members notes (put k d ms) are.1
-      (lacks-put k d ms (annotation_other k are.0) h)
+      (lacks-put key is_key k d ms (annotation_other k are.0) h)
 
-  lacks_annotated : (notes : Members) (s : Data) → AreNotes notes → LacksIn s → LacksIn (annotated notes s)
+  lacks_annotated : (notes : Members) (s : Data) → AreNotes notes → In s → In (annotated notes s)
   lacks_annotated no_members s are h = h
   lacks_annotated (member k d notes) s are h = lacks-put_members (member k d notes) (members_in s) are h
 
   -- ---- filled templates
 
-  lacks_null_in_type : (o : Option Data) (ms : Members) → Lacks ms → Lacks (null_in_type o ms)
+  lacks_null_in_type : (o : Option Data) (ms : Members) → Lack ms → Lack (null_in_type o ms)
   lacks_null_in_type None ms h = h
-  lacks_null_in_type (Some d) ms h = lacks-put (codes "type") (type_with_null d) ms refl h
+  lacks_null_in_type (Some d) ms h = lacks-put key is_key (codes "type") (type_with_null d) ms refl h
 
-  lacks_without : (k : Text) (ms : Members) → Lacks ms → Lacks (without k ms)
-  lacks_without k no_members h = h
-  lacks_without k (member l e ms) h = go (bytes_eq k l) (lacks_without k ms (first (slice_cmp nat_cmp key l) h))
-    where
-      first : (o : Ordering) → match_ordering o (get_member key ms) (Some e) (get_member key ms) ≡ None → Lacks ms
-      first Less h = h
-      first Equal h = cc
-      first Greater h = h
-
-      again : (o : Ordering) → match_ordering o (get_member key ms) (Some e) (get_member key ms) ≡ None → Lacks (without k ms)
-          → match_ordering o (get_member key (without k ms)) (Some e) (get_member key (without k ms)) ≡ None
-      again Less h later = later
-      again Equal h later = cc
-      again Greater h later = later
-
-      go : (b : Bool) → Lacks (without k ms) → Lacks (if b then ms else member l e (without k ms))
-      go true later = first (slice_cmp nat_cmp key l) h
-      go false later = again (slice_cmp nat_cmp key l) h later
-
-  lacks_null_in_enum : (o : Option Data) (ms : Members) → Lacks ms → Lacks (null_in_enum o ms)
+  lacks_null_in_enum : (o : Option Data) (ms : Members) → Lack ms → Lack (null_in_enum o ms)
   lacks_null_in_enum None ms h = h
-  lacks_null_in_enum (Some d) ms h = lacks-put (codes "enum") (enum_with_null d) ms refl h
+  lacks_null_in_enum (Some d) ms h = lacks-put key is_key (codes "enum") (enum_with_null d) ms refl h
 
-  lacks_null_in_const : (o : Option Data) (ms : Members) → Lacks ms → Lacks (null_in_const o ms)
+  lacks_null_in_const : (o : Option Data) (ms : Members) → Lack ms → Lack (null_in_const o ms)
   lacks_null_in_const None ms h = lacks_null_in_enum (get_member (codes "enum") ms) ms h
   lacks_null_in_const (Some c) ms h = go (is_null c)
     where
-      go : (b : Bool) → Lacks (if b then ms else const_or_null c ms)
+      go : (b : Bool) → Lack (if b then ms else const_or_null c ms)
       go true = h
-      go false = lacks-put (codes "enum") (array (item c (item null no_items))) (without (codes "const") ms) refl
-          (lacks_without (codes "const") ms h)
+      go false = lacks-put key is_key (codes "enum") (array (item c (item null no_items))) (without (codes "const") ms) refl
+          (lacks_without key is_key (codes "const") ms h)
 
-  lacks_allow_null : (s : Data) → LacksIn s → LacksIn (allow_null s)
+  lacks_allow_null : (s : Data) → In s → In (allow_null s)
   lacks_allow_null (boolean true) h = refl
-  lacks_allow_null (boolean false) h = lacks_both null_schema (refl, refl)
+  lacks_allow_null (boolean false) h = lacks_both key is_key null_schema (refl, refl)
   lacks_allow_null (object ms) h = go (is_null_choice (object ms)) (is_combined (object ms))
     where
       typed_members : Members
       typed_members = null_in_type (get_member (codes "type") ms) ms
 
-      go : (stays b : Bool) → LacksIn (if stays then object ms else if b then or_null (object ms) else
+      go : (stays b : Bool) → In (if stays then object ms else if b then or_null (object ms) else
           object (null_in_values (null_in_type (get_member (codes "type") ms) ms)))
       go true b = h
-      go false true = lacks_both (or_null (object ms)) (refl, refl)
+      go false true = lacks_both key is_key (or_null (object ms)) (refl, refl)
       go false false = lacks_null_in_const (get_member (codes "const") typed_members) typed_members
           (lacks_null_in_type (get_member (codes "type") ms) ms h)
   lacks_allow_null null h = refl
@@ -232,44 +204,40 @@ module _ (key : Text) (is_key : IsDefinitionsKey key) where
   lacks_allow_null (string t) h = refl
   lacks_allow_null (array ds) h = refl
 
-  lacks_filled : (t : Template) (ts : List Data) → SaysOther t → AllByRecursion LacksIn ts → LacksIn (filled t ts)
-  lacks_filled (finished d) ts is h = lacks_both d is
-  lacks_filled (row n) ts is h = first_all LacksIn refl ts h
+  lacks_filled : (t : Template) (ts : List Data) → SaysOther t → AllByRecursion In ts → In (filled t ts)
+  lacks_filled (finished d) ts is h = lacks_both key is_key d is
+  lacks_filled (asked a) ts is h = first_all In refl ts h
   lacks_filled (list es) ts is h = refl
   lacks_filled (members ks es) ts is h = lacks-keyed ks (filled_in es ts) no_members is refl
   lacks_filled (nullable t) ts is h = lacks_allow_null (filled t ts) (lacks_filled t ts is h)
   lacks_filled (noted notes t) ts is h = lacks_annotated notes (filled t ts) is.0 (lacks_filled t ts is.1 h)
+  lacks_filled (with_keywords t u) ts is h = lacks_flattened key is_key (filled t ts) (filled u (left t ts)) (lacks_filled t ts is.0 h)
+      (lacks_filled u (left t ts) is.1 (left_all In t ts h))
+  lacks_filled (tagged tag name closed t) ts is h = lacks_tagged_variant key is_key tag name closed (filled t ts) (lacks_filled t ts is h)
 
-  own_lacks : (W : ℕ → Data → Type 0) (basis : Basis) → ((j : ℕ) (t : Data) → W j t → LacksIn t) → (o : Option Entry)
-      → IsNotedEntry o → (s : Data) → IsOwnDocument W basis o s → LacksIn s
-  own_lacks W basis all None plain s is = absurd is
-  own_lacks W basis all (Some e) plain s is =
-      let t = entry_template basis e in
-      rw is.is (lacks_filled t is.parts (plain.0, shape_other basis e.shape plain.1)
-      (parts_all LacksIn W all (rows_of t) is.parts is.written))
+  -- ---- the document of a row
 
   module _ (basis : Basis) (Refers : ℕ → Text → Type 0) (plain : HasPlainNotes basis.rows) where
-    written_lacks : (d : ℕ) → ((j : ℕ) (t : Data) → Describes basis Refers d j t → LacksIn t) → (j : ℕ) (t : Data)
-        → IsWritten Refers (Describes basis Refers d) j t → LacksIn t
-    written_lacks d own j t (inl h) = rw h.2 (lacks_both (reference h.0) (refl, refl))
-    written_lacks d own j t (inr h) = own j t h
+    fills : (n : ℕ) (e : Entry) → entry_at basis.rows n ≡ Some e → (ts : List Data) → AllByRecursion In ts
+        → In (filled (entry_template basis e) ts)
+    fills n e at ts h =
+        let here : IsNotedEntry (Some e) = subst IsNotedEntry at (plain n) in
+        lacks_filled (entry_template basis e) ts (here.0, shape_other basis e.shape here.1) h
 
-    described_lacks : (d n : ℕ) (t : Data) → Describes basis Refers d n t → LacksIn t
-    unfolding Describes
-    described_lacks zero n t h = absurd h
-    described_lacks (suc d) n t h = own_lacks (IsWritten Refers (Describes basis Refers d)) basis
-        (written_lacks d (described_lacks d)) (entry_at basis.rows n) (plain n) t h
+    described_lacks : (d n : ℕ) (t : Data) → Describes basis Refers d n t → In t
+    described_lacks = described_holds In (lacks_flattened_part key is_key) (lacks_opened_inside key is_key) basis Refers
+        (λ j r h. lacks_both key is_key (reference r) (refl, refl)) fills
 
-    lacks_with_title : (name : Text) (ms : Members) → Lacks ms → Lacks (with_title name ms)
+    lacks_with_title : (name : Text) (ms : Members) → Lack ms → Lack (with_title name ms)
     lacks_with_title name ms h = go (is_some (get_member (codes "title") ms))
       where
-        go : (b : Bool) → Lacks (if b then ms else put (codes "title") (string name) ms)
+        go : (b : Bool) → Lack (if b then ms else put (codes "title") (string name) ms)
         go true = h
-        go false = lacks-put (codes "title") (string name) ms refl h
+        go false = lacks-put key is_key (codes "title") (string name) ms refl h
 
-    lacks_with_meta_schema : (uri : Option Text) (ms : Members) → Lacks ms → Lacks (with_meta_schema uri ms)
+    lacks_with_meta_schema : (uri : Option Text) (ms : Members) → Lack ms → Lack (with_meta_schema uri ms)
     lacks_with_meta_schema None ms h = h
-    lacks_with_meta_schema (Some uri) ms h = lacks-put (codes "$schema") (string uri) ms refl h
+    lacks_with_meta_schema (Some uri) ms h = lacks-put key is_key (codes "$schema") (string uri) ms refl h
 
     -- so there is room for definitions
     pub no_definitions_in : (name : Text) (uri : Option Text) (d n : ℕ) (own : Data) → Describes basis Refers d n own

@@ -1,24 +1,22 @@
 -- Every reference of a document passes a test, where those to other rows do: it resolves, or it names a key.
-use Rattle.std.proofs.Common.{◌≡◌, ◌<◌, inl, inr, ℕ, zero, suc, List, [], ◌∷◌, ◌++◌, length, get_or, Option, Some, None, Bool, true}
-use Rattle.std.proofs.Common.{false, Ordering, Less, Equal, Greater, nat_cmp, Contains, refl, sym, ap, ◌∙◌, arith, subst, true≢false}
+use Rattle.std.proofs.Common.{◌≡◌, ◌<◌, inl, inr, ℕ, zero, suc, List, [], ◌∷◌, ◌++◌, length, get_or, Option, Bool, true, false}
+use Rattle.std.proofs.Common.{Ordering, Less, Equal, Greater, nat_cmp, Contains, refl, sym, ap, ◌∙◌, arith, true≢false}
 use Rattle.std.specs.Prelude.{◌&&◌}
 use Rattle.std.specs.Ordering.{match_ordering}
 use Rattle.std.specs.Cmp.Lexicographic.{slice_cmp}
 use Rattle.std.proofs.lemmas.Map.Lookups.{exact_bytes}
-use Rattle.std.proofs.lemmas.List.Elements.{Contains-append_right}
+use Rattle.std.specs.List.{All}
+use Rattle.std.proofs.lemmas.List.Elements.{All-head, All-tail}
 use Rattle.serde_json.specs.Data.{Data, string, object, Members, no_members, member, put}
 use Rattle.schemars_json.specs.Json.{Text}
 use Rattle.schemars_schema.specs.SchemaData.{IsSchema}
 use Rattle.schemars_schema.specs.References.{found_in, found_in_members, found_in_keywords, references, resolves, all_resolve}
 use Rattle.schemars_schema.proofs.Contents.{found_under}
-use Rattle.schemars_shapes.specs.Shape.{Entry}
-use Rattle.schemars_types.specs.Rows.{entry_at}
-use Rattle.schemars_documents.specs.Documents.{reference, root_document}
+use Rattle.schemars_documents.specs.Documents.{root_document}
 use Rattle.schemars_templates.specs.Basis.{Basis}
-use Rattle.schemars_templates.specs.Describes.{ArePartsWritten, IsOwnDocument, IsWritten, Describes, references_of}
-use Rattle.schemars_documents.specs.PlainTable.{IsPlainEntry, IsPlainTable}
-use Rattle.schemars_meaning.proofs.ReferencesKept.{Among, references-root}
-use Rattle.schemars_meaning.proofs.References.{AreSchemas, among_parts, filled_schema}
+use Rattle.schemars_templates.specs.Describes.{IsWritten, Describes}
+use Rattle.schemars_meaning.proofs.ReferencesKept.{references-root}
+use Rattle.schemars_meaning.proofs.Referring.{IsReferring, AreNotedRows, described_refers, written_refers}
 use Rattle.schemars_headline.proofs.Keys.{AllMembers, IsDefinitionsKey}
 
 -- all of these references pass a test
@@ -46,13 +44,12 @@ module _ (test : Data → Bool) where
   pub resolve-each : (xs : List Data) (x : Data) → Resolve xs → Contains xs x → test x ≡ true
   resolve-each xs x all h = resolve-at xs x h.0 all h.1 h.2
 
-  each-resolve : (xs : List Data) → ((x : Data) → Contains xs x → test x ≡ true) → Resolve xs
-  each-resolve [] all = refl
-  each-resolve (x ∷ xs) all =
-      rw (all x (0, omega arith, refl), each-resolve xs (λ y h. all y (Contains-append_right (x ∷ []) xs y h)))
+  abbrev Passes : Data → Type 0
+  Passes x = test x ≡ true
 
-  resolve-among : (xs ys : List Data) → Among xs ys → Resolve ys → Resolve xs
-  resolve-among xs ys among all = each-resolve xs (λ x h. resolve-each ys x all (among x h))
+  all-resolve : (xs : List Data) → All Passes xs → Resolve xs
+  all-resolve [] all = refl
+  all-resolve (x ∷ xs) all = rw (All-head Passes x xs all, all-resolve xs (All-tail Passes x xs all))
 
   resolve-append : (xs ys : List Data) → Resolve xs → Resolve ys → Resolve (xs ++ ys)
   resolve-append [] ys h g = g
@@ -70,46 +67,16 @@ module _ (test : Data → Bool) where
   abbrev pub IsResolved : Data → Type 0
   IsResolved s = IsSchema s × Resolve (references s)
 
-  all_resolved : (W : ℕ → Data → Type 0) → ((j : ℕ) (t : Data) → W j t → IsResolved t) → (ns : List ℕ) (ts : List Data)
-      → ArePartsWritten W ns ts → AreSchemas ts × Resolve (references_of ts)
-  all_resolved W all [] [] h = (tt, refl)
-  all_resolved W all [] (t ∷ ts) h = cc
-  all_resolved W all (n ∷ ns) [] h = absurd h
-  all_resolved W all (n ∷ ns) (t ∷ ts) h =
-      let one = all n t h.0 in
-      let rest = all_resolved W all ns ts h.1 in
-      ((one.0, rest.0), resolve-append (references t) (references_of ts) one.1 rest.1)
-
-  own_resolved : (W : ℕ → Data → Type 0) (basis : Basis) → ((j : ℕ) (t : Data) → W j t → IsResolved t) → (o : Option Entry)
-      → IsPlainEntry o → (s : Data) → IsOwnDocument W basis o s → IsResolved s
-  own_resolved W basis all None plain s is = absurd is
-  own_resolved W basis all (Some e) plain s is =
-      let parts = all_resolved W all _ is.parts is.written in
-      subst IsResolved (sym is.is) (
-        filled_schema basis e is.parts parts.0,
-        resolve-among _ (references_of is.parts) (among_parts basis e plain is.parts parts.0) parts.1,
-      )
-
-  module _ (basis : Basis) (Refers : ℕ → Text → Type 0) (plain : IsPlainTable basis.rows)
+  module _ (basis : Basis) (Refers : ℕ → Text → Type 0) (noted : AreNotedRows basis.rows)
       (lead : (j : ℕ) (r : Text) → Refers j r → test (string r) ≡ true) where
-    reference_resolved : (r : Text) → test (string r) ≡ true → IsResolved (reference r)
-    unfolding found_in
-    reference_resolved r h = (tt, rw h)
-
-    written_by : (d : ℕ) → ((j : ℕ) (t : Data) → Describes basis Refers d j t → IsResolved t) → (j : ℕ) (t : Data)
-        → IsWritten Refers (Describes basis Refers d) j t → IsResolved t
-    written_by d own j t (inl h) = rw h.2 (reference_resolved h.0 (lead j h.0 h.1))
-    written_by d own j t (inr h) = own j t h
+    resolved : (t : Data) → IsReferring Passes t → IsResolved t
+    resolved t h = (h.0, all-resolve (references t) h.1)
 
     pub described_resolved : (d n : ℕ) (t : Data) → Describes basis Refers d n t → IsResolved t
-    unfolding Describes
-    described_resolved zero n t h = absurd h
-    described_resolved (suc d) n t h =
-        own_resolved (IsWritten Refers (Describes basis Refers d)) basis (written_by d (described_resolved d))
-        (entry_at basis.rows n) (plain n) t h
+    described_resolved d n t h = resolved t (described_refers Passes basis Refers noted lead d n t h)
 
     pub written_resolved : (d n : ℕ) (t : Data) → IsWritten Refers (Describes basis Refers d) n t → IsResolved t
-    written_resolved d n t h = written_by d (described_resolved d) n t h
+    written_resolved d n t h = resolved t (written_refers Passes basis Refers noted lead d n t h)
 
   pub root_resolved : (name : Text) (uri : Option Text) (s : Data) → IsResolved s → Resolve (references (root_document name uri s))
   root_resolved name uri s h = ap (all_pass test) (references-root name uri s) ∙ h.1

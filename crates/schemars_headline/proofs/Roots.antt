@@ -12,11 +12,12 @@ use Rattle.schemars_schema.proofs.Objects.{IsSilent, judge-put}
 use Rattle.schemars_rewrite.specs.NullLaw.{context2020_12}
 use Rattle.schemars_shapes.specs.Shape.{Entry}
 use Rattle.schemars_types.specs.Rows.{Row, name_at, entry_at}
+use Rattle.schemars_types.specs.Effective.{spread, row_fields}
 use Rattle.schemars_types.specs.Faults.{IsChecked}
 use Rattle.schemars_documents.specs.Documents.{root_document}
 use Rattle.schemars_templates.specs.Describes.{IsWritten, Describes}
 use Rattle.schemars_shapes.specs.Shape as shape
-use Rattle.schemars_shapes.specs.Shape.{Shape}
+use Rattle.schemars_shapes.specs.Shape.{Shape, Field}
 use Rattle.schemars_documents.specs.PlainTable.{IsPlainShape, HasPlainLiteral, IsPlainEntry, IsPlainTable}
 use Rattle.schemars_documents.specs.PlainTable.{IsNotedEntry, HasPlainNotes}
 use Rattle.schemars_documents.specs.ContractOf.{contract_of}
@@ -32,10 +33,11 @@ use Rattle.schemars_meaning.proofs.Mapping.{describes-wider, written_map}
 use Rattle.schemars_build.specs.Parts.{IsSubschema}
 use Rattle.schemars_build.proofs.Placing.{document_describes, placed_written}
 use Rattle.schemars_meaning.proofs.Following.{described_schema}
+use Rattle.schemars_meaning.proofs.Referring.{AreNotedRows, plain_rows}
 use Rattle.schemars_headline.proofs.Resolving.{all_pass-resolve, Resolve, AllResolve, described_resolved}
 use Rattle.schemars_headline.proofs.Resolving.{written_resolved, root_resolved, placed_resolved}
-use Rattle.schemars_headline.proofs.Leading.{HoldsDefinitions, IsItsRoot, MayRefer, AllStand, stands_now, refers_may}
-use Rattle.schemars_headline.proofs.Leading.{refers_resolve, written_accepts}
+use Rattle.schemars_headline.proofs.Standing.{MayRefer, AllStand, stands_now, refers_may}
+use Rattle.schemars_headline.proofs.Leading.{HoldsDefinitions, IsItsRoot, refers_resolve, written_accepts}
 use Rattle.schemars_headline.proofs.Placed.{IsPlaced, stands_key, holds_put, holds_nothing, placing, placed_in, held}
 
 key_silent : (key : Text) → IsDefinitionsKey key → IsSilent key
@@ -50,15 +52,18 @@ module _ (plan : Plan) (w : Work) (document : Data) (checked : IsChecked plan.ro
   leads : (j : ℕ) (r : Text) → MayRefer plan w j r → is_some (resolved document r) ≡ true
   leads = refers_resolve plan w document checked plain one definitions holds is_root
 
+  noted : AreNotedRows plan.rows
+  noted = plain_rows plan.rows plain
+
   definition_resolved : (name : Text) (d : Data) → get_member name w.definitions ≡ Some d → Resolve (resolves document) (references d)
   definition_resolved name d found =
       let definition = definitions name d found in
-      (described_resolved (resolves document) (basis_of plan) (MayRefer plan w) plain leads definition.depth
+      (described_resolved (resolves document) (basis_of plan) (MayRefer plan w) noted leads definition.depth
       definition.row d definition.describes).1
 
   schema_resolved : (d n : ℕ) (t : Data) → IsWritten (MayRefer plan w)
       (Describes (basis_of plan) (MayRefer plan w) d) n t → Resolve (resolves document) (references t)
-  schema_resolved d n t h = (written_resolved (resolves document) (basis_of plan) (MayRefer plan w) plain leads d n
+  schema_resolved d n t h = (written_resolved (resolves document) (basis_of plan) (MayRefer plan w) noted leads d n
       t h).1
 
 -- ---- root documents
@@ -109,7 +114,7 @@ root_means plan w n name uri depth own document checked one once root definition
     let holds : HoldsDefinitions plan.path w.definitions document = holds_placed plan.path w.definitions members document placed in
     let all : AllResolve (resolves document) w.definitions = all_members (λ d. Resolve (resolves document) (references d)) w.definitions
     once (definition_resolved plan w document checked plain one definitions holds is_root) in
-    let resolved_own = described_resolved (resolves document) (basis_of plan) (MayRefer plan w) plain
+    let resolved_own = described_resolved (resolves document) (basis_of plan) (MayRefer plan w) (plain_rows plan.rows plain)
     (refers_resolve plan w document checked plain one definitions holds is_root) depth n own h in
     record {
       accepts_its_values = λ patterns v json followed bounded.
@@ -121,16 +126,16 @@ root_means plan w n name uri depth own document checked one once root definition
           (root_resolved (resolves document) name uri own resolved_own);
     }
 
-plain_literal : (s : Shape) → IsPlainShape s → HasPlainLiteral s
-plain_literal (shape.literal d) h = h
-plain_literal s h = tt
+plain_literal : (has : ℕ → List Field) (s : Shape) → IsPlainShape (spread has s) → HasPlainLiteral s
+plain_literal has (shape.literal d) h = h
+plain_literal has s h = tt
 
 plain_notes : (rows : List Row) → IsPlainTable rows → HasPlainNotes rows
 plain_notes rows plain n = by (entry_at rows n) (plain n)
   where
-    by : (o : Option Entry) → IsPlainEntry o → IsNotedEntry o
+    by : (o : Option Entry) → IsPlainEntry rows o → IsNotedEntry o
     by None h = tt
-    by (Some e) h = (h.0, plain_literal e.shape h.1)
+    by (Some e) h = (h.0, plain_literal (row_fields rows) e.shape h.1)
 
 module _ (plan : Plan) (w : Work) (n : ℕ) (name : Text) (uri : Option Text) (depth : ℕ) (own : Data) (plain : HasPlainNotes plan.rows)
     (R : ℕ → Text → Type 0) (h : Describes (basis_of plan) R depth n own) where

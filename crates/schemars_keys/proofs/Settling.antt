@@ -3,9 +3,10 @@ use Rattle.std.proofs.Common.{◌≡◌, ◌<◌, ◌≤◌, ◌∙◌, inl, inr
 use Rattle.std.proofs.Common.{true, Contains, refl, ap, sym, subst, arith}
 use Rattle.std.specs.Option.{option_map_or}
 use Rattle.std.proofs.lemmas.Bool.{cases_eq}
+use Rattle.std.proofs.lemmas.List.Elements.{Contains-append_left, Contains-append_right}
 use Rattle.schemars_shapes.specs.Shape as shape
 use Rattle.schemars_shapes.specs.Shape.{Shape, Entry, Variant, Payload, no_payload, newtype_payload, tuple_payload, struct_payload}
-use Rattle.schemars_shapes.specs.Shape.{newtype_numbers, same_value_numbers}
+use Rattle.schemars_shapes.specs.Shape.{payload_same, of_variants, same_value_numbers}
 use Rattle.schemars_types.specs.Rows.{Row, entry_at}
 use Rattle.schemars_types.specs.Edges.{RefersWithin, rank}
 use Rattle.schemars_types.specs.Extends.{begins_with}
@@ -13,27 +14,25 @@ use Rattle.schemars_types.specs.Faults.{IsChecked}
 use Rattle.schemars_types.proofs.Extensions.{begins-same}
 use Rattle.schemars_types.specs.KeyOptions.{KeyOptions, any_key, either_options, member_options, members_options, shape_options}
 use Rattle.schemars_types.specs.KeyOptions.{options_within, all_options, key_options, each_once}
-use Rattle.schemars_keys.proofs.Asked.{newtypes_with, newtypes_first, newtypes_later, asked, entry_low}
+use Rattle.schemars_keys.proofs.Asked.{asked, entry_low}
 
 -- ---- options depend on the rows that are asked alone
 
-member_alike : (f g : ℕ → KeyOptions) (p : Payload) (ns : List ℕ) → ((m : ℕ) → Contains (newtypes_with p ns) m → f m ≡ g m)
+member_alike : (f g : ℕ → KeyOptions) (p : Payload) → ((m : ℕ) → Contains (payload_same p) m → f m ≡ g m)
     → member_options f p ≡ member_options g p
-member_alike f g no_payload ns h = refl
-member_alike f g (newtype_payload n) ns h = h n (0, omega arith, refl)
-member_alike f g (tuple_payload ms) ns h = refl
-member_alike f g (struct_payload list closed) ns h = refl
+member_alike f g no_payload h = refl
+member_alike f g (newtype_payload n) h = h n (0, omega arith, refl)
+member_alike f g (tuple_payload ms) h = refl
+member_alike f g (struct_payload x) h = refl
 
-members_alike : (f g : ℕ → KeyOptions) (xs : List Variant) → ((m : ℕ) → Contains (newtype_numbers xs) m → f m ≡ g m)
+members_alike : (f g : ℕ → KeyOptions) (xs : List Variant) → ((m : ℕ) → Contains (of_variants payload_same xs) m → f m ≡ g m)
     → members_options f xs ≡ members_options g xs
 members_alike f g [] h = refl
 members_alike f g (x ∷ xs) h =
-    let P : ℕ → List ℕ → Type 0 = λ m ns. Contains ns m in
-    let here : (m : ℕ) → Contains (newtypes_with x.payload (newtype_numbers xs)) m → f m ≡ g m =
-    λ m c. h m (subst (P m) (sym (newtypes_first x xs)) c) in
-    let head : member_options f x.payload ≡ member_options g x.payload = member_alike f g x.payload (newtype_numbers xs) here in
-    let tail : members_options f xs ≡ members_options g xs =
-    members_alike f g xs (λ m c. here m (newtypes_later x.payload (newtype_numbers xs) m c)) in
+    let head : member_options f x.payload ≡ member_options g x.payload = member_alike f g x.payload
+    (λ m c. h m (Contains-append_left (payload_same x.payload) (of_variants payload_same xs) m c)) in
+    let tail : members_options f xs ≡ members_options g xs = members_alike f g xs
+    (λ m c. h m (Contains-append_right (payload_same x.payload) (of_variants payload_same xs) m c)) in
     λ i. either_options (head i) (tail i)
 
 shape_alike : (f g : ℕ → KeyOptions) (s : Shape) → ((m : ℕ) → Contains (same_value_numbers s) m → f m ≡ g m)
@@ -56,7 +55,7 @@ shape_alike f g (shape.set i) h = refl
 shape_alike f g (shape.array i len) h = refl
 shape_alike f g (shape.up_to i cap) h = refl
 shape_alike f g (shape.tuple ns) h = refl
-shape_alike f g (shape.struct xs closed) h = refl
+shape_alike f g (shape.struct x) h = refl
 shape_alike f g (shape.result a b) h = refl
 shape_alike f g (shape.bound i) h = refl
 shape_alike f g (shape.range i) h = refl

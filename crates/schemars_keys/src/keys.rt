@@ -1,6 +1,6 @@
 //! Which keys the type of a row allows.
 ghost use Rattle.std.specs.Prelude.{◌≡◌, ℕ, [], None, IfOk, OnOk, Contains, map, option_map, option_and_then};
-ghost use Rattle.schemars_shapes.specs.Shape.{variant_of, payload_of, newtype_payload, newtype_numbers};
+ghost use Rattle.schemars_shapes.specs.Shape.{variant_of, payload_of, newtype_payload, payload_same, of_variants};
 ghost use Rattle.schemars_types.specs.Edges.{SameValueEdge};
 ghost use Rattle.schemars_types.specs.Faults.{IsChecked};
 ghost use Rattle.schemars_types.specs.KeyOptions.{only_keys, are_names, external_options, untagged_options, all_options};
@@ -94,7 +94,7 @@ fn add_untagged<'t>(
     found: &mut Found<'t>,
 ) -> Result<(), AllocError>
     requires checked { IsChecked types.now }
-    requires edges { (m : ℕ) → Contains (newtype_numbers (map variant_of variants.now)) m → SameValueEdge types.now n m }
+    requires edges { (m : ℕ) → Contains (of_variants payload_same (map variant_of variants.now)) m → SameValueEdge types.now n m }
     requires holds { HoldsRows types.now found.old.rows.keys (options_of found.old.options) }
     ensures added { OnOk result (options_of found.new.options
         ≡ adding (options_of found.old.options) (untagged_options (all_options types.now) (map variant_of variants.now))) }

@@ -13,16 +13,20 @@ use Rattle.schemars_shapes.specs.Shape as shape
 use Rattle.schemars_shapes.specs.Shape.{Shape, Field, Entry}
 use Rattle.schemars_types.specs.Meaning.{Contract}
 use Rattle.schemars_types.specs.KeyOptions.{key_options}
+use Rattle.schemars_types.specs.Effective.{effective}
 use Rattle.schemars_documents.specs.Documents.{Keyword, typed, type_alone, int_document, non_zero_document, char_document}
 use Rattle.schemars_documents.specs.Documents.{formatted_document, count_at, empty_list_document, bytes_document}
 use Rattle.schemars_documents.specs.Documents.{schema_document, required_names, annotated}
+use Rattle.schemars_documents.specs.PlainTable.{parts_in, ArePlainParts}
 use Rattle.schemars_templates.specs.Basis.{Basis}
-use Rattle.schemars_templates.specs.Template.{row, rows_of, rows_in, filled, filled_in, keyed, finished}
-use Rattle.schemars_templates.specs.OfShape.{templates_of, property, map_template, template_of, entry_template}
-use Rattle.schemars_templates.specs.OfShape.{literal_document}
-use Rattle.schemars_templates.specs.OfShape.{values_template, external_template, untagged_template, internal_template, tagged_template}
-use Rattle.schemars_templates.specs.Describes.{ArePartsWritten, Fills}
-use Rattle.schemars_meaning.proofs.Rows.{rows_at, rows_same, rows_tagged}
+use Rattle.schemars_templates.specs.Template.{Ask, part, row, asks_of, asks_in, filled, filled_in}
+use Rattle.schemars_templates.specs.OfShape.{templates_of, tuple_template, template_of, entry_template, literal_document}
+use Rattle.schemars_templates.specs.OfShape.{values_template, external_template, untagged_template, internal_template}
+use Rattle.schemars_templates.specs.Describes.{Fills}
+use Rattle.schemars_meaning.proofs.MapDocument.{map_document}
+use Rattle.schemars_meaning.proofs.Spread.{field_keywords, IsFieldsDocument, AnswersFields}
+use Rattle.schemars_meaning.proofs.Filling.{ArePartsWritten, Fit, rows_asked, parts_answered}
+use Rattle.schemars_meaning.proofs.Flattened.{struct_fills}
 
 -- ---- lists
 
@@ -54,32 +58,6 @@ tuple_document (t ∷ ts) =
     ∷ count_at (codes "maxItems") (length (t ∷ ts)) ∷ [])
 
 -- ---- structs
-
-abbrev pub properties_keyword : List Keyword → List Keyword
-properties_keyword [] = []
-properties_keyword (e ∷ es) = (codes "properties", object_of (e ∷ es)) ∷ []
-
-abbrev pub required_keyword : List Text → List Keyword
-required_keyword [] = []
-required_keyword (k ∷ ks) = (codes "required", array (text_items (k ∷ ks))) ∷ []
-
-abbrev pub closed_keyword : Bool → List Keyword
-closed_keyword false = []
-closed_keyword true = (codes "additionalProperties", boolean false) ∷ []
-
--- a map with these properties
-abbrev pub map_document : List Keyword → List Text → Bool → Data
-map_document properties required closed =
-    object_of (typed (codes "object") ∷ (properties_keyword properties ++ (required_keyword required ++ closed_keyword closed)))
-
--- the fields' schemas under their names, each with its notes
-abbrev pub field_keywords : List Field → List Data → List Keyword
-field_keywords [] ts = []
-field_keywords (x ∷ xs) [] = []
-field_keywords (x ∷ xs) (t ∷ ts) = (x.name, annotated x.notes t) ∷ field_keywords xs ts
-
-abbrev pub struct_document : Contract → List Field → List Data → Bool → Data
-struct_document contract fields ts closed = map_document (field_keywords fields ts) (required_names contract fields) closed
 
 -- a map with these fields, and with the variant's name under the tag, in place of any field there
 abbrev pub tagged_document : Contract → Text → Text → List Field → List Data → Bool → Data
@@ -119,148 +97,53 @@ either_document l r = one_of_document (member_document true (codes "Left") l ∷
 abbrev pub IsOfTwo : (Data → Type 0) → (Data → Type 0) → (Data → Data → Data) → Data → Type 0
 IsOfTwo P Q document s = (t : Data) × (e : Data) × P t × Q e × (s ≡ document t e)
 
--- ---- by shape, where `Written n` says how row n may be written
-
-abbrev pub AreWritten : (ℕ → Data → Type 0) → List Field → List Data → Type 0
-AreWritten Written [] ts = ts ≡ []
-AreWritten Written (x ∷ xs) [] = ⊥
-AreWritten Written (x ∷ xs) (t ∷ ts) = Written x.ty t × AreWritten Written xs ts
+-- ---- by shape, where `A` says what may be answered, and `has` which fields a flattened row has
 
 -- a list of no items is so whatever they would be
 abbrev pub IsArrayDocument : (Data → Type 0) → ℕ → Data → Type 0
 IsArrayDocument IsItems zero s = s ≡ empty_list_document
 IsArrayDocument IsItems (suc n) s = (t : Data) × IsItems t × (s ≡ array_document (suc n) t)
 
-abbrev pub IsDocument : (ℕ → Data → Type 0) → Basis → Shape → Data → Type 0
-IsDocument Written basis shape.null s = s ≡ type_alone (codes "null")
-IsDocument Written basis shape.bool s = s ≡ type_alone (codes "boolean")
-IsDocument Written basis (shape.int kind) s = s ≡ int_document kind
-IsDocument Written basis (shape.non_zero kind) s = s ≡ non_zero_document kind
-IsDocument Written basis shape.number s = s ≡ type_alone (codes "number")
-IsDocument Written basis shape.text s = s ≡ type_alone (codes "string")
-IsDocument Written basis shape.char s = s ≡ char_document
-IsDocument Written basis (shape.formatted format) s = s ≡ formatted_document format
-IsDocument Written basis shape.any s = s ≡ boolean true
-IsDocument Written basis shape.bytes s = s ≡ bytes_document basis.contract
-IsDocument Written basis shape.schema_itself s = s ≡ schema_document
-IsDocument Written basis (shape.option n) s = (t : Data) × Written n t × (s ≡ allow_null t)
-IsDocument Written basis (shape.seq n) s = (t : Data) × Written n t × (s ≡ seq_document t)
-IsDocument Written basis (shape.set n) s = (t : Data) × Written n t × (s ≡ set_document t)
-IsDocument Written basis (shape.array n len) s = IsArrayDocument (Written n) len s
-IsDocument Written basis (shape.up_to n cap) s = (t : Data) × Written n t × (s ≡ up_to_document cap t)
-IsDocument Written basis (shape.tuple ns) s = (ts : List Data) × ArePartsWritten Written ns ts × (s ≡ tuple_document ts)
-IsDocument Written basis (shape.struct fields closed) s = (ts : List Data) × AreWritten Written fields ts
-    × (s ≡ struct_document basis.contract fields ts closed)
-IsDocument Written basis (shape.newtype n) s = Written n s
-IsDocument Written basis (shape.result a b) s = IsOfTwo (Written a) (Written b) result_document s
-IsDocument Written basis (shape.bound n) s = IsOfTwo (Written n) (Written n) bound_document s
-IsDocument Written basis (shape.range n) s = IsOfTwo (Written n) (Written n) range_document s
-IsDocument Written basis (shape.either a b) s = IsOfTwo (Written a) (Written b) either_document s
-IsDocument Written basis (shape.map_from key value) s = Fills Written (values_template (key_options basis.rows key) value) s
-IsDocument Written basis (shape.external xs) s = Fills Written (external_template basis.contract xs) s
-IsDocument Written basis (shape.untagged xs) s = Fills Written (untagged_template basis.contract basis.titles xs) s
-IsDocument Written basis (shape.internal tag closed xs) s = Fills Written (internal_template basis.contract tag closed xs) s
-IsDocument Written basis (shape.literal d) s = s ≡ literal_document d
+abbrev pub IsDocument : (Ask → Data → Type 0) → (ℕ → List Field) → Basis → Shape → Data → Type 0
+IsDocument A has basis shape.null s = s ≡ type_alone (codes "null")
+IsDocument A has basis shape.bool s = s ≡ type_alone (codes "boolean")
+IsDocument A has basis (shape.int kind) s = s ≡ int_document kind
+IsDocument A has basis (shape.non_zero kind) s = s ≡ non_zero_document kind
+IsDocument A has basis shape.number s = s ≡ type_alone (codes "number")
+IsDocument A has basis shape.text s = s ≡ type_alone (codes "string")
+IsDocument A has basis shape.char s = s ≡ char_document
+IsDocument A has basis (shape.formatted format) s = s ≡ formatted_document format
+IsDocument A has basis shape.any s = s ≡ boolean true
+IsDocument A has basis shape.bytes s = s ≡ bytes_document basis.contract
+IsDocument A has basis shape.schema_itself s = s ≡ schema_document
+IsDocument A has basis (shape.option n) s = (t : Data) × A (part n) t × (s ≡ allow_null t)
+IsDocument A has basis (shape.seq n) s = (t : Data) × A (part n) t × (s ≡ seq_document t)
+IsDocument A has basis (shape.set n) s = (t : Data) × A (part n) t × (s ≡ set_document t)
+IsDocument A has basis (shape.array n len) s = IsArrayDocument (A (part n)) len s
+IsDocument A has basis (shape.up_to n cap) s = (t : Data) × A (part n) t × (s ≡ up_to_document cap t)
+IsDocument A has basis (shape.tuple ns) s = (ts : List Data) × ArePartsWritten (λ j. A (part j)) ns ts × (s ≡ tuple_document ts)
+IsDocument A has basis (shape.struct x) s =
+    IsFieldsDocument (λ j. A (part j)) basis.contract (effective has x) x.closed s
+IsDocument A has basis (shape.newtype n) s = A (part n) s
+IsDocument A has basis (shape.result a b) s = IsOfTwo (A (part a)) (A (part b)) result_document s
+IsDocument A has basis (shape.bound n) s = IsOfTwo (A (part n)) (A (part n)) bound_document s
+IsDocument A has basis (shape.range n) s = IsOfTwo (A (part n)) (A (part n)) range_document s
+IsDocument A has basis (shape.either a b) s = IsOfTwo (A (part a)) (A (part b)) either_document s
+IsDocument A has basis (shape.map_from key value) s = Fills A (values_template (key_options basis.rows key) value) s
+IsDocument A has basis (shape.external xs) s = Fills A (external_template basis.contract xs) s
+IsDocument A has basis (shape.untagged xs) s = Fills A (untagged_template basis.contract basis.titles xs) s
+IsDocument A has basis (shape.internal tag closed xs) s = Fills A (internal_template basis.contract tag closed xs) s
+IsDocument A has basis (shape.literal d) s = s ≡ literal_document d
 
 -- ---- what fills a template
 
-module _ (W : ℕ → Data → Type 0) where
-  abbrev Fit : List ℕ → List Data → Type 0
-  Fit = ArePartsWritten W
-
-  pub without_end : (ns : List ℕ) (ts : List Data) → Fit (ns ++ []) ts → Fit ns ts
-  without_end ns ts h = subst (λ ms. Fit ms ts) (append-nil ns) h
-
-  -- ---- fields
-
-  abbrev keywords_at : List Field → List Data → List Keyword
-  keywords_at xs ts = keyed (map (λ e. e.0) (map property xs)) (filled_in (templates_of (map (λ e. e.1) (map property xs))) ts)
-
-  fields_fill : (xs : List Field) (ts : List Data) → Fit (rows_at xs) ts
-      → (us : List Data) × AreWritten W xs us × (keywords_at xs ts ≡ field_keywords xs us)
-  fields_fill [] ts h = ([], refl, refl)
-  fields_fill (x ∷ xs) [] h = absurd h
-  fields_fill (x ∷ xs) (t ∷ ts) h =
-      let later = fields_fill xs ts h.1 in
-      (t ∷ later.0, (h.0, later.1), ap (λ es. (x.name, annotated x.notes t) ∷ es) later.2)
-
-  abbrev MapFills : List Field → List Text → Bool → List Data → Type 0
-  MapFills xs ks closed ts = (us : List Data) × AreWritten W xs us
-      × (filled (map_template (map property xs) (text_items ks) closed) ts ≡ map_document (field_keywords xs us) ks closed)
-
-  map_fills : (xs : List Field) (ks : List Text) (closed : Bool) (ts : List Data)
-      → Fit (rows_of (map_template (map property xs) (text_items ks) closed)) ts → MapFills xs ks closed ts
-  map_fills [] [] false ts h = ([], refl, refl)
-  map_fills [] [] true ts h = ([], refl, refl)
-  map_fills [] (k ∷ ks) false ts h = ([], refl, refl)
-  map_fills [] (k ∷ ks) true ts h = ([], refl, refl)
-  map_fills (x ∷ xs) ks closed [] h = nothing ks closed h
-    where
-      nothing : (ks : List Text) (closed : Bool) → Fit (rows_of (map_template (map property (x ∷ xs)) (text_items ks) closed)) []
-          → MapFills (x ∷ xs) ks closed []
-      nothing [] false h = absurd h
-      nothing [] true h = absurd h
-      nothing (k ∷ ks) false h = absurd h
-      nothing (k ∷ ks) true h = absurd h
-  map_fills (x ∷ xs) ks closed (t ∷ ts) h = by_keywords ks closed h
-    where
-      more : (ks : List Text) (closed : Bool) (later : (us : List Data) × AreWritten W xs us × (keywords_at xs ts ≡ field_keywords xs us))
-          → W x.ty t → filled (map_template (map property (x ∷ xs)) (text_items ks) closed) (t ∷ ts)
-          ≡ map_document ((x.name, annotated x.notes t) ∷ keywords_at xs ts) ks closed
-          → MapFills (x ∷ xs) ks closed (t ∷ ts)
-      more ks closed later here same =
-          (t ∷ later.0, (here, later.1), same ∙ ap (λ es. map_document ((x.name, annotated x.notes t) ∷ es) ks closed) later.2)
-
-      by_keywords : (ks : List Text) (closed : Bool)
-          → Fit (rows_of (map_template (map property (x ∷ xs)) (text_items ks) closed)) (t ∷ ts) → MapFills (x ∷ xs) ks closed (t ∷ ts)
-      by_keywords [] false h = more [] false (fields_fill xs ts (without_end (rows_at xs) ts h.1)) h.0 refl
-      by_keywords [] true h = more [] true (fields_fill xs ts (without_end (rows_at xs) ts h.1)) h.0 refl
-      by_keywords (k ∷ ks) false h = more (k ∷ ks) false (fields_fill xs ts (without_end (rows_at xs) ts h.1)) h.0 refl
-      by_keywords (k ∷ ks) true h = more (k ∷ ks) true (fields_fill xs ts (without_end (rows_at xs) ts h.1)) h.0 refl
-
-  -- the same, with the tag behind
-  abbrev tagged_at : Text → Text → List Field → List Data → List Keyword
-  tagged_at tag name xs ts =
-      let es = map property xs ++ (tag, finished (unit_variant name)) ∷ [] in
-      keyed (map (λ e. e.0) es) (filled_in (templates_of (map (λ e. e.1) es)) ts)
-
-  tag_fills : (tag name : Text) (xs : List Field) (ts : List Data) → Fit (rows_tagged tag name xs) ts
-      → (us : List Data) × AreWritten W xs us × (tagged_at tag name xs ts ≡ field_keywords xs us ++ (tag, unit_variant name) ∷ [])
-  tag_fills tag name [] ts h = ([], refl, refl)
-  tag_fills tag name (x ∷ xs) [] h = absurd h
-  tag_fills tag name (x ∷ xs) (t ∷ ts) h =
-      let later = tag_fills tag name xs ts h.1 in
-      (t ∷ later.0, (h.0, later.1), ap (λ es. (x.name, annotated x.notes t) ∷ es) later.2)
-
-  abbrev TaggedFills : Contract → Text → Text → List Field → Bool → List Data → Type 0
-  TaggedFills contract tag name xs closed ts = (us : List Data) × AreWritten W xs us
-      × (filled (tagged_template contract tag name xs closed) ts ≡ tagged_document contract tag name xs us closed)
-
-  pub tagged_fills : (contract : Contract) (tag name : Text) (xs : List Field) (closed : Bool) (ts : List Data)
-      → Fit (rows_of (tagged_template contract tag name xs closed)) ts → TaggedFills contract tag name xs closed ts
-  tagged_fills contract tag name [] false ts h = ([], refl, refl)
-  tagged_fills contract tag name [] true ts h = ([], refl, refl)
-  tagged_fills contract tag name (x ∷ xs) closed ts h = go closed h
-    where
-      document : Bool → List Keyword → Data
-      document ends es = map_document es (tag ∷ required_names contract (x ∷ xs)) ends
-
-      rows : List ℕ
-      rows = rows_tagged tag name (x ∷ xs)
-
-      go : (ends : Bool) → Fit (rows_of (tagged_template contract tag name (x ∷ xs) ends)) ts
-          → TaggedFills contract tag name (x ∷ xs) ends ts
-      go false h = let all = tag_fills tag name (x ∷ xs) ts (without_end rows ts h) in (all.0, all.1, ap (document false) all.2)
-      go true h = let all = tag_fills tag name (x ∷ xs) ts (without_end rows ts h) in (all.0, all.1, ap (document true) all.2)
-
-  -- ---- rows in order
-
-  items_same : (ns : List ℕ) (ts : List Data) → Fit ns ts → items_of (filled_in (templates_of (map row ns)) ts) ≡ items_from ts
+module _ (A : Ask → Data → Type 0) where
+  items_same : (ns : List ℕ) (ts : List Data) → Fit A (map part ns) ts → items_of (filled_in (templates_of (map row ns)) ts) ≡ items_from ts
   items_same [] ts h = ap items_from (sym h)
   items_same (n ∷ ns) [] h = absurd h
   items_same (n ∷ ns) (t ∷ ts) h = ap (item t) (items_same ns ts h.1)
 
-  counted : (ns : List ℕ) (ts : List Data) → Fit ns ts → length ns ≡ length ts
+  counted : (ns : List ℕ) (ts : List Data) → Fit A (map part ns) ts → length ns ≡ length ts
   counted [] ts h = ap length (sym h)
   counted (n ∷ ns) [] h = absurd h
   counted (n ∷ ns) (t ∷ ts) h = ap suc (counted ns ts h.1)
@@ -269,69 +152,76 @@ module _ (W : ℕ → Data → Type 0) where
   counted_list items count = object_of (typed (codes "array") ∷ (codes "prefixItems", array items) ∷ count_at (codes "minItems") count
       ∷ count_at (codes "maxItems") count ∷ [])
 
+  -- a list of rows in order
+  pub tuple_fills : (ns : List ℕ) (us : List Data) → Fit A (asks_of (tuple_template ns)) us
+      → (ts : List Data) × ArePartsWritten (λ j. A (part j)) ns ts × (filled (tuple_template ns) us ≡ tuple_document ts)
+  tuple_fills [] ts h = ([], refl, refl)
+  tuple_fills (n ∷ ns) [] h = absurd h
+  tuple_fills (n ∷ ns) (t ∷ ts) h =
+      let rest : Fit A (map part ns) ts =
+      subst (λ asks. Fit A asks ts) (append-nil (asks_in (templates_of (map row ns))) ∙ rows_asked ns) h.1 in (
+        t ∷ ts,
+        (h.0, parts_answered A ns ts rest),
+        λ i. counted_list (item t (items_same ns ts rest i)) (counted (n ∷ ns) (t ∷ ts) (h.0, rest) i),
+      )
+
   -- ---- by shape
 
-  fills : (basis : Basis) (kind : Shape) (s : Data) (ts : List Data) → Fit (rows_of (template_of basis kind)) ts
-      → s ≡ filled (template_of basis kind) ts → IsDocument W basis kind s
-  fills basis shape.null s ts h e = e
-  fills basis shape.bool s ts h e = e
-  fills basis (shape.int kind) s ts h e = e
-  fills basis (shape.non_zero kind) s ts h e = e
-  fills basis shape.number s ts h e = e
-  fills basis shape.text s ts h e = e
-  fills basis shape.char s ts h e = e
-  fills basis (shape.formatted format) s ts h e = e
-  fills basis shape.any s ts h e = e
-  fills basis shape.bytes s ts h e = e
-  fills basis shape.schema_itself s ts h e = e
-  fills basis (shape.option n) s [] h e = absurd h
-  fills basis (shape.option n) s (t ∷ ts) h e = (t, h.0, e)
-  fills basis (shape.seq n) s [] h e = absurd h
-  fills basis (shape.seq n) s (t ∷ ts) h e = (t, h.0, e)
-  fills basis (shape.set n) s [] h e = absurd h
-  fills basis (shape.set n) s (t ∷ ts) h e = (t, h.0, e)
-  fills basis (shape.array n zero) s ts h e = e
-  fills basis (shape.array n (suc len)) s [] h e = absurd h
-  fills basis (shape.array n (suc len)) s (t ∷ ts) h e = (t, h.0, e)
-  fills basis (shape.up_to n cap) s [] h e = absurd h
-  fills basis (shape.up_to n cap) s (t ∷ ts) h e = (t, h.0, e)
-  fills basis (shape.tuple []) s ts h e = ([], refl, e)
-  fills basis (shape.tuple (n ∷ ns)) s [] h e = absurd h
-  fills basis (shape.tuple (n ∷ ns)) s (t ∷ ts) h e =
-      let rest : Fit ns ts = subst (λ ms. Fit ms ts) (append-nil (rows_in (templates_of (map row ns))) ∙ rows_same ns) h.1 in (
-        t ∷ ts,
-        (h.0, rest),
-        e
-            ∙ (λ i. counted_list (item t (items_same ns ts rest i)) (counted (n ∷ ns) (t ∷ ts) (h.0, rest) i)),
-      )
-  fills basis (shape.struct xs closed) s ts h e =
-      let all = map_fills xs (required_names basis.contract xs) closed ts h in
-      (all.0, all.1, e ∙ all.2)
-  fills basis (shape.newtype n) s [] h e = absurd h
-  fills basis (shape.newtype n) s (t ∷ ts) h e = subst (W n) (sym e) h.0
-  fills basis (shape.result a b) s [] h e = absurd h
-  fills basis (shape.result a b) s (t ∷ []) h e = absurd h.1
-  fills basis (shape.result a b) s (t ∷ u ∷ ts) h e = (t, u, h.0, h.1.0, e)
-  fills basis (shape.bound n) s [] h e = absurd h
-  fills basis (shape.bound n) s (t ∷ []) h e = absurd h.1
-  fills basis (shape.bound n) s (t ∷ u ∷ ts) h e = (t, u, h.0, h.1.0, e)
-  fills basis (shape.range n) s [] h e = absurd h
-  fills basis (shape.range n) s (t ∷ []) h e = absurd h.1
-  fills basis (shape.range n) s (t ∷ u ∷ ts) h e = (t, u, h.0, h.1.0, e)
-  fills basis (shape.either a b) s [] h e = absurd h
-  fills basis (shape.either a b) s (t ∷ []) h e = absurd h.1
-  fills basis (shape.either a b) s (t ∷ u ∷ ts) h e = (t, u, h.0, h.1.0, e)
-  fills basis (shape.map_from key value) s ts h e = record { parts = ts; written = h; is = e }
-  fills basis (shape.external xs) s ts h e = record { parts = ts; written = h; is = e }
-  fills basis (shape.untagged xs) s ts h e = record { parts = ts; written = h; is = e }
-  fills basis (shape.internal tag closed xs) s ts h e = record { parts = ts; written = h; is = e }
-  fills basis (shape.literal d) s ts h e = e
+  module _ (has : ℕ → List Field) (basis : Basis) (fields : AnswersFields has basis.rows basis.contract A) where
+    fills : (kind : Shape) (s : Data) (ts : List Data) → ArePlainParts basis.rows (parts_in kind)
+        → Fit A (asks_of (template_of basis kind)) ts → s ≡ filled (template_of basis kind) ts → IsDocument A has basis kind s
+    fills shape.null s ts p h e = e
+    fills shape.bool s ts p h e = e
+    fills (shape.int kind) s ts p h e = e
+    fills (shape.non_zero kind) s ts p h e = e
+    fills shape.number s ts p h e = e
+    fills shape.text s ts p h e = e
+    fills shape.char s ts p h e = e
+    fills (shape.formatted format) s ts p h e = e
+    fills shape.any s ts p h e = e
+    fills shape.bytes s ts p h e = e
+    fills shape.schema_itself s ts p h e = e
+    fills (shape.option n) s [] p h e = absurd h
+    fills (shape.option n) s (t ∷ ts) p h e = (t, h.0, e)
+    fills (shape.seq n) s [] p h e = absurd h
+    fills (shape.seq n) s (t ∷ ts) p h e = (t, h.0, e)
+    fills (shape.set n) s [] p h e = absurd h
+    fills (shape.set n) s (t ∷ ts) p h e = (t, h.0, e)
+    fills (shape.array n zero) s ts p h e = e
+    fills (shape.array n (suc len)) s [] p h e = absurd h
+    fills (shape.array n (suc len)) s (t ∷ ts) p h e = (t, h.0, e)
+    fills (shape.up_to n cap) s [] p h e = absurd h
+    fills (shape.up_to n cap) s (t ∷ ts) p h e = (t, h.0, e)
+    fills (shape.tuple ns) s ts p h e = let all = tuple_fills ns ts h in (all.0, all.1, e ∙ all.2)
+    fills (shape.struct x) s ts p h e =
+        subst (λ d. IsFieldsDocument (λ j. A (part j)) basis.contract (effective has x) x.closed d) (sym e)
+        (struct_fills A has basis.rows basis.contract fields x p ts h)
+    fills (shape.newtype n) s [] p h e = absurd h
+    fills (shape.newtype n) s (t ∷ ts) p h e = subst (A (part n)) (sym e) h.0
+    fills (shape.result a b) s [] p h e = absurd h
+    fills (shape.result a b) s (t ∷ []) p h e = absurd h.1
+    fills (shape.result a b) s (t ∷ u ∷ ts) p h e = (t, u, h.0, h.1.0, e)
+    fills (shape.bound n) s [] p h e = absurd h
+    fills (shape.bound n) s (t ∷ []) p h e = absurd h.1
+    fills (shape.bound n) s (t ∷ u ∷ ts) p h e = (t, u, h.0, h.1.0, e)
+    fills (shape.range n) s [] p h e = absurd h
+    fills (shape.range n) s (t ∷ []) p h e = absurd h.1
+    fills (shape.range n) s (t ∷ u ∷ ts) p h e = (t, u, h.0, h.1.0, e)
+    fills (shape.either a b) s [] p h e = absurd h
+    fills (shape.either a b) s (t ∷ []) p h e = absurd h.1
+    fills (shape.either a b) s (t ∷ u ∷ ts) p h e = (t, u, h.0, h.1.0, e)
+    fills (shape.map_from key value) s ts p h e = record { parts = ts; answered = h; is = e }
+    fills (shape.external xs) s ts p h e = record { parts = ts; answered = h; is = e }
+    fills (shape.untagged xs) s ts p h e = record { parts = ts; answered = h; is = e }
+    fills (shape.internal tag closed xs) s ts p h e = record { parts = ts; answered = h; is = e }
+    fills (shape.literal d) s ts p h e = e
 
-  pub by_shape : (basis : Basis) (kind : Shape) (s : Data) → Fills W (template_of basis kind) s → IsDocument W basis kind s
-  by_shape basis kind s h = fills basis kind s h.parts h.written h.is
+    pub by_shape : (kind : Shape) (s : Data) → ArePlainParts basis.rows (parts_in kind) → Fills A (template_of basis kind) s
+        → IsDocument A has basis kind s
+    by_shape kind s p h = fills kind s h.parts p h.answered h.is
 
-  -- a row's document is the shape's, with the row's notes
-  pub own_document : (basis : Basis) (e : Entry) (s : Data) → Fills W (entry_template basis e) s
-      → (bare : Data) × IsDocument W basis e.shape bare × (s ≡ annotated e.notes bare)
-  own_document basis e s h =
-      (filled (template_of basis e.shape) h.parts, fills basis e.shape _ h.parts h.written refl, h.is)
+    -- a row's document is the shape's, with the row's notes
+    pub own_document : (e : Entry) (s : Data) → ArePlainParts basis.rows (parts_in e.shape) → Fills A (entry_template basis e) s
+        → (bare : Data) × IsDocument A has basis e.shape bare × (s ≡ annotated e.notes bare)
+    own_document e s p h =
+        (filled (template_of basis e.shape) h.parts, fills e.shape _ h.parts p h.answered refl, h.is)

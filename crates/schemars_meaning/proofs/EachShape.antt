@@ -25,7 +25,7 @@ use Rattle.schemars_types.specs.KeyOptions.{key_options}
 use Rattle.schemars_templates.specs.Basis.{Basis}
 use Rattle.schemars_documents.specs.Documents.{type_alone, int_keywords, int_document, non_zero_document, char_document}
 use Rattle.schemars_documents.specs.Documents.{formatted_document, empty_list_document, bytes_document, schema_document}
-use Rattle.schemars_templates.specs.Describes.{ArePartsWritten}
+use Rattle.schemars_meaning.proofs.Filling.{ArePartsWritten}
 use Rattle.schemars_meaning.proofs.ByShape.{seq_document, set_document, array_document, up_to_document, tuple_document}
 use Rattle.schemars_meaning.proofs.ByShape.{items_from, IsArrayDocument}
 

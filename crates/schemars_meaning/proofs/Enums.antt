@@ -1,6 +1,6 @@
 -- What the documents of enums say under 2020-12.
 use Rattle.std.proofs.Common.{◌≡◌, ◌⊎◌, ℕ, ◌<◌, List, [], ◌∷◌, ◌++◌, map, Option, Some, None, Bool, true, false, inl, inr}
-use Rattle.std.proofs.Common.{refl, sym, ap, ◌∙◌, subst, append_assoc, arith, true≢false}
+use Rattle.std.proofs.Common.{refl, sym, ap, ◌∙◌, subst, arith, true≢false}
 use Rattle.std.specs.Prelude.{bytes_eq, if◌then◌else◌, is_some, ◌&&◌, ◌||◌}
 use Rattle.std.specs.List.{list_any}
 use Rattle.std.specs.Option.{option_map_or}
@@ -8,126 +8,75 @@ use Rattle.std.proofs.lemmas.Slice.Eq.{bytes_eq-Decides}
 use Rattle.serde_json.specs.Data.{Data, null, boolean, number, string, array, object, Members, no_members}
 use Rattle.serde_json.specs.Data.{member, depth}
 use Rattle.serde_json.specs.Find.{get_member}
-use Rattle.serde_json.specs.View.{items_of}
 use Rattle.schemars_schema.specs.Verdict.{verdict}
 use Rattle.schemars_json.specs.Json.{Text, IsJson}
-use Rattle.schemars_schema.specs.SchemaData.{IsSchema, put_all}
+use Rattle.schemars_schema.specs.SchemaData.{IsSchema}
 use Rattle.schemars_schema.specs.Acceptance.{Patterns, Judge, Context, judge, read_data}
 use Rattle.schemars_schema.specs.Annotations.{AreNotes}
-use Rattle.schemars_rewrite.specs.AllowNull.{allow_null}
 use Rattle.schemars_rewrite.specs.NullLaw.{context2020_12}
 use Rattle.schemars_rewrite.proofs.Nulls.{IsReady, AreReady, ready-schema}
 use Rattle.schemars_shapes.specs.Shape as shape
-use Rattle.schemars_shapes.specs.Shape.{Shape, Field, Payload, Variant, no_payload, newtype_payload, tuple_payload, struct_payload, needed}
+use Rattle.schemars_shapes.specs.Shape.{Field, Payload, Variant, no_payload, newtype_payload, tuple_payload, struct_payload, needed}
 use Rattle.schemars_shapes.specs.Units.{is_bare_unit}
 use Rattle.schemars_types.specs.Meaning.{Contract, Deserialize, Serialize, has_shape, has_payload}
 use Rattle.schemars_types.specs.Meaning.{has_variant, has_fields, is_map_of, is_text}
 use Rattle.schemars_types.specs.Meaning.{every_member, member_fits, has_required, none, exactly_one}
 use Rattle.schemars_types.specs.KeyOptions.{key_options}
-use Rattle.schemars_documents.specs.Documents.{annotated, required_names}
+use Rattle.schemars_types.specs.Effective.{spread_payload, spread_variant}
 use Rattle.schemars_documents.specs.PlainTable.{IsNoVariant, AreDistinctVariants, IsPlainPayload, ArePlainVariants}
+use Rattle.schemars_documents.specs.PlainTable.{ArePlainParts, payload_parts, variant_parts}
 use Rattle.schemars_templates.specs.Basis.{Basis}
-use Rattle.schemars_templates.specs.Template.{Template, finished, row, list, members, nullable, noted, Templates, no_templates}
-use Rattle.schemars_templates.specs.Template.{template, rows_of, rows_in, filled, filled_in, left, left_in, keyed}
+use Rattle.schemars_templates.specs.Template.{Ask, part, Template, noted, Templates, asks_of, asks_in, filled, filled_in}
 use Rattle.schemars_templates.specs.OfShape.{templates_of, one_of, any_of, member_template, payload_template, named_template}
 use Rattle.schemars_templates.specs.OfShape.{bare_units, other_items, units_template, choice_of, external_template}
-use Rattle.schemars_templates.specs.OfShape.{payload_item, untagged_template, titled, title_alone}
-use Rattle.schemars_templates.specs.Describes.{ArePartsWritten}
-use Rattle.schemars_meaning.proofs.ByShape.{without_end, by_shape, field_keywords, tuple_document, member_document}
-use Rattle.schemars_meaning.proofs.Ready.{map_ready, tuple_ready, one_of_ready, any_of_ready, units_ready}
+use Rattle.schemars_templates.specs.OfShape.{payload_item, untagged_template, titled, title_alone, struct_template}
+use Rattle.schemars_meaning.proofs.Spread.{AnswersFields}
+use Rattle.schemars_meaning.proofs.Filling.{Fit, without_end, parted}
+use Rattle.schemars_meaning.proofs.Flattened.{struct_fills, parts_apart}
+use Rattle.schemars_meaning.proofs.ByShape.{tuple_fills, tuple_document, member_document}
+use Rattle.schemars_meaning.proofs.Ready.{tuple_ready, one_of_ready, any_of_ready, units_ready, fields_ready}
 use Rattle.schemars_meaning.proofs.Notes.{judge-annotated, ready-annotated, annotated-schema}
 use Rattle.schemars_meaning.proofs.EachShape.{null_says, tuple_says}
-use Rattle.schemars_meaning.proofs.Structs.{struct_says}
+use Rattle.schemars_meaning.proofs.Structs.{struct_says, fields_say}
 use Rattle.schemars_meaning.proofs.Choices.{Say, one_of_says, any_of_says, unit_says, units_say}
-
--- ---- the parts of templates that stand behind each other
-
-module _ (W : ℕ → Data → Type 0) where
-  abbrev pub Fit : List ℕ → List Data → Type 0
-  Fit = ArePartsWritten W
-
-  split : (ms ns : List ℕ) (ts : List Data) → Fit (ms ++ ns) ts
-      → (us : List Data) × (ws : List Data) × (ts ≡ us ++ ws) × Fit ms us × Fit ns ws
-  split [] ns ts h = ([], ts, refl, refl, h)
-  split (m ∷ ms) ns [] h = absurd h
-  split (m ∷ ms) ns (t ∷ ts) h =
-      let later = split ms ns ts h.1 in
-      (t ∷ later.0, later.1, ap (λ xs. t ∷ xs) later.2, (h.0, later.3), later.4)
-
-  -- a template is filled by its own parts, and leaves the others
-  mutual
-    front : (t : Template) (us ws : List Data) → Fit (rows_of t) us → (filled t (us ++ ws) ≡ filled t us) × (left t (us ++ ws) ≡ ws)
-    front (finished d) us ws h = (refl, ap (λ xs. xs ++ ws) h)
-    front (row n) [] ws h = absurd h
-    front (row n) (u ∷ us) ws h = (refl, ap (λ xs. xs ++ ws) h.1)
-    front (list es) us ws h = let all = front_in es us ws h in (ap (λ ds. array (items_of ds)) all.0, all.1)
-    front (members ks es) us ws h = let all = front_in es us ws h in (ap (λ ds. object (put_all (keyed ks ds) no_members)) all.0, all.1)
-    front (nullable t) us ws h = let all = front t us ws h in (ap allow_null all.0, all.1)
-    front (noted notes t) us ws h = let all = front t us ws h in (ap (annotated notes) all.0, all.1)
-
-    front_in : (es : Templates) (us ws : List Data) → Fit (rows_in es) us
-        → (filled_in es (us ++ ws) ≡ filled_in es us) × (left_in es (us ++ ws) ≡ ws)
-    front_in no_templates us ws h = (refl, ap (λ xs. xs ++ ws) h)
-    front_in (template t es) us ws h =
-        let s = split (rows_of t) (rows_in es) us h in
-        let a = s.0 in
-        let b = s.1 in
-        let whole : us ++ ws ≡ a ++ (b ++ ws) = ap (λ xs. xs ++ ws) s.2 ∙ append_assoc a b ws in
-        let far = front t a (b ++ ws) s.3 in
-        let near = front t a b s.3 in
-        let later = front_in es b ws s.4 in
-        let first : filled t (us ++ ws) ≡ filled t us = ap (filled t) whole ∙ (far.0 ∙ sym (ap (filled t) s.2 ∙ near.0)) in
-        let behind : left t (us ++ ws) ≡ b ++ ws = ap (left t) whole ∙ far.1 in
-        let own : left t us ≡ b = ap (left t) s.2 ∙ near.1 in
-        let rest : filled_in es (left t (us ++ ws)) ≡ filled_in es (left t us) =
-        ap (filled_in es) behind ∙ (later.0 ∙ sym (ap (filled_in es) own)) in
-        (λ i. first i ∷ rest i, ap (left_in es) behind ∙ later.1)
-
-  -- the first template's own parts, and those of the others
-  pub parted : (t : Template) (es : Templates) (us : List Data) → Fit (rows_in (template t es)) us
-      → (a : List Data) × (b : List Data) × Fit (rows_of t) a × Fit (rows_in es) b × (filled t us ≡ filled t a) × (left t us ≡ b)
-  parted t es us h =
-      let s = split (rows_of t) (rows_in es) us h in
-      let near = front t s.0 s.1 s.3 in
-      (s.0, s.1, s.3, s.4, ap (filled t) s.2 ∙ near.0, ap (left t) s.2 ∙ near.1)
 
 -- ---- null can be added
 
 pub title_noted : (name : Text) → AreNotes (title_alone name)
 title_noted name = (refl, tt)
 
-module _ (W : ℕ → Data → Type 0) (basis : Basis) (ready : (j : ℕ) (t : Data) → W j t → IsReady t) where
-  payload_ready : (p : Payload) (us : List Data) → Fit W (rows_of (payload_template basis.contract p)) us
-      → IsReady (filled (payload_template basis.contract p) us)
-  payload_ready no_payload us h =
+module _ (A : Ask → Data → Type 0) (has : ℕ → List Field) (basis : Basis) (fields : AnswersFields has basis.rows basis.contract A)
+    (ready : (j : ℕ) (t : Data) → A (part j) t → IsReady t) where
+  payload_ready : (p : Payload) → ArePlainParts basis.rows (payload_parts p) → (us : List Data)
+      → Fit A (asks_of (payload_template basis.contract p)) us → IsReady (filled (payload_template basis.contract p) us)
+  payload_ready no_payload flat us h =
       inr (record { alone = refl; type_form = refl; values = inl refl; not_form = inl refl })
-  payload_ready (newtype_payload n) [] h = absurd h
-  payload_ready (newtype_payload n) (t ∷ us) h = ready n t h.0
-  payload_ready (tuple_payload ns) us h =
-      let d = by_shape W basis (shape.tuple ns) _ (record { parts = us; written = h; is = refl }) in
-      subst IsReady (sym d.2) (tuple_ready d.0)
-  payload_ready (struct_payload xs closed) us h =
-      let d = by_shape W basis (shape.struct xs closed) _ (record { parts = us; written = h; is = refl }) in
-      subst IsReady (sym d.2) (map_ready (field_keywords xs d.0) (required_names basis.contract xs) closed)
+  payload_ready (newtype_payload n) flat [] h = absurd h
+  payload_ready (newtype_payload n) flat (t ∷ us) h = ready n t h.0
+  payload_ready (tuple_payload ns) flat us h = let d = tuple_fills A ns us h in subst IsReady (sym d.2) (tuple_ready d.0)
+  payload_ready (struct_payload x) flat us h = fields_ready (λ j. A (part j)) basis.contract _ x.closed _
+      (struct_fills A has basis.rows basis.contract fields x flat us h)
 
-  titled_ready : (titles : Bool) (name : Text) (p : Payload) (us : List Data)
-      → Fit W (rows_of (titled titles name (payload_template basis.contract p))) us
+  titled_ready : (titles : Bool) (name : Text) (p : Payload) → ArePlainParts basis.rows (payload_parts p) → (us : List Data)
+      → Fit A (asks_of (titled titles name (payload_template basis.contract p))) us
       → IsReady (filled (titled titles name (payload_template basis.contract p)) us)
-  titled_ready false name p us h = payload_ready p us h
-  titled_ready true name p us h = ready-annotated (title_alone name) (filled (payload_template basis.contract p) us) (title_noted name)
-      (payload_ready p us h)
+  titled_ready false name p flat us h = payload_ready p flat us h
+  titled_ready true name p flat us h = ready-annotated (title_alone name) (filled (payload_template basis.contract p) us)
+      (title_noted name) (payload_ready p flat us h)
 
-  items_ready : (xs : List Variant) → ArePlainVariants xs → (us : List Data)
-      → Fit W (rows_in (templates_of (map (payload_item basis.contract basis.titles) xs))) us
-      → AreReady (filled_in (templates_of (map (payload_item basis.contract basis.titles) xs)) us)
-  items_ready [] plain us h = tt
-  items_ready (x ∷ xs) plain us h =
-      let p = parted W (payload_item basis.contract basis.titles x) (templates_of (map
-      (payload_item basis.contract basis.titles) xs)) us h in
+  abbrev items : List Variant → Templates
+  items xs = templates_of (map (payload_item basis.contract basis.titles) xs)
+
+  items_ready : (xs : List Variant) (others : ℕ → List Field) → ArePlainVariants (map (spread_variant others) xs)
+      → ArePlainParts basis.rows (variant_parts xs) → (us : List Data) → Fit A (asks_in (items xs)) us → AreReady (filled_in (items xs) us)
+  items_ready [] others plain flat us h = tt
+  items_ready (x ∷ xs) others plain flat us h =
+      let p = parted A (payload_item basis.contract basis.titles x) (asks_in (items xs)) us h in
+      let flats = parts_apart basis.rows (payload_parts x.payload) (variant_parts xs) flat in
       let own : IsReady (filled (payload_item basis.contract basis.titles x) p.0) =
       ready-annotated x.notes (filled (titled basis.titles x.name (payload_template basis.contract x.payload)) p.0) plain.0
-      (titled_ready basis.titles x.name x.payload p.0 p.2) in
-      (rw p.4 own, rw p.5 (items_ready xs plain.2 p.1 p.3))
+      (titled_ready basis.titles x.name x.payload flats.0 p.0 p.2) in
+      (rw p.4 own, rw p.5 (items_ready xs others plain.2 flats.1 p.1 p.3))
 
   choice_ready : (ks : List Text) (ts : List Template) (us : List Data) → IsReady (filled (choice_of ks ts) us)
   choice_ready [] [] us = tt
@@ -138,14 +87,14 @@ module _ (W : ℕ → Data → Type 0) (basis : Basis) (ready : (j : ℕ) (t : D
   pub external_ready : (xs : List Variant) (us : List Data) → IsReady (filled (external_template basis.contract xs) us)
   external_ready xs us = choice_ready (bare_units xs) (other_items basis.contract xs) us
 
-  pub untagged_ready : (xs : List Variant) → ArePlainVariants xs → (us : List Data)
-      → Fit W (rows_of (untagged_template basis.contract basis.titles xs)) us
+  pub untagged_ready : (xs : List Variant) (others : ℕ → List Field) → ArePlainVariants (map (spread_variant others) xs)
+      → ArePlainParts basis.rows (variant_parts xs) → (us : List Data)
+      → Fit A (asks_of (untagged_template basis.contract basis.titles xs)) us
       → IsReady (filled (untagged_template basis.contract basis.titles xs) us)
-  untagged_ready [] plain us h = tt
-  untagged_ready (x ∷ xs) plain us h =
-      any_of_ready (filled_in (templates_of (map (payload_item basis.contract basis.titles) (x ∷ xs))) us)
-      (items_ready (x ∷ xs) plain us (without_end W (rows_in (templates_of (map (payload_item basis.contract basis.titles)
-      (x ∷ xs)))) us h))
+  untagged_ready [] others plain flat us h = tt
+  untagged_ready (x ∷ xs) others plain flat us h =
+      any_of_ready (filled_in (items (x ∷ xs)) us)
+      (items_ready (x ∷ xs) others plain flat us (without_end A (asks_in (items (x ∷ xs))) us h))
 
 -- ---- the rows of newtype variants, which have the value itself
 
@@ -203,7 +152,7 @@ module _ (contract : Contract) (M : ℕ → Data → Bool) (v : Data) where
   variant_claimed name no_payload h = text_claimed name v h
   variant_claimed name (newtype_payload n) h = map_claimed name (M n) v h
   variant_claimed name (tuple_payload ns) h = map_claimed name (has_payload contract M (tuple_payload ns)) v h
-  variant_claimed name (struct_payload xs closed) h = map_claimed name (has_payload contract M (struct_payload xs closed)) v h
+  variant_claimed name (struct_payload y) h = map_claimed name (has_payload contract M (struct_payload y)) v h
 
   abbrev U : List Text → Bool
   U ks = list_any (λ k. is_text k v) ks
@@ -244,7 +193,7 @@ module _ (contract : Contract) (M : ℕ → Data → Bool) (v : Data) where
       go no_payload h = refl
       go (newtype_payload n) h = absurd (true≢false (sym h))
       go (tuple_payload ns) h = absurd (true≢false (sym h))
-      go (struct_payload xs closed) h = absurd (true≢false (sym h))
+      go (struct_payload y) h = absurd (true≢false (sym h))
 
   exactly_any : (xs : List Variant) → AreDistinctVariants xs → exactly_one (U (bare_units xs) ∷ map P (others xs)) ≡ list_any P xs
   exactly_any [] h = refl
@@ -268,10 +217,36 @@ module _ (contract : Contract) (M : ℕ → Data → Bool) (v : Data) where
           named true claim later = let all = none_others x.name (claim refl) xs h.0 in rw (all.1, all.0) refl
           named false claim later = skipped (U (bare_units xs)) (map P (others xs)) ∙ later
 
+-- ---- with flattened fields a unit stays one
+
+module _ (part_fields : ℕ → List Field) where
+  unit_stays : (name : Text) (p : Payload) (notes : Members)
+      → is_bare_unit (record { name = name; payload = spread_payload part_fields p; notes = notes })
+      ≡ is_bare_unit (record { name = name; payload = p; notes = notes })
+  unit_stays name no_payload notes = refl
+  unit_stays name (newtype_payload n) notes = refl
+  unit_stays name (tuple_payload ns) notes = refl
+  unit_stays name (struct_payload y) notes = refl
+
+  units_stay : (xs : List Variant) → bare_units (map (spread_variant part_fields) xs) ≡ bare_units xs
+  units_stay [] = refl
+  units_stay (x ∷ xs) =
+      λ i. if unit_stays x.name x.payload x.notes i then x.name ∷ units_stay xs i else units_stay xs i
+
 -- ---- what templates say
 
-module _ (patterns : Patterns) (f : Text → Judge) (basis : Basis) (W : ℕ → Data → Type 0) (M : ℕ → Data → Bool)
-    (ready : (j : ℕ) (t : Data) → W j t → IsReady t) where
+module _ (patterns : Patterns) (f : Text → Judge) (basis : Basis) (A : Ask → Data → Type 0) (M : ℕ → Data → Bool)
+    (has : ℕ → List Field) (fields : AnswersFields has basis.rows basis.contract A)
+    (ready : (j : ℕ) (t : Data) → A (part j) t → IsReady t) where
+  abbrev W : ℕ → Data → Type 0
+  W j = A (part j)
+
+  abbrev spreads : Payload → Payload
+  spreads p = spread_payload has p
+
+  abbrev spread_each : Variant → Variant
+  spread_each x = spread_variant has x
+
   abbrev contract : Contract
   contract = basis.contract
 
@@ -283,7 +258,7 @@ module _ (patterns : Patterns) (f : Text → Judge) (basis : Basis) (W : ℕ →
 
   -- whatever fills it is a schema that says this of the value
   abbrev pub Tells : Template → Bool → Data → Type 0
-  Tells t b v = (us : List Data) → Fit W (rows_of t) us → IsSchema (filled t us) × ((judge c (filled t us)).fits v ≡ verdict b)
+  Tells t b v = (us : List Data) → Fit A (asks_of t) us → IsSchema (filled t us) × ((judge c (filled t us)).fits v ≡ verdict b)
 
   abbrev pub AllTell : List Template → List Bool → Data → Type 0
   AllTell [] [] v = Unit {0}
@@ -291,13 +266,13 @@ module _ (patterns : Patterns) (f : Text → Judge) (basis : Basis) (W : ℕ →
   AllTell (t ∷ ts) [] v = ⊥
   AllTell (t ∷ ts) (b ∷ bs) v = Tells t b v × AllTell ts bs v
 
-  all_say : (ts : List Template) (bs : List Bool) (v : Data) → AllTell ts bs v → (us : List Data) → Fit W (rows_in (templates_of ts)) us
+  all_say : (ts : List Template) (bs : List Bool) (v : Data) → AllTell ts bs v → (us : List Data) → Fit A (asks_in (templates_of ts)) us
       → Say patterns f basis M (filled_in (templates_of ts) us) bs v
   all_say [] [] v h us fit = tt
   all_say [] (b ∷ bs) v h us fit = absurd h
   all_say (t ∷ ts) [] v h us fit = absurd h
   all_say (t ∷ ts) (b ∷ bs) v h us fit =
-      let p = parted W t (templates_of ts) us fit in
+      let p = parted A t (asks_in (templates_of ts)) us fit in
       let own = h.0 p.0 p.2 in
       (rw p.4 own.0, ap (λ s. (judge c s).fits v) p.4 ∙ own.1, rw p.5 (all_say ts bs v h.1 p.1 p.3))
 
@@ -305,14 +280,14 @@ module _ (patterns : Patterns) (f : Text → Judge) (basis : Basis) (W : ℕ →
   one_tells ts bs v h us fit = (
     tt,
     one_of_says patterns f basis M (filled_in (templates_of ts) us) bs v
-        (all_say ts bs v h us (without_end W (rows_in (templates_of ts)) us fit)),
+        (all_say ts bs v h us (without_end A (asks_in (templates_of ts)) us fit)),
   )
 
   any_tells : (ts : List Template) (bs : List Bool) (v : Data) → AllTell ts bs v → Tells (any_of ts) (list_any (λ b. b) bs) v
   any_tells ts bs v h us fit = (
     tt,
     any_of_says patterns f basis M (filled_in (templates_of ts) us) bs v
-        (all_say ts bs v h us (without_end W (rows_in (templates_of ts)) us fit)),
+        (all_say ts bs v h us (without_end A (asks_in (templates_of ts)) us fit)),
   )
 
   pub noted_tells : (notes : Members) (t : Template) (b : Bool) (v : Data) → AreNotes notes → Tells t b v → Tells (noted notes t) b v
@@ -378,63 +353,69 @@ module _ (patterns : Patterns) (f : Text → Judge) (basis : Basis) (W : ℕ →
   abbrev AgreesWithin : Data → Type 0
   AgreesWithin v = (j : ℕ) (t w : Data) → W j t → IsJson w → depth w < depth v → (judge c t).fits w ≡ verdict (M j w)
 
-  payload_tells : (p : Payload) → IsPlainPayload p → (v : Data) → IsJson v → AgreesWithin v
+  payload_tells : (p : Payload) → IsPlainPayload (spreads p) → ArePlainParts basis.rows (payload_parts p) → (v : Data) → IsJson v
+      → AgreesWithin v
       → ((n : ℕ) (t : Data) → p ≡ newtype_payload n → W n t → (judge c t).fits v ≡ verdict (M n v))
-      → Tells (payload_template contract p) (has_payload contract M p v) v
-  payload_tells no_payload plain v json agree same us fit = (tt, null_says patterns f basis M v)
-  payload_tells (newtype_payload n) plain v json agree same [] fit = absurd fit
-  payload_tells (newtype_payload n) plain v json agree same (t ∷ us) fit = (schemas n t fit.0, same n t refl fit.0)
-  payload_tells (tuple_payload ns) plain v json agree same us fit =
-      let d = by_shape W basis (shape.tuple ns) _ (record { parts = us; written = fit; is = refl }) in (
+      → Tells (payload_template contract p) (has_payload contract M (spreads p) v) v
+  payload_tells no_payload plain flat v json agree same us fit = (tt, null_says patterns f basis M v)
+  payload_tells (newtype_payload n) plain flat v json agree same [] fit = absurd fit
+  payload_tells (newtype_payload n) plain flat v json agree same (t ∷ us) fit = (schemas n t fit.0, same n t refl fit.0)
+  payload_tells (tuple_payload ns) plain flat v json agree same us fit =
+      let d = tuple_fills A ns us fit in (
         subst IsSchema (sym d.2) (ready-schema (tuple_document d.0) (tuple_ready d.0)),
         ap (λ s. (judge c s).fits v) d.2 ∙ tuple_says patterns f basis M W schemas ns d.0 d.1 v json agree,
       )
-  payload_tells (struct_payload xs closed) plain v json agree same us fit =
-      let d = by_shape W basis (shape.struct xs closed) _ (record { parts = us; written = fit; is = refl }) in (
-        subst IsSchema (sym d.2) tt,
-        ap (λ s. (judge c s).fits v) d.2
-            ∙ struct_says patterns f contract W M schemas xs d.0 closed plain.0 plain.1 d.1 v json agree,
+  payload_tells (struct_payload x) plain flat v json agree same us fit =
+      let d = struct_fills A has basis.rows contract fields x flat us fit in (
+        ready-schema (filled (struct_template contract x) us) (fields_ready W contract _ x.closed _ d),
+        fields_say patterns f contract W M schemas _ x.closed _ plain.0 plain.1 d v json agree,
       )
 
   module _ (v : Data) (json : IsJson v) (agree : AgreesWithin v) where
     -- a payload under its name says what it says of the smaller values
-    keyed_tells : (name : Text) (p : Payload) → IsPlainPayload p
-        → Tells (member_template true name (payload_template contract p)) (is_map_of name (has_payload contract M p) v) v
-    keyed_tells name p plain us fit =
+    keyed_tells : (name : Text) (p : Payload) → IsPlainPayload (spreads p) → ArePlainParts basis.rows (payload_parts p)
+        → Tells (member_template true name (payload_template contract p)) (is_map_of name (has_payload contract M (spreads p)) v) v
+    keyed_tells name p plain flat us fit =
         let t = payload_template contract p in
-        let own : Fit W (rows_of t) us = without_end W (rows_of t) us (without_end W (rows_of t ++ []) us fit) in
-        let tells : (w : Data) → IsJson w → depth w < depth v → Tells t (has_payload contract M p w) w =
-        λ w js less. payload_tells p plain w js (λ j t x is jx smaller. agree j t x is jx (omega (arith, less, smaller)))
+        let own : Fit A (asks_of t) us = without_end A (asks_of t) us (without_end A (asks_of t ++ []) us fit) in
+        let tells : (w : Data) → IsJson w → depth w < depth v → Tells t (has_payload contract M (spreads p) w) w =
+        λ w js less. payload_tells p plain flat w js (λ j t x is jx smaller. agree j t x is jx (omega (arith, less, smaller)))
         (λ n t e is. agree n t w is js less) in (
           tt,
-          alone_says name (has_payload contract M p) (filled t us) (schema p plain us own) v json
+          alone_says name (has_payload contract M (spreads p)) (filled t us)
+              (ready-schema (filled t us) (payload_ready A has basis fields ready p flat us own)) v json
               (λ w js less. (tells w js less us own).1),
         )
-      where
-        schema : (p : Payload) → IsPlainPayload p → (us : List Data) → Fit W (rows_of (payload_template contract p)) us
-            → IsSchema (filled (payload_template contract p) us)
-        schema p plain us fit = ready-schema (filled (payload_template contract p) us) (payload_ready W basis ready p us fit)
 
-    named_tells : (name : Text) (p : Payload) → IsPlainPayload p
-        → Tells (named_template contract name p) (named_by contract M v name p) v
-    named_tells name no_payload plain us fit = (tt, unit_says patterns f basis M name v)
-    named_tells name (newtype_payload n) plain us fit = keyed_tells name (newtype_payload n) plain us fit
-    named_tells name (tuple_payload ns) plain us fit = keyed_tells name (tuple_payload ns) plain us fit
-    named_tells name (struct_payload xs closed) plain us fit = keyed_tells name (struct_payload xs closed) plain us fit
+    named_tells : (name : Text) (p : Payload) → IsPlainPayload (spreads p) → ArePlainParts basis.rows (payload_parts p)
+        → Tells (named_template contract name p) (named_by contract M v name (spreads p)) v
+    named_tells name no_payload plain flat us fit = (tt, unit_says patterns f basis M name v)
+    named_tells name (newtype_payload n) plain flat us fit = keyed_tells name (newtype_payload n) plain flat us fit
+    named_tells name (tuple_payload ns) plain flat us fit = keyed_tells name (tuple_payload ns) plain flat us fit
+    named_tells name (struct_payload y) plain flat us fit = keyed_tells name (struct_payload y) plain flat us fit
 
-    others_tell : (xs : List Variant) → ArePlainVariants xs
-        → AllTell (other_items contract xs) (map (P contract M v) (others contract M v xs)) v
-    others_tell [] plain = tt
-    others_tell (x ∷ xs) plain = go (is_bare_unit x) (others_tell xs plain.2)
+    others_tell : (xs : List Variant) → ArePlainVariants (map spread_each xs) → ArePlainParts basis.rows (variant_parts xs)
+        → AllTell (other_items contract xs) (map (P contract M v) (others contract M v (map spread_each xs))) v
+    others_tell [] plain flat = tt
+    others_tell (x ∷ xs) plain flat =
+        go (is_bare_unit x) (is_bare_unit (spread_each x)) (unit_stays has x.name x.payload x.notes)
+        (others_tell xs plain.2 flats.1)
       where
-        go : (b : Bool) → AllTell (other_items contract xs) (map (P contract M v) (others contract M v xs)) v
+        flats : ArePlainParts basis.rows (payload_parts x.payload) × ArePlainParts basis.rows (variant_parts xs)
+        flats = parts_apart basis.rows (payload_parts x.payload) (variant_parts xs) flat
+
+        go : (b d : Bool) → d ≡ b
+            → AllTell (other_items contract xs) (map (P contract M v) (others contract M v (map spread_each xs))) v
             → AllTell (if b then other_items contract xs else noted x.notes
             (named_template contract x.name x.payload) ∷ other_items contract xs)
-            (map (P contract M v) (if b then others contract M v xs else x ∷ others contract M v xs)) v
-        go true later = later
-        go false later = (
-          noted_tells x.notes (named_template contract x.name x.payload) (P contract M v x) v plain.0
-              (named_tells x.name x.payload plain.1),
+            (map (P contract M v) (if d then others contract M v (map spread_each xs)
+            else spread_each x ∷ others contract M v (map spread_each xs))) v
+        go true true same later = later
+        go true false same later = absurd (true≢false (sym same))
+        go false true same later = absurd (true≢false same)
+        go false false same later = (
+          noted_tells x.notes (named_template contract x.name x.payload) (P contract M v (spread_each x)) v plain.0
+              (named_tells x.name x.payload plain.1 flats.0),
           later,
         )
 
@@ -457,39 +438,44 @@ module _ (patterns : Patterns) (f : Text → Judge) (basis : Basis) (W : ℕ →
     choice_tells ks [] (b ∷ bs) h us fit = absurd h
     choice_tells ks (t ∷ ts) [] h us fit = absurd h
 
-    pub external_says : (xs : List Variant) → AreDistinctVariants xs → ArePlainVariants xs → (us : List Data)
-        → Fit W (rows_of (external_template contract xs)) us
+    pub external_says : (xs : List Variant) → AreDistinctVariants (map spread_each xs) → ArePlainVariants (map spread_each xs)
+        → ArePlainParts basis.rows (variant_parts xs) → (us : List Data)
+        → Fit A (asks_of (external_template contract xs)) us
         → (judge c (filled (external_template contract xs) us)).fits v
-        ≡ verdict (has_shape contract patterns (key_options basis.rows) M (shape.external xs) v)
-    external_says xs apart plain us fit =
-        (choice_tells (bare_units xs) (other_items contract xs) (map (P contract M v) (others contract M v xs)) (others_tell xs plain) us
-        fit).1
-        ∙ ap verdict (exactly_any contract M v xs apart)
+        ≡ verdict (has_shape contract patterns (key_options basis.rows) M (shape.external (map spread_each xs)) v)
+    external_says xs apart plain flat us fit =
+        (choice_tells (bare_units xs) (other_items contract xs) (map (P contract M v) (others contract M v (map spread_each xs)))
+        (others_tell xs plain flat) us fit).1
+        ∙ (ap (λ ks. verdict (exactly_one (U contract M v ks ∷ map (P contract M v) (others contract M v (map spread_each xs)))))
+        (sym (units_stay has xs))
+        ∙ ap verdict (exactly_any contract M v (map spread_each xs) apart))
 
-    payloads_tell : (xs : List Variant) → ArePlainVariants xs
+    payloads_tell : (xs : List Variant) → ArePlainVariants (map spread_each xs) → ArePlainParts basis.rows (variant_parts xs)
         → ((n : ℕ) (t : Data) → IsNewtypeIn n xs → W n t → (judge c t).fits v ≡ verdict (M n v))
-        → AllTell (map (payload_item contract basis.titles) xs) (map (λ x. has_payload contract M x.payload v) xs) v
-    payloads_tell [] plain same = tt
-    payloads_tell (x ∷ xs) plain same = (
-      noted_tells x.notes (titled basis.titles x.name (payload_template contract x.payload)) (has_payload contract M x.payload v) v plain.0
-          (titled_tells basis.titles x.name (payload_template contract x.payload) (has_payload contract M x.payload v) v
-          (payload_tells x.payload plain.1 v json agree (λ n t e is. same n t (inl e) is))),
-      payloads_tell xs plain.2 (λ n t later is. same n t (inr later) is),
-    )
+        → AllTell (map (payload_item contract basis.titles) xs) (map (λ x. has_payload contract M x.payload v) (map spread_each xs)) v
+    payloads_tell [] plain flat same = tt
+    payloads_tell (x ∷ xs) plain flat same =
+        let flats = parts_apart basis.rows (payload_parts x.payload) (variant_parts xs) flat in
+        let b : Bool = has_payload contract M (spreads x.payload) v in (
+          noted_tells x.notes (titled basis.titles x.name (payload_template contract x.payload)) b v plain.0
+              (titled_tells basis.titles x.name (payload_template contract x.payload) b v
+              (payload_tells x.payload plain.1 flats.0 v json agree (λ n t e is. same n t (inl e) is))),
+          payloads_tell xs plain.2 flats.1 (λ n t later is. same n t (inr later) is),
+        )
 
     any_same : (xs : List Variant) → list_any (λ b. b) (map (λ x. has_payload contract M x.payload v) xs)
         ≡ list_any (λ x. has_payload contract M x.payload v) xs
     any_same [] = refl
     any_same (x ∷ xs) = ap (λ b. has_payload contract M x.payload v || b) (any_same xs)
 
-    pub untagged_says : (xs : List Variant) → ArePlainVariants xs
+    pub untagged_says : (xs : List Variant) → ArePlainVariants (map spread_each xs) → ArePlainParts basis.rows (variant_parts xs)
         → ((n : ℕ) (t : Data) → IsNewtypeIn n xs → W n t → (judge c t).fits v ≡ verdict (M n v)) → (us : List Data)
-        → Fit W (rows_of (untagged_template contract basis.titles xs)) us
+        → Fit A (asks_of (untagged_template contract basis.titles xs)) us
         → (judge c (filled (untagged_template contract basis.titles xs) us)).fits v
-        ≡ verdict (has_shape contract patterns (key_options basis.rows) M (shape.untagged xs) v)
+        ≡ verdict (has_shape contract patterns (key_options basis.rows) M (shape.untagged (map spread_each xs)) v)
     unfolding read_data
-    untagged_says [] plain same us fit = refl
-    untagged_says (x ∷ xs) plain same us fit =
-        (any_tells (map (payload_item contract basis.titles) (x ∷ xs)) (map (λ x. has_payload contract M x.payload v) (x ∷ xs)) v
-        (payloads_tell (x ∷ xs) plain same) us fit).1
-        ∙ ap verdict (any_same (x ∷ xs))
+    untagged_says [] plain flat same us fit = refl
+    untagged_says (x ∷ xs) plain flat same us fit =
+        (any_tells (map (payload_item contract basis.titles) (x ∷ xs))
+        (map (λ x. has_payload contract M x.payload v) (map spread_each (x ∷ xs))) v (payloads_tell (x ∷ xs) plain flat same) us fit).1
+        ∙ ap verdict (any_same (map spread_each (x ∷ xs)))

@@ -1,7 +1,8 @@
 -- A document accepts just what belongs to its row, through references and rows that lead back to themselves.
 use Rattle.std.proofs.Common.{◌≡◌, ◌⊎◌, inl, inr, ℕ, zero, suc, ◌+◌, ◌*◌, ◌<◌, ◌≤◌, List, [], ◌∷◌, Option, Some, None}
-use Rattle.std.proofs.Common.{Bool, true, false, refl, sym, ap, ◌∙◌, arith, add-one, true≢false}
-use Rattle.std.specs.Prelude.{nat_lt, if◌then◌else◌, length}
+use Rattle.std.proofs.Common.{Bool, true, false, refl, sym, ap, ◌∙◌, subst, arith, add-one, true≢false}
+use Rattle.std.specs.Prelude.{nat_lt, if◌then◌else◌, length, is_some, ◌&&◌, option_and_then}
+use Rattle.std.specs.Option.{option_map_or}
 use Rattle.std.proofs.Math.Nat.{mul-le-mul_right}
 use Rattle.std.proofs.lemmas.Bool.Decides.{nat_tests}
 use Rattle.serde_json.specs.Data.{Data, depth}
@@ -13,15 +14,22 @@ use Rattle.schemars_schema.specs.Acceptance.{Patterns, Judge, draft2020_12, judg
 use Rattle.schemars_schema.proofs.Verdicts.{both-yes}
 use Rattle.schemars_rewrite.specs.NullLaw.{context2020_12}
 use Rattle.schemars_rewrite.proofs.Nulls.{IsReady, ready-schema}
-use Rattle.schemars_shapes.specs.Shape.{Entry}
+use Rattle.schemars_shapes.specs.Shape.{Field, Shape, Entry, option_of}
 use Rattle.schemars_types.specs.Rows.{Row, entry_at}
+use Rattle.schemars_types.specs.Edges.{option_at}
+use Rattle.schemars_types.specs.Effective.{effective, shape_fields, fields_within, row_fields, spread_in}
 use Rattle.schemars_types.specs.Meaning.{Contract, has_shape, belongs_within}
 use Rattle.schemars_types.specs.KeyOptions.{key_options}
-use Rattle.schemars_documents.specs.Documents.{reference}
+use Rattle.schemars_parts.specs.Parts.{flattened_part}
+use Rattle.schemars_documents.specs.Documents.{reference, annotated, required_names}
+use Rattle.schemars_documents.specs.PlainTable.{IsOpenStruct, IsPlainEntry, IsPlainTable}
 use Rattle.schemars_templates.specs.Basis.{Basis}
-use Rattle.schemars_templates.specs.Describes.{IsOwnDocument, IsWritten, Describes}
-use Rattle.schemars_meaning.proofs.ByShape.{own_document}
-use Rattle.schemars_documents.specs.PlainTable.{IsPlainEntry, IsPlainTable}
+use Rattle.schemars_templates.specs.Template.{Ask}
+use Rattle.schemars_templates.specs.Describes.{IsOwnDocument, IsAnswered, IsWritten, Describes, without_options_within}
+use Rattle.schemars_meaning.proofs.Spread.{field_keywords, IsFieldsDocument, AnswersFields}
+use Rattle.schemars_meaning.proofs.Flattening.{part-stays}
+use Rattle.schemars_meaning.proofs.Mapping.{fields_map, written_map, describes-wider}
+use Rattle.schemars_meaning.proofs.ByShape.{IsDocument, own_document}
 use Rattle.schemars_meaning.proofs.Notes.{judge-annotated, ready-annotated}
 use Rattle.schemars_meaning.proofs.Meanings.{IsSame, Inside, shape_ready, shape_says}
 
@@ -79,23 +87,109 @@ lower_most rank j b r (x ∷ xs) (inr is) h =
     let more = lower_most rank j b r xs is h in
     omega arith
 
--- ---- each document of a plain table is one to which null can be added
+-- ---- what is flattened into a map, in a plain table
 
-module _ (basis : Basis) (Refers : ℕ → Text → Type 0) (plain : IsPlainTable basis.rows) where
+no_option : (o : Option Entry) → IsOpenStruct o → option_and_then (λ e. option_of e.shape) o ≡ None
+no_option None is = absurd is
+no_option (Some e) is = ap option_of is.1
+
+-- a row that is no Option stands for itself
+stands : (rows : List Row) (n steps : ℕ) → option_at rows n ≡ None → without_options_within rows steps n ≡ n
+stands rows n zero none = refl
+stands rows n (suc steps) none = ap (λ o. elim o [ None ↦ n | Some m ↦ without_options_within rows steps m ]) none
+
+module _ (basis : Basis) (Refers : ℕ → Text → Type 0) where
   abbrev In : ℕ → ℕ → Data → Type 0
   In d = IsWritten Refers (Describes basis Refers d)
 
+  -- what is answered by documents of this depth
+  abbrev Answer : ℕ → Ask → Data → Type 0
+  Answer d = IsAnswered basis.rows (λ m b. Unit {0}) (In d) (Describes basis Refers d)
+
+  in_wider : (d j : ℕ) (t : Data) → In d j t → In (suc d) j t
+  in_wider d = written_map Refers Refers (Describes basis Refers d) (Describes basis Refers (suc d)) (λ j r is. is)
+      (describes-wider basis Refers Refers (λ j r is. is) d (suc d) (omega arith))
+
+  -- `has d` says which fields a row has in a document of this depth
+  module _ (plain : IsPlainTable basis.rows) (has : ℕ → ℕ → List Field)
+      (settled : (d n : ℕ) → has (suc d) n ≡ option_map_or (λ e. shape_fields (has d) e.shape) (entry_at basis.rows n) []) where
+    own_fields : (d : ℕ) → AnswersFields (has d) basis.rows basis.contract (Answer d) → (o : Option Entry) → IsPlainEntry basis.rows o
+        → IsOpenStruct o → (t : Data) → IsOwnDocument (Answer d) basis o t
+        → IsFieldsDocument (In d) basis.contract (option_map_or (λ e. shape_fields (has d) e.shape) o []) false t
+    own_fields d fields None noted is t h = absurd h
+    own_fields d fields (Some e) noted is t h =
+        let own = own_document (Answer d) (has d) basis fields e t noted.2 h in
+        let x = is.0 in
+        let K : Shape → Type 0 = λ kind. IsDocument (Answer d) (has d) basis kind own.0 in
+        let bare : IsFieldsDocument (In d) basis.contract (effective (has d) x) x.closed own.0 = subst K is.1 own.1 in
+        let F : Bool → Data → Type 0 = λ b s. IsFieldsDocument (In d) basis.contract (effective (has d) x) b s in
+        let all : F x.closed (annotated e.notes own.0) = record {
+          parts = bare.parts;
+          written = bare.written;
+          notes = e.notes ∷ bare.notes;
+          are_notes = (noted.0, bare.are_notes);
+          is = ap (annotated e.notes) bare.is;
+        } in
+        let at_open : F false (annotated e.notes own.0) = subst (λ b. F b (annotated e.notes own.0)) is.2 all in
+        let here : F false t = subst (F false) (sym own.2) at_open in
+        subst (λ kind. IsFieldsDocument (In d) basis.contract (shape_fields (has d) kind) false t) (sym is.1) here
+
+    -- an open struct answers the document of a map with its fields
+    pub described_fields : (d : ℕ) → AnswersFields (has d) basis.rows basis.contract (Answer d)
+    unfolding Describes
+    described_fields zero p t is h = absurd h.1
+    described_fields (suc d) p t is h =
+        let none : option_at basis.rows p.ty ≡ None = no_option (entry_at basis.rows p.ty) is.0 in
+        let here : Describes basis Refers (suc d) p.ty h.0 =
+        subst (λ n. Describes basis Refers (suc d) n h.0) (stands basis.rows p.ty (length basis.rows) none) h.1 in
+        let own = own_fields d (described_fields d) (entry_at basis.rows p.ty) (plain p.ty) is.0 h.0 here in
+        let all : IsFieldsDocument (In (suc d)) basis.contract (has (suc d) p.ty) false h.0 =
+        subst (λ list. IsFieldsDocument (In (suc d)) basis.contract list false h.0) (sym (settled d p.ty))
+        (fields_map (In d) (In (suc d)) (in_wider d) basis.contract _ false h.0 own) in
+        record {
+          parts = all.parts;
+          written = all.written;
+          notes = all.notes;
+          are_notes = all.are_notes;
+          is = h.2
+              ∙ ((λ i. flattened_part (is_some (none i) && false) (all.is i))
+              ∙ part-stays all.notes (field_keywords (has (suc d) p.ty) all.parts) (required_names basis.contract (has (suc d) p.ty))
+              all.are_notes);
+        }
+
+-- ---- each document of a plain table is one to which null can be added
+
+module _ (basis : Basis) (Refers : ℕ → Text → Type 0) (plain : IsPlainTable basis.rows) where
   reference_ready : (r : Text) → IsReady (reference r)
   reference_ready r = inl (record { combined = refl; offers = λ stays. absurd (true≢false (sym stays)) }, refl)
 
-  own_ready : (d : ℕ) → ((j : ℕ) (t : Data) → In d j t → IsReady t) → (o : Option Entry) → IsPlainEntry o → (t : Data)
-      → IsOwnDocument (In d) basis o t → IsReady t
+  -- as far as the document goes down
+  fields_down : (d : ℕ) → AnswersFields (fields_within basis.rows d) basis.rows basis.contract (Answer basis Refers d)
+  unfolding fields_within
+  fields_down d = described_fields basis Refers plain (fields_within basis.rows) (λ e n. refl) d
+
+  -- the document of an open struct stays where it is flattened
+  pub described_stays : (d n : ℕ) (t : Data) → IsOpenStruct (entry_at basis.rows n) → Describes basis Refers d n t
+      → flattened_part false t ≡ t
+  unfolding Describes fields_within
+  described_stays zero n t is h = absurd h
+  described_stays (suc d) n t is h =
+      let has = fields_within basis.rows d in
+      let own = own_fields basis Refers plain (fields_within basis.rows) (λ e m. refl) d (fields_down d) (entry_at basis.rows n) (plain n) is t h in
+      let list = option_map_or (λ e. shape_fields has e.shape) (entry_at basis.rows n) [] in
+      ap (flattened_part false) own.is
+      ∙ (part-stays own.notes (field_keywords list own.parts) (required_names basis.contract list) own.are_notes ∙ sym own.is)
+
+  own_ready : (d : ℕ) → ((j : ℕ) (t : Data) → In basis Refers d j t → IsReady t) → (o : Option Entry) → IsPlainEntry basis.rows o
+      → (t : Data) → IsOwnDocument (Answer basis Refers d) basis o t → IsReady t
   own_ready d ready None noted t is = absurd is
   own_ready d ready (Some e) noted t is =
-      let own = own_document (In d) basis e t is in
-      rw own.2 (ready-annotated e.notes own.0 noted.0 (shape_ready (In d) basis ready e.shape own.0 noted.1 own.1))
+      let has = fields_within basis.rows d in
+      let own = own_document (Answer basis Refers d) has basis (fields_down d) e t noted.2 is in
+      rw own.2 (ready-annotated e.notes own.0 noted.0 (shape_ready (Answer basis Refers d) has basis (fields_down d) ready e.shape own.0
+      (row_fields basis.rows) noted.1 noted.2 own.1))
 
-  written_by : (d : ℕ) → ((j : ℕ) (t : Data) → Describes basis Refers d j t → IsReady t) → (j : ℕ) (t : Data) → In d j t
+  written_by : (d : ℕ) → ((j : ℕ) (t : Data) → Describes basis Refers d j t → IsReady t) → (j : ℕ) (t : Data) → In basis Refers d j t
       → IsReady t
   written_by d own j t (inl h) = rw h.2 (reference_ready h.0)
   written_by d own j t (inr h) = own j t h
@@ -105,14 +199,15 @@ module _ (basis : Basis) (Refers : ℕ → Text → Type 0) (plain : IsPlainTabl
   described_ready zero n t h = absurd h
   described_ready (suc d) n t h = own_ready d (written_by d (described_ready d)) (entry_at basis.rows n) (plain n) t h
 
-  pub written_ready : (d n : ℕ) (t : Data) → In d n t → IsReady t
+  pub written_ready : (d n : ℕ) (t : Data) → In basis Refers d n t → IsReady t
   written_ready d n t h = written_by d (described_ready d) n t h
 
   pub described_schema : (d n : ℕ) (t : Data) → Describes basis Refers d n t → IsSchema t
   described_schema d n t h = ready-schema t (described_ready d n t h)
 
--- ---- what is given: a plain table whose ranks fall where a part has the row's own values, and a document in which
--- each reference leads to what says the same as its row's document
+-- ---- what is given: a plain table in which each row has the fields of its struct and of those that are flattened into it, and
+-- whose ranks fall where a part has the row's own values, and a document in which each reference leads to what says the same
+-- as its row's document
 
 pub record Setting : Type 0 where
   pub basis : Basis
@@ -124,6 +219,8 @@ pub record Setting : Type 0 where
       × ((f : Text → Judge) → judge (context2020_12 patterns f) found ≡ judge (context2020_12 patterns f) s)
       × Describes basis (InList refs) d j s
   pub plain : IsPlainTable basis.rows
+  pub settled : (n : ℕ) → row_fields basis.rows n
+      ≡ option_map_or (λ e. shape_fields (row_fields basis.rows) e.shape) (entry_at basis.rows n) []
   pub rank : ℕ → ℕ
   pub ranks : ℕ
   pub low_rank : (n : ℕ) (e : Entry) → entry_at basis.rows n ≡ Some e → rank n < ranks
@@ -144,12 +241,18 @@ module _ (s : Setting) where
   abbrev W : ℕ → ℕ → Data → Type 0
   W d = IsWritten (InList refs) (D d)
 
+  abbrev A : ℕ → Ask → Data → Type 0
+  A d = Answer basis (InList refs) d
+
+  abbrev fields : (d : ℕ) → AnswersFields (row_fields rows) rows contract (A d)
+  fields = described_fields basis (InList refs) s.plain (λ d. row_fields rows) (λ d. s.settled)
+
   described_entry : (d n : ℕ) (t : Data) → D d n t → (e : Entry) × (entry_at rows n ≡ Some e)
   unfolding Describes
   described_entry zero n t h = absurd h
   described_entry (suc d) n t h = go (entry_at rows n) refl h
     where
-      go : (o : Option Entry) → entry_at rows n ≡ o → IsOwnDocument (W d) basis o t → (e : Entry) × (entry_at rows n ≡ Some e)
+      go : (o : Option Entry) → entry_at rows n ≡ o → IsOwnDocument (A d) basis o t → (e : Entry) × (entry_at rows n ≡ Some e)
       go None at is = absurd is
       go (Some e) at is = (e, at)
 
@@ -216,22 +319,24 @@ module _ (s : Setting) where
       let same_depth : depth w ≡ depth v = ap depth same.1 in
       said j t h w json m (rw same_depth (omega arith)) (rw same_depth (omega arith))
 
-  own_says : (n d : ℕ) → Good n → Said n d → (k : ℕ) (o : Option Entry) → entry_at rows k ≡ o → IsPlainEntry o → (t : Data)
-      → IsOwnDocument (W d) basis o t → (v : Data) → IsJson v → (m : ℕ)
+  own_says : (n d : ℕ) → Good n → Said n d → (k : ℕ) (o : Option Entry) → entry_at rows k ≡ o → IsPlainEntry rows o → (t : Data)
+      → IsOwnDocument (A d) basis o t → (v : Data) → IsJson v → (m : ℕ)
       → depth v * most_hops + hops k ≤ n → depth v * ranks + rank k < suc m
       → (judge (context2020_12 patterns (at_most n)) t).fits v
       ≡ verdict (elim o [
         | None ↦ false
         | Some entry ↦ has_shape contract patterns (key_options rows)
-            (belongs_within rows contract patterns m) entry.shape v
+            (belongs_within rows contract patterns m) (spread_in rows entry.shape) v
       ])
   own_says n d good said k None at noted t is v json m costs low = absurd is
   own_says n d good said k (Some e) at noted t is v json m costs low =
-      let own = own_document (W d) basis e t is in
+      let own = own_document (A d) (row_fields rows) basis (fields d) e t noted.2 is in
       let bare = own.0 in
-      let schema = ready-schema bare (shape_ready (W d) basis (ready d) e.shape bare noted.1 own.1) in
+      let schema = ready-schema bare (shape_ready (A d) (row_fields rows) basis (fields d) (ready d) e.shape bare
+      (row_fields rows) noted.1 noted.2 own.1) in
       rw own.2 (ap (λ j. j.fits v) (judge-annotated patterns (at_most n) e.notes bare noted.0 schema)
-      ∙ shape_says patterns (at_most n) basis (W d) (belongs_within rows contract patterns m) (ready d) e.shape bare noted.1 own.1 v json
+      ∙ shape_says patterns (at_most n) basis (A d) (belongs_within rows contract patterns m) (row_fields rows) (fields d) (ready d) e.shape
+      bare noted.1 noted.2 own.1 v json
       (λ j t w a js inside. part_says n d m good said k e at v costs low j t w a js inside))
 
   said : (n : ℕ) → Good n → (d : ℕ) → Said n d

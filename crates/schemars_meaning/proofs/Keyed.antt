@@ -29,17 +29,17 @@ use Rattle.schemars_shapes.specs.IntegerKeys.{pattern_of}
 use Rattle.schemars_types.specs.KeyOptions.{KeyOptions, any_key, only_keys, is_key_allowed}
 use Rattle.schemars_types.specs.Meaning.{every_member, has_keys, holds}
 use Rattle.schemars_documents.specs.Documents.{Keyword, typed}
-use Rattle.schemars_templates.specs.Template.{Template, no_templates, template, row, rows_of, rows_in, filled}
+use Rattle.schemars_templates.specs.Template.{Ask, part, Template, no_templates, template, row, asks_of, asks_in, filled}
 use Rattle.schemars_templates.specs.Template.{filled_in, keyed}
 use Rattle.schemars_templates.specs.OfShape.{KeywordTemplate, templates_of, values_template, object_with, said}
 use Rattle.schemars_templates.specs.OfShape.{values_of}
 use Rattle.schemars_templates.specs.OfShape.{typed as typed_at, all_patterns, pattern_properties_at, properties_at}
-use Rattle.schemars_meaning.proofs.ByShape.{map_document, without_end}
+use Rattle.schemars_meaning.proofs.MapDocument.{map_document}
 use Rattle.schemars_meaning.proofs.Maps.{AreEntries, judges_of, schema_named-judges_in, named_says, other_says, judge-map_object}
 use Rattle.schemars_meaning.proofs.Maps.{judge-map_other, judges_in, all_named-schemas, AreSchemas-put_all}
 use Rattle.schemars_meaning.proofs.Maps.{properties_value, closed_value, each_agree, named_part}
 use Rattle.schemars_meaning.proofs.Structs.{both-middle}
-use Rattle.schemars_meaning.proofs.Enums.{Fit, parted}
+use Rattle.schemars_meaning.proofs.Filling.{Fit, without_end, parted}
 
 -- a map with these keys, and those that match one of the patterns
 abbrev keyed_template : ℕ → List Text → List Text → Template
@@ -121,21 +121,21 @@ some_first test r ps = by (test r) refl
     by true is = refl
     by false is = left_out is ps
 
-module _ (patterns : Patterns) (f : Text → Judge) (W : ℕ → Data → Type 0) (p : Data → Bool) (value : ℕ)
-    (schemas : (t : Data) → W value t → IsSchema t) where
+module _ (patterns : Patterns) (f : Text → Judge) (A : Ask → Data → Type 0) (p : Data → Bool) (value : ℕ)
+    (schemas : (t : Data) → A (part value) t → IsSchema t) where
   abbrev c : Context
   c = context2020_12 patterns f
 
   -- the schemas of the values test so
   abbrev Agrees : Data → Type 0
-  Agrees v = (t w : Data) → W value t → IsJson w → depth w < depth v → (judge c t).fits w ≡ verdict (p w)
+  Agrees v = (t w : Data) → A (part value) t → IsJson w → depth w < depth v → (judge c t).fits w ≡ verdict (p w)
 
   -- ---- every key is allowed
 
   abbrev any_document : Data → Data
   any_document t = object_of (typed (codes "object") ∷ (codes "additionalProperties", t) ∷ [])
 
-  any_says : (t : Data) → W value t → (v : Data) → IsJson v → Agrees v
+  any_says : (t : Data) → A (part value) t → (v : Data) → IsJson v → Agrees v
       → (judge c (any_document t)).fits v ≡ verdict (has_keys patterns any_key p v)
   unfolding read_data all_keywords
   any_says t here (object ms) json agree = rw (schema-judge c t (schemas t here), both-yes)
@@ -151,13 +151,13 @@ module _ (patterns : Patterns) (f : Text → Judge) (W : ℕ → Data → Type 0
   abbrev texts_at : List Text → List KeywordTemplate
   texts_at texts = map (λ t. (t, row value)) texts
 
-  abbrev text_rows : List Text → List ℕ
-  text_rows texts = rows_in (templates_of (map (λ e. e.1) (texts_at texts)))
+  abbrev text_asks : List Text → List Ask
+  text_asks texts = asks_in (templates_of (map (λ e. e.1) (texts_at texts)))
 
   abbrev entries_at : List Text → List Data → List Keyword
   entries_at texts us = keyed (map (λ e. e.0) (texts_at texts)) (filled_in (templates_of (map (λ e. e.1) (texts_at texts))) us)
 
-  are_entries : (texts : List Text) (us : List Data) → Fit W (text_rows texts) us → AreEntries (entries_at texts us)
+  are_entries : (texts : List Text) (us : List Data) → Fit A (text_asks texts) us → AreEntries (entries_at texts us)
   are_entries [] us h = tt
   are_entries (t ∷ texts) [] h = absurd h
   are_entries (t ∷ texts) (u ∷ us) h = (schemas u h.0, are_entries texts us h.1)
@@ -165,9 +165,9 @@ module _ (patterns : Patterns) (f : Text → Judge) (W : ℕ → Data → Type 0
   -- a schema of the value stands at each of the texts
   abbrev Found : Bool → Option Data → Option Data → Type 0
   Found false g before = g ≡ before
-  Found true g before = (t : Data) × W value t × (g ≡ Some t)
+  Found true g before = (t : Data) × A (part value) t × (g ≡ Some t)
 
-  found : (k : Text) (texts : List Text) (us : List Data) (ms : Members) → Fit W (text_rows texts) us
+  found : (k : Text) (texts : List Text) (us : List Data) (ms : Members) → Fit A (text_asks texts) us
       → Found (is_listed k texts) (get_member k (put_all (entries_at texts us) ms)) (get_member k ms)
   found k [] us ms h = refl
   found k (t ∷ texts) [] ms h = absurd h
@@ -188,7 +188,7 @@ module _ (patterns : Patterns) (f : Text → Judge) (W : ℕ → Data → Type 0
   -- ---- these texts alone
 
   text_says : (listed : Bool) (o : Option Data) (w : Data) → Found listed o None
-      → ((t : Data) → W value t → (judge c t).fits w ≡ verdict (p w))
+      → ((t : Data) → A (part value) t → (judge c t).fits w ≡ verdict (p w))
       → both (where_some (option_map (judge c) o) (λ s. s.fits w)) (if is_some (option_map (judge c) o) then Yes else No)
       ≡ verdict (listed && p w)
   text_says false o w h agree = rw h refl
@@ -198,7 +198,7 @@ module _ (patterns : Patterns) (f : Text → Judge) (W : ℕ → Data → Type 0
   abbrev HasKeys : (Text → Bool) → Data → Bool
   HasKeys allowed v = holds (as_object v) (every_member (λ k w. allowed k && p w))
 
-  texts_say : (texts : List Text) (us : List Data) → Fit W (text_rows texts) us → (allowed : Text → Bool)
+  texts_say : (texts : List Text) (us : List Data) → Fit A (text_asks texts) us → (allowed : Text → Bool)
       → ((k : Text) → allowed k ≡ is_listed k texts) → (v : Data) → IsJson v → Agrees v
       → (judge c (map_document (entries_at texts us) [] true)).fits v ≡ verdict (HasKeys allowed v)
   texts_say texts us h allowed same (object ms) json agree =
@@ -223,7 +223,7 @@ module _ (patterns : Patterns) (f : Text → Judge) (W : ℕ → Data → Type 0
   -- each of them is one of the values
   abbrev OfValue : Members → Type 0
   OfValue no_members = Unit {0}
-  OfValue (member k d ms) = W value d × OfValue ms
+  OfValue (member k d ms) = A (part value) d × OfValue ms
 
   of_value-match : (o : Ordering) (x y z : Members) → OfValue x → OfValue y → OfValue z
       → OfValue (match_ordering o x y z)
@@ -231,12 +231,12 @@ module _ (patterns : Patterns) (f : Text → Judge) (W : ℕ → Data → Type 0
   of_value-match Equal x y z a b d = b
   of_value-match Greater x y z a b d = d
 
-  of_value-put : (k : Text) (d : Data) (ms : Members) → W value d → OfValue ms → OfValue (put k d ms)
+  of_value-put : (k : Text) (d : Data) (ms : Members) → A (part value) d → OfValue ms → OfValue (put k d ms)
   of_value-put k d no_members here h = (here, tt)
   of_value-put k d (member l e ms) here h = of_value-match (slice_cmp nat_cmp k l) _ _ _ (here, h) (here, h.1)
       (h.0, of_value-put k d ms here h.1)
 
-  of_value : (ps : List Text) (vs : List Data) (ms : Members) → Fit W (text_rows ps) vs → OfValue ms
+  of_value : (ps : List Text) (vs : List Data) (ms : Members) → Fit A (text_asks ps) vs → OfValue ms
       → OfValue (put_all (entries_at ps vs) ms)
   of_value [] vs ms fit h = h
   of_value (q ∷ ps) [] ms fit h = absurd fit
@@ -247,7 +247,7 @@ module _ (patterns : Patterns) (f : Text → Judge) (W : ℕ → Data → Type 0
 
   -- where one of the patterns matches, the value is asked
   matching : (ms : Members) (k : Text) (w : Data) → OfValue ms
-      → ((t : Data) → W value t → (judge c t).fits w ≡ verdict (p w))
+      → ((t : Data) → A (part value) t → (judge c t).fits w ≡ verdict (p w))
       → by_patterns patterns (judges_in c ms) k w ≡ (if some_of ms k then verdict (p w) else Yes)
   unfolding judges_in
   matching no_members k w h agree = refl
@@ -273,7 +273,7 @@ module _ (patterns : Patterns) (f : Text → Judge) (W : ℕ → Data → Type 0
       go Equal is rest = rw (exact_bytes q l is) (or-twice (matches patterns l k) (some_of ms k))
       go Greater is rest = rw rest (or-turned (matches patterns l k) (matches patterns q k) (some_of ms k))
 
-  some-put_all : (ps : List Text) (vs : List Data) (ms : Members) (k : Text) → Fit W (text_rows ps) vs
+  some-put_all : (ps : List Text) (vs : List Data) (ms : Members) (k : Text) → Fit A (text_asks ps) vs
       → some_of (put_all (entries_at ps vs) ms) k ≡ list_any (λ q. matches patterns q k) ps || some_of ms k
   some-put_all [] vs ms k fit = refl
   some-put_all (q ∷ ps) [] ms k fit = absurd fit
@@ -282,7 +282,7 @@ module _ (patterns : Patterns) (f : Text → Judge) (W : ℕ → Data → Type 0
       ∙ (ap (λ b. list_any (λ x. matches patterns x k) ps || b) (some-put q u ms k)
       ∙ or-moved (matches patterns q k) (list_any (λ x. matches patterns x k) ps) (some_of ms k))
 
-  some_matches : (ps : List Text) (vs : List Data) (k : Text) → Fit W (text_rows ps) vs
+  some_matches : (ps : List Text) (vs : List Data) (k : Text) → Fit A (text_asks ps) vs
       → some_of (put_all (entries_at ps vs) no_members) k ≡ list_any (λ q. matches patterns q k) ps
   unfolding judges_in
   some_matches ps vs k fit = some-put_all ps vs no_members k fit ∙ or-false (list_any (λ q. matches patterns q k) ps)
@@ -371,7 +371,7 @@ module _ (patterns : Patterns) (f : Text → Judge) (W : ℕ → Data → Type 0
   pattern_other qs es (object ms) h = absurd h
 
   keys_say : (listed matched : Bool) (o : Option Data) (w : Data) → Found listed o None
-      → ((t : Data) → W value t → (judge c t).fits w ≡ verdict (p w))
+      → ((t : Data) → A (part value) t → (judge c t).fits w ≡ verdict (p w))
       → both (where_some (option_map (judge c) o) (λ s. s.fits w)) (both (if matched then verdict (p w) else Yes)
       (if is_some (option_map (judge c) o) || matched then Yes else No))
       ≡ verdict ((listed || matched) && p w)
@@ -380,8 +380,8 @@ module _ (patterns : Patterns) (f : Text → Judge) (W : ℕ → Data → Type 0
   keys_say true false o w h agree = rw h.2 (both-yes _ ∙ agree h.0 h.1)
   keys_say true true o w h agree = rw (h.2, agree h.0 h.1) (ap (both (verdict (p w))) (both-yes _) ∙ idem (p w))
 
-  patterns_say : (ps : List Text) (vs : List Data) → Fit W (text_rows ps) vs → (texts : List Text) (us : List Data)
-      → Fit W (text_rows texts) us → (allowed : Text → Bool)
+  patterns_say : (ps : List Text) (vs : List Data) → Fit A (text_asks ps) vs → (texts : List Text) (us : List Data)
+      → Fit A (text_asks texts) us → (allowed : Text → Bool)
       → ((k : Text) → allowed k ≡ is_listed k texts || list_any (λ q. matches patterns q k) ps)
       → (v : Data) → IsJson v → Agrees v
       → (judge c (pattern_document (entries_at ps vs) (entries_at texts us))).fits v ≡ verdict (HasKeys allowed v)
@@ -418,20 +418,20 @@ module _ (patterns : Patterns) (f : Text → Judge) (W : ℕ → Data → Type 0
 
   keyed_say : (texts qs : List Text) (allowed : Text → Bool)
       → ((k : Text) → allowed k ≡ is_listed k texts || list_any (λ q. matches patterns q k) qs)
-      → (v : Data) → IsJson v → Agrees v → (us : List Data) → Fit W (rows_of (keyed_template value texts qs)) us
+      → (v : Data) → IsJson v → Agrees v → (us : List Data) → Fit A (asks_of (keyed_template value texts qs)) us
       → (judge c (filled (keyed_template value texts qs) us)).fits v ≡ verdict (HasKeys allowed v)
   keyed_say [] [] allowed same v json agree us h = texts_say [] us h allowed same v json agree
   keyed_say (t ∷ texts) [] allowed same v json agree us h =
-      texts_say (t ∷ texts) us (without_end W (text_rows (t ∷ texts)) us h) allowed
+      texts_say (t ∷ texts) us (without_end A (text_asks (t ∷ texts)) us h) allowed
       (λ k. same k ∙ or-false (is_listed k (t ∷ texts))) v json agree
   keyed_say [] (q ∷ qs) allowed same v json agree us h =
-      let parts = parted W (object_with (values_of value (q ∷ qs))) no_templates us h in
+      let parts = parted A (object_with (values_of value (q ∷ qs))) [] us h in
       rw parts.4 (patterns_say (q ∷ qs) parts.0 parts.2 [] [] refl allowed same v json agree)
   keyed_say (t ∷ texts) (q ∷ qs) allowed same v json agree us h =
       let rest = template (object_with (values_of value (t ∷ texts))) no_templates in
-      let parts = parted W (object_with (values_of value (q ∷ qs))) rest us h in
+      let parts = parted A (object_with (values_of value (q ∷ qs))) (asks_in rest) us h in
       rw (parts.4, parts.5) (patterns_say (q ∷ qs) parts.0 parts.2 (t ∷ texts) parts.1
-      (without_end W (text_rows (t ∷ texts)) parts.1 parts.3) allowed same v json agree)
+      (without_end A (text_asks (t ∷ texts)) parts.1 parts.3) allowed same v json agree)
 
   all_match : (integers : Option IntegerKeys) (ps : List Text) (k : Text)
       → list_any (λ q. matches patterns q k) (all_patterns integers ps)
@@ -440,7 +440,7 @@ module _ (patterns : Patterns) (f : Text → Judge) (W : ℕ → Data → Type 0
   all_match (Some keys) ps k = some_first (λ q. matches patterns q k) (pattern_of keys) ps
 
   pub values_say : (options : KeyOptions) (v : Data) → IsJson v → Agrees v → (us : List Data)
-      → Fit W (rows_of (values_template options value)) us
+      → Fit A (asks_of (values_template options value)) us
       → (judge c (filled (values_template options value) us)).fits v ≡ verdict (has_keys patterns options p v)
   values_say any_key v json agree [] h = absurd h
   values_say any_key v json agree (u ∷ us) h = any_says u h.0 v json agree

@@ -19,7 +19,7 @@ use Rattle.schemars_schema.proofs.Objects.{schema-judge}
 use Rattle.schemars_rewrite.specs.NullLaw.{context2020_12, text_items}
 use Rattle.schemars_rewrite.proofs.Nulls.{or-false}
 use Rattle.schemars_documents.specs.Documents.{Keyword}
-use Rattle.schemars_meaning.proofs.ByShape.{map_document}
+use Rattle.schemars_meaning.proofs.MapDocument.{map_document}
 
 -- ---- the judges under names
 

@@ -1,5 +1,5 @@
 -- Notes say nothing of a value, and leave a schema one to which null can be added.
-use Rattle.std.proofs.Common.{◌≡◌, inl, inr, Option, Some, None, Bool, true, false, refl, sym, ap, ◌∙◌, true≢false}
+use Rattle.std.proofs.Common.{◌≡◌, inl, inr, List, [], ◌∷◌, Option, Some, None, Bool, true, false, refl, sym, ap, ◌∙◌, true≢false}
 use Rattle.std.specs.Prelude.{codes, is_some, bytes_eq, if◌then◌else◌}
 use Rattle.std.proofs.lemmas.Slice.Eq.{bytes_eq-Decides}
 use Rattle.serde_json.specs.Data.{Data, null, boolean, number, string, array, object, Members, no_members, member, put}
@@ -17,6 +17,15 @@ use Rattle.schemars_rewrite.specs.NullLaw.{context2020_12, HasPlainValues}
 use Rattle.schemars_rewrite.proofs.Removals.{without-put}
 use Rattle.schemars_rewrite.proofs.Nulls.{IsReady, choice_key}
 use Rattle.schemars_documents.specs.Documents.{annotated, with_title, with_meta_schema, root_document}
+use Rattle.schemars_meaning.proofs.MapDocument.{noted_by, AllNotes}
+
+pub annotated-schema : (notes : Members) (s : Data) → IsSchema s → IsSchema (annotated notes s)
+annotated-schema no_members s is = is
+annotated-schema (member k d notes) s is = tt
+
+pub noted_by-schema : (notes : List Members) (s : Data) → IsSchema s → IsSchema (noted_by notes s)
+noted_by-schema [] s is = is
+noted_by-schema (notes ∷ more) s is = annotated-schema notes (noted_by more s) (noted_by-schema more s is)
 
 module _ (patterns : Patterns) (f : Text → Judge) where
   abbrev c : Context
@@ -37,6 +46,11 @@ module _ (patterns : Patterns) (f : Text → Judge) where
   judge-annotated no_members s h is = refl
   judge-annotated (member k d notes) s h is = judge-put_members c (member k d notes) (members_in s) h
       ∙ judge-members_in s is
+
+  pub judge-noted_by : (notes : List Members) (s : Data) → AllNotes notes → IsSchema s → judge c (noted_by notes s) ≡ judge c s
+  judge-noted_by [] s h is = refl
+  judge-noted_by (notes ∷ more) s h is = judge-annotated notes (noted_by more s) h.0 (noted_by-schema more s is)
+      ∙ judge-noted_by more s h.1 is
 
   judge-with_title : (name : Text) (ms : Members) → judge c (object (with_title name ms)) ≡ judge c (object ms)
   judge-with_title name ms = go (is_some (get_member (codes "title") ms))
@@ -139,6 +153,6 @@ ready-annotated (member k d notes) s h r =
     (λ l e. put_members-other l (member k d notes) (members_in s) e h)
     (once_still (codes "const") (member k d notes) (members_in s) refl h) (ready-members_in s r)
 
-pub annotated-schema : (notes : Members) (s : Data) → IsSchema s → IsSchema (annotated notes s)
-annotated-schema no_members s is = is
-annotated-schema (member k d notes) s is = tt
+pub ready-noted_by : (notes : List Members) (s : Data) → AllNotes notes → IsReady s → IsReady (noted_by notes s)
+ready-noted_by [] s h r = r
+ready-noted_by (notes ∷ more) s h r = ready-annotated notes (noted_by more s) h.0 (ready-noted_by more s h.1 r)

@@ -1,5 +1,5 @@
 -- Null can be added to each document.
-use Rattle.std.proofs.Common.{◌≡◌, inl, inr, List, [], ◌∷◌, Bool, true, false, refl, sym, true≢false}
+use Rattle.std.proofs.Common.{◌≡◌, inl, inr, ℕ, List, [], ◌∷◌, Bool, true, false, refl, sym, subst, true≢false}
 use Rattle.std.specs.Prelude.{codes}
 use Rattle.serde_json.specs.Data.{Data}
 use Rattle.schemars_json.specs.Json.{Text}
@@ -7,8 +7,12 @@ use Rattle.schemars_rewrite.proofs.Nulls.{IsReady, AreReady, some_accepts_null}
 use Rattle.schemars_shapes.specs.declared.shape.IntKind.{IntKind}
 use Rattle.schemars_shapes.specs.declared.shape.IntKind.TheVariants.{I8, I16, I32, I64, I128, Isize, U8, U16, U32, U64, U128, Usize}
 use Rattle.schemars_types.specs.Meaning.{Contract, Deserialize, Serialize}
-use Rattle.schemars_documents.specs.Documents.{Keyword, int_document, non_zero_document, bytes_document}
-use Rattle.schemars_meaning.proofs.ByShape.{map_document, tuple_document, one_of_document, any_of_document, units_document}
+use Rattle.schemars_documents.specs.Documents.{Keyword, int_document, non_zero_document, bytes_document, required_names}
+use Rattle.schemars_shapes.specs.Shape.{Field}
+use Rattle.schemars_meaning.proofs.Spread.{field_keywords, IsFieldsDocument}
+use Rattle.schemars_meaning.proofs.Notes.{ready-noted_by}
+use Rattle.schemars_meaning.proofs.MapDocument.{map_document}
+use Rattle.schemars_meaning.proofs.ByShape.{tuple_document, one_of_document, any_of_document, units_document}
 
 pub int_ready : (kind : IntKind) → IsReady (int_document kind)
 int_ready I8 = inr (record { alone = refl; type_form = refl; values = inl refl; not_form = inl refl })
@@ -74,3 +78,8 @@ any_of_ready ts r = inl (
 
 pub units_ready : (ks : List Text) → IsReady (units_document ks)
 units_ready ks = inr (record { alone = refl; type_form = refl; values = inl refl; not_form = inl refl })
+
+pub fields_ready : (W : ℕ → Data → Type 0) (contract : Contract) (list : List Field) (closed : Bool) (s : Data)
+    → IsFieldsDocument W contract list closed s → IsReady s
+fields_ready W contract list closed s d = subst IsReady (sym d.is) (ready-noted_by d.notes _ d.are_notes
+    (map_ready (field_keywords list d.parts) (required_names contract list) closed))

@@ -53,84 +53,52 @@ among_swap xs ys zs x h = elim (Contains-append_cases xs (ys ++ zs) x h) [
 pub among_more : (xs ys zs : List Data) → Among (xs ++ zs) ((xs ++ ys) ++ zs)
 among_more xs ys zs = among_append xs zs (xs ++ ys) zs (among_left xs ys) (λ x h. h)
 
--- the same references, perhaps in another order; that the first are among the second is shown only where Q holds
-module _ (Q : Type 0) where
-  abbrev pub Alike : List Data → List Data → Type 0
-  Alike xs ys = (Q → Among xs ys) × Among ys xs
+-- ---- members under new keys
 
-  pub alike_equal : (xs ys : List Data) → xs ≡ ys → Alike xs ys
-  alike_equal xs ys e = (λ q. among_equal xs ys e, among_equal ys xs (sym e))
+pub keywords-new : (k : Text) (d : Data) (ms : Members) → get_member k ms ≡ None
+    → Among (found_under k d ++ found_in_keywords ms) (found_in_keywords (put k d ms))
+unfolding found_in
+keywords-new k d no_members new = λ x h. h
+keywords-new k d (member l e ms) new = go (slice_cmp nat_cmp k l) new (keywords-new k d ms)
+  where
+    go : (o : Ordering) → match_ordering o (get_member k ms) (Some e) (get_member k ms) ≡ None
+        → (get_member k ms ≡ None → Among (found_under k d ++ found_in_keywords ms) (found_in_keywords (put k d ms)))
+        → Among (found_under k d ++ found_in_keywords (member l e ms))
+        (found_in_keywords (match_ordering o (member k d (member l e ms)) (member l d ms) (member l e (put k d ms))))
+    go Less new later = λ x h. h
+    go Equal new later = cc
+    go Greater new later = λ x h. among_append (found_under l e) (found_under k d ++ found_in_keywords ms) (found_under l e)
+        (found_in_keywords (put k d ms)) (λ y g. g) (later new) x
+        (among_swap (found_under k d) (found_under l e) (found_in_keywords ms) x h)
 
-  pub alike_same : (xs : List Data) → Alike xs xs
-  alike_same xs = alike_equal xs xs refl
+pub members-new : (k : Text) (d : Data) (ms : Members) → get_member k ms ≡ None
+    → Among (references d ++ found_in_members ms) (found_in_members (put k d ms))
+unfolding found_in
+members-new k d no_members new = λ x h. h
+members-new k d (member l e ms) new = go (slice_cmp nat_cmp k l) new (members-new k d ms)
+  where
+    go : (o : Ordering) → match_ordering o (get_member k ms) (Some e) (get_member k ms) ≡ None
+        → (get_member k ms ≡ None → Among (references d ++ found_in_members ms) (found_in_members (put k d ms)))
+        → Among (references d ++ found_in_members (member l e ms))
+        (found_in_members (match_ordering o (member k d (member l e ms)) (member l d ms) (member l e (put k d ms))))
+    go Less new later = λ x h. h
+    go Equal new later = cc
+    go Greater new later = λ x h. among_append (references e) (references d ++ found_in_members ms) (references e)
+        (found_in_members (put k d ms)) (λ y g. g) (later new) x
+        (among_swap (references d) (references e) (found_in_members ms) x h)
 
-  pub alike_nothing : (xs ys : List Data) → xs ≡ [] → Alike (xs ++ ys) ys
-  alike_nothing xs ys none = alike_equal (xs ++ ys) ys (ap (λ zs. zs ++ ys) none)
-
-  pub alike_trans : (xs ys zs : List Data) → Alike xs ys → Alike ys zs → Alike xs zs
-  alike_trans xs ys zs f g = (λ q x h. g.0 q x (f.0 q x h), λ x h. f.1 x (g.1 x h))
-
-  pub alike_append : (xs ys zs ws : List Data) → Alike xs zs → Alike ys ws → Alike (xs ++ ys) (zs ++ ws)
-  alike_append xs ys zs ws f g = (λ q. among_append xs ys zs ws (f.0 q) (g.0 q), among_append zs ws xs ys f.1 g.1)
-
-  alike_swap : (xs ys zs : List Data) → Alike (xs ++ (ys ++ zs)) (ys ++ (xs ++ zs))
-  alike_swap xs ys zs = (λ q. among_swap xs ys zs, among_swap ys xs zs)
-
-  -- ---- members under new keys
-
-  pub keywords-new : (k : Text) (d : Data) (ms : Members) → get_member k ms ≡ None
-      → Alike (found_in_keywords (put k d ms)) (found_under k d ++ found_in_keywords ms)
-  unfolding found_in
-  keywords-new k d no_members new = alike_same (found_under k d ++ [])
-  keywords-new k d (member l e ms) new = go (slice_cmp nat_cmp k l) new (keywords-new k d ms)
-    where
-      go : (o : Ordering) → match_ordering o (get_member k ms) (Some e) (get_member k ms) ≡ None
-          → (get_member k ms ≡ None → Alike (found_in_keywords (put k d ms)) (found_under k d ++ found_in_keywords ms))
-          → Alike (found_in_keywords (match_ordering o (member k d (member l e ms)) (member l d ms) (member l e (put k d ms))))
-          (found_under k d ++ found_in_keywords (member l e ms))
-      go Less new later = alike_same (found_under k d ++ found_in_keywords (member l e ms))
-      go Equal new later = cc
-      go Greater new later = alike_trans (found_under l e ++ found_in_keywords (put k d ms))
-          (found_under l e ++ (found_under k d ++ found_in_keywords ms))
-          (found_under k d ++ (found_under l e ++ found_in_keywords ms))
-          (alike_append (found_under l e) (found_in_keywords (put k d ms)) (found_under l e) (found_under k d ++ found_in_keywords ms)
-          (alike_same (found_under l e)) (later new))
-          (alike_swap (found_under l e) (found_under k d) (found_in_keywords ms))
-
-  pub members-new : (k : Text) (d : Data) (ms : Members) → get_member k ms ≡ None
-      → Alike (found_in_members (put k d ms)) (references d ++ found_in_members ms)
-  unfolding found_in
-  members-new k d no_members new = alike_same (references d ++ [])
-  members-new k d (member l e ms) new = go (slice_cmp nat_cmp k l) new (members-new k d ms)
-    where
-      go : (o : Ordering) → match_ordering o (get_member k ms) (Some e) (get_member k ms) ≡ None
-          → (get_member k ms ≡ None → Alike (found_in_members (put k d ms)) (references d ++ found_in_members ms))
-          → Alike (found_in_members (match_ordering o (member k d (member l e ms)) (member l d ms) (member l e (put k d ms))))
-          (references d ++ found_in_members (member l e ms))
-      go Less new later = alike_same (references d ++ found_in_members (member l e ms))
-      go Equal new later = cc
-      go Greater new later = alike_trans (references e ++ found_in_members (put k d ms))
-          (references e ++ (references d ++ found_in_members ms))
-          (references d ++ (references e ++ found_in_members ms))
-          (alike_append (references e) (found_in_members (put k d ms)) (references e) (references d ++ found_in_members ms)
-          (alike_same (references e)) (later new))
-          (alike_swap (references e) (references d) (found_in_members ms))
-
-  -- what was put in under a new key, before the rest
-  pub alike_turn : (new here old after all : List Data) → Alike new (here ++ old) → Alike (here ++ after) all
-      → Alike (new ++ after) (old ++ all)
-  alike_turn new here old after all f g =
-      alike_trans (new ++ after) ((here ++ old) ++ after) (old ++ all)
-      (alike_append new after (here ++ old) after f (alike_same after))
-      (alike_trans ((here ++ old) ++ after) (here ++ (old ++ after)) (old ++ all)
-      (alike_equal ((here ++ old) ++ after) (here ++ (old ++ after)) (append_assoc here old after))
-      (alike_trans (here ++ (old ++ after)) (old ++ (here ++ after)) (old ++ all) (alike_swap here old after)
-      (alike_append old (here ++ after) old all (alike_same old) g)))
+-- what was put in under a new key, before the rest
+pub among_turn : (new here old after all : List Data) → Among (here ++ old) new → Among all (here ++ after)
+    → Among (old ++ all) (new ++ after)
+among_turn new here old after all f g x h =
+    let moved = among_swap old here after x (among_append old all old (here ++ after) (λ y i. i) g x h) in
+    among_append (here ++ old) after new after f (λ y i. i) x
+    (among_equal (here ++ (old ++ after)) ((here ++ old) ++ after) (sym (append_assoc here old after)) x moved)
 
 -- where the key is new
 pub members-kept : (k : Text) (d : Data) (ms : Members) → get_member k ms ≡ None
     → Among (found_in_members ms) (found_in_members (put k d ms))
-members-kept k d ms new x h = (members-new ⊥ k d ms new).1 x (among_right (references d) (found_in_members ms) x h)
+members-kept k d ms new x h = members-new k d ms new x (among_right (references d) (found_in_members ms) x h)
 
 pub members-has : (k : Text) (d : Data) (ms : Members) → Among (references d) (found_in_members (put k d ms))
 unfolding found_in
@@ -183,7 +151,7 @@ keywords-without k ms none = among_equal (found_in_keywords ms) (found_in_keywor
 
 -- ---- notes
 
-references-members_in : (s : Data) → found_in_keywords (members_in s) ≡ references s
+pub references-members_in : (s : Data) → found_in_keywords (members_in s) ≡ references s
 unfolding found_in
 references-members_in null = refl
 references-members_in (boolean true) = refl

@@ -1,231 +1,288 @@
--- The rows that stand in a shape's template are those of the shape.
-use Rattle.std.proofs.Common.{◌≡◌, ℕ, zero, suc, List, [], ◌∷◌, Bool, true, false, map, refl, sym, ap, ◌∙◌, subst}
-use Rattle.std.proofs.Common.{append-nil, arith, All, ◌++◌}
+-- What is asked in a shape's template is of the rows of the shape.
+use Rattle.std.proofs.Common.{◌≡◌, ℕ, zero, suc, List, [], ◌∷◌, Bool, true, false, map, refl, ap, arith}
+use Rattle.std.proofs.Common.{All, Contains, ◌++◌}
 use Rattle.std.specs.Prelude.{if◌then◌else◌}
-use Rattle.std.proofs.lemmas.List.Elements.{All-append}
+use Rattle.std.proofs.lemmas.List.Elements.{All-nil, All-cons, All-append, Contains-append_left, Contains-append_right}
 use Rattle.schemars_json.specs.Json.{Text}
 use Rattle.schemars_rewrite.specs.NullLaw.{text_items}
-use Rattle.schemars_rewrite.specs.Variants.{unit_variant}
 use Rattle.schemars_shapes.specs.Shape as shape
-use Rattle.schemars_shapes.specs.Shape.{Shape, Field, Payload, Variant, no_payload, newtype_payload, tuple_payload, struct_payload}
-use Rattle.schemars_shapes.specs.Shape.{numbers_of, payload_numbers, variant_numbers}
+use Rattle.schemars_shapes.specs.Shape.{Shape, Field, Flattened, Fields, Payload, Variant, no_payload, newtype_payload, tuple_payload}
+use Rattle.schemars_shapes.specs.Shape.{struct_payload, internal, numbers_of, flattened_numbers, flattened_rows, fields_numbers}
+use Rattle.schemars_shapes.specs.Shape.{payload_numbers, payload_flattened, variant_numbers, of_variants}
 use Rattle.schemars_shapes.specs.Units.{is_bare_unit}
-use Rattle.schemars_types.specs.Meaning.{Contract, tagged_fields, tagged_closed}
+use Rattle.schemars_types.specs.Meaning.{Contract, is_required}
 use Rattle.schemars_types.specs.KeyOptions.{KeyOptions, any_key, only_keys, key_options}
 use Rattle.schemars_documents.specs.Documents.{required_names}
 use Rattle.schemars_templates.specs.Basis.{Basis}
-use Rattle.schemars_templates.specs.Template.{Template, finished, row, noted, rows_of, rows_in}
-use Rattle.schemars_templates.specs.OfShape.{templates_of, property, map_template, tuple_template, struct_template, template_of}
-use Rattle.schemars_templates.specs.OfShape.{payload_template, named_template, bare_units, other_items, choice_of}
-use Rattle.schemars_templates.specs.OfShape.{KeywordTemplate, values_template, values_of, all_patterns}
+use Rattle.schemars_templates.specs.Template.{Template, Ask, part, members_of, content, asked, row, noted, with_keywords, asks_of, asks_in}
+use Rattle.schemars_templates.specs.OfShape.{templates_of, property, map_template, fields_template, with_flattened, tuple_template}
+use Rattle.schemars_templates.specs.OfShape.{struct_template, template_of, payload_template, content_template, named_template}
+use Rattle.schemars_templates.specs.OfShape.{bare_units, other_items, choice_of, KeywordTemplate, values_template, values_of, all_patterns}
 use Rattle.schemars_templates.specs.OfShape.{pattern_properties_at, properties_at, payload_item, titled}
-use Rattle.schemars_templates.specs.OfShape.{untagged_template, tagged_template, internal_item, internal_template}
+use Rattle.schemars_templates.specs.OfShape.{untagged_template, internal_item, internal_template}
 
-pub rows_same : (ns : List ℕ) → rows_in (templates_of (map row ns)) ≡ ns
+pub rows_same : (ns : List ℕ) → asks_in (templates_of (map row ns)) ≡ map part ns
 rows_same [] = refl
-rows_same (n ∷ ns) = ap (λ ms. n ∷ ms) (rows_same ns)
+rows_same (n ∷ ns) = ap (λ xs. part n ∷ xs) (rows_same ns)
 
-abbrev pub rows_at : List Field → List ℕ
-rows_at xs = rows_in (templates_of (map (λ e. e.1) (map property xs)))
+abbrev pub asks_at : List Field → List Ask
+asks_at xs = asks_in (templates_of (map (λ e. e.1) (map property xs)))
 
-fields_rows : (xs : List Field) → rows_at xs ≡ map (λ x. x.ty) xs
-fields_rows [] = refl
-fields_rows (x ∷ xs) = ap (λ ms. x.ty ∷ ms) (fields_rows xs)
+-- ---- the contents of tagged variants
 
--- those of the fields of a map with a tag
-abbrev pub rows_tagged : Text → Text → List Field → List ℕ
-rows_tagged tag name xs = rows_in (templates_of (map (λ e. e.1) (map property xs ++ (tag, finished (unit_variant name)) ∷ [])))
+abbrev pub payload_contents : Payload → List ℕ
+payload_contents no_payload = []
+payload_contents (newtype_payload n) = n ∷ []
+payload_contents (tuple_payload ns) = []
+payload_contents (struct_payload x) = []
 
-pub tag_has_no_row : (tag name : Text) (xs : List Field) → rows_tagged tag name xs ≡ rows_at xs
-tag_has_no_row tag name [] = refl
-tag_has_no_row tag name (x ∷ xs) = ap (λ ms. x.ty ∷ ms) (tag_has_no_row tag name xs)
+-- the rows whose values stand beside a tag
+abbrev pub contents_of : Shape → List ℕ
+contents_of (internal tag closed xs) = of_variants payload_contents xs
+contents_of _ = []
 
-map_rows : (xs : List Field) (ks : List Text) (closed : Bool)
-    → rows_of (map_template (map property xs) (text_items ks) closed) ≡ map (λ x. x.ty) xs
-map_rows [] [] false = refl
-map_rows [] [] true = refl
-map_rows [] (k ∷ ks) false = refl
-map_rows [] (k ∷ ks) true = refl
-map_rows (x ∷ xs) [] false = append-nil (rows_at (x ∷ xs)) ∙ fields_rows (x ∷ xs)
-map_rows (x ∷ xs) [] true = append-nil (rows_at (x ∷ xs)) ∙ fields_rows (x ∷ xs)
-map_rows (x ∷ xs) (k ∷ ks) false = append-nil (rows_at (x ∷ xs)) ∙ fields_rows (x ∷ xs)
-map_rows (x ∷ xs) (k ∷ ks) true = append-nil (rows_at (x ∷ xs)) ∙ fields_rows (x ∷ xs)
+-- ---- all that is asked
 
--- what holds of each row of a shape holds of each in its template
-module _ (P : ℕ → Type 0) where
+-- what holds of whatever is asked of a shape's rows holds of all that its template asks
+module _ (P : Ask → Type 0) where
+  abbrev Parts : List ℕ → Type 0
+  Parts ns = (m : ℕ) → Contains ns m → P (part m)
+
+  abbrev Members : List ℕ → Type 0
+  Members ns = (m : ℕ) (b : Bool) → Contains ns m → P (members_of m b)
+
+  abbrev Contents : List ℕ → Type 0
+  Contents ns = (m : ℕ) → Contains ns m → P (content m)
+
   nothing : All P []
-  nothing = λ k d less. absurd (omega (arith, less))
+  nothing = All-nil P
 
-  twice : (n : ℕ) → All P (n ∷ []) → All P (n ∷ n ∷ [])
-  twice n h zero d less = h zero d (omega arith)
-  twice n h (suc zero) d less = h zero d (omega arith)
-  twice n h (suc (suc k)) d less = absurd (omega (arith, less))
+  joined : (xs ys : List Ask) → All P xs → All P ys → All P (xs ++ ys)
+  joined xs ys h g = All-append P xs ys h g
 
-  leading : (m : ℕ) (ms : List ℕ) → P m → All P ms → All P (m ∷ ms)
-  leading m ms p h zero d less = p
-  leading m ms p h (suc k) d less = h k d (omega (arith, less))
+  ended : (xs : List Ask) → All P xs → All P (xs ++ [])
+  ended xs h = joined xs [] h nothing
 
-  parted : (ms ns : List ℕ) → All P (ms ++ ns) → All P ms × All P ns
-  parted [] ns h = (nothing, h)
-  parted (m ∷ ms) ns h =
-      let later = parted ms ns (λ k d less. h (suc k) d (omega (arith, less))) in
-      (leading m ms (h zero m (omega arith)) later.0, later.1)
+  here : (n : ℕ) (ns : List ℕ) → Contains (n ∷ ns) n
+  here n ns = (0, omega arith, refl)
 
-  ended : (ms : List ℕ) → All P ms → All P (ms ++ [])
-  ended ms h = let Q : List ℕ → Type 0 = λ ns. All P ns in subst Q (sym (append-nil ms)) h
+  later : (n : ℕ) (ns : List ℕ) → Parts (n ∷ ns) → Parts ns
+  later n ns h m is = h m (Contains-append_right (n ∷ []) ns m is)
 
-  tuple_rows : (ns : List ℕ) → All P ns → All P (rows_of (tuple_template ns))
-  tuple_rows [] h = nothing
-  tuple_rows (n ∷ ns) h =
-      let Q : List ℕ → Type 0 = λ ms. All P ms in
-      subst Q (sym (append-nil (rows_in (templates_of (map row (n ∷ ns)))) ∙ rows_same (n ∷ ns))) h
+  one : (n : ℕ) (ns : List ℕ) → Parts (n ∷ ns) → All P (part n ∷ [])
+  one n ns h = All-cons P (part n) [] (h n (here n ns)) nothing
 
-  struct_rows : (contract : Contract) (xs : List Field) (closed : Bool) → All P (map (λ x. x.ty) xs)
-      → All P (rows_of (struct_template contract xs closed))
-  struct_rows contract xs closed h =
-      let Q : List ℕ → Type 0 = λ ms. All P ms in subst Q (sym (map_rows xs (required_names contract xs) closed)) h
+  two : (a b : ℕ) → Parts (a ∷ b ∷ []) → All P (part a ∷ part b ∷ [])
+  two a b h = All-cons P (part a) (part b ∷ []) (h a (here a (b ∷ []))) (one b [] (later a (b ∷ []) h))
+
+  twice : (n : ℕ) → Parts (n ∷ []) → All P (part n ∷ part n ∷ [])
+  twice n h = All-cons P (part n) (part n ∷ []) (h n (here n [])) (one n [] h)
+
+  rows_all : (ns : List ℕ) → Parts ns → All P (asks_in (templates_of (map row ns)))
+  rows_all [] h = nothing
+  rows_all (n ∷ ns) h = All-cons P (part n) _ (h n (here n ns)) (rows_all ns (later n ns h))
+
+  tuple_all : (ns : List ℕ) → Parts ns → All P (asks_of (tuple_template ns))
+  tuple_all [] h = nothing
+  tuple_all (n ∷ ns) h = ended (asks_in (templates_of (map row (n ∷ ns)))) (rows_all (n ∷ ns) h)
+
+  -- ---- structs
+
+  fields_all : (xs : List Field) → Parts (map (λ x. x.ty) xs) → All P (asks_at xs)
+  fields_all [] h = nothing
+  fields_all (x ∷ xs) h =
+      All-cons P (part x.ty) (asks_at xs) (h x.ty (here x.ty (map (λ x. x.ty) xs)))
+      (fields_all xs (later x.ty (map (λ x. x.ty) xs) h))
+
+  map_all : (xs : List Field) (ks : List Text) (closed : Bool) → Parts (map (λ x. x.ty) xs)
+      → All P (asks_of (map_template (map property xs) (text_items ks) closed))
+  map_all [] [] false h = nothing
+  map_all [] [] true h = nothing
+  map_all [] (k ∷ ks) false h = nothing
+  map_all [] (k ∷ ks) true h = nothing
+  map_all (x ∷ xs) [] false h = ended (asks_at (x ∷ xs)) (fields_all (x ∷ xs) h)
+  map_all (x ∷ xs) [] true h = ended (asks_at (x ∷ xs)) (fields_all (x ∷ xs) h)
+  map_all (x ∷ xs) (k ∷ ks) false h = ended (asks_at (x ∷ xs)) (fields_all (x ∷ xs) h)
+  map_all (x ∷ xs) (k ∷ ks) true h = ended (asks_at (x ∷ xs)) (fields_all (x ∷ xs) h)
+
+  flattened_all : (contract : Contract) (ps : List Flattened) (t : Template) → Members (map (λ p. p.ty) ps) → All P (asks_of t)
+      → All P (asks_of (with_flattened contract ps t))
+  flattened_all contract [] t h all = all
+  flattened_all contract (p ∷ ps) t h all =
+      let a : Ask = members_of p.ty (is_required contract p.required) in
+      flattened_all contract ps (with_keywords t (asked a))
+      (λ m b is. h m b (Contains-append_right (p.ty ∷ []) (map (λ p. p.ty) ps) m is))
+      (joined (asks_of t) (a ∷ []) all
+      (All-cons P a [] (h p.ty (is_required contract p.required) (here p.ty (map (λ p. p.ty) ps))) nothing))
+
+  struct_all : (contract : Contract) (x : Fields) → Parts (fields_numbers x) → Members (flattened_rows x)
+      → All P (asks_of (struct_template contract x))
+  struct_all contract x h g =
+      flattened_all contract x.flatten (fields_template contract x.list x.closed) g
+      (map_all x.list (required_names contract x.list) x.closed
+      (λ m is. h m (Contains-append_left (map (λ x. x.ty) x.list) (flattened_rows x) m is)))
 
   -- ---- enums
 
-  payload_rows : (contract : Contract) (p : Payload) → All P (payload_numbers p) → All P (rows_of (payload_template contract p))
-  payload_rows contract no_payload h = h
-  payload_rows contract (newtype_payload n) h = h
-  payload_rows contract (tuple_payload ns) h = tuple_rows ns h
-  payload_rows contract (struct_payload xs closed) h = struct_rows contract xs closed h
+  payload_all : (contract : Contract) (p : Payload) → Parts (payload_numbers p) → Members (payload_flattened p)
+      → All P (asks_of (payload_template contract p))
+  payload_all contract no_payload h g = nothing
+  payload_all contract (newtype_payload n) h g = one n [] h
+  payload_all contract (tuple_payload ns) h g = tuple_all ns h
+  payload_all contract (struct_payload x) h g = struct_all contract x h g
 
-  keyed_rows : (t : Template) → All P (rows_of t) → All P ((rows_of t ++ []) ++ [])
-  keyed_rows t h = ended (rows_of t ++ []) (ended (rows_of t) h)
+  keyed_all : (xs : List Ask) → All P xs → All P ((xs ++ []) ++ [])
+  keyed_all xs h = ended (xs ++ []) (ended xs h)
 
-  named_rows : (contract : Contract) (name : Text) (p : Payload) → All P (payload_numbers p)
-      → All P (rows_of (named_template contract name p))
-  named_rows contract name no_payload h = h
-  named_rows contract name (newtype_payload n) h = keyed_rows (row n) h
-  named_rows contract name (tuple_payload ns) h = keyed_rows (tuple_template ns) (tuple_rows ns h)
-  named_rows contract name (struct_payload xs closed) h =
-      keyed_rows (struct_template contract xs closed) (struct_rows contract xs closed h)
+  named_all : (contract : Contract) (name : Text) (p : Payload) → Parts (payload_numbers p) → Members (payload_flattened p)
+      → All P (asks_of (named_template contract name p))
+  named_all contract name no_payload h g = nothing
+  named_all contract name (newtype_payload n) h g = keyed_all (part n ∷ []) (one n [] h)
+  named_all contract name (tuple_payload ns) h g = keyed_all (asks_of (tuple_template ns)) (tuple_all ns h)
+  named_all contract name (struct_payload x) h g = keyed_all (asks_of (struct_template contract x)) (struct_all contract x h g)
 
-  other_rows : (contract : Contract) (xs : List Variant) → All P (variant_numbers xs)
-      → All P (rows_in (templates_of (other_items contract xs)))
-  other_rows contract [] h = nothing
-  other_rows contract (x ∷ xs) h =
-      let parts = parted (payload_numbers x.payload) (variant_numbers xs) h in
-      go (is_bare_unit x) (named_rows contract x.name x.payload parts.0) (other_rows contract xs parts.1)
+  abbrev EachPart : List Variant → Type 0
+  EachPart xs = Parts (variant_numbers xs)
+
+  abbrev EachMember : List Variant → Type 0
+  EachMember xs = Members (of_variants payload_flattened xs)
+
+  abbrev EachContent : List Variant → Type 0
+  EachContent xs = Contents (of_variants payload_contents xs)
+
+  others_all : (contract : Contract) (xs : List Variant) → EachPart xs → EachMember xs
+      → All P (asks_in (templates_of (other_items contract xs)))
+  others_all contract [] h g = nothing
+  others_all contract (x ∷ xs) h g =
+      go (is_bare_unit x)
+      (named_all contract x.name x.payload
+      (λ m is. h m (Contains-append_left (payload_numbers x.payload) (variant_numbers xs) m is))
+      (λ m b is. g m b (Contains-append_left (payload_flattened x.payload) (of_variants payload_flattened xs) m is)))
+      (others_all contract xs
+      (λ m is. h m (Contains-append_right (payload_numbers x.payload) (variant_numbers xs) m is))
+      (λ m b is. g m b (Contains-append_right (payload_flattened x.payload) (of_variants payload_flattened xs) m is)))
     where
-      go : (b : Bool) → All P (rows_of (named_template contract x.name x.payload))
-          → All P (rows_in (templates_of (other_items contract xs)))
-          → All P (rows_in (templates_of (if b then other_items contract xs else
+      go : (b : Bool) → All P (asks_of (named_template contract x.name x.payload))
+          → All P (asks_in (templates_of (other_items contract xs)))
+          → All P (asks_in (templates_of (if b then other_items contract xs else
           noted x.notes (named_template contract x.name x.payload) ∷ other_items contract xs)))
-      go true own later = later
-      go false own later = All-append P (rows_of (named_template contract x.name x.payload)) _ own later
+      go true own more = more
+      go false own more = joined (asks_of (named_template contract x.name x.payload)) _ own more
 
-  choice_rows : (ks : List Text) (ts : List Template) → All P (rows_in (templates_of ts)) → All P (rows_of (choice_of ks ts))
-  choice_rows [] [] h = nothing
-  choice_rows [] (t ∷ ts) h = ended (rows_in (templates_of (t ∷ ts))) h
-  choice_rows (k ∷ ks) [] h = nothing
-  choice_rows (k ∷ ks) (t ∷ ts) h = ended (rows_in (templates_of (t ∷ ts))) h
+  choice_all : (ks : List Text) (ts : List Template) → All P (asks_in (templates_of ts)) → All P (asks_of (choice_of ks ts))
+  choice_all [] [] h = nothing
+  choice_all [] (t ∷ ts) h = ended (asks_in (templates_of (t ∷ ts))) h
+  choice_all (k ∷ ks) [] h = nothing
+  choice_all (k ∷ ks) (t ∷ ts) h = ended (asks_in (templates_of (t ∷ ts))) h
 
-  titled_rows : (titles : Bool) (name : Text) (t : Template) → All P (rows_of t) → All P (rows_of (titled titles name t))
-  titled_rows false name t h = h
-  titled_rows true name t h = h
+  titled_all : (titles : Bool) (name : Text) (t : Template) → All P (asks_of t) → All P (asks_of (titled titles name t))
+  titled_all false name t h = h
+  titled_all true name t h = h
 
-  items_rows : (contract : Contract) (titles : Bool) (xs : List Variant) → All P (variant_numbers xs)
-      → All P (rows_in (templates_of (map (payload_item contract titles) xs)))
-  items_rows contract titles [] h = nothing
-  items_rows contract titles (x ∷ xs) h =
-      let parts = parted (payload_numbers x.payload) (variant_numbers xs) h in
-      All-append P (rows_of (titled titles x.name (payload_template contract x.payload))) _
-      (titled_rows titles x.name (payload_template contract x.payload) (payload_rows contract x.payload parts.0))
-      (items_rows contract titles xs parts.1)
+  payloads_all : (contract : Contract) (titles : Bool) (xs : List Variant) → EachPart xs → EachMember xs
+      → All P (asks_in (templates_of (map (payload_item contract titles) xs)))
+  payloads_all contract titles [] h g = nothing
+  payloads_all contract titles (x ∷ xs) h g =
+      joined (asks_of (titled titles x.name (payload_template contract x.payload))) _
+      (titled_all titles x.name (payload_template contract x.payload) (payload_all contract x.payload
+      (λ m is. h m (Contains-append_left (payload_numbers x.payload) (variant_numbers xs) m is))
+      (λ m b is. g m b (Contains-append_left (payload_flattened x.payload) (of_variants payload_flattened xs) m is))))
+      (payloads_all contract titles xs
+      (λ m is. h m (Contains-append_right (payload_numbers x.payload) (variant_numbers xs) m is))
+      (λ m b is. g m b (Contains-append_right (payload_flattened x.payload) (of_variants payload_flattened xs) m is)))
 
-  untagged_rows : (contract : Contract) (titles : Bool) (xs : List Variant) → All P (variant_numbers xs)
-      → All P (rows_of (untagged_template contract titles xs))
-  untagged_rows contract titles [] h = nothing
-  untagged_rows contract titles (x ∷ xs) h =
-      ended (rows_in (templates_of (map (payload_item contract titles) (x ∷ xs)))) (items_rows contract titles (x ∷ xs) h)
+  untagged_all : (contract : Contract) (titles : Bool) (xs : List Variant) → EachPart xs → EachMember xs
+      → All P (asks_of (untagged_template contract titles xs))
+  untagged_all contract titles [] h g = nothing
+  untagged_all contract titles (x ∷ xs) h g =
+      ended (asks_in (templates_of (map (payload_item contract titles) (x ∷ xs)))) (payloads_all contract titles (x ∷ xs) h g)
 
-  own_rows : (p : Payload) → All P (payload_numbers p) → All P (map (λ x. x.ty) (tagged_fields p))
-  own_rows no_payload h = nothing
-  own_rows (newtype_payload n) h = nothing
-  own_rows (tuple_payload ns) h = nothing
-  own_rows (struct_payload xs closed) h = h
+  content_all : (contract : Contract) (p : Payload) → Parts (payload_numbers p) → Members (payload_flattened p)
+      → Contents (payload_contents p) → All P (asks_of (content_template contract p))
+  content_all contract no_payload h g f = nothing
+  content_all contract (newtype_payload n) h g f = All-cons P (content n) [] (f n (here n [])) nothing
+  content_all contract (tuple_payload ns) h g f = tuple_all ns h
+  content_all contract (struct_payload x) h g f = struct_all contract x h g
 
-  tagged_rows : (contract : Contract) (tag name : Text) (xs : List Field) (closed : Bool) → All P (map (λ x. x.ty) xs)
-      → All P (rows_of (tagged_template contract tag name xs closed))
-  tagged_rows contract tag name [] false h = nothing
-  tagged_rows contract tag name [] true h = nothing
-  tagged_rows contract tag name (x ∷ xs) closed h = go closed
+  contents_all : (contract : Contract) (tag : Text) (closed : Bool) (xs : List Variant) → EachPart xs → EachMember xs → EachContent xs
+      → All P (asks_in (templates_of (map (internal_item contract tag closed) xs)))
+  contents_all contract tag closed [] h g f = nothing
+  contents_all contract tag closed (x ∷ xs) h g f =
+      joined (asks_of (content_template contract x.payload)) _
+      (content_all contract x.payload
+      (λ m is. h m (Contains-append_left (payload_numbers x.payload) (variant_numbers xs) m is))
+      (λ m b is. g m b (Contains-append_left (payload_flattened x.payload) (of_variants payload_flattened xs) m is))
+      (λ m is. f m (Contains-append_left (payload_contents x.payload) (of_variants payload_contents xs) m is)))
+      (contents_all contract tag closed xs
+      (λ m is. h m (Contains-append_right (payload_numbers x.payload) (variant_numbers xs) m is))
+      (λ m b is. g m b (Contains-append_right (payload_flattened x.payload) (of_variants payload_flattened xs) m is))
+      (λ m is. f m (Contains-append_right (payload_contents x.payload) (of_variants payload_contents xs) m is)))
+
+  internal_all : (contract : Contract) (tag : Text) (closed : Bool) (xs : List Variant) → EachPart xs → EachMember xs → EachContent xs
+      → All P (asks_of (internal_template contract tag closed xs))
+  internal_all contract tag closed [] h g f = nothing
+  internal_all contract tag closed (x ∷ xs) h g f =
+      ended (asks_in (templates_of (map (internal_item contract tag closed) (x ∷ xs))))
+      (contents_all contract tag closed (x ∷ xs) h g f)
+
+  -- ---- maps
+
+  abbrev text_asks : ℕ → List Text → List Ask
+  text_asks value texts = asks_in (templates_of (map (λ (e : KeywordTemplate). e.1) (map (λ (t : Text). (t, row value)) texts)))
+
+  texts_all : (value : ℕ) (texts : List Text) → P (part value) → All P (text_asks value texts)
+  texts_all value [] h = nothing
+  texts_all value (t ∷ texts) h = All-cons P (part value) (text_asks value texts) h (texts_all value texts h)
+
+  -- a map asks for the row of its values xs often xs it is written
+  values_all : (options : KeyOptions) (value : ℕ) → P (part value) → All P (asks_of (values_template options value))
+  values_all any_key value h = All-cons P (part value) [] h nothing
+  values_all (only_keys texts integers ps) value h = go texts (all_patterns integers ps)
     where
-      inside : All P (rows_tagged tag name (x ∷ xs))
-      inside = let Q : List ℕ → Type 0 = λ ms. All P ms in subst Q (sym (tag_has_no_row tag name (x ∷ xs) ∙ fields_rows (x ∷ xs))) h
-
-      go : (closed : Bool) → All P (rows_of (tagged_template contract tag name (x ∷ xs) closed))
-      go false = ended (rows_tagged tag name (x ∷ xs)) inside
-      go true = ended (rows_tagged tag name (x ∷ xs)) inside
-
-  internals_rows : (contract : Contract) (tag : Text) (closed : Bool) (xs : List Variant) → All P (variant_numbers xs)
-      → All P (rows_in (templates_of (map (internal_item contract tag closed) xs)))
-  internals_rows contract tag closed [] h = nothing
-  internals_rows contract tag closed (x ∷ xs) h =
-      let parts = parted (payload_numbers x.payload) (variant_numbers xs) h in
-      All-append P (rows_of (internal_item contract tag closed x)) _
-      (tagged_rows contract tag x.name (tagged_fields x.payload) (tagged_closed closed x.payload) (own_rows x.payload parts.0))
-      (internals_rows contract tag closed xs parts.1)
-
-  internal_rows : (contract : Contract) (tag : Text) (closed : Bool) (xs : List Variant) → All P (variant_numbers xs)
-      → All P (rows_of (internal_template contract tag closed xs))
-  internal_rows contract tag closed [] h = nothing
-  internal_rows contract tag closed (x ∷ xs) h =
-      ended (rows_in (templates_of (map (internal_item contract tag closed) (x ∷ xs)))) (internals_rows contract tag closed (x ∷ xs) h)
-
-  abbrev text_rows : ℕ → List Text → List ℕ
-  text_rows value texts = rows_in (templates_of (map (λ (e : KeywordTemplate). e.1) (map (λ (t : Text). (t, row value)) texts)))
-
-  texts_rows : (value : ℕ) (texts : List Text) → All P (value ∷ []) → All P (text_rows value texts)
-  texts_rows value [] h = nothing
-  texts_rows value (t ∷ texts) h = All-append P (value ∷ []) (text_rows value texts) h (texts_rows value texts h)
-
-  -- a map has the row of its values, as often as it is written
-  values_rows : (options : KeyOptions) (value : ℕ) → All P (value ∷ []) → All P (rows_of (values_template options value))
-  values_rows any_key value h = h
-  values_rows (only_keys texts integers ps) value h = go texts (all_patterns integers ps)
-    where
-      go : (ts qs : List Text) → All P (rows_in (templates_of (map (λ (e : KeywordTemplate). e.1)
+      go : (ts qs : List Text) → All P (asks_in (templates_of (map (λ (e : KeywordTemplate). e.1)
           (pattern_properties_at (values_of value qs) ++ properties_at (values_of value ts)))))
       go [] [] = nothing
-      go (t ∷ ts) [] = ended (text_rows value (t ∷ ts)) (texts_rows value (t ∷ ts) h)
-      go [] (q ∷ qs) = ended (text_rows value (q ∷ qs)) (texts_rows value (q ∷ qs) h)
+      go (t ∷ ts) [] = ended (text_asks value (t ∷ ts)) (texts_all value (t ∷ ts) h)
+      go [] (q ∷ qs) = ended (text_asks value (q ∷ qs)) (texts_all value (q ∷ qs) h)
       go (t ∷ ts) (q ∷ qs) =
-          All-append P (text_rows value (q ∷ qs)) (text_rows value (t ∷ ts) ++ []) (texts_rows value (q ∷ qs) h)
-          (ended (text_rows value (t ∷ ts)) (texts_rows value (t ∷ ts) h))
+          joined (text_asks value (q ∷ qs)) (text_asks value (t ∷ ts) ++ []) (texts_all value (q ∷ qs) h)
+          (ended (text_asks value (t ∷ ts)) (texts_all value (t ∷ ts) h))
 
-  pub all_rows : (basis : Basis) (kind : Shape) → All P (numbers_of kind) → All P (rows_of (template_of basis kind))
-  all_rows basis shape.null h = nothing
-  all_rows basis shape.bool h = nothing
-  all_rows basis (shape.int kind) h = nothing
-  all_rows basis (shape.non_zero kind) h = nothing
-  all_rows basis shape.number h = nothing
-  all_rows basis shape.text h = nothing
-  all_rows basis shape.char h = nothing
-  all_rows basis (shape.formatted format) h = nothing
-  all_rows basis shape.any h = nothing
-  all_rows basis shape.bytes h = nothing
-  all_rows basis shape.schema_itself h = nothing
-  all_rows basis (shape.option n) h = h
-  all_rows basis (shape.seq n) h = h
-  all_rows basis (shape.set n) h = h
-  all_rows basis (shape.array n zero) h = nothing
-  all_rows basis (shape.array n (suc len)) h = h
-  all_rows basis (shape.up_to n most) h = h
-  all_rows basis (shape.tuple ns) h = tuple_rows ns h
-  all_rows basis (shape.struct xs closed) h = struct_rows basis.contract xs closed h
-  all_rows basis (shape.newtype n) h = h
-  all_rows basis (shape.result a b) h = h
-  all_rows basis (shape.bound n) h = twice n h
-  all_rows basis (shape.range n) h = twice n h
-  all_rows basis (shape.either a b) h = h
-  all_rows basis (shape.map_from key value) h = values_rows (key_options basis.rows key) value (parted (key ∷ []) (value ∷ []) h).1
-  all_rows basis (shape.external xs) h =
-      choice_rows (bare_units xs) (other_items basis.contract xs) (other_rows basis.contract xs h)
-  all_rows basis (shape.untagged xs) h = untagged_rows basis.contract basis.titles xs h
-  all_rows basis (shape.internal tag closed xs) h = internal_rows basis.contract tag closed xs h
-  all_rows basis (shape.literal d) h = nothing
+  -- the rows that a shape refers to are asked for their parts, those that are flattened for their members, and those in
+  -- tagged variants for their contents
+  pub all_asks : (basis : Basis) (kind : Shape)
+      → ((m : ℕ) → Contains (numbers_of kind) m → P (part m))
+      → ((m : ℕ) (b : Bool) → Contains (flattened_numbers kind) m → P (members_of m b))
+      → ((m : ℕ) → Contains (contents_of kind) m → P (content m))
+      → All P (asks_of (template_of basis kind))
+  all_asks basis shape.null h g f = nothing
+  all_asks basis shape.bool h g f = nothing
+  all_asks basis (shape.int kind) h g f = nothing
+  all_asks basis (shape.non_zero kind) h g f = nothing
+  all_asks basis shape.number h g f = nothing
+  all_asks basis shape.text h g f = nothing
+  all_asks basis shape.char h g f = nothing
+  all_asks basis (shape.formatted format) h g f = nothing
+  all_asks basis shape.any h g f = nothing
+  all_asks basis shape.bytes h g f = nothing
+  all_asks basis shape.schema_itself h g f = nothing
+  all_asks basis (shape.option n) h g f = one n [] h
+  all_asks basis (shape.seq n) h g f = one n [] h
+  all_asks basis (shape.set n) h g f = one n [] h
+  all_asks basis (shape.array n zero) h g f = nothing
+  all_asks basis (shape.array n (suc len)) h g f = one n [] h
+  all_asks basis (shape.up_to n most) h g f = one n [] h
+  all_asks basis (shape.tuple ns) h g f = tuple_all ns h
+  all_asks basis (shape.struct x) h g f = struct_all basis.contract x h g
+  all_asks basis (shape.newtype n) h g f = one n [] h
+  all_asks basis (shape.result a b) h g f = two a b h
+  all_asks basis (shape.bound n) h g f = twice n h
+  all_asks basis (shape.range n) h g f = twice n h
+  all_asks basis (shape.either a b) h g f = two a b h
+  all_asks basis (shape.map_from key value) h g f =
+      values_all (key_options basis.rows key) value (h value (Contains-append_right (key ∷ []) (value ∷ []) value (here value [])))
+  all_asks basis (shape.external xs) h g f =
+      choice_all (bare_units xs) (other_items basis.contract xs) (others_all basis.contract xs h g)
+  all_asks basis (shape.untagged xs) h g f = untagged_all basis.contract basis.titles xs h g
+  all_asks basis (shape.internal tag closed xs) h g f = internal_all basis.contract tag closed xs h g f
+  all_asks basis (shape.literal d) h g f = nothing

@@ -1,43 +1,148 @@
--- What describes a row is a schema.
-use Rattle.std.proofs.Common.{◌≡◌, inl, inr, ℕ, zero, suc, List, [], ◌∷◌, length, Option, Some, None, sym, ap, subst}
-use Rattle.serde_json.specs.Data.{Data}
+-- What is filled with schemas is a schema, and so is what describes a row.
+use Rattle.std.proofs.Common.{◌≡◌, ◌⊎◌, inl, inr, ℕ, zero, suc, List, [], ◌∷◌, Bool, true, false, Option, Some, None, sym, subst}
+use Rattle.std.specs.List.{AllByRecursion}
+use Rattle.std.specs.Prelude.{if◌then◌else◌}
+use Rattle.serde_json.specs.Data.{Data, null, boolean, number, string, array, object}
 use Rattle.schemars_json.specs.Json.{Text}
 use Rattle.schemars_schema.specs.SchemaData.{IsSchema}
-use Rattle.schemars_shapes.specs.Shape.{Entry}
-use Rattle.schemars_types.specs.Rows.{entry_at}
+use Rattle.schemars_parts.specs.Opening.{opened_inside, stands_in_place}
+use Rattle.schemars_parts.proofs.Schemas.{flattened-schema, flattened_part-schema, opened_inside-schema}
+use Rattle.schemars_shapes.specs.Shape as shape
+use Rattle.schemars_shapes.specs.Shape.{Shape, Flattened, Entry, Variant}
+use Rattle.schemars_types.specs.Rows.{Row, entry_at}
+use Rattle.schemars_types.specs.Meaning.{Contract, is_required}
+use Rattle.schemars_types.specs.KeyOptions.{KeyOptions, any_key, only_keys, key_options}
+use Rattle.schemars_documents.specs.Documents.{is_signed}
 use Rattle.schemars_templates.specs.Basis.{Basis}
-use Rattle.schemars_templates.specs.Describes.{ArePartsWritten, IsOwnDocument, IsWritten, Describes}
-use Rattle.schemars_meaning.proofs.References.{AreSchemas, filled_schema}
+use Rattle.schemars_templates.specs.Template.{Template, Ask, part, members_of, content, finished, asked, list, members, nullable}
+use Rattle.schemars_templates.specs.Template.{noted, with_keywords, tagged, left, filled}
+use Rattle.schemars_templates.specs.OfShape.{template_of, entry_template, values_template, with_flattened, fields_template, bare_units}
+use Rattle.schemars_templates.specs.OfShape.{other_items, choice_of, untagged_template, internal_template, literal_document}
+use Rattle.schemars_templates.specs.Describes.{AreAnswered, IsOwnDocument, IsContent, IsAnswered, IsWritten, Describes}
+use Rattle.schemars_meaning.proofs.Notes.{annotated-schema}
+use Rattle.schemars_meaning.proofs.Parts.{answers_all, first_all, answer_holds, described_holds, written_holds}
+use Rattle.schemars_meaning.proofs.ReferencesKept.{allow_null-schema}
 
-pub parts_schemas : (W : ℕ → Data → Type 0) → ((j : ℕ) (t : Data) → W j t → IsSchema t) → (ns : List ℕ) (ts : List Data)
-    → ArePartsWritten W ns ts → AreSchemas ts
-parts_schemas W all [] [] h = tt
-parts_schemas W all [] (t ∷ ts) h = cc
-parts_schemas W all (n ∷ ns) [] h = absurd h
-parts_schemas W all (n ∷ ns) (t ∷ ts) h = (all n t h.0, parts_schemas W all ns ts h.1)
+abbrev pub AreSchemas : List Data → Type 0
+AreSchemas = AllByRecursion IsSchema
 
-pub parts_counted : (W : ℕ → Data → Type 0) (ns : List ℕ) (ts : List Data) → ArePartsWritten W ns ts → length ns ≡ length ts
-parts_counted W [] ts h = ap length (sym h)
-parts_counted W (n ∷ ns) [] h = absurd h
-parts_counted W (n ∷ ns) (t ∷ ts) h = ap suc (parts_counted W ns ts h.1)
+-- ---- filled templates
+
+-- its document is a schema, where the answers are
+abbrev pub MakesSchema : Template → Type 0
+MakesSchema (finished d) = IsSchema d
+MakesSchema (asked a) = Unit {0}
+MakesSchema (list es) = ⊥
+MakesSchema (members ks es) = Unit {0}
+MakesSchema (nullable t) = MakesSchema t
+MakesSchema (noted notes t) = MakesSchema t
+MakesSchema (with_keywords t u) = MakesSchema t
+MakesSchema (tagged tag name closed t) = Unit {0}
+
+pub made_schema : (t : Template) (ts : List Data) → AreSchemas ts → MakesSchema t → IsSchema (filled t ts)
+made_schema (finished d) ts h is = is
+made_schema (asked a) ts h is = first_all IsSchema tt ts h
+made_schema (list es) ts h is = absurd is
+made_schema (members ks es) ts h is = tt
+made_schema (nullable t) ts h is = allow_null-schema (filled t ts) (made_schema t ts h is)
+made_schema (noted notes t) ts h is = annotated-schema notes (filled t ts) (made_schema t ts h is)
+made_schema (with_keywords t u) ts h is = flattened-schema (filled t ts) (filled u (left t ts)) (made_schema t ts h is)
+made_schema (tagged tag name closed t) ts h is = tt
+
+-- ---- by shape
+
+flattened_makes : (contract : Contract) (ps : List Flattened) (t : Template) → MakesSchema t → MakesSchema (with_flattened contract ps t)
+flattened_makes contract [] t h = h
+flattened_makes contract (p ∷ ps) t h =
+    flattened_makes contract ps (with_keywords t (asked (members_of p.ty (is_required contract p.required)))) h
+
+values_make : (options : KeyOptions) (value : ℕ) → MakesSchema (values_template options value)
+values_make any_key value = tt
+values_make (only_keys texts integers ps) value = tt
+
+internal_makes : (contract : Contract) (tag : Text) (closed : Bool) (xs : List Variant)
+    → MakesSchema (internal_template contract tag closed xs)
+internal_makes contract tag closed [] = tt
+internal_makes contract tag closed (x ∷ xs) = tt
+
+choice_makes : (ks : List Text) (ts : List Template) → MakesSchema (choice_of ks ts)
+choice_makes [] [] = tt
+choice_makes [] (t ∷ ts) = tt
+choice_makes (k ∷ ks) [] = tt
+choice_makes (k ∷ ks) (t ∷ ts) = tt
+
+untagged_makes : (contract : Contract) (titles : Bool) (xs : List Variant) → MakesSchema (untagged_template contract titles xs)
+untagged_makes contract titles [] = tt
+untagged_makes contract titles (x ∷ xs) = tt
+
+non_zero_makes : (b : Bool) (d e : Data) → IsSchema d → IsSchema e → IsSchema (if b then d else e)
+non_zero_makes true d e h g = h
+non_zero_makes false d e h g = g
+
+literal_makes : (d : Data) → IsSchema (literal_document d)
+literal_makes (boolean b) = tt
+literal_makes (object ms) = tt
+literal_makes null = tt
+literal_makes (number n) = tt
+literal_makes (string s) = tt
+literal_makes (array ds) = tt
+
+shape_makes : (basis : Basis) (kind : Shape) → MakesSchema (template_of basis kind)
+shape_makes basis shape.null = tt
+shape_makes basis shape.bool = tt
+shape_makes basis (shape.int kind) = tt
+shape_makes basis (shape.non_zero kind) = non_zero_makes (is_signed kind) _ _ tt tt
+shape_makes basis shape.number = tt
+shape_makes basis shape.text = tt
+shape_makes basis shape.char = tt
+shape_makes basis (shape.formatted format) = tt
+shape_makes basis shape.any = tt
+shape_makes basis shape.bytes = tt
+shape_makes basis shape.schema_itself = tt
+shape_makes basis (shape.option n) = tt
+shape_makes basis (shape.seq n) = tt
+shape_makes basis (shape.set n) = tt
+shape_makes basis (shape.array n zero) = tt
+shape_makes basis (shape.array n (suc len)) = tt
+shape_makes basis (shape.up_to n cap) = tt
+shape_makes basis (shape.tuple []) = tt
+shape_makes basis (shape.tuple (n ∷ ns)) = tt
+shape_makes basis (shape.struct x) =
+    flattened_makes basis.contract x.flatten (fields_template basis.contract x.list x.closed) tt
+shape_makes basis (shape.newtype n) = tt
+shape_makes basis (shape.result a b) = tt
+shape_makes basis (shape.bound n) = tt
+shape_makes basis (shape.range n) = tt
+shape_makes basis (shape.either a b) = tt
+shape_makes basis (shape.map_from key value) = values_make (key_options basis.rows key) value
+shape_makes basis (shape.external xs) = choice_makes (bare_units xs) (other_items basis.contract xs)
+shape_makes basis (shape.untagged xs) = untagged_makes basis.contract basis.titles xs
+shape_makes basis (shape.internal tag closed xs) = internal_makes basis.contract tag closed xs
+shape_makes basis (shape.literal d) = literal_makes d
+
+-- the filled template of an entry is a schema, where the answers are
+pub filled_schema : (basis : Basis) (e : Entry) (ts : List Data) → AreSchemas ts → IsSchema (filled (entry_template basis e) ts)
+filled_schema basis e ts h = made_schema (entry_template basis e) ts h (shape_makes basis e.shape)
+
+-- ---- answers
+
+-- an answer is a schema, where documents of rows are and what is written for them
+pub answered_schema : (rows : List Row) (InPlace : ℕ → Bool → Type 0) (Written Own : ℕ → Data → Type 0)
+    → ((j : ℕ) (t : Data) → Written j t → IsSchema t) → ((j : ℕ) (t : Data) → Own j t → IsSchema t)
+    → (a : Ask) (t : Data) → IsAnswered rows InPlace Written Own a t → IsSchema t
+answered_schema = answer_holds IsSchema flattened_part-schema opened_inside-schema
+
+pub answers_schemas : (Answers : Ask → Data → Type 0) → ((a : Ask) (t : Data) → Answers a t → IsSchema t) → (asks : List Ask)
+    (ts : List Data) → AreAnswered Answers asks ts → AreSchemas ts
+answers_schemas = answers_all IsSchema
+
+-- ---- documents of rows
 
 module _ (basis : Basis) (Refers : ℕ → Text → Type 0) where
-  of_own : (W : ℕ → Data → Type 0) → ((j : ℕ) (t : Data) → W j t → IsSchema t) → (o : Option Entry) (s : Data)
-      → IsOwnDocument W basis o s → IsSchema s
-  of_own W all None s is = absurd is
-  of_own W all (Some e) s is =
-      let P : Data → Type 0 = λ d. IsSchema d in
-      subst P (sym is.is) (filled_schema basis e is.parts (parts_schemas W all _ is.parts is.written))
-
-  of_written : (D : ℕ → Data → Type 0) → ((j : ℕ) (t : Data) → D j t → IsSchema t) → (j : ℕ) (t : Data) → IsWritten Refers D j t
-      → IsSchema t
-  of_written D all j t (inl h) = rw h.2 tt
-  of_written D all j t (inr h) = all j t h
-
-  described : (d n : ℕ) (s : Data) → Describes basis Refers d n s → IsSchema s
-  unfolding Describes
-  described zero n s h = absurd h
-  described (suc d) n s h = of_own (IsWritten Refers (Describes basis Refers d)) (of_written _ (described d)) (entry_at basis.rows n) s h
+  pub described : (d n : ℕ) (s : Data) → Describes basis Refers d n s → IsSchema s
+  described = described_holds IsSchema flattened_part-schema opened_inside-schema basis Refers (λ j r h. tt)
+      (λ n e at ts h. filled_schema basis e ts h)
 
   pub written_schema : (d n : ℕ) (t : Data) → IsWritten Refers (Describes basis Refers d) n t → IsSchema t
-  written_schema d n t h = of_written _ (described d) n t h
+  written_schema = written_holds IsSchema flattened_part-schema opened_inside-schema basis Refers (λ j r h. tt)
+      (λ n e at ts h. filled_schema basis e ts h)

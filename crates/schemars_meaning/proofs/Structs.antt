@@ -19,8 +19,9 @@ use Rattle.schemars_shapes.specs.Shape.{Field}
 use Rattle.schemars_types.specs.Meaning.{Contract, is_required, field_named, member_fits, every_member, has_required, holds}
 use Rattle.schemars_documents.specs.PlainTable.{IsNoName, AreDistinct, AreNoted}
 use Rattle.schemars_documents.specs.Documents.{Keyword, annotated, required_names}
-use Rattle.schemars_meaning.proofs.ByShape.{field_keywords, struct_document, map_document, AreWritten}
-use Rattle.schemars_meaning.proofs.Notes.{judge-annotated, annotated-schema}
+use Rattle.schemars_meaning.proofs.MapDocument.{map_document}
+use Rattle.schemars_meaning.proofs.Spread.{field_keywords, struct_document, AreWritten, IsFieldsDocument}
+use Rattle.schemars_meaning.proofs.Notes.{judge-annotated, annotated-schema, judge-noted_by}
 use Rattle.schemars_meaning.proofs.Maps.{AreEntries, schema_named-judges_in, judges_of, named_says, other_says}
 use Rattle.schemars_meaning.proofs.Maps.{judge-map_object, judge-map_other}
 
@@ -191,3 +192,14 @@ module _ (patterns : Patterns) (f : Text → Judge) (contract : Contract) (W : �
       (holds (as_object v) (λ ms. every_member (member_fits M xs closed) ms && has_required contract xs ms))
   struct_says xs ts closed d n h v json agree = map_says xs (field_keywords xs ts) (required_names contract xs) closed (entries xs ts h)
       (λ k. field_found W k xs ts no_members d n h) (required_same xs) v json agree
+
+  -- and with notes
+  pub fields_say : (xs : List Field) (closed : Bool) (s : Data) → AreDistinct xs → AreNoted xs → IsFieldsDocument W contract xs closed s
+      → (v : Data) → IsJson v
+      → ((j : ℕ) (t w : Data) → W j t → IsJson w → depth w < depth v → (judge c t).fits w ≡ verdict (M j w))
+      → (judge c s).fits v ≡ verdict
+      (holds (as_object v) (λ ms. every_member (member_fits M xs closed) ms && has_required contract xs ms))
+  fields_say xs closed s d n h v json agree =
+      ap (λ t. (judge c t).fits v) h.is
+      ∙ (ap (λ j. j.fits v) (judge-noted_by patterns f h.notes (struct_document contract xs h.parts closed) h.are_notes tt)
+      ∙ struct_says xs h.parts closed d n h.written v json agree)

@@ -14,29 +14,38 @@ use Rattle.serde_json.proofs.Views.{get_member-put, get_member-put_other}
 use Rattle.schemars_schema.specs.Verdict.{verdict}
 use Rattle.schemars_json.specs.Json.{Text, IsJson}
 use Rattle.schemars_schema.specs.SchemaData.{IsSchema, put_all}
+use Rattle.schemars_schema.specs.Edits.{without}
 use Rattle.schemars_schema.specs.Acceptance.{Patterns, Judge, Context, judge, read_data, have_all}
 use Rattle.schemars_rewrite.specs.NullLaw.{context2020_12}
 use Rattle.schemars_rewrite.specs.Variants.{unit_variant}
+use Rattle.schemars_rewrite.specs.Properties.{internally_tagged_variant}
 use Rattle.schemars_rewrite.proofs.Nulls.{IsReady, ready-schema}
 use Rattle.schemars_shapes.specs.Shape as shape
-use Rattle.schemars_shapes.specs.Shape.{Shape, Field, Variant, needed}
-use Rattle.schemars_types.specs.Meaning.{Contract, Deserialize, Serialize, has_shape, has_internal, has_tagged, tagged_fits, tagged_fields}
-use Rattle.schemars_types.specs.Meaning.{tagged_closed, is_text, holds, every_member}
+use Rattle.schemars_shapes.specs.Shape.{Field, Fields, Payload, Variant, no_payload, newtype_payload, tuple_payload, struct_payload, needed}
+use Rattle.schemars_types.specs.Meaning.{Contract, Deserialize, Serialize, has_shape, has_internal, has_tagged, has_content, tagged_fits}
+use Rattle.schemars_types.specs.Meaning.{is_text, holds, every_member}
 use Rattle.schemars_types.specs.Meaning.{member_fits, has_required, is_required, none, exactly_one}
 use Rattle.schemars_types.specs.Meaning.{field_named}
 use Rattle.schemars_types.specs.KeyOptions.{key_options}
+use Rattle.schemars_types.specs.Effective.{effective, spread_payload, spread_variant}
 use Rattle.schemars_documents.specs.Documents.{Keyword, annotated, required_names}
 use Rattle.schemars_documents.specs.PlainTable.{IsNoName, AreDistinct, AreNoted, IsNoVariant, AreDistinctVariants, ArePlainVariants}
+use Rattle.schemars_documents.specs.PlainTable.{IsPlainPayload, IsTagged, AreTagged, ArePlainParts, payload_parts, variant_parts}
 use Rattle.schemars_templates.specs.Basis.{Basis}
-use Rattle.schemars_templates.specs.Template.{rows_of, filled, filled_in}
-use Rattle.schemars_templates.specs.OfShape.{templates_of, tagged_template, internal_item, internal_template}
-use Rattle.schemars_meaning.proofs.ByShape.{AreWritten, field_keywords, tagged_document, tagged_fills}
+use Rattle.schemars_templates.specs.Template.{Ask, part, Template, tagged, asks_of, filled, filled_in}
+use Rattle.schemars_templates.specs.OfShape.{templates_of, content_template, internal_item, internal_template}
+use Rattle.schemars_meaning.proofs.MapDocument.{noted_by}
+use Rattle.schemars_meaning.proofs.Spread.{AreWritten, field_keywords, AnswersFields}
+use Rattle.schemars_meaning.proofs.Flattening.{tagged-map, tagged-null}
+use Rattle.schemars_meaning.proofs.Filling.{Fit}
+use Rattle.schemars_meaning.proofs.Flattened.{struct_fills, parts_apart}
+use Rattle.schemars_meaning.proofs.ByShape.{tagged_document}
 use Rattle.schemars_meaning.proofs.Ready.{one_of_ready}
-use Rattle.schemars_meaning.proofs.References.{plain_fields}
+use Rattle.schemars_meaning.proofs.Notes.{judge-noted_by, noted_by-schema}
 use Rattle.schemars_meaning.proofs.Structs.{Finds, field_found, entries, required_same, map_says}
 use Rattle.schemars_meaning.proofs.Maps.{AreEntries}
 use Rattle.schemars_meaning.proofs.Choices.{unit_says}
-use Rattle.schemars_meaning.proofs.Enums.{Fit, Tells, AllTell, one_tells, noted_tells, some_same, and-true}
+use Rattle.schemars_meaning.proofs.Enums.{Tells, AllTell, one_tells, noted_tells, some_same, and-true}
 
 -- ---- null can be added
 
@@ -104,6 +113,30 @@ module _ (contract : Contract) (M : ℕ → Data → Bool) (tag : Text) where
   tagged_told xs closed name (number n) h = absurd (true≢false (sym h))
   tagged_told xs closed name (string s) h = absurd (true≢false (sym h))
   tagged_told xs closed name (array ds) h = absurd (true≢false (sym h))
+
+  -- what is tagged tells its name
+  content_told : (p : Data → Bool) (name : Text) (v : Data) → has_content p tag name v ≡ true → told tag v ≡ Some name
+  unfolding told_in told
+  content_told p name (object ms) h =
+      go (get_member tag ms) (and-true (holds (get_member tag ms) (is_text name)) (p (object (without tag ms))) h).0
+    where
+      go : (o : Option Data) → holds o (is_text name) ≡ true → option_and_then as_str o ≡ Some name
+      go None h = absurd (true≢false (sym h))
+      go (Some w) h = text_is name (as_str w) h
+  content_told p name null h = absurd (true≢false (sym h))
+  content_told p name (boolean b) h = absurd (true≢false (sym h))
+  content_told p name (number n) h = absurd (true≢false (sym h))
+  content_told p name (string s) h = absurd (true≢false (sym h))
+  content_told p name (array ds) h = absurd (true≢false (sym h))
+
+  abbrev inside : Bool → Text → Payload → Data → Bool
+  inside closed name p v = has_internal contract M tag closed v (record { name = name; payload = p; notes = no_members })
+
+  payload_told : (closed : Bool) (name : Text) (p : Payload) (v : Data) → inside closed name p v ≡ true → told tag v ≡ Some name
+  payload_told closed name no_payload v h = tagged_told [] closed name v h
+  payload_told closed name (newtype_payload n) v h = content_told (M n) name v h
+  payload_told closed name (tuple_payload ns) v h = absurd (true≢false (sym h))
+  payload_told closed name (struct_payload y) v h = tagged_told y.list y.closed name v h
 
 -- a test of variants that a value passes under its own name alone
 module _ (P : Variant → Bool) (claimed : Option Text) (claims : (x : Variant) → P x ≡ true → claimed ≡ Some x.name) where
@@ -276,8 +309,12 @@ module _ (W : ℕ → Data → Type 0) (M : ℕ → Data → Bool) (name : Text)
 
 -- ---- what templates say
 
-module _ (patterns : Patterns) (f : Text → Judge) (basis : Basis) (W : ℕ → Data → Type 0) (M : ℕ → Data → Bool)
-    (ready : (j : ℕ) (t : Data) → W j t → IsReady t) where
+module _ (patterns : Patterns) (f : Text → Judge) (basis : Basis) (A : Ask → Data → Type 0) (M : ℕ → Data → Bool)
+    (has : ℕ → List Field) (fields : AnswersFields has basis.rows basis.contract A)
+    (ready : (j : ℕ) (t : Data) → A (part j) t → IsReady t) where
+  abbrev W : ℕ → Data → Type 0
+  W j = A (part j)
+
   abbrev contract : Contract
   contract = basis.contract
 
@@ -317,33 +354,69 @@ module _ (patterns : Patterns) (f : Text → Judge) (basis : Basis) (W : ℕ →
         (names_with_tag tag xs) v json (agree_with_tag name)
         ∙ ap verdict (value_with_tag W M name contract tag xs closed v)
 
-    tagged_tells : (tag name : Text) (xs : List Field) (closed : Bool) → AreDistinct xs → AreNoted xs
-        → Tells patterns f basis W M ready (tagged_template contract tag name xs closed) (has_tagged contract M tag xs closed name v) v
-    tagged_tells tag name xs closed apart noted us fit =
-        let d = tagged_fills W contract tag name xs closed us fit in
-        (subst IsSchema (sym d.2) tt, ap (λ s. (judge c s).fits v) d.2 ∙ document_says tag name xs d.0 closed apart noted d.1)
+    abbrev TellsOf : Template → Bool → Type 0
+    TellsOf t b = Tells patterns f basis A M has fields ready t b v
 
-    items_tell : (tag : Text) (closed : Bool) (xs : List Variant) → ArePlainVariants xs
-        → AllTell patterns f basis W M ready (map (internal_item contract tag closed) xs) (map (has_internal contract M tag closed v) xs) v
-    items_tell tag closed [] plain = tt
-    items_tell tag closed (x ∷ xs) plain =
-        let xs_of = tagged_fields x.payload in
-        let ends = tagged_closed closed x.payload in
-        let own = plain_fields x.payload plain.1 in (
-          noted_tells patterns f basis W M ready x.notes (tagged_template contract tag x.name xs_of ends)
-              (has_internal contract M tag closed v x) v plain.0 (tagged_tells tag x.name xs_of ends own.0 own.1),
-          items_tell tag closed xs plain.2,
+    -- a unit has the tag alone, and a struct its fields too
+    unit_tells : (tag : Text) (closed : Bool) (name : Text)
+        → TellsOf (tagged tag name closed (content_template contract no_payload)) (has_tagged contract M tag [] closed name v)
+    unit_tells tag closed name us fit =
+        let same : filled (tagged tag name closed (content_template contract no_payload)) us
+        ≡ tagged_document contract tag name [] [] closed = tagged-null tag name closed in (
+          subst IsSchema (sym same) tt,
+          ap (λ s. (judge c s).fits v) same ∙ document_says tag name [] [] closed tt tt refl,
         )
 
-    pub internal_says : (tag : Text) (closed : Bool) (xs : List Variant) → AreDistinctVariants xs → ArePlainVariants xs
-        → (us : List Data) → Fit W (rows_of (internal_template contract tag closed xs)) us
+    struct_tells : (tag : Text) (closed : Bool) (name : Text) (x : Fields) → AreDistinct (effective has x) → AreNoted (effective has x)
+        → ArePlainParts basis.rows x.flatten → TellsOf (tagged tag name closed (content_template contract (struct_payload x)))
+        (has_tagged contract M tag (effective has x) x.closed name v)
+    struct_tells tag closed name x apart noted flat us fit =
+        let d = struct_fills A has basis.rows contract fields x flat us fit in
+        let bare = tagged_document contract tag name (effective has x) d.parts x.closed in
+        let same : filled (tagged tag name closed (content_template contract (struct_payload x))) us ≡ noted_by d.notes bare =
+        ap (internally_tagged_variant tag name closed) d.is
+        ∙ tagged-map d.notes tag name closed (field_keywords (effective has x) d.parts) (required_names contract (effective has x))
+        x.closed d.are_notes in (
+          subst IsSchema (sym same) (noted_by-schema d.notes bare tt),
+          ap (λ s. (judge c s).fits v) same
+              ∙ (ap (λ j. j.fits v) (judge-noted_by patterns f d.notes bare d.are_notes tt)
+              ∙ document_says tag name (effective has x) d.parts x.closed apart noted d.written),
+        )
+
+    payload_tells : (tag : Text) (closed : Bool) (name : Text) (p : Payload) → IsPlainPayload (spread_payload has p)
+        → IsTagged tag (spread_payload has p) → ArePlainParts basis.rows (payload_parts p)
+        → TellsOf (tagged tag name closed (content_template contract p)) (inside contract M tag closed name (spread_payload has p) v)
+    payload_tells tag closed name no_payload plain is flat = unit_tells tag closed name
+    payload_tells tag closed name (newtype_payload n) plain is flat = absurd is
+    payload_tells tag closed name (tuple_payload ns) plain is flat = absurd is
+    payload_tells tag closed name (struct_payload x) plain is flat = struct_tells tag closed name x plain.0 plain.1 flat
+
+    abbrev spread_each : Variant → Variant
+    spread_each x = spread_variant has x
+
+    items_tell : (tag : Text) (closed : Bool) (xs : List Variant) → ArePlainVariants (map spread_each xs)
+        → AreTagged tag (map spread_each xs) → ArePlainParts basis.rows (variant_parts xs)
+        → AllTell patterns f basis A M has fields ready (map (internal_item contract tag closed) xs)
+        (map (has_internal contract M tag closed v) (map spread_each xs)) v
+    items_tell tag closed [] plain are flat = tt
+    items_tell tag closed (x ∷ xs) plain are flat =
+        let flats = parts_apart basis.rows (payload_parts x.payload) (variant_parts xs) flat in (
+          noted_tells patterns f basis A M has fields ready x.notes (tagged tag x.name closed (content_template contract x.payload))
+              (has_internal contract M tag closed v (spread_each x)) v plain.0
+              (payload_tells tag closed x.name x.payload plain.1 are.0 flats.0),
+          items_tell tag closed xs plain.2 are.1 flats.1,
+        )
+
+    pub internal_says : (tag : Text) (closed : Bool) (xs : List Variant) → AreDistinctVariants (map spread_each xs)
+        → ArePlainVariants (map spread_each xs) → AreTagged tag (map spread_each xs) → ArePlainParts basis.rows (variant_parts xs)
+        → (us : List Data) → Fit A (asks_of (internal_template contract tag closed xs)) us
         → (judge c (filled (internal_template contract tag closed xs) us)).fits v
-        ≡ verdict (has_shape contract patterns (key_options basis.rows) M (shape.internal tag closed xs) v)
+        ≡ verdict (has_shape contract patterns (key_options basis.rows) M (shape.internal tag closed (map spread_each xs)) v)
     unfolding read_data
-    internal_says tag closed [] apart plain us fit = refl
-    internal_says tag closed (x ∷ xs) apart plain us fit =
+    internal_says tag closed [] apart plain are flat us fit = refl
+    internal_says tag closed (x ∷ xs) apart plain are flat us fit =
         let P : Variant → Bool = has_internal contract M tag closed v in
-        (one_tells patterns f basis W M ready (map (internal_item contract tag closed) (x ∷ xs)) (map P (x ∷ xs)) v
-        (items_tell tag closed (x ∷ xs) plain) us fit).1
-        ∙ ap verdict (one_if_any P (told tag v)
-        (λ y h. tagged_told contract M tag (tagged_fields y.payload) (tagged_closed closed y.payload) y.name v h) (x ∷ xs) apart)
+        let ys : List Variant = map spread_each (x ∷ xs) in
+        (one_tells patterns f basis A M has fields ready (map (internal_item contract tag closed) (x ∷ xs)) (map P ys) v
+        (items_tell tag closed (x ∷ xs) plain are flat) us fit).1
+        ∙ ap verdict (one_if_any P (told tag v) (λ y h. payload_told contract M tag closed y.name y.payload v h) ys apart)

@@ -1,13 +1,16 @@
 -- The edges of a table lie among its rows, and a graph of targets has the same walks.
-use Rattle.std.proofs.Common.{◌≡◌, ◌<◌, ◌∙◌, ◌⊎◌, inl, inr, ℕ, zero, suc, List, [], ◌∷◌, Bool, true, false, Option}
+use Rattle.std.proofs.Common.{◌≡◌, ◌<◌, ◌∙◌, ◌⊎◌, inl, inr, ℕ, zero, suc, List, [], ◌∷◌, ◌++◌, Bool, true, false, Option}
 use Rattle.std.proofs.Common.{Some, None, length, filter, cond, Contains, nat_lt, MatchOption, refl, sym, ap, subst}
-use Rattle.std.proofs.Common.{arith, true≢false}
-use Rattle.std.specs.Prelude.{◌&&◌, ◌||◌}
+use Rattle.std.proofs.Common.{arith, true≢false, append_assoc, append-nil}
+use Rattle.std.specs.Option.{option_map_or}
 use Rattle.std.proofs.lemmas.Bool.Decides.{Decides-ltb}
-use Rattle.schemars_rows.specs.Rows.{Row}
+use Rattle.std.proofs.lemmas.List.Elements.{Contains-append_left, Contains-append_right, Contains-append_cases}
+use Rattle.schemars_shapes.specs.Shape.{Entry, numbers_of, same_value_numbers}
+use Rattle.schemars_rows.specs.Rows.{Row, entry_at}
 use Rattle.schemars_cycles.specs.Walks.{Leads, OnCycle, IsFree, IsLeast}
 use Rattle.schemars_cycles.specs.Search.{Graph, targets_in, IsClosed, HasTargets}
-use Rattle.schemars_rows.specs.Edges.{numbers_at, is_inline_at, is_key_at, is_direct, same_value_numbers_at}
+use Rattle.schemars_rows.specs.Edges.{numbers_at, is_inline_at, asked_in, asked_at, is_row, DirectEdge, same_value_numbers_at}
+use Rattle.schemars_rows.specs.Edges.{option_at, below_within}
 use Rattle.schemars_rows.specs.EdgeKind.{targets_along}
 use Rattle.schemars_rows.specs.declared.faults.EdgeKind.{EdgeKind}
 use Rattle.schemars_rows.specs.declared.faults.EdgeKind.TheVariants.{Direct, SameValue}
@@ -41,15 +44,11 @@ Contains-filtered test (x ∷ xs) m among t = by (test x) refl (Contains-cons x 
     by false e (inl same) rest = absurd (true≢false (sym t ∙ ap test (sym same) ∙ e))
     by false e (inr later) rest = rest later
 
-numbers_within : (rows : List Row) (n m : ℕ) → Contains (numbers_at rows n) m → n < length rows
-numbers_within [] n m (k, below, is) = absurd (omega arith)
-numbers_within (r ∷ rows) zero m among = omega arith
-numbers_within (r ∷ rows) (suc n) m among = omega (arith, numbers_within rows n m among)
-
-same_value_within : (rows : List Row) (n m : ℕ) → Contains (same_value_numbers_at rows n) m → n < length rows
-same_value_within [] n m (k, below, is) = absurd (omega arith)
-same_value_within (r ∷ rows) zero m among = omega arith
-same_value_within (r ∷ rows) (suc n) m among = omega (arith, same_value_within rows n m among)
+-- where an entry says something of row n, row n is in the table
+entry_within : (f : Entry → List ℕ) (rows : List Row) (n m : ℕ) → Contains (option_map_or f (entry_at rows n) []) m → n < length rows
+entry_within f [] n m (k, below, is) = absurd (omega arith)
+entry_within f (r ∷ rows) zero m among = omega arith
+entry_within f (r ∷ rows) (suc n) m among = omega (arith, entry_within f rows n m among)
 
 inline_within : (rows : List Row) (m : ℕ) → is_inline_at rows m ≡ true → m < length rows
 inline_within [] m h = cc
@@ -62,25 +61,50 @@ nat_lt-below m n h = (Decides-ltb m n).0 h
 pub below-nat_lt : (m n : ℕ) → m < n → nat_lt m n ≡ true
 below-nat_lt m n h = (Decides-ltb m n).1 h
 
-direct_within : (rows : List Row) (n m : ℕ) → is_direct rows n m ≡ true → m < length rows
-direct_within rows n m h = go (is_inline_at rows m) refl h
-  where
-    first : (a b : Bool) → a && b ≡ true → a ≡ true
-    first true b h = refl
-    first false b h = h
+-- the ends of direct edges, one way and the other
+pub to_direct : (rows : List Row) (n m : ℕ) → Contains (targets_along Direct rows n) m → DirectEdge rows n m
+to_direct rows n m among = elim (Contains-append_cases (filter (is_inline_at rows) (numbers_at rows n)) (filter (is_row rows) (asked_at rows n)) m among) [
+  | inl c ↦ inl (Contains-filter (is_inline_at rows) (numbers_at rows n) m c)
+  | inr c ↦ let (d, t) = Contains-filter (is_row rows) (asked_at rows n) m c in inr (d, nat_lt-below m (length rows) t)
+]
 
-    go : (b : Bool) → is_inline_at rows m ≡ b → b || is_key_at rows n m ≡ true → m < length rows
-    go true inline h = inline_within rows m inline
-    go false inline h = nat_lt-below m (length rows) (first (nat_lt m (length rows)) _ h)
+pub from_direct : (rows : List Row) (n m : ℕ) → DirectEdge rows n m → Contains (targets_along Direct rows n) m
+from_direct rows n m (inl e) = Contains-append_left (filter (is_inline_at rows) (numbers_at rows n)) (filter (is_row rows) (asked_at rows n)) m
+    (Contains-filtered (is_inline_at rows) (numbers_at rows n) m e.0 e.1)
+from_direct rows n m (inr e) = Contains-append_right (filter (is_inline_at rows) (numbers_at rows n)) (filter (is_row rows) (asked_at rows n)) m
+    (Contains-filtered (is_row rows) (asked_at rows n) m e.0 (below-nat_lt m (length rows) e.1))
 
 -- both ends of an edge are rows
 pub ends_within : (kind : EdgeKind) (rows : List Row) (n m : ℕ) → Contains (targets_along kind rows n) m
     → (n < length rows) × (m < length rows)
-ends_within Direct rows n m among = let (c, t) = Contains-filter (is_direct rows n) (numbers_at rows n) m among in
-    (numbers_within rows n m c, direct_within rows n m t)
+ends_within Direct rows n m among = elim (to_direct rows n m among) [
+  | inl e ↦ (entry_within (λ e. numbers_of e.shape) rows n m e.0, inline_within rows m e.1)
+  | inr e ↦ (entry_within (λ e. asked_in rows e.shape) rows n m e.0, e.1)
+]
 ends_within SameValue rows n m among =
-    let (c, t) = Contains-filter (λ k. nat_lt k (length rows)) (same_value_numbers_at rows n) m among in
-    (same_value_within rows n m c, nat_lt-below m (length rows) t)
+    let (c, t) = Contains-filter (is_row rows) (same_value_numbers_at rows n) m among in
+    (entry_within (λ e. same_value_numbers e.shape) rows n m c, nat_lt-below m (length rows) t)
+
+-- ---- the rows below a row
+
+pub below_none : (rows : List Row) (steps n : ℕ) → None ≡ option_at rows n → below_within rows steps n ≡ []
+below_none rows zero n none = refl
+below_none rows (suc steps) n none = ap (λ o. option_map_or (λ m. m ∷ below_within rows steps m) o []) (sym none)
+
+pub below_some : (rows : List Row) (steps n m : ℕ) → Some m ≡ option_at rows n
+    → below_within rows (suc steps) n ≡ m ∷ below_within rows steps m
+below_some rows steps n m some = ap (λ o. option_map_or (λ k. k ∷ below_within rows steps k) o []) (sym some)
+
+-- what is below joins what was found
+pub below_joins : (found : List ℕ) (rows : List Row) (steps n m : ℕ) (all : List ℕ)
+    → Some m ≡ option_at rows n → found ++ below_within rows (suc steps) n ≡ all → (found ++ m ∷ []) ++ below_within rows steps m ≡ all
+below_joins found rows steps n m all some is =
+    append_assoc found (m ∷ []) (below_within rows steps m) ∙ (ap (λ ms. found ++ ms) (sym (below_some rows steps n m some)) ∙ is)
+
+pub none_joins : (found : List ℕ) (rows : List Row) (steps n : ℕ) (all : List ℕ)
+    → None ≡ option_at rows n → found ++ below_within rows steps n ≡ all → found ≡ all
+none_joins found rows steps n all none is =
+    sym (append-nil found) ∙ (ap (λ ms. found ++ ms) (sym (below_none rows steps n none)) ∙ is)
 
 -- ---- the graph of a table
 

@@ -1,25 +1,27 @@
 //! The faults of a table.
-ghost use Rattle.std.specs.Prelude.{◌≡◌, ◌<◌, ℕ, length, map, None, IfOk, MatchOption, string_bytes};
+ghost use Rattle.std.specs.Prelude.{◌≡◌, ◌<◌, ◌++◌, ℕ, length, map, filter, None, IfOk, OnOk, MatchOption, string_bytes};
+ghost use Rattle.schemars_shapes.specs.Shape.{shape_of, numbers_of};
 ghost use Rattle.schemars_cycles.specs.Walks.{Leads, OnCycle, IsFree, IsLeast};
 ghost use Rattle.schemars_cycles.specs.Search.{HasTargets};
 ghost use Rattle.schemars_shapes.specs.Repeated.{AreDistinctLists, IsFirstRepeated};
 ghost use Rattle.schemars_rows.specs.Slots.{row_of};
-ghost use Rattle.schemars_rows.specs.Edges.{is_inline_at, is_key_at, names_at};
-ghost use Rattle.schemars_rows.specs.EdgeKind.{numbers_along, leads_to, targets_along};
+ghost use Rattle.schemars_rows.specs.Edges.{is_inline_at, is_row, asked_in, below, option_at, names_at};
+ghost use Rattle.schemars_rows.specs.EdgeKind.{targets_along};
 ghost use Rattle.schemars_rows.specs.Undefined.{IsUndefined};
 
 use crate::slots::{Slot, count, entry};
 use indexmap::IndexMap;
 use schemars_cycles::least_on_cycle;
-use schemars_shapes::TypeNo;
+use schemars_shapes::{Shape, TypeNo};
 use std::alloc::{AllocError, Global};
 
 /// Which edges are followed from row to row.
 #[derive(Clone, Copy)]
 pub enum EdgeKind {
-    /// to the rows that are written in place, and to that of a map's keys
+    /// to the rows that are asked at once: those that are written in place, that of a map's keys,
+    /// and those whose members stand in a row's own maps
     Direct,
-    /// to the row whose values a row has
+    /// to the rows whose values, or whose members, a row has
     SameValue,
 }
 
@@ -108,48 +110,105 @@ fn targets(
 ) -> Result<Vec<TypeNo>, AllocError>
     ensures { IfOk result (λ v. v.items ≡ targets_along kind (map row_of slots.now.entries) n) }
 {
-    numbers(alloc, slots, kind, n)?
-        .into_iter()
-        .filter(|m| leads_to(slots, kind, n, *m))
-        .collect(alloc)
-}
-
-fn numbers(
-    alloc: Global,
-    slots: &IndexMap<String, Slot>,
-    kind: EdgeKind,
-    n: TypeNo,
-) -> Result<Vec<TypeNo>, AllocError>
-    ensures { IfOk result (λ v. v.items ≡ numbers_along kind (map row_of slots.now.entries) n) }
-{
     let Some(entry) = entry(slots, n) else {
         return Ok(Vec::new(alloc));
     };
     match kind {
-        EdgeKind::Direct => entry.shape.numbers(alloc),
-        EdgeKind::SameValue => entry.shape.same_value_numbers(alloc),
+        EdgeKind::Direct => direct_targets(alloc, slots, &entry.shape),
+        EdgeKind::SameValue => {
+            let numbers = entry.shape.same_value_numbers(alloc)?;
+            rows_among(alloc, slots, numbers)
+        }
     }
 }
 
-fn leads_to(slots: &IndexMap<String, Slot>, kind: EdgeKind, n: TypeNo, m: TypeNo) -> bool
-    ensures { result ≡ leads_to kind (map row_of slots.now.entries) n m }
+fn direct_targets(
+    alloc: Global,
+    slots: &IndexMap<String, Slot>,
+    shape: &Shape,
+) -> Result<Vec<TypeNo>, AllocError>
+    ensures { IfOk result (λ v. v.items
+        ≡ filter (is_inline_at (map row_of slots.now.entries)) (numbers_of (shape_of shape.now))
+        ++ filter (is_row (map row_of slots.now.entries))
+        (asked_in (map row_of slots.now.entries) (shape_of shape.now))) }
 {
-    match kind {
-        EdgeKind::Direct => is_inline(slots, m) || is_key(slots, n, m),
-        EdgeKind::SameValue => m < count(slots),
-    }
+    let mut targets = in_place_among(alloc, slots, shape.numbers(alloc)?)?;
+    let mut asked = rows_among(alloc, slots, asked(alloc, slots, shape)?)?;
+    targets.append(&mut asked)?;
+    Ok(targets)
 }
 
-// Whether row `m` is that of the keys of row `n`.
-fn is_key(slots: &IndexMap<String, Slot>, n: TypeNo, m: TypeNo) -> bool
-    ensures { result ≡ is_key_at (map row_of slots.now.entries) n m }
+// Those of these numbers that are numbers of rows in place.
+fn in_place_among(
+    alloc: Global,
+    slots: &IndexMap<String, Slot>,
+    numbers: Vec<TypeNo>,
+) -> Result<Vec<TypeNo>, AllocError>
+    ensures { IfOk result (λ v. v.items ≡ filter (is_inline_at (map row_of slots.now.entries)) numbers.items) }
 {
-    let Some(entry) = entry(slots, n) else {
-        return false;
-    };
-    match entry.shape.key() {
-        Some(key) => m < count(slots) && key == m,
-        None => false,
+    numbers
+        .into_iter()
+        .filter(|m| is_inline(slots, *m))
+        .collect(alloc)
+}
+
+// Those of these numbers that are numbers of rows.
+fn rows_among(
+    alloc: Global,
+    slots: &IndexMap<String, Slot>,
+    numbers: Vec<TypeNo>,
+) -> Result<Vec<TypeNo>, AllocError>
+    ensures { IfOk result (λ v. v.items ≡ filter (is_row (map row_of slots.now.entries)) numbers.items) }
+{
+    numbers
+        .into_iter()
+        .filter(|m| *m < count(slots))
+        .collect(alloc)
+}
+
+// The rows that a shape asks, whether they are written in place or not.
+fn asked(
+    alloc: Global,
+    slots: &IndexMap<String, Slot>,
+    shape: &Shape,
+) -> Result<Vec<TypeNo>, AllocError>
+    ensures { IfOk result (λ v. v.items
+        ≡ asked_in (map row_of slots.now.entries) (shape_of shape.now)) }
+{
+    let mut asked = shape.asked_numbers(alloc)?;
+    let flattened = shape.flattened_numbers(alloc)?;
+    for n in &flattened {
+        add_below(slots, *n, &mut asked)?;
+    }
+    Ok(asked)
+}
+
+// Adds the rows below row `n` through Options.
+fn add_below(
+    slots: &IndexMap<String, Slot>,
+    n: TypeNo,
+    rows: &mut Vec<TypeNo>,
+) -> Result<(), AllocError>
+    ensures { OnOk result (rows.new.items ≡ rows.old.items ++ below (map row_of slots.now.entries) n) }
+{
+    let mut at = n;
+    for _step in 0..count(slots) {
+        let Some(inner) = option(slots, at) else {
+            return Ok(());
+        };
+        rows.push(inner)?;
+        at = inner;
+    }
+    Ok(())
+}
+
+// The row in row `n`, an Option.
+fn option(slots: &IndexMap<String, Slot>, n: TypeNo) -> Option<TypeNo>
+    ensures { result ≡ option_at (map row_of slots.now.entries) n }
+{
+    match entry(slots, n) {
+        Some(entry) => entry.shape.option(),
+        None => None,
     }
 }
 

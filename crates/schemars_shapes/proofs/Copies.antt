@@ -5,9 +5,10 @@ use Rattle.serde_json.specs.Data.{member}
 use Rattle.serde_json.specs.View.{view, members_view}
 use Rattle.serde_json.proofs.Views.{Entry}
 use Rattle.schemars_shapes.specs.declared.shape.Field as src-field
+use Rattle.schemars_shapes.specs.declared.shape.Flattened as src-flattened
 use Rattle.schemars_shapes.specs.declared.variant.Variant as src-variant
 use Rattle.schemars_shapes.specs.declared.variant.InternalVariant as src-internal_variant
-use Rattle.schemars_shapes.specs.Shape.{field_of, variant_of, internal_variant_of}
+use Rattle.schemars_shapes.specs.Shape.{field_of, flattened_of, variant_of, internal_variant_of}
 
 pub members_view-copied : (es fs : List Entry) → AllZip (λ p q. (string_bytes q.0 ≡ string_bytes p.0) × (view q.1 ≡ view p.1)) es fs
     → members_view fs ≡ members_view es
@@ -32,3 +33,9 @@ map_variant_of_copied xs ys h = map_copied variant_of xs ys h
 pub map_internal_variant_of_copied : (xs ys : List src-internal_variant.InternalVariant)
     → AllZip (λ x y. internal_variant_of y ≡ internal_variant_of x) xs ys → map internal_variant_of ys ≡ map internal_variant_of xs
 map_internal_variant_of_copied xs ys h = map_copied internal_variant_of xs ys h
+
+pub map_flattened_of_copied : (ps qs : List src-flattened.Flattened) → AllZip (λ p q. q ≡ p) ps qs → map flattened_of qs ≡ map flattened_of ps
+map_flattened_of_copied [] [] h = refl
+map_flattened_of_copied (p ∷ ps) (q ∷ qs) h = λ i. flattened_of (h.0 i) ∷ map_flattened_of_copied ps qs h.1 i
+map_flattened_of_copied [] (q ∷ qs) h = absurd h
+map_flattened_of_copied (p ∷ ps) [] h = absurd h

@@ -11,13 +11,14 @@ use Rattle.schemars_json.specs.Json.{num_eq, json_eq, items_eq, members_eq}
 use Rattle.schemars_shapes.specs.contracts.shape.IntKind.{the_type}
 use Rattle.schemars_shapes.specs.declared.shape.IntKind.{IntKind}
 use Rattle.schemars_shapes.specs.IntKind.{kind_eq}
-use Rattle.schemars_shapes.specs.Shape.{Required, Field, Shape, Entry, null, bool, int, non_zero, number}
+use Rattle.std.specs.Cmp.Lexicographic.{pointwise}
+use Rattle.schemars_shapes.specs.Shape.{Required, Field, Flattened, Fields, Shape, Entry, null, bool, int, non_zero, number}
 use Rattle.schemars_shapes.specs.Shape.{text, char, formatted, any, bytes, schema_itself, option, seq, set}
 use Rattle.schemars_shapes.specs.Shape.{array as array_shape, up_to, tuple, struct, newtype}
 use Rattle.schemars_shapes.specs.Shape.{result, bound, range, either, map_from, external}
 use Rattle.schemars_shapes.specs.Shape.{untagged, internal, literal, Payload, Variant, no_payload, newtype_payload}
 use Rattle.schemars_shapes.specs.Shape.{tuple_payload, struct_payload}
-use Rattle.schemars_shapes.specs.Equality.{bool_eq, required_eq, field_eq, list_eq, payload_eq, variant_eq, variants_eq, shape_eq, entry_eq}
+use Rattle.schemars_shapes.specs.Equality.{bool_eq, required_eq, field_eq, flattened_eq, fields_eq, list_eq, payload_eq, variant_eq, variants_eq, shape_eq, entry_eq}
 
 and_left : (a b : Bool) → (a && b) ≡ true → a ≡ true
 and_left true b h = refl
@@ -103,13 +104,34 @@ same_number m n h = (Decides-eqb m n).0 h
 same_two : (l m n o : ℕ) → (l == m && n == o) ≡ true → (l ≡ m) × (n ≡ o)
 same_two l m n o h = (same_number l m (and_left (l == m) (n == o) h), same_number n o (and_right (l == m) (n == o) h))
 
+same_flattened : (ps qs : List Flattened) → pointwise flattened_eq ps qs ≡ true → ps ≡ qs
+same_flattened [] [] h = refl
+same_flattened (p ∷ ps) (q ∷ qs) h =
+    let now : flattened_eq p q ≡ true = and_left (flattened_eq p q) (pointwise flattened_eq ps qs) h in
+    let ty : p.ty ≡ q.ty = same_number p.ty q.ty (and_left (p.ty == q.ty) (required_eq p.required q.required) now) in
+    let required : p.required ≡ q.required = same_required p.required q.required
+    (and_right (p.ty == q.ty) (required_eq p.required q.required) now) in
+    λ i. record { ty = ty i; required = required i }
+    ∷ same_flattened ps qs (and_right (flattened_eq p q) (pointwise flattened_eq ps qs) h) i
+same_flattened ps qs h = cc
+
+same_fields : (a b : Fields) → fields_eq a b ≡ true → a ≡ b
+same_fields a b h =
+    let rest : (list_eq a.list b.list && pointwise flattened_eq a.flatten b.flatten) ≡ true =
+    and_right (bool_eq a.closed b.closed) (list_eq a.list b.list && pointwise flattened_eq a.flatten b.flatten) h in
+    let closed : a.closed ≡ b.closed = same_bool a.closed b.closed (and_left (bool_eq a.closed b.closed)
+    (list_eq a.list b.list && pointwise flattened_eq a.flatten b.flatten) h) in
+    let list : a.list ≡ b.list = same_list a.list b.list
+    (and_left (list_eq a.list b.list) (pointwise flattened_eq a.flatten b.flatten) rest) in
+    let flatten : a.flatten ≡ b.flatten = same_flattened a.flatten b.flatten
+    (and_right (list_eq a.list b.list) (pointwise flattened_eq a.flatten b.flatten) rest) in
+    λ i. record { list = list i; flatten = flatten i; closed = closed i }
+
 same_payload : (p q : Payload) → payload_eq p q ≡ true → p ≡ q
 same_payload no_payload no_payload h = refl
 same_payload (newtype_payload m) (newtype_payload n) h = ap newtype_payload (same_number m n h)
 same_payload (tuple_payload ms) (tuple_payload ns) h = ap tuple_payload ((bytes_eq-Decides ms ns).0 h)
-same_payload (struct_payload fs closed) (struct_payload gs sealed) h = λ i. struct_payload
-    (same_list fs gs (and_right (bool_eq closed sealed) (list_eq fs gs) h) i)
-    (same_bool closed sealed (and_left (bool_eq closed sealed) (list_eq fs gs) h) i)
+same_payload (struct_payload a) (struct_payload b) h = ap struct_payload (same_fields a b h)
 same_payload p q h = cc
 
 same_variant : (x y : Variant) → variant_eq x y ≡ true → x ≡ y
@@ -148,9 +170,7 @@ same_shape (set m) (set n) h = ap set (same_number m n h)
 same_shape (array_shape m len) (array_shape n count) h = let both = same_two m n len count h in λ i. array_shape (both.0 i) (both.1 i)
 same_shape (up_to m len) (up_to n count) h = let both = same_two m n len count h in λ i. up_to (both.0 i) (both.1 i)
 same_shape (tuple ms) (tuple ns) h = ap tuple ((bytes_eq-Decides ms ns).0 h)
-same_shape (struct fs closed) (struct gs sealed) h = λ i. struct
-    (same_list fs gs (and_right (bool_eq closed sealed) (list_eq fs gs) h) i)
-    (same_bool closed sealed (and_left (bool_eq closed sealed) (list_eq fs gs) h) i)
+same_shape (struct a) (struct b) h = ap struct (same_fields a b h)
 same_shape (newtype m) (newtype n) h = ap newtype (same_number m n h)
 same_shape (result m e) (result n f) h = let both = same_two m n e f h in λ i. result (both.0 i) (both.1 i)
 same_shape (bound m) (bound n) h = ap bound (same_number m n h)

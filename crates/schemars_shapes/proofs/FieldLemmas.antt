@@ -18,7 +18,9 @@ use Rattle.schemars_shapes.specs.declared.shape.Field as src-field
 use Rattle.schemars_shapes.specs.declared.shape.Fields as src-fields
 use Rattle.schemars_shapes.specs.declared.variant.Payload as src-payload
 use Rattle.schemars_shapes.specs.declared.variant.Payload.TheVariants as payload
-use Rattle.schemars_shapes.specs.Shape.{field_of, payload_of, payload_names}
+use Rattle.schemars_shapes.specs.declared.variant.InternalPayload as src-internal_payload
+use Rattle.schemars_shapes.specs.declared.variant.InternalPayload.TheVariants as inside
+use Rattle.schemars_shapes.specs.Shape.{field_of, payload_of, internal_payload_of, payload_names}
 use Rattle.schemars_shapes.specs.Repeated.{IsRepeated}
 
 pub map-ty : (fs : List src-field.Field) → map (λ f. f.ty) fs ≡ map (λ f. f.ty) (map field_of fs)
@@ -129,3 +131,10 @@ no_fields (payload.Struct fields) other = absurd (other fields refl)
 no_fields payload.Unit other = tt
 no_fields (payload.Newtype n) other = tt
 no_fields (payload.Tuple ns) other = tt
+
+pub no_inside_fields : (p : src-internal_payload.InternalPayload)
+    → ((fields : src-fields.Fields) → p ≡ inside.Struct fields → ⊥) → IsDistinct bytes_eq (payload_names (internal_payload_of p))
+unfolding IsDistinct
+no_inside_fields (inside.Struct fields) other = absurd (other fields refl)
+no_inside_fields inside.Unit other = tt
+no_inside_fields (inside.Newtype n) other = tt

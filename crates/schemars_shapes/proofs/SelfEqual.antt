@@ -12,12 +12,13 @@ use Rattle.schemars_json.specs.Json.{num_eq, json_eq, items_eq, members_eq}
 use Rattle.schemars_shapes.specs.contracts.shape.IntKind.{the_type}
 use Rattle.schemars_shapes.specs.declared.shape.IntKind.{IntKind}
 use Rattle.schemars_shapes.specs.IntKind.{kind_eq}
-use Rattle.schemars_shapes.specs.Shape.{Field, Shape, Entry, null, bool, int, non_zero, number, text, char, formatted}
+use Rattle.std.specs.Cmp.Lexicographic.{pointwise}
+use Rattle.schemars_shapes.specs.Shape.{Field, Flattened, Fields, Shape, Entry, null, bool, int, non_zero, number, text, char, formatted}
 use Rattle.schemars_shapes.specs.Shape.{any, bytes, schema_itself, option, seq, set, array as array_shape, up_to, tuple}
 use Rattle.schemars_shapes.specs.Shape.{struct, newtype, result, bound, range, either, map_from, external, untagged}
 use Rattle.schemars_shapes.specs.Shape.{internal, literal}
 use Rattle.schemars_shapes.specs.Shape.{Payload, Variant, no_payload, newtype_payload, tuple_payload, struct_payload}
-use Rattle.schemars_shapes.specs.Equality.{bool_eq, field_eq, list_eq, payload_eq, variants_eq, shape_eq, entry_eq}
+use Rattle.schemars_shapes.specs.Equality.{bool_eq, field_eq, flattened_eq, fields_eq, list_eq, payload_eq, variants_eq, shape_eq, entry_eq}
 use Rattle.schemars_shapes.specs.Decimals.{fields_have_float, payload_has_float, variants_have_float, shape_has_float, entry_has_float}
 
 pub neither : (a b : Bool) → a || b ≡ false → (a ≡ false) × (b ≡ false)
@@ -72,11 +73,23 @@ list_eq-refl (f ∷ fs) h = let parts = neither (members_have_float f.notes) (fi
 kind_eq-refl : (k : IntKind) → kind_eq k k ≡ true
 kind_eq-refl k = true_same the_type k k refl
 
+flattened_eq-refl : (ps : List Flattened) → pointwise flattened_eq ps ps ≡ true
+flattened_eq-refl [] = refl
+flattened_eq-refl (p ∷ ps) = rw (
+  (Decides-eqb p.ty p.ty).1 refl,
+  bool_eq-refl p.required.deserialize,
+  bool_eq-refl p.required.serialize,
+  flattened_eq-refl ps,
+) refl
+
+fields_eq-refl : (x : Fields) → fields_have_float x.list ≡ false → fields_eq x x ≡ true
+fields_eq-refl x h = rw (bool_eq-refl x.closed, list_eq-refl x.list h, flattened_eq-refl x.flatten) refl
+
 payload_eq-refl : (p : Payload) → payload_has_float p ≡ false → payload_eq p p ≡ true
 payload_eq-refl no_payload h = refl
 payload_eq-refl (newtype_payload n) h = rw ((Decides-eqb n n).1 refl) refl
 payload_eq-refl (tuple_payload ns) h = rw ((bytes_eq-Decides ns ns).1 refl) refl
-payload_eq-refl (struct_payload list closed) h = rw (bool_eq-refl closed, list_eq-refl list h) refl
+payload_eq-refl (struct_payload x) h = fields_eq-refl x h
 
 variants_eq-refl : (xs : List Variant) → variants_have_float xs ≡ false → variants_eq xs xs ≡ true
 variants_eq-refl [] h = refl
@@ -108,7 +121,7 @@ shape_eq-refl (set n) h = rw ((Decides-eqb n n).1 refl) refl
 shape_eq-refl (array_shape n len) h = rw ((Decides-eqb n n).1 refl, (Decides-eqb len len).1 refl) refl
 shape_eq-refl (up_to n cap) h = rw ((Decides-eqb n n).1 refl, (Decides-eqb cap cap).1 refl) refl
 shape_eq-refl (tuple ns) h = rw ((bytes_eq-Decides ns ns).1 refl) refl
-shape_eq-refl (struct list closed) h = rw (bool_eq-refl closed, list_eq-refl list h) refl
+shape_eq-refl (struct x) h = fields_eq-refl x h
 shape_eq-refl (newtype n) h = rw ((Decides-eqb n n).1 refl) refl
 shape_eq-refl (result n m) h = rw ((Decides-eqb n n).1 refl, (Decides-eqb m m).1 refl) refl
 shape_eq-refl (bound n) h = rw ((Decides-eqb n n).1 refl) refl

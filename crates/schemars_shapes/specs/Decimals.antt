@@ -9,7 +9,7 @@ fields_have_float [] = false
 fields_have_float (f ∷ fs) = members_have_float f.notes || fields_have_float fs
 
 abbrev pub payload_has_float : Payload → Bool
-payload_has_float (struct_payload list closed) = fields_have_float list
+payload_has_float (struct_payload x) = fields_have_float x.list
 payload_has_float _ = false
 
 abbrev pub variants_have_float : List Variant → Bool
@@ -17,7 +17,7 @@ variants_have_float [] = false
 variants_have_float (x ∷ xs) = (members_have_float x.notes || payload_has_float x.payload) || variants_have_float xs
 
 abbrev pub shape_has_float : Shape → Bool
-shape_has_float (struct list closed) = fields_have_float list
+shape_has_float (struct x) = fields_have_float x.list
 shape_has_float (external xs) = variants_have_float xs
 shape_has_float (untagged xs) = variants_have_float xs
 shape_has_float (internal tag closed xs) = variants_have_float xs

@@ -3,7 +3,7 @@ use Rattle.std.specs.Prelude.{◌==◌, ◌&&◌, List, Bool, true, false, not, 
 use Rattle.std.specs.Cmp.Lexicographic.{pointwise}
 use Rattle.schemars_json.specs.Json.{json_eq, members_eq}
 use Rattle.schemars_shapes.specs.IntKind.{kind_eq}
-use Rattle.schemars_shapes.specs.Shape.{Required, Field, Shape, Entry, null, bool, int, non_zero, number, text, char}
+use Rattle.schemars_shapes.specs.Shape.{Required, Field, Flattened, Fields, Shape, Entry, null, bool, int, non_zero, number, text, char}
 use Rattle.schemars_shapes.specs.Shape.{formatted, any, bytes, schema_itself, option, seq, set, array, up_to, tuple}
 use Rattle.schemars_shapes.specs.Shape.{struct, newtype, result, bound, range, either, map_from, external, untagged}
 use Rattle.schemars_shapes.specs.Shape.{internal, literal}
@@ -23,11 +23,17 @@ field_eq a b = bytes_eq a.name b.name && (a.ty == b.ty && (required_eq a.require
 abbrev pub list_eq : List Field → List Field → Bool
 list_eq = pointwise field_eq
 
+abbrev pub flattened_eq : Flattened → Flattened → Bool
+flattened_eq a b = (a.ty == b.ty) && required_eq a.required b.required
+
+abbrev pub fields_eq : Fields → Fields → Bool
+fields_eq a b = bool_eq a.closed b.closed && (list_eq a.list b.list && pointwise flattened_eq a.flatten b.flatten)
+
 abbrev pub payload_eq : Payload → Payload → Bool
 payload_eq no_payload no_payload = true
 payload_eq (newtype_payload m) (newtype_payload n) = m == n
 payload_eq (tuple_payload ms) (tuple_payload ns) = pointwise nat_eq ms ns
-payload_eq (struct_payload fs closed) (struct_payload gs sealed) = bool_eq closed sealed && list_eq fs gs
+payload_eq (struct_payload a) (struct_payload b) = fields_eq a b
 payload_eq _ _ = false
 
 abbrev pub variant_eq : Variant → Variant → Bool
@@ -55,7 +61,7 @@ shape_eq (set m) (set n) = m == n
 shape_eq (array m len) (array n count) = (m == n) && (len == count)
 shape_eq (up_to m len) (up_to n count) = (m == n) && (len == count)
 shape_eq (tuple ms) (tuple ns) = pointwise nat_eq ms ns
-shape_eq (struct fs closed) (struct gs sealed) = bool_eq closed sealed && list_eq fs gs
+shape_eq (struct a) (struct b) = fields_eq a b
 shape_eq (newtype m) (newtype n) = m == n
 shape_eq (result m e) (result n f) = (m == n) && (e == f)
 shape_eq (bound m) (bound n) = m == n

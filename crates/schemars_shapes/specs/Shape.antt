@@ -6,6 +6,7 @@ use Rattle.schemars_json.specs.Json.{Text}
 use Rattle.schemars_shapes.specs.declared.shape.IntKind.{IntKind}
 use Rattle.schemars_shapes.specs.declared.shape.Required as src-required
 use Rattle.schemars_shapes.specs.declared.shape.Field as src-field
+use Rattle.schemars_shapes.specs.declared.shape.Flattened as src-flattened
 use Rattle.schemars_shapes.specs.declared.shape.Fields as src-fields
 use Rattle.schemars_shapes.specs.declared.shape.TypeEntry as src-entry
 use Rattle.schemars_shapes.specs.declared.variant.Variant as src-variant
@@ -29,23 +30,32 @@ pub record Field : Type 0 where
   pub required : Required
   pub notes : Members
 
+-- a row whose members stand in the map itself, and whether they have to be there
+pub record Flattened : Type 0 where
+  pub ty : ℕ
+  pub required : Required
+
+-- the fields of a struct, in order, the rows flattened into it, and whether it is closed to other keys
+pub record Fields : Type 0 where
+  pub list : List Field
+  pub flatten : List Flattened
+  pub closed : Bool
+
 -- what a variant has beside its name
 pub data Payload : Type 0 where
   no_payload : Payload
   newtype_payload : ℕ → Payload
   tuple_payload : List ℕ → Payload
-  struct_payload : List Field → Bool → Payload
+  struct_payload : Fields → Payload
 
 pub record Variant : Type 0 where
   pub name : Text
   pub payload : Payload
   pub notes : Members
 
--- Numbers are those of rows. An array has just so many items, and `up_to` has so many at most. A struct has fields, in order, and may
--- be closed to other keys. A result has the row of `Ok` first, `either` that of `Left`, and a map that of its keys. The variants of an
--- enum are tagged by their names, or by nothing, or by a member of their own maps; there a unit may be closed to
--- other keys. A literal
--- is given as a schema.
+-- Numbers are those of rows. An array has just so many items, and `up_to` has so many at most. A result has the row of `Ok`
+-- first, `either` that of `Left`, and a map that of its keys. The variants of an enum are tagged by their names, or by nothing,
+-- or by a member of their own maps; there a unit may be closed to other keys. A literal is given as a schema.
 pub data Shape : Type 0 where
   null : Shape
   bool : Shape
@@ -64,7 +74,7 @@ pub data Shape : Type 0 where
   array : ℕ → ℕ → Shape
   up_to : ℕ → ℕ → Shape
   tuple : List ℕ → Shape
-  struct : List Field → Bool → Shape
+  struct : Fields → Shape
   newtype : ℕ → Shape
   result : ℕ → ℕ → Shape
   bound : ℕ → Shape
@@ -87,22 +97,25 @@ required_of r = record { deserialize = r.deserialize; serialize = r.serialize }
 abbrev pub field_of : src-field.Field → Field
 field_of f = record { name = string_bytes f.name; ty = f.ty; required = required_of f.required; notes = members_view f.notes.entries }
 
--- the fields, and whether other keys are excluded
-abbrev pub fields_view : src-fields.Fields → List Field × Bool
-fields_view fields = (map field_of fields.list.items, fields.closed)
+abbrev pub flattened_of : src-flattened.Flattened → Flattened
+flattened_of p = record { ty = p.ty; required = required_of p.required }
+
+abbrev pub fields_of : src-fields.Fields → Fields
+fields_of x = record { list = map field_of x.list.items; flatten = map flattened_of x.flatten.items; closed = x.closed }
 
 abbrev pub payload_of : src-payload.Payload → Payload
 payload_of payload.Unit = no_payload
 payload_of (payload.Newtype n) = newtype_payload n
 payload_of (payload.Tuple parts) = tuple_payload parts.items
-payload_of (payload.Struct fields) = struct_payload (fields_view fields).0 (fields_view fields).1
+payload_of (payload.Struct fields) = struct_payload (fields_of fields)
 
 abbrev pub variant_of : src-variant.Variant → Variant
 variant_of x = record { name = string_bytes x.name; payload = payload_of x.payload; notes = members_view x.notes.entries }
 
 abbrev pub internal_payload_of : src-internal_payload.InternalPayload → Payload
 internal_payload_of inside.Unit = no_payload
-internal_payload_of (inside.Struct fields) = struct_payload (fields_view fields).0 (fields_view fields).1
+internal_payload_of (inside.Newtype n) = newtype_payload n
+internal_payload_of (inside.Struct fields) = struct_payload (fields_of fields)
 
 abbrev pub internal_variant_of : src-internal_variant.InternalVariant → Variant
 internal_variant_of x =
@@ -130,7 +143,7 @@ shape_of (src.Set n) = set n
 shape_of (src.Array n len) = array n len
 shape_of (src.UpTo n cap) = up_to n cap
 shape_of (src.Tuple parts) = tuple parts.items
-shape_of (src.Struct fields) = struct (fields_view fields).0 (fields_view fields).1
+shape_of (src.Struct fields) = struct (fields_of fields)
 shape_of (src.Newtype n) = newtype n
 shape_of (src.Result ok err) = result ok err
 shape_of (src.Bound n) = bound n
@@ -160,15 +173,45 @@ needed name n = record { name = name; ty = n; required = record { deserialize = 
 abbrev pub in_place : Shape → Entry
 in_place s = without_notes true s
 
+-- no row is flattened in
+abbrev pub bare_fields : List Field → Bool → Fields
+bare_fields list closed = record { list = list; flatten = []; closed = closed }
+
+-- ---- the rows that a shape refers to
+
+-- those that are flattened into a map
+abbrev pub flattened_rows : Fields → List ℕ
+flattened_rows x = map (λ p. p.ty) x.flatten
+
+abbrev pub fields_numbers : Fields → List ℕ
+fields_numbers x = map (λ f. f.ty) x.list ++ flattened_rows x
+
 abbrev pub payload_numbers : Payload → List ℕ
 payload_numbers no_payload = []
 payload_numbers (newtype_payload n) = n ∷ []
 payload_numbers (tuple_payload ns) = ns
-payload_numbers (struct_payload list closed) = map (λ f. f.ty) list
+payload_numbers (struct_payload x) = fields_numbers x
+
+abbrev pub payload_flattened : Payload → List ℕ
+payload_flattened no_payload = []
+payload_flattened (newtype_payload n) = []
+payload_flattened (tuple_payload ns) = []
+payload_flattened (struct_payload x) = flattened_rows x
+
+-- the rows whose values, or whose members, a payload has itself
+abbrev pub payload_same : Payload → List ℕ
+payload_same no_payload = []
+payload_same (newtype_payload n) = n ∷ []
+payload_same (tuple_payload ns) = []
+payload_same (struct_payload x) = flattened_rows x
+
+-- such rows of each variant, in their order
+abbrev pub of_variants : (Payload → List ℕ) → List Variant → List ℕ
+of_variants rows [] = []
+of_variants rows (x ∷ xs) = rows x.payload ++ of_variants rows xs
 
 abbrev pub variant_numbers : List Variant → List ℕ
-variant_numbers [] = []
-variant_numbers (x ∷ xs) = payload_numbers x.payload ++ variant_numbers xs
+variant_numbers = of_variants payload_numbers
 
 -- the rows that a shape refers to, as they are written
 abbrev pub numbers_of : Shape → List ℕ
@@ -178,7 +221,7 @@ numbers_of (set n) = n ∷ []
 numbers_of (array n len) = n ∷ []
 numbers_of (up_to n cap) = n ∷ []
 numbers_of (tuple ns) = ns
-numbers_of (struct list closed) = map (λ f. f.ty) list
+numbers_of (struct x) = fields_numbers x
 numbers_of (newtype n) = n ∷ []
 numbers_of (result ok err) = ok ∷ err ∷ []
 numbers_of (bound n) = n ∷ []
@@ -190,30 +233,41 @@ numbers_of (untagged xs) = variant_numbers xs
 numbers_of (internal tag closed xs) = variant_numbers xs
 numbers_of _ = []
 
-abbrev pub newtype_numbers : List Variant → List ℕ
-newtype_numbers [] = []
-newtype_numbers (x ∷ xs) = elim x.payload [
-  | no_payload ↦ newtype_numbers xs
-  | newtype_payload n ↦ n ∷ newtype_numbers xs
-  | tuple_payload ns ↦ newtype_numbers xs
-  | struct_payload list closed ↦ newtype_numbers xs
-]
-
--- the rows whose values a shape has itself
+-- the rows whose values, or whose members, a shape has itself
 abbrev pub same_value_numbers : Shape → List ℕ
 same_value_numbers (option n) = n ∷ []
 same_value_numbers (newtype n) = n ∷ []
-same_value_numbers (untagged xs) = newtype_numbers xs
+same_value_numbers (struct x) = flattened_rows x
+same_value_numbers (external xs) = of_variants payload_flattened xs
+same_value_numbers (untagged xs) = of_variants payload_same xs
+same_value_numbers (internal tag closed xs) = of_variants payload_same xs
 same_value_numbers _ = []
 
--- the row of a map's keys
-abbrev pub key_of : Shape → Option ℕ
-key_of (map_from key value) = Some key
-key_of _ = None
+-- the rows that are flattened into a shape's maps
+abbrev pub flattened_numbers : Shape → List ℕ
+flattened_numbers (struct x) = flattened_rows x
+flattened_numbers (external xs) = of_variants payload_flattened xs
+flattened_numbers (untagged xs) = of_variants payload_flattened xs
+flattened_numbers (internal tag closed xs) = of_variants payload_flattened xs
+flattened_numbers _ = []
+
+-- the rows that a shape asks at once, in place or not: that of a map's keys, and those whose members stand in its own maps
+abbrev pub asked_numbers : Shape → List ℕ
+asked_numbers (map_from key value) = key ∷ []
+asked_numbers (struct x) = flattened_rows x
+asked_numbers (external xs) = of_variants payload_flattened xs
+asked_numbers (untagged xs) = of_variants payload_flattened xs
+asked_numbers (internal tag closed xs) = of_variants payload_same xs
+asked_numbers _ = []
+
+-- the row in an Option
+abbrev pub option_of : Shape → Option ℕ
+option_of (option n) = Some n
+option_of _ = None
 
 -- the names of a variant's fields
 abbrev pub payload_names : Payload → List Text
-payload_names (struct_payload list closed) = map (λ f. f.name) list
+payload_names (struct_payload x) = map (λ f. f.name) x.list
 payload_names _ = []
 
 abbrev pub variant_names : List Variant → List (List Text)
@@ -221,7 +275,7 @@ variant_names xs = map (λ x. x.name) xs ∷ map (λ x. payload_names x.payload)
 
 -- the lists of names in a shape: those of its fields, or of its variants and then of the fields of each
 abbrev pub names_of : Shape → List (List Text)
-names_of (struct list closed) = map (λ f. f.name) list ∷ []
+names_of (struct x) = map (λ f. f.name) x.list ∷ []
 names_of (external xs) = variant_names xs
 names_of (untagged xs) = variant_names xs
 names_of (internal tag closed xs) = variant_names xs

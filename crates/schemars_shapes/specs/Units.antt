@@ -13,5 +13,5 @@ is_bare_unit x = elim x.payload [
   | no_payload ↦ is_none x.notes
   | newtype_payload n ↦ false
   | tuple_payload ns ↦ false
-  | struct_payload xs closed ↦ false
+  | struct_payload x ↦ false
 ]

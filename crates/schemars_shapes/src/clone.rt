@@ -134,19 +134,21 @@ impl Clone for InternalPayload {
     fn clone(&self) -> Result<InternalPayload, AllocError> {
         Ok(match self {
             InternalPayload::Unit => InternalPayload::Unit,
+            InternalPayload::Newtype(n) => InternalPayload::Newtype(*n),
             InternalPayload::Struct(fields) => InternalPayload::Struct(fields.clone()?),
         })
     }
 }
 
 impl Clone for Fields {
-    ghost use Rattle.schemars_shapes.specs.Shape.{fields_view};
+    ghost use Rattle.schemars_shapes.specs.Shape.{fields_of};
 
-    ghost is_clone = { λ f g. fields_view g ≡ fields_view f };
+    ghost is_clone = { λ f g. fields_of g ≡ fields_of f };
 
     fn clone(&self) -> Result<Fields, AllocError> {
         Ok(Fields {
             list: self.list.clone()?,
+            flatten: self.flatten.clone()?,
             closed: self.closed,
         })
     }

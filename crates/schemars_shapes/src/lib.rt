@@ -7,5 +7,7 @@ mod names;
 mod shape;
 mod variant;
 
-pub use shape::{Field, Fields, IntKind, IntegerKeys, Required, Shape, TypeEntry, TypeNo};
+pub use shape::{
+    Field, Fields, Flattened, IntKind, IntegerKeys, Required, Shape, TypeEntry, TypeNo,
+};
 pub use variant::{Internal, InternalPayload, InternalVariant, Payload, Variant, is_bare_unit};

@@ -2,14 +2,16 @@ ghost use Rattle.std.specs.Prelude.{◌≡◌, ◌&&◌, ◌++◌, nat_le, find,
 ghost use Rattle.std.specs.List.{IsDistinct};
 ghost use Rattle.schemars_shapes.specs.IntKind.{format_of, non_zero_name};
 ghost use Rattle.schemars_shapes.specs.IntegerKeys.{pattern_of, integers_of};
-ghost use Rattle.schemars_shapes.specs.Shape.{shape_of, field_of, fields_view, entry_of, numbers_of};
-ghost use Rattle.schemars_shapes.specs.Shape.{same_value_numbers, key_of, names_of, without_notes};
+ghost use Rattle.schemars_shapes.specs.Shape.{shape_of, field_of, flattened_of, fields_of, entry_of, numbers_of, fields_numbers};
+ghost use Rattle.schemars_shapes.specs.Shape.{flattened_rows, same_value_numbers, flattened_numbers, asked_numbers, option_of};
+ghost use Rattle.schemars_shapes.specs.Shape.{payload_numbers, payload_flattened, payload_same, of_variants, names_of, without_notes};
 ghost use Rattle.schemars_shapes.specs.Repeated.{IsRepeated, AreDistinctLists, IsFirstRepeated};
-ghost use Rattle.schemars_shapes.specs.Equality.{shape_eq, list_eq, field_eq, bool_eq, entry_eq};
+ghost use Rattle.std.specs.Cmp.Lexicographic.{pointwise};
+ghost use Rattle.schemars_shapes.specs.Equality.{shape_eq, list_eq, field_eq, flattened_eq, fields_eq, bool_eq, entry_eq};
 
 use crate::names::first_repeated;
 use crate::variant::{
-    Internal, Variant, first_unknown_in, newtypes_in, numbers_in, repeated_in, variants_equal,
+    Internal, Rows, Variant, first_unknown_in, repeated_in, rows_in, variants_equal,
 };
 use schemars_schema::{Schema, json_eq, json_eq_members};
 use serde_json::{Map, Value};
@@ -183,8 +185,18 @@ pub enum Shape {
 #[derive(Drop)]
 pub struct Fields {
     pub list: Vec<Field>,
+    /// The types whose members stand beside the fields, in the same map.
+    pub flatten: Vec<Flattened>,
     /// No other keys are allowed.
     pub closed: bool,
+}
+
+/// A type whose members stand in the map of a struct.
+#[derive(Clone, Copy)]
+pub struct Flattened {
+    pub ty: TypeNo,
+    /// Whether they have to be there, where the type is an Option.
+    pub required: Required,
 }
 
 /// A member of a struct.
@@ -237,31 +249,72 @@ impl Shape {
             Shape::Bound(n) | Shape::Range(n) => Ok(vec![in alloc; *n]?),
             Shape::Result(n, m) | Shape::Either(n, m) => Ok(vec![in alloc; *n, *m]?),
             Shape::Map(key, value) => Ok(vec![in alloc; *key, *value]?),
-            Shape::External(variants) | Shape::Untagged(variants) => numbers_in(alloc, variants),
-            Shape::Internal(internal) => internal.numbers(alloc),
+            Shape::External(variants) | Shape::Untagged(variants) => rows_in(
+                alloc,
+                Rows::All,
+                variants,
+            ),
+            Shape::Internal(internal) => internal.rows(alloc, Rows::All),
             Shape::Tuple(parts) => parts.clone(),
             Shape::Struct(fields) => fields.numbers(alloc),
             _ => Ok(Vec::new(alloc)),
         }
     }
 
-    /// The rows whose values the shape has itself.
+    /// The rows whose values, or whose members, the shape has itself.
     pub fn same_value_numbers(&self, alloc: Global) -> Result<Vec<TypeNo>, AllocError>
         ensures { IfOk result (λ v. v.items ≡ same_value_numbers (shape_of self.now)) }
     {
         match self {
             Shape::Option(n) | Shape::Newtype(n) => Ok(vec![in alloc; *n]?),
-            Shape::Untagged(variants) => newtypes_in(alloc, variants),
+            Shape::Struct(fields) => fields.flattened_rows(alloc),
+            Shape::External(variants) => rows_in(alloc, Rows::Flattened, variants),
+            Shape::Untagged(variants) => rows_in(alloc, Rows::Same, variants),
+            Shape::Internal(internal) => internal.rows(alloc, Rows::Same),
             _ => Ok(Vec::new(alloc)),
         }
     }
 
-    /// The row of a map's keys.
-    pub fn key(&self) -> Option<TypeNo>
-        ensures { result ≡ key_of (shape_of self.now) }
+    /// The rows that are flattened into the shape's maps.
+    pub fn flattened_numbers(&self, alloc: Global) -> Result<Vec<TypeNo>, AllocError>
+        ensures { IfOk result (λ v. v.items ≡ flattened_numbers (shape_of self.now)) }
     {
         match self {
-            Shape::Map(key, _) => Some(*key),
+            Shape::Struct(fields) => fields.flattened_rows(alloc),
+            Shape::External(variants) | Shape::Untagged(variants) => rows_in(
+                alloc,
+                Rows::Flattened,
+                variants,
+            ),
+            Shape::Internal(internal) => internal.rows(alloc, Rows::Flattened),
+            _ => Ok(Vec::new(alloc)),
+        }
+    }
+
+    /// The rows that the shape asks at once, whether they are written in place or not: that of a
+    /// map's keys, and those whose members stand in the shape's own maps.
+    pub fn asked_numbers(&self, alloc: Global) -> Result<Vec<TypeNo>, AllocError>
+        ensures { IfOk result (λ v. v.items ≡ asked_numbers (shape_of self.now)) }
+    {
+        match self {
+            Shape::Map(key, _) => Ok(vec![in alloc; *key]?),
+            Shape::Struct(fields) => fields.flattened_rows(alloc),
+            Shape::External(variants) | Shape::Untagged(variants) => rows_in(
+                alloc,
+                Rows::Flattened,
+                variants,
+            ),
+            Shape::Internal(internal) => internal.rows(alloc, Rows::Same),
+            _ => Ok(Vec::new(alloc)),
+        }
+    }
+
+    /// The row in an Option.
+    pub fn option(&self) -> Option<TypeNo>
+        ensures { result ≡ option_of (shape_of self.now) }
+    {
+        match self {
+            Shape::Option(n) => Some(*n),
             _ => None,
         }
     }
@@ -336,18 +389,44 @@ pub(crate) fn first_unknown(numbers: &[TypeNo], len: usize) -> Option<TypeNo>
 
 impl Fields {
     fn numbers(&self, alloc: Global) -> Result<Vec<TypeNo>, AllocError>
-        ensures { IfOk result (λ v. v.items ≡ map (λ f. f.ty) (map field_of self.now.list.items)) }
+        ensures { IfOk result (λ v. v.items ≡ fields_numbers (fields_of self.now)) }
     {
-        self.list.iter().map(|field| field.ty).collect(alloc)
+        let mut numbers = Vec::new(alloc);
+        self.add_numbers(&mut numbers)?;
+        Ok(numbers)
     }
 
     pub(crate) fn add_numbers(&self, numbers: &mut Vec<TypeNo>) -> Result<(), AllocError>
+        ensures { OnOk result (numbers.new.items ≡ numbers.old.items ++ fields_numbers (fields_of self.now)) }
+    {
+        self.add_types(numbers)?;
+        self.add_flattened(numbers)
+    }
+
+    fn add_types(&self, numbers: &mut Vec<TypeNo>) -> Result<(), AllocError>
         ensures { OnOk result (numbers.new.items ≡ numbers.old.items ++ map (λ f. f.ty) (map field_of self.now.list.items)) }
     {
         for field in &self.list {
             numbers.push(field.ty)?;
         }
         Ok(())
+    }
+
+    pub(crate) fn add_flattened(&self, numbers: &mut Vec<TypeNo>) -> Result<(), AllocError>
+        ensures { OnOk result (numbers.new.items ≡ numbers.old.items ++ flattened_rows (fields_of self.now)) }
+    {
+        for flattened in &self.flatten {
+            numbers.push(flattened.ty)?;
+        }
+        Ok(())
+    }
+
+    fn flattened_rows(&self, alloc: Global) -> Result<Vec<TypeNo>, AllocError>
+        ensures { IfOk result (λ v. v.items ≡ flattened_rows (fields_of self.now)) }
+    {
+        let mut numbers = Vec::new(alloc);
+        self.add_flattened(&mut numbers)?;
+        Ok(numbers)
     }
 
     pub(crate) fn repeated_name(&self, alloc: Global) -> Result<Option<String>, AllocError>
@@ -363,6 +442,15 @@ impl Fields {
     }
 
     pub(crate) fn first_unknown(&self, len: usize) -> Option<TypeNo>
+        ensures { result ≡ find (λ n. nat_le len n) (fields_numbers (fields_of self.now)) }
+    {
+        match self.unknown_field(len) {
+            Some(n) => Some(n),
+            None => self.unknown_flattened(len),
+        }
+    }
+
+    fn unknown_field(&self, len: usize) -> Option<TypeNo>
         ensures { result ≡ find (λ n. nat_le len n) (map (λ f. f.ty) (map field_of self.now.list.items)) }
     {
         for field in &self.list {
@@ -373,13 +461,40 @@ impl Fields {
         None
     }
 
-    // The order of the fields counts.
-    pub(crate) fn is_equal(&self, other: &Fields) -> bool
-        ensures { result ≡ (bool_eq self.now.closed other.now.closed
-            && list_eq (fields_view self.now).0 (fields_view other.now).0) }
+    fn unknown_flattened(&self, len: usize) -> Option<TypeNo>
+        ensures { result ≡ find (λ n. nat_le len n) (flattened_rows (fields_of self.now)) }
     {
-        self.closed == other.closed && lists_equal(&self.list, &other.list)
+        for flattened in &self.flatten {
+            if len <= flattened.ty {
+                return Some(flattened.ty);
+            }
+        }
+        None
     }
+
+    // The order of the fields and of the flattened rows counts.
+    pub(crate) fn is_equal(&self, other: &Fields) -> bool
+        ensures { result ≡ fields_eq (fields_of self.now) (fields_of other.now) }
+    {
+        self.closed == other.closed
+            && lists_equal(&self.list, &other.list)
+            && flattened_equal(&self.flatten, &other.flatten)
+    }
+}
+
+fn flattened_equal(a: &[Flattened], b: &[Flattened]) -> bool
+    ensures { result ≡ pointwise flattened_eq (map flattened_of a.now) (map flattened_of b.now) }
+{
+    let mut others = b.iter();
+    for flattened in a {
+        let Some(other) = others.next() else {
+            return false;
+        };
+        if !(flattened.ty == other.ty && flattened.required == other.required) {
+            return false;
+        }
+    }
+    others.next().is_none()
 }
 
 fn lists_equal(a: &[Field], b: &[Field]) -> bool

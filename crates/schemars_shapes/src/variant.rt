@@ -1,7 +1,8 @@
 //! The variants of enums.
 ghost use Rattle.std.specs.Prelude.{◌≡◌, ◌&&◌, ◌++◌, nat_le, find, map, bytes_eq, string_bytes, IfOk, OnOk, MatchOption};
 ghost use Rattle.std.specs.List.{IsDistinct};
-ghost use Rattle.schemars_shapes.specs.Shape.{payload_of, variant_of, payload_numbers, variant_numbers, newtype_numbers};
+ghost use Rattle.schemars_shapes.specs.Shape.{payload_of, variant_of, payload_numbers, variant_numbers, of_variants};
+ghost use Rattle.schemars_shapes.specs.Rows.{rows_along};
 ghost use Rattle.schemars_shapes.specs.Shape.{payload_names, variant_names};
 ghost use Rattle.schemars_shapes.specs.Shape.{internal_payload_of, internal_variant_of, internal_view};
 ghost use Rattle.schemars_shapes.specs.Repeated.{IsRepeated, AreDistinctLists, IsFirstRepeated};
@@ -59,8 +60,21 @@ pub struct InternalVariant {
 pub enum InternalPayload {
     /// nothing
     Unit,
+    /// the members of a value of this row
+    Newtype(TypeNo),
     /// these fields
     Struct(Fields),
+}
+
+/// Which rows of a variant are listed.
+#[derive(Clone, Copy)]
+pub(crate) enum Rows {
+    /// all
+    All,
+    /// those that are flattened into its map
+    Flattened,
+    /// those whose values, or whose members, it has itself
+    Same,
 }
 
 impl Payload {
@@ -75,14 +89,15 @@ impl Payload {
         }
     }
 
-    fn add_numbers(&self, numbers: &mut Vec<TypeNo>) -> Result<(), AllocError>
-        ensures { OnOk result (numbers.new.items ≡ numbers.old.items ++ payload_numbers (payload_of self.now)) }
+    fn add_rows(&self, kind: Rows, rows: &mut Vec<TypeNo>) -> Result<(), AllocError>
+        ensures { OnOk result (rows.new.items ≡ rows.old.items ++ rows_along kind (payload_of self.now)) }
     {
-        match self {
-            Payload::Unit => Ok(()),
-            Payload::Newtype(n) => Ok(numbers.push(*n)?),
-            Payload::Tuple(parts) => Ok(numbers.extend_from_slice(parts)?),
-            Payload::Struct(fields) => fields.add_numbers(numbers),
+        match (self, kind) {
+            (Payload::Newtype(n), Rows::All | Rows::Same) => Ok(rows.push(*n)?),
+            (Payload::Tuple(parts), Rows::All) => Ok(rows.extend_from_slice(parts)?),
+            (Payload::Struct(fields), Rows::All) => fields.add_numbers(rows),
+            (Payload::Struct(fields), Rows::Flattened | Rows::Same) => fields.add_flattened(rows),
+            _ => Ok(()),
         }
     }
 
@@ -144,27 +159,19 @@ pub(crate) fn first_unknown_in(variants: &[Variant], len: usize) -> Option<TypeN
     None
 }
 
-pub(crate) fn numbers_in(alloc: Global, variants: &[Variant]) -> Result<Vec<TypeNo>, AllocError>
-    ensures { IfOk result (λ v. v.items ≡ variant_numbers (map variant_of variants.now)) }
+// The rows of this kind of each variant, in their order.
+pub(crate) fn rows_in(
+    alloc: Global,
+    kind: Rows,
+    variants: &[Variant],
+) -> Result<Vec<TypeNo>, AllocError>
+    ensures { IfOk result (λ v. v.items ≡ of_variants (rows_along kind) (map variant_of variants.now)) }
 {
-    let mut numbers = Vec::new(alloc);
+    let mut rows = Vec::new(alloc);
     for variant in variants {
-        variant.payload.add_numbers(&mut numbers)?;
+        variant.payload.add_rows(kind, &mut rows)?;
     }
-    Ok(numbers)
-}
-
-// The rows of newtype variants.
-pub(crate) fn newtypes_in(alloc: Global, variants: &[Variant]) -> Result<Vec<TypeNo>, AllocError>
-    ensures { IfOk result (λ v. v.items ≡ newtype_numbers (map variant_of variants.now)) }
-{
-    let mut numbers = Vec::new(alloc);
-    for variant in variants {
-        if let Payload::Newtype(n) = &variant.payload {
-            numbers.push(*n)?;
-        }
-    }
-    Ok(numbers)
+    Ok(rows)
 }
 
 // The first name that is met a second time, among the variants, or else among the fields of one.
@@ -216,16 +223,21 @@ impl InternalPayload {
     {
         match self {
             InternalPayload::Unit => None,
+            InternalPayload::Newtype(n) => first_unknown(&[*n], len),
             InternalPayload::Struct(fields) => fields.first_unknown(len),
         }
     }
 
-    fn add_numbers(&self, numbers: &mut Vec<TypeNo>) -> Result<(), AllocError>
-        ensures { OnOk result (numbers.new.items ≡ numbers.old.items ++ payload_numbers (internal_payload_of self.now)) }
+    fn add_rows(&self, kind: Rows, rows: &mut Vec<TypeNo>) -> Result<(), AllocError>
+        ensures { OnOk result (rows.new.items ≡ rows.old.items ++ rows_along kind (internal_payload_of self.now)) }
     {
-        match self {
-            InternalPayload::Unit => Ok(()),
-            InternalPayload::Struct(fields) => fields.add_numbers(numbers),
+        match (self, kind) {
+            (InternalPayload::Newtype(n), Rows::All | Rows::Same) => Ok(rows.push(*n)?),
+            (InternalPayload::Struct(fields), Rows::All) => fields.add_numbers(rows),
+            (InternalPayload::Struct(fields), Rows::Flattened | Rows::Same) => {
+                fields.add_flattened(rows)
+            }
+            _ => Ok(()),
         }
     }
 
@@ -235,8 +247,8 @@ impl InternalPayload {
             (λ s. IsRepeated (payload_names (internal_payload_of self.now)) (string_bytes s))) }
     {
         match self {
-            InternalPayload::Unit => Ok(None),
             InternalPayload::Struct(fields) => fields.repeated_name(alloc),
+            _ => Ok(None),
         }
     }
 
@@ -245,6 +257,7 @@ impl InternalPayload {
     {
         match (self, other) {
             (InternalPayload::Unit, InternalPayload::Unit) => true,
+            (InternalPayload::Newtype(n), InternalPayload::Newtype(m)) => n == m,
             (InternalPayload::Struct(fields), InternalPayload::Struct(of_other)) => {
                 fields.is_equal(of_other)
             }
@@ -276,14 +289,15 @@ impl Internal {
         None
     }
 
-    pub(crate) fn numbers(&self, alloc: Global) -> Result<Vec<TypeNo>, AllocError>
-        ensures { IfOk result (λ v. v.items ≡ variant_numbers (map internal_variant_of self.now.variants.items)) }
+    // The rows of this kind of each variant, in their order.
+    pub(crate) fn rows(&self, alloc: Global, kind: Rows) -> Result<Vec<TypeNo>, AllocError>
+        ensures { IfOk result (λ v. v.items ≡ of_variants (rows_along kind) (map internal_variant_of self.now.variants.items)) }
     {
-        let mut numbers = Vec::new(alloc);
+        let mut rows = Vec::new(alloc);
         for variant in &self.variants {
-            variant.payload.add_numbers(&mut numbers)?;
+            variant.payload.add_rows(kind, &mut rows)?;
         }
-        Ok(numbers)
+        Ok(rows)
     }
 
     // The first name that is met a second time, among the variants, or else among the fields of one.

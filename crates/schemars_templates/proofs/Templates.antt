@@ -1,13 +1,17 @@
 -- Nodes of templates as the code makes them.
 use Rattle.std.proofs.Common.{◌≡◌, List, [], ◌∷◌, ◌++◌, length, map, Bool, true, false, refl, sym, ap, ◌∙◌, true≢false, append_assoc}
 use Rattle.std.proofs.Common.{rules, arith, Vec, Global, Bor}
-use Rattle.std.specs.Prelude.{codes, ◌==◌}
+use Rattle.std.specs.Prelude.{codes, ◌==◌, ◌&&◌, IsSome, option_and_then}
+use Rattle.serde_json.specs.Find.{get, get_member, as_object, as_str}
 use Rattle.serde_json.specs.Data.{Data, null, boolean, number, string, array, object, no_members}
 use Rattle.serde_json.specs.View.{view, items_view}
 use Rattle.serde_json.specs.declared.value.Value.{Value, Array, Bool as Bool', the_lemmas as value_lemmas}
 use Rattle.serde_json.proofs.Views.{view-Array}
 use Rattle.schemars_json.specs.Json.{Text}
 use Rattle.schemars_schema.specs.SchemaData.{IsSchema, members_in}
+use Rattle.schemars_rewrite.specs.AllowNull.{is_text}
+use Rattle.schemars_rewrite.specs.Properties.{has_null_type, closed_where, tagged, internally_tagged_variant}
+use Rattle.schemars_flatten.specs.Flatten.{flattened, united_all}
 use Rattle.schemars_templates.specs.Template.{finished, list, members, keyed}
 use Rattle.schemars_templates.specs.OfShape.{KeywordTemplate, said, required_at, closed_at}
 use Rattle.schemars_templates.specs.View.{template_view, templates_view}
@@ -60,3 +64,31 @@ view-false = search (rules, value_lemmas)
 pub closed_true : (b : Bool) → b ≡ true → (codes "additionalProperties", template_view (Value' (Bool' false))) ∷ [] ≡ closed_at b
 closed_true true e = ap (λ t. (codes "additionalProperties", t) ∷ []) (template_view-Value (Bool' false) ∙ ap finished view-false)
 closed_true false e = absurd (true≢false (sym e))
+
+-- ---- schemas put into one another
+
+type_of : (d : Data) → get (codes "type") d ≡ get_member (codes "type") (members_in d)
+type_of null = refl
+type_of (boolean true) = refl
+type_of (boolean false) = refl
+type_of (number n) = refl
+type_of (string s) = refl
+type_of (array ds) = refl
+type_of (object ms) = refl
+
+-- a tag looks at the members alone
+pub tagged_by_members : (tag name : Text) (closed : Bool) (s t : Data) → members_in s ≡ members_in t
+    → internally_tagged_variant tag name closed s ≡ internally_tagged_variant tag name closed t
+tagged_by_members tag name closed s t same =
+    let types : has_null_type s ≡ has_null_type t =
+    ap (λ o. is_text (codes "null") (option_and_then as_str o)) (type_of s ∙ (ap (get_member (codes "type")) same ∙ sym (type_of t))) in
+    λ i. object (closed_where (closed && types i) (tagged tag name (same i)))
+
+-- an object is put into what is no schema as into an object without members
+pub flattened_alone : (s o : Data) → (IsSchema s → ⊥) → IsSome (as_object o) → flattened (object no_members) o ≡ flattened s o
+flattened_alone s null h some = cc
+flattened_alone s (boolean b) h some = cc
+flattened_alone s (number n) h some = cc
+flattened_alone s (string t) h some = cc
+flattened_alone s (array ds) h some = cc
+flattened_alone s (object others) h some = ap (λ ms. object (united_all ms others)) (no_schema s h)

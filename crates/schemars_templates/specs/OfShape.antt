@@ -8,8 +8,8 @@ use Rattle.schemars_schema.specs.SchemaData.{is_schema}
 use Rattle.schemars_rewrite.specs.NullLaw.{text_items}
 use Rattle.schemars_rewrite.specs.Variants.{unit_variant}
 use Rattle.schemars_shapes.specs.Shape as shape
-use Rattle.schemars_shapes.specs.Shape.{Shape, Field, Entry, Payload, Variant, no_payload, newtype_payload, tuple_payload, struct_payload}
-use Rattle.schemars_types.specs.Meaning.{Contract, tagged_fields, tagged_closed}
+use Rattle.schemars_shapes.specs.Shape.{Shape, Field, Flattened, Fields, Entry, Payload, Variant, no_payload, newtype_payload, tuple_payload, struct_payload}
+use Rattle.schemars_types.specs.Meaning.{Contract, is_required}
 use Rattle.schemars_types.specs.KeyOptions.{KeyOptions, any_key, only_keys, key_options}
 use Rattle.schemars_shapes.specs.declared.shape.IntegerKeys.{IntegerKeys}
 use Rattle.schemars_shapes.specs.IntegerKeys.{pattern_of}
@@ -17,7 +17,8 @@ use Rattle.schemars_shapes.specs.Units.{is_bare_unit}
 use Rattle.schemars_documents.specs.Documents.{type_alone, int_document, non_zero_document, char_document}
 use Rattle.schemars_documents.specs.Documents.{formatted_document, empty_list_document, bytes_document, schema_document}
 use Rattle.schemars_documents.specs.Documents.{required_names}
-use Rattle.schemars_templates.specs.Template.{Template, finished, row, list, members, nullable, noted, Templates}
+use Rattle.schemars_templates.specs.Template.{Template, finished, asked, row, list, members, nullable, noted, with_keywords}
+use Rattle.schemars_templates.specs.Template.{tagged, members_of, content, Templates}
 use Rattle.schemars_templates.specs.Template.{no_templates, template}
 use Rattle.schemars_templates.specs.Basis.{Basis}
 
@@ -89,8 +90,18 @@ abbrev pub map_template : List KeywordTemplate → Items → Bool → Template
 map_template properties required closed =
     object_with (typed (codes "object") ∷ (properties_at properties ++ (required_at required ++ closed_at closed)))
 
-abbrev pub struct_template : Contract → List Field → Bool → Template
-struct_template contract xs closed = map_template (map property xs) (text_items (required_names contract xs)) closed
+-- a map with these fields
+abbrev pub fields_template : Contract → List Field → Bool → Template
+fields_template contract xs closed = map_template (map property xs) (text_items (required_names contract xs)) closed
+
+-- the members of flattened rows join one after another
+abbrev pub with_flattened : Contract → List Flattened → Template → Template
+with_flattened contract [] t = t
+with_flattened contract (p ∷ ps) t =
+    with_flattened contract ps (with_keywords t (asked (members_of p.ty (is_required contract p.required))))
+
+abbrev pub struct_template : Contract → Fields → Template
+struct_template contract x = with_flattened contract x.flatten (fields_template contract x.list x.closed)
 
 -- ---- choices
 
@@ -125,14 +136,14 @@ abbrev pub payload_template : Contract → Payload → Template
 payload_template contract no_payload = finished (type_alone (codes "null"))
 payload_template contract (newtype_payload n) = row n
 payload_template contract (tuple_payload ns) = tuple_template ns
-payload_template contract (struct_payload xs closed) = struct_template contract xs closed
+payload_template contract (struct_payload x) = struct_template contract x
 
 -- a unit by its name, and another payload under that name alone
 abbrev pub named_template : Contract → Text → Payload → Template
 named_template contract name no_payload = finished (unit_variant name)
 named_template contract name (newtype_payload n) = member_template true name (payload_template contract (newtype_payload n))
 named_template contract name (tuple_payload ns) = member_template true name (payload_template contract (tuple_payload ns))
-named_template contract name (struct_payload xs closed) = member_template true name (payload_template contract (struct_payload xs closed))
+named_template contract name (struct_payload x) = member_template true name (payload_template contract (struct_payload x))
 
 -- units without notes share one item
 abbrev pub bare_units : List Variant → List Text
@@ -172,14 +183,15 @@ abbrev pub untagged_template : Contract → Bool → List Variant → Template
 untagged_template contract titles [] = finished (boolean false)
 untagged_template contract titles (x ∷ xs) = any_of (map (payload_item contract titles) (x ∷ xs))
 
--- a map with these fields, and with the variant's name under the tag, in place of any field there
-abbrev pub tagged_template : Contract → Text → Text → List Field → Bool → Template
-tagged_template contract tag name xs closed =
-    map_template (map property xs ++ (tag, finished (unit_variant name)) ∷ []) (text_items (tag ∷ required_names contract xs)) closed
+-- what stands beside a tag; null where there is nothing
+abbrev pub content_template : Contract → Payload → Template
+content_template contract no_payload = finished (type_alone (codes "null"))
+content_template contract (newtype_payload n) = asked (content n)
+content_template contract (tuple_payload ns) = tuple_template ns
+content_template contract (struct_payload x) = struct_template contract x
 
 abbrev pub internal_item : Contract → Text → Bool → Variant → Template
-internal_item contract tag closed x =
-    noted x.notes (tagged_template contract tag x.name (tagged_fields x.payload) (tagged_closed closed x.payload))
+internal_item contract tag closed x = noted x.notes (tagged tag x.name closed (content_template contract x.payload))
 
 abbrev pub internal_template : Contract → Text → Bool → List Variant → Template
 internal_template contract tag closed [] = finished (boolean false)
@@ -231,7 +243,7 @@ template_of basis (shape.set n) = set_template n
 template_of basis (shape.array n len) = array_template n len
 template_of basis (shape.up_to n cap) = up_to_template n cap
 template_of basis (shape.tuple ns) = tuple_template ns
-template_of basis (shape.struct xs closed) = struct_template basis.contract xs closed
+template_of basis (shape.struct x) = struct_template basis.contract x
 template_of basis (shape.newtype n) = row n
 template_of basis (shape.result t e) = result_template t e
 template_of basis (shape.bound n) = bound_template n

@@ -4,7 +4,7 @@ ghost use Rattle.schemars_templates.specs.Template.{row};
 ghost use Rattle.schemars_templates.specs.View.{template_view};
 ghost use Rattle.schemars_templates.specs.OfShape.{list_template, set_template, array_template, up_to_template, tuple_template};
 
-use crate::nodes::{count, finished, text};
+use crate::nodes::{count, finished, row, text};
 use crate::template::Template;
 use schemars_documents::documents::empty_list_document;
 use schemars_types::TypeNo;
@@ -17,7 +17,7 @@ pub fn seq_template<'t>(alloc: Global, item: TypeNo) -> Result<Template<'t>, All
 {
     let array = text(alloc, "array")?;
     let keys = vec![in alloc; "type", "items"]?;
-    let values = vec![in alloc; array, Template::Row(item)]?;
+    let values = vec![in alloc; array, row(item)]?;
     Ok(Template::Object(keys, values))
 }
 
@@ -28,7 +28,7 @@ pub fn set_template<'t>(alloc: Global, item: TypeNo) -> Result<Template<'t>, All
     let array = text(alloc, "array")?;
     let distinct = Template::Value(Value::Bool(true));
     let keys = vec![in alloc; "type", "items", "uniqueItems"]?;
-    let values = vec![in alloc; array, Template::Row(item), distinct]?;
+    let values = vec![in alloc; array, row(item), distinct]?;
     Ok(Template::Object(keys, values))
 }
 
@@ -41,7 +41,7 @@ pub fn array_template<'t>(alloc: Global, item: TypeNo, len: u64) -> Result<Templ
     }
     let array = text(alloc, "array")?;
     let keys = vec![in alloc; "type", "items", "minItems", "maxItems"]?;
-    let values = vec![in alloc; array, Template::Row(item), count(len), count(len)]?;
+    let values = vec![in alloc; array, row(item), count(len), count(len)]?;
     Ok(Template::Object(keys, values))
 }
 
@@ -51,7 +51,7 @@ pub fn up_to_template<'t>(alloc: Global, item: TypeNo, cap: u64) -> Result<Templ
 {
     let array = text(alloc, "array")?;
     let keys = vec![in alloc; "type", "items", "maxItems"]?;
-    let values = vec![in alloc; array, Template::Row(item), count(cap)]?;
+    let values = vec![in alloc; array, row(item), count(cap)]?;
     Ok(Template::Object(keys, values))
 }
 
@@ -75,7 +75,7 @@ fn rows_in_order<'t>(alloc: Global, parts: &[TypeNo]) -> Result<Vec<Template<'t>
 {
     let mut rows = Vec::new(alloc);
     for part in parts {
-        rows.push(Template::Row(*part))?;
+        rows.push(row(*part))?;
     }
     Ok(rows)
 }

@@ -1,17 +1,18 @@
 //! The templates of maps by their members, as those of structs.
 ghost use Rattle.std.specs.Prelude.{◌≡◌, ◌∷◌, ◌++◌, [], map, IfOk, OnOk};
 ghost use Rattle.serde_json.specs.View.{items_view};
-ghost use Rattle.schemars_shapes.specs.Shape.{field_of};
+ghost use Rattle.schemars_shapes.specs.Shape.{field_of, flattened_of, fields_of};
 ghost use Rattle.schemars_documents.specs.ContractOf.{contract_of};
 ghost use Rattle.schemars_templates.specs.View.{template_view, keyword_view};
 ghost use Rattle.schemars_templates.specs.OfShape.{typed, property, properties_at, required_at, closed_at};
-ghost use Rattle.schemars_templates.specs.OfShape.{map_template, struct_template, member_template, range_template};
+ghost use Rattle.schemars_templates.specs.OfShape.{map_template, fields_template, with_flattened, struct_template};
+ghost use Rattle.schemars_templates.specs.OfShape.{member_template, range_template};
 
-use crate::nodes::{object_with, text};
-use crate::template::Template;
+use crate::nodes::{object_with, row, text};
+use crate::template::{Ask, Template};
 use schemars_documents::Contract;
-use schemars_documents::documents::required_names;
-use schemars_types::{Field, Fields, TypeNo};
+use schemars_documents::documents::{is_required, required_names};
+use schemars_types::{Field, Fields, Flattened, TypeNo};
 use serde_json::Value;
 use std::alloc::{AllocError, Global};
 
@@ -87,22 +88,54 @@ pub fn add_closed<'t>(
     Ok(())
 }
 
-/// A map with these fields.
+/// A map with these fields, and with the members of the flattened rows.
 pub fn struct_template<'t>(
     alloc: Global,
     contract: Contract,
     fields: &'t Fields,
 ) -> Result<Template<'t>, AllocError>
     ensures { IfOk result (λ t. template_view t
-        ≡ struct_template (contract_of contract) (map field_of fields.now.list.items) fields.now.closed) }
+        ≡ struct_template (contract_of contract) (fields_of fields.now)) }
 {
-    let properties = properties(alloc, &fields.list)?;
-    let required = required_names(alloc, contract, &fields.list)?;
-    map_template(alloc, properties, required, fields.closed)
+    let own = fields_template(alloc, contract, &fields.list, fields.closed)?;
+    with_flattened(alloc, contract, own, &fields.flatten)
+}
+
+fn fields_template<'t>(
+    alloc: Global,
+    contract: Contract,
+    list: &'t [Field],
+    closed: bool,
+) -> Result<Template<'t>, AllocError>
+    ensures { IfOk result (λ t. template_view t
+        ≡ fields_template (contract_of contract) (map field_of list.now) closed) }
+{
+    let properties = properties(alloc, list)?;
+    let required = required_names(alloc, contract, list)?;
+    map_template(alloc, properties, required, closed)
+}
+
+// The members of these rows join, one row after another.
+fn with_flattened<'t>(
+    alloc: Global,
+    contract: Contract,
+    own: Template<'t>,
+    flatten: &[Flattened],
+) -> Result<Template<'t>, AllocError>
+    ensures { IfOk result (λ t. template_view t
+        ≡ with_flattened (contract_of contract) (map flattened_of flatten.now) (template_view own.entry)) }
+{
+    let mut template = own;
+    for part in flatten {
+        let required = is_required(contract, part.required);
+        let members = Template::Asked(Ask::MembersOf(part.ty, required));
+        template = Template::WithKeywords(Box::new(alloc, template)?, Box::new(alloc, members)?);
+    }
+    Ok(template)
 }
 
 /// The fields' schemas under their names, each with its notes.
-pub fn properties<'t>(
+fn properties<'t>(
     alloc: Global,
     fields: &'t [Field],
 ) -> Result<Vec<(&'t str, Template<'t>)>, AllocError>
@@ -110,8 +143,8 @@ pub fn properties<'t>(
 {
     let mut properties = Vec::new(alloc);
     for field in fields {
-        let row = Box::new(alloc, Template::Row(field.ty))?;
-        properties.push((field.name.as_str(), Template::Noted(&field.notes, row)))?;
+        let part = Box::new(alloc, row(field.ty))?;
+        properties.push((field.name.as_str(), Template::Noted(&field.notes, part)))?;
     }
     Ok(properties)
 }
@@ -135,8 +168,8 @@ pub fn range_template<'t>(alloc: Global, n: TypeNo) -> Result<Template<'t>, Allo
     ensures { IfOk result (λ t. template_view t ≡ range_template n) }
 {
     let properties: Vec<(&'t str, Template<'t>)> = vec![in alloc;
-        ("start", Template::Row(n)),
-        ("end", Template::Row(n)),
+        ("start", row(n)),
+        ("end", row(n)),
     ]?;
     let start = Value::try_from_str(alloc, "start")?;
     let end = Value::try_from_str(alloc, "end")?;

@@ -5,7 +5,7 @@ ghost use Rattle.schemars_templates.specs.Template.{row, finished};
 ghost use Rattle.schemars_templates.specs.View.{template_view, keyword_view};
 ghost use Rattle.schemars_templates.specs.OfShape.{object_with, one_of, any_of};
 
-use crate::template::Template;
+use crate::template::{Ask, Template};
 use schemars_schema::Schema;
 use schemars_types::TypeNo;
 use serde_json::Value;
@@ -36,7 +36,7 @@ pub fn count<'t>(n: u64) -> Template<'t>
 pub fn row<'t>(n: TypeNo) -> Template<'t>
     ensures { template_view result ≡ row n }
 {
-    Template::Row(n)
+    Template::Asked(Ask::Part(n))
 }
 
 /// An object with these keywords.

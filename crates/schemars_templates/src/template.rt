@@ -4,26 +4,40 @@ ghost use Rattle.serde_json.specs.Data.{no_members};
 ghost use Rattle.serde_json.specs.View.{view, members_view};
 ghost use Rattle.schemars_schema.specs.SchemaData.{IsSchema, members_in, put_all};
 ghost use Rattle.schemars_rewrite.specs.AllowNull.{allow_null};
+ghost use Rattle.schemars_rewrite.specs.Properties.{internally_tagged_variant};
+ghost use Rattle.schemars_flatten.specs.Flatten.{flattened};
 ghost use Rattle.schemars_documents.specs.Documents.{annotated};
-ghost use Rattle.schemars_templates.specs.Template.{rows_of, filled, filled_in, left, left_in, first, behind, keyed};
+ghost use Rattle.schemars_templates.specs.Template.{asks_of, filled, filled_in, left, left_in, first, behind, keyed};
 ghost use Rattle.schemars_templates.specs.OfShape.{title_alone};
-ghost use Rattle.schemars_templates.specs.View.{template_view, templates_view};
+ghost use Rattle.schemars_templates.specs.View.{ask_of, template_view, templates_view};
 
 use schemars_documents::documents::annotate;
-use schemars_rewrite::builders::allow_null;
+use schemars_flatten::flatten;
+use schemars_rewrite::builders::{allow_null, apply_internal_enum_variant_tag};
 use schemars_schema::{NotASchema, Schema};
 use schemars_types::TypeNo;
 use serde_json::{Map, Value};
 use std::alloc::{AllocError, Global};
 use std::collections::VecDeque;
 
-/// A document with rows in it, whose schemas are filled in later.
+/// What a document asks of a row.
+#[derive(Clone, Copy)]
+pub enum Ask {
+    /// Its schema.
+    Part(TypeNo),
+    /// A schema of its members, which stand in another map, and whether they have to be there.
+    MembersOf(TypeNo, bool),
+    /// A schema of what stands beside a tag.
+    Content(TypeNo),
+}
+
+/// A document in which rows are asked, and what they answer is filled in later.
 #[derive(Drop)]
 pub enum Template<'t> {
     /// JSON without rows.
     Value(Value),
-    /// The schema of a row.
-    Row(TypeNo),
+    /// What a row answers.
+    Asked(Ask),
     /// A list.
     List(Vec<Template<'t>>),
     /// An object with these keys and a value for each; of equal keys the last one counts.
@@ -34,40 +48,50 @@ pub enum Template<'t> {
     Noted(&'t Map<String, Value>, Box<Template<'t>>),
     /// A schema with this title.
     Titled(&'t str, Box<Template<'t>>),
+    /// A schema with the keywords of another put in.
+    WithKeywords(Box<Template<'t>>, Box<Template<'t>>),
+    /// A schema of maps with a variant's name under the tag; of null's, other keys are excluded if so.
+    Tagged(&'t str, &'t str, bool, Box<Template<'t>>),
 }
 
 impl<'t> Template<'t> {
-    /// The rows whose schemas are to be filled in, in their order in the text.
-    pub fn rows(&self, alloc: Global) -> Result<Vec<TypeNo>, AllocError>
-        ensures { IfOk result (λ v. v.items ≡ rows_of (template_view self.now)) }
+    /// What is asked, in the order of the text.
+    pub fn asks(&self, alloc: Global) -> Result<Vec<Ask>, AllocError>
+        ensures { IfOk result (λ v. map ask_of v.items ≡ asks_of (template_view self.now)) }
     {
-        let mut rows = Vec::new(alloc);
-        add_rows(self, &mut rows)?;
-        Ok(rows)
+        let mut asks = Vec::new(alloc);
+        add_asks(self, &mut asks)?;
+        Ok(asks)
     }
 }
 
-fn add_rows(template: &Template<'_>, rows: &mut Vec<TypeNo>) -> Result<(), AllocError>
-    ensures { OnOk result (rows.new.items ≡ rows.old.items ++ rows_of (template_view template.now)) }
+fn add_asks(template: &Template<'_>, asks: &mut Vec<Ask>) -> Result<(), AllocError>
+    ensures { OnOk result (map ask_of asks.new.items
+        ≡ map ask_of asks.old.items ++ asks_of (template_view template.now)) }
 {
     match template {
         Template::Value(_) => Ok(()),
-        Template::Row(n) => Ok(rows.push(*n)?),
+        Template::Asked(ask) => Ok(asks.push(*ask)?),
         Template::List(inner) => {
             for one in inner {
-                add_rows(one, rows)?;
+                add_asks(one, asks)?;
             }
             Ok(())
         }
         Template::Object(_, inner) => {
             for one in inner {
-                add_rows(one, rows)?;
+                add_asks(one, asks)?;
             }
             Ok(())
         }
-        Template::Nullable(inner) => add_rows(inner, rows),
-        Template::Noted(_, inner) => add_rows(inner, rows),
-        Template::Titled(_, inner) => add_rows(inner, rows),
+        Template::Nullable(inner) => add_asks(inner, asks),
+        Template::Noted(_, inner) => add_asks(inner, asks),
+        Template::Titled(_, inner) => add_asks(inner, asks),
+        Template::WithKeywords(inner, other) => {
+            add_asks(inner, asks)?;
+            add_asks(other, asks)
+        }
+        Template::Tagged(_, _, _, inner) => add_asks(inner, asks),
     }
 }
 
@@ -100,7 +124,7 @@ fn fill_value(
 {
     match template {
         Template::Value(value) => Ok(value),
-        Template::Row(_) => Ok(next_part(parts)),
+        Template::Asked(_) => Ok(next_part(parts)),
         Template::List(inner) => {
             let items = fill_all(alloc, inner, parts)?;
             Ok(Value::Array(items))
@@ -121,6 +145,15 @@ fn fill_value(
         Template::Titled(title, inner) => {
             let inner = fill_value(alloc, Box::into_inner(inner), parts)?;
             titled(alloc, inner, title)
+        }
+        Template::WithKeywords(inner, other) => {
+            let inner = fill_value(alloc, Box::into_inner(inner), parts)?;
+            let other = fill_value(alloc, Box::into_inner(other), parts)?;
+            with_keywords(alloc, inner, other)
+        }
+        Template::Tagged(tag, name, closed, inner) => {
+            let inner = fill_value(alloc, Box::into_inner(inner), parts)?;
+            tagged(alloc, inner, tag, name, closed)
         }
     }
 }
@@ -208,6 +241,45 @@ fn titled(alloc: Global, value: Value, title: &str) -> Result<Value, AllocError>
         Value::try_from_str(alloc, title)?,
     )?;
     noted(alloc, value, &notes)
+}
+
+fn with_keywords(alloc: Global, value: Value, other: Value) -> Result<Value, AllocError>
+    ensures { IfOk result (λ v. view v ≡ flattened (view value) (view other)) }
+{
+    let Ok(other) = Schema::try_from(other) else {
+        return Ok(value);
+    };
+    match Schema::try_from(value) {
+        Ok(schema) => flattened(alloc, schema, other),
+        Err(NotASchema(value)) => {
+            if other.as_object().is_none() {
+                return Ok(value);
+            }
+            flattened(alloc, Schema::default(alloc), other)
+        }
+    }
+}
+
+fn flattened(alloc: Global, schema: Schema, other: Schema) -> Result<Value, AllocError>
+    ensures { IfOk result (λ v. view v ≡ flattened schema other) }
+{
+    let mut schema = schema;
+    flatten(alloc, &mut schema, other)?;
+    Ok(schema.to_value())
+}
+
+fn tagged(
+    alloc: Global,
+    value: Value,
+    tag: &str,
+    name: &str,
+    closed: bool,
+) -> Result<Value, AllocError>
+    ensures { IfOk result (λ v. view v ≡ internally_tagged_variant tag.now name.now closed (view value)) }
+{
+    let mut schema = schema_of(alloc, value);
+    apply_internal_enum_variant_tag(alloc, &mut schema, tag, name, closed)?;
+    Ok(schema.to_value())
 }
 
 // The value as a schema, or the schema without keywords.

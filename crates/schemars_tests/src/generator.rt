@@ -341,7 +341,13 @@ fn add_noted(alloc: Global, types: &mut Types) -> Result<(), Fail> {
     let room = new_row(alloc, types, "Room", "Room")?;
     let text = types.text(alloc)?;
     let list = vec![in alloc; described(alloc, text)?]?;
-    let shape = Shape::Struct(Fields { list, closed: true });
+    let flatten = Vec::new(alloc);
+    let closed = true;
+    let shape = Shape::Struct(Fields {
+        list,
+        flatten,
+        closed,
+    });
     let notes = Map::new(alloc);
     types.define(
         room,

@@ -1,5 +1,5 @@
 -- What a table without faults offers, and what each answer of the search says of the faults.
-use Rattle.std.proofs.Common.{◌≡◌, ◌<◌, inl, inr, ℕ, List, Option, Some, None, IsSome, nat_lt, length, Contains, MatchOption, refl}
+use Rattle.std.proofs.Common.{◌≡◌, ◌<◌, inl, inr, ℕ, List, Option, Some, None, IsSome, length, Contains, MatchOption, refl}
 use Rattle.schemars_json.specs.Json.{Text}
 use Rattle.schemars_shapes.specs.Repeated.{AreDistinctLists, IsFirstRepeated}
 use Rattle.schemars_cycles.specs.Walks.{Leads, OnCycle, IsFree, IsLeast}
@@ -7,12 +7,12 @@ use Rattle.schemars_cycles.proofs.GraphLemmas.{walk_along}
 use Rattle.schemars_cycles.proofs.Heights.{IsWithin, longest-bound, longest-below, longest_falls}
 use Rattle.schemars_rows.specs.EdgeKind.{targets_along}
 use Rattle.schemars_rows.specs.declared.faults.EdgeKind.TheVariants.{Direct, SameValue}
-use Rattle.schemars_rows.proofs.EdgeLemmas.{Contains-filter, Contains-filtered, ends_within, below-nat_lt, nat_lt-below}
+use Rattle.schemars_rows.proofs.EdgeLemmas.{Contains-filter, Contains-filtered, to_direct, from_direct, ends_within, below-nat_lt, nat_lt-below}
 use Rattle.schemars_rows.proofs.Names.{lists_differ_or_repeated}
 pub use Rattle.schemars_rows.proofs.Names.{never_first_repeated}
 use Rattle.schemars_types.specs.Rows.{Row, entry_at}
 use Rattle.schemars_types.specs.Edges.{RefersWithin, DirectEdge, SameValueEdge, direct_targets, same_value_targets}
-use Rattle.schemars_types.specs.Edges.{is_direct, numbers_at, same_value_numbers_at, height, rank, names_at}
+use Rattle.schemars_types.specs.Edges.{is_row, same_value_numbers_at, height, rank, names_at}
 use Rattle.schemars_types.specs.Faults.{IsUndefined, HasRepeated, OnDirectCycle, OnEmptyCycle, IsAccepted, IsChecked}
 
 -- ---- names
@@ -29,18 +29,12 @@ least_repeated rows n name differ r = ((name, r), λ k below (other, s). never_f
 
 -- ---- edges
 
-to_direct : (rows : List Row) (n m : ℕ) → Contains (targets_along Direct rows n) m → DirectEdge rows n m
-to_direct rows n m among = Contains-filter (is_direct rows n) (numbers_at rows n) m among
-
-from_direct : (rows : List Row) (n m : ℕ) → DirectEdge rows n m → Contains (targets_along Direct rows n) m
-from_direct rows n m e = Contains-filtered (is_direct rows n) (numbers_at rows n) m e.0 e.1
-
 to_same_value : (rows : List Row) (n m : ℕ) → Contains (targets_along SameValue rows n) m → SameValueEdge rows n m
-to_same_value rows n m among = let (c, t) = Contains-filter (λ k. nat_lt k (length rows)) (same_value_numbers_at rows n) m among in
+to_same_value rows n m among = let (c, t) = Contains-filter (is_row rows) (same_value_numbers_at rows n) m among in
     (c, nat_lt-below m (length rows) t)
 
 from_same_value : (rows : List Row) (n m : ℕ) → SameValueEdge rows n m → Contains (targets_along SameValue rows n) m
-from_same_value rows n m e = Contains-filtered (λ k. nat_lt k (length rows)) (same_value_numbers_at rows n) m e.0
+from_same_value rows n m e = Contains-filtered (is_row rows) (same_value_numbers_at rows n) m e.0
     (below-nat_lt m (length rows) e.1)
 
 -- closed walks along two sets of edges, where each edge of one is an edge of the other

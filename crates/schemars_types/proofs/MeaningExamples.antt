@@ -7,8 +7,9 @@ use Rattle.schemars_json.specs.Json.{Text, json_eq}
 use Rattle.schemars_schema.specs.SchemaData.{object_of}
 use Rattle.schemars_shapes.specs.declared.shape.IntKind.TheVariants.{I8, U8, U128, I64}
 use Rattle.schemars_shapes.specs.Shape as shape
-use Rattle.schemars_shapes.specs.Shape.{Shape, Field, Variant, no_payload, newtype_payload, struct_payload, in_place}
+use Rattle.schemars_shapes.specs.Shape.{Shape, Field, Fields, Variant, no_payload, newtype_payload, struct_payload, in_place, bare_fields, needed}
 use Rattle.schemars_types.specs.Rows.{Row}
+use Rattle.schemars_types.specs.Effective.{fields_within}
 use Rattle.schemars_types.specs.Meaning.{Contract, Deserialize, Serialize, belongs, belongs_within}
 
 -- row 0 has the bytes, and row 1 this shape
@@ -144,27 +145,27 @@ fields =
 member_of : String → Data → Text × Data
 member_of k v = (codes k, v)
 
-required_fields : TellsApart Deserialize (shape.struct fields false) (object_of (member_of "a" (whole 1) ∷ []))
+required_fields : TellsApart Deserialize (shape.struct (bare_fields fields false)) (object_of (member_of "a" (whole 1) ∷ []))
     (object_of (member_of "b" (whole 1) ∷ []))
 unfolding TellsApart has table belongs_within whole fields member_of
 required_fields = (refl, refl)
 
-required_fields_written : TellsApart Serialize (shape.struct fields false) (object_of (member_of "b" (whole 1) ∷ []))
+required_fields_written : TellsApart Serialize (shape.struct (bare_fields fields false)) (object_of (member_of "b" (whole 1) ∷ []))
     (object_of (member_of "a" (whole 1) ∷ []))
 unfolding TellsApart has table belongs_within whole fields member_of
 required_fields_written = (refl, refl)
 
-field_types : TellsApart Deserialize (shape.struct fields false) (object_of (member_of "a" (whole 1) ∷ member_of "c" null ∷ []))
+field_types : TellsApart Deserialize (shape.struct (bare_fields fields false)) (object_of (member_of "a" (whole 1) ∷ member_of "c" null ∷ []))
     (object_of (member_of "a" (whole 1) ∷ member_of "b" null ∷ []))
 unfolding TellsApart has table belongs_within whole fields member_of
 field_types = (refl, refl)
 
-closed_structs : TellsApart Deserialize (shape.struct fields true) (object_of (member_of "a" (whole 1) ∷ []))
+closed_structs : TellsApart Deserialize (shape.struct (bare_fields fields true)) (object_of (member_of "a" (whole 1) ∷ []))
     (object_of (member_of "a" (whole 1) ∷ member_of "c" null ∷ []))
 unfolding TellsApart has table belongs_within whole fields member_of
 closed_structs = (refl, refl)
 
-structs_are_maps : has Deserialize (shape.struct [] false) (array no_items) ≡ false
+structs_are_maps : has Deserialize (shape.struct (bare_fields [] false)) (array no_items) ≡ false
 unfolding has table belongs_within
 structs_are_maps = refl
 
@@ -225,7 +226,7 @@ no_variant = (refl, refl)
 tagged_variants : List Variant
 tagged_variants =
     record { name = codes "U"; payload = no_payload; notes = no_members } ∷
-    record { name = codes "S"; payload = struct_payload fields false; notes = no_members } ∷ []
+    record { name = codes "S"; payload = struct_payload (bare_fields fields false); notes = no_members } ∷ []
 
 tagged : Bool → Shape
 tagged closed = shape.internal (codes "t") closed tagged_variants
@@ -256,6 +257,98 @@ tagged_structs = (refl, refl)
 no_tagged : has Deserialize (shape.internal (codes "t") false []) (object_of (member_of "t" (text "U") ∷ [])) ≡ false
 unfolding has table belongs_within text member_of
 no_tagged = refl
+
+-- ---- flattened rows
+
+-- a field of bytes beside the members of row n
+flattening : String → ℕ → Bool → Fields
+flattening name n closed = record {
+  list = needed (codes name) 0 ∷ [];
+  flatten = record { ty = n; required = record { deserialize = true; serialize = true } } ∷ [];
+  closed = closed;
+}
+
+-- row 0 has the bytes, row 1 an open struct of the fields above, row 2 one that flattens it, and row 3 this shape
+flat_table : Shape → List Row
+flat_table s =
+    record { id = codes "u8"; name = codes "u8"; entry = Some (in_place (shape.int U8)) } ∷
+    record { id = codes "A"; name = codes "A"; entry = Some (in_place (shape.struct (bare_fields fields false))) } ∷
+    record { id = codes "B"; name = codes "B"; entry = Some (in_place (shape.struct (flattening "y" 1 false))) } ∷
+    record { id = codes "t"; name = codes "t"; entry = Some (in_place s) } ∷ []
+
+has_flat : Shape → List (Text × Data) → Bool
+has_flat s ms = belongs (flat_table s) Deserialize [] 3 (object_of ms)
+
+TellsMapsApart : Shape → List (Text × Data) → List (Text × Data) → Type 0
+TellsMapsApart s ms ns = (has_flat s ms ≡ true) × (has_flat s ns ≡ false)
+
+-- one that has to be there, and one that has not
+flattened_members : TellsMapsApart (shape.struct (flattening "z" 1 false))
+    (member_of "a" (whole 1) ∷ member_of "q" null ∷ member_of "z" (whole 1) ∷ [])
+    (member_of "b" (whole 1) ∷ member_of "z" (whole 1) ∷ [])
+unfolding TellsMapsApart has_flat flat_table flattening belongs_within fields_within whole fields member_of
+flattened_members = (refl, refl)
+
+own_beside_flattened : TellsMapsApart (shape.struct (flattening "z" 1 false))
+    (member_of "a" (whole 1) ∷ member_of "z" (whole 255) ∷ [])
+    (member_of "a" (whole 1) ∷ [])
+unfolding TellsMapsApart has_flat flat_table flattening belongs_within fields_within whole fields member_of
+own_beside_flattened = (refl, refl)
+
+flattened_types : TellsMapsApart (shape.struct (flattening "z" 1 false))
+    (member_of "a" (whole 1) ∷ member_of "b" (whole 2) ∷ member_of "z" (whole 1) ∷ [])
+    (member_of "a" (whole 1) ∷ member_of "b" null ∷ member_of "z" (whole 1) ∷ [])
+unfolding TellsMapsApart has_flat flat_table flattening belongs_within fields_within whole fields member_of
+flattened_types = (refl, refl)
+
+-- the members of the flattened struct are no other keys
+closed_with_flattened : TellsMapsApart (shape.struct (flattening "z" 1 true))
+    (member_of "a" (whole 1) ∷ member_of "b" (whole 2) ∷ member_of "z" (whole 1) ∷ [])
+    (member_of "a" (whole 1) ∷ member_of "q" null ∷ member_of "z" (whole 1) ∷ [])
+unfolding TellsMapsApart has_flat flat_table flattening belongs_within fields_within whole fields member_of
+closed_with_flattened = (refl, refl)
+
+-- members of a struct inside a flattened struct
+flattened_twice : TellsMapsApart (shape.struct (flattening "z" 2 false))
+    (member_of "a" (whole 1) ∷ member_of "q" null ∷ member_of "y" (whole 1) ∷ member_of "z" (whole 1) ∷ [])
+    (member_of "b" (whole 1) ∷ member_of "y" (whole 1) ∷ member_of "z" (whole 1) ∷ [])
+unfolding TellsMapsApart has_flat flat_table flattening belongs_within fields_within whole fields member_of
+flattened_twice = (refl, refl)
+
+types_flattened_twice : TellsMapsApart (shape.struct (flattening "z" 2 false))
+    (member_of "a" (whole 1) ∷ member_of "b" (whole 2) ∷ member_of "y" (whole 1) ∷ member_of "z" (whole 1) ∷ [])
+    (member_of "a" (whole 1) ∷ member_of "b" null ∷ member_of "y" (whole 1) ∷ member_of "z" (whole 1) ∷ [])
+unfolding TellsMapsApart has_flat flat_table flattening belongs_within fields_within whole fields member_of
+types_flattened_twice = (refl, refl)
+
+closed_with_flattened_twice : TellsMapsApart (shape.struct (flattening "z" 2 true))
+    (member_of "a" (whole 1) ∷ member_of "b" (whole 2) ∷ member_of "y" (whole 1) ∷ member_of "z" (whole 1) ∷ [])
+    (member_of "a" (whole 1) ∷ member_of "q" null ∷ member_of "y" (whole 1) ∷ member_of "z" (whole 1) ∷ [])
+unfolding TellsMapsApart has_flat flat_table flattening belongs_within fields_within whole fields member_of
+closed_with_flattened_twice = (refl, refl)
+
+-- a tag beside the members of row 1
+tagged_content : Shape
+tagged_content =
+    shape.internal (codes "t") true (record { name = codes "C"; payload = newtype_payload 1; notes = no_members } ∷ [])
+
+contents_need_tags : TellsMapsApart tagged_content (member_of "a" (whole 1) ∷ member_of "t" (text "C") ∷ [])
+    (member_of "a" (whole 1) ∷ [])
+unfolding TellsMapsApart has_flat flat_table flattening belongs_within fields_within whole text fields member_of tagged_content
+contents_need_tags = (refl, refl)
+
+-- another name under the tag
+contents_by_name : TellsMapsApart tagged_content
+    (member_of "a" (whole 1) ∷ member_of "q" null ∷ member_of "t" (text "C") ∷ [])
+    (member_of "a" (whole 1) ∷ member_of "t" (text "D") ∷ [])
+unfolding TellsMapsApart has_flat flat_table flattening belongs_within fields_within whole text fields member_of tagged_content
+contents_by_name = (refl, refl)
+
+content_types : TellsMapsApart tagged_content
+    (member_of "a" (whole 1) ∷ member_of "b" (whole 2) ∷ member_of "t" (text "C") ∷ [])
+    (member_of "a" null ∷ member_of "t" (text "C") ∷ [])
+unfolding TellsMapsApart has_flat flat_table flattening belongs_within fields_within whole text fields member_of tagged_content
+content_types = (refl, refl)
 
 -- ---- literals
 

@@ -80,7 +80,7 @@ abbrev pub member_options : (ℕ → KeyOptions) → Payload → KeyOptions
 member_options part no_payload = any_key
 member_options part (newtype_payload n) = part n
 member_options part (tuple_payload ns) = any_key
-member_options part (struct_payload xs closed) = any_key
+member_options part (struct_payload x) = any_key
 
 abbrev pub members_options : (ℕ → KeyOptions) → List Variant → KeyOptions
 members_options part [] = only_keys [] None []

@@ -4,6 +4,7 @@ pub mod Names
 pub mod Times
 pub mod Version
 pub mod KeyOptions
+pub mod Effective
 pub mod Meaning
 pub mod Edges
 pub mod Faults

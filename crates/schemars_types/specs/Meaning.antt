@@ -3,11 +3,12 @@ use Rattle.std.specs.Prelude.{ℕ, zero, suc, ◌+◌, ◌*◌, ◌&&◌, ◌||�
 use Rattle.std.specs.Prelude.{Bool, true, false, not, int_le, nat_le, Option, Some, None, is_some, bytes_eq, if◌then◌else◌, codes}
 use Rattle.std.specs.List.{list_all, list_any}
 use Rattle.std.specs.Option.{option_map_or}
-use Rattle.serde_json.specs.Data.{Data, Items, no_items, item, Members, no_members, member, depth}
+use Rattle.serde_json.specs.Data.{Data, object, Items, no_items, item, Members, no_members, member, depth}
 use Rattle.serde_json.specs.Find.{as_bool, as_number, as_str, as_array, as_object, get_member}
 use Rattle.serde_json.specs.Events.{items_len}
 use Rattle.schemars_json.specs.Json.{Text, are_distinct}
 use Rattle.schemars_schema.specs.SchemaData.{is_schema}
+use Rattle.schemars_schema.specs.Edits.{without}
 use Rattle.schemars_schema.specs.Acceptance.{Patterns, is_null, whole_number, code_points}
 use Rattle.schemars_schema.specs.Literal.{has_literal}
 use Rattle.schemars_shapes.specs.Shape.{Required, Field, Shape, null, bool, int, non_zero, number, text, char}
@@ -17,6 +18,7 @@ use Rattle.schemars_shapes.specs.Shape.{range, either, map_from, external, untag
 use Rattle.schemars_shapes.specs.Shape.{Payload, Variant, no_payload, newtype_payload, tuple_payload, struct_payload}
 use Rattle.schemars_types.specs.KeyOptions.{KeyOptions, is_key_allowed, key_options}
 use Rattle.schemars_types.specs.Rows.{Row, entry_at}
+use Rattle.schemars_types.specs.Effective.{spread_in}
 use Rattle.schemars_shapes.specs.declared.shape.IntKind.{IntKind}
 use Rattle.schemars_shapes.specs.declared.shape.IntKind.TheVariants.{U8}
 use Rattle.schemars_shapes.specs.IntKind.{facts_of}
@@ -109,7 +111,7 @@ abbrev pub has_payload : Contract → (ℕ → Data → Bool) → Payload → Da
 has_payload contract part no_payload v = is_null v
 has_payload contract part (newtype_payload n) v = part n v
 has_payload contract part (tuple_payload ns) v = holds (as_array v) (each_of part ns)
-has_payload contract part (struct_payload list closed) v = has_fields contract part list closed v
+has_payload contract part (struct_payload x) v = has_fields contract part x.list x.closed v
 
 -- a map with this key alone, whose value passes
 abbrev pub is_map_of : Text → (Data → Bool) → Data → Bool
@@ -121,7 +123,7 @@ has_variant contract part v x = elim x.payload [
   | no_payload ↦ is_text x.name v
   | newtype_payload n ↦ is_map_of x.name (part n) v
   | tuple_payload ns ↦ is_map_of x.name (has_payload contract part (tuple_payload ns)) v
-  | struct_payload list closed ↦ is_map_of x.name (has_payload contract part (struct_payload list closed)) v
+  | struct_payload y ↦ is_map_of x.name (has_payload contract part (struct_payload y)) v
 ]
 
 -- the tag has this name, and another member is a field's, or free where there is no end to the keys
@@ -135,23 +137,32 @@ has_tagged contract part tag list closed name v = holds (as_object v) (λ ms.
 
 -- the fields of a variant that is tagged inside its map; a unit has none
 abbrev pub tagged_fields : Payload → List Field
-tagged_fields (struct_payload list closed) = list
+tagged_fields (struct_payload x) = x.list
 tagged_fields _ = []
 
 -- whether it excludes other keys: a struct says so itself
 abbrev pub tagged_closed : Bool → Payload → Bool
-tagged_closed closed (struct_payload list own) = own
+tagged_closed closed (struct_payload x) = x.closed
 tagged_closed closed _ = closed
 
+-- a map with this name under the tag, whose other members pass as a map of their own
+abbrev pub has_content : (Data → Bool) → Text → Text → Data → Bool
+has_content p tag name v =
+    holds (as_object v) (λ ms. holds (get_member tag ms) (is_text name) && p (object (without tag ms)))
+
 abbrev pub has_internal : Contract → (ℕ → Data → Bool) → Text → Bool → Data → Variant → Bool
-has_internal contract part tag closed v x =
-    has_tagged contract part tag (tagged_fields x.payload) (tagged_closed closed x.payload) x.name v
+has_internal contract part tag closed v x = elim x.payload [
+  | no_payload ↦ has_tagged contract part tag [] closed x.name v
+  | newtype_payload n ↦ has_content (part n) tag x.name v
+  | tuple_payload ns ↦ false
+  | struct_payload y ↦ has_tagged contract part tag y.list y.closed x.name v
+]
 
 -- a map with allowed keys, whose values pass
 abbrev pub has_keys : Patterns → KeyOptions → (Data → Bool) → Data → Bool
 has_keys patterns options p v = holds (as_object v) (every_member (λ k w. is_key_allowed patterns options k && p w))
 
--- the values of a shape, where `part` says which values the rows inside it have, and `keys` which keys
+-- the values of a shape without flattened rows, where `part` says which values the rows inside it have, and `keys` which keys
 abbrev pub has_shape : Contract → Patterns → (ℕ → KeyOptions) → (ℕ → Data → Bool) → Shape → Data → Bool
 has_shape contract patterns keys part null v = is_null v
 has_shape contract patterns keys part bool v = is_some (as_bool v)
@@ -170,7 +181,7 @@ has_shape contract patterns keys part (set n) v = holds (as_array v) (λ vs. are
 has_shape contract patterns keys part (array_shape n len) v = holds (as_array v) (λ vs. (items_len vs == len) && every_item (part n) vs)
 has_shape contract patterns keys part (up_to n cap) v = holds (as_array v) (λ vs. nat_le (items_len vs) cap && every_item (part n) vs)
 has_shape contract patterns keys part (tuple ns) v = holds (as_array v) (each_of part ns)
-has_shape contract patterns keys part (struct list closed) v = has_fields contract part list closed v
+has_shape contract patterns keys part (struct x) v = has_fields contract part x.list x.closed v
 has_shape contract patterns keys part (newtype n) v = part n v
 has_shape contract patterns keys part (result t e) v = exactly_one
     (has_fields contract part (needed (codes "Ok") t ∷ []) false v ∷ has_fields contract part (needed (codes "Err") e ∷ []) false v ∷ [])
@@ -193,7 +204,8 @@ belongs_within rows contract patterns zero n v = false
 belongs_within rows contract patterns (suc steps) n v =
     elim (entry_at rows n) [
       | None ↦ false
-      | Some entry ↦ has_shape contract patterns (key_options rows) (belongs_within rows contract patterns steps) entry.shape v
+      | Some entry ↦
+          has_shape contract patterns (key_options rows) (belongs_within rows contract patterns steps) (spread_in rows entry.shape) v
     ]
 
 -- the meaning of row n: at each depth of the value every row is asked once at most

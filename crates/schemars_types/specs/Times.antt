@@ -4,7 +4,7 @@ use Rattle.schemars_json.specs.Json.{Text}
 use Rattle.schemars_shapes.specs.declared.shape.IntKind.{IntKind}
 use Rattle.schemars_shapes.specs.declared.shape.IntKind.TheVariants.{U32, U64}
 use Rattle.schemars_shapes.specs.IntKind.{format_of}
-use Rattle.schemars_shapes.specs.Shape.{Entry, int, struct, needed, in_place, without_notes}
+use Rattle.schemars_shapes.specs.Shape.{Entry, Fields, bare_fields, int, struct, needed, in_place, without_notes}
 use Rattle.schemars_types.specs.Rows.{Row}
 use Rattle.schemars_types.specs.declared.error.TypesError.{TypesError}
 use Rattle.schemars_types.specs.Refusals.{Registers, Refuses}
@@ -15,9 +15,13 @@ RegistersInt kind = Registers (format_of kind) (format_of kind) (in_place (int k
 abbrev pub RefusesInt : IntKind → List Row → TypesError → Type 0
 RefusesInt kind = Refuses (format_of kind) (in_place (int kind))
 
--- an open struct of seconds, of row s, and of nanoseconds, of row n
+-- seconds, of row s, and nanoseconds, of row n
+abbrev pub time_fields : Text → Text → ℕ → ℕ → Fields
+time_fields seconds nanoseconds s n = bare_fields (needed seconds s ∷ needed nanoseconds n ∷ []) false
+
+-- an open struct of these
 abbrev pub time_entry : Text → Text → ℕ → ℕ → Entry
-time_entry seconds nanoseconds s n = without_notes false (struct (needed seconds s ∷ needed nanoseconds n ∷ []) false)
+time_entry seconds nanoseconds s n = without_notes false (struct (time_fields seconds nanoseconds s n))
 
 -- The rows of 64-bit and of 32-bit numbers are registered, and then that of the time, which refers to them.
 pub record RegistersTime (id name seconds nanoseconds : Text) (old new : List Row) (n : ℕ) : Type 0 where

@@ -7,11 +7,11 @@ ghost use Rattle.schemars_types.specs.Names.{array_id, array_name, up_to_id, up_
 ghost use Rattle.schemars_types.specs.Names.{bound_id, bound_name, range_id, range_name, either_id, either_name};
 ghost use Rattle.schemars_types.specs.Names.{map_id, map_name};
 ghost use Rattle.schemars_shapes.specs.Shape.{Shape as shape, shape_of, in_place, array_of, without_notes};
-ghost use Rattle.schemars_shapes.specs.Shape.{field_of, fields_view, needed};
+ghost use Rattle.schemars_shapes.specs.Shape.{field_of, fields_of, needed};
 ghost use Rattle.schemars_types.specs.Rows.{id_at, name_at, unknown_in};
 ghost use Rattle.schemars_types.specs.Refusals.{Registers, Refuses};
 ghost use Rattle.schemars_types.specs.Version.{version_schema};
-ghost use Rattle.schemars_types.specs.Times.{RegistersTime, RefusesTime};
+ghost use Rattle.schemars_types.specs.Times.{time_fields, RegistersTime, RefusesTime};
 
 use crate::error::TypesError;
 use crate::table::Types;
@@ -538,13 +538,13 @@ fn time_fields(
     nanoseconds: &str,
     part: TypeNo,
 ) -> Result<Fields, AllocError>
-    ensures { IfOk result (λ f. fields_view f
-        ≡ (needed seconds.now whole ∷ needed nanoseconds.now part ∷ [], false)) }
+    ensures { IfOk result (λ f. fields_of f ≡ time_fields seconds.now nanoseconds.now whole part) }
 {
     let seconds = needed_field(alloc, seconds, whole)?;
     let nanoseconds = needed_field(alloc, nanoseconds, part)?;
     Ok(Fields {
         list: vec![in alloc; seconds, nanoseconds]?,
+        flatten: Vec::new(alloc),
         closed: false,
     })
 }

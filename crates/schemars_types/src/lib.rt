@@ -8,7 +8,7 @@ mod table;
 
 pub use error::TypesError;
 pub use schemars_shapes::{
-    Field, Fields, IntKind, IntegerKeys, Internal, InternalPayload, InternalVariant, Payload,
-    Required, Shape, TypeEntry, TypeNo, Variant,
+    Field, Fields, Flattened, IntKind, IntegerKeys, Internal, InternalPayload, InternalVariant,
+    Payload, Required, Shape, TypeEntry, TypeNo, Variant,
 };
 pub use table::Types;

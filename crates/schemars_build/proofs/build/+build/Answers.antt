@@ -1,11 +1,11 @@
-use Rattle.std.proofs.Common.{◌≡◌, ◌≢◌, ◌<◌, ◌+◌, ◌++◌, ◌∷◌, [], ℕ, List, Option, Bool, false, length, take, true, inl, inr}
+use Rattle.std.proofs.Common.{◌≡◌, ◌≢◌, ◌<◌, ◌+◌, ◌++◌, ◌∷◌, [], ℕ, zero, suc, map, List, Option, Bool, false, length, take, true, inl, inr}
 use Rattle.std.proofs.Common.{Some, None, refl, ap, sym, ◌∙◌, subst, arith, rules, string_bytes, All, get_or, not, is_some, eqb}
 use Rattle.std.proofs.Common.{true≢false}
 use Rattle.std.specs.Prelude.{◌||◌, codes, if◌then◌else◌}
 use Rattle.std.specs.Option.{option_eq}
 use Rattle.std.proofs.lemmas.Bool.{eqb-true}
 use Rattle.std.proofs.lemmas.Bool.Decides.{nat_tests}
-use Rattle.std.proofs.lemmas.List.{take_more}
+use Rattle.std.proofs.lemmas.List.{map_more}
 use Rattle.std.proofs.lemmas.Str.{IsUtf8-string_bytes}
 use Rattle.serde_json.specs.Data.{Data, boolean, string}
 use Rattle.serde_json.specs.Find.{get_member}
@@ -15,19 +15,26 @@ use Rattle.schemars_shapes.specs.Shape.{entry_of}
 use Rattle.schemars_types.specs.Edges.{is_inline_at}
 use Rattle.schemars_documents.specs.Documents.{reference}
 use Rattle.schemars_schema.specs.SchemaData.{IsSchema}
-use Rattle.schemars_templates.specs.Template.{Template, rows_of, filled}
+use Rattle.schemars_templates.specs.Template.{Template, Ask, part, members_of, content, asks_of, filled}
+use Rattle.schemars_templates.specs.View.{ask_of}
+use Rattle.schemars_templates.specs.Describes.{without_options}
+use Rattle.schemars_templates.specs.declared.template.Ask as src-ask
+use Rattle.schemars_templates.specs.declared.template.Ask.TheVariants as ask
 use Rattle.schemars_templates.specs.OfShape.{entry_template}
 use Rattle.schemars_naming.specs.Naming.{name_of}
 use Rattle.schemars_naming.specs.Placed.{is_in_place, pending_in}
 use Rattle.schemars_naming.specs.Work.{Plan, Work, Step, undone, reference_to, basis_of, without_last}
 use Rattle.schemars_naming.proofs.Given.{gives-keeps}
-use Rattle.schemars_build.specs.Missing.{StandsIn, missing}
-use Rattle.schemars_build.specs.Parts.{IsPart, AreParts, IsOwn, IsMade}
+use Rattle.schemars_build.specs.Missing.{IsAskedIn, missing}
+use Rattle.schemars_build.specs.Parts.{IsPart, AreAnswers, IsFilledIn, IsOwn, IsMade}
 use Rattle.schemars_build.specs.Plans.{plan_of}
 use Rattle.schemars_build.specs.Reached.{AreReached}
-use Rattle.schemars_build.proofs.Building.{parts_more, filled_by_parts, own_of_parts, in_place, stand_rows}
-use Rattle.schemars_build.proofs.Descending.{left_of_subschema, left_of_own_document, left_of_subschemas, left_of_define}
-use Rattle.schemars_build.proofs.Descending.{to_part, to_parts, to_own, to_define, to_definition}
+use Rattle.schemars_build.proofs.Asked.{asks_in_order}
+use Rattle.schemars_build.proofs.Building.{answers_more, own_of_filled, in_place, content_referred}
+use Rattle.schemars_build.proofs.Filling.{filled_by_answers, filled_in, members_answer}
+use Rattle.schemars_build.proofs.Descending.{left_of_subschema, left_of_own_document, left_of_define, left_of_filled, left_of_answers}
+use Rattle.schemars_build.proofs.Descending.{left_of_answer, left_of_members, to_answers, to_answer, to_part, to_members, to_content}
+use Rattle.schemars_build.proofs.Descending.{members_to_filled, content_to_filled, content_to_part, to_filled, to_own, to_define, to_definition}
 use Rattle.schemars_build.proofs.Placing.{left_pending, pending_grows}
 use Rattle.schemars_build.proofs.Reaching.{reached_defines, reached_by_name, reached_root, nothing_added}
 use Rattle.schemars_build.proofs.Steps.{begun_with, finished_with, begun-fewer, undone-begun, undone-finished}
@@ -35,79 +42,145 @@ use Rattle.schemars_build.proofs.Steps.{begun-contains, finished-found, key-foun
 use Rattle.schemars_build.proofs.Steps.{step_defines, step_entered, step_wider, missing-wider}
 use Rattle.schemars_build.proofs.build.+build.Goals as goal
 
--- ---- the parts of a document
+-- ---- the answers in a document
 
-pub subschemas-subschema-requires : goal.subschemas-subschema-requires
-subschemas-subschema-requires t c =
+-- what holds of each as the program holds it
+each_asked : (P : Ask → Type 0) (asks : List src-ask.Ask) → All P (map ask_of asks) → All (λ a. P (ask_of a)) asks
+each_asked P [] h = λ k d less. absurd (omega (arith, less))
+each_asked P (a ∷ asks) h = front P a asks (h zero (ask_of a) (omega arith))
+    (each_asked P asks (λ k d less. h (suc k) d (omega (arith, less))))
+  where
+    front : (P : Ask → Type 0) (a : src-ask.Ask) (asks : List src-ask.Ask) → P (ask_of a) → All (λ b. P (ask_of b)) asks
+        → All (λ b. P (ask_of b)) (a ∷ asks)
+    front P a asks first rest zero d less = first
+    front P a asks first rest (suc k) d less = rest k d (omega (arith, less))
+
+abbrev missing_ask : src-ask.Ask
+missing_ask = ask.Part 0
+
+pub answers-answer-requires : goal.answers-answer-requires
+answers-answer-requires t c =
     let plan = plan_of c.args.plan.now in
-    let m : ℕ = get_or c.args.rows.now c.loop-row.row-index 0 in
-    let one : StandsIn plan.rows c.args.n m = c.requires.stand c.loop-row.row-index 0 (omega arith) in
-    let step = c.loop-row.invariant.step in
-    let fewer = missing-wider plan.rows plan.contract c.args.work.now c.loop-row.work
-    (step_wider plan c.args.work.now c.loop-row.work step) in
-    let down : left_of_subschema plan c.loop-row.work m < left_of_subschemas plan c.args.work.now c.args.n =
-    to_part plan c.args.work.now c.loop-row.work c.args.n m one fewer step.still_pending in
-    (search rules, (c.requires.checked, one.is_known))
+    let a : src-ask.Ask = get_or c.args.asks.now c.loop-ask.ask-index missing_ask in
+    let one : IsAskedIn plan.rows c.args.n (ask_of a) = c.requires.stand c.loop-ask.ask-index missing_ask (omega arith) in
+    let step = c.loop-ask.invariant.step in
+    let fewer = missing-wider plan.rows plan.contract c.args.work.now c.loop-ask.work
+    (step_wider plan c.args.work.now c.loop-ask.work step) in
+    let down : left_of_answer plan c.loop-ask.work c.args.n < left_of_answers plan c.args.work.now c.args.n =
+    to_answer plan c.args.work.now c.loop-ask.work c.args.n fewer step.still_pending in
+    (search rules, (c.requires.checked, one))
 
-pub subschemas-loop-row-preserved : goal.subschemas-loop-row-preserved
-subschemas-loop-row-preserved t c =
+pub answers-loop-ask-preserved : goal.answers-loop-ask-preserved
+answers-loop-ask-preserved t c =
     let plan = plan_of c.args.plan.now in
     let start = c.args.work.now in
-    let old = c.loop-row.work in
-    let now = c.subschema.new.work in
-    let i = c.loop-row.row-index in
-    let m : ℕ = get_or c.args.rows.now i 0 in
-    let done = c.loop-row.parts.items in
-    let less : i < length c.args.rows.now = omega arith in
-    let grown : take (i + 1) c.args.rows.now ≡ take i c.args.rows.now ++ m ∷ [] = take_more c.args.rows.now i 0 less in
-    let P : List ℕ → List Data → Type 0 = λ ms ts. AreParts plan c.args.in_definition start now ms ts in
+    let old = c.loop-ask.work in
+    let now = c.answer.new.work in
+    let i = c.loop-ask.ask-index in
+    let a : src-ask.Ask = get_or c.args.asks.now i missing_ask in
+    let done = c.loop-ask.answers.items in
+    let less : i < length c.args.asks.now = omega arith in
+    let grown : map ask_of (take (i + 1) c.args.asks.now) ≡ map ask_of (take i c.args.asks.now) ++ ask_of a ∷ [] =
+    map_more ask_of c.args.asks.now i missing_ask less in
+    let P : List Ask → List Data → Type 0 = λ asks ts. AreAnswers plan c.args.in_definition start now asks ts in
     record {
-      undone = c.in_ok-part.ensures.undone ∙ c.loop-row.invariant.undone;
-      step = step_trans plan start old now c.loop-row.invariant.step c.in_ok-part.ensures.step;
-      are = subst (λ ms. P ms c.push_back.new.self.items) (sym grown)
-          (subst (λ ts. P (take i c.args.rows.now ++ m ∷ []) ts) (sym c.in_ok-push_back.ensures.items)
-          (parts_more plan c.args.in_definition start old now (take i c.args.rows.now) done m c.in_ok-part.part
-          c.loop-row.invariant.step c.in_ok-part.ensures.step c.loop-row.invariant.are c.in_ok-part.ensures.is));
+      undone = c.in_ok-answer.ensures.undone ∙ c.loop-ask.invariant.undone;
+      step = step_trans plan start old now c.loop-ask.invariant.step c.in_ok-answer.ensures.step;
+      are = subst (λ asks. P asks c.push_back.new.self.items) (sym grown)
+          (subst (λ ts. P (map ask_of (take i c.args.asks.now) ++ ask_of a ∷ []) ts) (sym c.in_ok-push_back.ensures.items)
+          (answers_more plan c.args.in_definition start old now (map ask_of (take i c.args.asks.now)) done (ask_of a) c.in_ok-answer.answer
+          c.loop-ask.invariant.step c.in_ok-answer.ensures.step c.loop-ask.invariant.are c.in_ok-answer.ensures.is));
     }
+
+-- ---- one answer
+
+pub answer-subschema-requires : goal.answer-subschema-requires
+answer-subschema-requires t c =
+    let plan = plan_of c.args.plan.now in
+    let one : IsAskedIn plan.rows c.args.n (part c.in-Part.m) = subst (λ a. IsAskedIn plan.rows c.args.n (ask_of a)) c.in-Part.is
+    c.requires.stands in
+    let down = to_part plan c.args.work.now c.args.n c.in-Part.m one in
+    (search rules, (c.requires.checked, one.0))
+
+pub answer-members_of-requires : goal.answer-members_of-requires
+answer-members_of-requires t c =
+    let plan = plan_of c.args.plan.now in
+    let one : IsAskedIn plan.rows c.args.n (members_of c.in-MembersOf.m c.in-MembersOf.required) =
+    subst (λ a. IsAskedIn plan.rows c.args.n (ask_of a)) c.in-MembersOf.is c.requires.stands in
+    let down = to_members plan c.args.work.now c.args.n c.in-MembersOf.m c.in-MembersOf.required one in
+    (search rules, (c.requires.checked, one.0))
+
+pub answer-content-requires : goal.answer-content-requires
+answer-content-requires t c =
+    let plan = plan_of c.args.plan.now in
+    let one : IsAskedIn plan.rows c.args.n (content c.in-Content.m) = subst (λ a. IsAskedIn plan.rows c.args.n (ask_of a)) c.in-Content.is
+    c.requires.stands in
+    let down = to_content plan c.args.work.now c.args.n c.in-Content.m one in
+    (search rules, (c.requires.checked, one.0))
 
 -- ---- the document of a row
 
 abbrev inner_of : Plan → Work → ℕ → List ℕ
 inner_of plan w n = pending_in plan.inlines w.pending n
 
-pub own_document-subschemas-requires : goal.own_document-subschemas-requires
-own_document-subschemas-requires t c =
+pub filled_document-answers-requires : goal.filled_document-answers-requires
+filled_document-answers-requires t c =
     let plan = plan_of c.args.plan.now in
-    let old = c.args.work.now in
     let e = entry_of c.in-Some.entry.now in
-    let same : c.deref.result.now ≡ rows_of (entry_template (basis_of plan) e) =
-    c.deref.ensures.value ∙ (c.in_ok-rows.ensures ∙ ap rows_of c.in_ok-template.ensures) in
-    let P : List ℕ → Type 0 = λ ms. All (StandsIn plan.rows c.args.n) ms in
-    let all : All (StandsIn plan.rows c.args.n) c.deref.result.now =
-    subst P (sym same) (stand_rows plan c.args.n e c.requires.checked (sym c.in-Some.ensures)) in
-    let Q : Work → Type 0 = λ w. left_of_subschemas plan w c.args.n < left_of_own_document plan old c.args.n in
-    let entered : c.enter.new.self ≡ record old { pending = inner_of plan old c.args.n } = c.in_ok-entered.ensures.ok in
-    let less : left_of_subschemas plan c.enter.new.self c.args.n < left_of_own_document plan old c.args.n =
-    subst Q (sym entered) (to_parts plan old (record old { pending = inner_of plan old c.args.n }) c.args.n
-    (missing-wider plan.rows plan.contract old (record old { pending = inner_of plan old c.args.n })
-    (record { names = λ n name e. e; keys = λ q is. is; meets = λ e. e })) refl) in
+    let same : map ask_of c.deref.result.now ≡ asks_of (entry_template (basis_of plan) e) =
+    ap (map ask_of) c.deref.ensures.value ∙ (c.in_ok-asks.ensures ∙ ap asks_of c.in_ok-template.ensures) in
+    let P : List Ask → Type 0 = λ asks. All (IsAskedIn plan.rows c.args.n) asks in
+    let all : All (λ a. IsAskedIn plan.rows c.args.n (ask_of a)) c.deref.result.now =
+    each_asked (IsAskedIn plan.rows c.args.n) c.deref.result.now
+    (subst P (sym same) (asks_in_order (basis_of plan) c.args.n e c.requires.checked (sym c.in-Some.ensures))) in
+    let less = to_answers plan c.args.work.now c.args.n in
     (search rules, (c.requires.checked, all))
 
--- what the work is while parts are made, and after
-own_entered : (t : ℕ) (c : goal.own_document-After-drop-rows-2 t) → c.enter.new.self
+pub filled_document-returns-clause-is : goal.filled_document-returns-clause-is
+filled_document-returns-clause-is t c =
+    let plan = plan_of c.args.plan.now in
+    let inside = c.args.in_definition in
+    let old = c.args.work.now in
+    let now = c.answers.new.work in
+    let e = entry_of c.in-Some.entry.now in
+    let template = c.in_ok-template.ensures in
+    let ts = c.in_ok-answers.answers.items in
+    let same : map ask_of c.deref.result.now ≡ asks_of (entry_template (basis_of plan) e) =
+    ap (map ask_of) c.deref.ensures.value ∙ (c.in_ok-asks.ensures ∙ ap asks_of template) in
+    let P : List Ask → Type 0 = λ asks. AreAnswers plan inside old now asks ts in
+    let all : AreAnswers plan inside old now (asks_of (entry_template (basis_of plan) e)) ts = subst P same c.in_ok-answers.ensures.are in
+    let schema = filled_by_answers plan inside old now e ts all in
+    let Q : Template → Type 0 = λ u. IsSchema (filled u ts) → c.in_ok-schema.schema ≡ filled u ts in
+    filled_in plan inside old now e ts all c.args.n c.in_ok-schema.schema c.requires.checked (sym c.in-Some.ensures)
+    (subst Q template c.in_ok-schema.ensures schema)
+
+pub own_document-filled_document-requires : goal.own_document-filled_document-requires
+own_document-filled_document-requires t c =
+    let plan = plan_of c.args.plan.now in
+    let old = c.args.work.now in
+    let Q : Work → Type 0 = λ w. left_of_filled plan w c.args.n < left_of_own_document plan old c.args.n in
+    let entered : c.enter.new.self ≡ record old { pending = inner_of plan old c.args.n } = c.in_ok-entered.ensures.ok in
+    let less : left_of_filled plan c.enter.new.self c.args.n < left_of_own_document plan old c.args.n =
+    subst Q (sym entered) (to_filled plan old (record old { pending = inner_of plan old c.args.n }) c.args.n
+    (missing-wider plan.rows plan.contract old (record old { pending = inner_of plan old c.args.n })
+    (record { names = λ n name e. e; keys = λ q is. is; meets = λ e. e })) refl) in
+    (search rules, (c.requires.checked, c.requires.known))
+
+-- what the work is while the document is made, and after
+own_entered : (t : ℕ) (c : goal.own_document-After-leave t) → c.enter.new.self
     ≡ record c.args.work.now { pending = inner_of (plan_of c.args.plan.now) c.args.work.now c.args.n }
 own_entered t c = c.in_ok-entered.ensures.ok
 
-own_step : (t : ℕ) (c : goal.own_document-After-drop-rows-2 t) → Step (plan_of c.args.plan.now)
-    (record c.args.work.now { pending = inner_of (plan_of c.args.plan.now) c.args.work.now c.args.n }) c.subschemas.new.work
-own_step t c = subst (λ w. Step (plan_of c.args.plan.now) w c.subschemas.new.work) (own_entered t c) c.in_ok-parts.ensures.step
+own_step : (t : ℕ) (c : goal.own_document-After-leave t) → Step (plan_of c.args.plan.now)
+    (record c.args.work.now { pending = inner_of (plan_of c.args.plan.now) c.args.work.now c.args.n }) c.filled_document.new.work
+own_step t c = subst (λ w. Step (plan_of c.args.plan.now) w c.filled_document.new.work) (own_entered t c) c.in_ok-schema.ensures.step
 
-own_left : (t : ℕ) (c : goal.own_document-After-drop-rows-2 t) → c.leave.new.self
-    ≡ record c.subschemas.new.work { pending = c.args.work.now.pending }
+own_left : (t : ℕ) (c : goal.own_document-After-leave t) → c.leave.new.self
+    ≡ record c.filled_document.new.work { pending = c.args.work.now.pending }
 own_left t c =
     let plan = plan_of c.args.plan.now in
     let old = c.args.work.now in
-    let mid = c.subschemas.new.work in
+    let mid = c.filled_document.new.work in
     let entered = c.in_ok-entered.entered in
     let inner : mid.pending ≡ inner_of plan old c.args.n = (own_step t c).still_pending in
     let back : (if entered then without_last mid.pending else mid.pending) ≡ old.pending =
@@ -117,7 +190,7 @@ own_left t c =
 
 pub own_document-returns-clause-undone : goal.own_document-returns-clause-undone
 own_document-returns-clause-undone t c =
-    ap undone (own_left t c) ∙ (c.in_ok-parts.ensures.undone ∙ ap undone (own_entered t c))
+    ap undone (own_left t c) ∙ (c.in_ok-schema.ensures.undone ∙ ap undone (own_entered t c))
 
 pub own_document-returns-clause-step : goal.own_document-returns-clause-step
 own_document-returns-clause-step t c =
@@ -125,29 +198,67 @@ own_document-returns-clause-step t c =
     let old = c.args.work.now in
     let inner = pending_grows plan.inlines old.pending c.args.n in
     subst (λ w. Step plan old w) (sym (own_left t c))
-    (step_entered plan old c.subschemas.new.work inner.0
-    (subst (λ p. Step plan (record old { pending = p }) c.subschemas.new.work) inner.1 (own_step t c)))
+    (step_entered plan old c.filled_document.new.work inner.0
+    (subst (λ p. Step plan (record old { pending = p }) c.filled_document.new.work) inner.1 (own_step t c)))
 
 pub own_document-returns-clause-is : goal.own_document-returns-clause-is
 own_document-returns-clause-is t c =
     let plan = plan_of c.args.plan.now in
     let inside = c.args.in_definition in
     let old = c.args.work.now in
-    let mid = c.subschemas.new.work in
+    let mid = c.filled_document.new.work in
     let inner = inner_of plan old c.args.n in
-    let e = entry_of c.in-Some.entry.now in
-    let template = c.in_ok-template.ensures in
-    let ts = c.in_ok-parts.parts.items in
-    let same : c.deref.result.now ≡ rows_of (entry_template (basis_of plan) e) =
-    c.deref.ensures.value ∙ (c.in_ok-rows.ensures ∙ ap rows_of template) in
-    let P : List ℕ → Type 0 = λ ms. AreParts plan inside c.enter.new.self mid ms ts in
-    let R : Work → Type 0 = λ w. AreParts plan inside w mid (rows_of (entry_template (basis_of plan) e)) ts in
-    let all : R (record old { pending = inner }) = subst R (own_entered t c) (subst P same c.in_ok-parts.ensures.are) in
-    let schema = filled_by_parts plan inside (record old { pending = inner }) mid e ts all in
-    let Q : Template → Type 0 = λ u. IsSchema (filled u ts) → c.in_ok-schema.schema ≡ filled u ts in
+    let R : Work → Type 0 = λ w. IsFilledIn plan inside w mid c.args.n c.in_ok-schema.schema in
+    let filled : R (record old { pending = inner }) = subst R (own_entered t c) c.in_ok-schema.ensures.is in
     subst (λ w. IsOwn plan inside old w c.args.n c.in_ok-schema.schema) (sym (own_left t c))
-    (own_of_parts plan inside old mid inner c.args.n e ts c.in_ok-schema.schema (sym c.in-Some.ensures) refl (own_step t c) all
-    (subst Q template c.in_ok-schema.ensures schema))
+    (own_of_filled plan inside old mid inner c.args.n c.in_ok-schema.schema refl (own_step t c) filled)
+
+-- ---- members, and contents of tagged variants
+
+pub members_of-filled_document-requires : goal.members_of-filled_document-requires
+members_of-filled_document-requires t c =
+    let plan = plan_of c.args.plan.now in
+    let same : c.without_options-inner.result ≡ without_options plan.rows c.args.n = c.without_options-inner.ensures in
+    let less : left_of_filled plan c.args.work.now (without_options plan.rows c.args.n) < left_of_members plan c.args.work.now c.args.n =
+    members_to_filled plan c.args.work.now c.args.n in
+    (search rules, (c.requires.checked, search rules))
+
+pub members_of-returns-clause-is : goal.members_of-returns-clause-is
+members_of-returns-clause-is t c =
+    let plan = plan_of c.args.plan.now in
+    let old = c.args.work.now in
+    let now = c.filled_document.new.work in
+    let inner : c.without_options-inner.result ≡ without_options plan.rows c.args.n = c.without_options-inner.ensures in
+    let P : ℕ → Type 0 = λ k. IsFilledIn plan c.args.in_definition old now k c.in_ok-schema.schema in
+    let filled : P (without_options plan.rows c.args.n) = subst P inner c.in_ok-schema.ensures.is in
+    members_answer plan c.args.in_definition old now c.args.n c.args.required c.in_ok-schema.schema c.as_flattened.new.schema
+    filled (search rules)
+
+pub content-filled_document-requires : goal.content-filled_document-requires
+content-filled_document-requires t c =
+    let plan = plan_of c.args.plan.now in
+    let less = content_to_filled plan c.args.work.now c.args.n in
+    (search rules, (c.requires.checked, c.requires.known))
+
+pub content-subschema-requires : goal.content-subschema-requires
+content-subschema-requires t c =
+    let plan = plan_of c.args.plan.now in
+    let step = c.in_ok-schema.ensures.step in
+    let less = content_to_part plan c.args.work.now c.filled_document.new.work c.args.n (missing-wider plan.rows plan.contract
+    c.args.work.now c.filled_document.new.work (step_wider plan c.args.work.now c.filled_document.new.work step)) step.still_pending in
+    (search rules, (c.requires.checked, c.requires.known))
+
+pub content-returns-then-not-stands_in_place-clause-step : goal.content-returns-then-not-stands_in_place-clause-step
+content-returns-then-not-stands_in_place-clause-step t c =
+    step_trans (plan_of c.args.plan.now) c.args.work.now c.filled_document.new.work c.subschema.new.work
+    c.in_ok-schema.ensures.step c.in_ok-part.ensures.step
+
+pub content-returns-then-not-stands_in_place-clause-is : goal.content-returns-then-not-stands_in_place-clause-is
+content-returns-then-not-stands_in_place-clause-is t c =
+    let plan = plan_of c.args.plan.now in
+    content_referred plan c.args.in_definition c.args.work.now c.filled_document.new.work c.subschema.new.work c.args.n
+    (is_inline_at plan.rows c.args.n || plan.inlines) c.in_ok-schema.schema c.in_ok-part.part refl c.in_ok-part.ensures.step
+    c.in_ok-schema.ensures.is (search rules) c.in_ok-part.ensures.is
 
 -- ---- a definition
 

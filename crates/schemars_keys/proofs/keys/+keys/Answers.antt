@@ -4,7 +4,8 @@ use Rattle.std.specs.List.{list_any}
 use Rattle.schemars_shapes.specs.declared.shape.Shape as src-shape
 use Rattle.schemars_shapes.specs.declared.shape.Shape.TheVariants as src
 use Rattle.schemars_shapes.specs.declared.shape.TypeEntry as src-entry
-use Rattle.schemars_shapes.specs.Shape.{entry_of, shape_of, variant_of, payload_of, newtype_payload, newtype_numbers, same_value_numbers}
+use Rattle.schemars_shapes.specs.Shape.{entry_of, shape_of, variant_of, payload_of, newtype_payload, payload_same, of_variants}
+use Rattle.schemars_shapes.specs.Shape.{same_value_numbers}
 use Rattle.schemars_types.specs.Rows.{Row, entry_at}
 use Rattle.schemars_types.specs.Edges.{SameValueEdge, rank}
 use Rattle.schemars_types.specs.Faults.{IsChecked}
@@ -67,9 +68,9 @@ add_own-add_untagged-requires t c =
     let rows = c.args.types.now in
     let xs = c.deref-in-Untagged.result.now in
     let same : xs ≡ c.in-Untagged.variants.items = c.deref-in-Untagged.ensures.value in
-    let edges : (m : ℕ) → Contains (newtype_numbers (map variant_of xs)) m → SameValueEdge rows c.args.n m =
+    let edges : (m : ℕ) → Contains (of_variants payload_same (map variant_of xs)) m → SameValueEdge rows c.args.n m =
     λ m among. edge_of_shape rows c.requires.checked c.args.n c.in-Some.entry.now c.in-Some.ensures (src.Untagged c.in-Untagged.variants)
-    c.in-Untagged.is m (subst (λ vs. Contains (newtype_numbers (map variant_of vs)) m) same among) in
+    c.in-Untagged.is m (subst (λ vs. Contains (of_variants payload_same (map variant_of vs)) m) same among) in
     let less : 4 * rank rows c.args.n + 1 < 4 * rank rows c.args.n + 2 = omega arith in
     (search rules, (c.requires.checked, (edges, c.requires.holds)))
 

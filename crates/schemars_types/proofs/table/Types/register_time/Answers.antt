@@ -1,6 +1,6 @@
-use Rattle.std.proofs.Common.{◌≡◌, List, Bool, false, ap, ◌∙◌, subst, IfErr}
+use Rattle.std.proofs.Common.{◌≡◌, false, ap, ◌∙◌, subst, IfErr}
 use Rattle.std.proofs.lemmas.Result.{err_from_is_err_and}
-use Rattle.schemars_shapes.specs.Shape.{Field, struct, without_notes}
+use Rattle.schemars_shapes.specs.Shape.{Fields, struct, without_notes}
 use Rattle.schemars_types.specs.Rows.{unknown_in}
 use Rattle.schemars_types.specs.Refusals.{Refuses}
 use Rattle.schemars_types.specs.Times.{refuses_u32, refuses_time}
@@ -23,7 +23,7 @@ returns-in_err-fields-clause-refused c =
 pub register_named-requires : goal.register_named-requires
 register_named-requires c =
     let rows = c.int-2.new.self in
-    ap (λ (fields : List Field × Bool). unknown_in rows (struct fields.0 fields.1)) c.in_ok-fields.ensures
+    ap (λ (fields : Fields). unknown_in rows (struct fields)) c.in_ok-fields.ensures
     ∙ time_known c.args.seconds.now c.args.nanoseconds.now c.in_ok-whole.whole c.in_ok-part.part c.args.self.now c.int.new.self rows
     c.in_ok-whole.ensures.ok c.in_ok-part.ensures.ok
 
@@ -33,6 +33,6 @@ returns-clause-refused c =
     time_refused c.register_named.result c.args.id.now c.args.seconds.now c.args.nanoseconds.now c.args.self.now c.int.new.self rows
     c.register_named.new.self c.in_ok-whole.whole c.in_ok-part.part c.in_ok-whole.ensures.ok c.in_ok-part.ensures.ok
     c.register_named.ensures.err
-    (subst (λ (fields : List Field × Bool). IfErr c.register_named.result
-    (Refuses c.args.id.now (without_notes false (struct fields.0 fields.1)) rows))
+    (subst (λ (fields : Fields). IfErr c.register_named.result
+    (Refuses c.args.id.now (without_notes false (struct fields)) rows))
     c.in_ok-fields.ensures c.register_named.ensures.refused)

@@ -1,0 +1,78 @@
+-- What holds of each reference to a row holds of those of what describes a row.
+use Rattle.std.proofs.Common.{◌≡◌, ◌⊎◌, inl, inr, ℕ, zero, suc, List, [], ◌∷◌, Bool, true, false, Option, Some, None, sym, subst}
+use Rattle.std.specs.List.{All, AllByRecursion}
+use Rattle.std.proofs.lemmas.List.Elements.{All-nil, All-cons}
+use Rattle.serde_json.specs.Data.{Data, string}
+use Rattle.schemars_json.specs.Json.{Text}
+use Rattle.schemars_schema.specs.SchemaData.{IsSchema}
+use Rattle.schemars_schema.specs.References.{found_in, references}
+use Rattle.schemars_parts.specs.Opening.{opened_inside}
+use Rattle.schemars_parts.specs.Parts.{flattened_part}
+use Rattle.schemars_parts.proofs.Schemas.{flattened_part-schema, opened_inside-schema}
+use Rattle.schemars_shapes.specs.Shape.{Entry}
+use Rattle.schemars_types.specs.Rows.{Row, entry_at}
+use Rattle.schemars_documents.specs.Documents.{reference}
+use Rattle.schemars_documents.specs.PlainTable.{IsPlainEntry, IsPlainTable}
+use Rattle.schemars_templates.specs.Basis.{Basis}
+use Rattle.schemars_templates.specs.Template.{Ask, part, members_of, content, filled}
+use Rattle.schemars_templates.specs.OfShape.{entry_template}
+use Rattle.schemars_templates.specs.Describes.{IsOwnDocument, IsContent, IsAnswered, IsWritten, Describes, are_optional}
+use Rattle.schemars_meaning.proofs.Parts.{answer_holds, described_holds, written_holds}
+use Rattle.schemars_parts.proofs.References.{flattened_part-refers, opened_inside-refers}
+use Rattle.schemars_meaning.proofs.References.{IsNoted, plain_noted, all_refer}
+use Rattle.schemars_meaning.proofs.Schemas.{AreSchemas, filled_schema}
+
+-- all notes of a row are annotations, and a literal is plain
+abbrev pub IsNotedRow : Option Entry → Type 0
+IsNotedRow None = Unit {0}
+IsNotedRow (Some e) = IsNoted e
+
+abbrev pub AreNotedRows : List Row → Type 0
+AreNotedRows rows = (n : ℕ) → IsNotedRow (entry_at rows n)
+
+pub plain_rows : (rows : List Row) → IsPlainTable rows → AreNotedRows rows
+plain_rows rows plain n = go (entry_at rows n) (plain n)
+  where
+    go : (o : Option Entry) → IsPlainEntry rows o → IsNotedRow o
+    go None h = tt
+    go (Some e) h = plain_noted rows e h
+
+module _ (P : Data → Type 0) where
+  -- a schema whose references pass
+  abbrev pub IsReferring : Data → Type 0
+  IsReferring t = IsSchema t × All P (references t)
+
+  part_refers : (b : Bool) (s : Data) → IsReferring s → IsReferring (flattened_part b s)
+  part_refers b s h = (flattened_part-schema b s h.0, flattened_part-refers P b s h.1)
+
+  inside_refers : (s : Data) → IsReferring s → IsReferring (opened_inside s)
+  inside_refers s h = (opened_inside-schema s h.0, opened_inside-refers P s h.1)
+
+  -- an answer is one, where documents of rows are and what is written for them
+  pub answered_refers : (rows : List Row) (InPlace : ℕ → Bool → Type 0) (Written Own : ℕ → Data → Type 0)
+      → ((j : ℕ) (t : Data) → Written j t → IsReferring t) → ((j : ℕ) (t : Data) → Own j t → IsReferring t)
+      → (a : Ask) (t : Data) → IsAnswered rows InPlace Written Own a t → IsReferring t
+  answered_refers = answer_holds IsReferring part_refers inside_refers
+
+  module _ (basis : Basis) (Refers : ℕ → Text → Type 0) (noted : AreNotedRows basis.rows)
+      (lead : (j : ℕ) (r : Text) → Refers j r → P (string r)) where
+    reference_refers : (j : ℕ) (r : Text) → Refers j r → IsReferring (reference r)
+    unfolding found_in
+    reference_refers j r h = (tt, All-cons P (string r) [] (lead j r h) (All-nil P))
+
+    fills : (n : ℕ) (e : Entry) → entry_at basis.rows n ≡ Some e → (ts : List Data) → AllByRecursion IsReferring ts
+        → IsReferring (filled (entry_template basis e) ts)
+    fills n e at ts h = (
+      filled_schema basis e ts (schemas ts h),
+      all_refer P basis e (subst IsNotedRow at (noted n)) ts h,
+    )
+      where
+        schemas : (us : List Data) → AllByRecursion IsReferring us → AreSchemas us
+        schemas [] h = tt
+        schemas (u ∷ us) h = (h.0.0, schemas us h.1)
+
+    pub described_refers : (d n : ℕ) (t : Data) → Describes basis Refers d n t → IsReferring t
+    described_refers = described_holds IsReferring part_refers inside_refers basis Refers reference_refers fills
+
+    pub written_refers : (d n : ℕ) (t : Data) → IsWritten Refers (Describes basis Refers d) n t → IsReferring t
+    written_refers = written_holds IsReferring part_refers inside_refers basis Refers reference_refers fills

@@ -1,0 +1,13 @@
+-- Lemmas that several proofs share.
+pub mod Levels
+pub mod ClosedCalls
+pub mod Unchanged
+pub mod UnitObjects
+pub mod Lists
+pub mod Optional
+pub mod Stays
+pub mod Schemas
+pub mod Kept
+pub mod Floats
+pub mod References
+mod Examples
