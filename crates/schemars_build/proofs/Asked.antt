@@ -229,6 +229,9 @@ module _ (rows : List Row) (within : RefersWithin rows) where
       by None is rest = less
       by (Some m) is rest = rest m (within.within n m (option_number (entry_at rows n) m is))
 
+  pub inner_known : (n : ℕ) → n < length rows → without_options rows n < length rows
+  inner_known n less = known (length rows) n less
+
 below_in : (rows : List Row) (ns : List ℕ) (n m : ℕ) → Contains ns n → Contains (below rows n) m → Contains (below_all rows ns) m
 below_in rows [] n m c d = absurd (none_in n c)
 below_in rows (k ∷ ns) n m (zero, less, is) d =
@@ -254,9 +257,8 @@ module _ (basis : Basis) (n : ℕ) (e : Entry) (h : IsChecked basis.rows) (at : 
   members_asked m b c =
       let less : m < length table = is_row m (flattened_number e.shape m c) in
       let inner : ℕ = without_options table m in
-      let known_inner : inner < length table = known table h.within (length table) m less in
-      (
-        known_inner,
+      let known_inner : inner < length table = inner_known table h.within m less in (
+        less,
         elim (below_or_same table (length table) m) [
           | inl same ↦ subst (λ k. height table k < height table n) (sym same)
               (lower m (flattened_asked e.shape m c) less)
@@ -347,10 +349,11 @@ here_none fields tag (struct_payload x) m tagged c = none_in m c
 no_content : (fields : ℕ → List Field) (tag : Text) (xs : List Variant) (m : ℕ) → AreTagged tag (map (spread_variant fields) xs)
     → Contains (of_variants payload_contents xs) m → ⊥
 no_content fields tag [] m tagged c = none_in m c
-no_content fields tag (x ∷ xs) m tagged c = elim (Contains-append_cases (payload_contents x.payload) (of_variants payload_contents xs) m c) [
-  | inl here ↦ here_none fields tag x.payload m tagged.0 here
-  | inr later ↦ no_content fields tag xs m tagged.1 later
-]
+no_content fields tag (x ∷ xs) m tagged c =
+    elim (Contains-append_cases (payload_contents x.payload) (of_variants payload_contents xs) m c) [
+      | inl here ↦ here_none fields tag x.payload m tagged.0 here
+      | inr later ↦ no_content fields tag xs m tagged.1 later
+    ]
 
 no_content_in : (fields : ℕ → List Field) (kind : Shape) (m : ℕ) → IsPlainShape (spread fields kind) → Contains (contents_of kind) m → ⊥
 no_content_in fields (shape.internal tag closed xs) m plain c = no_content fields tag xs m plain.2 c

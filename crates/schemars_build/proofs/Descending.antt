@@ -13,9 +13,9 @@ use Rattle.schemars_types.specs.Edges.{numbers_at, is_inline_at, asked_in, asked
 use Rattle.schemars_types.specs.Faults.{IsChecked}
 use Rattle.schemars_naming.specs.Placed.{is_pending, pending_in, is_in_place}
 use Rattle.schemars_naming.specs.Work.{Plan, Work}
-use Rattle.schemars_templates.specs.Template.{part, members_of, content}
+use Rattle.schemars_templates.specs.Template.{Ask, part, members_of, content}
 use Rattle.schemars_templates.specs.Describes.{without_options}
-use Rattle.schemars_build.specs.Missing.{failing_below, missing, fresh, depth_in_place, IsAskedIn}
+use Rattle.schemars_build.specs.Missing.{failing_below, missing, fresh, depth_in_place, IsLower, IsAskedIn}
 use Rattle.schemars_build.proofs.Counting.{failing-fewer, failing-less}
 
 abbrev pub width : List Row → ℕ
@@ -40,14 +40,19 @@ left_of_filled p w n = places p w w.pending * width p.rows + (8 * height p.rows 
 abbrev pub left_of_answers : Plan → Work → ℕ → ℕ
 left_of_answers p w n = places p w w.pending * width p.rows + (8 * height p.rows n + 6)
 
-abbrev pub left_of_answer : Plan → Work → ℕ → ℕ
-left_of_answer p w n = places p w w.pending * width p.rows + (8 * height p.rows n + 5)
-
 abbrev pub left_of_members : Plan → Work → ℕ → ℕ
 left_of_members p w n = places p w w.pending * width p.rows + (8 * height p.rows (without_options p.rows n) + 10)
 
 abbrev pub left_of_content : Plan → Work → ℕ → ℕ
 left_of_content p w n = places p w w.pending * width p.rows + (8 * height p.rows n + 11)
+
+abbrev pub left_of_asked : Plan → Work → Ask → ℕ
+left_of_asked p w (part n) = left_of_subschema p w n
+left_of_asked p w (members_of n required) = left_of_members p w n
+left_of_asked p w (content n) = left_of_content p w n
+
+abbrev pub left_of_answer : Plan → Work → Ask → ℕ
+left_of_answer p w a = suc (left_of_asked p w a)
 
 -- ---- what is asked in a document
 
@@ -118,9 +123,6 @@ fresh-less rows pending n less none = failing-less (is_pending pending) (is_pend
 
 -- ---- one step down
 
-part_less : (a b w p h k : ℕ) → a ≤ b → p ≤ h → 1 < k → a * w + (8 * p + 1) < b * w + (8 * h + k)
-part_less a b w p h k fewer lower more = let e : a * w ≤ b * w = mul-le-mul_right w fewer in omega arith
-
 closer : (a b w r : ℕ) → a < b → r < w → a * w + r < b * w
 closer a b w r less small = let e : suc a * w ≤ b * w = mul-le-mul_right w less in omega arith
 
@@ -146,25 +148,35 @@ places-fewer p w v fewer same =
 down_less : (a b w r s : ℕ) → a ≤ b → r < s → a * w + r < b * w + s
 down_less a b w r s fewer less = let e : a * w ≤ b * w = mul-le-mul_right w fewer in omega arith
 
+suc_less : (a b w r s : ℕ) → a ≤ b → suc r < s → suc (a * w + r) < b * w + s
+suc_less a b w r s fewer less = let e : a * w ≤ b * w = mul-le-mul_right w fewer in omega arith
+
+part_fits : (d h : ℕ) → d ≤ h → suc (8 * d + 1) < 8 * h + 6
+part_fits d h lower = omega arith
+
 -- from a document to its answers, and to each of them
 pub to_answers : (p : Plan) (w : Work) (n : ℕ) → left_of_answers p w n < left_of_filled p w n
 to_answers p w n = omega arith
 
-pub to_answer : (p : Plan) (w v : Work) (n : ℕ) → missing p.rows p.contract v ≤ missing p.rows p.contract w → v.pending ≡ w.pending
-    → left_of_answer p v n < left_of_answers p w n
-to_answer p w v n fewer same = down_less (places p v v.pending) (places p w w.pending) (width p.rows)
-    (8 * height p.rows n + 5) (8 * height p.rows n + 6) (places-fewer p w v fewer same) (omega arith)
+pub to_answer : (p : Plan) (w v : Work) (n : ℕ) (a : Ask) → IsLower p.rows n a → missing p.rows p.contract v ≤ missing p.rows p.contract w
+    → v.pending ≡ w.pending → left_of_answer p v a < left_of_answers p w n
+to_answer p w v n (part m) lower fewer same =
+    suc_less (places p v v.pending) (places p w w.pending) (width p.rows) (8 * depth_in_place p.rows m + 1)
+    (8 * height p.rows n + 6) (places-fewer p w v fewer same) (part_fits (depth_in_place p.rows m) (height p.rows n) lower)
+to_answer p w v n (members_of m required) lower fewer same =
+    let less : height p.rows (without_options p.rows m) < height p.rows n = lower in
+    suc_less (places p v v.pending) (places p w w.pending) (width p.rows) (8 * height p.rows (without_options p.rows m) + 10)
+    (8 * height p.rows n + 6) (places-fewer p w v fewer same) (omega (arith, less))
+to_answer p w v n (content m) lower fewer same =
+    let less : height p.rows m < height p.rows n = lower in
+    suc_less (places p v v.pending) (places p w w.pending) (width p.rows) (8 * height p.rows m + 11)
+    (8 * height p.rows n + 6) (places-fewer p w v fewer same) (omega (arith, less))
 
-pub to_part : (p : Plan) (w : Work) (n m : ℕ) → IsAskedIn p.rows n (part m) → left_of_subschema p w m < left_of_answer p w n
-to_part p w n m h = part_less (places p w w.pending) (places p w w.pending) (width p.rows)
-    (depth_in_place p.rows m) (height p.rows n) 5 (omega arith) h.1 (omega arith)
+next : (k : ℕ) → k < suc k
+next k = omega arith
 
-pub to_members : (p : Plan) (w : Work) (n m : ℕ) (required : Bool) → IsAskedIn p.rows n (members_of m required)
-    → left_of_members p w m < left_of_answer p w n
-to_members p w n m required h = let less = h.1 in omega (arith, less)
-
-pub to_content : (p : Plan) (w : Work) (n m : ℕ) → IsAskedIn p.rows n (content m) → left_of_content p w m < left_of_answer p w n
-to_content p w n m h = let less = h.1 in omega (arith, less)
+pub to_asked : (p : Plan) (w : Work) (a : Ask) → left_of_asked p w a < left_of_answer p w a
+to_asked p w a = next (left_of_asked p w a)
 
 -- to the documents that these are made of
 pub members_to_filled : (p : Plan) (w : Work) (n : ℕ) → left_of_filled p w (without_options p.rows n) < left_of_members p w n

@@ -13,7 +13,8 @@ use Rattle.schemars_types.specs.Rows.{Row, entry_at}
 use Rattle.schemars_templates.specs.Basis.{Basis}
 use Rattle.schemars_templates.specs.Template.{Ask, part, members_of, content, asks_of, filled}
 use Rattle.schemars_templates.specs.OfShape.{entry_template}
-use Rattle.schemars_templates.specs.Describes.{AreAnswered, IsAnswered, IsContent, without_options, Fills, IsOwnDocument, IsWritten, Describes}
+use Rattle.schemars_templates.specs.Describes.{AreAnswered, IsAnswered, IsContent, without_options}
+use Rattle.schemars_templates.specs.Describes.{Fills, IsOwnDocument, IsWritten, Describes}
 use Rattle.schemars_parts.specs.Opening.{opened_inside, stands_in_place}
 use Rattle.schemars_meaning.proofs.Mapping.{own_map, answers_map, answered_map}
 use Rattle.schemars_types.specs.Edges.{is_inline_at}
@@ -171,8 +172,7 @@ module _ (basis : Basis) (inlines : Bool) (R : ℕ → Text → Type 0) (pending
       (IsPlaced basis.rows inlines pending R (λ m. IsFilledWithin basis inlines R d (pending_in inlines pending m) m) n) t
   content_at b n t (s, own, inl h) = (own.0, (s, own.1, inl h))
   content_at b n t (s, own, inr h) =
-      let at = placed_at n t h.1 in
-      (
+      let at = placed_at n t h.1 in (
         own.0 + at.0,
         (
           s,
@@ -196,8 +196,7 @@ module _ (basis : Basis) (inlines : Bool) (R : ℕ → Text → Type 0) (pending
   all_at (a ∷ asks) [] h = absurd h
   all_at (a ∷ asks) (t ∷ ts) h =
       let one = said_at a t h.0 in
-      let rest = all_at asks ts h.1 in
-      (
+      let rest = all_at asks ts h.1 in (
         one.0 + rest.0,
         (deeper one.0 (one.0 + rest.0) (omega arith) a t one.1, all_deeper rest.0 (one.0 + rest.0) (omega arith) asks ts rest.1),
       )

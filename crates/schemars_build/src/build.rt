@@ -10,7 +10,7 @@ ghost use Rattle.schemars_types.specs.Edges.{is_inline_at, option_at};
 ghost use Rattle.schemars_templates.specs.Template as spec;
 ghost use Rattle.schemars_templates.specs.View.{ask_of};
 ghost use Rattle.schemars_templates.specs.Describes.{without_options};
-ghost use Rattle.schemars_build.specs.Missing.{IsAskedIn};
+ghost use Rattle.schemars_build.specs.Missing.{IsAskedIn, row_asked};
 ghost use Rattle.schemars_build.specs.Parts.{IsPart, IsAnswer, AreAnswers, IsOwn, IsFilledIn, IsMade};
 
 use schemars_documents::Contract;
@@ -40,10 +40,10 @@ pub struct Plan<'t> {
     pub root: Option<TypeNo>,
 }
 
-/// The schema of row `n` as a part: its document in place, or a reference to its definition, which
-/// is made unless it is there.
+// The schema of row `n` as a part: its document in place, or a reference to its definition, which
+// is made unless it is there.
 #[cycle(build)]
-pub fn subschema(
+fn subschema(
     alloc: Global,
     plan: &Plan<'_>,
     work: &mut Work,
@@ -175,36 +175,36 @@ fn answers(
 {
     let mut answers = VecDeque::new(alloc);
     for ask in asks {
-        let answer = answer(alloc, plan, work, in_definition, n, *ask)?;
+        let answer = answer(alloc, plan, work, in_definition, *ask)?;
         answers.push_back(answer)?;
     }
     Ok(answers)
 }
 
+/// What a row answers: its schema as a part, a schema of its members, or of what stands beside a tag.
 #[cycle(build)]
-fn answer(
+pub fn answer(
     alloc: Global,
     plan: &Plan<'_>,
     work: &mut Work,
     in_definition: bool,
-    n: TypeNo,
     ask: Ask,
 ) -> Result<Schema, AllocError>
     requires checked { IsChecked (plan_of plan.now).rows }
-    requires stands { IsAskedIn (plan_of plan.now).rows n (ask_of ask) }
+    requires known { row_asked (ask_of ask) < length (plan_of plan.now).rows }
     ensures undone { undone work.new ≡ undone work.old }
     ensures step { OnOk result (Step (plan_of plan.now) work.old work.new) }
     ensures is { IfOk result (IsAnswer (plan_of plan.now) in_definition work.old work.new (ask_of ask)) }
 {
-    let _ = n;
     match ask {
-        Ask::Part(m) => subschema(alloc, plan, work, in_definition, m),
-        Ask::MembersOf(m, required) => members_of(alloc, plan, work, in_definition, m, required),
-        Ask::Content(m) => content(alloc, plan, work, in_definition, m),
+        Ask::Part(n) => subschema(alloc, plan, work, in_definition, n),
+        Ask::MembersOf(n, required) => members_of(alloc, plan, work, in_definition, n, required),
+        Ask::Content(n) => content(alloc, plan, work, in_definition, n),
     }
 }
 
-// A schema of the members of row `n`, which stand in another map.
+// A schema of the members of row `n`, which stand in another map: the document of the row inside the
+// Options around it, as it is flattened. The members of an Option may be missing, unless `required`.
 #[cycle(build)]
 fn members_of(
     alloc: Global,
@@ -215,10 +215,11 @@ fn members_of(
     required: bool,
 ) -> Result<Schema, AllocError>
     requires checked { IsChecked (plan_of plan.now).rows }
-    requires known { without_options (plan_of plan.now).rows n < length (plan_of plan.now).rows }
+    requires known { n < length (plan_of plan.now).rows }
     ensures undone { undone work.new ≡ undone work.old }
     ensures step { OnOk result (Step (plan_of plan.now) work.old work.new) }
-    ensures is { IfOk result (IsAnswer (plan_of plan.now) in_definition work.old work.new (spec.members_of n required)) }
+    ensures is { IfOk result
+        (IsAnswer (plan_of plan.now) in_definition work.old work.new (spec.members_of n required)) }
 {
     let inner = without_options(plan.types, n);
     let mut schema = filled_document(alloc, plan, work, in_definition, inner)?;

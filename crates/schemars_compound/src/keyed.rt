@@ -1,16 +1,17 @@
 //! The templates of maps by their keys.
 ghost use Rattle.std.specs.Prelude.{◌≡◌, ◌∷◌, ◌++◌, None, map, filter, not, bytes_eq, IfOk, OnOk};
 ghost use Rattle.schemars_types.specs.Faults.{IsChecked};
-ghost use Rattle.schemars_types.specs.KeyOptions.{key_options, any_key, only_keys};
+ghost use Rattle.schemars_types.specs.KeyOptions.{key_options, keys};
 ghost use Rattle.schemars_templates.specs.Template.{row};
 ghost use Rattle.schemars_templates.specs.View.{template_view, keyword_view};
-ghost use Rattle.schemars_templates.specs.OfShape.{pattern_properties_at, values_template, values_of};
+ghost use Rattle.schemars_templates.specs.OfShape.{pattern_properties_at, other_values, values_template, values_of};
 
-use schemars_keys::{KeyOptions, key_options};
-use schemars_templates::maps::{add_closed, add_properties, typed};
+use schemars_keys::key_options;
+use schemars_templates::maps::{add_properties, typed};
 use schemars_templates::nodes::{object_with, row, text};
 use schemars_templates::template::Template;
 use schemars_types::{TypeNo, Types};
+use serde_json::Value;
 use std::alloc::{AllocError, Global};
 
 /// A map with the keys that row `key` allows, and values of row `value`.
@@ -23,30 +24,16 @@ pub fn values_template<'t>(
     requires { IsChecked types.now }
     ensures { IfOk result (λ t. template_view t ≡ values_template (key_options types.now key) value) }
 {
-    match key_options(alloc, types, key)? {
-        KeyOptions::Any => any_key_template(alloc, value),
-        KeyOptions::Only {
-            texts,
-            integers,
-            patterns,
-        } => match integers {
-            None => only_keys_template(alloc, texts.as_slice(), patterns.as_slice(), value),
-            Some(integers) => {
-                let patterns = with_first(alloc, integers.pattern(), patterns.as_slice())?;
-                only_keys_template(alloc, texts.as_slice(), &patterns, value)
-            }
-        },
+    let options = key_options(alloc, types, key)?;
+    let texts = options.texts.as_slice();
+    let patterns = options.patterns.as_slice();
+    match options.integers {
+        None => keyed_template(alloc, options.others, texts, patterns, value),
+        Some(integers) => {
+            let patterns = with_first(alloc, integers.pattern(), patterns)?;
+            keyed_template(alloc, options.others, texts, &patterns, value)
+        }
     }
-}
-
-// A map whose keys are any texts.
-fn any_key_template<'t>(alloc: Global, value: TypeNo) -> Result<Template<'t>, AllocError>
-    ensures { IfOk result (λ t. template_view t ≡ values_template any_key value) }
-{
-    let object = text(alloc, "object")?;
-    let keys = vec![in alloc; "type", "additionalProperties"]?;
-    let values = vec![in alloc; object, row(value)]?;
-    Ok(Template::Object(keys, values))
 }
 
 // This pattern, and the others of these.
@@ -68,22 +55,34 @@ fn with_first<'t>(
     Ok(all)
 }
 
-// A map whose keys are these texts, or match one of the patterns.
-fn only_keys_template<'t>(
+// A map whose keys are these texts, or match one of the patterns, or are any others.
+fn keyed_template<'t>(
     alloc: Global,
+    others: bool,
     texts: &[&'t str],
     patterns: &[&'t str],
     value: TypeNo,
 ) -> Result<Template<'t>, AllocError>
-    ensures { IfOk result (λ t. template_view t ≡ values_template (only_keys (map (λ t. t.now) texts.now) None
+    ensures { IfOk result (λ t. template_view t ≡ values_template (keys others (map (λ t. t.now) texts.now) None
         (map (λ t. t.now) patterns.now)) value) }
 {
     let mut keywords: Vec<(&'t str, Template<'t>)> = typed(alloc, "object")?;
-    add_closed(&mut keywords, true)?;
+    keywords.push(("additionalProperties", other_values(others, value)))?;
     add_pattern_properties(alloc, &mut keywords, patterns, value)?;
     let properties = values_at(alloc, texts, value)?;
     add_properties(alloc, &mut keywords, properties)?;
     object_with(alloc, keywords)
+}
+
+// What is said of keys that are not listed and match no pattern.
+fn other_values<'t>(others: bool, value: TypeNo) -> Template<'t>
+    ensures { template_view result ≡ other_values others value }
+{
+    if others {
+        row(value)
+    } else {
+        Template::Value(Value::Bool(false))
+    }
 }
 
 fn add_pattern_properties<'t>(
@@ -92,8 +91,8 @@ fn add_pattern_properties<'t>(
     patterns: &[&'t str],
     value: TypeNo,
 ) -> Result<(), AllocError>
-    ensures { OnOk result (map keyword_view keywords.new.items
-        ≡ map keyword_view keywords.old.items ++ pattern_properties_at (values_of value (map (λ t. t.now) patterns.now))) }
+    ensures { OnOk result (map keyword_view keywords.new.items ≡ map keyword_view keywords.old.items
+        ++ pattern_properties_at (values_of value (map (λ t. t.now) patterns.now))) }
 {
     if patterns.is_empty() {
         return Ok(());

@@ -11,7 +11,7 @@ use Rattle.schemars_schema.specs.Acceptance.{unevaluated_properties_say, type_sa
 use Rattle.schemars_schema.proofs.Verdicts.{both-yes}
 use Rattle.schemars_schema.proofs.Objects.{IsKeyword, says, says-agree, judge-object, keyword-plain}
 use Rattle.schemars_rewrite.specs.AllowNull.{is_text}
-use Rattle.schemars_rewrite.proofs.Nulls.{and-parts}
+use Rattle.schemars_rewrite.proofs.NullMembers.{and-parts}
 use Rattle.schemars_flatten.specs.Flatten.{with_keywords, flattened}
 use Rattle.schemars_flatten.specs.FlattenLaw.{has_keys_once, is_object_keyword, are_object_keywords}
 use Rattle.schemars_flatten.specs.FlattenLaw.{are_schemas_by_name, are_texts, are_apart, AreJoinable, AcceptsBoth}

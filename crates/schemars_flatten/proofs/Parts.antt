@@ -19,7 +19,7 @@ use Rattle.schemars_schema.specs.SchemaData.{members_in, put_members}
 use Rattle.schemars_schema.specs.Edits.{replaced, without}
 use Rattle.schemars_schema.specs.Acceptance.{both_some}
 use Rattle.schemars_schema.proofs.MapEdits.{members_view-set_value}
-use Rattle.schemars_rewrite.proofs.Nulls.{or-false}
+use Rattle.schemars_rewrite.proofs.NullKeywords.{or-false}
 use Rattle.schemars_flatten.specs.Flatten.{moved, appended, joined, merged, united, with_united, both_choices}
 use Rattle.schemars_flatten.specs.Flatten.{with_choice}
 use Rattle.schemars_flatten.specs.Flatten.{opened, opened_schema, united_all, flattened}

@@ -19,7 +19,7 @@ use Rattle.schemars_schema.specs.Acceptance.{properties_say}
 use Rattle.schemars_schema.proofs.Verdicts.{both-yes, both-verdict}
 use Rattle.schemars_schema.proofs.Objects.{schema-judge}
 use Rattle.schemars_rewrite.specs.AllowNull.{is_text}
-use Rattle.schemars_rewrite.proofs.Nulls.{and-parts}
+use Rattle.schemars_rewrite.proofs.NullMembers.{and-parts}
 use Rattle.schemars_flatten.specs.Flatten.{appended}
 use Rattle.schemars_flatten.specs.FlattenLaw.{has_keys_once, are_schemas, are_schemas_by_name, are_texts, are_apart}
 use Rattle.schemars_flatten.proofs.Lookups.{united_option, either_option, properties_at, apart_at}

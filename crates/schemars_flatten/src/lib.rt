@@ -5,3 +5,4 @@ mod flattening;
 mod union;
 
 pub use flattening::flatten;
+pub use union::push_all;

@@ -127,7 +127,8 @@ fn merge(first: &mut Value, second: Value) -> Result<(), AllocError>
     }
 }
 
-fn push_all(items: &mut Vec<Value>, more: Vec<Value>) -> Result<(), AllocError>
+/// Pushes all of `more`, in order; refused for want of memory alone.
+pub fn push_all(items: &mut Vec<Value>, more: Vec<Value>) -> Result<(), AllocError>
     ensures { OnOk result (items_view items.new.items
         ≡ appended (items_view items.old.items) (items_view more.items)) }
 {

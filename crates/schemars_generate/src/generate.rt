@@ -1,5 +1,6 @@
 //! From a table of types to documents.
-ghost use Rattle.std.specs.Prelude.{[], ◌≡◌, ◌<◌, ◌≤◌, ◌⊎◌, ◌↔◌, true, false, length, Err, IsOk, IsTrue, IfOk, IfErr, OnOk, OnErr};
+ghost use Rattle.std.specs.Prelude.{[], ◌≡◌, ◌<◌, ◌≤◌, ◌⊎◌, ◌↔◌, true, false, length};
+ghost use Rattle.std.specs.Prelude.{Err, IsOk, IsTrue, IfOk, IfErr, OnOk, OnErr};
 ghost use Rattle.serde_json.specs.Data.{no_members};
 ghost use Rattle.serde_json.specs.View.{members_view};
 ghost use Rattle.serde_json.specs.Written.{has_float};
@@ -39,14 +40,19 @@ use std::mem;
 /// and further ones have it with 2, 3 and so on behind it. Names stay for as long as the generator.
 #[derive(Drop)]
 pub struct SchemaGenerator<O = NoTransform> {
-    settings: SchemaSettings<O>,
-    contents: Contents,
+    pub(crate) settings: SchemaSettings<O>,
+    pub(crate) contents: Contents,
 }
 
 impl SchemaGenerator {
     /// A generator of JSON Schema 2020-12, over an empty table.
     pub fn default(alloc: Global) -> SchemaGenerator
-        ensures state { state result ≡ record { settings = settings2020_12; rows = []; names = []; definitions = no_members } }
+        ensures state { state result ≡ record {
+          settings = settings2020_12;
+          rows = [];
+          names = [];
+          definitions = no_members;
+        } }
         ensures transforms { result.settings.transforms.items ≡ [] }
     {
         SchemaGenerator::new(alloc, SchemaSettings::default(alloc))
@@ -190,8 +196,10 @@ impl<O> SchemaGenerator<O> {
         ensures own { HasOwnDefinitions (state self.old) → HasOwnDefinitions (state self.new) }
         ensures keys { HasOwnDefinitions (state self.old) → IsPlainTable self.new.contents.rows
             → ReferencesNameKeys (state self.new) }
-        ensures rest { self.new.contents
-            ≡ record self.old.contents { names = self.new.contents.names; definitions = self.new.contents.definitions } }
+        ensures rest { self.new.contents ≡ record self.old.contents {
+          names = self.new.contents.names;
+          definitions = self.new.contents.definitions;
+        } }
         ensures settings { self.new.settings ≡ self.old.settings }
         ensures unknown { (result ≡ Err (GenerateError.UnknownType n)) ↔ (length self.old.contents.rows ≤ n) }
         ensures refused { IfErr result (λ e. (e ≡ GenerateError.OutOfMemory)
@@ -213,9 +221,11 @@ impl<O: Transform + Drop> SchemaGenerator<O> {
         alloc: Global,
         apply_transforms: bool,
     ) -> Result<Map<String, Value>, GenerateError>
-        ensures taken { apply_transforms ≡ false → IfOk result (λ m. members_view m.entries ≡ (state self.old).definitions) }
+        ensures taken { apply_transforms ≡ false
+            → IfOk result (λ m. members_view m.entries ≡ (state self.old).definitions) }
         ensures through { apply_transforms ≡ true → IfOk result (λ m. AreThrough (ApplyInOrder O.makes)
-            self.old.settings.transforms self.new.settings.transforms (state self.old).definitions (members_view m.entries)) }
+            self.old.settings.transforms self.new.settings.transforms (state self.old).definitions
+            (members_view m.entries)) }
         ensures rest { OnOk result (state self.new ≡ record (state self.old) { definitions = no_members }) }
         ensures own { OnOk result (HasOwnDefinitions (state self.new)) }
         ensures keys { OnOk result (ReferencesNameKeys (state self.new)) }
@@ -281,8 +291,8 @@ impl<O: Transform + Drop> SchemaGenerator<O> {
         ensures root { IfOk result (λ d. (after : _) × IsThrough (ApplyInOrder O.makes) self.settings.transforms after
             (IsUntransformed (state self) n) d) }
         ensures unknown { (result ≡ Err (GenerateError.UnknownType n)) ↔ (length self.contents.rows ≤ n) }
-        ensures refused { IfErr result (λ e. (after : _) × IsRootRefused (ApplyInOrder O.makes) self.settings.transforms after
-            (state self) n e) }
+        ensures refused { IfErr result (λ e. (after : _)
+            × IsRootRefused (ApplyInOrder O.makes) self.settings.transforms after (state self) n e) }
         ensures refused_untransformed { self.settings.transforms.items ≡ []
             → IfErr result (λ e. (e ≡ GenerateError.UnknownType n) ⊎ IsRefused (state self) n e) }
         ensures only_memory { self.settings.transforms.items ≡ [] → HasPlainNotes self.contents.rows

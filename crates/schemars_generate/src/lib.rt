@@ -1,6 +1,7 @@
 //! The generator: from a table of types to the documents of its rows.
 #![tactic(auto)]
 
+pub mod builders;
 pub mod generate;
 mod settings;
 

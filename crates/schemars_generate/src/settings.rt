@@ -6,7 +6,8 @@ ghost use Rattle.schemars_headline.specs.State.{settings2020_12};
 ghost use Rattle.schemars_roots.specs.Settings as roots;
 ghost use Rattle.schemars_transforms.specs.Member.{some_own};
 ghost use Rattle.schemars_generate.specs.Settings.{settings_of, AreSettingsCopied, settings07, settings2019_09};
-ghost use Rattle.schemars_generate.specs.Settings.{settings_openapi3, transforms07, transforms2019_09, transforms_openapi3};
+ghost use Rattle.schemars_generate.specs.Settings.{settings_openapi3};
+ghost use Rattle.schemars_generate.specs.Settings.{transforms07, transforms2019_09, transforms_openapi3};
 
 use crate::generate::SchemaGenerator;
 use schemars_documents::Contract;

@@ -28,13 +28,13 @@ use Rattle.schemars_shapes.specs.Shape.{Shape, Entry, Field, Flattened, Fields, 
 use Rattle.schemars_shapes.specs.Shape.{tuple_payload, struct_payload}
 use Rattle.schemars_types.specs.Rows.{entry_at}
 use Rattle.schemars_types.specs.Meaning.{Contract, Deserialize, Serialize, least_of, greatest_of}
-use Rattle.schemars_types.specs.KeyOptions.{KeyOptions, any_key, only_keys, key_options}
+use Rattle.schemars_types.specs.KeyOptions.{KeyOptions, keys, key_options}
 use Rattle.schemars_documents.specs.Documents.{annotated, with_title, with_meta_schema, root_document, int_keywords}
 use Rattle.schemars_documents.specs.Documents.{is_signed, bytes_document, required_names}
 use Rattle.schemars_templates.specs.Basis.{Basis}
 use Rattle.schemars_templates.specs.Template.{Template, finished, asked, row, list, members, nullable, noted, with_keywords, tagged}
 use Rattle.schemars_templates.specs.Template.{Templates, no_templates, template, left, keyed, filled, filled_in}
-use Rattle.schemars_templates.specs.OfShape.{object_with, typed, said, values_of, all_patterns, pattern_properties_at}
+use Rattle.schemars_templates.specs.OfShape.{object_with, typed, values_of, all_patterns, pattern_properties_at, other_values}
 use Rattle.schemars_templates.specs.OfShape.{properties_at}
 use Rattle.schemars_schema.specs.SchemaData.{is_schema}
 use Rattle.schemars_templates.specs.OfShape.{KeywordTemplate, templates_of, property, map_template, tuple_template}
@@ -425,17 +425,21 @@ texts_whole_at : (value : ℕ) (texts : List Text)
 texts_whole_at value [] = tt
 texts_whole_at value (t ∷ texts) = (tt, texts_whole_at value texts)
 
-keyed_whole : (texts qs : List Text) (value : ℕ) → SaysWhole (object_with (typed (codes "object")
-    ∷ said (codes "additionalProperties") (boolean false)
+other_whole : (others : Bool) (value : ℕ) → SaysWhole (other_values others value)
+other_whole true value = tt
+other_whole false value = refl
+
+keyed_whole : (other : Template) (texts qs : List Text) (value : ℕ) → SaysWhole other
+    → SaysWhole (object_with (typed (codes "object") ∷ (codes "additionalProperties", other)
     ∷ (pattern_properties_at (values_of value qs) ++ properties_at (values_of value texts))))
-keyed_whole [] [] value = search
-keyed_whole (t ∷ texts) [] value = search (texts_whole_at value (t ∷ texts))
-keyed_whole [] (q ∷ qs) value = search (texts_whole_at value (q ∷ qs))
-keyed_whole (t ∷ texts) (q ∷ qs) value = search (texts_whole_at value (t ∷ texts), texts_whole_at value (q ∷ qs))
+keyed_whole other [] [] value h = search h
+keyed_whole other (t ∷ texts) [] value h = search (h, texts_whole_at value (t ∷ texts))
+keyed_whole other [] (q ∷ qs) value h = search (h, texts_whole_at value (q ∷ qs))
+keyed_whole other (t ∷ texts) (q ∷ qs) value h = search (h, texts_whole_at value (t ∷ texts), texts_whole_at value (q ∷ qs))
 
 values_whole : (options : KeyOptions) (value : ℕ) → SaysWhole (values_template options value)
-values_whole any_key value = search
-values_whole (only_keys texts integers ps) value = keyed_whole texts (all_patterns integers ps) value
+values_whole (keys others texts integers ps) value =
+    keyed_whole (other_values others value) texts (all_patterns integers ps) value (other_whole others value)
 
 shape_whole : (basis : Basis) (kind : Shape) → ShapeHasNoFloat kind → SaysWhole (template_of basis kind)
 shape_whole basis shape.null n = refl

@@ -22,7 +22,7 @@ use Rattle.schemars_types.specs.Rows.{entry_at}
 use Rattle.schemars_types.specs.Meaning.{Contract, least_of, greatest_of}
 use Rattle.schemars_documents.specs.Documents.{annotated, with_title, with_meta_schema, root_document, int_keywords}
 use Rattle.schemars_documents.specs.Documents.{is_signed, required_names, reference}
-use Rattle.schemars_types.specs.KeyOptions.{KeyOptions, any_key, only_keys, key_options}
+use Rattle.schemars_types.specs.KeyOptions.{KeyOptions, keys, key_options}
 use Rattle.schemars_templates.specs.Basis.{Basis}
 use Rattle.schemars_templates.specs.Template.{Template, finished, asked, list, members, nullable, noted, with_keywords, tagged}
 use Rattle.schemars_templates.specs.Template.{keyed, left, filled, filled_in}
@@ -32,7 +32,7 @@ use Rattle.schemars_templates.specs.Describes.{Describes}
 use Rattle.schemars_documents.specs.PlainTable.{HasPlainLiteral, IsNotedEntry, HasPlainNotes}
 use Rattle.schemars_schema.specs.Literal.{IsPlainLiteral}
 use Rattle.schemars_schema.proofs.Literals.{plain_absent}
-use Rattle.schemars_templates.specs.OfShape.{typed, said, object_with, values_of, all_patterns, pattern_properties_at}
+use Rattle.schemars_templates.specs.OfShape.{typed, object_with, values_of, all_patterns, pattern_properties_at, other_values}
 use Rattle.schemars_templates.specs.OfShape.{properties_at}
 use Rattle.schemars_templates.specs.OfShape.{literal_document}
 use Rattle.schemars_headline.proofs.Keys.{IsDefinitionsKey, IsOther, annotation_other}
@@ -83,17 +83,17 @@ choice_other [] (t ∷ ts) = search
 choice_other (k ∷ ks) [] = search
 choice_other (k ∷ ks) (t ∷ ts) = search
 
-keyed_other : (texts qs : List Text) (value : ℕ) → SaysOther (object_with (typed (codes "object")
-    ∷ said (codes "additionalProperties") (boolean false)
+keyed_other : (other : Template) (texts qs : List Text) (value : ℕ)
+    → SaysOther (object_with (typed (codes "object") ∷ (codes "additionalProperties", other)
     ∷ (pattern_properties_at (values_of value qs) ++ properties_at (values_of value texts))))
-keyed_other [] [] value = search
-keyed_other (t ∷ texts) [] value = search
-keyed_other [] (q ∷ qs) value = search
-keyed_other (t ∷ texts) (q ∷ qs) value = search
+keyed_other other [] [] value = search
+keyed_other other (t ∷ texts) [] value = search
+keyed_other other [] (q ∷ qs) value = search
+keyed_other other (t ∷ texts) (q ∷ qs) value = search
 
 values_other : (options : KeyOptions) (value : ℕ) → SaysOther (values_template options value)
-values_other any_key value = search
-values_other (only_keys texts integers ps) value = keyed_other texts (all_patterns integers ps) value
+values_other (keys others texts integers ps) value =
+    keyed_other (other_values others value) texts (all_patterns integers ps) value
 
 literal_other : (d : Data) → IsPlainLiteral d → HasNeither (literal_document d)
 literal_other (boolean true) plain = (refl, refl)

@@ -2,7 +2,7 @@
 use Rattle.std.proofs.Common.{◌≡◌, ◌||◌, ◌∙◌, ℕ, List, [], ◌∷◌, ◌++◌, Bool, true, false, Option, Some, None, Bor, map, refl, ap, sym}
 use Rattle.std.proofs.Common.{subst, length, Vec}
 use Rattle.std.specs.declared.alloc.Global.{Global}
-use Rattle.std.specs.Prelude.{bytes_eq, nat_eq, option_map, option_and_then}
+use Rattle.std.specs.Prelude.{bytes_eq, nat_eq, option_map, option_and_then, is_some, is_none}
 use Rattle.std.specs.List.{list_any}
 use Rattle.std.proofs.lemmas.Bool.{eqb-true}
 use Rattle.std.proofs.lemmas.List.Folds.{list_any-append}
@@ -16,13 +16,15 @@ use Rattle.schemars_shapes.specs.declared.shape.IntKind.{IntKind}
 use Rattle.schemars_shapes.specs.declared.shape.Shape as src-shape
 use Rattle.schemars_shapes.specs.declared.shape.Shape.TheVariants as src
 use Rattle.schemars_shapes.specs.declared.variant.Variant as src-variant
-use Rattle.schemars_shapes.specs.Shape.{Variant, shape_of}
+use Rattle.schemars_shapes.specs.declared.variant.Internal as src-internal
+use Rattle.schemars_shapes.specs.Shape.{Variant, shape_of, internal_view}
 use Rattle.schemars_types.specs.Rows.{Row}
 use Rattle.schemars_shapes.specs.declared.shape.IntegerKeys.{IntegerKeys}
 use Rattle.schemars_shapes.specs.declared.shape.IntegerKeys.TheVariants.{Unsigned, Signed}
-use Rattle.schemars_types.specs.KeyOptions.{KeyOptions, any_key, only_keys, either_integers, either_options, each_once, all_options}
-use Rattle.schemars_types.specs.KeyOptions.{members_options, untagged_options, shape_options, texts_options}
-use Rattle.schemars_keys.specs.Found.{adding, AreAmong, HoldsRows}
+use Rattle.schemars_types.specs.KeyOptions.{KeyOptions, keys, any_text, or_any_text, either_integers, either_options}
+use Rattle.schemars_types.specs.KeyOptions.{each_once, member_options, members_options, untagged_options, shape_options}
+use Rattle.schemars_types.specs.KeyOptions.{texts_options, internal_options, literal_options, typed_options}
+use Rattle.schemars_keys.specs.Found.{adding, some_takes_all, options_at, AreAmong, HoldsRows}
 use Rattle.schemars_keys.proofs.Texts.{listed_more, listed_own, nothing_joins, insert_all-append, once_by_joining}
 
 -- ---- whole numbers
@@ -59,68 +61,69 @@ either_kept (Some Unsigned) (Some Unsigned) (Some Unsigned) h = refl
 either_kept (Some Unsigned) (Some Unsigned) (Some Signed) h = refl
 either_kept (Some Unsigned) (Some Signed) k h = cc
 
+-- ---- others
+
+or-false : (a : Bool) → a || false ≡ a
+or-false true = refl
+or-false false = refl
+
+or-assoc : (a b d : Bool) → (a || b) || d ≡ a || (b || d)
+or-assoc true b d = refl
+or-assoc false b d = refl
+
+or-twice : (a b : Bool) → (a || b) || b ≡ a || b
+or-twice true b = refl
+or-twice false true = refl
+or-twice false false = refl
+
+or-kept : (a b d : Bool) → a || b ≡ a → (a || d) || b ≡ a || d
+or-kept true b d h = refl
+or-kept false true d h = cc
+or-kept false false d h = or-false d
+
 -- ---- adding
 
-pub adding-any : (o : KeyOptions) → adding o any_key ≡ any_key
-adding-any any_key = refl
-adding-any (only_keys ts i ps) = refl
-
-pub adding-nothing : (o : KeyOptions) → adding o (only_keys [] None []) ≡ o
-adding-nothing any_key = refl
-adding-nothing (only_keys ts i ps) = ap (λ j. only_keys ts j ps) (either_none i)
+pub adding-nothing : (o : KeyOptions) → adding o (keys false [] None []) ≡ o
+adding-nothing (keys a ts i ps) = λ x. keys (or-false a x) ts (either_none i x) ps
 
 pub adding-either : (o p q : KeyOptions) → adding (adding o p) q ≡ adding o (either_options p q)
-adding-either any_key p q = refl
-adding-either (only_keys ts i ps) any_key q = refl
-adding-either (only_keys ts i ps) (only_keys us j qs) any_key = refl
-adding-either (only_keys ts i ps) (only_keys us j qs) (only_keys vs k rs) =
-    λ x. only_keys (sym (insert_all-append us vs ts) x) (either_assoc i j k x) (sym (insert_all-append qs rs ps) x)
+adding-either (keys a ts i ps) (keys b us j qs) (keys d vs k rs) = λ x.
+    keys (or-assoc a b d x) (sym (insert_all-append us vs ts) x) (either_assoc i j k x) (sym (insert_all-append qs rs ps) x)
 
-pub adding-once : (o : KeyOptions) → adding (only_keys [] None []) o ≡ each_once o
-adding-once any_key = refl
-adding-once (only_keys us j qs) = λ x. only_keys (once_by_joining us x) j (once_by_joining qs x)
+pub adding-once : (o : KeyOptions) → adding (keys false [] None []) o ≡ each_once o
+adding-once (keys b us j qs) = λ x. keys b (once_by_joining us x) j (once_by_joining qs x)
 
 -- ---- options that are there
 
 pub adding-there : (o p : KeyOptions) → AreAmong p o → adding o p ≡ o
-adding-there any_key p h = refl
-adding-there (only_keys ts i ps) any_key h = absurd h
-adding-there (only_keys ts i ps) (only_keys us j qs) h =
-    λ x. only_keys (nothing_joins us ts h.0 x) (h.1 x) (nothing_joins qs ps h.2 x)
+adding-there (keys a ts i ps) (keys b us j qs) h =
+    λ x. keys (h.0 x) (nothing_joins us ts h.1 x) (h.2 x) (nothing_joins qs ps h.3 x)
 
 pub among_added : (o p : KeyOptions) → AreAmong p (adding o p)
-among_added any_key p = tt
-among_added (only_keys ts i ps) any_key = tt
-among_added (only_keys ts i ps) (only_keys us j qs) = (listed_own us ts, either_same i j, listed_own qs ps)
+among_added (keys a ts i ps) (keys b us j qs) = (or-twice a b, listed_own us ts, either_same i j, listed_own qs ps)
 
 among_more : (o p q : KeyOptions) → AreAmong p o → AreAmong p (adding o q)
-among_more any_key p q h = tt
-among_more (only_keys ts i ps) p any_key h = tt
-among_more (only_keys ts i ps) any_key (only_keys vs k rs) h = absurd h
-among_more (only_keys ts i ps) (only_keys us j qs) (only_keys vs k rs) h =
-    (listed_more us ts vs h.0, either_kept i j k h.1, listed_more qs ps rs h.2)
+among_more (keys a ts i ps) (keys b us j qs) (keys d vs k rs) h =
+    (or-kept a b d h.0, listed_more us ts vs h.1, either_kept i j k h.2, listed_more qs ps rs h.3)
 
 pub holds_none : (rows : List Row) (o : KeyOptions) → HoldsRows rows [] o
 holds_none rows o = record { holds = λ m h. cc }
 
-pub holds_any : (rows : List Row) (met : List ℕ) → HoldsRows rows met any_key
-holds_any rows met = record { holds = λ m h. tt }
-
 pub holds_more : (rows : List Row) (met : List ℕ) (o p : KeyOptions) → HoldsRows rows met o → HoldsRows rows met (adding o p)
-holds_more rows met o p h = record { holds = λ m is. among_more o (all_options rows m) p (h.holds m is) }
+holds_more rows met o p h = record { holds = λ m is. among_more o (options_at rows m) p (h.holds m is) }
 
-pub holds_met : (rows : List Row) (met : List ℕ) (n : ℕ) (o : KeyOptions) → HoldsRows rows met o → AreAmong (all_options rows n) o
+pub holds_met : (rows : List Row) (met : List ℕ) (n : ℕ) (o : KeyOptions) → HoldsRows rows met o → AreAmong (options_at rows n) o
     → HoldsRows rows (insert_key nat_eq met n) o
 holds_met rows met n o h new = record { holds = λ m is. by (list_any (nat_eq n) met) refl m is }
   where
     last : (m : ℕ) → (a b : Bool) → list_any (nat_eq m) met ≡ a → nat_eq m n ≡ b → a || (b || false) ≡ true
-        → AreAmong (all_options rows m) o
+        → AreAmong (options_at rows m) o
     last m true b e f is = h.holds m e
-    last m false true e f is = subst (λ k. AreAmong (all_options rows k) o) (sym (eqb-true m n f)) new
+    last m false true e f is = subst (λ k. AreAmong (options_at rows k) o) (sym (eqb-true m n f)) new
     last m false false e f is = cc
 
     by : (b : Bool) → list_any (nat_eq n) met ≡ b → (m : ℕ) → list_any (nat_eq m) (insert_key nat_eq met n) ≡ true
-        → AreAmong (all_options rows m) o
+        → AreAmong (options_at rows m) o
     by true e m is =
         let same : insert_key nat_eq met n ≡ met = rw e refl in
         h.holds m (sym (ap (list_any (nat_eq m)) same) ∙ is)
@@ -129,46 +132,125 @@ holds_met rows met n o h new = record { holds = λ m is. by (list_any (nat_eq n)
         last m (list_any (nat_eq m) met) (nat_eq m n) refl refl
         (sym (list_any-append (nat_eq m) met (n ∷ [])) ∙ (sym (ap (list_any (nat_eq m)) grown) ∙ is))
 
--- ---- one name, or one member, and those that are left
+-- ---- one name, text or member, and those that are left
 
 pub names_more : (o : KeyOptions) (t : Text) (ts : List Text)
-    → adding (adding o (only_keys (t ∷ []) None [])) (only_keys ts None []) ≡ adding o (only_keys (t ∷ ts) None [])
-names_more o t ts = adding-either o (only_keys (t ∷ []) None []) (only_keys ts None [])
+    → adding (adding o (keys false (t ∷ []) None [])) (keys false ts None []) ≡ adding o (keys false (t ∷ ts) None [])
+names_more o t ts = adding-either o (keys false (t ∷ []) None []) (keys false ts None [])
 
 abbrev options_in : Option (List Text) → KeyOptions
-options_in r = elim r [ Some ts ↦ only_keys ts None [] | None ↦ any_key ]
+options_in r = elim r [ Some ts ↦ keys false ts None [] | None ↦ any_text ]
 
--- with a value in front
-abbrev with_first : Items → Option Text → KeyOptions
-with_first ds first = options_in (option_and_then (λ t. option_map (λ ts. t ∷ ts) (texts_in ds)) first)
+abbrev first_text : Items → Option Text → Option (List Text)
+first_text ds first = option_and_then (λ t. option_map (λ ts. t ∷ ts) (texts_in ds)) first
 
 -- a value that is a text, and those behind it
-pub text_more : (o : KeyOptions) (d : Data) (t : Text) (ds : Items) → as_str d ≡ Some t
-    → adding (adding o (only_keys (t ∷ []) None [])) (texts_options ds) ≡ adding o (texts_options (item d ds))
-text_more o d t ds is = go (texts_in ds) ∙ ap (λ first. adding o (with_first ds first)) (sym is)
+pub text_more : (o : KeyOptions) (d : Data) (t : Text) (ds : Items) → as_str d ≡ Some t → is_some (texts_in (item d ds)) ≡ true
+    → adding (adding o (keys false (t ∷ []) None [])) (texts_options ds) ≡ adding o (texts_options (item d ds))
+text_more o d t ds is texts =
+    go (texts_in ds) (ap (λ first. is_some (first_text ds first)) (sym is) ∙ texts)
+    ∙ ap (λ first. adding o (options_in (first_text ds first))) (sym is)
   where
-    go : (r : Option (List Text)) → adding (adding o (only_keys (t ∷ []) None [])) (options_in r)
-        ≡ adding o (options_in (option_map (λ ts. t ∷ ts) r))
-    go (Some ts) = names_more o t ts
-    go None = adding-any (adding o (only_keys (t ∷ []) None [])) ∙ sym (adding-any o)
+    go : (r : Option (List Text)) → is_some (option_map (λ ts. t ∷ ts) r) ≡ true
+        → adding (adding o (keys false (t ∷ []) None [])) (options_in r) ≡ adding o (options_in (option_map (λ ts. t ∷ ts) r))
+    go (Some ts) some = names_more o t ts
+    go None some = cc
 
--- one that is no text
-pub no_text : (o : KeyOptions) (d : Data) (ds : Items) → as_str d ≡ None
-    → adding any_key (texts_options ds) ≡ adding o (texts_options (item d ds))
-no_text o d ds is = sym (adding-any o) ∙ ap (λ first. adding o (with_first ds first)) (sym is)
+-- those behind a text are texts too
+pub texts_behind : (d : Data) (ds : Items) → is_some (texts_in (item d ds)) ≡ true → is_some (texts_in ds) ≡ true
+texts_behind d ds texts = go (as_str d) (texts_in ds) texts
+  where
+    go : (first : Option Text) (r : Option (List Text)) → is_some (option_and_then (λ t. option_map (λ ts. t ∷ ts) r) first) ≡ true
+        → is_some r ≡ true
+    go (Some t) (Some ts) some = refl
+    go (Some t) None some = some
+    go None r some = cc
 
-pub untagged_some : (part : ℕ → KeyOptions) (xs : List Variant) → (length xs ≡ 0 → ⊥) → untagged_options part xs ≡ members_options part xs
+-- one that is no text is not among texts
+pub no_text : (d : Data) (ds : Items) → as_str d ≡ None → is_some (texts_in (item d ds)) ≡ false
+no_text d ds is = ap (λ first. is_some (first_text ds first)) is
+
+pub no_texts : (ds : Items) → is_some (texts_in ds) ≡ false → texts_options ds ≡ any_text
+no_texts ds none = go (texts_in ds) none
+  where
+    go : (r : Option (List Text)) → is_some r ≡ false → options_in r ≡ any_text
+    go None h = refl
+    go (Some ts) h = cc
+
+pub untagged_some : (part : ℕ → Option KeyOptions) (xs : List Variant) → (length xs ≡ 0 → ⊥)
+    → untagged_options part xs ≡ Some (or_any_text (members_options part xs))
 untagged_some part [] some = absurd (some refl)
 untagged_some part (x ∷ xs) some = refl
 
+pub members_none : (part : ℕ → Option KeyOptions) (xs : List Variant) → is_none (members_options part xs) ≡ some_takes_all part xs
+members_none part [] = refl
+members_none part (x ∷ xs) = go (member_options part x.payload) (members_options part xs) (members_none part xs)
+  where
+    go : (o p : Option KeyOptions) → is_none p ≡ some_takes_all part xs
+        → is_none (option_and_then (λ q. option_map (either_options q) p) o) ≡ is_none o || some_takes_all part xs
+    go None p rest = refl
+    go (Some q) (Some r) rest = rest
+    go (Some q) None rest = rest
+
+-- an untagged enum that is empty, or has a member that takes all texts
+pub untagged_all : (part : ℕ → Option KeyOptions) (xs : List Variant) → some_takes_all part xs ≡ true
+    → or_any_text (untagged_options part xs) ≡ any_text
+untagged_all part [] all = refl
+untagged_all part (x ∷ xs) all = go (members_options part (x ∷ xs)) (members_none part (x ∷ xs) ∙ all)
+  where
+    go : (o : Option KeyOptions) → is_none o ≡ true → or_any_text o ≡ any_text
+    go None is = refl
+    go (Some p) is = cc
+
+pub untagged_empty : (part : ℕ → Option KeyOptions) (xs : List Variant) → length xs ≡ 0
+    → or_any_text (untagged_options part xs) ≡ any_text
+untagged_empty part [] empty = refl
+untagged_empty part (x ∷ xs) empty = cc
+
+-- a member, and those behind it
+pub member_more : (part : ℕ → Option KeyOptions) (o : KeyOptions) (x : Variant) (xs : List Variant)
+    → some_takes_all part (x ∷ xs) ≡ false
+    → adding (adding o (or_any_text (member_options part x.payload))) (or_any_text (members_options part xs))
+    ≡ adding o (or_any_text (members_options part (x ∷ xs)))
+member_more part o x xs none =
+    go (member_options part x.payload) (members_options part xs) (members_none part (x ∷ xs) ∙ none)
+  where
+    go : (p q : Option KeyOptions) → is_none (option_and_then (λ r. option_map (either_options r) q) p) ≡ false
+        → adding (adding o (or_any_text p)) (or_any_text q)
+        ≡ adding o (or_any_text (option_and_then (λ r. option_map (either_options r) q) p))
+    go (Some p) (Some q) h = adding-either o p q
+    go (Some p) None h = cc
+    go None q h = cc
+
+pub members_behind : (part : ℕ → Option KeyOptions) (x : Variant) (xs : List Variant) → some_takes_all part (x ∷ xs) ≡ false
+    → some_takes_all part xs ≡ false
+members_behind part x xs none = go (is_none (member_options part x.payload)) (some_takes_all part xs) none
+  where
+    go : (a b : Bool) → a || b ≡ false → b ≡ false
+    go false b h = h
+    go true b h = cc
+
 -- ---- shapes and members as the program holds them
 
+-- a truth value allows any text, as a literal without a `type` does
+pub literal_or_any : (d : Data) → or_any_text (literal_options d) ≡ typed_options d
+literal_or_any (boolean b) = refl
+literal_or_any null = refl
+literal_or_any (number n) = refl
+literal_or_any (string s) = refl
+literal_or_any (array ds) = refl
+literal_or_any (object ms) = refl
+
+of_internal : (xs : List Variant) → or_any_text (internal_options xs) ≡ any_text
+of_internal [] = refl
+of_internal (x ∷ xs) = refl
+
 -- a shape that is none of these allows any text
-pub other_shape : (part : ℕ → KeyOptions) (s : src-shape.Shape) → ((k : IntKind) → s ≡ src.Int k → ⊥)
+pub other_shape : (part : ℕ → Option KeyOptions) (s : src-shape.Shape) → ((k : IntKind) → s ≡ src.Int k → ⊥)
     → ((k : IntKind) → s ≡ src.NonZero k → ⊥) → ((n : ℕ) → s ≡ src.Newtype n → ⊥)
     → ((xs : Vec src-variant.Variant Global) → s ≡ src.External xs → ⊥)
     → ((xs : Vec src-variant.Variant Global) → s ≡ src.Untagged xs → ⊥) → ((d : Data) → s ≡ src.Literal d → ⊥)
-    → shape_options part (shape_of s) ≡ any_key
+    → or_any_text (shape_options part (shape_of s)) ≡ any_text
 other_shape part src.Null i z w x u l = refl
 other_shape part src.Bool i z w x u l = refl
 other_shape part (src.Int k) i z w x u l = absurd (i k refl)
@@ -193,10 +275,45 @@ other_shape part (src.Bound n) i z w x u l = refl
 other_shape part (src.Range n) i z w x u l = refl
 other_shape part (src.Either a b) i z w x u l = refl
 other_shape part (src.Map key value) i z w x u l = refl
-other_shape part (src.Internal internal) i z w x u l = refl
+other_shape part (src.Internal internal) i z w x u l = of_internal (internal_view internal).2
 other_shape part (src.External xs) i z w x u l = absurd (x xs refl)
 other_shape part (src.Untagged xs) i z w x u l = absurd (u xs refl)
 other_shape part (src.Literal d) i z w x u l = absurd (l d refl)
+
+-- one that is none of these leaves keys to others
+pub other_leaves : (part : ℕ → Option KeyOptions) (s : src-shape.Shape) → (s ≡ src.Any → ⊥)
+    → ((n : ℕ) → s ≡ src.Newtype n → ⊥) → ((xs : Vec src-variant.Variant Global) → s ≡ src.External xs → ⊥)
+    → ((x : src-internal.Internal) → s ≡ src.Internal x → ⊥)
+    → ((xs : Vec src-variant.Variant Global) → s ≡ src.Untagged xs → ⊥) → ((d : Data) → s ≡ src.Literal d → ⊥)
+    → is_none (shape_options part (shape_of s)) ≡ false
+other_leaves part src.Null y w x t u l = refl
+other_leaves part src.Bool y w x t u l = refl
+other_leaves part (src.Int k) y w x t u l = refl
+other_leaves part (src.NonZero k) y w x t u l = refl
+other_leaves part src.Number y w x t u l = refl
+other_leaves part src.Text y w x t u l = refl
+other_leaves part src.Char y w x t u l = refl
+other_leaves part (src.Formatted t) y w x t u l = refl
+other_leaves part src.Any y w x t u l = absurd (y refl)
+other_leaves part src.Bytes y w x t u l = refl
+other_leaves part src.SchemaItself y w x t u l = refl
+other_leaves part (src.Option n) y w x t u l = refl
+other_leaves part (src.Seq n) y w x t u l = refl
+other_leaves part (src.Set n) y w x t u l = refl
+other_leaves part (src.Array n len) y w x t u l = refl
+other_leaves part (src.UpTo n cap) y w x t u l = refl
+other_leaves part (src.Tuple ns) y w x t u l = refl
+other_leaves part (src.Struct fields) y w x t u l = refl
+other_leaves part (src.Newtype n) y w x t u l = absurd (w n refl)
+other_leaves part (src.Result a b) y w x t u l = refl
+other_leaves part (src.Bound n) y w x t u l = refl
+other_leaves part (src.Range n) y w x t u l = refl
+other_leaves part (src.Either a b) y w x t u l = refl
+other_leaves part (src.Map key value) y w x t u l = refl
+other_leaves part (src.Internal internal) y w x t u l = absurd (t internal refl)
+other_leaves part (src.External xs) y w x t u l = absurd (x xs refl)
+other_leaves part (src.Untagged xs) y w x t u l = absurd (u xs refl)
+other_leaves part (src.Literal d) y w x t u l = absurd (l d refl)
 
 -- a text joins as the program holds them
 abbrev now_of : Bor (List ℕ) → Text
@@ -232,21 +349,21 @@ joined_keys ks t = by (list_any (bytes_eq t.now) (map now_of ks)) refl
     by true e = ap (map now_of) (there (same_test ks t ∙ e)) ∙ sym (now_there e)
     by false e = ap (map now_of) (new (same_test ks t ∙ e)) ∙ (map_one ks ∙ sym (now_new e))
 
-pub text_joins : (o : KeyOptions) (ks new : List (Bor (List ℕ))) (i : Option IntegerKeys) (ps : List Text)
+pub text_joins : (o : KeyOptions) (a : Bool) (ks new : List (Bor (List ℕ))) (i : Option IntegerKeys) (ps : List Text)
     (t : Bor (List ℕ))
-    → o ≡ only_keys (map now_of ks) i ps → new ≡ insert_key (λ a b. bytes_eq a.now b.now) ks t
-    → only_keys (map now_of new) i ps ≡ adding o (only_keys (t.now ∷ []) None [])
-text_joins o ks new i ps t is grown =
-    (λ x. only_keys ((ap (map now_of) grown ∙ joined_keys ks t) x) (sym (either_none i) x) ps)
-    ∙ ap (λ p. adding p (only_keys (t.now ∷ []) None [])) (sym is)
+    → o ≡ keys a (map now_of ks) i ps → new ≡ insert_key (λ a b. bytes_eq a.now b.now) ks t
+    → keys a (map now_of new) i ps ≡ adding o (keys false (t.now ∷ []) None [])
+text_joins o a ks new i ps t is grown =
+    (λ x. keys (sym (or-false a) x) ((ap (map now_of) grown ∙ joined_keys ks t) x) (sym (either_none i) x) ps)
+    ∙ ap (λ p. adding p (keys false (t.now ∷ []) None [])) (sym is)
 
-pub pattern_joins : (o : KeyOptions) (ts : List Text) (i : Option IntegerKeys) (ks new : List (Bor (List ℕ)))
+pub pattern_joins : (o : KeyOptions) (a : Bool) (ts : List Text) (i : Option IntegerKeys) (ks new : List (Bor (List ℕ)))
     (t : Bor (List ℕ))
-    → o ≡ only_keys ts i (map now_of ks) → new ≡ insert_key (λ a b. bytes_eq a.now b.now) ks t
-    → only_keys ts i (map now_of new) ≡ adding o (only_keys [] None (t.now ∷ []))
-pattern_joins o ts i ks new t is grown =
-    (λ x. only_keys ts (sym (either_none i) x) ((ap (map now_of) grown ∙ joined_keys ks t) x))
-    ∙ ap (λ p. adding p (only_keys [] None (t.now ∷ []))) (sym is)
+    → o ≡ keys a ts i (map now_of ks) → new ≡ insert_key (λ a b. bytes_eq a.now b.now) ks t
+    → keys a ts i (map now_of new) ≡ adding o (keys false [] None (t.now ∷ []))
+pattern_joins o a ts i ks new t is grown =
+    (λ x. keys (sym (or-false a) x) ts (sym (either_none i) x) ((ap (map now_of) grown ∙ joined_keys ks t) x))
+    ∙ ap (λ p. adding p (keys false [] None (t.now ∷ []))) (sym is)
 
 -- a number that counts is one without a sign
 pub counts : (d : Data) → count_of_number d ≡ option_and_then as_u64 (as_number d)

@@ -12,7 +12,7 @@ use Rattle.schemars_schema.specs.SchemaData.{object_of}
 use Rattle.schemars_schema.specs.Acceptance.{Patterns}
 use Rattle.schemars_types.specs.Rows.{Row}
 use Rattle.schemars_shapes.specs.declared.shape.IntegerKeys.TheVariants.{Unsigned, Signed}
-use Rattle.schemars_types.specs.KeyOptions.{KeyOptions, any_key, only_keys, key_options, options_within, is_key_allowed}
+use Rattle.schemars_types.specs.KeyOptions.{KeyOptions, any_text, keys, key_options, options_within, is_key_allowed}
 
 variant : String → Payload → Members → Variant
 variant name payload notes = record { name = codes name; payload = payload; notes = notes }
@@ -30,52 +30,65 @@ documented name = variant name no_payload (member (codes "description") (string 
 row : Shape → Row
 row s = record { id = codes "t"; name = codes "t"; entry = Some (in_place s) }
 
--- the keys of a type of this shape, below which stand the rows 0 to 6
+-- the keys of a type of this shape, below which stand the rows 0 to 8
 table : Shape → List Row
 table s =
     row (int U8) ∷ row (int I8) ∷ row any ∷ row (int I32) ∷ row (newtype 3) ∷ row (external (unit "A" ∷ unit "B" ∷ []))
-    ∷ row (untagged (of_row 5 ∷ of_row 0 ∷ [])) ∷ row s ∷ []
+    ∷ row (untagged (of_row 5 ∷ of_row 0 ∷ [])) ∷ row (newtype 2) ∷ row (untagged (of_row 5 ∷ of_row 7 ∷ [])) ∷ row s ∷ []
 
 options : Shape → KeyOptions
-options s = key_options (table s) 7
+options s = key_options (table s) 9
 
-without_sign : options (int U64) ≡ only_keys [] (Some Unsigned) []
+without_sign : options (int U64) ≡ keys false [] (Some Unsigned) []
 unfolding options table row options_within
 without_sign = refl
 
-without_zero : options (non_zero U8) ≡ only_keys [] (Some Signed) []
+without_zero : options (non_zero U8) ≡ keys false [] (Some Signed) []
 unfolding options table row options_within
 without_zero = refl
 
-texts : options text ≡ any_key
+texts : options text ≡ any_text
 unfolding options table row options_within
 texts = refl
 
-names : options (external (unit "A" ∷ unit "B" ∷ [])) ≡ only_keys (codes "A" ∷ codes "B" ∷ []) None []
+names : options (external (unit "A" ∷ unit "B" ∷ [])) ≡ keys false (codes "A" ∷ codes "B" ∷ []) None []
 unfolding options table row options_within unit variant
 names = refl
 
-noted_names : options (external (unit "A" ∷ documented "B" ∷ [])) ≡ any_key
+noted_names : options (external (unit "A" ∷ documented "B" ∷ [])) ≡ any_text
 unfolding options table row options_within unit documented variant
 noted_names = refl
 
-no_names : options (external []) ≡ any_key
+no_names : options (external []) ≡ any_text
 unfolding options table row options_within
 no_names = refl
 
-both_integers : options (untagged (of_row 0 ∷ of_row 1 ∷ [])) ≡ only_keys [] (Some Signed) []
+both_integers : options (untagged (of_row 0 ∷ of_row 1 ∷ [])) ≡ keys false [] (Some Signed) []
 unfolding options table row options_within of_row variant
 both_integers = refl
 
-one_of_any : options (untagged (of_row 0 ∷ of_row 1 ∷ of_row 2 ∷ [])) ≡ any_key
+one_of_any : options (untagged (of_row 0 ∷ of_row 1 ∷ of_row 2 ∷ [])) ≡ any_text
 unfolding options table row options_within of_row variant
 one_of_any = refl
 
-one_of_none : options (untagged (of_row 0 ∷ unit "A" ∷ [])) ≡ any_key
+through_a_newtype : options (untagged (of_row 0 ∷ of_row 7 ∷ [])) ≡ any_text
+unfolding options table row options_within of_row variant
+through_a_newtype = refl
+
+one_of_none : options (untagged (of_row 0 ∷ unit "A" ∷ [])) ≡ keys true [] (Some Unsigned) []
 unfolding options table row options_within of_row unit variant
 one_of_none = refl
 
-newtypes : options (newtype 4) ≡ only_keys [] (Some Signed) []
+-- any text inside, which leaves nothing to the others there, leaves what stands beside the whole
+any_inside : options (untagged (of_row 8 ∷ of_row 1 ∷ [])) ≡ keys true [] (Some Signed) []
+unfolding options table row options_within of_row unit variant
+any_inside = refl
+
+any_alone : options (newtype 8) ≡ any_text
+unfolding options table row options_within of_row unit variant
+any_alone = refl
+
+newtypes : options (newtype 4) ≡ keys false [] (Some Signed) []
 unfolding options table row options_within
 newtypes = refl
 
@@ -91,38 +104,38 @@ abbrev a_and_one : Items
 a_and_one = item (string (codes "a")) (item (number (unsigned 1)) no_items)
 
 by_pattern : options (of_type "string" ((codes "pattern", string (codes "^a$")) ∷ texts_of no_items ∷ []))
-    ≡ only_keys [] None (codes "^a$" ∷ [])
+    ≡ keys false [] None (codes "^a$" ∷ [])
 unfolding options table row options_within
 by_pattern = refl
 
 by_list : options (of_type "string" (texts_of (item (string (codes "a")) no_items) ∷ []))
-    ≡ only_keys (codes "a" ∷ []) None []
+    ≡ keys false (codes "a" ∷ []) None []
 unfolding options table row options_within
 by_list = refl
 
-not_texts_alone : options (of_type "string" (texts_of a_and_one ∷ [])) ≡ any_key
+not_texts_alone : options (of_type "string" (texts_of a_and_one ∷ [])) ≡ any_text
 unfolding options table row options_within
 not_texts_alone = refl
 
-from_zero : options (of_type "integer" ((codes "minimum", number (unsigned 0)) ∷ [])) ≡ only_keys [] (Some Unsigned) []
+from_zero : options (of_type "integer" ((codes "minimum", number (unsigned 0)) ∷ [])) ≡ keys false [] (Some Unsigned) []
 unfolding options table row options_within
 from_zero = refl
 
-from_one : options (of_type "integer" ((codes "minimum", number (unsigned 1)) ∷ [])) ≡ only_keys [] (Some Signed) []
+from_one : options (of_type "integer" ((codes "minimum", number (unsigned 1)) ∷ [])) ≡ keys false [] (Some Signed) []
 unfolding options table row options_within
 from_one = refl
 
-truth_value : options (literal (boolean true)) ≡ any_key
+truth_value : options (literal (boolean true)) ≡ any_text
 unfolding options table row options_within
 truth_value = refl
 
-other_type : options (of_type "number" []) ≡ any_key
+other_type : options (of_type "number" []) ≡ any_text
 unfolding options table row options_within
 other_type = refl
 
 -- the names of row 5 stand once, and the numbers of row 1 cover those of row 0
 nested : options (untagged (of_row 6 ∷ of_row 5 ∷ of_row 1 ∷ []))
-    ≡ only_keys (codes "A" ∷ codes "B" ∷ []) (Some Signed) []
+    ≡ keys false (codes "A" ∷ codes "B" ∷ []) (Some Signed) []
 unfolding options table row options_within of_row unit variant
 nested = refl
 

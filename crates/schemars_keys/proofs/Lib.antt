@@ -2,4 +2,5 @@ pub mod Texts
 pub mod Adding
 pub mod Asked
 pub mod Settling
+pub mod Shapes
 mod Examples

@@ -1,6 +1,7 @@
 -- Options that more steps and further rows leave as they are.
 use Rattle.std.proofs.Common.{◌≡◌, ◌<◌, ◌≤◌, ◌∙◌, inl, inr, ℕ, zero, suc, List, [], ◌∷◌, Option, Some, None, length, take}
 use Rattle.std.proofs.Common.{true, Contains, refl, ap, sym, subst, arith}
+use Rattle.std.specs.Prelude.{option_map, option_and_then}
 use Rattle.std.specs.Option.{option_map_or}
 use Rattle.std.proofs.lemmas.Bool.{cases_eq}
 use Rattle.std.proofs.lemmas.List.Elements.{Contains-append_left, Contains-append_right}
@@ -12,20 +13,20 @@ use Rattle.schemars_types.specs.Edges.{RefersWithin, rank}
 use Rattle.schemars_types.specs.Extends.{begins_with}
 use Rattle.schemars_types.specs.Faults.{IsChecked}
 use Rattle.schemars_types.proofs.Extensions.{begins-same}
-use Rattle.schemars_types.specs.KeyOptions.{KeyOptions, any_key, either_options, member_options, members_options, shape_options}
-use Rattle.schemars_types.specs.KeyOptions.{options_within, all_options, key_options, each_once}
+use Rattle.schemars_types.specs.KeyOptions.{KeyOptions, any_text, or_any_text, either_options, member_options, members_options}
+use Rattle.schemars_types.specs.KeyOptions.{shape_options, options_within, all_options, key_options, each_once}
 use Rattle.schemars_keys.proofs.Asked.{asked, entry_low}
 
 -- ---- options depend on the rows that are asked alone
 
-member_alike : (f g : ℕ → KeyOptions) (p : Payload) → ((m : ℕ) → Contains (payload_same p) m → f m ≡ g m)
+member_alike : (f g : ℕ → Option KeyOptions) (p : Payload) → ((m : ℕ) → Contains (payload_same p) m → f m ≡ g m)
     → member_options f p ≡ member_options g p
 member_alike f g no_payload h = refl
 member_alike f g (newtype_payload n) h = h n (0, omega arith, refl)
 member_alike f g (tuple_payload ms) h = refl
 member_alike f g (struct_payload x) h = refl
 
-members_alike : (f g : ℕ → KeyOptions) (xs : List Variant) → ((m : ℕ) → Contains (of_variants payload_same xs) m → f m ≡ g m)
+members_alike : (f g : ℕ → Option KeyOptions) (xs : List Variant) → ((m : ℕ) → Contains (of_variants payload_same xs) m → f m ≡ g m)
     → members_options f xs ≡ members_options g xs
 members_alike f g [] h = refl
 members_alike f g (x ∷ xs) h =
@@ -33,9 +34,9 @@ members_alike f g (x ∷ xs) h =
     (λ m c. h m (Contains-append_left (payload_same x.payload) (of_variants payload_same xs) m c)) in
     let tail : members_options f xs ≡ members_options g xs = members_alike f g xs
     (λ m c. h m (Contains-append_right (payload_same x.payload) (of_variants payload_same xs) m c)) in
-    λ i. either_options (head i) (tail i)
+    λ i. option_and_then (λ o. option_map (either_options o) (tail i)) (head i)
 
-shape_alike : (f g : ℕ → KeyOptions) (s : Shape) → ((m : ℕ) → Contains (same_value_numbers s) m → f m ≡ g m)
+shape_alike : (f g : ℕ → Option KeyOptions) (s : Shape) → ((m : ℕ) → Contains (same_value_numbers s) m → f m ≡ g m)
     → shape_options f s ≡ shape_options g s
 shape_alike f g (shape.option i) h = refl
 shape_alike f g (shape.newtype i) h = h i (0, omega arith, refl)
@@ -65,7 +66,7 @@ shape_alike f g (shape.external xs) h = refl
 shape_alike f g (shape.internal tag closed xs) h = refl
 shape_alike f g (shape.literal d) h = refl
 shape_alike f g (shape.untagged []) h = refl
-shape_alike f g (shape.untagged (x ∷ xs)) h = members_alike f g (x ∷ xs) h
+shape_alike f g (shape.untagged (x ∷ xs)) h = ap (λ o. Some (or_any_text o)) (members_alike f g (x ∷ xs) h)
 
 -- ---- more steps
 
@@ -77,8 +78,8 @@ stays rows checked (suc steps) n low = by (entry_at rows n) refl (stays rows che
   where
     by : (o : Option Entry) → entry_at rows n ≡ o
         → ((m : ℕ) → rank rows m < steps → options_within rows (suc steps) m ≡ options_within rows steps m)
-        → option_map_or (λ e. shape_options (options_within rows (suc steps)) e.shape) o any_key
-        ≡ option_map_or (λ e. shape_options (options_within rows steps) e.shape) o any_key
+        → option_map_or (λ e. shape_options (options_within rows (suc steps)) e.shape) o (Some any_text)
+        ≡ option_map_or (λ e. shape_options (options_within rows steps) e.shape) o (Some any_text)
     by None at rest = refl
     by (Some e) at rest = shape_alike (options_within rows (suc steps)) (options_within rows steps) e.shape
         (λ m c. rest m (omega (arith, checked.rank_falls n m (asked rows checked.within n e at m c))))
@@ -96,12 +97,12 @@ pub enough_steps : (rows : List Row) → IsChecked rows → (n steps : ℕ) → 
     → options_within rows steps n ≡ all_options rows n
 enough_steps rows checked n steps known more = settled rows checked n (length rows) steps (checked.rank_bound n known) more
 
-no_options : (rows : List Row) (steps n : ℕ) → entry_at rows n ≡ None → options_within rows steps n ≡ any_key
+no_options : (rows : List Row) (steps n : ℕ) → entry_at rows n ≡ None → options_within rows steps n ≡ Some any_text
 unfolding options_within
 no_options rows zero n none = refl
 no_options rows (suc steps) n none = rw none refl
 
-pub all_options-none : (rows : List Row) (n : ℕ) → entry_at rows n ≡ None → all_options rows n ≡ any_key
+pub all_options-none : (rows : List Row) (n : ℕ) → entry_at rows n ≡ None → all_options rows n ≡ Some any_text
 all_options-none rows n none = no_options rows (length rows) n none
 
 one_more : (rows : List Row) (steps n : ℕ) (e : Entry) → entry_at rows n ≡ Some e
@@ -139,8 +140,8 @@ further_within rows more within first (suc steps) n known = by (entry_at rows n)
 
     by : (o : Option Entry) → entry_at rows n ≡ o
         → ((m : ℕ) → m < length rows → options_within more steps m ≡ options_within rows steps m)
-        → option_map_or (λ e. shape_options (options_within more steps) e.shape) (entry_at more n) any_key
-        ≡ option_map_or (λ e. shape_options (options_within rows steps) e.shape) (entry_at rows n) any_key
+        → option_map_or (λ e. shape_options (options_within more steps) e.shape) (entry_at more n) (Some any_text)
+        ≡ option_map_or (λ e. shape_options (options_within rows steps) e.shape) (entry_at rows n) (Some any_text)
     by None at rest = rw (same, at) refl
     by (Some e) at rest = rw (same, at) (shape_alike (options_within more steps) (options_within rows steps) e.shape
         (λ m c. rest m (asked rows within n e at m c).1))
@@ -151,7 +152,7 @@ pub further_rows : (rows more : List Row) → IsChecked rows → take (length ro
 further_rows rows more checked first n known =
     let longer : length rows ≤ length more =
     subst (λ (rs : List Row). length rs ≤ length more) first (length-take (length rows) more) in
-    ap each_once (further_within rows more checked.within first (length more) n known
+    ap (λ o. each_once (or_any_text o)) (further_within rows more checked.within first (length more) n known
     ∙ enough_steps rows checked n (length more) known longer)
 
 pub beginning_rows : (rows more : List Row) → IsChecked rows → begins_with more rows ≡ true → (n : ℕ) → n < length rows

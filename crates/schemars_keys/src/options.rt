@@ -1,6 +1,6 @@
 //! The keys that a map may have.
-ghost use Rattle.std.specs.Prelude.{◌≡◌, ◌∷◌, [], None, Some, OnOk};
-ghost use Rattle.schemars_types.specs.KeyOptions.{any_key, only_keys, either_integers};
+ghost use Rattle.std.specs.Prelude.{◌≡◌, ◌∷◌, [], None, Some, OnOk, true, false};
+ghost use Rattle.schemars_types.specs.KeyOptions.{any_text, keys, either_integers};
 ghost use Rattle.schemars_keys.specs.Found.{options_of, adding};
 
 use indexmap::IndexSet;
@@ -20,57 +20,52 @@ fn wider(present: Option<IntegerKeys>, more: IntegerKeys) -> IntegerKeys
 
 /// The keys that a map may have.
 #[derive(Drop)]
-pub enum KeyOptions<'t> {
-    /// any text
-    Any,
-    /// these texts, these whole numbers, and what matches one of these patterns
-    Only {
-        texts: IndexSet<&'t str>,
-        integers: Option<IntegerKeys>,
-        patterns: IndexSet<&'t str>,
-    },
+pub struct KeyOptions<'t> {
+    /// whether any other text is one
+    pub others: bool,
+    pub texts: IndexSet<&'t str>,
+    pub integers: Option<IntegerKeys>,
+    /// keys match one of these
+    pub patterns: IndexSet<&'t str>,
 }
 
 impl<'t> KeyOptions<'t> {
     pub(crate) fn none(alloc: Global) -> KeyOptions<'t>
-        ensures { options_of result ≡ only_keys [] None [] }
+        ensures { options_of result ≡ keys false [] None [] }
     {
-        KeyOptions::Only {
+        KeyOptions {
+            others: false,
             texts: IndexSet::new(alloc),
             integers: None,
             patterns: IndexSet::new(alloc),
         }
     }
 
-    pub(crate) fn allow_any(&mut self)
-        ensures { options_of self.new ≡ any_key }
+    pub(crate) fn allow_others(&mut self)
+        ensures { options_of self.new ≡ adding (options_of self.old) any_text }
     {
-        *self = KeyOptions::Any;
+        self.others = true;
     }
 
     pub(crate) fn add_text(&mut self, text: &'t str) -> Result<(), AllocError>
-        ensures { OnOk result (options_of self.new ≡ adding (options_of self.old) (only_keys (text.now ∷ []) None [])) }
+        ensures { OnOk result (options_of self.new
+            ≡ adding (options_of self.old) (keys false (text.now ∷ []) None [])) }
     {
-        if let KeyOptions::Only { texts, .. } = self {
-            texts.insert(text)?;
-        }
+        self.texts.insert(text)?;
         Ok(())
     }
 
     pub(crate) fn add_pattern(&mut self, pattern: &'t str) -> Result<(), AllocError>
-        ensures { OnOk result (options_of self.new ≡ adding (options_of self.old) (only_keys [] None (pattern.now ∷ []))) }
+        ensures { OnOk result (options_of self.new
+            ≡ adding (options_of self.old) (keys false [] None (pattern.now ∷ []))) }
     {
-        if let KeyOptions::Only { patterns, .. } = self {
-            patterns.insert(pattern)?;
-        }
+        self.patterns.insert(pattern)?;
         Ok(())
     }
 
     pub(crate) fn add_integers(&mut self, more: IntegerKeys)
-        ensures { options_of self.new ≡ adding (options_of self.old) (only_keys [] (Some more) []) }
+        ensures { options_of self.new ≡ adding (options_of self.old) (keys false [] (Some more) []) }
     {
-        if let KeyOptions::Only { integers, .. } = self {
-            *integers = Some(wider(*integers, more));
-        }
+        self.integers = Some(wider(self.integers, more));
     }
 }

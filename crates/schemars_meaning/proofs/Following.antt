@@ -175,7 +175,8 @@ module _ (basis : Basis) (Refers : ℕ → Text → Type 0) (plain : IsPlainTabl
   described_stays zero n t is h = absurd h
   described_stays (suc d) n t is h =
       let has = fields_within basis.rows d in
-      let own = own_fields basis Refers plain (fields_within basis.rows) (λ e m. refl) d (fields_down d) (entry_at basis.rows n) (plain n) is t h in
+      let own =
+      own_fields basis Refers plain (fields_within basis.rows) (λ e m. refl) d (fields_down d) (entry_at basis.rows n) (plain n) is t h in
       let list = option_map_or (λ e. shape_fields has e.shape) (entry_at basis.rows n) [] in
       ap (flattened_part false) own.is
       ∙ (part-stays own.notes (field_keywords list own.parts) (required_names basis.contract list) own.are_notes ∙ sym own.is)

@@ -1,6 +1,6 @@
 -- What the document of a map says under 2020-12, whose keys are those that the type of its keys allows.
 use Rattle.std.proofs.Common.{◌≡◌, ℕ, ◌<◌, ◌≤◌, List, [], ◌∷◌, ◌++◌, map, Option, Some, None, Bool, true, false, refl, sym, ap, ◌∙◌}
-use Rattle.std.proofs.Common.{arith, option_map, true≢false, inl, inr}
+use Rattle.std.proofs.Common.{arith, option_map, true≢false, inl, inr, subst}
 use Rattle.std.specs.Prelude.{codes, bytes_eq, if◌then◌else◌, is_some, ◌&&◌, ◌||◌}
 use Rattle.std.proofs.lemmas.Slice.Eq.{bytes_eq-Decides}
 use Rattle.serde_json.specs.Data.{Data, null, boolean, number, string, array, object, Members, no_members, member, put}
@@ -26,41 +26,40 @@ use Rattle.schemars_rewrite.specs.NullLaw.{context2020_12}
 use Rattle.schemars_rewrite.proofs.Nulls.{IsReady}
 use Rattle.schemars_shapes.specs.declared.shape.IntegerKeys.{IntegerKeys}
 use Rattle.schemars_shapes.specs.IntegerKeys.{pattern_of}
-use Rattle.schemars_types.specs.KeyOptions.{KeyOptions, any_key, only_keys, is_key_allowed}
+use Rattle.schemars_types.specs.KeyOptions.{KeyOptions, keys, is_key_allowed}
 use Rattle.schemars_types.specs.Meaning.{every_member, has_keys, holds}
 use Rattle.schemars_documents.specs.Documents.{Keyword, typed}
-use Rattle.schemars_templates.specs.Template.{Ask, part, Template, no_templates, template, row, asks_of, asks_in, filled}
+use Rattle.schemars_templates.specs.Template.{Ask, part, Template, no_templates, template, finished, row, asks_of, asks_in, filled}
 use Rattle.schemars_templates.specs.Template.{filled_in, keyed}
-use Rattle.schemars_templates.specs.OfShape.{KeywordTemplate, templates_of, values_template, object_with, said}
-use Rattle.schemars_templates.specs.OfShape.{values_of}
+use Rattle.schemars_templates.specs.OfShape.{KeywordTemplate, templates_of, values_template, object_with, values_of, other_values}
 use Rattle.schemars_templates.specs.OfShape.{typed as typed_at, all_patterns, pattern_properties_at, properties_at}
-use Rattle.schemars_meaning.proofs.MapDocument.{map_document}
-use Rattle.schemars_meaning.proofs.Maps.{AreEntries, judges_of, schema_named-judges_in, named_says, other_says, judge-map_object}
-use Rattle.schemars_meaning.proofs.Maps.{judge-map_other, judges_in, all_named-schemas, AreSchemas-put_all}
-use Rattle.schemars_meaning.proofs.Maps.{properties_value, closed_value, each_agree, named_part}
+use Rattle.schemars_meaning.proofs.MapDocument.{properties_keyword}
+use Rattle.schemars_meaning.proofs.Maps.{AreEntries, judges_of, schema_named-judges_in, named_says, judges_in, all_named-schemas}
+use Rattle.schemars_meaning.proofs.Maps.{AreSchemas-put_all, properties_value, each_yes, each_agree, named_part, IsNoMap, silent}
 use Rattle.schemars_meaning.proofs.Structs.{both-middle}
 use Rattle.schemars_meaning.proofs.Filling.{Fit, without_end, parted}
 
--- a map with these keys, and those that match one of the patterns
-abbrev keyed_template : ℕ → List Text → List Text → Template
-keyed_template value texts qs =
-    object_with (typed_at (codes "object") ∷ said (codes "additionalProperties") (boolean false)
+-- a map with these keys, those that match one of the patterns, and others with this schema
+abbrev keyed_template : ℕ → Template → List Text → List Text → Template
+keyed_template value other texts qs =
+    object_with (typed_at (codes "object") ∷ (codes "additionalProperties", other)
     ∷ (pattern_properties_at (values_of value qs) ++ properties_at (values_of value texts)))
 
 -- ---- null can be added
 
-keyed_ready : (texts qs : List Text) (value : ℕ) (us : List Data) → IsReady (filled (keyed_template value texts qs) us)
-keyed_ready [] [] value us = inr (record { alone = refl; type_form = refl; values = inl refl; not_form = inl refl })
-keyed_ready (t ∷ texts) [] value us =
+keyed_ready : (other : Template) (texts qs : List Text) (value : ℕ) (us : List Data)
+    → IsReady (filled (keyed_template value other texts qs) us)
+keyed_ready other [] [] value us = inr (record { alone = refl; type_form = refl; values = inl refl; not_form = inl refl })
+keyed_ready other (t ∷ texts) [] value us =
     inr (record { alone = refl; type_form = refl; values = inl refl; not_form = inl refl })
-keyed_ready [] (q ∷ qs) value us =
+keyed_ready other [] (q ∷ qs) value us =
     inr (record { alone = refl; type_form = refl; values = inl refl; not_form = inl refl })
-keyed_ready (t ∷ texts) (q ∷ qs) value us =
+keyed_ready other (t ∷ texts) (q ∷ qs) value us =
     inr (record { alone = refl; type_form = refl; values = inl refl; not_form = inl refl })
 
 pub values_ready : (options : KeyOptions) (value : ℕ) (us : List Data) → IsReady (filled (values_template options value) us)
-values_ready any_key value us = inr (record { alone = refl; type_form = refl; values = inl refl; not_form = inl refl })
-values_ready (only_keys texts integers ps) value us = keyed_ready texts (all_patterns integers ps) value us
+values_ready (keys others texts integers ps) value us =
+    keyed_ready (other_values others value) texts (all_patterns integers ps) value us
 
 -- ---- members
 
@@ -84,6 +83,10 @@ idem false = refl
 or-false : (b : Bool) → b || false ≡ b
 or-false true = refl
 or-false false = refl
+
+or-true : (b : Bool) → b || true ≡ true
+or-true true = refl
+or-true false = refl
 
 or-twice : (a b : Bool) → a || b ≡ a || (a || b)
 or-twice true b = refl
@@ -130,22 +133,6 @@ module _ (patterns : Patterns) (f : Text → Judge) (A : Ask → Data → Type 0
   abbrev Agrees : Data → Type 0
   Agrees v = (t w : Data) → A (part value) t → IsJson w → depth w < depth v → (judge c t).fits w ≡ verdict (p w)
 
-  -- ---- every key is allowed
-
-  abbrev any_document : Data → Data
-  any_document t = object_of (typed (codes "object") ∷ (codes "additionalProperties", t) ∷ [])
-
-  any_says : (t : Data) → A (part value) t → (v : Data) → IsJson v → Agrees v
-      → (judge c (any_document t)).fits v ≡ verdict (has_keys patterns any_key p v)
-  unfolding read_data all_keywords
-  any_says t here (object ms) json agree = rw (schema-judge c t (schemas t here), both-yes)
-      (each_tests (λ k w. (judge c t).fits w) (λ k w. p w) ms json (λ k w is less. agree t w here is (omega arith)))
-  any_says t here null json agree = refl
-  any_says t here (boolean b) json agree = refl
-  any_says t here (number n) json agree = refl
-  any_says t here (string s) json agree = refl
-  any_says t here (array ds) json agree = refl
-
   -- ---- the texts
 
   abbrev texts_at : List Text → List KeywordTemplate
@@ -184,39 +171,6 @@ module _ (patterns : Patterns) (f : Text → Judge) (A : Ask → Data → Type 0
       go false true is there = there
       go true false is there = (u, h.0, there ∙ rw ((bytes_eq-Decides k t).0 is) (get_member-put t u ms))
       go false false is there = there ∙ get_member-put_other k t u ms (apart is)
-
-  -- ---- these texts alone
-
-  text_says : (listed : Bool) (o : Option Data) (w : Data) → Found listed o None
-      → ((t : Data) → A (part value) t → (judge c t).fits w ≡ verdict (p w))
-      → both (where_some (option_map (judge c) o) (λ s. s.fits w)) (if is_some (option_map (judge c) o) then Yes else No)
-      ≡ verdict (listed && p w)
-  text_says false o w h agree = rw h refl
-  text_says true o w h agree = rw h.2 (both-yes _ ∙ agree h.0 h.1)
-
-  -- which keys there are
-  abbrev HasKeys : (Text → Bool) → Data → Bool
-  HasKeys allowed v = holds (as_object v) (every_member (λ k w. allowed k && p w))
-
-  texts_say : (texts : List Text) (us : List Data) → Fit A (text_asks texts) us → (allowed : Text → Bool)
-      → ((k : Text) → allowed k ≡ is_listed k texts) → (v : Data) → IsJson v → Agrees v
-      → (judge c (map_document (entries_at texts us) [] true)).fits v ≡ verdict (HasKeys allowed v)
-  texts_say texts us h allowed same (object ms) json agree =
-      let es = entries_at texts us in
-      judge-map_object patterns f es [] true (are_entries texts us h) ms
-      ∙ (each_both (named_says patterns f (judges_of patterns f es)) (other_says patterns f true (judges_of patterns f es)) ms
-      ∙ each_tests _ (λ k w. allowed k && p w) ms json
-      (λ k w is less. rw (schema_named-judges_in, same k) (text_says (is_listed k texts) _ w
-      (found k texts us no_members h) (λ t here. agree t w here is (omega arith)))))
-  texts_say texts us h allowed same null json agree = judge-map_other patterns f (entries_at texts us) [] true null tt
-  texts_say texts us h allowed same (boolean b) json agree =
-      judge-map_other patterns f (entries_at texts us) [] true (boolean b) tt
-  texts_say texts us h allowed same (number n) json agree =
-      judge-map_other patterns f (entries_at texts us) [] true (number n) tt
-  texts_say texts us h allowed same (string s) json agree =
-      judge-map_other patterns f (entries_at texts us) [] true (string s) tt
-  texts_say texts us h allowed same (array ds) json agree =
-      judge-map_other patterns f (entries_at texts us) [] true (array ds) tt
 
   -- ---- schemas by pattern
 
@@ -287,112 +241,133 @@ module _ (patterns : Patterns) (f : Text → Judge) (A : Ask → Data → Type 0
   unfolding judges_in
   some_matches ps vs k fit = some-put_all ps vs no_members k fit ∙ or-false (list_any (λ q. matches patterns q k) ps)
 
-  -- ---- these texts, and those that match one of the patterns
+  -- ---- these texts, those that match one of the patterns, and others
 
-  abbrev properties_keyword : List Keyword → List Keyword
-  properties_keyword [] = []
-  properties_keyword (e ∷ es) = (codes "properties", object_of (e ∷ es)) ∷ []
+  abbrev pattern_keyword : List Keyword → List Keyword
+  pattern_keyword [] = []
+  pattern_keyword (e ∷ es) = (codes "patternProperties", object_of (e ∷ es)) ∷ []
 
-  abbrev pattern_document : List Keyword → List Keyword → Data
-  pattern_document qs es = object_of (typed (codes "object") ∷ (codes "additionalProperties", boolean false)
-      ∷ (codes "patternProperties", object_of qs) ∷ properties_keyword es)
+  -- what is neither listed nor matches has the first schema
+  abbrev keyed_document : Data → List Keyword → List Keyword → Data
+  keyed_document other qs es = object_of (typed (codes "object") ∷ (codes "additionalProperties", other)
+      ∷ (pattern_keyword qs ++ properties_keyword es))
 
   abbrev covered : List Keyword → List (Text × Judge) → Text → Bool
   covered qs ss k = is_some (schema_named k ss) || some_of (put_all qs no_members) k
 
   pattern_value : List Keyword → Option Reading
-  pattern_value qs = Some (read_data c (object_of qs))
+  pattern_value [] = None
+  pattern_value (q ∷ qs) = Some (read_data c (object_of (q ∷ qs)))
 
-  keyed_says : List Keyword → List Keyword → Data → Verdict
-  keyed_says qs es v =
+  keyed_says : Data → List Keyword → List Keyword → Data → Verdict
+  keyed_says other qs es v =
       both (type_says false (Some (string (codes "object"))) None v)
       (both (properties_say (properties_value c es) v)
       (both (pattern_properties_say patterns (pattern_value qs) v)
       (additional_properties_say (is_covered patterns (properties_value c es) (pattern_value qs))
-      (closed_value c true) v)))
+      (Some (read_data c other)) v)))
 
-  judge-keyed : (qs es : List Keyword) (v : Data) → (judge c (pattern_document qs es)).fits v ≡ keyed_says qs es v
-  unfolding read_data all_keywords keyed_says properties_value pattern_value closed_value
-  judge-keyed qs [] v = rw both-yes refl
-  judge-keyed qs (e ∷ es) v = rw both-yes refl
+  judge-keyed : (other : Data) (qs es : List Keyword) (v : Data)
+      → (judge c (keyed_document other qs es)).fits v ≡ keyed_says other qs es v
+  unfolding read_data all_keywords keyed_says properties_value pattern_value
+  judge-keyed other [] [] v = rw both-yes refl
+  judge-keyed other [] (e ∷ es) v = rw both-yes refl
+  judge-keyed other (q ∷ qs) [] v = rw both-yes refl
+  judge-keyed other (q ∷ qs) (e ∷ es) v = rw both-yes refl
 
   pattern_part : (qs : List Keyword) → AreEntries qs → (ms : Members)
       → pattern_properties_say patterns (pattern_value qs) (object ms)
       ≡ each_member (by_patterns patterns (judges_in c (put_all qs no_members))) ms
-  unfolding pattern_value read_data
-  pattern_part qs are ms = rw (all_named-schemas c (put_all qs no_members) (AreSchemas-put_all qs no_members are tt))
+  unfolding pattern_value read_data judges_in
+  pattern_part [] are ms = sym (each_yes ms)
+  pattern_part (q ∷ qs) are ms =
+      rw (all_named-schemas c (put_all (q ∷ qs) no_members) (AreSchemas-put_all (q ∷ qs) no_members are tt))
 
   covered_part : (qs es : List Keyword) → AreEntries qs → AreEntries es → (k : Text)
       → is_covered patterns (properties_value c es) (pattern_value qs) k ≡ covered qs (judges_of patterns f es) k
   unfolding pattern_value properties_value read_data judges_in
-  covered_part qs [] are h k =
-      rw (all_named-schemas c (put_all qs no_members) (AreSchemas-put_all qs no_members are tt))
-  covered_part qs (e ∷ es) are h k = rw (
-    all_named-schemas c (put_all qs no_members) (AreSchemas-put_all qs no_members are tt),
+  covered_part [] [] are h k = refl
+  covered_part [] (e ∷ es) are h k =
+      rw (all_named-schemas c (put_all (e ∷ es) no_members) (AreSchemas-put_all (e ∷ es) no_members h tt))
+  covered_part (q ∷ qs) [] are h k =
+      rw (all_named-schemas c (put_all (q ∷ qs) no_members) (AreSchemas-put_all (q ∷ qs) no_members are tt))
+  covered_part (q ∷ qs) (e ∷ es) are h k = rw (
+    all_named-schemas c (put_all (q ∷ qs) no_members) (AreSchemas-put_all (q ∷ qs) no_members are tt),
     all_named-schemas c (put_all (e ∷ es) no_members) (AreSchemas-put_all (e ∷ es) no_members h tt),
   )
 
-  other_part : (qs es : List Keyword) → AreEntries qs → AreEntries es → (ms : Members)
-      → additional_properties_say (is_covered patterns (properties_value c es) (pattern_value qs))
-      (closed_value c true) (object ms)
-      ≡ each_member (λ k w. if covered qs (judges_of patterns f es) k then Yes else No) ms
-  unfolding closed_value read_data
-  other_part qs es are h ms = each_agree _ _ (λ k w. ap (λ b. if b then Yes else No) (covered_part qs es are h k)) ms
+  -- a member that nothing covers has to fit
+  abbrev uncovered_says : Data → List Keyword → List (Text × Judge) → Text → Data → Verdict
+  uncovered_says other qs ss k w = if covered qs ss k then Yes else (judge c other).fits w
 
-  pattern_judges : (qs es : List Keyword) → AreEntries qs → AreEntries es → (ms : Members)
-      → (judge c (pattern_document qs es)).fits (object ms)
+  other_part : (other : Data) (qs es : List Keyword) → IsSchema other → AreEntries qs → AreEntries es → (ms : Members)
+      → additional_properties_say (is_covered patterns (properties_value c es) (pattern_value qs))
+      (Some (read_data c other)) (object ms) ≡ each_member (uncovered_says other qs (judges_of patterns f es)) ms
+  other_part other qs es is are h ms = rw (schema-judge c other is)
+      (each_agree _ _ (λ k w. ap (λ b. if b then Yes else (judge c other).fits w) (covered_part qs es are h k)) ms)
+
+  keyed-object : (other : Data) (qs es : List Keyword) → IsSchema other → AreEntries qs → AreEntries es → (ms : Members)
+      → (judge c (keyed_document other qs es)).fits (object ms)
       ≡ both (each_member (named_says patterns f (judges_of patterns f es)) ms)
       (both (each_member (by_patterns patterns (judges_in c (put_all qs no_members))) ms)
-      (each_member (λ k w. if covered qs (judges_of patterns f es) k then Yes else No) ms))
+      (each_member (uncovered_says other qs (judges_of patterns f es)) ms))
   unfolding keyed_says
-  pattern_judges qs es are h ms = judge-keyed qs es (object ms)
-      ∙ rw (named_part patterns f es h ms, pattern_part qs are ms, other_part qs es are h ms)
+  keyed-object other qs es is are h ms = judge-keyed other qs es (object ms)
+      ∙ rw (named_part patterns f es h ms, pattern_part qs are ms, other_part other qs es is are h ms)
 
-  abbrev IsNoMap : Data → Type 0
-  IsNoMap null = Unit {0}
-  IsNoMap (boolean b) = Unit {0}
-  IsNoMap (number n) = Unit {0}
-  IsNoMap (string s) = Unit {0}
-  IsNoMap (array ds) = Unit {0}
-  IsNoMap (object ms) = ⊥
+  keyed-other : (other : Data) (qs es : List Keyword) (v : Data) → IsNoMap v
+      → (judge c (keyed_document other qs es)).fits v ≡ No
+  unfolding keyed_says
+  keyed-other other qs es (object ms) h = absurd h
+  keyed-other other qs es null h = judge-keyed other qs es null ∙ simp silent
+  keyed-other other qs es (boolean b) h = judge-keyed other qs es (boolean b) ∙ simp silent
+  keyed-other other qs es (number n) h = judge-keyed other qs es (number n) ∙ simp silent
+  keyed-other other qs es (string t) h = judge-keyed other qs es (string t) ∙ simp silent
+  keyed-other other qs es (array ds) h = judge-keyed other qs es (array ds) ∙ simp silent
 
-  pattern_other : (qs es : List Keyword) (v : Data) → IsNoMap v → (judge c (pattern_document qs es)).fits v ≡ No
-  unfolding read_data all_keywords
-  pattern_other qs [] null h = refl
-  pattern_other qs [] (boolean b) h = refl
-  pattern_other qs [] (number n) h = refl
-  pattern_other qs [] (string s) h = refl
-  pattern_other qs [] (array ds) h = refl
-  pattern_other qs (e ∷ es) null h = refl
-  pattern_other qs (e ∷ es) (boolean b) h = refl
-  pattern_other qs (e ∷ es) (number n) h = refl
-  pattern_other qs (e ∷ es) (string s) h = refl
-  pattern_other qs (e ∷ es) (array ds) h = refl
-  pattern_other qs es (object ms) h = absurd h
+  -- a schema of the values where other keys are allowed, and otherwise of none
+  abbrev IsOther : Bool → Data → Type 0
+  IsOther true d = A (part value) d
+  IsOther false d = d ≡ boolean false
 
-  keys_say : (listed matched : Bool) (o : Option Data) (w : Data) → Found listed o None
+  other_schema : (others : Bool) (d : Data) → IsOther others d → IsSchema d
+  other_schema true d is = schemas d is
+  other_schema false d is = subst IsSchema (sym is) tt
+
+  other_fits : (others : Bool) (d w : Data) → IsOther others d
+      → ((t : Data) → A (part value) t → (judge c t).fits w ≡ verdict (p w))
+      → (judge c d).fits w ≡ verdict (others && p w)
+  other_fits true d w is agree = agree d is
+  other_fits false d w is agree = ap (λ x. (judge c x).fits w) is
+
+  keys_say : (others listed matched : Bool) (o : Option Data) (d w : Data) → Found listed o None → IsOther others d
       → ((t : Data) → A (part value) t → (judge c t).fits w ≡ verdict (p w))
       → both (where_some (option_map (judge c) o) (λ s. s.fits w)) (both (if matched then verdict (p w) else Yes)
-      (if is_some (option_map (judge c) o) || matched then Yes else No))
-      ≡ verdict ((listed || matched) && p w)
-  keys_say false false o w h agree = rw h refl
-  keys_say false true o w h agree = rw h (both-yes _)
-  keys_say true false o w h agree = rw h.2 (both-yes _ ∙ agree h.0 h.1)
-  keys_say true true o w h agree = rw (h.2, agree h.0 h.1) (ap (both (verdict (p w))) (both-yes _) ∙ idem (p w))
+      (if is_some (option_map (judge c) o) || matched then Yes else (judge c d).fits w))
+      ≡ verdict ((others || (listed || matched)) && p w)
+  keys_say others false false o d w h is agree = rw (h, or-false others) (other_fits others d w is agree)
+  keys_say others false true o d w h is agree = rw (h, or-true others) (both-yes _)
+  keys_say others true false o d w h is agree = rw (h.2, or-true others) (both-yes _ ∙ agree h.0 h.1)
+  keys_say others true true o d w h is agree =
+      rw (h.2, or-true others, agree h.0 h.1) (ap (both (verdict (p w))) (both-yes _) ∙ idem (p w))
 
-  patterns_say : (ps : List Text) (vs : List Data) → Fit A (text_asks ps) vs → (texts : List Text) (us : List Data)
+  -- which keys there are
+  abbrev HasKeys : (Text → Bool) → Data → Bool
+  HasKeys allowed v = holds (as_object v) (every_member (λ k w. allowed k && p w))
+
+  document_says : (others : Bool) (d : Data) → IsOther others d
+      → (ps : List Text) (vs : List Data) → Fit A (text_asks ps) vs → (texts : List Text) (us : List Data)
       → Fit A (text_asks texts) us → (allowed : Text → Bool)
-      → ((k : Text) → allowed k ≡ is_listed k texts || list_any (λ q. matches patterns q k) ps)
+      → ((k : Text) → allowed k ≡ others || (is_listed k texts || list_any (λ q. matches patterns q k) ps))
       → (v : Data) → IsJson v → Agrees v
-      → (judge c (pattern_document (entries_at ps vs) (entries_at texts us))).fits v ≡ verdict (HasKeys allowed v)
-  patterns_say ps vs fit texts us h allowed same (object ms) json agree =
+      → (judge c (keyed_document d (entries_at ps vs) (entries_at texts us))).fits v ≡ verdict (HasKeys allowed v)
+  document_says others d other ps vs fit texts us h allowed same (object ms) json agree =
       let qs = entries_at ps vs in
       let es = entries_at texts us in
       let ss = judges_of patterns f es in
-      pattern_judges qs es (are_entries ps vs fit) (are_entries texts us h) ms
+      keyed-object d qs es (other_schema others d other) (are_entries ps vs fit) (are_entries texts us h) ms
       ∙ (ap (both (each_member (named_says patterns f ss) ms))
-      (each_both (by_patterns patterns (judges_in c (put_all qs no_members)))
-      (λ k w. if covered qs ss k then Yes else No) ms)
+      (each_both (by_patterns patterns (judges_in c (put_all qs no_members))) (uncovered_says d qs ss) ms)
       ∙ (each_both (named_says patterns f ss) _ ms
       ∙ each_tests _ (λ k w. allowed k && p w) ms json
       (λ k w is less. rw (
@@ -401,49 +376,50 @@ module _ (patterns : Patterns) (f : Text → Judge) (A : Ask → Data → Type 0
         some_matches ps vs k fit,
         same k,
         schema_named-judges_in,
-      ) (keys_say (is_listed k texts) (list_any (λ q. matches patterns q k) ps) _ w
-      (found k texts us no_members h) (λ t there. agree t w there is (omega arith))))))
-  patterns_say ps vs fit texts us h allowed same null json agree =
-      pattern_other (entries_at ps vs) (entries_at texts us) null tt
-  patterns_say ps vs fit texts us h allowed same (boolean b) json agree =
-      pattern_other (entries_at ps vs) (entries_at texts us) (boolean b) tt
-  patterns_say ps vs fit texts us h allowed same (number n) json agree =
-      pattern_other (entries_at ps vs) (entries_at texts us) (number n) tt
-  patterns_say ps vs fit texts us h allowed same (string s) json agree =
-      pattern_other (entries_at ps vs) (entries_at texts us) (string s) tt
-  patterns_say ps vs fit texts us h allowed same (array ds) json agree =
-      pattern_other (entries_at ps vs) (entries_at texts us) (array ds) tt
+      ) (keys_say others (is_listed k texts) (list_any (λ q. matches patterns q k) ps) _ d w
+      (found k texts us no_members h) other (λ t there. agree t w there is (omega arith))))))
+  document_says others d other ps vs fit texts us h allowed same null json agree =
+      keyed-other d (entries_at ps vs) (entries_at texts us) null tt
+  document_says others d other ps vs fit texts us h allowed same (boolean b) json agree =
+      keyed-other d (entries_at ps vs) (entries_at texts us) (boolean b) tt
+  document_says others d other ps vs fit texts us h allowed same (number n) json agree =
+      keyed-other d (entries_at ps vs) (entries_at texts us) (number n) tt
+  document_says others d other ps vs fit texts us h allowed same (string s) json agree =
+      keyed-other d (entries_at ps vs) (entries_at texts us) (string s) tt
+  document_says others d other ps vs fit texts us h allowed same (array ds) json agree =
+      keyed-other d (entries_at ps vs) (entries_at texts us) (array ds) tt
 
   -- ---- all maps
 
-  keyed_say : (texts qs : List Text) (allowed : Text → Bool)
-      → ((k : Text) → allowed k ≡ is_listed k texts || list_any (λ q. matches patterns q k) qs)
-      → (v : Data) → IsJson v → Agrees v → (us : List Data) → Fit A (asks_of (keyed_template value texts qs)) us
-      → (judge c (filled (keyed_template value texts qs) us)).fits v ≡ verdict (HasKeys allowed v)
-  keyed_say [] [] allowed same v json agree us h = texts_say [] us h allowed same v json agree
-  keyed_say (t ∷ texts) [] allowed same v json agree us h =
-      texts_say (t ∷ texts) us (without_end A (text_asks (t ∷ texts)) us h) allowed
-      (λ k. same k ∙ or-false (is_listed k (t ∷ texts))) v json agree
-  keyed_say [] (q ∷ qs) allowed same v json agree us h =
-      let parts = parted A (object_with (values_of value (q ∷ qs))) [] us h in
-      rw parts.4 (patterns_say (q ∷ qs) parts.0 parts.2 [] [] refl allowed same v json agree)
-  keyed_say (t ∷ texts) (q ∷ qs) allowed same v json agree us h =
+  keyed_say : (others : Bool) (d : Data) → IsOther others d → (texts qs : List Text) (allowed : Text → Bool)
+      → ((k : Text) → allowed k ≡ others || (is_listed k texts || list_any (λ q. matches patterns q k) qs))
+      → (v : Data) → IsJson v → Agrees v → (us : List Data) → Fit A (asks_of (keyed_template value (finished d) texts qs)) us
+      → (judge c (filled (keyed_template value (finished d) texts qs) us)).fits v ≡ verdict (HasKeys allowed v)
+  keyed_say others d other [] [] allowed same v json agree us h =
+      document_says others d other [] [] refl [] [] refl allowed same v json agree
+  keyed_say others d other (t ∷ texts) [] allowed same v json agree us h =
+      document_says others d other [] [] refl (t ∷ texts) us (without_end A (text_asks (t ∷ texts)) us h) allowed same v json agree
+  keyed_say others d other [] (q ∷ qs) allowed same v json agree us h =
+      document_says others d other (q ∷ qs) us (without_end A (text_asks (q ∷ qs)) us h) [] [] refl allowed same v json agree
+  keyed_say others d other (t ∷ texts) (q ∷ qs) allowed same v json agree us h =
       let rest = template (object_with (values_of value (t ∷ texts))) no_templates in
       let parts = parted A (object_with (values_of value (q ∷ qs))) (asks_in rest) us h in
-      rw (parts.4, parts.5) (patterns_say (q ∷ qs) parts.0 parts.2 (t ∷ texts) parts.1
+      rw (parts.4, parts.5) (document_says others d other (q ∷ qs) parts.0 parts.2 (t ∷ texts) parts.1
       (without_end A (text_asks (t ∷ texts)) parts.1 parts.3) allowed same v json agree)
 
   all_match : (integers : Option IntegerKeys) (ps : List Text) (k : Text)
       → list_any (λ q. matches patterns q k) (all_patterns integers ps)
       ≡ option_map_or (λ i. matches patterns (pattern_of i) k) integers false || list_any (λ q. matches patterns q k) ps
   all_match None ps k = refl
-  all_match (Some keys) ps k = some_first (λ q. matches patterns q k) (pattern_of keys) ps
+  all_match (Some kind) ps k = some_first (λ q. matches patterns q k) (pattern_of kind) ps
 
   pub values_say : (options : KeyOptions) (v : Data) → IsJson v → Agrees v → (us : List Data)
       → Fit A (asks_of (values_template options value)) us
       → (judge c (filled (values_template options value) us)).fits v ≡ verdict (has_keys patterns options p v)
-  values_say any_key v json agree [] h = absurd h
-  values_say any_key v json agree (u ∷ us) h = any_says u h.0 v json agree
-  values_say (only_keys texts integers ps) v json agree us h =
-      keyed_say texts (all_patterns integers ps) (is_key_allowed patterns (only_keys texts integers ps))
+  values_say (keys true texts integers ps) v json agree [] h = absurd h
+  values_say (keys true texts integers ps) v json agree (u ∷ us) h =
+      keyed_say true u h.0 texts (all_patterns integers ps) (is_key_allowed patterns (keys true texts integers ps))
+      (λ k. refl) v json agree us h.1
+  values_say (keys false texts integers ps) v json agree us h =
+      keyed_say false (boolean false) refl texts (all_patterns integers ps) (is_key_allowed patterns (keys false texts integers ps))
       (λ k. ap (λ b. is_listed k texts || b) (sym (all_match integers ps k))) v json agree us h

@@ -2,6 +2,7 @@ pub mod MapDocument
 pub mod SortedMembers
 pub mod Mapping
 pub mod Spread
+pub mod MapKeywords
 pub mod Flattening
 pub mod Filling
 pub mod Flattened
@@ -23,5 +24,6 @@ pub mod Schemas
 pub mod SpreadMaps
 pub mod ReferencesKept
 pub mod Refers
+pub mod NodeReferences
 pub mod References
 pub mod Referring

@@ -17,7 +17,7 @@ use Rattle.schemars_schema.specs.Acceptance.{additional_properties_say, is_cover
 use Rattle.schemars_schema.proofs.Verdicts.{both-yes}
 use Rattle.schemars_schema.proofs.Objects.{schema-judge}
 use Rattle.schemars_rewrite.specs.NullLaw.{context2020_12, text_items}
-use Rattle.schemars_rewrite.proofs.Nulls.{or-false}
+use Rattle.schemars_rewrite.proofs.NullKeywords.{or-false}
 use Rattle.schemars_documents.specs.Documents.{Keyword}
 use Rattle.schemars_meaning.proofs.MapDocument.{map_document}
 
@@ -101,6 +101,20 @@ pub each_agree : (p q : Text → Data → Verdict) → ((k : Text) (w : Data) �
 each_agree p q same no_members = refl
 each_agree p q same (member k w ms) = rw (same k w, each_agree p q same ms)
 
+-- ---- what it says
+
+abbrev pub IsNoMap : Data → Type 0
+IsNoMap null = Unit {0}
+IsNoMap (boolean b) = Unit {0}
+IsNoMap (number n) = Unit {0}
+IsNoMap (string s) = Unit {0}
+IsNoMap (array ds) = Unit {0}
+IsNoMap (object ms) = ⊥
+
+pub silent : {A : Type 0} (o : Option A) → where_some o (λ x. Yes) ≡ Yes
+silent None = refl
+silent (Some x) = refl
+
 module _ (patterns : Patterns) (f : Text → Judge) where
   abbrev c : Context
   c = context2020_12 patterns f
@@ -165,18 +179,6 @@ module _ (patterns : Patterns) (f : Text → Judge) where
   unfolding map_says
   judge-map_object es ns closed h ms = judge-map es ns closed (object ms)
       ∙ rw (required_part ns ms, named_part es h ms, other_part es closed h ms)
-
-  abbrev pub IsNoMap : Data → Type 0
-  IsNoMap null = Unit {0}
-  IsNoMap (boolean b) = Unit {0}
-  IsNoMap (number n) = Unit {0}
-  IsNoMap (string s) = Unit {0}
-  IsNoMap (array ds) = Unit {0}
-  IsNoMap (object ms) = ⊥
-
-  silent : {A : Type 0} (o : Option A) → where_some o (λ x. Yes) ≡ Yes
-  silent None = refl
-  silent (Some x) = refl
 
   pub judge-map_other : (es : List Keyword) (ns : List Text) (closed : Bool) (v : Data) → IsNoMap v
       → (judge c (map_document es ns closed)).fits v ≡ No

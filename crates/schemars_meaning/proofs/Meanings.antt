@@ -6,7 +6,8 @@ use Rattle.schemars_json.specs.Json.{Text, IsJson}
 use Rattle.schemars_schema.specs.SchemaData.{IsSchema}
 use Rattle.schemars_schema.specs.Acceptance.{Patterns, Judge, Context, judge}
 use Rattle.schemars_rewrite.specs.NullLaw.{context2020_12}
-use Rattle.schemars_rewrite.proofs.Nulls.{IsReady, ready-schema, ready_nullable, ready-allow_null, allow_null-says}
+use Rattle.schemars_rewrite.proofs.NullMembers.{allow_null-says}
+use Rattle.schemars_rewrite.proofs.Nulls.{IsReady, ready-schema, ready_nullable, ready-allow_null}
 use Rattle.schemars_types.specs.KeyOptions.{key_options}
 use Rattle.schemars_meaning.proofs.Ready.{int_ready, non_zero_ready, bytes_ready, map_ready, tuple_ready, one_of_ready, fields_ready}
 use Rattle.schemars_meaning.proofs.Enums.{IsNewtypeIn, external_ready, untagged_ready, external_says, untagged_says}

@@ -15,7 +15,8 @@ use Rattle.schemars_schema.specs.Edits.{without}
 use Rattle.schemars_rewrite.specs.AllowNull.{is_null_choice}
 use Rattle.schemars_rewrite.specs.NullLaw.{context2020_12, HasPlainValues}
 use Rattle.schemars_rewrite.proofs.Removals.{without-put}
-use Rattle.schemars_rewrite.proofs.Nulls.{IsReady, choice_key}
+use Rattle.schemars_rewrite.proofs.NullMembers.{choice_key}
+use Rattle.schemars_rewrite.proofs.Nulls.{IsReady}
 use Rattle.schemars_documents.specs.Documents.{annotated, with_title, with_meta_schema, root_document}
 use Rattle.schemars_meaning.proofs.MapDocument.{noted_by, AllNotes}
 

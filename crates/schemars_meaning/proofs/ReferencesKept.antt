@@ -2,7 +2,7 @@
 use Rattle.std.proofs.Common.{◌≡◌, inl, inr, List, [], ◌∷◌, ◌++◌, Bool, true, false, Option, Some, None}
 use Rattle.std.proofs.Common.{Ordering, Less, Equal, Greater, nat_cmp, refl, sym, ap, ◌∙◌, subst, Contains}
 use Rattle.std.proofs.Common.{append_assoc, append-nil, true≢false}
-use Rattle.std.specs.Prelude.{codes, bytes_eq, is_some, if◌then◌else◌}
+use Rattle.std.specs.Prelude.{codes, bytes_eq, is_some, filter, not, if◌then◌else◌}
 use Rattle.std.specs.Ordering.{match_ordering}
 use Rattle.std.specs.Cmp.Lexicographic.{slice_cmp}
 use Rattle.std.proofs.lemmas.Map.Lookups.{exact_bytes}
@@ -279,6 +279,33 @@ IsNoKey k (l ∷ ls) = (bytes_eq l k ≡ false) × IsNoKey k ls
 abbrev pub AreApart : List Text → Type 0
 AreApart [] = Unit {0}
 AreApart (k ∷ ks) = IsNoKey k ks × AreApart ks
+
+pub no_key-filter : (k : Text) (p : Text → Bool) (ks : List Text) → IsNoKey k ks → IsNoKey k (filter p ks)
+no_key-filter k p [] h = tt
+no_key-filter k p (l ∷ ks) h = go (p l) (no_key-filter k p ks h.1)
+  where
+    go : (b : Bool) → IsNoKey k (filter p ks) → IsNoKey k (if b then l ∷ filter p ks else filter p ks)
+    go true rest = (h.0, rest)
+    go false rest = rest
+
+pub apart-filter : (p : Text → Bool) (ks : List Text) → AreApart ks → AreApart (filter p ks)
+apart-filter p [] h = tt
+apart-filter p (k ∷ ks) h = go (p k) (apart-filter p ks h.1)
+  where
+    go : (b : Bool) → AreApart (filter p ks) → AreApart (if b then k ∷ filter p ks else filter p ks)
+    go true rest = (no_key-filter k p ks h.0, rest)
+    go false rest = rest
+
+pub others_apart : (k : Text) (ks : List Text) → IsNoKey k (filter (λ u. not (bytes_eq u k)) ks)
+others_apart k [] = tt
+others_apart k (l ∷ ks) = go (bytes_eq l k) refl (others_apart k ks)
+  where
+    rest : List Text
+    rest = filter (λ u. not (bytes_eq u k)) ks
+
+    go : (b : Bool) → bytes_eq l k ≡ b → IsNoKey k rest → IsNoKey k (if not b then l ∷ rest else rest)
+    go true same h = h
+    go false other h = (other, h)
 
 -- nothing stands under these keys
 abbrev pub AreNew : List Text → Members → Type 0

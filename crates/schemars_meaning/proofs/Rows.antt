@@ -11,7 +11,7 @@ use Rattle.schemars_shapes.specs.Shape.{struct_payload, internal, numbers_of, fl
 use Rattle.schemars_shapes.specs.Shape.{payload_numbers, payload_flattened, variant_numbers, of_variants}
 use Rattle.schemars_shapes.specs.Units.{is_bare_unit}
 use Rattle.schemars_types.specs.Meaning.{Contract, is_required}
-use Rattle.schemars_types.specs.KeyOptions.{KeyOptions, any_key, only_keys, key_options}
+use Rattle.schemars_types.specs.KeyOptions.{KeyOptions, keys, key_options}
 use Rattle.schemars_documents.specs.Documents.{required_names}
 use Rattle.schemars_templates.specs.Basis.{Basis}
 use Rattle.schemars_templates.specs.Template.{Template, Ask, part, members_of, content, asked, row, noted, with_keywords, asks_of, asks_in}
@@ -236,8 +236,9 @@ module _ (P : Ask → Type 0) where
 
   -- a map asks for the row of its values xs often xs it is written
   values_all : (options : KeyOptions) (value : ℕ) → P (part value) → All P (asks_of (values_template options value))
-  values_all any_key value h = All-cons P (part value) [] h nothing
-  values_all (only_keys texts integers ps) value h = go texts (all_patterns integers ps)
+  values_all (keys true texts integers ps) value h =
+      All-cons P (part value) _ h (values_all (keys false texts integers ps) value h)
+  values_all (keys false texts integers ps) value h = go texts (all_patterns integers ps)
     where
       go : (ts qs : List Text) → All P (asks_in (templates_of (map (λ (e : KeywordTemplate). e.1)
           (pattern_properties_at (values_of value qs) ++ properties_at (values_of value ts)))))

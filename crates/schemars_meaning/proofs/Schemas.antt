@@ -11,7 +11,7 @@ use Rattle.schemars_shapes.specs.Shape as shape
 use Rattle.schemars_shapes.specs.Shape.{Shape, Flattened, Entry, Variant}
 use Rattle.schemars_types.specs.Rows.{Row, entry_at}
 use Rattle.schemars_types.specs.Meaning.{Contract, is_required}
-use Rattle.schemars_types.specs.KeyOptions.{KeyOptions, any_key, only_keys, key_options}
+use Rattle.schemars_types.specs.KeyOptions.{KeyOptions, keys, key_options}
 use Rattle.schemars_documents.specs.Documents.{is_signed}
 use Rattle.schemars_templates.specs.Basis.{Basis}
 use Rattle.schemars_templates.specs.Template.{Template, Ask, part, members_of, content, finished, asked, list, members, nullable}
@@ -57,8 +57,7 @@ flattened_makes contract (p ∷ ps) t h =
     flattened_makes contract ps (with_keywords t (asked (members_of p.ty (is_required contract p.required)))) h
 
 values_make : (options : KeyOptions) (value : ℕ) → MakesSchema (values_template options value)
-values_make any_key value = tt
-values_make (only_keys texts integers ps) value = tt
+values_make (keys others texts integers ps) value = tt
 
 internal_makes : (contract : Contract) (tag : Text) (closed : Bool) (xs : List Variant)
     → MakesSchema (internal_template contract tag closed xs)

@@ -7,7 +7,7 @@ use Rattle.serde_json.specs.Find.{get_member, as_str}
 use Rattle.schemars_json.specs.Json.{Text}
 use Rattle.schemars_schema.specs.References.{NoSchemas}
 use Rattle.schemars_rewrite.specs.AllowNull.{is_text}
-use Rattle.schemars_rewrite.proofs.Nulls.{and-parts}
+use Rattle.schemars_rewrite.proofs.NullMembers.{and-parts}
 use Rattle.schemars_flatten.specs.FlattenLaw.{has_keys_once, is_object_keyword, are_object_keywords, is_object_schema}
 use Rattle.schemars_flatten.proofs.Lookups.{keyword_at, lacks}
 use Rattle.schemars_walk.specs.Rewritten.{forms, in_keywords}

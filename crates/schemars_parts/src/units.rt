@@ -12,6 +12,7 @@ ghost use Rattle.schemars_parts.specs.Parts.{first_units, first_as_objects, item
 ghost use Rattle.schemars_parts.specs.Parts.{list_changed_at, units_as_objects};
 
 use crate::closing::has_type;
+use schemars_flatten::push_all;
 use schemars_schema::Schema;
 use serde_json::{Map, Value};
 use std::alloc::{AllocError, Global};
@@ -119,16 +120,6 @@ fn push_units(choice: &mut Value, units: Vec<Value>) -> Result<(), AllocError>
         Some(schemas) => push_all(schemas, units),
         None => Ok(()),
     }
-}
-
-fn push_all(items: &mut Vec<Value>, more: Vec<Value>) -> Result<(), AllocError>
-    ensures { OnOk result (items_view items.new.items
-        ≡ appended (items_view items.old.items) (items_view more.items)) }
-{
-    for item in more {
-        serde_json::push(items, item)?;
-    }
-    Ok(())
 }
 
 // Puts the objects of the first schema of `oneOf` at its end, in place of the schema.

@@ -16,7 +16,8 @@ use Rattle.schemars_schema.specs.Literal.{ArePlainMembers, IsPlainLiteral, has_l
 use Rattle.schemars_schema.proofs.Literals.{plain_at, plain_absent, literal_judges}
 use Rattle.schemars_rewrite.specs.AllowNull.{allow_null}
 use Rattle.schemars_rewrite.specs.NullLaw.{text_items, HasTypeForm, HasPlainValues}
-use Rattle.schemars_rewrite.proofs.Nulls.{and-parts, IsReady, ready_nullable, allow_null-says}
+use Rattle.schemars_rewrite.proofs.NullMembers.{and-parts, allow_null-says}
+use Rattle.schemars_rewrite.proofs.Nulls.{IsReady, ready_nullable}
 use Rattle.schemars_rewrite.proofs.Removals.{later_member}
 
 -- ---- the type has the right form

@@ -1,27 +1,35 @@
 //! A table, the names of its rows, and the definitions under these names.
-ghost use Rattle.std.specs.Prelude.{[], ◌≡◌, ◌<◌, ◌≤◌, ◌⊎◌, ◌↔◌, true, false, length, Ok, Err, IsOk, IfOk, IfErr, OnOk, OnErr};
+ghost use Rattle.std.specs.Prelude.{[], ◌≡◌, ◌<◌, ◌≤◌, ◌⊎◌, ◌↔◌, true, false, length};
+ghost use Rattle.std.specs.Prelude.{Ok, Err, IsOk, IfOk, IfErr, OnOk, OnErr};
 ghost use Rattle.serde_json.specs.Data.{no_members};
 ghost use Rattle.serde_json.specs.View.{members_view};
 ghost use Rattle.serde_json.specs.Rows.{map_row};
 ghost use Rattle.std.specs.Borrow.{Lends, sem};
 ghost use Rattle.schemars_schema.specs.References.{references};
 ghost use Rattle.schemars_types.specs.Extends.{begins_with};
+ghost use Rattle.schemars_types.specs.Rows.{entry_at};
 ghost use Rattle.schemars_types.specs.Faults.{IsAccepted, IsChecked};
 ghost use Rattle.schemars_headline.specs.Headline.{SubschemaHeadline, IsDraftPath, IsInlined, CannotPlace};
 ghost use Rattle.schemars_headline.specs.Calls.{IsPartOf, IsReferenceOf, Adds, IsNeeded, IsLastRootCall};
+ghost use Rattle.schemars_build.specs.Missing.{row_asked};
+ghost use Rattle.schemars_build.specs.Parts.{IsPlainAsk};
 ghost use Rattle.schemars_naming.specs.Naming.{IsOneToOne};
-ghost use Rattle.schemars_documents.specs.PlainTable.{IsPlainTable, HasPlainNotes};
+ghost use Rattle.schemars_documents.specs.PlainTable.{IsPlainTable, HasPlainNotes, IsOpenStruct};
+ghost use Rattle.schemars_templates.specs.Template as spec;
+ghost use Rattle.schemars_templates.specs.View.{ask_of};
 ghost use Rattle.schemars_headline.specs.State.{Settings, path_of, HasOwnDefinitions, ReferencesNameKeys};
+ghost use Rattle.schemars_roots.specs.Answers.{IsAnswerOf};
 ghost use Rattle.schemars_roots.specs.Refusals.{HasFault};
 ghost use Rattle.schemars_roots.specs.Settings.{settings_of, state_with};
 ghost use Rattle.schemars_roots.specs.Through.{IsThrough, IsTurnedDown, AreThrough, AreTurnedDown};
 ghost use Rattle.schemars_roots.specs.Through.{IsUntransformed, IsUntransformedCall, IsRootRefused};
 
-use crate::document::{last_document, part_of, root_document};
+use crate::document::{answer_of, last_document, root_document, row_asked};
 use crate::error::GenerateError;
 use crate::settings::DocumentSettings;
 use schemars_naming::work::Work;
 use schemars_schema::Schema;
+use schemars_templates::template::Ask;
 use schemars_types::{TypeNo, Types};
 use schemars_walk::{Transform, transform_members};
 use serde_json::{Map, Value};
@@ -54,7 +62,8 @@ impl Model for Contents {
       definitions = c.work.definitions;
     } };
 
-    ghost invariant = { λ c. IsChecked c.types × IsOneToOne c.work.names × (c.work ≡ held_work c.work.names c.work.definitions) };
+    ghost invariant = { λ c. IsChecked c.types × IsOneToOne c.work.names
+        × (c.work ≡ held_work c.work.names c.work.definitions) };
 }
 
 impl Contents {
@@ -95,7 +104,8 @@ impl Contents {
         ensures ok { OnOk result (self.new ≡ record self.old { rows = types }) }
         ensures extends { OnOk result (begins_with types self.old.rows ≡ true) }
         ensures accepted { OnOk result (IsAccepted types) }
-        ensures own { (s : Settings) → HasOwnDefinitions (state_with s self.old) → HasOwnDefinitions (state_with s self.new) }
+        ensures own { (s : Settings) → HasOwnDefinitions (state_with s self.old)
+            → HasOwnDefinitions (state_with s self.new) }
         ensures other { begins_with types self.old.rows ≡ false → result ≡ Err GenerateError.NotAnExtension }
         ensures refused { begins_with types self.old.rows ≡ true
             → IfErr result (λ e. (e ≡ GenerateError.OutOfMemory) ⊎ HasFault types e) }
@@ -193,8 +203,90 @@ impl Contents {
             ⊎ (e ≡ GenerateError.UnknownType n)) }
         ensures err { OnErr result (self.new ≡ self.old) }
     {
-        self.known(n)?;
-        let schema = part_of(alloc, settings, &self.types, &mut self.work, n)?;
+        self.answer(alloc, settings, Ask::Part(n))
+    }
+
+    /// A schema of the members of row `n`, as they stand in the map of a struct: the document of the row
+    /// inside the Options around it, as it is flattened, with the definitions that this leads to. The
+    /// members of an Option may be missing, unless `required`.
+    ///
+    /// Refusals: `UnknownType(n)` where the table has no row `n`, and want of memory.
+    pub fn members_of(
+        &mut self,
+        alloc: Global,
+        settings: &DocumentSettings<'_>,
+        n: TypeNo,
+        required: bool,
+    ) -> Result<Schema, GenerateError>
+        ensures members { IfOk result
+            (IsAnswerOf (state_with (settings_of settings.now) self.new) (spec.members_of n required)) }
+        ensures step { OnOk result (Adds (state_with (settings_of settings.now) self.old)
+            (state_with (settings_of settings.now) self.new)) }
+        ensures reached { IfOk result (λ d. IsOpenStruct (entry_at self.old.rows n)
+            → IsNeeded (state_with (settings_of settings.now) self.old)
+            (state_with (settings_of settings.now) self.new) (references d)) }
+        ensures own { HasOwnDefinitions (state_with (settings_of settings.now) self.old)
+            → HasOwnDefinitions (state_with (settings_of settings.now) self.new) }
+        ensures rest { self.new ≡ record self.old { names = self.new.names; definitions = self.new.definitions } }
+        ensures unknown { (result ≡ Err (GenerateError.UnknownType n)) ↔ (length self.old.rows ≤ n) }
+        ensures refused { IfErr result (λ e. (e ≡ GenerateError.OutOfMemory)
+            ⊎ (e ≡ GenerateError.UnknownType n)) }
+        ensures err { OnErr result (self.new ≡ self.old) }
+    {
+        self.answer(alloc, settings, Ask::MembersOf(n, required))
+    }
+
+    /// The schema of what stands beside a tag, for row `n`: the row's own document, opened inside, where
+    /// it has to stand in place, and elsewhere the row as a part, with the definitions that this leads to.
+    ///
+    /// Refusals: `UnknownType(n)` where the table has no row `n`, and want of memory.
+    pub fn content(
+        &mut self,
+        alloc: Global,
+        settings: &DocumentSettings<'_>,
+        n: TypeNo,
+    ) -> Result<Schema, GenerateError>
+        ensures content { IfOk result
+            (IsAnswerOf (state_with (settings_of settings.now) self.new) (spec.content n)) }
+        ensures step { OnOk result (Adds (state_with (settings_of settings.now) self.old)
+            (state_with (settings_of settings.now) self.new)) }
+        ensures own { HasOwnDefinitions (state_with (settings_of settings.now) self.old)
+            → HasOwnDefinitions (state_with (settings_of settings.now) self.new) }
+        ensures rest { self.new ≡ record self.old { names = self.new.names; definitions = self.new.definitions } }
+        ensures unknown { (result ≡ Err (GenerateError.UnknownType n)) ↔ (length self.old.rows ≤ n) }
+        ensures refused { IfErr result (λ e. (e ≡ GenerateError.OutOfMemory)
+            ⊎ (e ≡ GenerateError.UnknownType n)) }
+        ensures err { OnErr result (self.new ≡ self.old) }
+    {
+        self.answer(alloc, settings, Ask::Content(n))
+    }
+
+    // What a row answers.
+    fn answer(
+        &mut self,
+        alloc: Global,
+        settings: &DocumentSettings<'_>,
+        ask: Ask,
+    ) -> Result<Schema, GenerateError>
+        ensures said { IfOk result (IsAnswerOf (state_with (settings_of settings.now) self.new) (ask_of ask)) }
+        ensures step { OnOk result (Adds (state_with (settings_of settings.now) self.old)
+            (state_with (settings_of settings.now) self.new)) }
+        ensures reached { IfOk result (λ d. IsPlainAsk self.old.rows (ask_of ask)
+            → IsNeeded (state_with (settings_of settings.now) self.old)
+            (state_with (settings_of settings.now) self.new) (references d)) }
+        ensures own { HasOwnDefinitions (state_with (settings_of settings.now) self.old)
+            → HasOwnDefinitions (state_with (settings_of settings.now) self.new) }
+        ensures checked { IsChecked self.new.rows }
+        ensures one_to_one { IsOneToOne self.new.names }
+        ensures rest { self.new ≡ record self.old { names = self.new.names; definitions = self.new.definitions } }
+        ensures unknown { (result ≡ Err (GenerateError.UnknownType (row_asked (ask_of ask))))
+            ↔ (length self.old.rows ≤ row_asked (ask_of ask)) }
+        ensures refused { IfErr result (λ e. (e ≡ GenerateError.OutOfMemory)
+            ⊎ (e ≡ GenerateError.UnknownType (row_asked (ask_of ask)))) }
+        ensures err { OnErr result (self.new ≡ self.old) }
+    {
+        self.known(row_asked(ask))?;
+        let schema = answer_of(alloc, settings, &self.types, &mut self.work, ask)?;
         Ok(schema)
     }
 
@@ -217,7 +309,8 @@ impl Contents {
         ensures unknown { (result ≡ Err (GenerateError.UnknownType n)) ↔ (length self.old.rows ≤ n) }
         ensures refused { IfErr result (IsRootRefused T.makes transforms.old transforms.new
             (state_with (settings_of settings.now) self.old) n) }
-        ensures only_memory { HasPlainNotes self.old.rows → IsDraftPath (path_of (state_with (settings_of settings.now) self.old))
+        ensures only_memory { HasPlainNotes self.old.rows
+            → IsDraftPath (path_of (state_with (settings_of settings.now) self.old))
             → n < length self.old.rows → IfErr result (λ e. (e ≡ GenerateError.OutOfMemory)
             ⊎ IsTurnedDown T.makes transforms.old transforms.new
             (IsLastRootCall (state_with (settings_of settings.now) self.old) n) e) }
@@ -241,7 +334,8 @@ impl Contents {
         ensures unknown { (result ≡ Err (GenerateError.UnknownType n)) ↔ (length self.rows ≤ n) }
         ensures refused { IfErr result (IsRootRefused T.makes transforms.old transforms.new
             (state_with (settings_of settings.now) self) n) }
-        ensures only_memory { HasPlainNotes self.rows → IsDraftPath (path_of (state_with (settings_of settings.now) self))
+        ensures only_memory { HasPlainNotes self.rows
+            → IsDraftPath (path_of (state_with (settings_of settings.now) self))
             → n < length self.rows → IfErr result (λ e. (e ≡ GenerateError.OutOfMemory)
             ⊎ IsTurnedDown T.makes transforms.old transforms.new
             (IsLastRootCall (state_with (settings_of settings.now) self) n) e) }

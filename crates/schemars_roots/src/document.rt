@@ -4,7 +4,8 @@ ghost use Rattle.serde_json.specs.View.{members_view};
 ghost use Rattle.schemars_schema.specs.References.{references};
 ghost use Rattle.schemars_types.specs.Faults.{IsChecked};
 ghost use Rattle.schemars_headline.specs.Headline.{IsRootOf, IsTitledRoot, CannotPlace, with_definitions};
-ghost use Rattle.schemars_build.specs.Parts.{IsSubschema};
+ghost use Rattle.schemars_build.specs.Missing.{row_asked};
+ghost use Rattle.schemars_build.specs.Parts.{IsPlainAsk, IsSaid};
 ghost use Rattle.schemars_naming.specs.Naming.{IsOneToOne};
 ghost use Rattle.schemars_documents.specs.PlainTable.{IsPlainTable};
 ghost use Rattle.schemars_build.specs.Reached.{AreReached};
@@ -12,37 +13,52 @@ ghost use Rattle.schemars_headline.specs.Keys.{HasKeysOnce};
 ghost use Rattle.schemars_roots.specs.Settings.{state_of};
 ghost use Rattle.schemars_roots.specs.Through.{IsThrough, IsRefusedThrough, IsMade};
 ghost use Rattle.schemars_headline.specs.State.{plan_of as state_plan, work_of};
+ghost use Rattle.schemars_templates.specs.View.{ask_of};
 ghost use Rattle.schemars_naming.specs.Work as specs;
 ghost use Rattle.schemars_naming.specs.Work.{Step, undone};
 
 use crate::error::GenerateError;
 use crate::path::stripped;
 use crate::settings::DocumentSettings;
-use schemars_build::build::{Plan, own_document, subschema};
+use schemars_build::build::{Plan, answer, own_document};
 use schemars_documents::documents::make_root;
 use schemars_naming::work::Work;
 use schemars_schema::Schema;
+use schemars_templates::template::Ask;
 use schemars_types::{TypeNo, Types};
 use schemars_walk::Transform;
 use serde_json::{Map, Value};
 use std::alloc::{AllocError, Global};
 
-// A subschema of row `n`; where it is refused, the work is as before.
-pub(crate) fn part_of(
+// The row that is asked.
+pub(crate) fn row_asked(ask: Ask) -> TypeNo
+    ensures { result ≡ row_asked (ask_of ask) }
+{
+    match ask {
+        Ask::Part(n) => n,
+        Ask::MembersOf(n, _) => n,
+        Ask::Content(n) => n,
+    }
+}
+
+// What a row answers outside of root documents; where it is refused, the work is as before.
+pub(crate) fn answer_of(
     alloc: Global,
     settings: &DocumentSettings<'_>,
     types: &Types,
     work: &mut Work,
-    n: TypeNo,
+    ask: Ask,
 ) -> Result<Schema, AllocError>
     requires checked { IsChecked types.now }
-    requires known { n < length types.now }
+    requires known { row_asked (ask_of ask) < length types.now }
     requires between { work.old ≡ work_of (state_of settings.now types.now work.old) }
     ensures between { work.new ≡ work_of (state_of settings.now types.now work.new) }
     ensures step { OnOk result (Step (state_plan (state_of settings.now types.now work.old) None) work.old work.new) }
-    ensures part { IfOk result (IsSubschema (state_plan (state_of settings.now types.now work.old) None) false work.new n) }
-    ensures reached { IfOk result (λ s. IsPlainTable types.now
-        → AreReached (state_plan (state_of settings.now types.now work.old) None) true work.old work.new (references s)) }
+    ensures said { IfOk result
+        (IsSaid (state_plan (state_of settings.now types.now work.old) None) false work.new (ask_of ask)) }
+    ensures reached { IfOk result (λ s. IsPlainAsk types.now (ask_of ask) → IsPlainTable types.now
+        → AreReached (state_plan (state_of settings.now types.now work.old) None) true work.old work.new
+        (references s)) }
     ensures one_to_one { OnOk result (IsOneToOne work.new.names) }
     ensures err { OnErr result (work.new ≡ work.old) }
 {
@@ -54,7 +70,7 @@ pub(crate) fn part_of(
         path: stripped(settings.definitions_path),
         root: None,
     };
-    match subschema(alloc, &plan, work, true, n) {
+    match answer(alloc, &plan, work, true, ask) {
         Ok(schema) => {
             work.keep();
             Ok(schema)
@@ -184,7 +200,8 @@ fn titled_document(
     requires checked { IsChecked types.now }
     requires known { n < length types.now }
     ensures undone { undone work.new ≡ undone work.old }
-    ensures step { OnOk result (Step (state_plan (state_of settings.now types.now work.old) (Some n)) work.old work.new) }
+    ensures step { OnOk result
+        (Step (state_plan (state_of settings.now types.now work.old) (Some n)) work.old work.new) }
     ensures titled { IfOk result (IsTitledRoot (state_of settings.now types.now work.old) work.old n work.new) }
 {
     let plan = Plan {

@@ -8,9 +8,10 @@ use Rattle.schemars_schema.specs.SchemaData.{is_schema}
 use Rattle.schemars_rewrite.specs.NullLaw.{text_items}
 use Rattle.schemars_rewrite.specs.Variants.{unit_variant}
 use Rattle.schemars_shapes.specs.Shape as shape
-use Rattle.schemars_shapes.specs.Shape.{Shape, Field, Flattened, Fields, Entry, Payload, Variant, no_payload, newtype_payload, tuple_payload, struct_payload}
+use Rattle.schemars_shapes.specs.Shape.{Shape, Field, Flattened, Fields, Entry, Variant}
+use Rattle.schemars_shapes.specs.Shape.{Payload, no_payload, newtype_payload, tuple_payload, struct_payload}
 use Rattle.schemars_types.specs.Meaning.{Contract, is_required}
-use Rattle.schemars_types.specs.KeyOptions.{KeyOptions, any_key, only_keys, key_options}
+use Rattle.schemars_types.specs.KeyOptions.{KeyOptions, keys, key_options}
 use Rattle.schemars_shapes.specs.declared.shape.IntegerKeys.{IntegerKeys}
 use Rattle.schemars_shapes.specs.IntegerKeys.{pattern_of}
 use Rattle.schemars_shapes.specs.Units.{is_bare_unit}
@@ -211,11 +212,15 @@ abbrev pub pattern_properties_at : List KeywordTemplate → List KeywordTemplate
 pattern_properties_at [] = []
 pattern_properties_at (e ∷ es) = (codes "patternProperties", object_with (e ∷ es)) ∷ []
 
+-- of a key that is not listed and matches no pattern
+abbrev pub other_values : Bool → ℕ → Template
+other_values true value = row value
+other_values false value = finished (boolean false)
+
 -- a map with the keys that are allowed, and values of this row
 abbrev pub values_template : KeyOptions → ℕ → Template
-values_template any_key value = object_with (typed (codes "object") ∷ (codes "additionalProperties", row value) ∷ [])
-values_template (only_keys texts integers patterns) value =
-    object_with (typed (codes "object") ∷ said (codes "additionalProperties") (boolean false)
+values_template (keys others texts integers patterns) value =
+    object_with (typed (codes "object") ∷ (codes "additionalProperties", other_values others value)
     ∷ (pattern_properties_at (values_of value (all_patterns integers patterns))
     ++ properties_at (values_of value texts)))
 

@@ -1,5 +1,8 @@
 //! Calls of generators.
 use crate::expect::{new_row, notes_of, owned, table_of};
+use schemars::builders::{
+    json_schema_for_flatten, json_schema_for_internally_tagged_enum_newtype_variant,
+};
 use schemars::types::{Field, Fields, IntKind, Required, Shape, TypeEntry, TypeNo, Types};
 use schemars::{Contract, GenerateError, Schema, SchemaGenerator, SchemaSettings};
 use serde_json::{Map, Value};
@@ -192,6 +195,9 @@ fn answer(
     match call {
         "part" => generator.subschema_for_type(alloc, n),
         "root" => generator.root_schema_for_type(alloc, n),
+        "members" => json_schema_for_flatten(alloc, generator, n, true),
+        "members, if any" => json_schema_for_flatten(alloc, generator, n, false),
+        "content" => json_schema_for_internally_tagged_enum_newtype_variant(alloc, generator, n),
         "take" => Ok(Schema::from(generator.take_definitions(alloc, false)?)),
         "add own" => {
             let own = generator.types().clone()?;
@@ -270,6 +276,45 @@ fn generators_answer(rt: HostRuntime) -> Result<(), Fail> {
         let generator = generator_at(rt.alloc(), path, asks, table)?;
         assert_calls(&rt, rt.alloc(), generator, answers)?;
     }
+    Ok(())
+}
+
+// An open struct, an Option of it, and a closed struct.
+const STRUCTS: &str =
+    r#"{"types":[{"id":"Open","name":"Open","shape":{"struct":{"fields":[{"name":"x","type":3}]}}},{"id":"Option<Open>","name":"Nullable_Open","inline":true,"shape":{"option":0}},{"id":"Closed","name":"Closed","shape":{"struct":{"fields":[{"name":"x","type":3}],"closed":true}}},{"id":"bool","name":"boolean","inline":true,"shape":"bool"}],"root":0}"#;
+
+const MEMBERS: &str = r#"{"type":"object","properties":{"x":{"type":"boolean"}},"required":["x"]}"#;
+
+const BUILT: [Answer; 10] = [
+    ("members", 0, MEMBERS),
+    ("members, if any", 0, MEMBERS),
+    ("members", 1, MEMBERS),
+    (
+        "members, if any",
+        1,
+        r#"{"type":"object","properties":{"x":{"type":"boolean"}}}"#,
+    ),
+    ("members", 2, MEMBERS),
+    ("members", 4, "8 UnknownType"),
+    (
+        "content",
+        2,
+        r#"{"type":"object","properties":{"x":{"type":"boolean"}},"additionalProperties":false,"required":["x"]}"#,
+    ),
+    ("definitions", 0, "{}"),
+    ("content", 0, r##"{"$ref":"#/$defs/Open"}"##),
+    (
+        "definitions",
+        0,
+        r#"{"Open":{"type":"object","properties":{"x":{"type":"boolean"}},"required":["x"]}}"#,
+    ),
+];
+
+// Rows as they stand in the documents of others.
+#[test]
+fn builders_answer(rt: HostRuntime) -> Result<(), Fail> {
+    let generator = generator_at(rt.alloc(), "/$defs", Asks::Nothing, STRUCTS)?;
+    assert_calls(&rt, rt.alloc(), generator, &BUILT)?;
     Ok(())
 }
 

@@ -25,16 +25,18 @@ use Rattle.schemars_naming.specs.Naming.{name_of}
 use Rattle.schemars_naming.specs.Placed.{is_in_place, pending_in}
 use Rattle.schemars_naming.specs.Work.{Plan, Work, Step, undone, reference_to, basis_of, without_last}
 use Rattle.schemars_naming.proofs.Given.{gives-keeps}
-use Rattle.schemars_build.specs.Missing.{IsAskedIn, missing}
+use Rattle.schemars_build.specs.Missing.{IsAskedIn, missing, row_asked}
 use Rattle.schemars_build.specs.Parts.{IsPart, AreAnswers, IsFilledIn, IsOwn, IsMade}
 use Rattle.schemars_build.specs.Plans.{plan_of}
 use Rattle.schemars_build.specs.Reached.{AreReached}
-use Rattle.schemars_build.proofs.Asked.{asks_in_order}
+use Rattle.schemars_build.proofs.Asked.{asks_in_order, inner_known}
 use Rattle.schemars_build.proofs.Building.{answers_more, own_of_filled, in_place, content_referred}
 use Rattle.schemars_build.proofs.Filling.{filled_by_answers, filled_in, members_answer}
 use Rattle.schemars_build.proofs.Descending.{left_of_subschema, left_of_own_document, left_of_define, left_of_filled, left_of_answers}
-use Rattle.schemars_build.proofs.Descending.{left_of_answer, left_of_members, to_answers, to_answer, to_part, to_members, to_content}
-use Rattle.schemars_build.proofs.Descending.{members_to_filled, content_to_filled, content_to_part, to_filled, to_own, to_define, to_definition}
+use Rattle.schemars_build.proofs.Descending.{left_of_asked, left_of_answer, left_of_members, left_of_content}
+use Rattle.schemars_build.proofs.Descending.{to_answers, to_answer, to_asked}
+use Rattle.schemars_build.proofs.Descending.{members_to_filled, content_to_filled, content_to_part, to_filled}
+use Rattle.schemars_build.proofs.Descending.{to_own, to_define, to_definition}
 use Rattle.schemars_build.proofs.Placing.{left_pending, pending_grows}
 use Rattle.schemars_build.proofs.Reaching.{reached_defines, reached_by_name, reached_root, nothing_added}
 use Rattle.schemars_build.proofs.Steps.{begun_with, finished_with, begun-fewer, undone-begun, undone-finished}
@@ -66,9 +68,9 @@ answers-answer-requires t c =
     let step = c.loop-ask.invariant.step in
     let fewer = missing-wider plan.rows plan.contract c.args.work.now c.loop-ask.work
     (step_wider plan c.args.work.now c.loop-ask.work step) in
-    let down : left_of_answer plan c.loop-ask.work c.args.n < left_of_answers plan c.args.work.now c.args.n =
-    to_answer plan c.args.work.now c.loop-ask.work c.args.n fewer step.still_pending in
-    (search rules, (c.requires.checked, one))
+    let down : left_of_answer plan c.loop-ask.work (ask_of a) < left_of_answers plan c.args.work.now c.args.n =
+    to_answer plan c.args.work.now c.loop-ask.work c.args.n (ask_of a) one.1 fewer step.still_pending in
+    (search rules, (c.requires.checked, one.0))
 
 pub answers-loop-ask-preserved : goal.answers-loop-ask-preserved
 answers-loop-ask-preserved t c =
@@ -94,29 +96,34 @@ answers-loop-ask-preserved t c =
 
 -- ---- one answer
 
+asked_down : (plan : Plan) (w : Work) (a : src-ask.Ask) (b : Ask) → ask_of a ≡ b → left_of_asked plan w b < left_of_answer plan w (ask_of a)
+asked_down plan w a b is = subst (λ x. left_of_asked plan w x < left_of_answer plan w (ask_of a)) is (to_asked plan w (ask_of a))
+
 pub answer-subschema-requires : goal.answer-subschema-requires
 answer-subschema-requires t c =
     let plan = plan_of c.args.plan.now in
-    let one : IsAskedIn plan.rows c.args.n (part c.in-Part.m) = subst (λ a. IsAskedIn plan.rows c.args.n (ask_of a)) c.in-Part.is
-    c.requires.stands in
-    let down = to_part plan c.args.work.now c.args.n c.in-Part.m one in
-    (search rules, (c.requires.checked, one.0))
+    let known : c.in-Part.n < length plan.rows = subst (λ a. row_asked (ask_of a) < length plan.rows) c.in-Part.is c.requires.known in
+    let down : left_of_subschema plan c.args.work.now c.in-Part.n < left_of_answer plan c.args.work.now (ask_of c.args.ask) =
+    asked_down plan c.args.work.now c.args.ask (part c.in-Part.n) (ap ask_of c.in-Part.is) in
+    (search rules, (c.requires.checked, known))
 
 pub answer-members_of-requires : goal.answer-members_of-requires
 answer-members_of-requires t c =
     let plan = plan_of c.args.plan.now in
-    let one : IsAskedIn plan.rows c.args.n (members_of c.in-MembersOf.m c.in-MembersOf.required) =
-    subst (λ a. IsAskedIn plan.rows c.args.n (ask_of a)) c.in-MembersOf.is c.requires.stands in
-    let down = to_members plan c.args.work.now c.args.n c.in-MembersOf.m c.in-MembersOf.required one in
-    (search rules, (c.requires.checked, one.0))
+    let known : c.in-MembersOf.n < length plan.rows =
+    subst (λ a. row_asked (ask_of a) < length plan.rows) c.in-MembersOf.is c.requires.known in
+    let down : left_of_members plan c.args.work.now c.in-MembersOf.n < left_of_answer plan c.args.work.now (ask_of c.args.ask) =
+    asked_down plan c.args.work.now c.args.ask (members_of c.in-MembersOf.n c.in-MembersOf.required) (ap ask_of c.in-MembersOf.is) in
+    (search rules, (c.requires.checked, known))
 
 pub answer-content-requires : goal.answer-content-requires
 answer-content-requires t c =
     let plan = plan_of c.args.plan.now in
-    let one : IsAskedIn plan.rows c.args.n (content c.in-Content.m) = subst (λ a. IsAskedIn plan.rows c.args.n (ask_of a)) c.in-Content.is
-    c.requires.stands in
-    let down = to_content plan c.args.work.now c.args.n c.in-Content.m one in
-    (search rules, (c.requires.checked, one.0))
+    let known : c.in-Content.n < length plan.rows =
+    subst (λ a. row_asked (ask_of a) < length plan.rows) c.in-Content.is c.requires.known in
+    let down : left_of_content plan c.args.work.now c.in-Content.n < left_of_answer plan c.args.work.now (ask_of c.args.ask) =
+    asked_down plan c.args.work.now c.args.ask (content c.in-Content.n) (ap ask_of c.in-Content.is) in
+    (search rules, (c.requires.checked, known))
 
 -- ---- the document of a row
 
@@ -221,7 +228,9 @@ members_of-filled_document-requires t c =
     let same : c.without_options-inner.result ≡ without_options plan.rows c.args.n = c.without_options-inner.ensures in
     let less : left_of_filled plan c.args.work.now (without_options plan.rows c.args.n) < left_of_members plan c.args.work.now c.args.n =
     members_to_filled plan c.args.work.now c.args.n in
-    (search rules, (c.requires.checked, search rules))
+    let known : c.without_options-inner.result < length plan.rows =
+    subst (λ k. k < length plan.rows) (sym same) (inner_known plan.rows c.requires.checked.within c.args.n c.requires.known) in
+    (search rules, (c.requires.checked, known))
 
 pub members_of-returns-clause-is : goal.members_of-returns-clause-is
 members_of-returns-clause-is t c =

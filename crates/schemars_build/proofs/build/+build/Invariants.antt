@@ -23,7 +23,7 @@ abbrev pub decreases-answers : goal.decreases-answers
 decreases-answers l = left_of_answers (plan_of l.plan.now) l.work.now l.n
 
 abbrev pub decreases-answer : goal.decreases-answer
-decreases-answer l = left_of_answer (plan_of l.plan.now) l.work.now l.n
+decreases-answer l = left_of_answer (plan_of l.plan.now) l.work.now (ask_of l.ask)
 
 abbrev pub decreases-members_of : goal.decreases-members_of
 decreases-members_of l = left_of_members (plan_of l.plan.now) l.work.now l.n

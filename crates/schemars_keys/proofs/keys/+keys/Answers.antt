@@ -1,5 +1,5 @@
 use Rattle.std.proofs.Common.{◌≡◌, ◌<◌, ◌+◌, ◌*◌, ◌∙◌, [], ℕ, List, Some, map, refl, ap, sym, subst, arith, rules, nat_eq}
-use Rattle.std.proofs.Common.{Contains, true}
+use Rattle.std.proofs.Common.{Contains, true, false}
 use Rattle.std.specs.List.{list_any}
 use Rattle.schemars_shapes.specs.declared.shape.Shape as src-shape
 use Rattle.schemars_shapes.specs.declared.shape.Shape.TheVariants as src
@@ -9,12 +9,14 @@ use Rattle.schemars_shapes.specs.Shape.{same_value_numbers}
 use Rattle.schemars_types.specs.Rows.{Row, entry_at}
 use Rattle.schemars_types.specs.Edges.{SameValueEdge, rank}
 use Rattle.schemars_types.specs.Faults.{IsChecked}
-use Rattle.schemars_types.specs.KeyOptions.{only_keys, any_key, all_options, shape_options, external_options}
-use Rattle.schemars_types.specs.KeyOptions.{untagged_options, literal_options}
-use Rattle.schemars_keys.specs.Found.{options_of, adding, AreAmong, HoldsRows}
-use Rattle.schemars_keys.proofs.Adding.{adding-any, adding-there, among_added, holds_any, holds_met, holds_more, other_shape}
-use Rattle.schemars_keys.proofs.Asked.{asked, newtype_at}
-use Rattle.schemars_keys.proofs.Settling.{all_options-none, all_options-shape}
+use Rattle.schemars_types.specs.KeyOptions.{keys, any_text, or_any_text, all_options, shape_options, external_options}
+use Rattle.schemars_types.specs.KeyOptions.{untagged_options, literal_options, typed_options}
+use Rattle.schemars_keys.specs.Found.{options_of, options_at, adding, AreAmong, HoldsRows}
+use Rattle.schemars_keys.proofs.Adding.{adding-there, among_added, holds_met, holds_more, other_shape, literal_or_any}
+use Rattle.schemars_keys.proofs.Adding.{untagged_empty, untagged_all}
+use Rattle.schemars_keys.proofs.Asked.{newtype_at}
+use Rattle.schemars_keys.proofs.Settling.{all_options-none}
+use Rattle.schemars_keys.proofs.Shapes.{found_at, edge_of_shape}
 use Rattle.schemars_keys.proofs.keys.+keys.Goals as goal
 
 -- ---- a row
@@ -23,12 +25,12 @@ pub add_row-returns-then-contains-clause-added : goal.add_row-returns-then-conta
 add_row-returns-then-contains-clause-added t c =
     let o = options_of c.args.found.now.options in
     let met : list_any (nat_eq c.args.n) c.args.found.now.rows.keys ≡ true = sym c.contains.ensures ∙ c.if-contains.true in
-    sym (adding-there o (all_options c.args.types.now c.args.n) (c.requires.holds.holds c.args.n met))
+    sym (adding-there o (options_at c.args.types.now c.args.n) (c.requires.holds.holds c.args.n met))
 
 pub add_row-returns-clause-holds : goal.add_row-returns-clause-holds
 add_row-returns-clause-holds t c =
     let rows = c.args.types.now in
-    let own = all_options rows c.args.n in
+    let own = options_at rows c.args.n in
     let o = options_of c.add_own.new.found.options in
     let among : AreAmong own o = subst (λ p. AreAmong own p) (sym c.in_ok-add_own.ensures.added)
     (among_added (options_of c.args.found.now.options) own) in
@@ -37,22 +39,11 @@ add_row-returns-clause-holds t c =
 
 -- ---- its shape
 
-of_shape : (rows : List Row) → IsChecked rows → (n : ℕ) (e : src-entry.TypeEntry) → Some (entry_of e) ≡ entry_at rows n
-    → (s : src-shape.Shape) → e.shape ≡ s → all_options rows n ≡ shape_options (all_options rows) (shape_of s)
-of_shape rows checked n e at s is =
-    all_options-shape rows checked n (entry_of e) (sym at) ∙ ap (λ x. shape_options (all_options rows) (shape_of x)) is
-
-edge_of_shape : (rows : List Row) → IsChecked rows → (n : ℕ) (e : src-entry.TypeEntry) → Some (entry_of e) ≡ entry_at rows n
-    → (s : src-shape.Shape) → e.shape ≡ s → (m : ℕ) → Contains (same_value_numbers (shape_of s)) m → SameValueEdge rows n m
-edge_of_shape rows checked n e at s is m c =
-    asked rows checked.within n (entry_of e) (sym at) m
-    (subst (λ x. Contains (same_value_numbers (shape_of x)) m) (sym is) c)
-
 pub add_own-returns-in_default-clause-added : goal.add_own-returns-in_default-clause-added
 add_own-returns-in_default-clause-added t c =
     let o = options_of c.args.found.now.options in
-    c.allow_any.ensures
-    ∙ (sym (adding-any o) ∙ ap (adding o) (sym (all_options-none c.args.types.now c.args.n (sym c.in_default.ensures))))
+    c.allow_others.ensures
+    ∙ ap (λ p. adding o (or_any_text p)) (sym (all_options-none c.args.types.now c.args.n (sym c.in_default.ensures)))
 
 pub add_own-add_row-requires : goal.add_own-add_row-requires
 add_own-add_row-requires t c =
@@ -77,32 +68,32 @@ add_own-add_untagged-requires t c =
 pub add_own-returns-in-Int-clause-added : goal.add_own-returns-in-Int-clause-added
 add_own-returns-in-Int-clause-added t c =
     let o = options_of c.args.found.now.options in
-    let own = of_shape c.args.types.now c.requires.checked c.args.n c.in-Some.entry.now c.in-Some.ensures
+    let own = found_at c.args.types.now c.requires.checked c.args.n c.in-Some.entry.now c.in-Some.ensures
     (src.Int c.in-Int.kind) c.in-Int.is in
-    c.add_integers.ensures ∙ (ap (λ k. adding o (only_keys [] (Some k) [])) c.of_kind.ensures ∙ ap (adding o) (sym own))
+    c.add_integers.ensures ∙ (ap (λ k. adding o (keys false [] (Some k) [])) c.of_kind.ensures ∙ ap (adding o) (sym own))
 
 pub add_own-returns-in-NonZero-clause-added : goal.add_own-returns-in-NonZero-clause-added
 add_own-returns-in-NonZero-clause-added t c =
     let o = options_of c.args.found.now.options in
-    let own = of_shape c.args.types.now c.requires.checked c.args.n c.in-Some.entry.now c.in-Some.ensures (src.NonZero c.in-NonZero.field-0)
+    let own = found_at c.args.types.now c.requires.checked c.args.n c.in-Some.entry.now c.in-Some.ensures (src.NonZero c.in-NonZero.field-0)
     c.in-NonZero.is in
     c.add_integers-in-NonZero.ensures ∙ ap (adding o) (sym own)
 
 pub add_own-returns-in_ok-add_row-in-Newtype-clause-added : goal.add_own-returns-in_ok-add_row-in-Newtype-clause-added
 add_own-returns-in_ok-add_row-in-Newtype-clause-added t c =
     let o = options_of c.args.found.now.options in
-    let own = of_shape c.args.types.now c.requires.checked c.args.n c.in-Some.entry.now c.in-Some.ensures (src.Newtype c.in-Newtype.m)
+    let own = found_at c.args.types.now c.requires.checked c.args.n c.in-Some.entry.now c.in-Some.ensures (src.Newtype c.in-Newtype.m)
     c.in-Newtype.is in
     c.in_ok-add_row-in-Newtype.ensures.added ∙ ap (adding o) (sym own)
 
 pub add_own-returns-in_ok-add_external-in-External-clause-added : goal.add_own-returns-in_ok-add_external-in-External-clause-added
 add_own-returns-in_ok-add_external-in-External-clause-added t c =
     let o = options_of c.args.found.now.options in
-    let own = of_shape c.args.types.now c.requires.checked c.args.n c.in-Some.entry.now c.in-Some.ensures
+    let own = found_at c.args.types.now c.requires.checked c.args.n c.in-Some.entry.now c.in-Some.ensures
     (src.External c.in-External.variants)
     c.in-External.is in
     c.in_ok-add_external-in-External.ensures
-    ∙ (ap (λ vs. adding o (external_options (map variant_of vs))) c.deref.ensures.value ∙ ap (adding o) (sym own))
+    ∙ (ap (λ vs. adding o (or_any_text (external_options (map variant_of vs)))) c.deref.ensures.value ∙ ap (adding o) (sym own))
 
 pub add_own-returns-in_ok-add_external-in-External-clause-holds : goal.add_own-returns-in_ok-add_external-in-External-clause-holds
 add_own-returns-in_ok-add_external-in-External-clause-holds t c =
@@ -110,24 +101,24 @@ add_own-returns-in_ok-add_external-in-External-clause-holds t c =
     let met = c.args.found.now.rows.keys in
     let o = options_of c.args.found.now.options in
     subst (HoldsRows rows met) (sym c.in_ok-add_external-in-External.ensures)
-    (holds_more rows met o (external_options (map variant_of c.deref.result.now)) c.requires.holds)
+    (holds_more rows met o (or_any_text (external_options (map variant_of c.deref.result.now))) c.requires.holds)
 
 pub add_own-returns-in_ok-add_untagged-in-Untagged-clause-added : goal.add_own-returns-in_ok-add_untagged-in-Untagged-clause-added
 add_own-returns-in_ok-add_untagged-in-Untagged-clause-added t c =
     let o = options_of c.args.found.now.options in
     let part = all_options c.args.types.now in
-    let own = of_shape c.args.types.now c.requires.checked c.args.n c.in-Some.entry.now c.in-Some.ensures
+    let own = found_at c.args.types.now c.requires.checked c.args.n c.in-Some.entry.now c.in-Some.ensures
     (src.Untagged c.in-Untagged.variants)
     c.in-Untagged.is in
     c.in_ok-add_untagged-in-Untagged.ensures.added
-    ∙ (ap (λ vs. adding o (untagged_options part (map variant_of vs))) c.deref-in-Untagged.ensures.value ∙ ap (adding o) (sym own))
+    ∙ (ap (λ vs. adding o (or_any_text (untagged_options part (map variant_of vs)))) c.deref-in-Untagged.ensures.value ∙ ap (adding o) (sym own))
 
 pub add_own-returns-in_ok-add_literal-in-Literal-clause-added : goal.add_own-returns-in_ok-add_literal-in-Literal-clause-added
 add_own-returns-in_ok-add_literal-in-Literal-clause-added t c =
     let o = options_of c.args.found.now.options in
-    let own = of_shape c.args.types.now c.requires.checked c.args.n c.in-Some.entry.now c.in-Some.ensures
+    let own = found_at c.args.types.now c.requires.checked c.args.n c.in-Some.entry.now c.in-Some.ensures
     (src.Literal c.in-Literal.schema) c.in-Literal.is in
-    c.in_ok-add_literal-in-Literal.ensures ∙ ap (adding o) (sym own)
+    c.in_ok-add_literal-in-Literal.ensures ∙ ap (adding o) (sym (own ∙ literal_or_any c.in-Literal.schema))
 
 pub add_own-returns-in_ok-add_literal-in-Literal-clause-holds : goal.add_own-returns-in_ok-add_literal-in-Literal-clause-holds
 add_own-returns-in_ok-add_literal-in-Literal-clause-holds t c =
@@ -135,7 +126,7 @@ add_own-returns-in_ok-add_literal-in-Literal-clause-holds t c =
     let met = c.args.found.now.rows.keys in
     let o = options_of c.args.found.now.options in
     subst (HoldsRows rows met) (sym c.in_ok-add_literal-in-Literal.ensures)
-    (holds_more rows met o (literal_options c.in-Literal.schema) c.requires.holds)
+    (holds_more rows met o (typed_options c.in-Literal.schema) c.requires.holds)
 
 pub add_own-returns-in_default-shape : goal.add_own-returns-in_default-shape
 add_own-returns-in_default-shape t c =
@@ -143,13 +134,14 @@ add_own-returns-in_default-shape t c =
     let o = options_of c.args.found.now.options in
     let e = c.in-Some.entry.now in
     let other = c.in_default-shape in
-    let own : all_options rows c.args.n ≡ any_key = of_shape rows c.requires.checked c.args.n e c.in-Some.ensures e.shape refl
+    let own : options_at rows c.args.n ≡ any_text = found_at rows c.requires.checked c.args.n e c.in-Some.ensures e.shape refl
     ∙ other_shape (all_options rows) e.shape other.not-Int other.not-NonZero other.not-Newtype other.not-External
     other.not-Untagged other.not-Literal in
-    let any = c.allow_any-in_default-shape.ensures in
+    let more = c.allow_others-in_default-shape.ensures in
     record {
-      added = any ∙ (sym (adding-any o) ∙ ap (adding o) (sym own));
-      holds = subst (HoldsRows rows c.args.found.now.rows.keys) (sym any) (holds_any rows c.args.found.now.rows.keys);
+      added = more ∙ ap (adding o) (sym own);
+      holds = subst (HoldsRows rows c.args.found.now.rows.keys) (sym more)
+          (holds_more rows c.args.found.now.rows.keys o any_text c.requires.holds);
     }
 
 -- ---- the members of an untagged enum

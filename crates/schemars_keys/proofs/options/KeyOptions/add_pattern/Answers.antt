@@ -1,10 +1,10 @@
-use Rattle.std.proofs.Common.{ap, map}
+use Rattle.std.proofs.Common.{map, refl}
 use Rattle.schemars_keys.specs.Found.{options_of}
 use Rattle.schemars_keys.proofs.Adding.{pattern_joins}
 use Rattle.schemars_keys.proofs.options.KeyOptions.add_pattern.Goals as goal
 
 pub returns-in_ok-insert : goal.returns-in_ok-insert
 returns-in_ok-insert c =
-    pattern_joins (options_of c.args.self.now) (map (λ t. t.now) c.in-Only.texts.keys) c.in-Only.integers
-    c.in-Only.patterns.keys c.insert.new.self.keys c.args.pattern
-    (ap options_of c.in-Only.is) c.in_ok-insert.ensures.keys
+    let old = c.args.self.now in
+    pattern_joins (options_of old) old.others (map (λ t. t.now) old.texts.keys) old.integers
+    old.patterns.keys c.insert.new.self.keys c.args.pattern refl c.in_ok-insert.ensures.keys

@@ -1,13 +1,15 @@
 use Rattle.std.proofs.Common.{◌≡◌, ◌∙◌, ℕ, List, length, None, [], true, false, refl, sym, ap, subst, rules}
 use Rattle.schemars_json.specs.Json.{Text}
-use Rattle.schemars_build.specs.Parts.{IsSubschema}
+use Rattle.schemars_templates.specs.View.{ask_of}
+use Rattle.schemars_build.specs.Parts.{IsSaid}
 use Rattle.schemars_roots.specs.Settings.{state_of}
 use Rattle.schemars_headline.specs.State.{State, plan_of, work_of}
 use Rattle.schemars_naming.specs.Work.{Plan, Work, Step}
 use Rattle.schemars_schema.specs.References.{references}
 use Rattle.schemars_build.specs.Reached.{AreReached}
-use Rattle.schemars_headline.proofs.Calls.{part_kept, step_kept, reached_kept}
-use Rattle.schemars_roots.proofs.document.part_of.Goals as goal
+use Rattle.schemars_headline.proofs.Calls.{step_kept, reached_kept}
+use Rattle.schemars_roots.proofs.Answered.{answer_kept}
+use Rattle.schemars_roots.proofs.document.answer_of.Goals as goal
 
 abbrev at : State → Text → Plan
 at s p = record {
@@ -36,22 +38,23 @@ kept_work s old w new between still kept =
     } in
     kept ∙ ap at_pending none
 
-pub returns-in-Ok-clause-part : goal.returns-in-Ok-clause-part
-returns-in-Ok-clause-part c =
+pub returns-in-Ok-clause-said : goal.returns-in-Ok-clause-said
+returns-in-Ok-clause-said c =
     let s = state_of c.args.settings.now c.args.types.now c.args.work.now in
-    let w = c.subschema.new.work in
+    let w = c.answer.new.work in
     let path : c.stripped.result.now ≡ (plan_of s None).path = search rules in
-    let P : Text → Type 0 = λ p. IsSubschema (at s p) false w c.args.n c.in-Ok.schema in
-    let Q : Work → Type 0 = λ x. IsSubschema (plan_of s None) false x c.args.n c.in-Ok.schema in
+    let a = ask_of c.args.ask in
+    let P : Text → Type 0 = λ p. IsSaid (at s p) false w a c.in-Ok.schema in
+    let Q : Work → Type 0 = λ x. IsSaid (plan_of s None) false x a c.in-Ok.schema in
     let none : w.pending ≡ [] = c.in-Ok.ensures.step.still_pending ∙ ap (λ x. x.pending) c.requires.between in
     let kept = kept_work s c.args.work.now w c.keep.new.self c.requires.between c.in-Ok.ensures.step.still_pending c.keep.ensures.kept in
-    subst Q (sym kept) (part_kept s (record s { names = w.names; definitions = w.definitions }) w c.args.n c.in-Ok.schema
-    refl none (subst P path c.in-Ok.ensures.is.written))
+    subst Q (sym kept) (answer_kept s (record s { names = w.names; definitions = w.definitions }) w a c.in-Ok.schema
+    refl none (subst P path c.in-Ok.ensures.is.said))
 
 pub returns-in-Ok-clause-step : goal.returns-in-Ok-clause-step
 returns-in-Ok-clause-step c =
     let s = state_of c.args.settings.now c.args.types.now c.args.work.now in
-    let w = c.subschema.new.work in
+    let w = c.answer.new.work in
     let path : c.stripped.result.now ≡ (plan_of s None).path = search rules in
     let P : Text → Type 0 = λ p. Step (at s p) c.args.work.now w in
     let Q : Work → Type 0 = λ x. Step (plan_of s None) x w in
@@ -64,13 +67,13 @@ returns-in-Ok-clause-step c =
     subst R (sym same) (subst S (sym c.requires.between) kept)
 
 pub returns-in-Ok-clause-reached : goal.returns-in-Ok-clause-reached
-returns-in-Ok-clause-reached c = λ plain.
+returns-in-Ok-clause-reached c = λ asked plain.
     let s = state_of c.args.settings.now c.args.types.now c.args.work.now in
-    let w = c.subschema.new.work in
+    let w = c.answer.new.work in
     let from = references c.in-Ok.schema in
     let path : c.stripped.result.now ≡ (plan_of s None).path = search rules in
     let P : Text → Type 0 = λ p. AreReached (at s p) true c.args.work.now w from in
     let Q : Work → Type 0 = λ x. AreReached (plan_of s None) true c.args.work.now x from in
     let kept = kept_work s c.args.work.now w c.keep.new.self c.requires.between c.in-Ok.ensures.step.still_pending c.keep.ensures.kept in
     subst Q (sym kept) (reached_kept (plan_of s None) true s c.args.work.now w from
-    (subst P path (c.in-Ok.ensures.is.reached plain)))
+    (subst P path (c.in-Ok.ensures.is.reached asked plain)))

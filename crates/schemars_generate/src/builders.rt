@@ -1,0 +1,77 @@
+//! What rows are in the documents of others, for documents that callers make themselves.
+ghost use Rattle.std.specs.Prelude.{◌≡◌, ◌≤◌, ◌⊎◌, ◌↔◌, length, Err, IfOk, IfErr, OnOk, OnErr};
+ghost use Rattle.schemars_schema.specs.References.{references};
+ghost use Rattle.schemars_types.specs.Rows.{entry_at};
+ghost use Rattle.schemars_documents.specs.PlainTable.{IsPlainTable, IsOpenStruct};
+ghost use Rattle.schemars_templates.specs.Template.{members_of, content};
+ghost use Rattle.schemars_headline.specs.Calls.{Adds, IsNeeded};
+ghost use Rattle.schemars_headline.specs.State.{HasOwnDefinitions, ReferencesNameKeys};
+ghost use Rattle.schemars_roots.specs.Answers.{IsAnswerOf};
+ghost use Rattle.schemars_generate.specs.Settings.{state};
+
+use crate::generate::SchemaGenerator;
+use schemars_roots::GenerateError;
+use schemars_schema::Schema;
+use schemars_types::TypeNo;
+use std::alloc::Global;
+
+/// A schema of the members of row `n`, as they are flattened into the map of a struct, with the
+/// definitions that this leads to: the document of the row inside the Options around it, which lets
+/// further members in. The members of an Option may be missing, unless `required`. No transform is
+/// applied.
+///
+/// Refusals: `UnknownType(n)` where the table has no row `n`, and want of memory.
+pub fn json_schema_for_flatten<O>(
+    alloc: Global,
+    generator: &mut SchemaGenerator<O>,
+    n: TypeNo,
+    required: bool,
+) -> Result<Schema, GenerateError>
+    ensures members { IfOk result (IsAnswerOf (state generator.new) (members_of n required)) }
+    ensures step { OnOk result (Adds (state generator.old) (state generator.new)) }
+    ensures reached { IfOk result (λ s. IsOpenStruct (entry_at generator.old.contents.rows n)
+        → IsNeeded (state generator.old) (state generator.new) (references s)) }
+    ensures own { HasOwnDefinitions (state generator.old) → HasOwnDefinitions (state generator.new) }
+    ensures keys { HasOwnDefinitions (state generator.old) → IsPlainTable generator.new.contents.rows
+        → ReferencesNameKeys (state generator.new) }
+    ensures rest { generator.new.contents ≡ record generator.old.contents {
+      names = generator.new.contents.names;
+      definitions = generator.new.contents.definitions;
+    } }
+    ensures settings { generator.new.settings ≡ generator.old.settings }
+    ensures unknown { (result ≡ Err (GenerateError.UnknownType n)) ↔ (length generator.old.contents.rows ≤ n) }
+    ensures refused { IfErr result (λ e. (e ≡ GenerateError.OutOfMemory) ⊎ (e ≡ GenerateError.UnknownType n)) }
+    ensures err { OnErr result (generator.new ≡ generator.old) }
+{
+    let settings = generator.settings.document();
+    generator.contents.members_of(alloc, &settings, n, required)
+}
+
+/// The schema of row `n` where its members stand beside the tag of an internally tagged enum, with the
+/// definitions that this leads to: the row's own document in place, whose inner schemas let the tag in,
+/// where a reference would not do, and elsewhere as by `SchemaGenerator::subschema_for_type`. No
+/// transform is applied.
+///
+/// Refusals: `UnknownType(n)` where the table has no row `n`, and want of memory.
+pub fn json_schema_for_internally_tagged_enum_newtype_variant<O>(
+    alloc: Global,
+    generator: &mut SchemaGenerator<O>,
+    n: TypeNo,
+) -> Result<Schema, GenerateError>
+    ensures content { IfOk result (IsAnswerOf (state generator.new) (content n)) }
+    ensures step { OnOk result (Adds (state generator.old) (state generator.new)) }
+    ensures own { HasOwnDefinitions (state generator.old) → HasOwnDefinitions (state generator.new) }
+    ensures keys { HasOwnDefinitions (state generator.old) → IsPlainTable generator.new.contents.rows
+        → ReferencesNameKeys (state generator.new) }
+    ensures rest { generator.new.contents ≡ record generator.old.contents {
+      names = generator.new.contents.names;
+      definitions = generator.new.contents.definitions;
+    } }
+    ensures settings { generator.new.settings ≡ generator.old.settings }
+    ensures unknown { (result ≡ Err (GenerateError.UnknownType n)) ↔ (length generator.old.contents.rows ≤ n) }
+    ensures refused { IfErr result (λ e. (e ≡ GenerateError.OutOfMemory) ⊎ (e ≡ GenerateError.UnknownType n)) }
+    ensures err { OnErr result (generator.new ≡ generator.old) }
+{
+    let settings = generator.settings.document();
+    generator.contents.content(alloc, &settings, n)
+}
