@@ -1,15 +1,15 @@
 -- Options that are added to others.
 use Rattle.std.proofs.Common.{◌≡◌, ◌||◌, ◌∙◌, ℕ, List, [], ◌∷◌, ◌++◌, Bool, true, false, Option, Some, None, Bor, map, refl, ap, sym}
-use Rattle.std.proofs.Common.{subst, length, Vec}
+use Rattle.std.proofs.Common.{subst, length, Vec, arith, true≢false}
 use Rattle.std.specs.declared.alloc.Global.{Global}
-use Rattle.std.specs.Prelude.{bytes_eq, nat_eq, option_map, option_and_then, is_some, is_none}
+use Rattle.std.specs.Prelude.{◌==◌, bytes_eq, nat_eq, option_map, option_and_then, is_some, is_none}
 use Rattle.std.specs.List.{list_any}
 use Rattle.std.proofs.lemmas.Bool.{eqb-true}
 use Rattle.std.proofs.lemmas.List.Folds.{list_any-append}
 use Rattle.indexmap.specs.IndexSet.{insert_key}
 use Rattle.serde_json.specs.Data.{Data, null, boolean, number, unsigned, negative, float, string, array, object}
 use Rattle.serde_json.specs.Data.{Items, item}
-use Rattle.serde_json.specs.Find.{as_str, as_number, as_u64}
+use Rattle.serde_json.specs.Find.{as_str, as_bool, as_number, as_u64}
 use Rattle.schemars_schema.specs.Acceptance.{texts_in, count_of_number}
 use Rattle.schemars_json.specs.Json.{Text}
 use Rattle.schemars_shapes.specs.declared.shape.IntKind.{IntKind}
@@ -17,13 +17,14 @@ use Rattle.schemars_shapes.specs.declared.shape.Shape as src-shape
 use Rattle.schemars_shapes.specs.declared.shape.Shape.TheVariants as src
 use Rattle.schemars_shapes.specs.declared.variant.Variant as src-variant
 use Rattle.schemars_shapes.specs.declared.variant.Internal as src-internal
-use Rattle.schemars_shapes.specs.Shape.{Variant, shape_of, internal_view}
+use Rattle.schemars_shapes.specs.declared.variant.InternalVariant as src-internal-variant
+use Rattle.schemars_shapes.specs.Shape.{Variant, shape_of, internal_view, variant_of, internal_variant_of}
 use Rattle.schemars_types.specs.Rows.{Row}
 use Rattle.schemars_shapes.specs.declared.shape.IntegerKeys.{IntegerKeys}
 use Rattle.schemars_shapes.specs.declared.shape.IntegerKeys.TheVariants.{Unsigned, Signed}
 use Rattle.schemars_types.specs.KeyOptions.{KeyOptions, keys, any_text, or_any_text, either_integers, either_options}
 use Rattle.schemars_types.specs.KeyOptions.{each_once, member_options, members_options, untagged_options, shape_options}
-use Rattle.schemars_types.specs.KeyOptions.{texts_options, internal_options, literal_options, typed_options}
+use Rattle.schemars_types.specs.KeyOptions.{texts_options, external_options, internal_options, literal_options, typed_options}
 use Rattle.schemars_keys.specs.Found.{adding, some_takes_all, options_at, AreAmong, HoldsRows}
 use Rattle.schemars_keys.proofs.Texts.{listed_more, listed_own, nothing_joins, insert_all-append, once_by_joining}
 
@@ -202,10 +203,17 @@ untagged_all part (x ∷ xs) all = go (members_options part (x ∷ xs)) (members
     go None is = refl
     go (Some p) is = cc
 
-pub untagged_empty : (part : ℕ → Option KeyOptions) (xs : List Variant) → length xs ≡ 0
-    → or_any_text (untagged_options part xs) ≡ any_text
+not_empty : {A : Type 0} (x : A) (xs : List A) → length (x ∷ xs) == 0 ≡ false
+not_empty x xs = by (length (x ∷ xs) == 0) refl
+  where
+    by : (b : Bool) → length (x ∷ xs) == 0 ≡ b → b ≡ false
+    by false e = refl
+    by true e = absurd (omega (arith, eqb-true (length (x ∷ xs)) 0 e))
+
+pub untagged_empty : (part : ℕ → Option KeyOptions) (xs : List src-variant.Variant) → length xs == 0 ≡ true
+    → or_any_text (untagged_options part (map variant_of xs)) ≡ any_text
 untagged_empty part [] empty = refl
-untagged_empty part (x ∷ xs) empty = cc
+untagged_empty part (x ∷ xs) empty = absurd (true≢false (sym empty ∙ not_empty x xs))
 
 -- a member, and those behind it
 pub member_more : (part : ℕ → Option KeyOptions) (o : KeyOptions) (x : Variant) (xs : List Variant)
@@ -231,6 +239,29 @@ members_behind part x xs none = go (is_none (member_options part x.payload)) (so
     go true b h = cc
 
 -- ---- shapes and members as the program holds them
+
+-- enums without variants, and truth values, take all texts
+pub external_takes : (xs : List src-variant.Variant) → length xs == 0 ≡ is_none (external_options (map variant_of xs))
+external_takes [] = refl
+external_takes (x ∷ xs) = not_empty x xs
+
+pub internal_takes : (xs : List src-internal-variant.InternalVariant)
+    → length xs == 0 ≡ is_none (internal_options (map internal_variant_of xs))
+internal_takes [] = refl
+internal_takes (x ∷ xs) = not_empty x xs
+
+pub untagged_takes : (part : ℕ → Option KeyOptions) (xs : List src-variant.Variant)
+    → length xs == 0 ≡ is_none (untagged_options part (map variant_of xs))
+untagged_takes part [] = refl
+untagged_takes part (x ∷ xs) = not_empty x xs
+
+pub literal_takes : (d : Data) → is_some (as_bool d) ≡ is_none (literal_options d)
+literal_takes (boolean b) = refl
+literal_takes null = refl
+literal_takes (number n) = refl
+literal_takes (string s) = refl
+literal_takes (array ds) = refl
+literal_takes (object ms) = refl
 
 -- a truth value allows any text, as a literal without a `type` does
 pub literal_or_any : (d : Data) → or_any_text (literal_options d) ≡ typed_options d
@@ -286,34 +317,34 @@ pub other_leaves : (part : ℕ → Option KeyOptions) (s : src-shape.Shape) → 
     → ((x : src-internal.Internal) → s ≡ src.Internal x → ⊥)
     → ((xs : Vec src-variant.Variant Global) → s ≡ src.Untagged xs → ⊥) → ((d : Data) → s ≡ src.Literal d → ⊥)
     → is_none (shape_options part (shape_of s)) ≡ false
-other_leaves part src.Null y w x t u l = refl
-other_leaves part src.Bool y w x t u l = refl
-other_leaves part (src.Int k) y w x t u l = refl
-other_leaves part (src.NonZero k) y w x t u l = refl
-other_leaves part src.Number y w x t u l = refl
-other_leaves part src.Text y w x t u l = refl
-other_leaves part src.Char y w x t u l = refl
-other_leaves part (src.Formatted t) y w x t u l = refl
-other_leaves part src.Any y w x t u l = absurd (y refl)
-other_leaves part src.Bytes y w x t u l = refl
-other_leaves part src.SchemaItself y w x t u l = refl
-other_leaves part (src.Option n) y w x t u l = refl
-other_leaves part (src.Seq n) y w x t u l = refl
-other_leaves part (src.Set n) y w x t u l = refl
-other_leaves part (src.Array n len) y w x t u l = refl
-other_leaves part (src.UpTo n cap) y w x t u l = refl
-other_leaves part (src.Tuple ns) y w x t u l = refl
-other_leaves part (src.Struct fields) y w x t u l = refl
-other_leaves part (src.Newtype n) y w x t u l = absurd (w n refl)
-other_leaves part (src.Result a b) y w x t u l = refl
-other_leaves part (src.Bound n) y w x t u l = refl
-other_leaves part (src.Range n) y w x t u l = refl
-other_leaves part (src.Either a b) y w x t u l = refl
-other_leaves part (src.Map key value) y w x t u l = refl
-other_leaves part (src.Internal internal) y w x t u l = absurd (t internal refl)
-other_leaves part (src.External xs) y w x t u l = absurd (x xs refl)
-other_leaves part (src.Untagged xs) y w x t u l = absurd (u xs refl)
-other_leaves part (src.Literal d) y w x t u l = absurd (l d refl)
+other_leaves part src.Null y w x g u l = refl
+other_leaves part src.Bool y w x g u l = refl
+other_leaves part (src.Int k) y w x g u l = refl
+other_leaves part (src.NonZero k) y w x g u l = refl
+other_leaves part src.Number y w x g u l = refl
+other_leaves part src.Text y w x g u l = refl
+other_leaves part src.Char y w x g u l = refl
+other_leaves part (src.Formatted t) y w x g u l = refl
+other_leaves part src.Any y w x g u l = absurd (y refl)
+other_leaves part src.Bytes y w x g u l = refl
+other_leaves part src.SchemaItself y w x g u l = refl
+other_leaves part (src.Option n) y w x g u l = refl
+other_leaves part (src.Seq n) y w x g u l = refl
+other_leaves part (src.Set n) y w x g u l = refl
+other_leaves part (src.Array n len) y w x g u l = refl
+other_leaves part (src.UpTo n cap) y w x g u l = refl
+other_leaves part (src.Tuple ns) y w x g u l = refl
+other_leaves part (src.Struct fields) y w x g u l = refl
+other_leaves part (src.Newtype n) y w x g u l = absurd (w n refl)
+other_leaves part (src.Result a b) y w x g u l = refl
+other_leaves part (src.Bound n) y w x g u l = refl
+other_leaves part (src.Range n) y w x g u l = refl
+other_leaves part (src.Either a b) y w x g u l = refl
+other_leaves part (src.Map key value) y w x g u l = refl
+other_leaves part (src.Internal internal) y w x g u l = absurd (g internal refl)
+other_leaves part (src.External xs) y w x g u l = absurd (x xs refl)
+other_leaves part (src.Untagged xs) y w x g u l = absurd (u xs refl)
+other_leaves part (src.Literal d) y w x g u l = absurd (l d refl)
 
 -- a text joins as the program holds them
 abbrev now_of : Bor (List ℕ) → Text

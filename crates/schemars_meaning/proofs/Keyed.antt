@@ -10,6 +10,7 @@ use Rattle.std.specs.Cmp.Lexicographic.{slice_cmp}
 use Rattle.std.specs.Ordering.{match_ordering}
 use Rattle.std.proofs.Common.{Ordering, Less, Equal, Greater, nat_cmp, filter, not}
 use Rattle.std.proofs.lemmas.Map.Lookups.{exact_bytes}
+use Rattle.std.proofs.Math.Bool.{or-false, or-true}
 use Rattle.std.specs.List.{list_any}
 use Rattle.std.specs.Option.{option_map_or}
 use Rattle.serde_json.proofs.Views.{get_member-put, get_member-put_other}
@@ -79,14 +80,6 @@ each_tests says test (member k w ms) json same =
 idem : (b : Bool) → both (verdict b) (verdict b) ≡ verdict b
 idem true = refl
 idem false = refl
-
-or-false : (b : Bool) → b || false ≡ b
-or-false true = refl
-or-false false = refl
-
-or-true : (b : Bool) → b || true ≡ true
-or-true true = refl
-or-true false = refl
 
 or-twice : (a b : Bool) → a || b ≡ a || (a || b)
 or-twice true b = refl
@@ -337,6 +330,7 @@ module _ (patterns : Patterns) (f : Text → Judge) (A : Ask → Data → Type 0
   other_fits : (others : Bool) (d w : Data) → IsOther others d
       → ((t : Data) → A (part value) t → (judge c t).fits w ≡ verdict (p w))
       → (judge c d).fits w ≡ verdict (others && p w)
+  unfolding read_data
   other_fits true d w is agree = agree d is
   other_fits false d w is agree = ap (λ x. (judge c x).fits w) is
 

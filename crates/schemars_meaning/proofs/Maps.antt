@@ -17,7 +17,7 @@ use Rattle.schemars_schema.specs.Acceptance.{additional_properties_say, is_cover
 use Rattle.schemars_schema.proofs.Verdicts.{both-yes}
 use Rattle.schemars_schema.proofs.Objects.{schema-judge}
 use Rattle.schemars_rewrite.specs.NullLaw.{context2020_12, text_items}
-use Rattle.schemars_rewrite.proofs.NullKeywords.{or-false}
+use Rattle.std.proofs.Math.Bool.{or-false}
 use Rattle.schemars_documents.specs.Documents.{Keyword}
 use Rattle.schemars_meaning.proofs.MapDocument.{map_document}
 

@@ -12,8 +12,6 @@ use Rattle.schemars_schema.specs.Annotations.{AreNotes}
 use Rattle.schemars_schema.specs.References.{Place, NoSchemas, OneSchema, SchemaList, SchemaOrList, SchemasByName, place_under}
 use Rattle.schemars_schema.specs.References.{at_place, found_in, found_in_members, found_in_items, found_in_keywords, references}
 use Rattle.schemars_schema.proofs.Contents.{found_under}
-use Rattle.schemars_shapes.specs.Shape as shape
-use Rattle.schemars_types.specs.KeyOptions.{keys, once}
 use Rattle.schemars_templates.specs.Template.{Template, Ask, finished, asked, list, members}
 use Rattle.schemars_templates.specs.Template.{nullable, noted, with_keywords, tagged, Templates, no_templates, template}
 use Rattle.schemars_templates.specs.Template.{asks_of, asks_in, left, left_in, keyed, filled, filled_in}

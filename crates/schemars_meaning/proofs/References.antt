@@ -29,7 +29,7 @@ use Rattle.schemars_documents.specs.PlainTable.{AreDistinct, AreNoted, IsPlainSh
 use Rattle.schemars_documents.specs.PlainTable.{ArePlainVariants, AreTagged, IsTagged, payload_parts, variant_parts, parts_in}
 use Rattle.schemars_documents.specs.PlainTable.{ArePlainParts}
 use Rattle.schemars_templates.specs.Basis.{Basis}
-use Rattle.schemars_templates.specs.Template.{Template, Ask, part, members_of, asked, row, list}
+use Rattle.schemars_templates.specs.Template.{Template, Ask, members_of, asked, row}
 use Rattle.schemars_templates.specs.Template.{noted, with_keywords, tagged, Templates}
 use Rattle.schemars_templates.specs.Template.{asks_of, filled}
 use Rattle.schemars_templates.specs.OfShape.{KeywordTemplate, templates_of, object_with, property, map_template, template_of}

@@ -1,5 +1,5 @@
 -- What holds of each reference to a row holds of those of what describes a row.
-use Rattle.std.proofs.Common.{◌≡◌, ◌⊎◌, inl, inr, ℕ, zero, suc, List, [], ◌∷◌, Bool, true, false, Option, Some, None, sym, subst}
+use Rattle.std.proofs.Common.{◌≡◌, ℕ, List, [], ◌∷◌, Bool, Option, Some, None, subst}
 use Rattle.std.specs.List.{All, AllByRecursion}
 use Rattle.std.proofs.lemmas.List.Elements.{All-nil, All-cons}
 use Rattle.serde_json.specs.Data.{Data, string}
@@ -14,9 +14,9 @@ use Rattle.schemars_types.specs.Rows.{Row, entry_at}
 use Rattle.schemars_documents.specs.Documents.{reference}
 use Rattle.schemars_documents.specs.PlainTable.{IsPlainEntry, IsPlainTable}
 use Rattle.schemars_templates.specs.Basis.{Basis}
-use Rattle.schemars_templates.specs.Template.{Ask, part, members_of, content, filled}
+use Rattle.schemars_templates.specs.Template.{Ask, filled}
 use Rattle.schemars_templates.specs.OfShape.{entry_template}
-use Rattle.schemars_templates.specs.Describes.{IsOwnDocument, IsContent, IsAnswered, IsWritten, Describes, are_optional}
+use Rattle.schemars_templates.specs.Describes.{IsAnswered, IsWritten, Describes}
 use Rattle.schemars_meaning.proofs.Parts.{answer_holds, described_holds, written_holds}
 use Rattle.schemars_parts.proofs.References.{flattened_part-refers, opened_inside-refers}
 use Rattle.schemars_meaning.proofs.References.{IsNoted, plain_noted, all_refer}

@@ -1,6 +1,6 @@
 -- What holds of the references of schemas holds of those of an object that they are put into.
 use Rattle.std.proofs.Common.{◌≡◌, List, [], ◌∷◌, ◌++◌, Bool, true, false, Option, Some, None, Ordering, Less, Equal, Greater}
-use Rattle.std.proofs.Common.{nat_cmp, refl, sym, ap, subst}
+use Rattle.std.proofs.Common.{nat_cmp, refl, sym, subst}
 use Rattle.std.specs.List.{All}
 use Rattle.std.specs.Prelude.{◌&&◌, codes, bytes_eq, is_some, if◌then◌else◌}
 use Rattle.std.specs.Ordering.{match_ordering}
@@ -11,12 +11,12 @@ use Rattle.std.proofs.lemmas.Slice.Eq.{bytes_eq-Decides}
 use Rattle.serde_json.specs.Data.{Data, null, boolean, number, string, array, object, no_items, Members, no_members, member, put}
 use Rattle.serde_json.specs.Find.{get_member}
 use Rattle.schemars_json.specs.Json.{Text}
-use Rattle.schemars_schema.specs.SchemaData.{put_all, members_in}
+use Rattle.schemars_schema.specs.SchemaData.{members_in}
 use Rattle.schemars_schema.specs.Edits.{replaced}
 use Rattle.schemars_schema.specs.References.{found_in, found_in_members, found_in_keywords, references}
 use Rattle.schemars_schema.proofs.Contents.{found_under}
 use Rattle.schemars_rewrite.specs.Variants.{unit_variant}
-use Rattle.schemars_rewrite.specs.Properties.{with_member, with_first, changed_at, with_property, required_first, has_null_type}
+use Rattle.schemars_rewrite.specs.Properties.{with_member, with_first, changed_at, with_property, has_null_type}
 use Rattle.schemars_rewrite.specs.Properties.{put_missing, tagged, internally_tagged_variant}
 use Rattle.schemars_meaning.proofs.ReferencesKept.{references-members_in}
 

@@ -234,20 +234,21 @@ module _ (P : Ask → Type 0) where
   texts_all value [] h = nothing
   texts_all value (t ∷ texts) h = All-cons P (part value) (text_asks value texts) h (texts_all value texts h)
 
-  -- a map asks for the row of its values xs often xs it is written
+  at_keys_all : (value : ℕ) (ts qs : List Text) → P (part value)
+      → All P (asks_in (templates_of (map (λ (e : KeywordTemplate). e.1)
+      (pattern_properties_at (values_of value qs) ++ properties_at (values_of value ts)))))
+  at_keys_all value [] [] h = nothing
+  at_keys_all value (t ∷ ts) [] h = ended (text_asks value (t ∷ ts)) (texts_all value (t ∷ ts) h)
+  at_keys_all value [] (q ∷ qs) h = ended (text_asks value (q ∷ qs)) (texts_all value (q ∷ qs) h)
+  at_keys_all value (t ∷ ts) (q ∷ qs) h =
+      joined (text_asks value (q ∷ qs)) (text_asks value (t ∷ ts) ++ []) (texts_all value (q ∷ qs) h)
+      (ended (text_asks value (t ∷ ts)) (texts_all value (t ∷ ts) h))
+
+  -- a map asks for the row of its values as often as it is written
   values_all : (options : KeyOptions) (value : ℕ) → P (part value) → All P (asks_of (values_template options value))
   values_all (keys true texts integers ps) value h =
-      All-cons P (part value) _ h (values_all (keys false texts integers ps) value h)
-  values_all (keys false texts integers ps) value h = go texts (all_patterns integers ps)
-    where
-      go : (ts qs : List Text) → All P (asks_in (templates_of (map (λ (e : KeywordTemplate). e.1)
-          (pattern_properties_at (values_of value qs) ++ properties_at (values_of value ts)))))
-      go [] [] = nothing
-      go (t ∷ ts) [] = ended (text_asks value (t ∷ ts)) (texts_all value (t ∷ ts) h)
-      go [] (q ∷ qs) = ended (text_asks value (q ∷ qs)) (texts_all value (q ∷ qs) h)
-      go (t ∷ ts) (q ∷ qs) =
-          joined (text_asks value (q ∷ qs)) (text_asks value (t ∷ ts) ++ []) (texts_all value (q ∷ qs) h)
-          (ended (text_asks value (t ∷ ts)) (texts_all value (t ∷ ts) h))
+      All-cons P (part value) _ h (at_keys_all value texts (all_patterns integers ps) h)
+  values_all (keys false texts integers ps) value h = at_keys_all value texts (all_patterns integers ps) h
 
   -- the rows that a shape refers to are asked for their parts, those that are flattened for their members, and those in
   -- tagged variants for their contents

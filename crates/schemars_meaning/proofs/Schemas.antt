@@ -1,24 +1,23 @@
 -- What is filled with schemas is a schema, and so is what describes a row.
-use Rattle.std.proofs.Common.{◌≡◌, ◌⊎◌, inl, inr, ℕ, zero, suc, List, [], ◌∷◌, Bool, true, false, Option, Some, None, sym, subst}
+use Rattle.std.proofs.Common.{ℕ, zero, suc, List, [], ◌∷◌, Bool, true, false}
 use Rattle.std.specs.List.{AllByRecursion}
 use Rattle.std.specs.Prelude.{if◌then◌else◌}
 use Rattle.serde_json.specs.Data.{Data, null, boolean, number, string, array, object}
 use Rattle.schemars_json.specs.Json.{Text}
 use Rattle.schemars_schema.specs.SchemaData.{IsSchema}
-use Rattle.schemars_parts.specs.Opening.{opened_inside, stands_in_place}
 use Rattle.schemars_parts.proofs.Schemas.{flattened-schema, flattened_part-schema, opened_inside-schema}
 use Rattle.schemars_shapes.specs.Shape as shape
 use Rattle.schemars_shapes.specs.Shape.{Shape, Flattened, Entry, Variant}
-use Rattle.schemars_types.specs.Rows.{Row, entry_at}
+use Rattle.schemars_types.specs.Rows.{Row}
 use Rattle.schemars_types.specs.Meaning.{Contract, is_required}
 use Rattle.schemars_types.specs.KeyOptions.{KeyOptions, keys, key_options}
 use Rattle.schemars_documents.specs.Documents.{is_signed}
 use Rattle.schemars_templates.specs.Basis.{Basis}
-use Rattle.schemars_templates.specs.Template.{Template, Ask, part, members_of, content, finished, asked, list, members, nullable}
+use Rattle.schemars_templates.specs.Template.{Template, Ask, members_of, finished, asked, list, members, nullable}
 use Rattle.schemars_templates.specs.Template.{noted, with_keywords, tagged, left, filled}
 use Rattle.schemars_templates.specs.OfShape.{template_of, entry_template, values_template, with_flattened, fields_template, bare_units}
 use Rattle.schemars_templates.specs.OfShape.{other_items, choice_of, untagged_template, internal_template, literal_document}
-use Rattle.schemars_templates.specs.Describes.{AreAnswered, IsOwnDocument, IsContent, IsAnswered, IsWritten, Describes}
+use Rattle.schemars_templates.specs.Describes.{AreAnswered, IsAnswered, IsWritten, Describes}
 use Rattle.schemars_meaning.proofs.Notes.{annotated-schema}
 use Rattle.schemars_meaning.proofs.Parts.{answers_all, first_all, answer_holds, described_holds, written_holds}
 use Rattle.schemars_meaning.proofs.ReferencesKept.{allow_null-schema}

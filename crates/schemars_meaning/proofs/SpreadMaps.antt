@@ -1,11 +1,11 @@
 -- The references of maps that fill templates, with the fields of flattened rows among their own.
-use Rattle.std.proofs.Common.{◌≡◌, List, [], ◌∷◌, ◌++◌, map, Bool, true, false, Option, Some, None}
+use Rattle.std.proofs.Common.{◌≡◌, List, [], ◌∷◌, ◌++◌, map, Bool, true, false}
 use Rattle.std.proofs.Common.{refl, sym, true≢false, ap, ◌∙◌, subst, Contains, append_assoc, append-nil}
 use Rattle.std.specs.List.{All}
-use Rattle.std.specs.Prelude.{codes, bytes_eq, if◌then◌else◌}
+use Rattle.std.specs.Prelude.{bytes_eq}
 use Rattle.std.proofs.lemmas.List.{map-append}
 use Rattle.std.proofs.lemmas.Slice.Eq.{bytes_eq-Decides}
-use Rattle.std.proofs.lemmas.List.Elements.{All-nil, All-append, All-contains, All-contains_itself}
+use Rattle.std.proofs.lemmas.List.Elements.{All-nil, All-contains, All-contains_itself}
 use Rattle.serde_json.specs.Data.{Data, Members, no_members, put}
 use Rattle.schemars_json.specs.Json.{Text}
 use Rattle.schemars_schema.specs.SchemaData.{put_all}
@@ -14,13 +14,13 @@ use Rattle.schemars_rewrite.specs.NullLaw.{text_items}
 use Rattle.schemars_rewrite.specs.Variants.{unit_variant}
 use Rattle.schemars_rewrite.specs.Properties.{internally_tagged_variant}
 use Rattle.schemars_flatten.specs.Flatten.{flattened}
-use Rattle.schemars_shapes.specs.Shape.{Field, Flattened, Fields, Required}
+use Rattle.schemars_shapes.specs.Shape.{Field, Flattened, Fields}
 use Rattle.schemars_types.specs.Rows.{Row}
 use Rattle.schemars_types.specs.Meaning.{Contract, Deserialize, Serialize, is_required}
 use Rattle.schemars_types.specs.Effective.{flattened_fields, effective, row_fields}
 use Rattle.schemars_documents.specs.Documents.{Keyword, required_names, annotated}
 use Rattle.schemars_documents.specs.PlainTable.{IsNoName, AreDistinct, AreNoted, IsPlainPart, ArePlainParts}
-use Rattle.schemars_templates.specs.Template.{Template, Ask, part, members_of, finished, asked, row, list, members, nullable, noted}
+use Rattle.schemars_templates.specs.Template.{Template, Ask, part, members_of, finished, asked, list, members, nullable, noted}
 use Rattle.schemars_templates.specs.Template.{with_keywords, tagged, Templates, no_templates, template, asks_of, asks_in, first, behind}
 use Rattle.schemars_templates.specs.Template.{left, left_in, keyed, filled, filled_in}
 use Rattle.schemars_templates.specs.OfShape.{templates_of, property, map_template, fields_template, with_flattened, struct_template}

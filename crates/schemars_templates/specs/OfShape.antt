@@ -203,7 +203,7 @@ internal_template contract tag closed (x ∷ xs) = one_of (map (internal_item co
 -- that of whole numbers first, and once
 abbrev pub all_patterns : Option IntegerKeys → List Text → List Text
 all_patterns None ps = ps
-all_patterns (Some keys) ps = pattern_of keys ∷ filter (λ p. not (bytes_eq p (pattern_of keys))) ps
+all_patterns (Some kind) ps = pattern_of kind ∷ filter (λ p. not (bytes_eq p (pattern_of kind))) ps
 
 abbrev pub values_of : ℕ → List Text → List KeywordTemplate
 values_of value ks = map (λ k. (k, row value)) ks

@@ -1,5 +1,6 @@
 use Rattle.std.proofs.Common.{◌≡◌, ◌<◌, ◌+◌, ◌*◌, ◌∙◌, [], ℕ, List, Some, map, refl, ap, sym, subst, arith, rules, nat_eq}
-use Rattle.std.proofs.Common.{Contains, true, false}
+use Rattle.std.proofs.Common.{Contains, true, false, ◌∷◌, drop}
+use Rattle.std.proofs.lemmas.List.{drop_more}
 use Rattle.std.specs.List.{list_any}
 use Rattle.schemars_shapes.specs.declared.shape.Shape as src-shape
 use Rattle.schemars_shapes.specs.declared.shape.Shape.TheVariants as src
@@ -10,14 +11,16 @@ use Rattle.schemars_types.specs.Rows.{Row, entry_at}
 use Rattle.schemars_types.specs.Edges.{SameValueEdge, rank}
 use Rattle.schemars_types.specs.Faults.{IsChecked}
 use Rattle.schemars_types.specs.KeyOptions.{keys, any_text, or_any_text, all_options, shape_options, external_options}
-use Rattle.schemars_types.specs.KeyOptions.{untagged_options, literal_options, typed_options}
-use Rattle.schemars_keys.specs.Found.{options_of, options_at, adding, AreAmong, HoldsRows}
+use Rattle.schemars_types.specs.KeyOptions.{members_options, untagged_options, typed_options}
+use Rattle.schemars_keys.specs.Found.{options_of, options_at, adding, some_takes_all, AreAmong, HoldsRows}
 use Rattle.schemars_keys.proofs.Adding.{adding-there, among_added, holds_met, holds_more, other_shape, literal_or_any}
-use Rattle.schemars_keys.proofs.Adding.{untagged_empty, untagged_all}
+use Rattle.schemars_keys.proofs.Adding.{untagged_empty, untagged_all, members_behind, member_more}
 use Rattle.schemars_keys.proofs.Asked.{newtype_at}
 use Rattle.schemars_keys.proofs.Settling.{all_options-none}
 use Rattle.schemars_keys.proofs.Shapes.{found_at, edge_of_shape}
 use Rattle.schemars_keys.proofs.keys.+keys.Goals as goal
+use Rattle.schemars_keys.proofs.keys.+keys.Goals.{add_untagged-then-is_empty-via-then-is_empty}
+use Rattle.schemars_keys.proofs.keys.+keys.Goals.{add_untagged-then-is_empty-via-else-is_empty+then-some_takes_all}
 
 -- ---- a row
 
@@ -146,6 +149,17 @@ add_own-returns-in_default-shape t c =
 
 -- ---- the members of an untagged enum
 
+pub add_untagged-returns-then-is_empty-clause-added : goal.add_untagged-returns-then-is_empty-clause-added
+add_untagged-returns-then-is_empty-clause-added t c =
+    let part = all_options c.args.types.now in
+    let variants = c.args.variants.now in
+    let any : or_any_text (untagged_options part (map variant_of variants)) ≡ any_text = elim c.then-is_empty.branch [
+      | add_untagged-then-is_empty-via-then-is_empty w ↦ untagged_empty part variants (sym c.is_empty.ensures ∙ w.if-is_empty.true)
+      | add_untagged-then-is_empty-via-else-is_empty+then-some_takes_all w ↦
+        untagged_all part (map variant_of variants) (sym w.some_takes_all.ensures ∙ w.if-some_takes_all.true)
+    ] in
+    c.allow_others.ensures ∙ ap (adding (options_of c.args.found.now.options)) (sym any)
+
 pub add_untagged-add_member-requires : goal.add_untagged-add_member-requires
 add_untagged-add_member-requires t c =
     let rows = c.args.types.now in
@@ -155,6 +169,27 @@ add_untagged-add_member-requires t c =
     (omega (arith, c.loop-variant-test.true)) m same) in
     let less : 4 * rank rows c.args.n < 4 * rank rows c.args.n + 1 = omega arith in
     (search rules, (c.requires.checked, (edge, c.loop-variant.invariant.holds)))
+
+pub add_untagged-loop-variant-preserved : goal.add_untagged-loop-variant-preserved
+add_untagged-loop-variant-preserved t c =
+    let part = all_options c.args.types.now in
+    let variants = c.args.variants.now in
+    let i = c.loop-variant.variant-index in
+    let item = c.variant-item.result in
+    let rest = map variant_of (drop (i + 1) variants) in
+    let o = options_of c.loop-variant.found.options in
+    let split : drop i variants ≡ item ∷ drop (i + 1) variants = drop_more variants i item (omega (arith, c.loop-variant-test.true))
+    ∙ ap (λ v. v ∷ drop (i + 1) variants) (sym c.variant-item.is) in
+    let none : some_takes_all part (variant_of item ∷ rest) ≡ false =
+    sym (ap (λ vs. some_takes_all part (map variant_of vs)) split) ∙ c.loop-variant.invariant.some in
+    record {
+      holds = c.in_ok-add_member.ensures.holds;
+      some = members_behind part (variant_of item) rest none;
+      added = ap (λ p. adding p (or_any_text (members_options part rest))) c.in_ok-add_member.ensures.added
+          ∙ (member_more part o (variant_of item) rest none
+          ∙ (sym (ap (λ vs. adding o (or_any_text (members_options part (map variant_of vs)))) split)
+          ∙ c.loop-variant.invariant.added));
+    }
 
 pub add_member-add_row-requires : goal.add_member-add_row-requires
 add_member-add_row-requires t c =

@@ -3,8 +3,8 @@ use Rattle.schemars_keys.specs.Found.{options_of}
 use Rattle.schemars_keys.proofs.Adding.{pattern_joins}
 use Rattle.schemars_keys.proofs.options.KeyOptions.add_pattern.Goals as goal
 
-pub returns-in_ok-insert : goal.returns-in_ok-insert
-returns-in_ok-insert c =
+pub returns : goal.returns
+returns c =
     let old = c.args.self.now in
     pattern_joins (options_of old) old.others (map (λ t. t.now) old.texts.keys) old.integers
     old.patterns.keys c.insert.new.self.keys c.args.pattern refl c.in_ok-insert.ensures.keys

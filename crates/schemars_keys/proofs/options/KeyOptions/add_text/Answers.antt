@@ -3,8 +3,8 @@ use Rattle.schemars_keys.specs.Found.{options_of}
 use Rattle.schemars_keys.proofs.Adding.{text_joins}
 use Rattle.schemars_keys.proofs.options.KeyOptions.add_text.Goals as goal
 
-pub returns-in_ok-insert : goal.returns-in_ok-insert
-returns-in_ok-insert c =
+pub returns : goal.returns
+returns c =
     let old = c.args.self.now in
     text_joins (options_of old) old.others old.texts.keys c.insert.new.self.keys old.integers
     (map (λ t. t.now) old.patterns.keys) c.args.text refl c.in_ok-insert.ensures.keys
