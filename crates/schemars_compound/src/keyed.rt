@@ -25,13 +25,15 @@ pub fn values_template<'t>(
     ensures { IfOk result (λ t. template_view t ≡ values_template (key_options types.now key) value) }
 {
     let options = key_options(alloc, types, key)?;
+    let others = options.others;
+    let integers = options.integers;
     let texts = options.texts.as_slice();
     let patterns = options.patterns.as_slice();
-    match options.integers {
-        None => keyed_template(alloc, options.others, texts, patterns, value),
+    match integers {
+        None => keyed_template(alloc, others, texts, patterns, value),
         Some(integers) => {
             let patterns = with_first(alloc, integers.pattern(), patterns)?;
-            keyed_template(alloc, options.others, texts, &patterns, value)
+            keyed_template(alloc, others, texts, &patterns, value)
         }
     }
 }
