@@ -156,7 +156,7 @@ add_untagged-returns-then-is_empty-clause-added t c =
     let any : or_any_text (untagged_options part (map variant_of variants)) ≡ any_text = elim c.then-is_empty.branch [
       | add_untagged-then-is_empty-via-then-is_empty w ↦ untagged_empty part variants (sym c.is_empty.ensures ∙ w.if-is_empty.true)
       | add_untagged-then-is_empty-via-else-is_empty+then-some_takes_all w ↦
-        untagged_all part (map variant_of variants) (sym w.some_takes_all.ensures ∙ w.if-some_takes_all.true)
+          untagged_all part (map variant_of variants) (sym w.some_takes_all.ensures ∙ w.if-some_takes_all.true)
     ] in
     c.allow_others.ensures ∙ ap (adding (options_of c.args.found.now.options)) (sym any)
 
