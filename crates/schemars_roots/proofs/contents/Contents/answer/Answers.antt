@@ -1,9 +1,9 @@
-use Rattle.std.proofs.Common.{◌≡◌, None, true, refl, sym, subst, ap}
+use Rattle.std.proofs.Common.{◌≡◌, None, true, false, refl, sym, subst, ap}
 use Rattle.schemars_schema.specs.References.{references}
 use Rattle.schemars_templates.specs.View.{ask_of}
 use Rattle.schemars_documents.specs.PlainTable.{IsPlainTable}
 use Rattle.schemars_naming.specs.Work.{Work, Step}
-use Rattle.schemars_build.specs.Parts.{IsPlainAsk}
+use Rattle.schemars_build.specs.Parts.{IsPlainAsk, IsSaid}
 use Rattle.schemars_build.specs.Reached.{AreReached}
 use Rattle.schemars_headline.specs.State.{State, plan_of, work_of, HasOwnDefinitions}
 use Rattle.schemars_headline.proofs.Calls.{part_own}
@@ -26,6 +26,12 @@ returns-clause-own c =
     let step : Step (plan_of s None) (work_of s) (work_of new) = subst Q c.in_ok-schema.ensures.between
     (subst P c.self.invariant.2 c.in_ok-schema.ensures.step) in
     λ own. part_own s new refl step (subst HasOwnDefinitions (sym same) own)
+
+pub returns-clause-said : goal.returns-clause-said
+returns-clause-said c =
+    let new = state_of c.args.settings.now c.self.inside.types c.answer_of.new.work in
+    let P : Work → Type 0 = λ w. IsSaid (plan_of new None) false w (ask_of c.args.ask) c.in_ok-schema.schema in
+    subst P c.in_ok-schema.ensures.between c.in_ok-schema.ensures.said
 
 pub returns-clause-reached : goal.returns-clause-reached
 returns-clause-reached c =
