@@ -8,9 +8,9 @@ use Rattle.serde_json.specs.Written.{has_float}
 use Rattle.schemars_types.specs.Rows.{Row}
 use Rattle.schemars_types.specs.Faults.{IsAccepted}
 use Rattle.schemagen_run.specs.declared.run.Asked.{Asked}
-use Rattle.schemars_roots.specs.declared.error.GenerateError.{GenerateError}
-use Rattle.schemars_roots.specs.declared.error.GenerateError.TheVariants.{OutOfMemory, UnknownType, DefinitionsPath}
-use Rattle.schemars_roots.specs.Refusals.{HasFault}
+use Rattle.schemars_error.specs.declared.error.GenerateError.{GenerateError}
+use Rattle.schemars_error.specs.declared.error.GenerateError.TheVariants.{OutOfMemory, UnknownType, DefinitionsPath}
+use Rattle.schemars_error.specs.Refusals.{HasFault}
 use Rattle.schemars_headline.specs.Headline.{RootHeadline, IsDraftPath, CannotPlace}
 use Rattle.schemars_headline.specs.Calls.{IsLastRootCall}
 use Rattle.schemars_documents.specs.PlainTable.{HasPlainNotes, HasNoFloat}

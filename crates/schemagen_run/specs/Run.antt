@@ -13,10 +13,10 @@ use Rattle.schemars_types.specs.Faults.{IsAccepted}
 use Rattle.schemars_documents.specs.PlainTable.{IsPlainTable, HasPlainNotes, HasNoFloat}
 use Rattle.schemars_documents.specs.declared.contract.Contract.{Contract}
 use Rattle.schemars_documents.specs.declared.contract.Contract.TheVariants.{Deserialize, Serialize}
-use Rattle.schemars_roots.specs.declared.error.GenerateError.{GenerateError}
+use Rattle.schemars_error.specs.declared.error.GenerateError.{GenerateError}
 use Rattle.schemars_headline.specs.Headline.{MeansItsType, IsRootOf, CannotPlace}
 use Rattle.schemars_documents.specs.ContractOf.{contract_of}
-use Rattle.schemars_roots.specs.Refusals.{code_of, HasFault}
+use Rattle.schemars_error.specs.Refusals.{code_of, HasFault}
 use Rattle.schemars_headline.specs.State.{Settings, State, settings2020_12}
 use Rattle.schemars_naming.specs.Work.{Work}
 use Rattle.schemagen_run.specs.declared.run.Asked.{Asked}

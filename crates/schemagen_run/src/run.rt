@@ -6,7 +6,7 @@ ghost use Rattle.serde_json.specs.View.{view};
 ghost use Rattle.schemars_types.specs.Faults.{IsAccepted};
 ghost use Rattle.schemars_documents.specs.PlainTable.{HasPlainNotes};
 ghost use Rattle.schemars_generate.specs.Settings.{settings_of};
-ghost use Rattle.schemars_roots.specs.Refusals.{HasFault};
+ghost use Rattle.schemars_error.specs.Refusals.{HasFault};
 ghost use Rattle.schemagen_run.specs.Streams.{AppendsBeginning};
 ghost use Rattle.schemagen_input.specs.Input.{is_table, input_of};
 ghost use Rattle.schemagen_run.specs.Run.{AskFor, AreKnown, AreFlagsFor, AreKnownFlags};

@@ -2,13 +2,14 @@
 use Rattle.std.proofs.Common.{◌≡◌, ◌<◌, ◌⊎◌, inl, inr, ℕ, zero, suc, List, [], ◌∷◌, ◌++◌, Option, Some, None, length, map, Contains}
 use Rattle.std.proofs.Common.{All, Bool, refl, ap, sym, subst, arith}
 use Rattle.std.specs.Option.{option_map_or}
+use Rattle.std.specs.Prelude.{option_and_then}
 use Rattle.std.proofs.lemmas.List.Elements.{Contains-append_left, Contains-append_right, Contains-append_cases}
 use Rattle.schemars_shapes.specs.Shape as shape
 use Rattle.schemars_shapes.specs.Shape.{Shape, Field, Flattened, Fields, Entry, Payload, Variant, no_payload, newtype_payload}
 use Rattle.schemars_shapes.specs.Shape.{tuple_payload, struct_payload, numbers_of, flattened_numbers, asked_numbers, of_variants}
-use Rattle.schemars_shapes.specs.Shape.{payload_numbers, payload_flattened, payload_same, flattened_rows}
+use Rattle.schemars_shapes.specs.Shape.{payload_numbers, payload_flattened, payload_same, flattened_rows, same_value_numbers, option_of}
 use Rattle.schemars_types.specs.Rows.{Row, entry_at}
-use Rattle.schemars_types.specs.Edges.{RefersWithin, numbers_at, option_at, below_within, below, below_all, height}
+use Rattle.schemars_types.specs.Edges.{RefersWithin, numbers_at, same_value_numbers_at, option_at, below_within, below, below_all, height}
 use Rattle.schemars_types.specs.Effective.{spread, spread_payload, spread_variant, row_fields}
 use Rattle.schemars_types.specs.Faults.{IsChecked}
 use Rattle.schemars_documents.specs.PlainTable.{IsPlainShape, IsPlainEntry, ArePlainParts, IsTagged, AreTagged, IsOpenStruct, parts_in}
@@ -63,99 +64,28 @@ content_same (struct_payload x) m c = absurd (none_in m c)
 
 -- ---- the rows of a shape
 
-flattened_number : (kind : Shape) (m : ℕ) → Contains (flattened_numbers kind) m → Contains (numbers_of kind) m
+pub flattened_number : (kind : Shape) (m : ℕ) → Contains (flattened_numbers kind) m → Contains (numbers_of kind) m
 flattened_number (shape.struct x) m c = Contains-append_right (map (λ f. f.ty) x.list) (flattened_rows x) m c
 flattened_number (shape.external xs) m c = of_variants-more payload_flattened payload_numbers flattened_numbered xs m c
 flattened_number (shape.untagged xs) m c = of_variants-more payload_flattened payload_numbers flattened_numbered xs m c
 flattened_number (shape.internal tag closed xs) m c = of_variants-more payload_flattened payload_numbers flattened_numbered xs m c
-flattened_number shape.null m c = absurd (none_in m c)
-flattened_number shape.bool m c = absurd (none_in m c)
-flattened_number (shape.int k) m c = absurd (none_in m c)
-flattened_number (shape.non_zero k) m c = absurd (none_in m c)
-flattened_number shape.number m c = absurd (none_in m c)
-flattened_number shape.text m c = absurd (none_in m c)
-flattened_number shape.char m c = absurd (none_in m c)
-flattened_number (shape.formatted f) m c = absurd (none_in m c)
-flattened_number shape.any m c = absurd (none_in m c)
-flattened_number shape.bytes m c = absurd (none_in m c)
-flattened_number shape.schema_itself m c = absurd (none_in m c)
-flattened_number (shape.option n) m c = absurd (none_in m c)
-flattened_number (shape.seq n) m c = absurd (none_in m c)
-flattened_number (shape.set n) m c = absurd (none_in m c)
-flattened_number (shape.array n len) m c = absurd (none_in m c)
-flattened_number (shape.up_to n cap) m c = absurd (none_in m c)
-flattened_number (shape.tuple ns) m c = absurd (none_in m c)
-flattened_number (shape.newtype n) m c = absurd (none_in m c)
-flattened_number (shape.result a b) m c = absurd (none_in m c)
-flattened_number (shape.bound n) m c = absurd (none_in m c)
-flattened_number (shape.range n) m c = absurd (none_in m c)
-flattened_number (shape.either a b) m c = absurd (none_in m c)
-flattened_number (shape.map_from key value) m c = absurd (none_in m c)
-flattened_number (shape.literal d) m c = absurd (none_in m c)
+flattened_number kind m c = absurd (none_in m c)
 
 flattened_asked : (kind : Shape) (m : ℕ) → Contains (flattened_numbers kind) m → Contains (asked_numbers kind) m
+flattened_asked (shape.internal tag closed xs) m c = of_variants-more payload_flattened payload_same flattened_same xs m c
+flattened_asked (shape.map_from key value) m c = absurd (none_in m c)
 flattened_asked (shape.struct x) m c = c
 flattened_asked (shape.external xs) m c = c
 flattened_asked (shape.untagged xs) m c = c
-flattened_asked (shape.internal tag closed xs) m c = of_variants-more payload_flattened payload_same flattened_same xs m c
-flattened_asked shape.null m c = c
-flattened_asked shape.bool m c = c
-flattened_asked (shape.int k) m c = c
-flattened_asked (shape.non_zero k) m c = c
-flattened_asked shape.number m c = c
-flattened_asked shape.text m c = c
-flattened_asked shape.char m c = c
-flattened_asked (shape.formatted f) m c = c
-flattened_asked shape.any m c = c
-flattened_asked shape.bytes m c = c
-flattened_asked shape.schema_itself m c = c
-flattened_asked (shape.option n) m c = c
-flattened_asked (shape.seq n) m c = c
-flattened_asked (shape.set n) m c = c
-flattened_asked (shape.array n len) m c = c
-flattened_asked (shape.up_to n cap) m c = c
-flattened_asked (shape.tuple ns) m c = c
-flattened_asked (shape.newtype n) m c = c
-flattened_asked (shape.result a b) m c = c
-flattened_asked (shape.bound n) m c = c
-flattened_asked (shape.range n) m c = c
-flattened_asked (shape.either a b) m c = c
-flattened_asked (shape.map_from key value) m c = absurd (none_in m c)
-flattened_asked (shape.literal d) m c = c
+flattened_asked kind m c = absurd (none_in m c)
 
-content_number : (kind : Shape) (m : ℕ) → Contains (contents_of kind) m
+pub content_number : (kind : Shape) (m : ℕ) → Contains (contents_of kind) m
     → Contains (numbers_of kind) m × Contains (asked_numbers kind) m
 content_number (shape.internal tag closed xs) m c = (
   of_variants-more payload_contents payload_numbers content_numbered xs m c,
   of_variants-more payload_contents payload_same content_same xs m c,
 )
-content_number (shape.struct x) m c = absurd (none_in m c)
-content_number (shape.external xs) m c = absurd (none_in m c)
-content_number (shape.untagged xs) m c = absurd (none_in m c)
-content_number shape.null m c = absurd (none_in m c)
-content_number shape.bool m c = absurd (none_in m c)
-content_number (shape.int k) m c = absurd (none_in m c)
-content_number (shape.non_zero k) m c = absurd (none_in m c)
-content_number shape.number m c = absurd (none_in m c)
-content_number shape.text m c = absurd (none_in m c)
-content_number shape.char m c = absurd (none_in m c)
-content_number (shape.formatted f) m c = absurd (none_in m c)
-content_number shape.any m c = absurd (none_in m c)
-content_number shape.bytes m c = absurd (none_in m c)
-content_number shape.schema_itself m c = absurd (none_in m c)
-content_number (shape.option n) m c = absurd (none_in m c)
-content_number (shape.seq n) m c = absurd (none_in m c)
-content_number (shape.set n) m c = absurd (none_in m c)
-content_number (shape.array n len) m c = absurd (none_in m c)
-content_number (shape.up_to n cap) m c = absurd (none_in m c)
-content_number (shape.tuple ns) m c = absurd (none_in m c)
-content_number (shape.newtype n) m c = absurd (none_in m c)
-content_number (shape.result a b) m c = absurd (none_in m c)
-content_number (shape.bound n) m c = absurd (none_in m c)
-content_number (shape.range n) m c = absurd (none_in m c)
-content_number (shape.either a b) m c = absurd (none_in m c)
-content_number (shape.map_from key value) m c = absurd (none_in m c)
-content_number (shape.literal d) m c = absurd (none_in m c)
+content_number kind m c = absurd (none_in m c)
 
 -- ---- a row without the Options around it
 
@@ -184,42 +114,21 @@ below_or_same rows (suc steps) n = by (option_at rows n) (below_or_same rows ste
       | inr later ↦ inr (Contains-append_right (m ∷ []) (below_within rows steps m) (without_options_within rows steps m) later)
     ]
 
-module _ (rows : List Row) (within : RefersWithin rows) where
-  option_number : (o : Option Entry) (m : ℕ) → elim o [ None ↦ None | Some e ↦ shape.option_of e.shape ] ≡ Some m
-      → Contains (option_map_or (λ e. numbers_of e.shape) o []) m
-  option_number None m is = cc
-  option_number (Some e) m is = by e.shape is
-    where
-      by : (kind : Shape) → shape.option_of kind ≡ Some m → Contains (numbers_of kind) m
-      by (shape.option n) same = let here : n ≡ m = cc in (0, omega arith, here)
-      by shape.null same = cc
-      by shape.bool same = cc
-      by (shape.int k) same = cc
-      by (shape.non_zero k) same = cc
-      by shape.number same = cc
-      by shape.text same = cc
-      by shape.char same = cc
-      by (shape.formatted f) same = cc
-      by shape.any same = cc
-      by shape.bytes same = cc
-      by shape.schema_itself same = cc
-      by (shape.seq n) same = cc
-      by (shape.set n) same = cc
-      by (shape.array n len) same = cc
-      by (shape.up_to n cap) same = cc
-      by (shape.tuple ns) same = cc
-      by (shape.struct x) same = cc
-      by (shape.newtype n) same = cc
-      by (shape.result a b) same = cc
-      by (shape.bound n) same = cc
-      by (shape.range n) same = cc
-      by (shape.either a b) same = cc
-      by (shape.map_from key value) same = cc
-      by (shape.external xs) same = cc
-      by (shape.untagged xs) same = cc
-      by (shape.internal tag closed xs) same = cc
-      by (shape.literal d) same = cc
+option_number : (kind : Shape) (m : ℕ) → option_of kind ≡ Some m → Contains (numbers_of kind) m × Contains (same_value_numbers kind) m
+option_number (shape.option n) m is = let here : n ≡ m = cc in ((0, omega arith, here), (0, omega arith, here))
+option_number kind m is = cc
 
+-- it is among the row's numbers, and has its values
+pub option_edges : (rows : List Row) (n m : ℕ) → option_at rows n ≡ Some m
+    → Contains (numbers_at rows n) m × Contains (same_value_numbers_at rows n) m
+option_edges rows n m is = by (entry_at rows n) is
+  where
+    by : (o : Option Entry) → option_and_then (λ e. option_of e.shape) o ≡ Some m
+        → Contains (option_map_or (λ e. numbers_of e.shape) o []) m × Contains (option_map_or (λ e. same_value_numbers e.shape) o []) m
+    by None h = cc
+    by (Some e) h = option_number e.shape m h
+
+module _ (rows : List Row) (within : RefersWithin rows) where
   known : (steps n : ℕ) → n < length rows → without_options_within rows steps n < length rows
   known zero n less = less
   known (suc steps) n less = by (option_at rows n) refl (known steps)
@@ -227,7 +136,7 @@ module _ (rows : List Row) (within : RefersWithin rows) where
       by : (o : Option ℕ) → option_at rows n ≡ o → ((k : ℕ) → k < length rows → without_options_within rows steps k < length rows)
           → elim o [ None ↦ n | Some m ↦ without_options_within rows steps m ] < length rows
       by None is rest = less
-      by (Some m) is rest = rest m (within.within n m (option_number (entry_at rows n) m is))
+      by (Some m) is rest = rest m (within.within n m (option_edges rows n m is).0)
 
   pub inner_known : (n : ℕ) → n < length rows → without_options rows n < length rows
   inner_known n less = known (length rows) n less
@@ -313,30 +222,7 @@ shape_open rows (shape.struct x) m plain c = open_part rows x.flatten m plain c
 shape_open rows (shape.external xs) m plain c = variants_open rows xs m plain c
 shape_open rows (shape.untagged xs) m plain c = variants_open rows xs m plain c
 shape_open rows (shape.internal tag closed xs) m plain c = variants_open rows xs m plain c
-shape_open rows shape.null m plain c = absurd (none_in m c)
-shape_open rows shape.bool m plain c = absurd (none_in m c)
-shape_open rows (shape.int k) m plain c = absurd (none_in m c)
-shape_open rows (shape.non_zero k) m plain c = absurd (none_in m c)
-shape_open rows shape.number m plain c = absurd (none_in m c)
-shape_open rows shape.text m plain c = absurd (none_in m c)
-shape_open rows shape.char m plain c = absurd (none_in m c)
-shape_open rows (shape.formatted f) m plain c = absurd (none_in m c)
-shape_open rows shape.any m plain c = absurd (none_in m c)
-shape_open rows shape.bytes m plain c = absurd (none_in m c)
-shape_open rows shape.schema_itself m plain c = absurd (none_in m c)
-shape_open rows (shape.option n) m plain c = absurd (none_in m c)
-shape_open rows (shape.seq n) m plain c = absurd (none_in m c)
-shape_open rows (shape.set n) m plain c = absurd (none_in m c)
-shape_open rows (shape.array n len) m plain c = absurd (none_in m c)
-shape_open rows (shape.up_to n cap) m plain c = absurd (none_in m c)
-shape_open rows (shape.tuple ns) m plain c = absurd (none_in m c)
-shape_open rows (shape.newtype n) m plain c = absurd (none_in m c)
-shape_open rows (shape.result a b) m plain c = absurd (none_in m c)
-shape_open rows (shape.bound n) m plain c = absurd (none_in m c)
-shape_open rows (shape.range n) m plain c = absurd (none_in m c)
-shape_open rows (shape.either a b) m plain c = absurd (none_in m c)
-shape_open rows (shape.map_from key value) m plain c = absurd (none_in m c)
-shape_open rows (shape.literal d) m plain c = absurd (none_in m c)
+shape_open rows kind m plain c = absurd (none_in m c)
 
 -- what is tagged in a plain table has no content
 here_none : (fields : ℕ → List Field) (tag : Text) (p : Payload) (m : ℕ) → IsTagged tag (spread_payload fields p)
@@ -357,33 +243,7 @@ no_content fields tag (x ∷ xs) m tagged c =
 
 no_content_in : (fields : ℕ → List Field) (kind : Shape) (m : ℕ) → IsPlainShape (spread fields kind) → Contains (contents_of kind) m → ⊥
 no_content_in fields (shape.internal tag closed xs) m plain c = no_content fields tag xs m plain.2 c
-no_content_in fields (shape.struct x) m plain c = none_in m c
-no_content_in fields (shape.external xs) m plain c = none_in m c
-no_content_in fields (shape.untagged xs) m plain c = none_in m c
-no_content_in fields shape.null m plain c = none_in m c
-no_content_in fields shape.bool m plain c = none_in m c
-no_content_in fields (shape.int k) m plain c = none_in m c
-no_content_in fields (shape.non_zero k) m plain c = none_in m c
-no_content_in fields shape.number m plain c = none_in m c
-no_content_in fields shape.text m plain c = none_in m c
-no_content_in fields shape.char m plain c = none_in m c
-no_content_in fields (shape.formatted f) m plain c = none_in m c
-no_content_in fields shape.any m plain c = none_in m c
-no_content_in fields shape.bytes m plain c = none_in m c
-no_content_in fields shape.schema_itself m plain c = none_in m c
-no_content_in fields (shape.option n) m plain c = none_in m c
-no_content_in fields (shape.seq n) m plain c = none_in m c
-no_content_in fields (shape.set n) m plain c = none_in m c
-no_content_in fields (shape.array n len) m plain c = none_in m c
-no_content_in fields (shape.up_to n cap) m plain c = none_in m c
-no_content_in fields (shape.tuple ns) m plain c = none_in m c
-no_content_in fields (shape.newtype n) m plain c = none_in m c
-no_content_in fields (shape.result a b) m plain c = none_in m c
-no_content_in fields (shape.bound n) m plain c = none_in m c
-no_content_in fields (shape.range n) m plain c = none_in m c
-no_content_in fields (shape.either a b) m plain c = none_in m c
-no_content_in fields (shape.map_from key value) m plain c = none_in m c
-no_content_in fields (shape.literal d) m plain c = none_in m c
+no_content_in fields kind m plain c = none_in m c
 
 pub plain_asks : (basis : Basis) (e : Entry) → IsPlainEntry basis.rows (Some e)
     → All (IsPlainAsk basis.rows) (asks_of (entry_template basis e))

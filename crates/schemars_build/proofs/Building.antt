@@ -18,7 +18,7 @@ use Rattle.schemars_build.specs.Parts.{IsSubschema, IsFilledOf, IsSaid, IsPlainA
 use Rattle.schemars_meaning.proofs.Mapping.{answered_map}
 use Rattle.schemars_build.proofs.Placing.{Always, placed_map, filled-wider, document-wider}
 use Rattle.schemars_build.proofs.Steps.{step_wider, refers-wider}
-use Rattle.schemars_build.proofs.Reaching.{reached_trans, reached_entered, nothing_added}
+use Rattle.schemars_build.proofs.Reaching.{reached_more, reached_trans, reached_entered, nothing_added}
 
 -- ---- where more names and definitions are there
 
@@ -101,7 +101,7 @@ answers_more plan inside start old new asks ts a t before step all one = record 
 
 pub part_answer : (plan : Plan) (inside : Bool) (old new : Work) (n : ℕ) (s : Data) → IsPart plan inside old new n s
     → IsAnswer plan inside old new (part n) s
-part_answer plan inside old new n s h = record { said = h.written; reached = λ ok. h.reached }
+part_answer plan inside old new n s h = record { said = h.written; needed = h.reached; reached = λ ok. h.reached }
 
 -- the content of a tagged variant, where it stands in place
 pub content_answer : (plan : Plan) (inside : Bool) (old new : Work) (n : ℕ) (b : Bool) (d s : Data)
@@ -109,17 +109,33 @@ pub content_answer : (plan : Plan) (inside : Bool) (old new : Work) (n : ℕ) (b
     → s ≡ opened_inside d → IsAnswer plan inside old new (content n) s
 content_answer plan inside old new n b d s place filled stands is = record {
   said = (b, place, (d, filled.document, inl (stands, is)));
+  needed = (
+      d,
+      filled.document,
+      λ plain. reached_more plan inside old new (references d) (references d ++ references s)
+          (among_left (references d) (references s)) (filled.reached plain),
+  );
   reached = λ no. absurd no;
 }
 
 -- and where it does not
 pub content_referred : (plan : Plan) (inside : Bool) (old mid new : Work) (n : ℕ) (b : Bool) (d s : Data)
-    → b ≡ (is_inline_at plan.rows n || plan.inlines) → Step plan mid new → IsFilledIn plan inside old mid n d
+    → b ≡ (is_inline_at plan.rows n || plan.inlines) → Step plan old mid → Step plan mid new → IsFilledIn plan inside old mid n d
     → stands_in_place b d ≡ false → IsPart plan inside mid new n s → IsAnswer plan inside old new (content n) s
-content_referred plan inside old mid new n b d s place step filled stands one = record {
-  said = (b, place, (d, filled-step plan (not inside) mid new step n d filled.document, inr (stands, one.written)));
+content_referred plan inside old mid new n b d s place before step filled stands one = record {
+  said = (b, place, (d, document, inr (stands, one.written)));
+  needed = (
+      d,
+      document,
+      λ plain. reached_trans plan inside old mid new (references d) (references s) (references d ++ references s) before step
+          (among_left (references d) (references s)) (λ x h. Contains-append_right (references d) (references s) x h)
+          (filled.reached plain) (one.reached plain),
+  );
   reached = λ no. absurd no;
 }
+  where
+    document : IsFilledOf plan (not inside) new new.pending n d
+    document = filled-step plan (not inside) mid new step n d filled.document
 
 -- ---- the whole document
 

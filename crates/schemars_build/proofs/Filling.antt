@@ -40,6 +40,7 @@ pub members_answer : (plan : Plan) (inside : Bool) (old new : Work) (n : ℕ) (r
     → IsAnswer plan inside old new (members_of n required) s
 members_answer plan inside old new n required d s filled is = record {
   said = (d, filled.document, is);
+  needed = (d, filled.document, filled.reached);
   reached = λ is_open plain.
       let none : option_at plan.rows n ≡ None = no_option (entry_at plan.rows n) is_open in
       let same : without_options plan.rows n ≡ n = stops plan.rows (length plan.rows) n none in

@@ -1,12 +1,12 @@
 -- What the calls of the recursion answer, where they lead from one state of the work to another.
-use Rattle.std.specs.Prelude.{◌≡◌, ◌||◌, ℕ, Bool, true, false, not, List, [], ◌∷◌, All}
+use Rattle.std.specs.Prelude.{◌≡◌, ◌||◌, ℕ, Bool, true, false, not, List, [], ◌∷◌, ◌++◌, All}
 use Rattle.serde_json.specs.Data.{Data, string}
 use Rattle.schemars_json.specs.Json.{Text}
 use Rattle.schemars_schema.specs.References.{references}
 use Rattle.schemars_types.specs.Rows.{Row, entry_at}
 use Rattle.schemars_types.specs.Edges.{is_inline_at}
 use Rattle.schemars_templates.specs.Template.{Ask, part, members_of, content}
-use Rattle.schemars_templates.specs.Describes.{AreAnswered, IsAnswered, references_of}
+use Rattle.schemars_templates.specs.Describes.{AreAnswered, IsAnswered, without_options, references_of}
 use Rattle.schemars_documents.specs.PlainTable.{IsPlainTable, IsOpenStruct}
 use Rattle.schemars_naming.specs.Placed.{IsFilled, IsDocument, IsPlaced}
 use Rattle.schemars_naming.specs.Work.{Plan, Work, Refers, IsKey, reference_to, basis_of}
@@ -44,9 +44,19 @@ abbrev pub IsSaid : Plan → Bool → Work → Ask → Data → Type 0
 IsSaid plan free w = IsAnswered plan.rows (λ m b. b ≡ (is_inline_at plan.rows m || plan.inlines)) (IsSubschema plan free w)
     (IsFilledOf plan free w w.pending)
 
--- an answer, and what joins for it
+-- what joins for an answer is reached from the document of the row that it is made of, and for what stands beside a tag from
+-- the part too that may stand in its place
+abbrev pub AreNeededFor : Plan → Bool → Work → Work → Ask → Data → Type 0
+AreNeededFor plan inside old new (part n) s = AreNeeded plan inside old new (references s)
+AreNeededFor plan inside old new (members_of n required) s =
+    (d : Data) × IsFilledOf plan (not inside) new new.pending (without_options plan.rows n) d × AreNeeded plan inside old new (references d)
+AreNeededFor plan inside old new (content n) s =
+    (d : Data) × IsFilledOf plan (not inside) new new.pending n d × AreNeeded plan inside old new (references d ++ references s)
+
+-- an answer, and what joins for it; where it is asked in a plain document, that is reached from the answer itself
 pub record IsAnswer (plan : Plan) (inside : Bool) (old new : Work) (a : Ask) (s : Data) : Type 0 where
   pub said : IsSaid plan (not inside) new a s
+  pub needed : AreNeededFor plan inside old new a s
   pub reached : IsPlainAsk plan.rows a → AreNeeded plan inside old new (references s)
 
 -- the answers in a document

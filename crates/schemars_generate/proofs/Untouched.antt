@@ -8,8 +8,8 @@ use Rattle.schemars_transforms.specs.Member.{OfMember}
 use Rattle.schemars_transforms.specs.declared.gen_transform.GenTransform.{GenTransform}
 use Rattle.schemars_transforms.proofs.Laws.{no_transforms}
 use Rattle.schemars_roots.specs.Through.{IsThrough, IsTurnedDown, IsRefused, IsRootRefused}
-use Rattle.schemars_roots.specs.declared.error.GenerateError.{GenerateError}
-use Rattle.schemars_roots.specs.declared.error.GenerateError.TheVariants.{OutOfMemory, UnknownType}
+use Rattle.schemars_error.specs.declared.error.GenerateError.{GenerateError}
+use Rattle.schemars_error.specs.declared.error.GenerateError.TheVariants.{OutOfMemory, UnknownType}
 use Rattle.schemars_generate.specs.Settings.{ApplyInOrder}
 
 in_order_none : {O : Type 0} (Q : Step O) (ts us : List (GenTransform O)) (s v : Data) (r : Answer) → ts ≡ []

@@ -6,11 +6,11 @@ ghost use Rattle.schemars_documents.specs.PlainTable.{IsPlainTable, IsOpenStruct
 ghost use Rattle.schemars_templates.specs.Template.{members_of, content};
 ghost use Rattle.schemars_headline.specs.Calls.{Adds, IsNeeded};
 ghost use Rattle.schemars_headline.specs.State.{HasOwnDefinitions, ReferencesNameKeys};
-ghost use Rattle.schemars_roots.specs.Answers.{IsAnswerOf};
+ghost use Rattle.schemars_roots.specs.Answers.{IsAnswerOf, IsNeededFor};
 ghost use Rattle.schemars_generate.specs.Settings.{state};
 
 use crate::generate::SchemaGenerator;
-use schemars_roots::GenerateError;
+use schemars_error::GenerateError;
 use schemars_schema::Schema;
 use schemars_types::TypeNo;
 use std::alloc::Global;
@@ -29,6 +29,7 @@ pub fn json_schema_for_flatten<O>(
 ) -> Result<Schema, GenerateError>
     ensures members { IfOk result (IsAnswerOf (state generator.new) (members_of n required)) }
     ensures step { OnOk result (Adds (state generator.old) (state generator.new)) }
+    ensures needed { IfOk result (IsNeededFor (state generator.old) (state generator.new) (members_of n required)) }
     ensures reached { IfOk result (λ s. IsOpenStruct (entry_at generator.old.contents.rows n)
         → IsNeeded (state generator.old) (state generator.new) (references s)) }
     ensures own { HasOwnDefinitions (state generator.old) → HasOwnDefinitions (state generator.new) }
@@ -60,6 +61,7 @@ pub fn json_schema_for_internally_tagged_enum_newtype_variant<O>(
 ) -> Result<Schema, GenerateError>
     ensures content { IfOk result (IsAnswerOf (state generator.new) (content n)) }
     ensures step { OnOk result (Adds (state generator.old) (state generator.new)) }
+    ensures needed { IfOk result (IsNeededFor (state generator.old) (state generator.new) (content n)) }
     ensures own { HasOwnDefinitions (state generator.old) → HasOwnDefinitions (state generator.new) }
     ensures keys { HasOwnDefinitions (state generator.old) → IsPlainTable generator.new.contents.rows
         → ReferencesNameKeys (state generator.new) }

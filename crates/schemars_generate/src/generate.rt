@@ -12,7 +12,7 @@ ghost use Rattle.schemars_headline.specs.Calls.{IsPartOf, IsReferenceOf, Adds, I
 ghost use Rattle.schemars_headline.specs.State.{path_of, settings2020_12, HasOwnDefinitions, ReferencesNameKeys};
 ghost use Rattle.schemars_naming.specs.Naming.{IsOneToOne};
 ghost use Rattle.schemars_documents.specs.PlainTable.{IsPlainTable, HasPlainNotes};
-ghost use Rattle.schemars_roots.specs.Refusals.{HasFault};
+ghost use Rattle.schemars_error.specs.Refusals.{HasFault};
 ghost use Rattle.schemars_roots.specs.Through.{IsThrough, AreThrough, AreTurnedDown, IsRootRefused};
 ghost use Rattle.schemars_roots.specs.Through.{IsUntransformed, IsUntransformedCall, IsRefused};
 ghost use Rattle.schemars_transforms.specs.Member.{some_own};
@@ -22,7 +22,8 @@ ghost use Rattle.schemars_generate.specs.Settings.{settings_of, state, ApplyInOr
 
 pub use crate::settings::SchemaSettings;
 pub use schemars_documents::Contract;
-use schemars_roots::{Contents, GenerateError};
+use schemars_error::GenerateError;
+use schemars_roots::Contents;
 use schemars_schema::Schema;
 pub use schemars_transforms::GenTransform;
 use schemars_transforms::NoTransform;

@@ -6,4 +6,4 @@ pub mod generate;
 mod settings;
 
 pub use generate::{SchemaGenerator, SchemaSettings};
-pub use schemars_roots::GenerateError;
+pub use schemars_error::GenerateError;

@@ -26,7 +26,9 @@ use Rattle.schemars_templates.specs.Describes.{without_options}
 use Rattle.schemars_meaning.proofs.Referring.{plain_rows}
 use Rattle.schemars_naming.specs.Placed.{is_pending, pending_in, is_in_place, IsPlaced, IsFilledWithin, IsDocument}
 use Rattle.schemars_build.proofs.Placing.{Answers}
-use Rattle.schemars_headline.proofs.AskedRows.{row_asked, option_edges, own_asked}
+use Rattle.schemars_build.specs.Missing.{row_asked}
+use Rattle.schemars_build.proofs.Asked.{option_edges}
+use Rattle.schemars_headline.proofs.AskedRows.{own_asked}
 use Rattle.schemars_naming.specs.Work.{Work, Refers, basis_of}
 use Rattle.schemars_build.specs.Parts.{IsSubschema}
 use Rattle.schemars_build.specs.Reached.{IsReached, by_reference, by_definition}

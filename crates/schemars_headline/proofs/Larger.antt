@@ -21,7 +21,9 @@ use Rattle.schemars_naming.specs.Placed.{is_pending, pending_in, IsPlaced, IsFil
 use Rattle.schemars_naming.specs.Work.{StandsApart, Refers, basis_of}
 use Rattle.schemars_build.proofs.Placing.{Answers, document-wider}
 use Rattle.schemars_headline.specs.State.{State, plan_of, work_of, HasOwnDefinitions}
-use Rattle.schemars_headline.proofs.AskedRows.{row_asked, option_edges, own_asked}
+use Rattle.schemars_build.specs.Missing.{row_asked}
+use Rattle.schemars_build.proofs.Asked.{option_edges}
+use Rattle.schemars_headline.proofs.AskedRows.{own_asked}
 
 -- a shape's template stays as rows join that its rows' options don't depend on
 template-more : (basis : Basis) (more : List Row) (kind : Shape)

@@ -14,10 +14,10 @@ use Rattle.schemars_headline.proofs.Inlined.{root_inlined}
 use Rattle.schemars_walk.specs.Walk.{Step}
 use Rattle.schemars_walk.specs.declared.transform.TransformError.{TransformError}
 use Rattle.schemars_walk.specs.declared.transform.TransformError.TheVariants as refusal
-use Rattle.schemars_roots.specs.Refusals.{told}
+use Rattle.schemars_error.specs.Refusals.{told}
 use Rattle.schemars_roots.specs.Through.{IsUntransformed, IsRefused, IsRefusedThrough, IsTurnedDown}
-use Rattle.schemars_roots.specs.declared.error.GenerateError.{GenerateError}
-use Rattle.schemars_roots.specs.declared.error.GenerateError.TheVariants.{OutOfMemory, UnknownType}
+use Rattle.schemars_error.specs.declared.error.GenerateError.{GenerateError}
+use Rattle.schemars_error.specs.declared.error.GenerateError.TheVariants.{OutOfMemory, UnknownType}
 
 pub untransformed : (s : State) (n : ℕ) (w : Work) (d : Data) → IsChecked s.rows → IsRootOf s n w d → HasKeysOnce w.definitions
     → IsOneToOne w.names → IsUntransformed s n d

@@ -1,4 +1,3 @@
 pub mod Answers
-pub mod Refusals
 pub mod Settings
 pub mod Through

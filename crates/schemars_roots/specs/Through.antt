@@ -11,9 +11,9 @@ use Rattle.schemars_headline.specs.Calls.{IsRootCall, IsLastRootCall}
 use Rattle.schemars_naming.specs.Work.{Work}
 use Rattle.schemars_walk.specs.Walk.{Step, EachMember, AtSchema}
 use Rattle.schemars_walk.specs.declared.transform.TransformError.{TransformError}
-use Rattle.schemars_roots.specs.Refusals.{told}
-use Rattle.schemars_roots.specs.declared.error.GenerateError.{GenerateError}
-use Rattle.schemars_roots.specs.declared.error.GenerateError.TheVariants.{OutOfMemory, UnknownType, DefinitionsPath}
+use Rattle.schemars_error.specs.Refusals.{told}
+use Rattle.schemars_error.specs.declared.error.GenerateError.{GenerateError}
+use Rattle.schemars_error.specs.declared.error.GenerateError.TheVariants.{OutOfMemory, UnknownType, DefinitionsPath}
 
 -- the transforms, from their old state to their new one, made this document of one of which R holds
 abbrev pub IsThrough : {T : Type 0} → Step T → T → T → (Data → Type 0) → Data → Type 0

@@ -18,14 +18,14 @@ ghost use Rattle.schemars_documents.specs.PlainTable.{IsPlainTable, HasPlainNote
 ghost use Rattle.schemars_templates.specs.Template as spec;
 ghost use Rattle.schemars_templates.specs.View.{ask_of};
 ghost use Rattle.schemars_headline.specs.State.{Settings, path_of, HasOwnDefinitions, ReferencesNameKeys};
-ghost use Rattle.schemars_roots.specs.Answers.{IsAnswerOf};
-ghost use Rattle.schemars_roots.specs.Refusals.{HasFault};
+ghost use Rattle.schemars_roots.specs.Answers.{IsAnswerOf, IsNeededFor};
+ghost use Rattle.schemars_error.specs.Refusals.{HasFault};
 ghost use Rattle.schemars_roots.specs.Settings.{settings_of, state_with};
 ghost use Rattle.schemars_roots.specs.Through.{IsThrough, IsTurnedDown, AreThrough, AreTurnedDown};
 ghost use Rattle.schemars_roots.specs.Through.{IsUntransformed, IsUntransformedCall, IsRootRefused};
 
 use crate::document::{answer_of, last_document, root_document, row_asked};
-use crate::error::GenerateError;
+use schemars_error::GenerateError;
 use crate::settings::DocumentSettings;
 use schemars_naming::work::Work;
 use schemars_schema::Schema;
@@ -222,6 +222,8 @@ impl Contents {
             (IsAnswerOf (state_with (settings_of settings.now) self.new) (spec.members_of n required)) }
         ensures step { OnOk result (Adds (state_with (settings_of settings.now) self.old)
             (state_with (settings_of settings.now) self.new)) }
+        ensures needed { IfOk result (IsNeededFor (state_with (settings_of settings.now) self.old)
+            (state_with (settings_of settings.now) self.new) (spec.members_of n required)) }
         ensures reached { IfOk result (λ d. IsOpenStruct (entry_at self.old.rows n)
             → IsNeeded (state_with (settings_of settings.now) self.old)
             (state_with (settings_of settings.now) self.new) (references d)) }
@@ -250,6 +252,8 @@ impl Contents {
             (IsAnswerOf (state_with (settings_of settings.now) self.new) (spec.content n)) }
         ensures step { OnOk result (Adds (state_with (settings_of settings.now) self.old)
             (state_with (settings_of settings.now) self.new)) }
+        ensures needed { IfOk result (IsNeededFor (state_with (settings_of settings.now) self.old)
+            (state_with (settings_of settings.now) self.new) (spec.content n)) }
         ensures own { HasOwnDefinitions (state_with (settings_of settings.now) self.old)
             → HasOwnDefinitions (state_with (settings_of settings.now) self.new) }
         ensures rest { self.new ≡ record self.old { names = self.new.names; definitions = self.new.definitions } }
@@ -271,6 +275,8 @@ impl Contents {
         ensures said { IfOk result (IsAnswerOf (state_with (settings_of settings.now) self.new) (ask_of ask)) }
         ensures step { OnOk result (Adds (state_with (settings_of settings.now) self.old)
             (state_with (settings_of settings.now) self.new)) }
+        ensures needed { IfOk result (IsNeededFor (state_with (settings_of settings.now) self.old)
+            (state_with (settings_of settings.now) self.new) (ask_of ask)) }
         ensures reached { IfOk result (λ d. IsPlainAsk self.old.rows (ask_of ask)
             → IsNeeded (state_with (settings_of settings.now) self.old)
             (state_with (settings_of settings.now) self.new) (references d)) }

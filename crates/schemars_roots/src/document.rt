@@ -5,7 +5,7 @@ ghost use Rattle.schemars_schema.specs.References.{references};
 ghost use Rattle.schemars_types.specs.Faults.{IsChecked};
 ghost use Rattle.schemars_headline.specs.Headline.{IsRootOf, IsTitledRoot, CannotPlace, with_definitions};
 ghost use Rattle.schemars_build.specs.Missing.{row_asked};
-ghost use Rattle.schemars_build.specs.Parts.{IsPlainAsk, IsSaid};
+ghost use Rattle.schemars_build.specs.Parts.{IsPlainAsk, IsSaid, AreNeededFor};
 ghost use Rattle.schemars_naming.specs.Naming.{IsOneToOne};
 ghost use Rattle.schemars_documents.specs.PlainTable.{IsPlainTable};
 ghost use Rattle.schemars_build.specs.Reached.{AreReached};
@@ -17,7 +17,7 @@ ghost use Rattle.schemars_templates.specs.View.{ask_of};
 ghost use Rattle.schemars_naming.specs.Work as specs;
 ghost use Rattle.schemars_naming.specs.Work.{Step, undone};
 
-use crate::error::GenerateError;
+use schemars_error::GenerateError;
 use crate::path::stripped;
 use crate::settings::DocumentSettings;
 use schemars_build::build::{Plan, answer, own_document};
@@ -56,6 +56,8 @@ pub(crate) fn answer_of(
     ensures step { OnOk result (Step (state_plan (state_of settings.now types.now work.old) None) work.old work.new) }
     ensures said { IfOk result
         (IsSaid (state_plan (state_of settings.now types.now work.old) None) false work.new (ask_of ask)) }
+    ensures needed { IfOk result (AreNeededFor (state_plan (state_of settings.now types.now work.old) None) true
+        work.old work.new (ask_of ask)) }
     ensures reached { IfOk result (λ s. IsPlainAsk types.now (ask_of ask) → IsPlainTable types.now
         → AreReached (state_plan (state_of settings.now types.now work.old) None) true work.old work.new
         (references s)) }

@@ -3,10 +3,8 @@
 
 pub mod contents;
 mod document;
-mod error;
 mod path;
 mod settings;
 
 pub use contents::Contents;
-pub use error::GenerateError;
 pub use settings::DocumentSettings;

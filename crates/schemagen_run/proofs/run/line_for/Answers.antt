@@ -1,7 +1,7 @@
 -- The document has a text, and a refusal of the generator is told by its number.
 use Rattle.std.proofs.Common.{◌∙◌, ap, string_bytes}
-use Rattle.schemars_roots.specs.declared.error.GenerateError.{GenerateError}
-use Rattle.schemars_roots.specs.Refusals.{code_of}
+use Rattle.schemars_error.specs.declared.error.GenerateError.{GenerateError}
+use Rattle.schemars_error.specs.Refusals.{code_of}
 use Rattle.schemagen_run.specs.declared.fault.Fault.TheVariants.{Refused}
 use Rattle.schemagen_run.proofs.Results.{ok_at_err, err_passed}
 use Rattle.schemagen_run.proofs.Runs.{told, of_line, told_of_two}

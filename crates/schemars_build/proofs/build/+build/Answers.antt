@@ -30,7 +30,7 @@ use Rattle.schemars_build.specs.Parts.{IsPart, AreAnswers, IsFilledIn, IsOwn, Is
 use Rattle.schemars_build.specs.Plans.{plan_of}
 use Rattle.schemars_build.specs.Reached.{AreReached}
 use Rattle.schemars_build.proofs.Asked.{asks_in_order, inner_known}
-use Rattle.schemars_build.proofs.Building.{answers_more, own_of_filled, in_place, content_referred}
+use Rattle.schemars_build.proofs.Building.{answers_more, own_of_filled, in_place, content_answer, content_referred}
 use Rattle.schemars_build.proofs.Filling.{filled_by_answers, filled_in, members_answer}
 use Rattle.schemars_build.proofs.Descending.{left_of_subschema, left_of_own_document, left_of_define, left_of_filled, left_of_answers}
 use Rattle.schemars_build.proofs.Descending.{left_of_asked, left_of_answer, left_of_members, left_of_content}
@@ -266,8 +266,15 @@ pub content-returns-then-not-stands_in_place-clause-is : goal.content-returns-th
 content-returns-then-not-stands_in_place-clause-is t c =
     let plan = plan_of c.args.plan.now in
     content_referred plan c.args.in_definition c.args.work.now c.filled_document.new.work c.subschema.new.work c.args.n
-    (is_inline_at plan.rows c.args.n || plan.inlines) c.in_ok-schema.schema c.in_ok-part.part refl c.in_ok-part.ensures.step
-    c.in_ok-schema.ensures.is (search rules) c.in_ok-part.ensures.is
+    (is_inline_at plan.rows c.args.n || plan.inlines) c.in_ok-schema.schema c.in_ok-part.part refl c.in_ok-schema.ensures.step
+    c.in_ok-part.ensures.step c.in_ok-schema.ensures.is (search rules) c.in_ok-part.ensures.is
+
+pub content-returns-clause-is : goal.content-returns-clause-is
+content-returns-clause-is t c =
+    let plan = plan_of c.args.plan.now in
+    content_answer plan c.args.in_definition c.args.work.now c.filled_document.new.work c.args.n
+    (is_inline_at plan.rows c.args.n || plan.inlines) c.in_ok-schema.schema c.open_inside.new.schema refl c.in_ok-schema.ensures.is
+    (search rules) (search rules)
 
 -- ---- a definition
 

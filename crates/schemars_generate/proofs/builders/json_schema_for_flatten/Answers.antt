@@ -6,7 +6,7 @@ use Rattle.schemars_templates.specs.Template.{members_of}
 use Rattle.schemars_headline.specs.Calls.{Adds, IsNeeded}
 use Rattle.schemars_headline.specs.State.{Settings, HasOwnDefinitions}
 use Rattle.schemars_headline.proofs.NamedKeys.{references_name_keys}
-use Rattle.schemars_roots.specs.Answers.{IsAnswerOf}
+use Rattle.schemars_roots.specs.Answers.{IsAnswerOf, IsNeededFor}
 use Rattle.schemars_roots.specs.Settings.{state_with}
 use Rattle.schemars_generate.specs.Settings.{settings_of}
 use Rattle.schemars_generate.proofs.builders.json_schema_for_flatten.Goals as goal
@@ -34,6 +34,14 @@ returns-clause-reached g c =
     let P : Settings → Type 0 = λ x. IfOk r (λ d. IsOpenStruct (entry_at old.rows c.args.n)
     → IsNeeded (state_with x old) (state_with x new) (references d)) in
     subst P c.document-settings.ensures c.members_of.ensures.reached
+
+pub returns-clause-needed : goal.returns-clause-needed
+returns-clause-needed g c =
+    let r = c.members_of.result in
+    let old = c.args.generator.now.contents in
+    let new = c.members_of.new.self in
+    let P : Settings → Type 0 = λ x. IfOk r (IsNeededFor (state_with x old) (state_with x new) (members_of c.args.n c.args.required)) in
+    subst P c.document-settings.ensures c.members_of.ensures.needed
 
 pub returns-clause-own : goal.returns-clause-own
 returns-clause-own g c =

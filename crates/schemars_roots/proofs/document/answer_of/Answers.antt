@@ -1,14 +1,14 @@
 use Rattle.std.proofs.Common.{◌≡◌, ◌∙◌, ℕ, List, length, None, [], true, false, refl, sym, ap, subst, rules}
 use Rattle.schemars_json.specs.Json.{Text}
 use Rattle.schemars_templates.specs.View.{ask_of}
-use Rattle.schemars_build.specs.Parts.{IsSaid}
+use Rattle.schemars_build.specs.Parts.{IsSaid, AreNeededFor}
 use Rattle.schemars_roots.specs.Settings.{state_of}
 use Rattle.schemars_headline.specs.State.{State, plan_of, work_of}
 use Rattle.schemars_naming.specs.Work.{Plan, Work, Step}
 use Rattle.schemars_schema.specs.References.{references}
 use Rattle.schemars_build.specs.Reached.{AreReached}
 use Rattle.schemars_headline.proofs.Calls.{step_kept, reached_kept}
-use Rattle.schemars_roots.proofs.Answered.{answer_kept}
+use Rattle.schemars_roots.proofs.Answered.{answer_kept, needed_kept}
 use Rattle.schemars_roots.proofs.document.answer_of.Goals as goal
 
 abbrev at : State → Text → Plan
@@ -77,3 +77,15 @@ returns-in-Ok-clause-reached c = λ asked plain.
     let kept = kept_work s c.args.work.now w c.keep.new.self c.requires.between c.in-Ok.ensures.step.still_pending c.keep.ensures.kept in
     subst Q (sym kept) (reached_kept (plan_of s None) true s c.args.work.now w from
     (subst P path (c.in-Ok.ensures.is.reached asked plain)))
+
+pub returns-in-Ok-clause-needed : goal.returns-in-Ok-clause-needed
+returns-in-Ok-clause-needed c =
+    let s = state_of c.args.settings.now c.args.types.now c.args.work.now in
+    let w = c.answer.new.work in
+    let a = ask_of c.args.ask in
+    let path : c.stripped.result.now ≡ (plan_of s None).path = search rules in
+    let P : Text → Type 0 = λ p. AreNeededFor (at s p) true c.args.work.now w a c.in-Ok.schema in
+    let Q : Work → Type 0 = λ x. AreNeededFor (plan_of s None) true c.args.work.now x a c.in-Ok.schema in
+    let none : w.pending ≡ [] = c.in-Ok.ensures.step.still_pending ∙ ap (λ x. x.pending) c.requires.between in
+    let kept = kept_work s c.args.work.now w c.keep.new.self c.requires.between c.in-Ok.ensures.step.still_pending c.keep.ensures.kept in
+    subst Q (sym kept) (needed_kept s c.args.work.now w a c.in-Ok.schema none (subst P path c.in-Ok.ensures.is.needed))

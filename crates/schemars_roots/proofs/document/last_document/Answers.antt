@@ -5,8 +5,8 @@ use Rattle.schemars_headline.specs.Keys.{HasKeysOnce}
 use Rattle.schemars_headline.specs.State.{plan_of}
 use Rattle.schemars_headline.proofs.Calls.{cannot_place, root_of, err_told}
 use Rattle.schemars_roots.specs.Settings.{state_of}
-use Rattle.schemars_roots.specs.declared.error.GenerateError.{GenerateError}
-use Rattle.schemars_roots.specs.declared.error.GenerateError.TheVariants.{OutOfMemory, DefinitionsPath}
+use Rattle.schemars_error.specs.declared.error.GenerateError.{GenerateError}
+use Rattle.schemars_error.specs.declared.error.GenerateError.TheVariants.{OutOfMemory, DefinitionsPath}
 use Rattle.schemars_roots.proofs.document.last_document.Goals as goal
 
 pub returns-in_err-document-clause-refused : goal.returns-in_err-document-clause-refused

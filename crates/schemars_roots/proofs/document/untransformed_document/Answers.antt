@@ -3,8 +3,8 @@ use Rattle.serde_json.specs.View.{members_view}
 use Rattle.schemars_headline.specs.Headline.{CannotPlace}
 use Rattle.schemars_roots.specs.Settings.{state_of}
 use Rattle.schemars_headline.specs.State.{plan_of}
-use Rattle.schemars_roots.specs.declared.error.GenerateError.{GenerateError}
-use Rattle.schemars_roots.specs.declared.error.GenerateError.TheVariants.{OutOfMemory, DefinitionsPath}
+use Rattle.schemars_error.specs.declared.error.GenerateError.{GenerateError}
+use Rattle.schemars_error.specs.declared.error.GenerateError.TheVariants.{OutOfMemory, DefinitionsPath}
 use Rattle.schemars_headline.proofs.Calls.{cannot_place, err_told}
 use Rattle.schemars_roots.proofs.document.untransformed_document.Goals as goal
 

@@ -2,7 +2,7 @@ use Rattle.std.proofs.Common.{inr}
 use Rattle.schemars_headline.proofs.Calls.{err_told}
 use Rattle.schemars_roots.specs.Settings.{state_of}
 use Rattle.schemars_roots.specs.Through.{IsRefusedThrough}
-use Rattle.schemars_roots.specs.declared.error.GenerateError.{GenerateError}
+use Rattle.schemars_error.specs.declared.error.GenerateError.{GenerateError}
 use Rattle.schemars_roots.proofs.document.whole_document.Goals as goal
 
 pub returns-in_err-transform-clause-refused : goal.returns-in_err-transform-clause-refused

@@ -6,7 +6,7 @@ use Rattle.schemars_headline.specs.State.{Settings, path_of}
 use Rattle.schemars_transforms.specs.declared.gen_transform.GenTransform.{GenTransform}
 use Rattle.schemars_roots.specs.Settings.{state_with}
 use Rattle.schemars_roots.specs.Through.{IsThrough, IsTurnedDown, IsRootRefused, IsUntransformed}
-use Rattle.schemars_roots.specs.declared.error.GenerateError.TheVariants.{OutOfMemory}
+use Rattle.schemars_error.specs.declared.error.GenerateError.TheVariants.{OutOfMemory}
 use Rattle.std.proofs.lemmas.Result.{IfOk-weaker, IfErr-weaker}
 use Rattle.schemars_generate.specs.Settings.{settings_of, ApplyInOrder}
 use Rattle.schemars_generate.proofs.Untouched.{untouched, not_turned_down, refused_untouched}

@@ -3,7 +3,7 @@ use Rattle.schemars_schema.specs.References.{references}
 use Rattle.schemars_templates.specs.View.{ask_of}
 use Rattle.schemars_documents.specs.PlainTable.{IsPlainTable}
 use Rattle.schemars_naming.specs.Work.{Work, Step}
-use Rattle.schemars_build.specs.Parts.{IsPlainAsk, IsSaid}
+use Rattle.schemars_build.specs.Parts.{IsPlainAsk, IsSaid, AreNeededFor}
 use Rattle.schemars_build.specs.Reached.{AreReached}
 use Rattle.schemars_headline.specs.State.{State, plan_of, work_of, HasOwnDefinitions}
 use Rattle.schemars_headline.proofs.Calls.{part_own}
@@ -47,3 +47,15 @@ returns-clause-reached c =
     let R : State → Type 0 = λ x. IsPlainAsk x.rows a → IsPlainTable x.rows
     → AreReached (plan_of x None) true (work_of x) (work_of new) (references schema) in
     subst R same (subst Q c.in_ok-schema.ensures.between (subst P c.self.invariant.2 c.in_ok-schema.ensures.reached))
+
+pub returns-clause-needed : goal.returns-clause-needed
+returns-clause-needed c =
+    let s = state_of c.args.settings.now c.self.inside.types c.self.inside.work in
+    let new = state_of c.args.settings.now c.self.inside.types c.answer_of.new.work in
+    let same = ap (state_with (settings_of c.args.settings.now)) c.self.view_is in
+    let schema = c.in_ok-schema.schema in
+    let a = ask_of c.args.ask in
+    let P : Work → Type 0 = λ w. AreNeededFor (plan_of s None) true w c.answer_of.new.work a schema in
+    let Q : Work → Type 0 = λ w. AreNeededFor (plan_of s None) true (work_of s) w a schema in
+    let R : State → Type 0 = λ x. AreNeededFor (plan_of x None) true (work_of x) (work_of new) a schema in
+    subst R same (subst Q c.in_ok-schema.ensures.between (subst P c.self.invariant.2 c.in_ok-schema.ensures.needed))

@@ -6,8 +6,8 @@ use Rattle.schemars_naming.specs.Work.{Work}
 use Rattle.schemars_roots.proofs.Untransformed.{untransformed, only_memory}
 use Rattle.schemars_roots.specs.Settings.{settings_of, state_of, state_with}
 use Rattle.schemars_roots.specs.Through.{IsUntransformedCall, IsRefusedThrough, IsRootRefused, IsTurnedDown}
-use Rattle.schemars_roots.specs.declared.error.GenerateError.{GenerateError}
-use Rattle.schemars_roots.specs.declared.error.GenerateError.TheVariants.{OutOfMemory}
+use Rattle.schemars_error.specs.declared.error.GenerateError.{GenerateError}
+use Rattle.schemars_error.specs.declared.error.GenerateError.TheVariants.{OutOfMemory}
 use Rattle.schemars_roots.proofs.contents.Contents.root_schema.Goals as goal
 
 pub returns-in_err-document-clause-own : goal.returns-in_err-document-clause-own

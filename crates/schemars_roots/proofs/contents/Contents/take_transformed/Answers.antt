@@ -4,8 +4,8 @@ use Rattle.serde_json.specs.View.{members_view}
 use Rattle.schemars_headline.proofs.Calls.{err_told}
 use Rattle.schemars_walk.specs.Walk.{EachMember, AtSchema}
 use Rattle.schemars_roots.specs.Through.{AreThrough, AreTurnedDown}
-use Rattle.schemars_roots.specs.declared.error.GenerateError.{GenerateError}
-use Rattle.schemars_roots.specs.declared.error.GenerateError.TheVariants.{OutOfMemory}
+use Rattle.schemars_error.specs.declared.error.GenerateError.{GenerateError}
+use Rattle.schemars_error.specs.declared.error.GenerateError.TheVariants.{OutOfMemory}
 use Rattle.schemars_roots.proofs.contents.Contents.take_transformed.Goals as goal
 
 pub returns-in_err-transform_members-clause-refused : goal.returns-in_err-transform_members-clause-refused

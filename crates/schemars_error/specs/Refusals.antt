@@ -4,11 +4,11 @@ use Rattle.schemars_types.specs.declared.error.TypesError as types
 use Rattle.schemars_types.specs.declared.error.TypesError.TheVariants as fault
 use Rattle.schemars_types.specs.Rows.{Row}
 use Rattle.schemars_types.specs.Faults.{Refusal}
-use Rattle.schemars_roots.specs.declared.error.GenerateError.{GenerateError}
-use Rattle.schemars_roots.specs.declared.error.GenerateError.TheVariants.{OutOfMemory, UndefinedType, RepeatedName}
-use Rattle.schemars_roots.specs.declared.error.GenerateError.TheVariants.{DirectCycle, EmptyCycle, AlreadyDefined}
-use Rattle.schemars_roots.specs.declared.error.GenerateError.TheVariants.{NotAnExtension, UnknownType}
-use Rattle.schemars_roots.specs.declared.error.GenerateError.TheVariants.{DefinitionsPath, Transform, OwnTransform}
+use Rattle.schemars_error.specs.declared.error.GenerateError.{GenerateError}
+use Rattle.schemars_error.specs.declared.error.GenerateError.TheVariants.{OutOfMemory, UndefinedType, RepeatedName}
+use Rattle.schemars_error.specs.declared.error.GenerateError.TheVariants.{DirectCycle, EmptyCycle, AlreadyDefined}
+use Rattle.schemars_error.specs.declared.error.GenerateError.TheVariants.{NotAnExtension, UnknownType}
+use Rattle.schemars_error.specs.declared.error.GenerateError.TheVariants.{DefinitionsPath, Transform, OwnTransform}
 use Rattle.schemars_walk.specs.declared.transform.TransformError.{TransformError}
 use Rattle.schemars_walk.specs.declared.transform.TransformError.TheVariants as refusal
 use Rattle.schemars_transforms.specs.declared.error.CloneError as clones

@@ -44,7 +44,7 @@ pub enum GenerateError {
 
 impl GenerateError {
     ghost use Rattle.std.specs.Prelude.{◌≡◌};
-    ghost use Rattle.schemars_roots.specs.Refusals.{code_of};
+    ghost use Rattle.schemars_error.specs.Refusals.{code_of};
 
     /// The number that callers in other languages know the refusal by.
     pub fn code(&self) -> u32
@@ -68,7 +68,7 @@ impl GenerateError {
 
 impl From<AllocError> for GenerateError {
     ghost use Rattle.std.specs.Prelude.{◌≡◌};
-    ghost use Rattle.schemars_roots.specs.declared.error.GenerateError.TheVariants.{OutOfMemory};
+    ghost use Rattle.schemars_error.specs.declared.error.GenerateError.TheVariants.{OutOfMemory};
 
     ghost from_gives = { λ _ e. e ≡ OutOfMemory };
 
@@ -79,7 +79,7 @@ impl From<AllocError> for GenerateError {
 
 impl From<TypesError> for GenerateError {
     ghost use Rattle.std.specs.Prelude.{◌≡◌};
-    ghost use Rattle.schemars_roots.specs.Refusals.{error_of};
+    ghost use Rattle.schemars_error.specs.Refusals.{error_of};
 
     ghost from_gives = { λ e g. g ≡ error_of e };
 
@@ -98,7 +98,7 @@ impl From<TypesError> for GenerateError {
 
 impl From<TransformError> for GenerateError {
     ghost use Rattle.std.specs.Prelude.{◌≡◌};
-    ghost use Rattle.schemars_roots.specs.Refusals.{told};
+    ghost use Rattle.schemars_error.specs.Refusals.{told};
 
     ghost from_gives = { λ a e. e ≡ told a };
 
@@ -113,7 +113,7 @@ impl From<TransformError> for GenerateError {
 
 impl From<CloneError> for GenerateError {
     ghost use Rattle.std.specs.Prelude.{◌≡◌};
-    ghost use Rattle.schemars_roots.specs.Refusals.{copy_error};
+    ghost use Rattle.schemars_error.specs.Refusals.{copy_error};
 
     ghost from_gives = { λ a e. e ≡ copy_error a };
 

@@ -1,0 +1,6 @@
+//! Why calls of a generator are refused.
+#![tactic(auto)]
+
+mod error;
+
+pub use error::GenerateError;
