@@ -11,8 +11,8 @@ ghost use Rattle.schemars_generate.specs.Settings.{transforms07, transforms2019_
 
 use crate::generate::SchemaGenerator;
 use schemars_documents::Contract;
-use schemars_gen_transform::ReplaceUnevaluatedProperties;
 use schemars_error::GenerateError;
+use schemars_gen_transform::ReplaceUnevaluatedProperties;
 use schemars_roots::DocumentSettings;
 use schemars_schema::consts::meta_schemas;
 use schemars_transform::{

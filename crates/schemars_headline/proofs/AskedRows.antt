@@ -1,5 +1,5 @@
 -- The rows that are asked in a row's document are among those that it refers to.
-use Rattle.std.proofs.Common.{◌≡◌, ℕ, suc, List, [], ◌∷◌, Some, Contains, All, refl, subst, arith}
+use Rattle.std.proofs.Common.{suc, List, [], ◌∷◌, Some, Contains, All, refl, subst, arith}
 use Rattle.serde_json.specs.Data.{Data}
 use Rattle.schemars_shapes.specs.Shape.{Entry, numbers_of}
 use Rattle.schemars_templates.specs.Basis.{Basis}

@@ -1,12 +1,12 @@
 -- What a row answers, where what was added is kept.
-use Rattle.std.proofs.Common.{◌≡◌, ◌++◌, ℕ, List, [], true, false, None, inl, inr, sym, subst, refl}
+use Rattle.std.proofs.Common.{◌≡◌, ◌++◌, ℕ, [], true, false, None, inl, inr, sym, subst, refl}
 use Rattle.serde_json.specs.Data.{Data}
 use Rattle.schemars_json.specs.Json.{Text}
 use Rattle.schemars_schema.specs.References.{references}
 use Rattle.schemars_templates.specs.Template.{Ask, part, members_of, content}
 use Rattle.schemars_templates.specs.Describes.{without_options}
 use Rattle.schemars_meaning.proofs.Mapping.{answered_map}
-use Rattle.schemars_naming.specs.Work.{Plan, Work, Refers, basis_of}
+use Rattle.schemars_naming.specs.Work.{Work, Refers, basis_of}
 use Rattle.schemars_build.specs.Parts.{IsSaid, IsFilledOf, IsSubschema, AreNeededFor}
 use Rattle.schemars_build.proofs.Placing.{Always, filled-wider}
 use Rattle.schemars_headline.specs.State.{State, plan_of, work_of}

@@ -1,5 +1,5 @@
 -- What is told of root documents before transforms, and what is told where one is refused.
-use Rattle.std.proofs.Common.{◌≡◌, ◌⊎◌, inl, inr, ℕ, Result, Err, IfErr, subst, sym, refl, ◌∙◌}
+use Rattle.std.proofs.Common.{◌≡◌, ◌⊎◌, inl, inr, ℕ}
 use Rattle.serde_json.specs.Data.{Data}
 use Rattle.schemars_types.specs.Faults.{IsChecked}
 use Rattle.schemars_documents.specs.PlainTable.{HasPlainNotes}
@@ -12,12 +12,9 @@ use Rattle.schemars_headline.specs.State.{State, path_of}
 use Rattle.schemars_headline.proofs.Calls.{root_means, root_is_whole, always_placed}
 use Rattle.schemars_headline.proofs.Inlined.{root_inlined}
 use Rattle.schemars_walk.specs.Walk.{Step}
-use Rattle.schemars_walk.specs.declared.transform.TransformError.{TransformError}
-use Rattle.schemars_walk.specs.declared.transform.TransformError.TheVariants as refusal
-use Rattle.schemars_error.specs.Refusals.{told}
 use Rattle.schemars_roots.specs.Through.{IsUntransformed, IsRefused, IsRefusedThrough, IsTurnedDown}
 use Rattle.schemars_error.specs.declared.error.GenerateError.{GenerateError}
-use Rattle.schemars_error.specs.declared.error.GenerateError.TheVariants.{OutOfMemory, UnknownType}
+use Rattle.schemars_error.specs.declared.error.GenerateError.TheVariants.{OutOfMemory}
 
 pub untransformed : (s : State) (n : ℕ) (w : Work) (d : Data) → IsChecked s.rows → IsRootOf s n w d → HasKeysOnce w.definitions
     → IsOneToOne w.names → IsUntransformed s n d

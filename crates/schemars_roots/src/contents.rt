@@ -25,8 +25,8 @@ ghost use Rattle.schemars_roots.specs.Through.{IsThrough, IsTurnedDown, AreThrou
 ghost use Rattle.schemars_roots.specs.Through.{IsUntransformed, IsUntransformedCall, IsRootRefused};
 
 use crate::document::{answer_of, last_document, root_document, row_asked};
-use schemars_error::GenerateError;
 use crate::settings::DocumentSettings;
+use schemars_error::GenerateError;
 use schemars_naming::work::Work;
 use schemars_schema::Schema;
 use schemars_templates::template::Ask;

@@ -17,11 +17,11 @@ ghost use Rattle.schemars_templates.specs.View.{ask_of};
 ghost use Rattle.schemars_naming.specs.Work as specs;
 ghost use Rattle.schemars_naming.specs.Work.{Step, undone};
 
-use schemars_error::GenerateError;
 use crate::path::stripped;
 use crate::settings::DocumentSettings;
 use schemars_build::build::{Plan, answer, own_document};
 use schemars_documents::documents::make_root;
+use schemars_error::GenerateError;
 use schemars_naming::work::Work;
 use schemars_schema::Schema;
 use schemars_templates::template::Ask;

@@ -1,4 +1,4 @@
-use Rattle.std.proofs.Common.{◌≡◌, None, true, false, refl, sym, subst, ap}
+use Rattle.std.proofs.Common.{None, true, false, refl, sym, subst, ap}
 use Rattle.schemars_schema.specs.References.{references}
 use Rattle.schemars_templates.specs.View.{ask_of}
 use Rattle.schemars_documents.specs.PlainTable.{IsPlainTable}

@@ -1,4 +1,4 @@
-use Rattle.std.proofs.Common.{◌≡◌, List, false, IfOk, ap, subst}
+use Rattle.std.proofs.Common.{List, false, IfOk, ap, subst}
 use Rattle.std.proofs.lemmas.Result.{IfOk-weaker}
 use Rattle.schemars_types.specs.Rows.{Row}
 use Rattle.schemars_headline.specs.Calls.{IsReferenceOf}
