@@ -1,5 +1,5 @@
 //! What calls of the libraries answer, as text.
-use crate::schemas;
+use crate::{builders, schemas};
 use schemagen_run::fault::Fault;
 use schemars_schema::encoding::{encode_ref_name, percent_decode};
 use schemars_schema::{NotASchema, Schema, json_eq, json_eq_members};
@@ -66,6 +66,10 @@ fn answer_about(
         "is_schema" => text_of_bool(alloc, Some(Schema::is_schema(value))),
         "json_eq" | "json_eq_members" => text_of_bool(alloc, are_equal(call, value)),
         "encode_ref_name" | "percent_decode" | "new_ref" => about_text(alloc, call, value),
+        "escape" | "get_title_and_description" => {
+            let text = value.as_str().ok_or(NoAnswer::BadInput)?;
+            builders::answer_about_text(alloc, call, text)
+        }
         "fault" => fault(alloc, value),
         _ => schemas::answer(alloc, call, argument, value),
     }

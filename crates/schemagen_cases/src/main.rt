@@ -5,6 +5,7 @@
 //! file, and nothing to prove.
 #![tactic(auto)]
 
+mod builders;
 mod calls;
 mod cases;
 mod edits;

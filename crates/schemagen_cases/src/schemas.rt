@@ -1,6 +1,6 @@
 //! What calls answer that look at one schema.
-use crate::calls::{NoAnswer, text_of_bool};
-use crate::{edits, transforms};
+use crate::calls::{NoAnswer, pair_in, text_of_bool};
+use crate::{builders, edits, transforms};
 use schemars_schema::Schema;
 use serde_json::Value;
 use std::alloc::{AllocError, Global};
@@ -32,12 +32,23 @@ pub fn answer(
         "insert" | "insert_object_property" | "merge_at" => {
             edits::answer_of_two(alloc, call, argument, value)
         }
+        "flatten"
+        | "insert_validation_property"
+        | "insert_metadata_property_if_nonempty"
+        | "must_contain" => built(alloc, call, argument, value),
         "to_value" => to_value(alloc, value),
         "transform" => transformed(alloc, argument, value),
         "on_value" => transforms::answer_of_value(alloc, value),
         "recursive_transform_at_depth" => transforms::answer_nested(alloc, value),
         _ => answer_of(alloc, call, argument, value),
     }
+}
+
+// The schema is the first of a list of two, and what is put in the second.
+fn built(alloc: Global, call: &str, argument: &str, value: &Value) -> Result<String, NoAnswer> {
+    let (first, second) = pair_in(value).ok_or(NoAnswer::BadInput)?;
+    let mut schema = schema_in(first)?;
+    builders::answer(alloc, call, argument, &mut schema, second)
 }
 
 fn answer_of(alloc: Global, call: &str, argument: &str, value: &Value) -> Result<String, NoAnswer> {
