@@ -1,10 +1,10 @@
-use Rattle.std.proofs.Common.{◌≡◌, Bool, true, false, length, map, ap, subst, ◌∙◌, ◌∷◌, sym, arith, IfOk}
+use Rattle.std.proofs.Common.{◌≡◌, true, false, length, map, ap, subst, ◌∙◌, ◌∷◌, sym, arith, IfOk}
 use Rattle.std.specs.Prelude.{◌==◌}
 use Rattle.schemars_shapes.specs.Shape.{variant_of}
 use Rattle.schemars_documents.specs.ContractOf.{contract_of}
 use Rattle.schemars_templates.specs.View.{template_view}
 use Rattle.schemars_templates.specs.OfShape.{bare_units, one_of, choice_of, external_template}
-use Rattle.schemars_compound.proofs.Units.{units_of, units_alone, units_lead, seen}
+use Rattle.schemars_compound.proofs.Units.{units_alone, units_lead, seen}
 use Rattle.schemars_compound.proofs.enums.external_template.Goals as goal
 
 pub returns-then-is_empty-3 : goal.returns-then-is_empty-3
