@@ -1,0 +1,7 @@
+pub mod Unplaced
+mod Views
+mod Members
+mod Forms
+mod Listed
+mod Characters
+pub mod Accepting

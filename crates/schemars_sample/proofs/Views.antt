@@ -1,0 +1,23 @@
+-- What the examples with members are seen as.
+use Rattle.std.proofs.Common.{◌≡◌, [], rules, String, Global, Vec}
+use Rattle.std.specs.Prelude.{string_bytes}
+use Rattle.schemars_sample.specs.Example.{example_of, entries_view, struct, collected_map, struct_variant}
+use Rattle.schemars_sample.specs.declared.sample.Sample.{Sample}
+use Rattle.schemars_sample.specs.declared.sample.Sample.{Map, CollectMap, Struct, StructVariant}
+use Rattle.schemars_sample.specs.declared.sample.Sample.{the_lemmas}
+
+pub example_of-Map : (v : Vec (String Global × Sample) Global) → example_of (Map v) ≡ struct [] (entries_view v.items)
+example_of-Map v = search (rules, the_lemmas)
+
+pub example_of-CollectMap : (v : Vec (String Global × Sample) Global) → example_of (CollectMap v) ≡ collected_map (entries_view v.items)
+example_of-CollectMap v = search (rules, the_lemmas)
+
+pub example_of-Struct :
+    (name : String Global) (v : Vec (String Global × Sample) Global)
+    → example_of (Struct name v) ≡ struct (string_bytes name) (entries_view v.items)
+example_of-Struct name v = search (rules, the_lemmas)
+
+pub example_of-StructVariant :
+    (name : String Global) (v : Vec (String Global × Sample) Global)
+    → example_of (StructVariant name v) ≡ struct_variant (string_bytes name) (entries_view v.items)
+example_of-StructVariant name v = search (rules, the_lemmas)

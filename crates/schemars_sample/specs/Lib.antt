@@ -1,0 +1,5 @@
+-- The definitions that contracts cite.
+pub mod Accepted
+pub mod Example
+pub mod SampleJson
+pub mod SampleSchema

@@ -1,0 +1,256 @@
+//! The schemas of example values.
+ghost use Rattle.std.specs.Prelude.{◌≡◌, IfOk, OnOk, [], map, option_map};
+ghost use Rattle.serde_json.specs.Data.{object, no_members};
+ghost use Rattle.serde_json.specs.View.{view, items_view};
+ghost use Rattle.schemars_json.specs.Json.{is_among};
+ghost use Rattle.schemars_schema.specs.SchemaData.{inserted};
+ghost use Rattle.schemars_rewrite.specs.AllowNull.{allow_null};
+ghost use Rattle.schemars_types.specs.Meaning.{Serialize};
+ghost use Rattle.schemars_documents.specs.Documents.{bytes_document};
+ghost use Rattle.schemars_sample.specs.Accepted.{AcceptsExample};
+ghost use Rattle.schemars_sample.specs.Example.{example_of, examples_view, entries_view};
+ghost use Rattle.schemars_sample.specs.SampleSchema as spec;
+ghost use Rattle.schemars_sample.specs.SampleSchema.{sample_schema, item_schemas, entry_schemas, value_schemas};
+ghost use Rattle.schemars_sample.specs.SampleSchema.{one_beside, choice_of, shared_by, with_name, sample_root};
+
+use crate::json::json_of;
+use crate::sample::Sample;
+use schemars_documents::Contract;
+use schemars_documents::documents::{bytes_document, char_document, type_alone};
+use schemars_documents::integers::int_document;
+use schemars_rewrite::builders::allow_null;
+use schemars_schema::{Schema, json_eq};
+use schemars_types::IntKind;
+use serde_json::{Map, Value};
+use std::alloc::{AllocError, Global};
+
+/// The root document of an example, without definitions: its schema as an object, with the names of structs as titles,
+/// the example itself where it has a JSON form, and the meta-schema.
+///
+/// Refusal: want of memory.
+pub fn root_document(
+    alloc: Global,
+    sample: &Sample,
+    meta_schema: Option<&str>,
+) -> Result<Schema, AllocError>
+    ensures document { IfOk result (λ s. s
+        ≡ sample_root (option_map (λ uri. uri.now) meta_schema.entry) (example_of sample.now)) }
+    ensures accepts { IfOk result (AcceptsExample (example_of sample.now)) }
+{
+    let mut schema = titled_schema(alloc, sample)?;
+    let _ = schema.ensure_object(alloc)?;
+    if let Some(example) = json_of(alloc, sample)? {
+        insert(
+            alloc,
+            &mut schema,
+            "examples",
+            Value::Array(vec![in alloc; example]?),
+        )?;
+    }
+    if let Some(uri) = meta_schema {
+        insert(
+            alloc,
+            &mut schema,
+            "$schema",
+            Value::try_from_str(alloc, uri)?,
+        )?;
+    }
+    Ok(schema)
+}
+
+fn titled_schema(alloc: Global, sample: &Sample) -> Result<Schema, AllocError>
+    ensures { IfOk result (λ s. s ≡ spec.titled_schema (example_of sample.now)) }
+{
+    match sample {
+        Sample::NewtypeStruct(name, inner) => {
+            with_name(alloc, name.as_str(), titled_schema(alloc, inner)?)
+        }
+        Sample::TupleStruct(name, _) => {
+            with_name(alloc, name.as_str(), schema_of(alloc, sample)?)
+        }
+        Sample::Struct(name, _) => with_name(alloc, name.as_str(), schema_of(alloc, sample)?),
+        _ => schema_of(alloc, sample),
+    }
+}
+
+// The schema with this title, unless it is empty.
+fn with_name(alloc: Global, name: &str, schema: Schema) -> Result<Schema, AllocError>
+    ensures { IfOk result (λ s. s ≡ with_name name.now schema) }
+{
+    let mut schema = schema;
+    if !name.is_empty() {
+        insert(
+            alloc,
+            &mut schema,
+            "title",
+            Value::try_from_str(alloc, name)?,
+        )?;
+    }
+    Ok(schema)
+}
+
+#[cycle(schemas)]
+fn schema_of(alloc: Global, sample: &Sample) -> Result<Schema, AllocError>
+    ensures { IfOk result (λ s. s ≡ sample_schema (example_of sample.now)) }
+{
+    match sample {
+        Sample::Bool(_) => type_alone(alloc, "boolean"),
+        Sample::Int(_) | Sample::UInt(_) => type_alone(alloc, "integer"),
+        Sample::Char(_) => char_document(alloc),
+        Sample::Str(_) | Sample::CollectStr(_) => type_alone(alloc, "string"),
+        Sample::Bytes(_) => bytes_schema(alloc),
+        Sample::UnitStruct(_) => type_alone(alloc, "null"),
+        Sample::None | Sample::Unit => Ok(Schema::from(true)),
+        Sample::UnitVariant(_) | Sample::NewtypeVariant(_, _) | Sample::TupleVariant(_, _) => {
+            Ok(Schema::from(true))
+        }
+        Sample::StructVariant(_, _) => Ok(Schema::from(true)),
+        Sample::Some(inner) => {
+            let mut schema = schema_of(alloc, inner)?;
+            allow_null(alloc, &mut schema)?;
+            Ok(schema)
+        }
+        Sample::NewtypeStruct(_, inner) => schema_of(alloc, inner),
+        Sample::Seq(items) => list_schema(alloc, items),
+        Sample::Tuple(parts) | Sample::TupleStruct(_, parts) => tuple_schema(alloc, parts),
+        Sample::Map(entries) => struct_schema(alloc, entries),
+        Sample::Struct(_, entries) => struct_schema(alloc, entries),
+        Sample::CollectMap(entries) => map_schema(alloc, entries),
+    }
+}
+
+#[cycle(schemas)]
+fn list_schema(alloc: Global, items: &[Sample]) -> Result<Schema, AllocError>
+    ensures { IfOk result (λ s. s ≡ spec.list_schema (one_beside [] (item_schemas (examples_view items.now)))) }
+{
+    let mut schema = type_alone(alloc, "array")?;
+    insert(alloc, &mut schema, "items", schema_of_each(alloc, items)?)?;
+    Ok(schema)
+}
+
+// A schema that each of the items has, or one for all of them.
+#[cycle(schemas)]
+fn schema_of_each(alloc: Global, items: &[Sample]) -> Result<Value, AllocError>
+    ensures { IfOk result (λ v. view v ≡ one_beside [] (item_schemas (examples_view items.now))) }
+{
+    let mut seen = Vec::new(alloc);
+    for item in items {
+        let schema = schema_of(alloc, item)?.to_value();
+        if schema.as_bool() == Some(true) {
+            return Ok(Value::Bool(true));
+        }
+        if !is_among(&seen, &schema) {
+            serde_json::push(&mut seen, schema)?;
+        }
+    }
+    choice_of(alloc, seen)
+}
+
+#[cycle(schemas)]
+fn tuple_schema(alloc: Global, parts: &[Sample]) -> Result<Schema, AllocError>
+    ensures { IfOk result (λ s. s ≡ spec.tuple_schema (item_schemas (examples_view parts.now))) }
+{
+    let mut schemas = Vec::new(alloc);
+    for part in parts {
+        serde_json::push(&mut schemas, schema_of(alloc, part)?.to_value())?;
+    }
+    tuple_of(alloc, schemas)
+}
+
+#[cycle(schemas)]
+fn struct_schema(alloc: Global, entries: &[(String, Sample)]) -> Result<Schema, AllocError>
+    ensures { IfOk result (λ s. s ≡ spec.struct_schema (entry_schemas (entries_view entries.now) no_members)) }
+{
+    let mut properties = Map::new(alloc);
+    for (key, sample) in entries {
+        let schema = schema_of(alloc, sample)?;
+        serde_json::put(&mut properties, alloc, key.as_str(), schema.to_value())?;
+    }
+    let mut schema = type_alone(alloc, "object")?;
+    insert(alloc, &mut schema, "properties", Value::Object(properties))?;
+    Ok(schema)
+}
+
+#[cycle(schemas)]
+fn map_schema(alloc: Global, entries: &[(String, Sample)]) -> Result<Schema, AllocError>
+    ensures { IfOk result (λ s. s ≡ spec.map_schema (shared_by (value_schemas (entries_view entries.now)))) }
+{
+    let mut schema = type_alone(alloc, "object")?;
+    insert(
+        alloc,
+        &mut schema,
+        "additionalProperties",
+        shared_schema(alloc, entries)?,
+    )?;
+    Ok(schema)
+}
+
+// The schema that all of the values have, or else `true`.
+#[cycle(schemas)]
+fn shared_schema(alloc: Global, entries: &[(String, Sample)]) -> Result<Value, AllocError>
+    ensures { IfOk result (λ v. view v ≡ shared_by (value_schemas (entries_view entries.now))) }
+{
+    let mut shared = None;
+    for (_, sample) in entries {
+        let schema = schema_of(alloc, sample)?.to_value();
+        match &shared {
+            None => shared = Some(schema),
+            Some(first) => {
+                if !json_eq(first, &schema) {
+                    return Ok(Value::Bool(true));
+                }
+            }
+        }
+    }
+    Ok(shared.unwrap_or(Value::Bool(true)))
+}
+
+fn is_among(schemas: &[Value], schema: &Value) -> bool
+    ensures { result ≡ is_among (items_view schemas.now) (view schema.now) }
+{
+    for other in schemas {
+        if json_eq(other, schema) {
+            return true;
+        }
+    }
+    false
+}
+
+// No schema says nothing, and of several one has to fit.
+fn choice_of(alloc: Global, schemas: Vec<Value>) -> Result<Value, AllocError>
+    ensures { IfOk result (λ v. view v ≡ choice_of (map view schemas.items)) }
+{
+    if schemas.len() > 1 {
+        let mut members = Map::new(alloc);
+        serde_json::put(&mut members, alloc, "anyOf", Value::Array(schemas))?;
+        return Ok(Value::Object(members));
+    }
+    let mut schemas = schemas;
+    Ok(schemas.pop().unwrap_or(Value::Bool(true)))
+}
+
+fn tuple_of(alloc: Global, parts: Vec<Value>) -> Result<Schema, AllocError>
+    ensures { IfOk result (λ s. s ≡ spec.tuple_schema (map view parts.items)) }
+{
+    let count = parts.len();
+    let mut schema = type_alone(alloc, "array")?;
+    insert(alloc, &mut schema, "prefixItems", Value::Array(parts))?;
+    insert(alloc, &mut schema, "maxItems", Value::from(count))?;
+    insert(alloc, &mut schema, "minItems", Value::from(count))?;
+    Ok(schema)
+}
+
+fn bytes_schema(alloc: Global) -> Result<Schema, AllocError>
+    ensures { IfOk result (λ s. s ≡ bytes_document Serialize) }
+{
+    let byte = int_document(alloc, IntKind::U8)?;
+    bytes_document(alloc, Contract::Serialize, byte)
+}
+
+fn insert(alloc: Global, schema: &mut Schema, key: &str, value: Value) -> Result<(), AllocError>
+    ensures { OnOk result (schema.new ≡ inserted key.now (view value) schema.old) }
+{
+    let key = String::from_str(alloc, key)?;
+    let _ = schema.insert(alloc, key, value)?;
+    Ok(())
+}
