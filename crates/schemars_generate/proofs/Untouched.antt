@@ -1,12 +1,15 @@
 -- A list without transforms changes nothing and refuses nothing.
 use Rattle.std.proofs.Common.{◌≡◌, ◌⊎◌, inl, inr, ℕ, List, [], ◌∷◌, Vec, Ok, Err, Global, sym, subst}
-use Rattle.serde_json.specs.Data.{Data}
-use Rattle.schemars_headline.specs.State.{State}
+use Rattle.serde_json.specs.Data.{Data, Members}
+use Rattle.schemars_headline.specs.Headline.{IsDraftPath}
+use Rattle.schemars_headline.specs.State.{State, Settings, stripped}
 use Rattle.schemars_walk.specs.Walk.{Answer, Step}
 use Rattle.schemars_walk.specs.Order.{InOrder}
 use Rattle.schemars_transforms.specs.Member.{OfMember}
 use Rattle.schemars_transforms.specs.declared.gen_transform.GenTransform.{GenTransform}
 use Rattle.schemars_transforms.proofs.Laws.{no_transforms}
+use Rattle.schemars_sample.specs.Example.{Example}
+use Rattle.schemars_roots.specs.Samples.{IsSampleRefused, IsSampleRefusedThrough}
 use Rattle.schemars_roots.specs.Through.{IsThrough, IsTurnedDown, IsRefused, IsRootRefused}
 use Rattle.schemars_error.specs.declared.error.GenerateError.{GenerateError}
 use Rattle.schemars_error.specs.declared.error.GenerateError.TheVariants.{OutOfMemory, UnknownType}
@@ -35,3 +38,16 @@ refused_untouched Q ts us s n e none (inr (inl h)) = inr h.0
 refused_untouched Q ts us s n e none (inr (inr h)) =
     let none_refused = (in_order_none Q ts.items us.items h.1 h.2 (Err h.0) none h.4).0 in
     cc
+
+pub sample_untouched : {O : Type 0} (Q : Step O) (ts us : Vec (GenTransform O) Global) (s : Settings) (definitions : Members)
+    (x : Example) (e : GenerateError) → ts.items ≡ [] → IsSampleRefusedThrough (ApplyInOrder Q) ts us s definitions x e
+    → IsSampleRefused s definitions x e
+sample_untouched Q ts us s definitions x e none (inl h) = h.0
+sample_untouched Q ts us s definitions x e none (inr h) =
+    let none_refused = (in_order_none Q ts.items us.items h.1 h.2 (Err h.0) none h.4).0 in
+    cc
+
+pub sample_memory : (s : Settings) (definitions : Members) (x : Example) (e : GenerateError)
+    → IsDraftPath (stripped s.definitions_path) → IsSampleRefused s definitions x e → e ≡ OutOfMemory
+sample_memory s definitions x e path (inl memory) = memory
+sample_memory s definitions x e path (inr h) = absurd (h.1.other_path path)

@@ -3,6 +3,7 @@
 
 pub mod builders;
 pub mod generate;
+mod samples;
 mod settings;
 
 pub use generate::{SchemaGenerator, SchemaSettings};

@@ -70,7 +70,7 @@ whole_put_members (member k d notes) ms h e =
     let parts = either_false (has_float d) (members_have_float notes) h in
     whole_put_members notes (put k d ms) parts.1 (members_have_float-put k d ms parts.0 e)
 
-whole_members_in : (s : Data) → IsWhole s → members_have_float (members_in s) ≡ false
+pub whole_members_in : (s : Data) → IsWhole s → members_have_float (members_in s) ≡ false
 whole_members_in (boolean true) h = refl
 whole_members_in (boolean false) h = refl
 whole_members_in (object ms) h = h
@@ -164,7 +164,7 @@ whole_null_in_const (Some c) ms h e = go (is_null c)
     go false = members_have_float-put (codes "enum") (array (item c (item null no_items))) (without (codes "const") ms) both
         (whole_without (codes "const") ms e)
 
-whole_allow_null : (s : Data) → IsWhole s → IsWhole (allow_null s)
+pub whole_allow_null : (s : Data) → IsWhole s → IsWhole (allow_null s)
 whole_allow_null (boolean true) h = refl
 whole_allow_null (boolean false) h = refl
 whole_allow_null (object ms) h = go (is_null_choice (object ms)) (is_combined (object ms))
@@ -191,7 +191,7 @@ whole_keyed [] ds ms h e = e
 whole_keyed (k ∷ ks) [] ms h e = e
 whole_keyed (k ∷ ks) (d ∷ ds) ms h e = whole_keyed ks ds (put k d ms) h.1 (members_have_float-put k d ms h.0 e)
 
-whole_items : (ds : List Data) → AllByRecursion IsWhole ds → items_have_float (items_of ds) ≡ false
+pub whole_items : (ds : List Data) → AllByRecursion IsWhole ds → items_have_float (items_of ds) ≡ false
 whole_items [] h = refl
 whole_items (d ∷ ds) h = rw h.0 (whole_items ds h.1)
 
@@ -295,7 +295,7 @@ mutual
 
 -- ---- each shape
 
-bound_whole : (z : ℤ) → is_float (of_integer z) ≡ false
+pub bound_whole : (z : ℤ) → is_float (of_integer z) ≡ false
 bound_whole (pos n) = refl
 bound_whole (negsuc n) = refl
 
@@ -495,7 +495,7 @@ whole_with_title name ms e = go (is_some (get_member (codes "title") ms))
     go true = e
     go false = members_have_float-put (codes "title") (string name) ms refl e
 
-whole_with_meta_schema : (uri : Option Text) (ms : Members) → members_have_float ms ≡ false
+pub whole_with_meta_schema : (uri : Option Text) (ms : Members) → members_have_float ms ≡ false
     → members_have_float (with_meta_schema uri ms) ≡ false
 whole_with_meta_schema None ms e = e
 whole_with_meta_schema (Some uri) ms e = members_have_float-put (codes "$schema") (string uri) ms refl e

@@ -1,2 +1,4 @@
 pub mod Answered
 pub mod Untransformed
+mod Samples
+mod SampleWhole

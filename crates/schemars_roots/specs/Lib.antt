@@ -1,3 +1,4 @@
 pub mod Answers
+pub mod Samples
 pub mod Settings
 pub mod Through

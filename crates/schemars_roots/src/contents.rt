@@ -20,14 +20,17 @@ ghost use Rattle.schemars_templates.specs.View.{ask_of};
 ghost use Rattle.schemars_headline.specs.State.{Settings, path_of, HasOwnDefinitions, ReferencesNameKeys};
 ghost use Rattle.schemars_roots.specs.Answers.{IsAnswerOf, IsNeededFor};
 ghost use Rattle.schemars_error.specs.Refusals.{HasFault};
+ghost use Rattle.schemars_roots.specs.Samples.{IsSampleRoot, IsSampleRefusedThrough};
 ghost use Rattle.schemars_roots.specs.Settings.{settings_of, state_with};
+ghost use Rattle.schemars_sample.specs.Example.{example_of};
 ghost use Rattle.schemars_roots.specs.Through.{IsThrough, IsTurnedDown, AreThrough, AreTurnedDown};
 ghost use Rattle.schemars_roots.specs.Through.{IsUntransformed, IsUntransformedCall, IsRootRefused};
 
-use crate::document::{answer_of, last_document, root_document, row_asked};
+use crate::document::{answer_of, last_document, root_document, row_asked, sample_document};
 use crate::settings::DocumentSettings;
 use schemars_error::GenerateError;
 use schemars_naming::work::Work;
+use schemars_sample::Sample;
 use schemars_schema::Schema;
 use schemars_templates::template::Ask;
 use schemars_types::{TypeNo, Types};
@@ -348,6 +351,48 @@ impl Contents {
     {
         self.known(n)?;
         let mut document = self.last_root(alloc, settings, n)?;
+        transforms.transform(alloc, &mut document)?;
+        Ok(document)
+    }
+
+    /// The root document of an example, with the definitions, through the transforms.
+    ///
+    /// Refusals: `DefinitionsPath` where there are definitions that can't be placed at the path, those of the transforms,
+    /// and want of memory.
+    pub fn sample_root<T: Transform>(
+        &self,
+        alloc: Global,
+        settings: &DocumentSettings<'_>,
+        transforms: &mut T,
+        sample: &Sample,
+    ) -> Result<Schema, GenerateError>
+        ensures root { IfOk result (IsThrough T.makes transforms.old transforms.new
+            (IsSampleRoot (settings_of settings.now) self.now.definitions (example_of sample.now))) }
+        ensures refused { IfErr result (IsSampleRefusedThrough T.makes transforms.old transforms.new
+            (settings_of settings.now) self.now.definitions (example_of sample.now)) }
+    {
+        let definitions = self.work.copy_definitions()?;
+        let mut document = sample_document(alloc, settings, sample, definitions)?;
+        transforms.transform(alloc, &mut document)?;
+        Ok(document)
+    }
+
+    /// As `sample_root`, with the contents used up.
+    pub fn into_sample_root<T: Transform>(
+        self,
+        alloc: Global,
+        settings: &DocumentSettings<'_>,
+        transforms: &mut T,
+        sample: &Sample,
+    ) -> Result<Schema, GenerateError>
+        ensures root { IfOk result (IsThrough T.makes transforms.old transforms.new
+            (IsSampleRoot (settings_of settings.now) self.definitions (example_of sample.now))) }
+        ensures refused { IfErr result (IsSampleRefusedThrough T.makes transforms.old transforms.new
+            (settings_of settings.now) self.definitions (example_of sample.now)) }
+    {
+        let Contents { mut work, .. } = self;
+        let definitions = work.take_definitions(alloc);
+        let mut document = sample_document(alloc, settings, sample, definitions)?;
         transforms.transform(alloc, &mut document)?;
         Ok(document)
     }

@@ -10,7 +10,9 @@ ghost use Rattle.schemars_naming.specs.Naming.{IsOneToOne};
 ghost use Rattle.schemars_documents.specs.PlainTable.{IsPlainTable};
 ghost use Rattle.schemars_build.specs.Reached.{AreReached};
 ghost use Rattle.schemars_headline.specs.Keys.{HasKeysOnce};
-ghost use Rattle.schemars_roots.specs.Settings.{state_of};
+ghost use Rattle.schemars_roots.specs.Settings.{settings_of, state_of};
+ghost use Rattle.schemars_roots.specs.Samples.{IsSampleRoot, IsSampleRefused};
+ghost use Rattle.schemars_sample.specs.Example.{example_of};
 ghost use Rattle.schemars_roots.specs.Through.{IsThrough, IsRefusedThrough, IsMade};
 ghost use Rattle.schemars_headline.specs.State.{plan_of as state_plan, work_of};
 ghost use Rattle.schemars_templates.specs.View.{ask_of};
@@ -23,6 +25,7 @@ use schemars_build::build::{Plan, answer, own_document};
 use schemars_documents::documents::make_root;
 use schemars_error::GenerateError;
 use schemars_naming::work::Work;
+use schemars_sample::Sample;
 use schemars_schema::Schema;
 use schemars_templates::template::Ask;
 use schemars_types::{TypeNo, Types};
@@ -222,6 +225,24 @@ fn titled_document(
         settings.meta_schema,
     )?;
     Ok(schema)
+}
+
+// The root document of an example before transforms, with these definitions.
+pub(crate) fn sample_document(
+    alloc: Global,
+    settings: &DocumentSettings<'_>,
+    sample: &Sample,
+    definitions: Map<String, Value>,
+) -> Result<Schema, GenerateError>
+    ensures root { IfOk result
+        (IsSampleRoot (settings_of settings.now) (members_view definitions.entries) (example_of sample.now)) }
+    ensures refused { IfErr result
+        (IsSampleRefused (settings_of settings.now) (members_view definitions.entries) (example_of sample.now)) }
+{
+    let own = schemars_sample::root_document(alloc, sample, settings.meta_schema)?;
+    let path = stripped(settings.definitions_path);
+    let document = place(alloc, path, own, definitions)?;
+    Ok(document)
 }
 
 // The document with the definitions at the path, if there are any.

@@ -1,0 +1,67 @@
+use Rattle.std.proofs.Common.{◌≡◌, Vec, Global, IfOk, IfErr, subst}
+use Rattle.schemars_headline.specs.Headline.{IsDraftPath}
+use Rattle.schemars_headline.specs.State.{Settings}
+use Rattle.schemars_sample.specs.Example.{example_of}
+use Rattle.schemars_transforms.specs.declared.gen_transform.GenTransform.{GenTransform}
+use Rattle.schemars_roots.specs.Samples.{IsSampleRoot, IsSampleRefusedThrough}
+use Rattle.schemars_roots.specs.Through.{IsThrough}
+use Rattle.std.proofs.lemmas.Result.{IfOk-weaker, IfErr-weaker}
+use Rattle.schemars_generate.specs.Settings.{settings_of, ApplyInOrder}
+use Rattle.schemars_generate.proofs.Untouched.{untouched, sample_untouched, sample_memory}
+use Rattle.schemars_generate.proofs.generate.SchemaGenerator.into_root_schema_for_value.Goals as goal
+
+abbrev Ts : Type 0 → Type 0
+Ts O = Vec (GenTransform O) Global
+
+pub returns-clause-root : goal.returns-clause-root
+returns-clause-root g c =
+    let r = c.into_sample_root.result in
+    let old = c.args.self.contents in
+    let u = c.into_sample_root.new.transforms in
+    let Q = g.O.Transform.makes in
+    let before = c.args.self.settings in
+    let P : Settings → Ts g.row.O.Denot → Type 0 =
+    λ x t. IfOk r (IsThrough (ApplyInOrder Q) t u (IsSampleRoot x old.definitions (example_of c.args.value.now))) in
+    let told = subst (λ x. P x c.replace-transforms.result) c.document-document.ensures c.into_sample_root.ensures.root in
+    IfOk-weaker r _ _ (λ d h. (u, h))
+    (subst (λ t. P (settings_of before) t) c.replace-transforms.ensures.value told)
+
+pub returns-clause-refused : goal.returns-clause-refused
+returns-clause-refused g c =
+    let r = c.into_sample_root.result in
+    let old = c.args.self.contents in
+    let u = c.into_sample_root.new.transforms in
+    let Q = g.O.Transform.makes in
+    let before = c.args.self.settings in
+    let P : Settings → Ts g.row.O.Denot → Type 0 =
+    λ x t. IfErr r (IsSampleRefusedThrough (ApplyInOrder Q) t u x old.definitions (example_of c.args.value.now)) in
+    let told = subst (λ x. P x c.replace-transforms.result) c.document-document.ensures c.into_sample_root.ensures.refused in
+    IfErr-weaker r _ _ (λ e h. (u, h))
+    (subst (λ t. P (settings_of before) t) c.replace-transforms.ensures.value told)
+
+pub returns-clause-untransformed : goal.returns-clause-untransformed
+returns-clause-untransformed g c =
+    let r = c.into_sample_root.result in
+    let Q = g.O.Transform.makes in
+    let before = c.args.self.settings in
+    λ none.
+    IfOk-weaker r _ _ (λ d h. untouched Q before.transforms h.0 _ d none h.1) (returns-clause-root g c)
+
+pub returns-clause-refused_untransformed : goal.returns-clause-refused_untransformed
+returns-clause-refused_untransformed g c =
+    let r = c.into_sample_root.result in
+    let old = c.args.self.contents in
+    let Q = g.O.Transform.makes in
+    let before = c.args.self.settings in
+    λ none.
+    IfErr-weaker r _ _ (λ e h. sample_untouched Q before.transforms h.0 (settings_of before) old.definitions
+    (example_of c.args.value.now) e none h.1) (returns-clause-refused g c)
+
+pub returns-clause-only_memory : goal.returns-clause-only_memory
+returns-clause-only_memory g c =
+    let r = c.into_sample_root.result in
+    let before = c.args.self.settings in
+    let old = c.args.self.contents in
+    λ none path.
+    IfErr-weaker r _ _ (λ e h. sample_memory (settings_of before) old.definitions (example_of c.args.value.now) e path h)
+    (returns-clause-refused_untransformed g c none)

@@ -1,0 +1,79 @@
+//! Root documents from example values.
+ghost use Rattle.std.specs.Prelude.{[], ◌≡◌, IfOk, IfErr};
+ghost use Rattle.schemars_headline.specs.Headline.{IsDraftPath};
+ghost use Rattle.schemars_headline.specs.State.{path_of};
+ghost use Rattle.schemars_roots.specs.Samples.{IsSampleRoot, IsSampleRefused, IsSampleRefusedThrough};
+ghost use Rattle.schemars_roots.specs.Through.{IsThrough};
+ghost use Rattle.schemars_sample.specs.Example.{example_of};
+ghost use Rattle.schemars_generate.specs.Settings.{settings_of, state, ApplyInOrder};
+
+use crate::generate::SchemaGenerator;
+use schemars_error::GenerateError;
+use schemars_sample::Sample;
+use schemars_schema::Schema;
+use schemars_walk::Transform;
+use std::alloc::Global;
+use std::mem;
+
+impl<O: Transform + Drop> SchemaGenerator<O> {
+    /// The root document of an example, with the definitions, through the transforms: a schema that is made from the values
+    /// in it. Before the transforms it accepts the example, where the definitions stand at the path of a draft. The example
+    /// itself stands under `examples`, unless a whole number in it is not from -2^63 to 2^64 - 1.
+    ///
+    /// Refusals: `DefinitionsPath` where there are definitions that can't be placed at the path, those of the transforms,
+    /// and want of memory.
+    pub fn root_schema_for_value(
+        &mut self,
+        alloc: Global,
+        value: &Sample,
+    ) -> Result<Schema, GenerateError>
+        ensures untransformed { self.old.settings.transforms.items ≡ [] → IfOk result
+            (IsSampleRoot (settings_of self.old.settings) self.old.contents.definitions (example_of value.now)) }
+        ensures root { IfOk result (IsThrough (ApplyInOrder O.makes) self.old.settings.transforms
+            self.new.settings.transforms
+            (IsSampleRoot (settings_of self.old.settings) self.old.contents.definitions (example_of value.now))) }
+        ensures refused { IfErr result (IsSampleRefusedThrough (ApplyInOrder O.makes) self.old.settings.transforms
+            self.new.settings.transforms (settings_of self.old.settings) self.old.contents.definitions
+            (example_of value.now)) }
+        ensures refused_untransformed { self.old.settings.transforms.items ≡ [] → IfErr result
+            (IsSampleRefused (settings_of self.old.settings) self.old.contents.definitions (example_of value.now)) }
+        ensures only_memory { self.old.settings.transforms.items ≡ [] → IsDraftPath (path_of (state self.old))
+            → IfErr result (λ e. e ≡ GenerateError.OutOfMemory) }
+        ensures rest { state self.new ≡ state self.old }
+    {
+        let mut transforms = mem::replace(&mut self.settings.transforms, Vec::new(alloc));
+        let settings = self.settings.document();
+        let answer = self
+            .contents
+            .sample_root(alloc, &settings, &mut transforms, value);
+        self.settings.transforms = transforms;
+        answer
+    }
+
+    /// As `root_schema_for_value`, with the generator used up.
+    pub fn into_root_schema_for_value(
+        self,
+        alloc: Global,
+        value: &Sample,
+    ) -> Result<Schema, GenerateError>
+        ensures untransformed { self.settings.transforms.items ≡ [] → IfOk result
+            (IsSampleRoot (settings_of self.settings) self.contents.definitions (example_of value.now)) }
+        ensures root { IfOk result (λ d. (after : _) × IsThrough (ApplyInOrder O.makes) self.settings.transforms after
+            (IsSampleRoot (settings_of self.settings) self.contents.definitions (example_of value.now)) d) }
+        ensures refused { IfErr result (λ e. (after : _) × IsSampleRefusedThrough (ApplyInOrder O.makes)
+            self.settings.transforms after (settings_of self.settings) self.contents.definitions
+            (example_of value.now) e) }
+        ensures refused_untransformed { self.settings.transforms.items ≡ [] → IfErr result
+            (IsSampleRefused (settings_of self.settings) self.contents.definitions (example_of value.now)) }
+        ensures only_memory { self.settings.transforms.items ≡ [] → IsDraftPath (path_of (state self))
+            → IfErr result (λ e. e ≡ GenerateError.OutOfMemory) }
+    {
+        let SchemaGenerator {
+            mut settings,
+            contents,
+        } = self;
+        let mut transforms = mem::replace(&mut settings.transforms, Vec::new(alloc));
+        let document = settings.document();
+        contents.into_sample_root(alloc, &document, &mut transforms, value)
+    }
+}
