@@ -17,7 +17,7 @@ use crate::cases::{Asked, work_cases};
 use std::{fs, io};
 
 // The files, and whom their cases ask.
-const FILES: [(&str, Asked); 11] = [
+const FILES: [(&str, Asked); 12] = [
     ("rows.tsv", Asked::Program),
     ("structs.tsv", Asked::Program),
     ("enums.tsv", Asked::Program),
@@ -27,6 +27,7 @@ const FILES: [(&str, Asked); 11] = [
     ("corners.tsv", Asked::Program),
     ("upstream.tsv", Asked::Program),
     ("damaged.tsv", Asked::Program),
+    ("samples.tsv", Asked::Program),
     ("calls.tsv", Asked::Libraries),
     ("transforms.tsv", Asked::Libraries),
 ];

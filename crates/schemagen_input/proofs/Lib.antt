@@ -1,3 +1,5 @@
 -- The lemmas of the proofs.
 pub mod Reading
 mod Examples
+mod Samples
+mod SampleJson

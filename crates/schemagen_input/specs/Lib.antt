@@ -1,3 +1,4 @@
 -- The definitions that contracts cite.
 pub mod Input
 pub mod Reading
+pub mod SampleInput

@@ -19,9 +19,10 @@ use Rattle.schemagen_run.specs.declared.fault.Fault.TheVariants.{Refused}
 use Rattle.schemagen_run.specs.declared.fault.TheConstants.{OUT_OF_MEMORY, DEFINITIONS_PATH, NOT_JSON, BAD_TABLE, WRITE}
 use Rattle.schemagen_run.specs.Fault.{IsReadFault, IsTableFault, IsLineFault, IsOutside}
 use Rattle.schemagen_input.specs.Input.{input_of}
-use Rattle.schemagen_run.specs.declared.run.Asked.{Asked}
+use Rattle.schemagen_run.specs.declared.words.Asked.{Asked}
 use Rattle.std.specs.Prelude.{MatchOption}
-use Rattle.schemagen_run.specs.Run.{AskFor, AreKnown, AreFlagsFor, AreKnownFlags, IsLineOf}
+use Rattle.schemagen_run.specs.Words.{AskFor, AskForTypes, AskForSample, AreFlagsFor, AreKnownFlags}
+use Rattle.schemagen_run.specs.Run.{IsLineOf}
 use Rattle.schemagen_run.specs.Run.{GivesAll, IsNoJson, IsBadTable, IsTableText, IsAcceptedText, IsNotedText}
 use Rattle.schemagen_run.specs.Run.{IsFaultyTable, Tells}
 use Rattle.schemagen_run.proofs.Tables.{both}
@@ -46,10 +47,24 @@ two_words (u ∷ v ∷ []) a b two first second types =
       rw (is_word a u (codes "types") first parts.0, is_word b v (codes "2020-12") second parts.1) refl,
     )
 
+pub sample_words : (words : List (String Global)) (a b : String Global) → length words ≡ 2 → a ≡ get_or words 0 a → b ≡ get_or words 1 b
+    → (bytes_eq (string_bytes a) (codes "sample") ≡ true → bytes_eq (string_bytes b) (codes "2020-12") ≡ true → AskForSample words)
+    × (AskForSample words → bytes_eq (string_bytes b) (codes "2020-12") ≡ true)
+sample_words [] a b two first second = absurd (omega arith)
+sample_words (u ∷ []) a b two first second = absurd (omega arith)
+sample_words (u ∷ v ∷ w ∷ ws) a b two first second = absurd (omega arith)
+sample_words (u ∷ v ∷ []) a b two first second = (
+  λ command dialect. rw (is_word a u (codes "sample") first command, is_word b v (codes "2020-12") second dialect) refl,
+  λ asks. (bytes_eq-Decides (string_bytes b) (codes "2020-12")).1 (ap string_bytes second ∙ last_of asks),
+)
+  where
+    last_of : {s t p q : List ℕ} → s ∷ t ∷ [] ≡ p ∷ q ∷ [] → t ≡ q
+    last_of same = cc
+
 pub three_words : (words : List (String Global)) (a b c : String Global) → length words ≡ 3 → a ≡ get_or words 0 a → b ≡ get_or words 1 b
     → c ≡ get_or words 2 c → Types a b ≡ true → (r : Option Asked)
     → MatchOption r (¬ (AreKnownFlags (string_bytes c ∷ []))) (λ asked. AreFlagsFor asked.contract asked.inlines (string_bytes c ∷ []))
-    → MatchOption r (¬ (AreKnown words)) (λ asked. AskFor words asked)
+    → MatchOption r (¬ (AskForTypes words)) (λ asked. AskFor words asked)
 three_words [] a b c three first second third types r told = absurd (omega arith)
 three_words (u ∷ []) a b c three first second third types r told = absurd (omega arith)
 three_words (u ∷ v ∷ []) a b c three first second third types r told = absurd (omega arith)
@@ -61,7 +76,7 @@ three_words (u ∷ v ∷ w ∷ []) a b c three first second third types r told =
 
     by : (r : Option Asked)
         → MatchOption r (¬ (AreKnownFlags (string_bytes c ∷ []))) (λ asked. AreFlagsFor asked.contract asked.inlines (string_bytes c ∷ []))
-        → MatchOption r (¬ (AreKnown (u ∷ v ∷ w ∷ []))) (λ asked. AskFor (u ∷ v ∷ w ∷ []) asked)
+        → MatchOption r (¬ (AskForTypes (u ∷ v ∷ w ∷ []))) (λ asked. AskFor (u ∷ v ∷ w ∷ []) asked)
     by None unknown = λ (asked, (flags, are, is)).
         let flag : flags ≡ string_bytes c ∷ [] = cc in
         unknown (asked, subst (AreFlagsFor asked.contract asked.inlines) flag are)
@@ -76,7 +91,7 @@ pub four_words : (words : List (String Global)) (a b c d : String Global) → le
     → c ≡ get_or words 2 c → d ≡ get_or words 3 d → Types a b ≡ true → (r : Option Asked)
     → MatchOption r (¬ (AreKnownFlags (string_bytes c ∷ string_bytes d ∷ [])))
     (λ asked. AreFlagsFor asked.contract asked.inlines (string_bytes c ∷ string_bytes d ∷ []))
-    → MatchOption r (¬ (AreKnown words)) (λ asked. AskFor words asked)
+    → MatchOption r (¬ (AskForTypes words)) (λ asked. AskFor words asked)
 four_words [] a b c d four first second third fourth types r told = absurd (omega arith)
 four_words (u ∷ []) a b c d four first second third fourth types r told = absurd (omega arith)
 four_words (u ∷ v ∷ []) a b c d four first second third fourth types r told = absurd (omega arith)
@@ -93,7 +108,7 @@ four_words (u ∷ v ∷ w ∷ x ∷ []) a b c d four first second third fourth t
     by : (r : Option Asked)
         → MatchOption r (¬ (AreKnownFlags (string_bytes c ∷ string_bytes d ∷ [])))
         (λ asked. AreFlagsFor asked.contract asked.inlines (string_bytes c ∷ string_bytes d ∷ []))
-        → MatchOption r (¬ (AreKnown (u ∷ v ∷ w ∷ x ∷ []))) (λ asked. AskFor (u ∷ v ∷ w ∷ x ∷ []) asked)
+        → MatchOption r (¬ (AskForTypes (u ∷ v ∷ w ∷ x ∷ []))) (λ asked. AskFor (u ∷ v ∷ w ∷ x ∷ []) asked)
     by None unknown = λ (asked, (flags, are, is)).
         let both_flags : flags ≡ string_bytes c ∷ string_bytes d ∷ [] = cc in
         unknown (asked, subst (AreFlagsFor asked.contract asked.inlines) both_flags are)
@@ -109,7 +124,7 @@ four_words (u ∷ v ∷ w ∷ x ∷ []) a b c d four first second third fourth t
 -- a line has its newline
 pub line_is_some : (asked : Asked) (rows : List Row) (root : ℕ) (line : List ℕ) → IsLineOf asked rows root line
     → 0 < length line
-line_is_some asked rows root line (document, (text, of, ordered, same)) =
+line_is_some asked rows root line (document, of, (text, ordered, same)) =
     subst (λ (t : List ℕ). 0 < length t) (sym same) (ends text)
   where
     ends : (t : List ℕ) → 0 < length (t ++ 10 ∷ [])

@@ -7,7 +7,7 @@ use Rattle.serde_json.specs.Data.{Data, no_members}
 use Rattle.serde_json.specs.Written.{has_float}
 use Rattle.schemars_types.specs.Rows.{Row}
 use Rattle.schemars_types.specs.Faults.{IsAccepted}
-use Rattle.schemagen_run.specs.declared.run.Asked.{Asked}
+use Rattle.schemagen_run.specs.declared.words.Asked.{Asked}
 use Rattle.schemars_error.specs.declared.error.GenerateError.{GenerateError}
 use Rattle.schemars_error.specs.declared.error.GenerateError.TheVariants.{OutOfMemory, UnknownType, DefinitionsPath}
 use Rattle.schemars_error.specs.Refusals.{HasFault}

@@ -3,12 +3,16 @@ use Rattle.std.specs.Prelude.{◌≡◌, ◌⊎◌, ℕ}
 use Rattle.schemagen_run.specs.declared.fault.Fault.{Fault}
 use Rattle.schemagen_run.specs.declared.fault.Fault.TheVariants.{Usage, Refused}
 use Rattle.schemagen_run.specs.declared.fault.TheConstants.{OUT_OF_MEMORY, UNDEFINED_TYPE, REPEATED_NAME, DIRECT_CYCLE}
-use Rattle.schemagen_run.specs.declared.fault.TheConstants.{EMPTY_CYCLE, DEFINITIONS_PATH, NOT_JSON, BAD_TABLE}
+use Rattle.schemagen_run.specs.declared.fault.TheConstants.{EMPTY_CYCLE, DEFINITIONS_PATH, NOT_JSON, BAD_TABLE, NOT_WHOLE}
 use Rattle.schemagen_run.specs.declared.fault.TheConstants.{READ, WRITE}
 
 abbrev pub status_of : Fault → ℕ
 status_of Usage = 2
 status_of (Refused code) = 1
+
+-- while a JSON value is read
+abbrev pub IsValueFault : Fault → Type 0
+IsValueFault e = (e ≡ Refused OUT_OF_MEMORY) ⊎ (e ≡ Refused READ) ⊎ (e ≡ Refused NOT_JSON)
 
 -- while the table is read
 abbrev pub IsReadFault : Fault → Type 0
@@ -26,5 +30,13 @@ IsLineFault e = (e ≡ Refused OUT_OF_MEMORY) ⊎ IsTableFault e ⊎ (e ≡ Refu
 abbrev pub IsOutside : Fault → Type 0
 IsOutside e = (e ≡ Refused OUT_OF_MEMORY) ⊎ (e ≡ Refused READ) ⊎ (e ≡ Refused WRITE)
 
+-- of a run over a table
+abbrev pub IsTypesFault : Fault → Type 0
+IsTypesFault e = IsReadFault e ⊎ IsLineFault e ⊎ (e ≡ Refused WRITE)
+
+-- of a run over an example
+abbrev pub IsSampleFault : Fault → Type 0
+IsSampleFault e = IsOutside e ⊎ (e ≡ Refused NOT_JSON) ⊎ (e ≡ Refused NOT_WHOLE)
+
 abbrev pub IsFault : Fault → Type 0
-IsFault e = (e ≡ Usage) ⊎ IsReadFault e ⊎ IsLineFault e ⊎ (e ≡ Refused WRITE)
+IsFault e = (e ≡ Usage) ⊎ IsTypesFault e ⊎ IsSampleFault e

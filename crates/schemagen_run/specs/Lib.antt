@@ -2,3 +2,4 @@
 pub mod Streams
 pub mod Fault
 pub mod Run
+pub mod Words

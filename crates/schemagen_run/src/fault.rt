@@ -35,6 +35,9 @@ pub const NOT_JSON: u32 = 20;
 /// What was read is no table with a root.
 pub const BAD_TABLE: u32 = 21;
 
+/// A number of an example is no whole number from -2^63 to 2^64 - 1.
+pub const NOT_WHOLE: u32 = 22;
+
 /// The source has failed.
 pub const READ: u32 = 23;
 
@@ -102,6 +105,7 @@ fn name_of(code: u32) -> &'static str {
         DEFINITIONS_PATH => "DefinitionsPath",
         NOT_JSON => "NotJson",
         BAD_TABLE => "BadTable",
+        NOT_WHOLE => "NotWhole",
         READ => "Read",
         WRITE => "Write",
         _ => "Refused",

@@ -4,3 +4,4 @@
 pub mod fault;
 pub mod run;
 pub mod streams;
+mod words;

@@ -1,6 +1,6 @@
 //! A run of the program over its words, a source and a sink.
 ghost use Rattle.std.specs.Prelude.{◌≡◌, ◌≢◌, ◌⊎◌, ◌↔◌, ℕ, List, Some, None, false, true, Err, IsTrue, IfOk, IfErr, OnOk};
-ghost use Rattle.std.specs.Prelude.{MatchOption, string_bytes, bytes_eq, codes, ◌&&◌, [], ◌∷◌};
+ghost use Rattle.std.specs.Prelude.{string_bytes, []};
 ghost use Rattle.std.specs.Io.KnownBytes.{Appends};
 ghost use Rattle.serde_json.specs.View.{view};
 ghost use Rattle.schemars_types.specs.Faults.{IsAccepted};
@@ -8,31 +8,42 @@ ghost use Rattle.schemars_documents.specs.PlainTable.{HasPlainNotes};
 ghost use Rattle.schemars_generate.specs.Settings.{settings_of};
 ghost use Rattle.schemars_error.specs.Refusals.{HasFault};
 ghost use Rattle.schemagen_run.specs.Streams.{AppendsBeginning};
+ghost use Rattle.schemars_json.specs.Json.{IsJson};
+ghost use Rattle.schemars_sample.specs.Example.{example_of};
+ghost use Rattle.schemars_sample.specs.SampleJson.{sample_json};
 ghost use Rattle.schemagen_input.specs.Input.{is_table, input_of};
-ghost use Rattle.schemagen_run.specs.Run.{AskFor, AreKnown, AreFlagsFor, AreKnownFlags};
+ghost use Rattle.schemagen_input.specs.SampleInput.{sample_input};
+ghost use Rattle.schemagen_run.specs.Words.{AskForTypes, AskForSample, AreKnown};
 ghost use Rattle.schemagen_run.specs.Run.{GivesAll, IsTextOf, IsNoJson, IsBadTable, IsTableText};
 ghost use Rattle.schemagen_run.specs.Run.{IsAcceptedText, IsNotedText, IsFaultyTable, Tells, settings_for};
-ghost use Rattle.schemagen_run.specs.Run.{IsDocumentOf, IsLineOf, IsLineFor, IsUnplaced, IsUnplacedFor};
-ghost use Rattle.schemagen_run.specs.Fault.{IsReadFault, IsTableFault, IsLineFault, IsOutside, IsFault};
+ghost use Rattle.schemagen_run.specs.Run.{IsDocumentOf, IsTextLine, IsLineOf, IsUnplaced, IsTableLine, IsUnplacedText};
+ghost use Rattle.schemagen_run.specs.Run.{IsNotWhole, IsSampleText, IsSampleDocument, IsSampleLineOf, IsSampleLine};
+ghost use Rattle.schemagen_run.specs.Run.{IsLineFor, IsUnplacedFor};
+ghost use Rattle.schemagen_run.specs.Fault.{IsValueFault, IsReadFault, IsTableFault, IsLineFault, IsOutside};
+ghost use Rattle.schemagen_run.specs.Fault.{IsTypesFault, IsSampleFault, IsFault};
 
-use crate::fault::{BAD_TABLE, DEFINITIONS_PATH, Fault, NOT_JSON, OUT_OF_MEMORY, READ, WRITE};
+use crate::fault::{
+    BAD_TABLE, DEFINITIONS_PATH, Fault, NOT_JSON, NOT_WHOLE, OUT_OF_MEMORY, READ, WRITE,
+};
 use crate::streams::{Failed, ReadError, Sink, Source, read_all, write_all};
-use schemagen_input::{InputError, read_input};
-use schemars::{Contract, GenerateError, Schema, SchemaGenerator, SchemaSettings};
+use crate::words::{Asked, Command, command_in};
+use schemagen_input::{InputError, SampleError, read_input, read_sample};
+use schemars::sample::Sample;
+use schemars::{GenerateError, Schema, SchemaGenerator, SchemaSettings};
 use schemars_types::{TypeNo, Types};
 use serde_json::Value;
-use std::alloc::Global;
+use std::alloc::{AllocError, Global};
 
-/// Reads a table of types from the source, and writes the root document of its root to the sink:
-/// in ordered text, with a newline at its end.
+/// Reads a table of types from the source, and writes the root document of its root to the sink; or reads an example, and
+/// writes the root document of a schema that is made from it. The document is in ordered text, with a newline at its end.
 ///
 /// The words are those after the program's name: `types`, the dialect `2020-12`, and, in either order,
 /// `--inline` where rows are to be written in place and `--serialize` where the document is to be for
-/// the values that are written. Other words are refused first, with
+/// the values that are written; or `sample` and the dialect `2020-12`. Other words are refused first, with
 /// nothing read. Then a run is refused where the source fails, where the bytes are no JSON, where
 /// the value is no table with a root, where the table has a fault, where the notes of its rows leave no
-/// place for the definitions, and where the sink fails, in this order. It may also be refused for want
-/// of memory.
+/// place for the definitions, where a number of an example is no 64-bit whole number, and where the sink fails, in this
+/// order. It may also be refused for want of memory.
 ///
 /// A run that is refused has written nothing, unless the sink has failed: that has taken a
 /// beginning of the text.
@@ -51,11 +62,13 @@ pub fn run<S: Source, K: Sink>(
     ensures not_json { result ≡ Err (Fault.Refused NOT_JSON)
         → GivesAll (S.left source.old) (S.left source.new) IsNoJson }
     ensures bad_table { result ≡ Err (Fault.Refused BAD_TABLE)
-        → GivesAll (S.left source.old) (S.left source.new) IsBadTable }
+        → AskForTypes words.now × GivesAll (S.left source.old) (S.left source.new) IsBadTable }
     ensures faulty { IfErr result (λ e. IsTableFault e
-        → GivesAll (S.left source.old) (S.left source.new) (IsFaultyTable e)) }
+        → AskForTypes words.now × GivesAll (S.left source.old) (S.left source.new) (IsFaultyTable e)) }
     ensures unplaced { result ≡ Err (Fault.Refused DEFINITIONS_PATH)
         → GivesAll (S.left source.old) (S.left source.new) (IsUnplacedFor words.now) }
+    ensures not_whole { result ≡ Err (Fault.Refused NOT_WHOLE)
+        → AskForSample words.now × GivesAll (S.left source.old) (S.left source.new) IsNotWhole }
     ensures write { result ≡ Err (Fault.Refused WRITE)
         → GivesAll (S.left source.old) (S.left source.new) (λ bytes. IsLineFor words.now bytes
         (AppendsBeginning (K.bytes sink.old) (K.bytes sink.new))) }
@@ -68,14 +81,51 @@ pub fn run<S: Source, K: Sink>(
     ensures unwritten { IfErr result
         (λ e. e ≢ Fault.Refused WRITE → sink.new ≡ sink.old) }
     ensures faults { IfErr result IsFault }
-    ensures accepted { AreKnown words.now → (bytes : List ℕ) → S.left source.old ≡ Some bytes
+    ensures accepted { AskForTypes words.now → (bytes : List ℕ) → S.left source.old ≡ Some bytes
         → IsAcceptedText bytes → IfErr result (λ e. IsOutside e ⊎ (e ≡ Fault.Refused DEFINITIONS_PATH)) }
-    ensures noted { AreKnown words.now → (bytes : List ℕ) → S.left source.old ≡ Some bytes
+    ensures noted { AskForTypes words.now → (bytes : List ℕ) → S.left source.old ≡ Some bytes
         → IsNotedText bytes → IfErr result IsOutside }
+    ensures whole { AskForSample words.now → (bytes : List ℕ) → S.left source.old ≡ Some bytes
+        → IsSampleText bytes → IfErr result IsOutside }
 {
-    let Some(asked) = asked_in(words) else {
-        return Err(Fault::Usage);
-    };
+    match command_in(words) {
+        Some(Command::Types(asked)) => run_types(alloc, asked, source, sink),
+        Some(Command::Sample) => run_sample(alloc, source, sink),
+        None => Err(Fault::Usage),
+    }
+}
+
+// The document of a table's root.
+fn run_types<S: Source, K: Sink>(
+    alloc: Global,
+    asked: Asked,
+    source: &mut S,
+    sink: &mut K,
+) -> Result<(), Fault>
+    ensures read { (result ≡ Err (Fault.Refused READ)) ↔ IsTrue (S.has_failed source.new) }
+    ensures not_json { result ≡ Err (Fault.Refused NOT_JSON)
+        → GivesAll (S.left source.old) (S.left source.new) IsNoJson }
+    ensures bad_table { result ≡ Err (Fault.Refused BAD_TABLE)
+        → GivesAll (S.left source.old) (S.left source.new) IsBadTable }
+    ensures faulty { IfErr result (λ e. IsTableFault e
+        → GivesAll (S.left source.old) (S.left source.new) (IsFaultyTable e)) }
+    ensures unplaced { result ≡ Err (Fault.Refused DEFINITIONS_PATH)
+        → GivesAll (S.left source.old) (S.left source.new) (IsUnplacedText asked) }
+    ensures write { result ≡ Err (Fault.Refused WRITE)
+        → GivesAll (S.left source.old) (S.left source.new) (λ bytes. IsTableLine asked bytes
+        (AppendsBeginning (K.bytes sink.old) (K.bytes sink.new))) }
+    ensures done { OnOk result
+        (GivesAll (S.left source.old) (S.left source.new) (λ bytes. IsTableLine asked bytes
+        (Appends (K.bytes sink.old) (K.bytes sink.new)))) }
+    ensures failed { result ≡ Err (Fault.Refused WRITE) → IsTrue (K.has_failed sink.new) }
+    ensures sound { OnOk result (K.has_failed sink.new ≡ false) }
+    ensures unwritten { IfErr result
+        (λ e. e ≢ Fault.Refused WRITE → sink.new ≡ sink.old) }
+    ensures faults { IfErr result IsTypesFault }
+    ensures accepted { (bytes : List ℕ) → S.left source.old ≡ Some bytes
+        → IsAcceptedText bytes → IfErr result (λ e. IsOutside e ⊎ (e ≡ Fault.Refused DEFINITIONS_PATH)) }
+    ensures noted { (bytes : List ℕ) → S.left source.old ≡ Some bytes → IsNotedText bytes → IfErr result IsOutside }
+{
     let (types, root) = read_table(alloc, source)?;
     let line = line_for(alloc, asked, types, root)?;
     match write_all(sink, line.as_bytes()) {
@@ -84,72 +134,32 @@ pub fn run<S: Source, K: Sink>(
     }
 }
 
-/// What the words ask for.
-#[derive(Clone, Copy)]
-struct Asked {
-    contract: Contract,
-    inlines: bool,
-}
-
-fn is_types(command: &str, dialect: &str) -> bool
-    ensures { result ≡ bytes_eq command.now (codes "types") && bytes_eq dialect.now (codes "2020-12") }
+// The document of an example.
+fn run_sample<S: Source, K: Sink>(alloc: Global, source: &mut S, sink: &mut K) -> Result<(), Fault>
+    ensures read { (result ≡ Err (Fault.Refused READ)) ↔ IsTrue (S.has_failed source.new) }
+    ensures not_json { result ≡ Err (Fault.Refused NOT_JSON)
+        → GivesAll (S.left source.old) (S.left source.new) IsNoJson }
+    ensures not_whole { result ≡ Err (Fault.Refused NOT_WHOLE)
+        → GivesAll (S.left source.old) (S.left source.new) IsNotWhole }
+    ensures write { result ≡ Err (Fault.Refused WRITE)
+        → GivesAll (S.left source.old) (S.left source.new) (λ bytes. IsSampleLine bytes
+        (AppendsBeginning (K.bytes sink.old) (K.bytes sink.new))) }
+    ensures done { OnOk result
+        (GivesAll (S.left source.old) (S.left source.new) (λ bytes. IsSampleLine bytes
+        (Appends (K.bytes sink.old) (K.bytes sink.new)))) }
+    ensures failed { result ≡ Err (Fault.Refused WRITE) → IsTrue (K.has_failed sink.new) }
+    ensures sound { OnOk result (K.has_failed sink.new ≡ false) }
+    ensures unwritten { IfErr result
+        (λ e. e ≢ Fault.Refused WRITE → sink.new ≡ sink.old) }
+    ensures faults { IfErr result IsSampleFault }
+    ensures whole { (bytes : List ℕ) → S.left source.old ≡ Some bytes → IsSampleText bytes → IfErr result IsOutside }
 {
-    command == "types" && dialect == "2020-12"
-}
-
-// What the words ask for.
-fn asked_in(words: &[String]) -> Option<Asked>
-    ensures { MatchOption result (¬ (AreKnown words.now)) (λ asked. AskFor words.now asked) }
-{
-    match words {
-        [command, dialect] if is_types(command.as_str(), dialect.as_str()) => Some(Asked {
-            contract: Contract::Deserialize,
-            inlines: false,
-        }),
-        [command, dialect, flag] if is_types(command.as_str(), dialect.as_str()) => {
-            asked_by_one(flag.as_str())
-        }
-        [command, dialect, first, second] if is_types(command.as_str(), dialect.as_str()) => {
-            asked_by_two(first.as_str(), second.as_str())
-        }
-        _ => None,
+    let value = read_value(alloc, source)?;
+    let line = sample_line(alloc, &value)?;
+    match write_all(sink, line.as_bytes()) {
+        Ok(()) => Ok(()),
+        Err(_) => Err(Fault::Refused(WRITE)),
     }
-}
-
-// What one flag asks for.
-fn asked_by_one(flag: &str) -> Option<Asked>
-    ensures { MatchOption result (¬ (AreKnownFlags (flag.now ∷ []))) (λ asked. AreFlagsFor asked.contract asked.inlines
-        (flag.now ∷ [])) }
-{
-    if flag == "--serialize" {
-        return Some(Asked {
-            contract: Contract::Serialize,
-            inlines: false,
-        });
-    }
-    if flag == "--inline" {
-        return Some(Asked {
-            contract: Contract::Deserialize,
-            inlines: true,
-        });
-    }
-    None
-}
-
-// What two flags ask for, which stand in either order.
-fn asked_by_two(first: &str, second: &str) -> Option<Asked>
-    ensures { MatchOption result (¬ (AreKnownFlags (first.now ∷ second.now ∷ []))) (λ asked. AreFlagsFor asked.contract
-        asked.inlines (first.now ∷ second.now ∷ [])) }
-{
-    let inline_first = first == "--inline" && second == "--serialize";
-    let inline_last = first == "--serialize" && second == "--inline";
-    if inline_first || inline_last {
-        return Some(Asked {
-            contract: Contract::Serialize,
-            inlines: true,
-        });
-    }
-    None
 }
 
 // The table that the source's bytes are, and its root.
@@ -164,13 +174,25 @@ fn read_table<S: Source>(alloc: Global, source: &mut S) -> Result<(Types, TypeNo
         → GivesAll (S.left source.old) (S.left source.new) IsBadTable }
     ensures faults { IfErr result IsReadFault }
 {
+    let value = read_value(alloc, source)?;
+    input_of(alloc, &value)
+}
+
+// The value that the source's bytes are the text of.
+fn read_value<S: Source>(alloc: Global, source: &mut S) -> Result<Value, Fault>
+    ensures ok { IfOk result
+        (λ v. GivesAll (S.left source.old) (S.left source.new) (IsTextOf (view v))) }
+    ensures read { (result ≡ Err (Fault.Refused READ)) ↔ IsTrue (S.has_failed source.new) }
+    ensures not_json { result ≡ Err (Fault.Refused NOT_JSON)
+        → GivesAll (S.left source.old) (S.left source.new) IsNoJson }
+    ensures faults { IfErr result IsValueFault }
+{
     let bytes = match read_all(alloc, source) {
         Ok(bytes) => bytes,
         Err(ReadError::OutOfMemory) => return Err(Fault::Refused(OUT_OF_MEMORY)),
         Err(ReadError::Failed) => return Err(Fault::Refused(READ)),
     };
-    let value = value_of(alloc, &bytes)?;
-    input_of(alloc, &value)
+    value_of(alloc, &bytes)
 }
 
 // The value that is written in the bytes.
@@ -233,6 +255,14 @@ fn line_for(alloc: Global, asked: Asked, types: Types, root: TypeNo) -> Result<S
         → IfErr result (λ e. e ≡ Fault.Refused OUT_OF_MEMORY) }
 {
     let document = document_of(alloc, asked, types, root)?;
+    let line = line_of(alloc, &document)?;
+    Ok(line)
+}
+
+// The text of a document, and a newline.
+fn line_of(alloc: Global, document: &Schema) -> Result<String, AllocError>
+    ensures { IfOk result (λ s. IsTextLine document.now (string_bytes s)) }
+{
     let mut line = document.to_ordered_string(alloc)?;
     line.push_str("\n")?;
     Ok(line)
@@ -258,4 +288,38 @@ fn document_of(
     let settings = settings_for(alloc, asked);
     let generator = SchemaGenerator::with_types(alloc, settings, types)?;
     generator.into_root_schema_for_type(alloc, root)
+}
+
+// The line of the document of the example that the value is.
+fn sample_line(alloc: Global, value: &Value) -> Result<String, Fault>
+    ensures ok { IfOk result (λ s. IsSampleLineOf (view value.now) (string_bytes s)) }
+    ensures not_whole { result ≡ Err (Fault.Refused NOT_WHOLE) → sample_input (view value.now) ≡ None }
+    ensures faults { IfErr result (λ e. (e ≡ Fault.Refused OUT_OF_MEMORY) ⊎ (e ≡ Fault.Refused NOT_WHOLE)) }
+{
+    let sample = sample_of(alloc, value)?;
+    let document = sample_document(alloc, &sample)?;
+    let line = line_of(alloc, &document)?;
+    Ok(line)
+}
+
+// The example that the value is.
+fn sample_of(alloc: Global, value: &Value) -> Result<Sample, Fault>
+    ensures ok { IfOk result (λ x. sample_input (view value.now) ≡ Some (example_of x)) }
+    ensures same { IfOk result (λ x. IsJson (view value.now) → sample_json (example_of x) ≡ Some (view value.now)) }
+    ensures not_whole { result ≡ Err (Fault.Refused NOT_WHOLE) → sample_input (view value.now) ≡ None }
+    ensures faults { IfErr result (λ e. (e ≡ Fault.Refused OUT_OF_MEMORY) ⊎ (e ≡ Fault.Refused NOT_WHOLE)) }
+{
+    match read_sample(alloc, value) {
+        Ok(sample) => Ok(sample),
+        Err(SampleError::OutOfMemory) => Err(Fault::Refused(OUT_OF_MEMORY)),
+        Err(SampleError::NotWhole) => Err(Fault::Refused(NOT_WHOLE)),
+    }
+}
+
+// The root document of the example.
+fn sample_document(alloc: Global, sample: &Sample) -> Result<Schema, GenerateError>
+    ensures ok { IfOk result (IsSampleDocument (example_of sample.now)) }
+    ensures only_memory { IfErr result (λ e. e ≡ GenerateError.OutOfMemory) }
+{
+    SchemaGenerator::default(alloc).into_root_schema_for_value(alloc, sample)
 }

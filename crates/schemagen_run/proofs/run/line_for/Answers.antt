@@ -1,5 +1,5 @@
 -- The document has a text, and a refusal of the generator is told by its number.
-use Rattle.std.proofs.Common.{◌∙◌, ap, string_bytes}
+use Rattle.std.proofs.Common.{◌∙◌, ap}
 use Rattle.schemars_error.specs.declared.error.GenerateError.{GenerateError}
 use Rattle.schemars_error.specs.Refusals.{code_of}
 use Rattle.schemagen_run.specs.declared.fault.Fault.TheVariants.{Refused}
@@ -27,10 +27,7 @@ pub returns : goal.returns
 returns c =
     let document = c.in_ok-document.ensures in
     record {
-      ok = (
-        c.in_ok-document.document,
-        (string_bytes c.in_ok-line.line, document.ok, c.in_ok-line.ensures.ordered, c.in_ok-push_str.ensures.bytes),
-      );
+      ok = (c.in_ok-document.document, document.ok, c.in_ok-line.ensures);
       accepted = document.accepted;
       refused = tt;
       faults = tt;

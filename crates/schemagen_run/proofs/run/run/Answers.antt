@@ -1,161 +1,18 @@
--- The line is that of the table's root, and the sink has taken it, or a beginning of it.
-use Rattle.std.proofs.Common.{◌<◌, ℕ, List, length, sym, ap, subst, refl, inl, inr, Err, string_bytes}
-use Rattle.schemagen_run.specs.declared.fault.Fault.TheVariants.{Usage, Refused}
-use Rattle.schemagen_run.specs.declared.fault.TheConstants.{DEFINITIONS_PATH, NOT_JSON, BAD_TABLE, READ, WRITE}
-use Rattle.schemagen_run.proofs.Results.{passed_on, same_error, other_result, ok_is_no_error}
-use Rattle.schemagen_run.proofs.Runs.{read_is_no_usage, read_is_no_write, read_is_no_path, read_is_of_no_table}
-use Rattle.schemagen_run.proofs.Runs.{line_is_no_other}
-use Rattle.schemagen_run.proofs.Runs.{gave, read_outside, read_is_accepted, read_is_noted, noted_is_accepted}
-use Rattle.schemagen_run.proofs.Runs.{read_is_faulty, has_no_place, is_outside, line_is_some}
+-- What is told of a run over a table is told of the words that ask for it.
+use Rattle.std.proofs.Common.{inl, subst}
+use Rattle.std.proofs.lemmas.Result.{IfErr-weaker}
+use Rattle.schemagen_run.specs.Words.{Asks}
 use Rattle.schemagen_run.proofs.run.run.Goals as goal
 
-pub returns-clause-write : goal.returns-clause-write
-returns-clause-write g c = λ _.
-    let (bytes, consumed, end, text) = c.in_ok-types.ensures.ok in (
-      bytes,
-      consumed,
-      end,
-      (
-        c.in-Some.asked,
-        (
-          c.in_ok-types.types,
-          (
-            c.in_ok-types.root,
-            (
-              string_bytes c.in_ok-line.line,
-              c.in-Some.ensures,
-              text,
-              c.in_ok-line.ensures.accepted,
-              c.in_ok-line.ensures.ok,
-              rw (sym c.as_bytes.ensures.value) c.in-Err.ensures.beginning,
-            ),
-          ),
-        ),
-      ),
-    )
+pub returns-in-Some-Types-clause-faulty : goal.returns-in-Some-Types-clause-faulty
+returns-in-Some-Types-clause-faulty g c =
+    let at = c.in-Some-Types in
+    let asks = subst (Asks c.args.words.now) at.field-0-is at.ensures in
+    IfErr-weaker c.run_types.result _ _ (λ e told fault. ((at.asked, asks), told fault)) c.run_types.ensures.faulty
 
-pub returns-in-Ok-clause-done : goal.returns-in-Ok-clause-done
-returns-in-Ok-clause-done g c =
-    let (bytes, consumed, end, text) = c.in_ok-types.ensures.ok in (
-      bytes,
-      consumed,
-      end,
-      (
-        c.in-Some.asked,
-        (
-          c.in_ok-types.types,
-          (
-            c.in_ok-types.root,
-            (
-              string_bytes c.in_ok-line.line,
-              c.in-Some.ensures,
-              text,
-              c.in_ok-line.ensures.accepted,
-              c.in_ok-line.ensures.ok,
-              rw (sym c.as_bytes.ensures.value) c.in-Ok.ensures.bytes,
-            ),
-          ),
-        ),
-      ),
-    )
-
-pub returns-in-Ok-clause-sound : goal.returns-in-Ok-clause-sound
-returns-in-Ok-clause-sound g c =
-    let some : 0 < length (string_bytes c.in_ok-line.line) = line_is_some _ _ _ _ c.in_ok-line.ensures.ok in
-    c.in-Ok.ensures.sound (subst (λ (t : List ℕ). 0 < length t) (sym c.as_bytes.ensures.value) some)
-
--- ---- the table is refused
-
-pub returns-in_err-types : goal.returns-in_err-types
-returns-in_err-types g c =
-    let e = c.in_err-types.field-0.0 in
-    let why = c.in_err-types.ensures in
-    let r = c.from_residual.result in
-    let is = passed_on r e c.from_residual.ensures.1 in
-    record {
-      usage = (
-        λ u. absurd (read_is_no_usage e why.faults (same_error r e Usage is u)),
-        λ unknown. absurd (unknown (c.in-Some.asked, c.in-Some.ensures)),
-      );
-      known = λ _. (c.in-Some.asked, c.in-Some.ensures);
-      unread = λ u. absurd (read_is_no_usage e why.faults (same_error r e Usage is u));
-      read = λ _. (
-        λ u. why.read.0 (ap Err (same_error r e (Refused READ) is u)),
-        λ failed. other_result r (Err e) e (Refused READ) is refl (why.read.1 failed),
-      );
-      not_json = λ u. why.not_json (ap Err (same_error r e (Refused NOT_JSON) is u));
-      bad_table = λ u. why.bad_table (ap Err (same_error r e (Refused BAD_TABLE) is u));
-      faulty = rw is (λ table. absurd (read_is_of_no_table e why.faults table));
-      unplaced = λ u. absurd (read_is_no_path e why.faults (same_error r e (Refused DEFINITIONS_PATH) is u));
-      write = λ w. absurd (read_is_no_write e why.faults (same_error r e (Refused WRITE) is w));
-      done = rw is tt;
-      failed = λ w. absurd (read_is_no_write e why.faults (same_error r e (Refused WRITE) is w));
-      sound = rw is tt;
-      unwritten = rw is (λ _. refl);
-      faults = rw is (inr (inl why.faults));
-      accepted = λ _ bytes known text. rw is
-          (inl (read_outside bytes _ _ e known text why.faults (λ f. why.not_json (ap Err f))
-          (λ f. why.bad_table (ap Err f))));
-      noted = λ _ bytes known text. rw is
-          (read_outside bytes _ _ e known (noted_is_accepted bytes text) why.faults (λ f. why.not_json (ap Err f))
-          (λ f. why.bad_table (ap Err f)));
-    }
-
--- ---- the table has a fault, or its definitions have no place
-
-pub returns-in_err-line : goal.returns-in_err-line
-returns-in_err-line g c =
-    let e = c.in_err-line.field-0.0 in
-    let why = c.in_err-line.ensures in
-    let r = c.from_residual-in_err-line.result in
-    let is = passed_on r e c.from_residual-in_err-line.ensures.1 in
-    let given = c.in_ok-types.ensures.ok in
-    record {
-      usage = (
-        λ u. absurd (line_is_no_other e Usage why.faults refl (same_error r e Usage is u)),
-        λ unknown. absurd (unknown (c.in-Some.asked, c.in-Some.ensures)),
-      );
-      known = λ _. (c.in-Some.asked, c.in-Some.ensures);
-      unread = λ u. absurd (line_is_no_other e Usage why.faults refl (same_error r e Usage is u));
-      read = λ _. (
-        λ u. absurd (line_is_no_other e (Refused READ) why.faults refl (same_error r e (Refused READ) is u)),
-        λ failed. absurd (ok_is_no_error _ _ (c.in_ok-types.ensures.read.1 failed)),
-      );
-      not_json = λ u. absurd (line_is_no_other e (Refused NOT_JSON) why.faults refl (same_error r e (Refused NOT_JSON) is u));
-      bad_table = λ u. absurd (line_is_no_other e (Refused BAD_TABLE) why.faults refl (same_error r e (Refused BAD_TABLE) is u));
-      faulty = rw is (read_is_faulty _ _ _ _ e given why.refused);
-      unplaced = λ u.
-          let path = same_error r e (Refused DEFINITIONS_PATH) is u in
-          let unplaced = has_no_place c.in_ok-types.types e why.refused path in
-          let (bytes, consumed, end, text) = given in (
-            bytes,
-            consumed,
-            end,
-            (c.in-Some.asked, (c.in_ok-types.types, (c.in_ok-types.root, c.in-Some.ensures, text, unplaced))),
-          );
-      write = λ w. absurd (line_is_no_other e (Refused WRITE) why.faults refl (same_error r e (Refused WRITE) is w));
-      done = rw is tt;
-      failed = λ w. absurd (line_is_no_other e (Refused WRITE) why.faults refl (same_error r e (Refused WRITE) is w));
-      sound = rw is tt;
-      unwritten = rw is (λ _. refl);
-      faults = rw is (inr (inr (inl why.faults)));
-      accepted = λ _ bytes known text. rw is
-          (is_outside e (why.unfaulty (read_is_accepted bytes _ _ (gave bytes _ _ known given) text)));
-      noted = λ _ bytes known text.
-          let table = read_is_noted bytes _ _ (gave bytes _ _ known given) text in
-          rw is (inl (why.only_memory table.0 table.1));
-    }
-
--- ---- the sink has failed
-
-pub returns-clause-done : goal.returns-clause-done
-returns-clause-done g c = tt
-
-pub returns-clause-sound : goal.returns-clause-sound
-returns-clause-sound g c = tt
-
-pub returns-clause-accepted : goal.returns-clause-accepted
-returns-clause-accepted g c = λ _ _ _ _. inl (inr (inr refl))
-
-pub returns-clause-noted : goal.returns-clause-noted
-returns-clause-noted g c = λ _ _ _ _. inr (inr refl)
+pub returns-in-Some-Types-clause-write : goal.returns-in-Some-Types-clause-write
+returns-in-Some-Types-clause-write g c = λ failed.
+    let at = c.in-Some-Types in
+    let asks = subst (Asks c.args.words.now) at.field-0-is at.ensures in
+    let (bytes, consumed, end, line) = c.run_types.ensures.write failed in
+    (bytes, consumed, end, inl (at.asked, asks, line))

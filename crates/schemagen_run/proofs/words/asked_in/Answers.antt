@@ -2,9 +2,9 @@
 use Rattle.std.proofs.Common.{◌≡◌, ◌&&◌, ◌∷◌, [], List, ℕ, length, true, arith, codes, string_bytes, subst, ap}
 use Rattle.std.specs.Prelude.{MatchOption}
 use Rattle.std.specs.Str.{bytes_eq}
-use Rattle.schemagen_run.specs.Run.{AreFlagsFor, AreKnownFlags}
+use Rattle.schemagen_run.specs.Words.{AreFlagsFor, AreKnownFlags}
 use Rattle.schemagen_run.proofs.Runs.{two_words, three_words, four_words}
-use Rattle.schemagen_run.proofs.run.asked_in.Goals as goal
+use Rattle.schemagen_run.proofs.words.asked_in.Goals as goal
 
 pub returns-in-len2 : goal.returns-in-len2
 returns-in-len2 c =

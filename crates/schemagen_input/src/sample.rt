@@ -1,0 +1,95 @@
+//! Example values, as JSON gives them.
+ghost use Rattle.std.specs.Prelude.{◌≡◌, Some, None, Err, IfOk};
+ghost use Rattle.serde_json.specs.View.{view, items_view, members_view};
+ghost use Rattle.schemars_json.specs.Json.{IsJson};
+ghost use Rattle.schemars_sample.specs.Example.{example_of, examples_view, entries_view};
+ghost use Rattle.schemars_sample.specs.SampleJson.{sample_json};
+ghost use Rattle.schemagen_input.specs.SampleInput.{sample_input, items_input, members_input};
+
+use schemars_sample::Sample;
+use serde_json::{Map, Value};
+use std::alloc::{AllocError, AllocFailed, Global};
+
+/// Why a JSON value is no example.
+#[derive(Clone, Copy, Debug, PartialEq, Eq, Drop)]
+pub enum SampleError {
+    /// Memory ran out.
+    OutOfMemory,
+    /// A number is no whole number from -2^63 to 2^64 - 1.
+    NotWhole,
+}
+
+impl From<AllocError> for SampleError {
+    ghost use Rattle.std.specs.Prelude.{◌≡◌};
+    ghost use Rattle.schemagen_input.specs.declared.sample.SampleError.TheVariants.{OutOfMemory};
+
+    ghost from_gives = { λ _ e. e ≡ OutOfMemory };
+
+    fn from(_e: AllocError) -> SampleError {
+        SampleError::OutOfMemory
+    }
+}
+
+impl<T: Drop> From<AllocFailed<T>> for SampleError {
+    ghost use Rattle.std.specs.Prelude.{◌≡◌};
+    ghost use Rattle.schemagen_input.specs.declared.sample.SampleError.TheVariants.{OutOfMemory};
+
+    ghost from_gives = { λ _ e. e ≡ OutOfMemory };
+
+    fn from(_e: AllocFailed<T>) -> SampleError {
+        SampleError::OutOfMemory
+    }
+}
+
+/// The example that a JSON value is: null is a unit, a list a sequence, an object a map whose entries are given one by one.
+/// Where the value has only 64-bit whole numbers, and its keys in order, each once, the JSON of the example is that value again.
+///
+/// Refusals: `NotWhole` where a number in it is no 64-bit whole number, and want of memory.
+#[cycle(sample)]
+pub fn read_sample(alloc: Global, value: &Value) -> Result<Sample, SampleError>
+    ensures ok { IfOk result (λ x. sample_input (view value.now) ≡ Some (example_of x)) }
+    ensures same { IfOk result (λ x. IsJson (view value.now) → sample_json (example_of x) ≡ Some (view value.now)) }
+    ensures not_whole { result ≡ Err SampleError.NotWhole → sample_input (view value.now) ≡ None }
+{
+    match value {
+        Value::Null => Ok(Sample::Unit),
+        Value::Bool(b) => Ok(Sample::Bool(*b)),
+        Value::Number(n) => match (n.as_u64(), n.as_i64()) {
+            (Some(n), _) => Ok(Sample::UInt(n as u128)),
+            (None, Some(n)) => Ok(Sample::Int(n as i128)),
+            (None, None) => Err(SampleError::NotWhole),
+        },
+        Value::String(s) => Ok(Sample::Str(s.clone()?)),
+        Value::Array(items) => Ok(Sample::Seq(read_items(alloc, items)?)),
+        Value::Object(members) => Ok(Sample::Map(read_members(alloc, members)?)),
+    }
+}
+
+#[cycle(sample)]
+#[tactic(auto, using(crate::proofs::Samples::more_examples, crate::proofs::Samples::all_examples))]
+fn read_items(alloc: Global, items: &[Value]) -> Result<Vec<Sample>, SampleError>
+    ensures ok { IfOk result (λ v. items_input (items_view items.now) ≡ Some (examples_view v.items)) }
+    ensures not_whole { result ≡ Err SampleError.NotWhole → items_input (items_view items.now) ≡ None }
+{
+    let mut samples = Vec::new(alloc);
+    for item in items {
+        samples.push(read_sample(alloc, item)?)?;
+    }
+    Ok(samples)
+}
+
+#[cycle(sample)]
+#[tactic(auto, using(crate::proofs::Samples::more_entries, crate::proofs::Samples::all_entries))]
+fn read_members(
+    alloc: Global,
+    members: &Map<String, Value>,
+) -> Result<Vec<(String, Sample)>, SampleError>
+    ensures ok { IfOk result (λ v. members_input (members_view members.now.entries) ≡ Some (entries_view v.items)) }
+    ensures not_whole { result ≡ Err SampleError.NotWhole → members_input (members_view members.now.entries) ≡ None }
+{
+    let mut entries = Vec::new(alloc);
+    for (key, value) in members.iter() {
+        entries.push((key.clone()?, read_sample(alloc, value)?))?;
+    }
+    Ok(entries)
+}
