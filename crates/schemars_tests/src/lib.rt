@@ -20,6 +20,8 @@ mod names;
 #[cfg(test)]
 mod registered;
 #[cfg(test)]
+mod samples;
+#[cfg(test)]
 mod schema;
 #[cfg(test)]
 mod streams;
