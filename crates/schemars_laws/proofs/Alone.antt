@@ -1,0 +1,40 @@
+-- After the siblings of references have gone, no schema has a keyword beside `$ref`.
+use Rattle.std.proofs.Common.{◌≡◌, ◌⊎◌, inl, inr, Option, Some, None, Bool, true, false, codes, refl, ◌∙◌}
+use Rattle.std.specs.Prelude.{if◌then◌else◌, ◌==◌}
+use Rattle.serde_json.specs.Data.{Data, object, Members}
+use Rattle.serde_json.specs.Find.{get_member}
+use Rattle.serde_json.specs.Events.{members_len}
+use Rattle.schemars_schema.specs.Edits.{without}
+use Rattle.schemars_transform.specs.Built.{reference_moved, without_siblings, remove_ref_siblings}
+use Rattle.schemars_laws.specs.Everywhere.{Everywhere, asked, asked_of_keywords}
+use Rattle.schemars_laws.specs.Classes.{IsOnce, IsReferenceAlone}
+use Rattle.schemars_laws.proofs.Looked.{walked, once-walked}
+use Rattle.schemars_laws.proofs.Apart.{differ}
+use Rattle.schemars_laws.proofs.Siblings.{schema-siblings, moved_members, get-moved}
+use Rattle.schemars_laws.proofs.Preserved.{Preserves, after, asked-without}
+use Rattle.schemars_laws.proofs.Drafts.{asked-moved}
+
+alone : Preserves without_siblings (IsOnce (codes "$ref")) IsReferenceAlone
+unfolding asked
+alone = record { schema = schema-siblings; of_truth = λ b. tt; of_object = go }
+  where
+    go : (ms : Members) → IsOnce (codes "$ref") ms → asked_of_keywords IsReferenceAlone (walked without_siblings ms)
+        → (asked IsReferenceAlone (without_siblings (object (walked without_siblings ms)))).as_schema
+    go ms once a = each (members_len ns == 1) refl (get_member (codes "$ref") ns)
+      where
+        ns : Members
+        ns = walked without_siblings ms
+
+        gone : IsOnce (codes "$ref") ns
+        gone = once-walked without_siblings (codes "$ref") ms once
+
+        each : (b : Bool) → (members_len ns == 1) ≡ b → (o : Option Data)
+            → (asked IsReferenceAlone (if b then object ns else reference_moved o (object (without (codes "$ref") ns)))).as_schema
+        each true one o = (inr one, a)
+        each false one None = (inl gone, asked-without IsReferenceAlone (codes "$ref") ns a)
+        each false one (Some r) =
+            (inl (get-moved r ns (codes "$ref") (differ (codes "$ref") (codes "allOf") refl) ∙ gone),
+            asked-moved IsReferenceAlone r (inr refl, (tt, tt)) ns a)
+
+pub references-alone : (s : Data) → Everywhere (IsOnce (codes "$ref")) s → Everywhere IsReferenceAlone (remove_ref_siblings s)
+references-alone s once = after without_siblings (IsOnce (codes "$ref")) IsReferenceAlone alone s once

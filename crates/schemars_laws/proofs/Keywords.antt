@@ -1,0 +1,76 @@
+-- What the keywords of an object say, in groups, and keywords of which some are left out.
+use Rattle.std.proofs.Common.{◌≡◌, List, [], ◌∷◌, Option, None, Bool, true, false, codes, refl}
+use Rattle.std.specs.Prelude.{◌++◌, if◌then◌else◌}
+use Rattle.serde_json.specs.Data.{Data}
+use Rattle.schemars_json.specs.Json.{Text}
+use Rattle.schemars_json.specs.OrderedText.{is_listed}
+use Rattle.schemars_schema.specs.Verdict.{Verdict, all_of, any_of, one_of}
+use Rattle.schemars_schema.specs.Acceptance.{Context, Raw, Readings, all_keywords, items_say, judged_beside, is_covered}
+use Rattle.schemars_schema.specs.Acceptance.{reference_says, type_says, const_says, enum_says, minimum_says, maximum_says}
+use Rattle.schemars_schema.specs.Acceptance.{min_length_says, max_length_says, pattern_says, min_items_says, max_items_says}
+use Rattle.schemars_schema.specs.Acceptance.{unique_items_says, required_says, properties_say, pattern_properties_say}
+use Rattle.schemars_schema.specs.Acceptance.{additional_properties_say, each_says, not_says, unevaluated_properties_say}
+
+-- about numbers and texts, and about lists as wholes
+abbrev pub counts_say : Context → Raw → Data → List Verdict
+counts_say c raw v =
+    minimum_says (raw (codes "minimum")) v
+    ∷ maximum_says (raw (codes "maximum")) v
+    ∷ min_length_says (raw (codes "minLength")) v
+    ∷ max_length_says (raw (codes "maxLength")) v
+    ∷ pattern_says c.patterns (raw (codes "pattern")) v
+    ∷ min_items_says (raw (codes "minItems")) v
+    ∷ max_items_says (raw (codes "maxItems")) v
+    ∷ unique_items_says (raw (codes "uniqueItems")) v
+    ∷ []
+
+-- about members
+abbrev pub members_say : Context → Raw → Readings → Data → List Verdict
+members_say c raw read v =
+    required_says (raw (codes "required")) v
+    ∷ properties_say (read (codes "properties")) v
+    ∷ pattern_properties_say c.patterns (read (codes "patternProperties")) v
+    ∷ additional_properties_say (is_covered c.patterns (read (codes "properties")) (read (codes "patternProperties")))
+    (read (codes "additionalProperties")) v
+    ∷ []
+
+-- after `allOf`, where these members are judged
+abbrev pub last_say : Context → Readings → (Text → Bool) → Data → List Verdict
+last_say c read judged v =
+    each_says any_of (read (codes "anyOf")) v
+    ∷ each_says one_of (read (codes "oneOf")) v
+    ∷ not_says (read (codes "not")) v
+    ∷ unevaluated_properties_say c.dialect.reads_unevaluated judged (read (codes "unevaluatedProperties")) v
+    ∷ []
+
+-- all, in order
+abbrev pub all_say : Context → Raw → Readings → Data → List Verdict
+all_say c raw read v =
+    reference_says c.follow (raw (codes "$ref")) v
+    ∷ type_says c.dialect.reads_nullable (raw (codes "type")) (raw (codes "nullable")) v
+    ∷ const_says c.dialect.reads_const (raw (codes "const")) v
+    ∷ enum_says (raw (codes "enum")) v
+    ∷ counts_say c raw v
+    ++ items_say c.dialect.reads_prefix_items (read (codes "prefixItems")) (read (codes "items")) (read (codes "additionalItems")) v
+    ∷ members_say c raw read v
+    ++ each_says all_of (read (codes "allOf")) v
+    ∷ last_say c read (judged_beside c raw read v) v
+
+pub fits-all : (c : Context) (raw : Raw) (read : Readings) (v : Data) → (all_keywords c raw read).fits v ≡ all_of (all_say c raw read v)
+unfolding all_keywords
+fits-all c raw read v = refl
+
+-- ---- without some of the keywords
+
+abbrev pub left_out : {A : Type 0} → List Text → (Text → Option A) → Text → Option A
+left_out ks f k = if is_listed k ks then None else f k
+
+abbrev pub AgreeOutside : {A : Type 0} → List Text → (Text → Option A) → (Text → Option A) → Type 0
+AgreeOutside ks f g = (k : Text) → is_listed k ks ≡ false → f k ≡ g k
+
+pub left_out-agree : {A : Type 0} (ks : List Text) (f g : Text → Option A) → AgreeOutside ks f g → (k : Text) → left_out ks f k ≡ left_out ks g k
+left_out-agree {A} ks f g e k = go (is_listed k ks) refl
+  where
+    go : (b : Bool) → is_listed k ks ≡ b → (if b then None else f k) ≡ (if b then None else g k)
+    go true is = refl
+    go false is = e k is

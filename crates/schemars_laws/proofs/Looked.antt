@@ -1,0 +1,181 @@
+-- Look-ups in members of which one is taken out, and rewrites that change every schema alike.
+use Rattle.std.proofs.Common.{◌≡◌, ◌≢◌, inl, Option, Some, None, Bool, true, false, Ordering, Less, Equal, Greater, nat_cmp, is_eq, option_map, refl, sym, ap, ◌∙◌, subst, true≢false}
+use Rattle.std.specs.Prelude.{bytes_eq, if◌then◌else◌}
+use Rattle.std.specs.Cmp.Lexicographic.{slice_cmp}
+use Rattle.std.specs.Ordering.{match_ordering}
+use Rattle.std.proofs.lemmas.Map.Text.{is_eq-slice_cmp}
+use Rattle.std.proofs.lemmas.Slice.Eq.{bytes_eq-Decides}
+use Rattle.serde_json.specs.Data.{Data, null, boolean, number, string, array, object, Items, no_items, item, Members, no_members, member}
+use Rattle.serde_json.specs.Find.{get, get_member}
+use Rattle.schemars_json.specs.Json.{Text}
+use Rattle.schemars_schema.specs.SchemaData.{IsSchema}
+use Rattle.schemars_schema.specs.Edits.{without}
+use Rattle.schemars_schema.specs.References.{NoSchemas, SchemaList, SchemaOrList, SchemasByName, place_under}
+use Rattle.schemars_schema.specs.Acceptance.{Dialect, Context, Readings, Raw, judge, keywords, truth_value, read_members, reading_at}
+use Rattle.schemars_walk.specs.Rewritten.{Rules, everywhere, rewritten, forms, in_items, in_keywords, read_at}
+use Rattle.schemars_walk.proofs.KeywordLaws.{keywords_get}
+use Rattle.schemars_laws.specs.Names.{IsMap}
+use Rattle.schemars_laws.specs.Classes.{IsOnce, AreSchemas, IsSchemaList, IsNoList}
+use Rattle.schemars_laws.proofs.Named.{Moves}
+
+by_order : (o : Ordering) (b : Bool) (d : Data) (rest : Option Data) → is_eq o ≡ b → match_ordering o rest (Some d) rest ≡ (if b then Some d else rest)
+by_order Less b d rest is = rw (← is) refl
+by_order Equal b d rest is = rw (← is) refl
+by_order Greater b d rest is = rw (← is) refl
+
+-- by equality of keys
+pub get_member-first : (k l : Text) (d : Data) (ms : Members) → get_member k (member l d ms) ≡ (if bytes_eq k l then Some d else get_member k ms)
+get_member-first k l d ms = by_order (slice_cmp nat_cmp k l) (bytes_eq k l) d (get_member k ms) (is_eq-slice_cmp k l)
+
+pub unequal : (k l : Text) → k ≢ l → bytes_eq k l ≡ false
+unequal k l apart = go (bytes_eq k l) refl
+  where
+    go : (b : Bool) → bytes_eq k l ≡ b → b ≡ false
+    go true is = absurd (apart ((bytes_eq-Decides k l).0 is))
+    go false is = refl
+
+pub without-other : (k l : Text) (ms : Members) → l ≢ k → get_member l (without k ms) ≡ get_member l ms
+without-other k l no_members apart = refl
+without-other k l (member j d ms) apart = go (bytes_eq k j) refl (without-other k l ms apart)
+  where
+    go : (b : Bool) → bytes_eq k j ≡ b → get_member l (without k ms) ≡ get_member l ms
+        → get_member l (if b then ms else member j d (without k ms)) ≡ get_member l (member j d ms)
+    go true is later =
+        sym (get_member-first l j d ms ∙ ap (λ b. if b then Some d else get_member l ms)
+        (unequal l j (λ e. apart (e ∙ sym ((bytes_eq-Decides k j).0 is)))))
+    go false is later =
+        get_member-first l j d (without k ms)
+        ∙ (ap (λ o. if bytes_eq l j then Some d else o) later ∙ sym (get_member-first l j d ms))
+
+-- ---- rewrites that change every schema alike
+
+abbrev pub change_rules : (Data → Data) → Rules (Unit {0})
+change_rules f = everywhere {R = Unit {0}} (λ r s. f s)
+
+-- the members of a schema, with its subschemas done
+abbrev pub walked : (Data → Data) → Members → Members
+walked f ms = in_keywords (change_rules f) tt ms
+
+-- What is asked of a change of one schema. It is made on members whose subschemas are done.
+pub record Change (f : Data → Data) (key : Text) (old new : Dialect) (Q : Members → Type 0) : Type 0 where
+  pub schema : (s : Data) → IsSchema s → IsSchema (f s)
+  pub of_truth : (c : Context) (b : Bool) → c.dialect ≡ new → judge c (f (boolean b)) ≡ truth_value b
+  pub of_object : (c : Context) (ms : Members) → c.dialect ≡ new → Q ms
+      → judge c (f (object (walked f ms)))
+      ≡ keywords (record c { dialect = old }) (λ k. get_member k (walked f ms)) (reading_at (read_members c (walked f ms)))
+  pub definitions : (ms : Members) → (ns : Members) × (f (object ms) ≡ object ns) × (get_member key ns ≡ get_member key ms)
+
+pub moves : (f : Data → Data) (key : Text) (old new : Dialect) (Q : Members → Type 0) → Change f key old new Q → Moves (change_rules f) key old new Q
+moves f key old new Q h = record {
+  place = λ r k d. inl refl;
+  schema = λ r s is. h.schema s is;
+  of_truth = λ c r b is. h.of_truth c b is;
+  of_object = λ c r ms is q. h.of_object c ms is q;
+  definitions = λ r ms. h.definitions ms;
+}
+
+-- ---- what stands under keywords without schemas stays
+
+raw-walked-at : (f : Data → Data) (k : Text) (o : Option Data) → place_under k ≡ NoSchemas
+    → option_map (λ d. read_at (change_rules f) (place_under k) tt d) o ≡ o
+raw-walked-at f k None none = refl
+raw-walked-at f k (Some d) none = ap (λ p. Some (read_at (change_rules f) p tt d)) none
+
+pub raw-walked : (f : Data → Data) (k : Text) (ms : Members) → place_under k ≡ NoSchemas → get_member k (walked f ms) ≡ get_member k ms
+raw-walked f k ms none = keywords_get (change_rules f) tt k ms ∙ raw-walked-at f k (get_member k ms) none
+
+pub without-walked : (f : Data → Data) (k : Text) (ms : Members) → without k (walked f ms) ≡ walked f (without k ms)
+unfolding in_keywords
+without-walked f k no_members = refl
+without-walked f k (member l d ms) = go (bytes_eq k l) (without-walked f k ms)
+  where
+    go : (b : Bool) → without k (walked f ms) ≡ walked f (without k ms)
+        → (if b then walked f ms else member l (read_at (change_rules f) (place_under l) tt d) (without k (walked f ms)))
+        ≡ walked f (if b then ms else member l d (without k ms))
+    go true e = refl
+    go false e = ap (member l (read_at (change_rules f) (place_under l) tt d)) e
+
+pub none-walked : (f : Data → Data) (k : Text) (ms : Members) → get_member k ms ≡ None → get_member k (walked f ms) ≡ None
+none-walked f k ms none = keywords_get (change_rules f) tt k ms ∙ ap (option_map (λ d. read_at (change_rules f) (place_under k) tt d)) none
+
+pub once-walked : (f : Data → Data) (k : Text) (ms : Members) → IsOnce k ms → IsOnce k (walked f ms)
+once-walked f k ms once = ap (get_member k) (without-walked f k ms) ∙ none-walked f k (without k ms) once
+
+-- ---- lists of schemas stay such
+
+module _ (f : Data → Data) (kept : (s : Data) → IsSchema s → IsSchema (f s)) where
+  schema-walked : (d : Data) → IsSchema d → IsSchema (forms (change_rules f) tt d).as_schema
+  unfolding forms
+  schema-walked (boolean b) is = kept (boolean b) tt
+  schema-walked (object ms) is = kept (object (walked f ms)) tt
+  schema-walked null is = absurd is
+  schema-walked (number n) is = absurd is
+  schema-walked (string t) is = absurd is
+  schema-walked (array ds) is = absurd is
+
+  schemas-walked : (ds : Items) → AreSchemas ds → AreSchemas (in_items (change_rules f) tt ds)
+  unfolding forms
+  schemas-walked no_items are = tt
+  schemas-walked (item d ds) are = (schema-walked d are.0, schemas-walked ds are.1)
+
+  list-form : (o : Option Data) → IsSchemaList o → IsSchemaList (option_map (λ d. (forms (change_rules f) tt d).as_list) o)
+  unfolding forms
+  list-form None is = tt
+  list-form (Some (array ds)) is = schemas-walked ds is
+  list-form (Some null) is = absurd is
+  list-form (Some (boolean b)) is = absurd is
+  list-form (Some (number n)) is = absurd is
+  list-form (Some (string s)) is = absurd is
+  list-form (Some (object ms)) is = absurd is
+
+  schema-no_list : (s : Data) → IsSchema s → IsNoList (Some s)
+  schema-no_list (boolean b) is = tt
+  schema-no_list (object ms) is = tt
+  schema-no_list null is = absurd is
+  schema-no_list (number n) is = absurd is
+  schema-no_list (string t) is = absurd is
+  schema-no_list (array ds) is = absurd is
+
+  no_list-form : (o : Option Data) → IsNoList o → IsNoList (option_map (λ d. (forms (change_rules f) tt d).as_either) o)
+  unfolding forms
+  no_list-form None is = tt
+  no_list-form (Some null) is = tt
+  no_list-form (Some (boolean b)) is = schema-no_list (f (boolean b)) (kept (boolean b) tt)
+  no_list-form (Some (number n)) is = tt
+  no_list-form (Some (string s)) is = tt
+  no_list-form (Some (array ds)) is = absurd is
+  no_list-form (Some (object ms)) is = schema-no_list (f (object (walked f ms))) (kept (object (walked f ms)) tt)
+
+  pub list-walked : (k : Text) (ms : Members) → place_under k ≡ SchemaList → IsSchemaList (get_member k ms) → IsSchemaList (get_member k (walked f ms))
+  list-walked k ms at is =
+      subst IsSchemaList (sym (keywords_get (change_rules f) tt k ms
+      ∙ ap (λ p. option_map (λ d. read_at (change_rules f) p tt d) (get_member k ms)) at)) (list-form (get_member k ms) is)
+
+  pub no_list-walked : (k : Text) (ms : Members) → place_under k ≡ SchemaOrList → IsNoList (get_member k ms) → IsNoList (get_member k (walked f ms))
+  no_list-walked k ms at is =
+      subst IsNoList (sym (keywords_get (change_rules f) tt k ms
+      ∙ ap (λ p. option_map (λ d. read_at (change_rules f) p tt d) (get_member k ms)) at)) (no_list-form (get_member k ms) is)
+
+-- ---- a changed document has its definitions where they were
+
+map-form : (f : Data → Data) (o : Option Data) → IsMap o → IsMap (option_map (λ d. (forms (change_rules f) tt d).by_name) o)
+unfolding forms
+map-form f None is = tt
+map-form f (Some (object es)) is = tt
+map-form f (Some null) is = absurd is
+map-form f (Some (boolean b)) is = absurd is
+map-form f (Some (number n)) is = absurd is
+map-form f (Some (string s)) is = absurd is
+map-form f (Some (array ds)) is = absurd is
+
+pub map-walked : (f : Data → Data) (key : Text) (ms : Members) → place_under key ≡ SchemasByName → IsMap (get_member key ms) → IsMap (get_member key (walked f ms))
+map-walked f key ms at is =
+    subst IsMap (sym (keywords_get (change_rules f) tt key ms
+    ∙ ap (λ p. option_map (λ d. read_at (change_rules f) p tt d) (get_member key ms)) at)) (map-form f (get_member key ms) is)
+
+pub changed-document : (f : Data → Data) (key : Text) (ms : Members) → place_under key ≡ SchemasByName → IsMap (get_member key ms)
+    → (ns : Members) × (f (object (walked f ms)) ≡ object ns) × (get_member key ns ≡ get_member key (walked f ms))
+    → (ns : Members) × (rewritten (change_rules f) tt (object ms) ≡ object ns) × IsMap (get_member key ns)
+unfolding forms
+changed-document f key ms at map stays =
+    (stays.0, stays.1, subst IsMap (sym stays.2) (map-walked f key ms at map))

@@ -1,0 +1,71 @@
+-- The kinds of schema objects that laws speak of are kept by a walk, and by changes of other keywords.
+use Rattle.std.proofs.Common.{◌≡◌, ◌≢◌, Option, Some, None, Bool, true, false, codes, refl, sym, ap, ◌∙◌, subst}
+use Rattle.std.proofs.lemmas.Slice.Eq.{bytes_eq-Decides}
+use Rattle.std.specs.Prelude.{bytes_eq, if◌then◌else◌, option_and_then}
+use Rattle.serde_json.specs.Data.{Data, Members, no_members, member, put}
+use Rattle.serde_json.specs.Find.{get_member, as_str}
+use Rattle.schemars_json.specs.Json.{Text}
+use Rattle.schemars_schema.specs.SchemaData.{IsSchema}
+use Rattle.schemars_schema.specs.Edits.{without, replaced}
+use Rattle.schemars_laws.specs.Names.{IsNamed, HasName, IsNoObject, Named}
+use Rattle.schemars_laws.specs.Classes.{IsOnce, IsText, IsSchemaList, IsNoList, HasPlainItems, HasPlainReference}
+use Rattle.schemars_laws.proofs.Looked.{get_member-first, unequal, without-other, walked, raw-walked, none-walked, once-walked, list-walked, no_list-walked}
+use Rattle.schemars_laws.proofs.Apart.{differ}
+
+-- ---- by a walk
+
+pub named-walked : (f : Data → Data) (key : Text) (ms : Members) → HasName key ms → HasName key (walked f ms)
+named-walked f key ms is = subst (λ o. IsNamed key (option_and_then as_str o)) (sym (raw-walked f (codes "$ref") ms refl)) is
+
+pub closed-walked : (f : Data → Data) (ms : Members) → IsNoObject (get_member (codes "unevaluatedProperties") ms)
+    → IsNoObject (get_member (codes "unevaluatedProperties") (walked f ms))
+closed-walked f ms is = subst IsNoObject (sym (raw-walked f (codes "unevaluatedProperties") ms refl)) is
+
+module _ (f : Data → Data) (schema : (s : Data) → IsSchema s → IsSchema (f s)) where
+  pub reference-walked : (ms : Members) → HasPlainReference ms → HasPlainReference (walked f ms)
+  reference-walked ms plain =
+      (once-walked f (codes "$ref") ms plain.0, subst IsText (sym (raw-walked f (codes "$ref") ms refl)) plain.1,
+      list-walked f schema (codes "allOf") ms refl plain.2)
+
+  pub items-walked : (ms : Members) → HasPlainItems ms → HasPlainItems (walked f ms)
+  items-walked ms plain =
+      (once-walked f (codes "prefixItems") ms plain.0, list-walked f schema (codes "prefixItems") ms refl plain.1,
+      no_list-walked f schema (codes "items") ms refl plain.2, none-walked f (codes "additionalItems") ms plain.3)
+
+-- ---- by look-ups
+
+-- the members at k, and those behind the first of them, are the same
+pub record Alike (k : Text) (ns ms : Members) : Type 0 where
+  pub first : get_member k ns ≡ get_member k ms
+  pub others : get_member k (without k ns) ≡ get_member k (without k ms)
+
+pub name-alike : (key : Text) (ns ms : Members) → Alike (codes "$ref") ns ms → HasName key ms → HasName key ns
+name-alike key ns ms a is = subst (λ o. IsNamed key (option_and_then as_str o)) (sym a.first) is
+
+pub reference-alike : (ns ms : Members) → Alike (codes "$ref") ns ms → Alike (codes "allOf") ns ms → HasPlainReference ms → HasPlainReference ns
+reference-alike ns ms a b plain = (a.others ∙ plain.0, subst IsText (sym a.first) plain.1, subst IsSchemaList (sym b.first) plain.2)
+
+pub items-alike : (ns ms : Members) → Alike (codes "prefixItems") ns ms → Alike (codes "items") ns ms → Alike (codes "additionalItems") ns ms
+    → HasPlainItems ms → HasPlainItems ns
+items-alike ns ms a b c plain =
+    (a.others ∙ plain.0, subst IsSchemaList (sym a.first) plain.1, subst IsNoList (sym b.first) plain.2, c.first ∙ plain.3)
+
+pub without-swap : (k l : Text) (ms : Members) → k ≢ l → get_member k (without k (without l ms)) ≡ get_member k (without k ms)
+without-swap k l no_members apart = refl
+without-swap k l (member j d ms) apart = go (bytes_eq l j) refl (bytes_eq k j) refl (without-swap k l ms apart)
+  where
+    go : (b : Bool) → bytes_eq l j ≡ b → (a : Bool) → bytes_eq k j ≡ a → get_member k (without k (without l ms)) ≡ get_member k (without k ms)
+        → get_member k (without k (if b then ms else member j d (without l ms))) ≡ get_member k (if a then ms else member j d (without k ms))
+    go true at_l a at_k rest =
+        let other : bytes_eq k j ≡ false = unequal k j (λ same. apart (same ∙ sym ((bytes_eq-Decides l j).0 at_l))) in
+        sym (ap (λ b. get_member k (if b then ms else member j d (without k ms))) (sym at_k ∙ other)
+        ∙ (get_member-first k j d (without k ms) ∙ ap (λ b. if b then Some d else get_member k (without k ms)) other))
+    go false at_l true at_k rest =
+        ap (λ b. get_member k (if b then without l ms else member j d (without k (without l ms)))) at_k ∙ without-other l k ms apart
+    go false at_l false at_k rest =
+        ap (λ b. get_member k (if b then without l ms else member j d (without k (without l ms)))) at_k
+        ∙ (get_member-first k j d (without k (without l ms))
+        ∙ (ap (λ o. if bytes_eq k j then Some d else o) rest ∙ sym (get_member-first k j d (without k ms))))
+
+pub alike-without : (k l : Text) (ms : Members) → bytes_eq k l ≡ false → Alike k (without l ms) ms
+alike-without k l ms is = record { first = without-other l k ms (differ k l is); others = without-swap k l ms (differ k l is) }

@@ -1,0 +1,197 @@
+-- What holds of every schema object after a change of each.
+use Rattle.std.proofs.Common.{◌≡◌, ◌≢◌, Option, Some, None, Bool, true, false, Ordering, Less, Equal, Greater, nat_cmp, is_eq, refl, sym, ap, ◌∙◌, subst}
+use Rattle.std.proofs.lemmas.Slice.Eq.{bytes_eq-Decides}
+use Rattle.std.proofs.lemmas.Map.Text.{is_eq-slice_cmp}
+use Rattle.std.specs.Cmp.Lexicographic.{slice_cmp}
+use Rattle.std.specs.Ordering.{match_ordering}
+use Rattle.std.specs.Prelude.{bytes_eq, if◌then◌else◌}
+use Rattle.serde_json.specs.Data.{Data, null, boolean, number, string, array, object, Items, no_items, item, Members, no_members, member, put}
+use Rattle.serde_json.specs.Find.{get_member}
+use Rattle.schemars_json.specs.Json.{Text}
+use Rattle.schemars_schema.specs.SchemaData.{IsSchema}
+use Rattle.schemars_schema.specs.Edits.{without, replaced}
+use Rattle.schemars_schema.specs.References.{Place, NoSchemas, OneSchema, SchemaList, SchemaOrList, SchemasByName, place_under}
+use Rattle.schemars_walk.specs.Rewritten.{forms, form_at, in_items, in_names, in_keywords}
+use Rattle.schemars_laws.specs.Everywhere.{asked, asked_at, asked_of_items, asked_of_members, asked_of_keywords}
+use Rattle.schemars_laws.proofs.Looked.{change_rules, walked}
+
+-- ---- members taken out, and put in
+
+module _ (Q : Members → Type 0) where
+  pub asked-without : (k : Text) (ms : Members) → asked_of_keywords Q ms → asked_of_keywords Q (without k ms)
+  unfolding asked_of_keywords
+  asked-without k no_members a = tt
+  asked-without k (member l d ms) a = go (bytes_eq k l) (asked-without k ms a.1)
+    where
+      go : (b : Bool) → asked_of_keywords Q (without k ms) → asked_of_keywords Q (if b then ms else member l d (without k ms))
+      go true rest = a.1
+      go false rest = (a.0, rest)
+
+  pub asked-put : (k : Text) (d : Data) (ms : Members) → asked_at (place_under k) (asked Q d) → asked_of_keywords Q ms → asked_of_keywords Q (put k d ms)
+  unfolding asked_of_keywords
+  asked-put k d no_members here a = (here, tt)
+  asked-put k d (member l e ms) here a = go (slice_cmp nat_cmp k l) refl (asked-put k d ms here a.1)
+    where
+      go : (o : Ordering) → slice_cmp nat_cmp k l ≡ o → asked_of_keywords Q (put k d ms)
+          → asked_of_keywords Q (match_ordering o (member k d (member l e ms)) (member l d ms) (member l e (put k d ms)))
+      go Less is rest = (here, a)
+      go Equal is rest =
+          (subst (λ x. asked_at (place_under x) (asked Q d)) ((bytes_eq-Decides k l).0 (sym (is_eq-slice_cmp k l) ∙ ap is_eq is)) here, a.1)
+      go Greater is rest = (a.0, rest)
+
+  pub asked-replaced : (k : Text) (d : Data) (ms : Members) → asked_at (place_under k) (asked Q d) → asked_of_keywords Q ms → asked_of_keywords Q (replaced k d ms)
+  unfolding asked_of_keywords
+  asked-replaced k d no_members here a = tt
+  asked-replaced k d (member l e ms) here a = go (bytes_eq k l) refl (asked-replaced k d ms here a.1)
+    where
+      go : (b : Bool) → bytes_eq k l ≡ b → asked_of_keywords Q (replaced k d ms)
+          → asked_of_keywords Q (if b then member l d ms else member l e (replaced k d ms))
+      go true is rest = (subst (λ x. asked_at (place_under x) (asked Q d)) ((bytes_eq-Decides k l).0 is) here, a.1)
+      go false is rest = (a.0, rest)
+
+  pub asked-get : (k : Text) (ms : Members) (d : Data) → get_member k ms ≡ Some d → asked_of_keywords Q ms → asked_at (place_under k) (asked Q d)
+  unfolding asked_of_keywords
+  asked-get k no_members d is a = cc
+  asked-get k (member l e ms) d is a = go (slice_cmp nat_cmp k l) refl is (λ there. asked-get k ms d there a.1)
+    where
+      some : {x y : Data} → Some x ≡ Some y → x ≡ y
+      some e = cc
+
+      go : (o : Ordering) → slice_cmp nat_cmp k l ≡ o → match_ordering o (get_member k ms) (Some e) (get_member k ms) ≡ Some d
+          → (get_member k ms ≡ Some d → asked_at (place_under k) (asked Q d)) → asked_at (place_under k) (asked Q d)
+      go Less same is later = later is
+      go Equal same is later =
+          subst (λ x. asked_at (place_under k) (asked Q x)) (some is)
+          (subst (λ x. asked_at (place_under x) (asked Q e)) (sym ((bytes_eq-Decides k l).0 (sym (is_eq-slice_cmp k l) ∙ ap is_eq same))) a.0)
+      go Greater same is later = later is
+
+  pub schema-no_list : (s : Data) → IsSchema s → (asked Q s).as_list
+  unfolding asked
+  schema-no_list (boolean b) is = tt
+  schema-no_list (object ms) is = tt
+  schema-no_list null is = absurd is
+  schema-no_list (number n) is = absurd is
+  schema-no_list (string s) is = absurd is
+  schema-no_list (array ds) is = absurd is
+
+-- ---- what is weaker
+
+weaker-at : (P Q : Members → Type 0) (d : Data) → ((asked P d).as_schema → (asked Q d).as_schema) → ((asked P d).as_list → (asked Q d).as_list)
+    → ((asked P d).by_name → (asked Q d).by_name) → (p : Place) → asked_at p (asked P d) → asked_at p (asked Q d)
+weaker-at P Q d one list names NoSchemas a = tt
+weaker-at P Q d one list names OneSchema a = one a
+weaker-at P Q d one list names SchemaList a = list a
+weaker-at P Q d one list names SchemaOrList a = (one a.0, list a.1)
+weaker-at P Q d one list names SchemasByName a = names a
+
+module _ (P Q : Members → Type 0) (h : (ms : Members) → P ms → Q ms) where
+  mutual
+    unfolding asked
+    pub weaker : (d : Data) → (asked P d).as_schema → (asked Q d).as_schema
+    weaker null a = tt
+    weaker (boolean b) a = tt
+    weaker (number n) a = tt
+    weaker (string s) a = tt
+    weaker (array ds) a = tt
+    weaker (object ms) a = (h ms a.0, weaker-keywords ms a.1)
+
+    weaker-list : (d : Data) → (asked P d).as_list → (asked Q d).as_list
+    weaker-list null a = tt
+    weaker-list (boolean b) a = tt
+    weaker-list (number n) a = tt
+    weaker-list (string s) a = tt
+    weaker-list (array ds) a = weaker-items ds a
+    weaker-list (object ms) a = tt
+
+    weaker-names : (d : Data) → (asked P d).by_name → (asked Q d).by_name
+    weaker-names null a = tt
+    weaker-names (boolean b) a = tt
+    weaker-names (number n) a = tt
+    weaker-names (string s) a = tt
+    weaker-names (array ds) a = tt
+    weaker-names (object ms) a = weaker-members ms a
+
+    weaker-items : (ds : Items) → asked_of_items P ds → asked_of_items Q ds
+    weaker-items no_items a = tt
+    weaker-items (item d ds) a = (weaker d a.0, weaker-items ds a.1)
+
+    weaker-members : (ms : Members) → asked_of_members P ms → asked_of_members Q ms
+    weaker-members no_members a = tt
+    weaker-members (member k d ms) a = (weaker d a.0, weaker-members ms a.1)
+
+    weaker-keywords : (ms : Members) → asked_of_keywords P ms → asked_of_keywords Q ms
+    weaker-keywords no_members a = tt
+    weaker-keywords (member k d ms) a = (weaker-at P Q d (weaker d) (weaker-list d) (weaker-names d) (place_under k) a.0, weaker-keywords ms a.1)
+
+-- ---- a change of each schema
+
+-- what a change makes of a schema object is as Q says, where the schema was as P says and the schemas inside it now are as Q says
+pub record Preserves (f : Data → Data) (P Q : Members → Type 0) : Type 0 where
+  pub schema : (s : Data) → IsSchema s → IsSchema (f s)
+  pub of_truth : (b : Bool) → (asked Q (f (boolean b))).as_schema
+  pub of_object : (ms : Members) → P ms → asked_of_keywords Q (walked f ms) → (asked Q (f (object (walked f ms)))).as_schema
+
+module _ (f : Data → Data) (P Q : Members → Type 0) (h : Preserves f P Q) where
+  module _ (d : Data) (one : (asked P d).as_schema → (asked Q (forms (change_rules f) tt d).as_schema).as_schema)
+      (more : (asked P d).as_list → (asked Q (forms (change_rules f) tt d).as_list).as_list)
+      (named : (asked P d).by_name → (asked Q (forms (change_rules f) tt d).by_name).by_name) where
+    either : (e : Data) → e ≡ d → asked_at SchemaOrList (asked P d) → asked_at SchemaOrList (asked Q (forms (change_rules f) tt d).as_either)
+    unfolding asked forms
+    either null is a = subst (λ x. asked_at SchemaOrList (asked Q (forms (change_rules f) tt x).as_either)) is (tt, tt)
+    either (boolean b) is a =
+        subst (λ x. asked_at SchemaOrList (asked Q (forms (change_rules f) tt x).as_either)) is
+        (h.of_truth b, schema-no_list Q (f (boolean b)) (h.schema (boolean b) tt))
+    either (number n) is a = subst (λ x. asked_at SchemaOrList (asked Q (forms (change_rules f) tt x).as_either)) is (tt, tt)
+    either (string s) is a = subst (λ x. asked_at SchemaOrList (asked Q (forms (change_rules f) tt x).as_either)) is (tt, tt)
+    either (array ds) is a =
+        subst (λ x. asked_at SchemaOrList (asked Q (forms (change_rules f) tt x).as_either)) is
+        (tt, subst (λ x. (asked Q (forms (change_rules f) tt x).as_list).as_list) (sym is) (more a.1))
+    either (object ms) is a =
+        subst (λ x. asked_at SchemaOrList (asked Q (forms (change_rules f) tt x).as_either)) is
+        (subst (λ x. (asked Q (forms (change_rules f) tt x).as_schema).as_schema) (sym is) (one a.0),
+        schema-no_list Q (f (object (walked f ms))) (h.schema (object (walked f ms)) tt))
+
+    at : (p : Place) → asked_at p (asked P d) → asked_at p (asked Q (form_at p d (forms (change_rules f) tt d)))
+    at NoSchemas a = tt
+    at OneSchema a = one a
+    at SchemaList a = more a
+    at SchemaOrList a = either d refl a
+    at SchemasByName a = named a
+
+  mutual
+    unfolding asked forms
+    pub after : (d : Data) → (asked P d).as_schema → (asked Q (forms (change_rules f) tt d).as_schema).as_schema
+    after null a = tt
+    after (boolean b) a = h.of_truth b
+    after (number n) a = tt
+    after (string s) a = tt
+    after (array ds) a = tt
+    after (object ms) a = h.of_object ms a.0 (keywords ms a.1)
+
+    list : (d : Data) → (asked P d).as_list → (asked Q (forms (change_rules f) tt d).as_list).as_list
+    list null a = tt
+    list (boolean b) a = tt
+    list (number n) a = tt
+    list (string s) a = tt
+    list (array ds) a = items ds a
+    list (object ms) a = tt
+
+    names : (d : Data) → (asked P d).by_name → (asked Q (forms (change_rules f) tt d).by_name).by_name
+    names null a = tt
+    names (boolean b) a = tt
+    names (number n) a = tt
+    names (string s) a = tt
+    names (array ds) a = tt
+    names (object ms) a = members ms a
+
+    items : (ds : Items) → asked_of_items P ds → asked_of_items Q (in_items (change_rules f) tt ds)
+    items no_items a = tt
+    items (item d ds) a = (after d a.0, items ds a.1)
+
+    members : (ms : Members) → asked_of_members P ms → asked_of_members Q (in_names (change_rules f) tt ms)
+    members no_members a = tt
+    members (member k d ms) a = (after d a.0, members ms a.1)
+
+    keywords : (ms : Members) → asked_of_keywords P ms → asked_of_keywords Q (walked f ms)
+    keywords no_members a = tt
+    keywords (member k d ms) a = (at d (after d) (list d) (names d) (place_under k) a.0, keywords ms a.1)

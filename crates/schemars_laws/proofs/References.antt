@@ -1,0 +1,65 @@
+-- The references that generators write are names.
+use Rattle.std.proofs.Common.{◌≡◌, inl, inr, List, [], ◌∷◌, Option, Some, None, Bool, true, false, codes, refl, sym, ap, ◌∙◌}
+use Rattle.std.specs.Prelude.{IsUtf8, ◌++◌, option_and_then, if◌then◌else◌}
+use Rattle.serde_json.specs.Data.{Data, object, Members}
+use Rattle.serde_json.specs.Find.{get_member, pointer, walk, unescape}
+use Rattle.serde_json.proofs.OnLiterals.{serde_json_on_literals}
+use Rattle.schemars_json.specs.Json.{Text}
+use Rattle.schemars_json.specs.Encoding.{lookup, encoded, percent_decoded, percent_decoded_bytes, text_of_bytes}
+use Rattle.schemars_schema.proofs.Placings.{pointer-defs, pointer-definitions, plain-defs, plain-definitions, lookup-definition}
+use Rattle.schemars_laws.specs.Names.{IsNameOf, IsName}
+
+-- a path through what isn't there leads nowhere, whatever its text is decoded to
+text-nowhere : (p : Text → Option Data) (bs : List _) → p bs ≡ None → option_and_then p (text_of_bytes bs) ≡ None
+text-nowhere p bs none = go _
+  where
+    go : (b : Bool) → option_and_then p (if b then Some bs else None) ≡ None
+    go true = none
+    go false = refl
+
+missing-defs : (bs : Text) (ms : Members) → get_member (codes "$defs") ms ≡ None → pointer (codes "/$defs/" ++ bs) (object ms) ≡ None
+unfolding serde_json_on_literals
+missing-defs bs ms none = rw none refl
+
+decoded-defs : (rest : Text) → percent_decoded_bytes (codes "/$defs/" ++ rest) ≡ codes "/$defs/" ++ percent_decoded_bytes rest
+unfolding percent_decoded_bytes
+decoded-defs [] = refl
+decoded-defs (x ∷ []) = refl
+decoded-defs (x ∷ y ∷ rest) = refl
+
+nowhere-defs : (rest : Text) (ms : Members) → get_member (codes "$defs") ms ≡ None → lookup (codes "#/$defs/" ++ rest) (object ms) ≡ None
+unfolding percent_decoded
+nowhere-defs rest ms none =
+    ap (λ bs. option_and_then (λ p. pointer p (object ms)) (text_of_bytes bs)) (decoded-defs rest)
+    ∙ text-nowhere (λ p. pointer p (object ms)) (codes "/$defs/" ++ percent_decoded_bytes rest) (missing-defs (percent_decoded_bytes rest) ms none)
+
+pub defs-name : (k : Text) → IsUtf8 k → IsName (codes "$defs") (codes "#/$defs/" ++ encoded k)
+defs-name k text = inr (k, record {
+  there = λ ms es is. lookup-definition (codes "/$defs") k (object ms) es plain-defs (pointer-defs ms (object es) is) text;
+  missing = λ ms none. nowhere-defs (encoded k) ms none;
+})
+
+missing-definitions : (bs : Text) (ms : Members) → get_member (codes "definitions") ms ≡ None → pointer (codes "/definitions/" ++ bs) (object ms) ≡ None
+unfolding serde_json_on_literals
+missing-definitions bs ms none = rw none refl
+
+decoded-definitions : (rest : Text) → percent_decoded_bytes (codes "/definitions/" ++ rest) ≡ codes "/definitions/" ++ percent_decoded_bytes rest
+unfolding percent_decoded_bytes
+decoded-definitions [] = refl
+decoded-definitions (x ∷ []) = refl
+decoded-definitions (x ∷ y ∷ rest) = refl
+
+nowhere-definitions : (rest : Text) (ms : Members) → get_member (codes "definitions") ms ≡ None
+    → lookup (codes "#/definitions/" ++ rest) (object ms) ≡ None
+unfolding percent_decoded
+nowhere-definitions rest ms none =
+    ap (λ bs. option_and_then (λ p. pointer p (object ms)) (text_of_bytes bs)) (decoded-definitions rest)
+    ∙ text-nowhere (λ p. pointer p (object ms)) (codes "/definitions/" ++ percent_decoded_bytes rest)
+    (missing-definitions (percent_decoded_bytes rest) ms none)
+
+pub definitions-name : (k : Text) → IsUtf8 k → IsName (codes "definitions") (codes "#/definitions/" ++ encoded k)
+definitions-name k text = inr (k, record {
+  there = λ ms es is.
+      lookup-definition (codes "/definitions") k (object ms) es plain-definitions (pointer-definitions ms (object es) is) text;
+  missing = λ ms none. nowhere-definitions (encoded k) ms none;
+})

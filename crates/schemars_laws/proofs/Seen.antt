@@ -1,0 +1,224 @@
+-- What an object says depends on one reading of what stands under each keyword: as a schema, as a list, or by name.
+use Rattle.std.proofs.Common.{◌≡◌, List, [], ◌∷◌, Option, Some, None, Bool, true, false, codes, option_map, refl, sym, ap, ◌∙◌}
+use Rattle.std.proofs.Math.Path.{fun_ext}
+use Rattle.std.specs.Prelude.{bytes_eq, if◌then◌else◌, ◌||◌, ◌&&◌, option_and_then}
+use Rattle.serde_json.specs.Find.{as_str}
+use Rattle.serde_json.specs.Data.{Data, null, boolean, number, string, array, object}
+use Rattle.schemars_json.specs.Json.{Text}
+use Rattle.schemars_schema.specs.Verdict.{Verdict, all_of, any_of, one_of}
+use Rattle.schemars_schema.specs.References.{Place, NoSchemas, OneSchema, SchemaList, SchemaOrList, SchemasByName, place_under}
+use Rattle.schemars_schema.specs.Acceptance.{Context, Raw, Readings, Reading, Judge, Patterns, keywords, all_keywords, items_say}
+use Rattle.schemars_schema.specs.Acceptance.{properties_say, pattern_properties_say, additional_properties_say, each_says, not_says}
+use Rattle.schemars_laws.proofs.Keywords.{all_say, fits-all}
+use Rattle.schemars_schema.specs.Acceptance.{reference_says, type_says, const_says, enum_says, minimum_says, maximum_says}
+use Rattle.schemars_schema.specs.Acceptance.{min_length_says, max_length_says, pattern_says, min_items_says, max_items_says}
+use Rattle.schemars_schema.specs.Acceptance.{unique_items_says, required_says, reference_alone, judged_by, judged_by_reference}
+use Rattle.schemars_schema.specs.Acceptance.{unevaluated_properties_say, judged_beside, is_covered, stands_schema, judged_by_list}
+
+-- the place under a keyword whose schemas are read, whether a walk reaches them or not
+abbrev pub place_read : Text → Place
+place_read k = if bytes_eq k (codes "unevaluatedProperties") then OneSchema else place_under k
+
+abbrev pub seen : Place → Reading → Reading
+seen NoSchemas x = record { schema = None; listed = None; named = None }
+seen OneSchema x = record { schema = x.schema; listed = None; named = None }
+seen SchemaList x = record { schema = None; listed = x.listed; named = None }
+seen SchemaOrList x = record { schema = x.schema; listed = x.listed; named = None }
+seen SchemasByName x = record { schema = None; listed = None; named = x.named }
+
+abbrev pub seen_under : Readings → Readings
+seen_under read k = option_map (seen (place_read k)) (read k)
+
+pub judge_ext : (a b : Judge) → ((v : Data) → a.fits v ≡ b.fits v) → ((v : Data) (k : Text) → a.judges v k ≡ b.judges v k) → a ≡ b
+judge_ext a b fit judged =
+    ap (λ f. record { fits = f; judges = a.judges }) (fun_ext fit)
+    ∙ ap (λ j. record { fits = b.fits; judges = j }) (fun_ext (λ v. fun_ext (judged v)))
+
+items-seen : (b : Bool) (p i a : Option Reading) (v : Data)
+    → items_say b (option_map (seen SchemaList) p) (option_map (seen SchemaOrList) i) (option_map (seen OneSchema) a) v ≡ items_say b p i a v
+items-seen true None None a v = refl
+items-seen true None (Some i) a v = refl
+items-seen true (Some p) None a v = refl
+items-seen true (Some p) (Some i) a v = refl
+items-seen false p None a v = refl
+items-seen false p (Some i) None v = refl
+items-seen false p (Some i) (Some a) v = refl
+
+properties-seen : (o : Option Reading) (v : Data) → properties_say (option_map (seen SchemasByName) o) v ≡ properties_say o v
+properties-seen None v = refl
+properties-seen (Some x) v = refl
+
+pattern_properties-seen : (patterns : Patterns) (o : Option Reading) (v : Data)
+    → pattern_properties_say patterns (option_map (seen SchemasByName) o) v ≡ pattern_properties_say patterns o v
+pattern_properties-seen patterns None v = refl
+pattern_properties-seen patterns (Some x) v = refl
+
+covered-seen : (patterns : Patterns) (o p : Option Reading)
+    → is_covered patterns (option_map (seen SchemasByName) o) (option_map (seen SchemasByName) p) ≡ is_covered patterns o p
+covered-seen patterns None None = refl
+covered-seen patterns None (Some p) = refl
+covered-seen patterns (Some o) None = refl
+covered-seen patterns (Some o) (Some p) = refl
+
+additional-seen : (covered : Text → Bool) (o : Option Reading) (v : Data)
+    → additional_properties_say covered (option_map (seen OneSchema) o) v ≡ additional_properties_say covered o v
+additional-seen covered None v = refl
+additional-seen covered (Some x) v = refl
+
+unevaluated-seen : (b : Bool) (judged : Text → Bool) (o : Option Reading) (v : Data)
+    → unevaluated_properties_say b judged (option_map (seen OneSchema) o) v ≡ unevaluated_properties_say b judged o v
+unevaluated-seen true judged o v = additional-seen judged o v
+unevaluated-seen false judged o v = refl
+
+each-seen : (join : _) (o : Option Reading) (v : Data) → each_says join (option_map (seen SchemaList) o) v ≡ each_says join o v
+each-seen join None v = refl
+each-seen join (Some x) v = refl
+
+not-seen : (o : Option Reading) (v : Data) → not_says (option_map (seen OneSchema) o) v ≡ not_says o v
+not-seen None v = refl
+not-seen (Some x) v = refl
+
+stands-seen : (o : Option Reading) → stands_schema (option_map (seen OneSchema) o) ≡ stands_schema o
+stands-seen None = refl
+stands-seen (Some x) = refl
+
+judged_list-seen : (o : Option Reading) (v : Data) (k : Text) → judged_by_list (option_map (seen SchemaList) o) v k ≡ judged_by_list o v k
+judged_list-seen None v k = refl
+judged_list-seen (Some x) v k = refl
+
+pub or-cong : {a b c d : Bool} → a ≡ b → c ≡ d → a || c ≡ b || d
+or-cong {b} {c} e h = ap (λ x. x || c) e ∙ ap (λ x. b || x) h
+
+or-else : (a : Bool) {c d : Bool} → c ≡ d → a || c ≡ a || d
+or-else a h = ap (λ x. a || x) h
+
+judged-seen : (c : Context) (raw : Raw) (read : Readings) (v : Data) (k : Text) → judged_beside c raw (seen_under read) v k ≡ judged_beside c raw read v k
+judged-seen c raw read v k =
+    or-cong (ap (λ f. f k) (covered-seen c.patterns (read (codes "properties")) (read (codes "patternProperties"))))
+    (or-cong (stands-seen (read (codes "additionalProperties")))
+    (or-cong (judged_list-seen (read (codes "allOf")) v k)
+    (or-cong (judged_list-seen (read (codes "anyOf")) v k)
+    (or-cong (judged_list-seen (read (codes "oneOf")) v k) refl))))
+
+additional_covered-seen : (patterns : Patterns) (o p a : Option Reading) (v : Data)
+    → additional_properties_say (is_covered patterns (option_map (seen SchemasByName) o) (option_map (seen SchemasByName) p)) (option_map (seen OneSchema) a) v
+    ≡ additional_properties_say (is_covered patterns o p) a v
+additional_covered-seen patterns o p a v =
+    ap (λ f. additional_properties_say f (option_map (seen OneSchema) a) v) (covered-seen patterns o p) ∙ additional-seen (is_covered patterns o p) a v
+
+unevaluated_judged-seen : (c : Context) (raw : Raw) (read : Readings) (o : Option Reading) (v : Data)
+    → unevaluated_properties_say c.dialect.reads_unevaluated (judged_beside c raw (seen_under read) v) (option_map (seen OneSchema) o) v
+    ≡ unevaluated_properties_say c.dialect.reads_unevaluated (judged_beside c raw read v) o v
+unevaluated_judged-seen c raw read o v =
+    ap (λ f. unevaluated_properties_say c.dialect.reads_unevaluated f (option_map (seen OneSchema) o) v) (fun_ext (judged-seen c raw read v))
+    ∙ unevaluated-seen c.dialect.reads_unevaluated (judged_beside c raw read v) o v
+
+cons : {x y : Verdict} {xs ys : List Verdict} → x ≡ y → xs ≡ ys → x ∷ xs ≡ y ∷ ys
+cons {y} {xs} e h = ap (λ z. z ∷ xs) e ∙ ap (λ zs. y ∷ zs) h
+
+same : {xs ys : List Verdict} {x : Verdict} → xs ≡ ys → x ∷ xs ≡ x ∷ ys
+same {x} h = ap (λ zs. x ∷ zs) h
+
+verdicts-seen : (c : Context) (raw : Raw) (read : Readings) (v : Data) → all_say c raw (seen_under read) v ≡ all_say c raw read v
+verdicts-seen c raw read v =
+    same (same (same (same (same (same (same (same (same (same (same (same
+    (cons (items-seen c.dialect.reads_prefix_items (read (codes "prefixItems")) (read (codes "items")) (read (codes "additionalItems")) v)
+    (same
+    (cons (properties-seen (read (codes "properties")) v)
+    (cons (pattern_properties-seen c.patterns (read (codes "patternProperties")) v)
+    (cons (additional_covered-seen c.patterns (read (codes "properties")) (read (codes "patternProperties")) (read (codes "additionalProperties")) v)
+    (cons (each-seen all_of (read (codes "allOf")) v)
+    (cons (each-seen any_of (read (codes "anyOf")) v)
+    (cons (each-seen one_of (read (codes "oneOf")) v)
+    (cons (not-seen (read (codes "not")) v)
+    (cons (unevaluated_judged-seen c raw read (read (codes "unevaluatedProperties")) v) refl)))))))))))))))))))))
+
+fits-seen : (c : Context) (raw : Raw) (read : Readings) (v : Data) → (all_keywords c raw (seen_under read)).fits v ≡ (all_keywords c raw read).fits v
+fits-seen c raw read v =
+    fits-all c raw (seen_under read) v ∙ (ap all_of (verdicts-seen c raw read v) ∙ sym (fits-all c raw read v))
+
+judges-seen : (c : Context) (raw : Raw) (read : Readings) (v : Data) (k : Text)
+    → (all_keywords c raw (seen_under read)).judges v k ≡ (all_keywords c raw read).judges v k
+unfolding all_keywords
+judges-seen c raw read v k =
+    or-cong (judged-seen c raw read v k) (ap (λ b. c.dialect.reads_unevaluated && b) (stands-seen (read (codes "unevaluatedProperties"))))
+
+all_keywords-seen : (c : Context) (raw : Raw) (read : Readings) → all_keywords c raw (seen_under read) ≡ all_keywords c raw read
+all_keywords-seen c raw read = judge_ext _ _ (fits-seen c raw read) (judges-seen c raw read)
+
+-- ---- and on the schema that its own reference leads to
+
+-- two ways to follow references agree on this one, if it is one
+abbrev pub AgreeOn : (Text → Judge) → (Text → Judge) → Option Data → Type 0
+AgreeOn f g reference = elim (option_and_then as_str reference) [ None ↦ Unit {0} | Some t ↦ f t ≡ g t ]
+
+reference-same : (f g : Text → Judge) (reference : Option Data) (v : Data) → AgreeOn f g reference
+    → reference_says f reference v ≡ reference_says g reference v
+reference-same f g None v e = refl
+reference-same f g (Some null) v e = refl
+reference-same f g (Some (boolean b)) v e = refl
+reference-same f g (Some (number n)) v e = refl
+reference-same f g (Some (string t)) v e = ap (λ j. j.fits v) e
+reference-same f g (Some (array ds)) v e = refl
+reference-same f g (Some (object ms)) v e = refl
+
+judged_reference-same : (f g : Text → Judge) (reference : Option Data) (v : Data) (k : Text) → AgreeOn f g reference
+    → judged_by_reference f reference v k ≡ judged_by_reference g reference v k
+judged_reference-same f g None v k e = refl
+judged_reference-same f g (Some null) v k e = refl
+judged_reference-same f g (Some (boolean b)) v k e = refl
+judged_reference-same f g (Some (number n)) v k e = refl
+judged_reference-same f g (Some (string t)) v k e = ap (λ j. judged_by j v k) e
+judged_reference-same f g (Some (array ds)) v k e = refl
+judged_reference-same f g (Some (object ms)) v k e = refl
+
+module _ (c : Context) (f : Text → Judge) (raw : Raw) (read : Readings) (e : AgreeOn f c.follow (raw (codes "$ref"))) where
+  judged-follow : (v : Data) (k : Text) → judged_beside (record c { follow = f }) raw read v k ≡ judged_beside c raw read v k
+  judged-follow v k =
+      or-else (is_covered c.patterns (read (codes "properties")) (read (codes "patternProperties")) k)
+      (or-else (stands_schema (read (codes "additionalProperties")))
+      (or-else (judged_by_list (read (codes "allOf")) v k)
+      (or-else (judged_by_list (read (codes "anyOf")) v k)
+      (or-else (judged_by_list (read (codes "oneOf")) v k)
+      (judged_reference-same f c.follow (raw (codes "$ref")) v k e)))))
+
+  verdicts-follow : (v : Data) → all_say (record c { follow = f }) raw read v ≡ all_say c raw read v
+  verdicts-follow v =
+      cons (reference-same f c.follow (raw (codes "$ref")) v e)
+      (same (same (same (same (same (same (same (same (same (same (same (same (same (same (same (same (same (same (same (same
+      (cons (ap (λ g. unevaluated_properties_say c.dialect.reads_unevaluated g (read (codes "unevaluatedProperties")) v) (fun_ext (judged-follow v)))
+      refl)))))))))))))))))))))
+
+  all_keywords-follow : all_keywords (record c { follow = f }) raw read ≡ all_keywords c raw read
+  unfolding all_keywords
+  all_keywords-follow =
+      judge_ext _ _
+      (λ v. fits-all (record c { follow = f }) raw read v ∙ (ap all_of (verdicts-follow v) ∙ sym (fits-all c raw read v)))
+      (λ v k. ap (λ b. b || (c.dialect.reads_unevaluated && stands_schema (read (codes "unevaluatedProperties")))) (judged-follow v k))
+
+  alone-follow : reference_alone (record c { follow = f }) raw ≡ reference_alone c raw
+  alone-follow =
+      judge_ext _ _ (λ v. reference-same f c.follow (raw (codes "$ref")) v e)
+      (λ v k. judged_reference-same f c.follow (raw (codes "$ref")) v k e)
+
+  pub keywords-follow : keywords (record c { follow = f }) raw read ≡ keywords c raw read
+  keywords-follow = rw (all_keywords-follow, alone-follow) refl
+
+-- ---- what stands under keywords for schemas is only read
+
+abbrev pub at_no_schemas : Place → Option Data → Option Data
+at_no_schemas NoSchemas o = o
+at_no_schemas OneSchema o = None
+at_no_schemas SchemaList o = None
+at_no_schemas SchemaOrList o = None
+at_no_schemas SchemasByName o = None
+
+abbrev pub unread_under : Raw → Raw
+unread_under raw k = at_no_schemas (place_under k) (raw k)
+
+pub keywords-unread : (c : Context) (raw : Raw) (read : Readings) → keywords c (unread_under raw) read ≡ keywords c raw read
+unfolding all_keywords
+keywords-unread c raw read = refl
+
+pub keywords-seen : (c : Context) (raw : Raw) (read : Readings) → keywords c raw (seen_under read) ≡ keywords c raw read
+keywords-seen c raw read = rw (all_keywords-seen c raw read) refl

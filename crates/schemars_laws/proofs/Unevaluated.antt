@@ -1,0 +1,126 @@
+-- Where there are no `unevaluatedProperties`, nothing changes, whether they are read or not.
+use Rattle.std.proofs.Common.{◌≡◌, ◌≢◌, List, [], ◌∷◌, Option, Some, None, Bool, true, false, codes, option_map, refl, sym, ap, ◌∙◌, subst}
+use Rattle.std.proofs.lemmas.Slice.Eq.{bytes_eq-Decides}
+use Rattle.std.specs.Prelude.{bytes_eq, if◌then◌else◌, ◌||◌, ◌&&◌, not}
+use Rattle.serde_json.specs.Data.{Data, null, boolean, number, string, array, object, Members, no_members, member, put}
+use Rattle.serde_json.specs.Find.{get, get_member}
+use Rattle.serde_json.proofs.Views.{get_member-put_other}
+use Rattle.schemars_json.specs.Json.{Text}
+use Rattle.schemars_schema.specs.SchemaData.{IsSchema}
+use Rattle.schemars_schema.specs.Edits.{without}
+use Rattle.schemars_schema.specs.Verdict.{Verdict, Yes}
+use Rattle.schemars_schema.specs.Acceptance.{Dialect, Context, Raw, Readings, judge, keywords, all_keywords, reference_alone, is_reference}
+use Rattle.schemars_schema.specs.Acceptance.{truth_value, read_data, read_members, reading_at, unevaluated_properties_say, judged_beside, stands_schema}
+use Rattle.schemars_schema.proofs.Objects.{judge-agree, reading_at-members}
+use Rattle.schemars_gen_transform.specs.Unevaluated.{unevaluated_as_additional, closed_by, property_names, properties_made, properties_named, named_in, with_names}
+use Rattle.schemars_laws.specs.Classes.{HasNoUnevaluated, with_unevaluated, without_unevaluated}
+use Rattle.schemars_laws.proofs.Seen.{judge_ext}
+use Rattle.schemars_laws.proofs.Formats.{truth-judge}
+use Rattle.schemars_laws.proofs.Looked.{without-other, walked, none-walked, once-walked, Change}
+use Rattle.schemars_laws.proofs.Apart.{look_up, differ}
+use Rattle.schemars_laws.proofs.Siblings.{unevaluated-none, and-false}
+
+-- what is not there is not missed
+module _ (c : Context) (d : Dialect) (raw : Raw) (read : Readings) (none : read (codes "unevaluatedProperties") ≡ None) where
+  abbrev now : Context
+  now = record c { dialect = without_unevaluated d }
+
+  abbrev was : Context
+  was = record c { dialect = with_unevaluated d }
+
+  said : (judged : Text → Bool) (v : Data) → unevaluated_properties_say true judged (read (codes "unevaluatedProperties")) v ≡ Yes
+  said judged v = ap (λ o. unevaluated_properties_say true judged o v) none
+
+  fits-same : (v : Data) → (all_keywords now raw read).fits v ≡ (all_keywords was raw read).fits v
+  unfolding all_keywords
+  fits-same v = rw (said (judged_beside was raw read v) v) refl
+
+  judges-same : (v : Data) (k : Text) → (all_keywords now raw read).judges v k ≡ (all_keywords was raw read).judges v k
+  unfolding all_keywords
+  judges-same v k = ap (λ o. judged_beside c raw read v k || stands_schema o) (sym none)
+
+  keywords-same : keywords now raw read ≡ keywords was raw read
+  keywords-same =
+      ap (λ j. if not d.judges_siblings && is_reference (raw (codes "$ref")) then reference_alone c raw else j) (judge_ext _ _ fits-same judges-same)
+
+judge-without : (c : Context) (ms : Members) → HasNoUnevaluated ms
+    → judge c (unevaluated_as_additional (object ms)) ≡ judge c (object ms)
+judge-without c ms none =
+    ap (λ o. judge c (closed_by o (object (without (codes "unevaluatedProperties") ms)))) none.1
+    ∙ judge-agree c (without (codes "unevaluatedProperties") ms) ms (λ k key. at k (bytes_eq k (codes "unevaluatedProperties")) refl)
+  where
+    at : (k : Text) (b : Bool) → bytes_eq k (codes "unevaluatedProperties") ≡ b → get_member k (without (codes "unevaluatedProperties") ms) ≡ get_member k ms
+    at k true is =
+        let same : k ≡ codes "unevaluatedProperties" = (bytes_eq-Decides k (codes "unevaluatedProperties")).0 is in
+        subst (λ l. get_member l (without (codes "unevaluatedProperties") ms) ≡ get_member l ms) (sym same) (none.0 ∙ sym none.1)
+    at k false is = without-other (codes "unevaluatedProperties") k ms (differ k (codes "unevaluatedProperties") is)
+
+judge-unevaluated : (c : Context) (d : Dialect) (ms : Members) → c.dialect ≡ without_unevaluated d → HasNoUnevaluated ms
+    → judge c (unevaluated_as_additional (object ms)) ≡ keywords (record c { dialect = with_unevaluated d }) (look_up ms) (reading_at (read_members c ms))
+unfolding read_data
+judge-unevaluated c d ms is none =
+    judge-without c ms none
+    ∙ (ap (λ e. keywords (record c { dialect = e }) (look_up ms) (reading_at (read_members c ms))) is
+    ∙ keywords-same c d (look_up ms) (reading_at (read_members c ms))
+    (reading_at-members c ms (codes "unevaluatedProperties") ∙ ap (option_map (read_data c)) none.1))
+
+-- ---- what the change makes of any schema
+
+module _ (P : Data → Type 0) (ks : List Text) (xs : Members) (stay : P (object xs)) (made : (d : Data) → P (object (put (codes "properties") d xs))) where
+  by_names : (ms : Members) → P (properties_made ms (object xs))
+  by_names no_members = stay
+  by_names (member k d ms) = made (object (member k d ms))
+
+  by_properties : (o : Option Data) → P (properties_named ks o (object xs))
+  by_properties None = by_names (with_names ks no_members)
+  by_properties (Some d) = made (named_in ks d)
+
+abbrev closed_members : Data → Members → Members
+closed_members rest ms = put (codes "additionalProperties") rest (without (codes "unevaluatedProperties") ms)
+
+module _ (P : Data → Type 0) (ms : Members) (stay : P (object (without (codes "unevaluatedProperties") ms)))
+    (closed : (rest : Data) → P (object (without (codes "properties") (closed_members rest ms))))
+    (named : (rest d : Data) → P (object (put (codes "properties") d (without (codes "properties") (closed_members rest ms))))) where
+  by_rest : (o : Option Data) → P (closed_by o (object (without (codes "unevaluatedProperties") ms)))
+  by_rest None = stay
+  by_rest (Some rest) =
+      by_properties P (property_names (object (without (codes "properties") (closed_members rest ms))))
+      (without (codes "properties") (closed_members rest ms)) (closed rest) (named rest) (get_member (codes "properties") (closed_members rest ms))
+
+pub schema-unevaluated : (s : Data) → IsSchema s → IsSchema (unevaluated_as_additional s)
+schema-unevaluated (boolean b) is = tt
+schema-unevaluated (object ms) is = by_rest IsSchema ms tt (λ rest. tt) (λ rest d. tt) (get_member (codes "unevaluatedProperties") ms)
+schema-unevaluated null is = absurd is
+schema-unevaluated (number n) is = absurd is
+schema-unevaluated (string t) is = absurd is
+schema-unevaluated (array ds) is = absurd is
+
+pub definitions-stay : (key : Text) (ms : Members) → key ≢ codes "unevaluatedProperties" → key ≢ codes "additionalProperties" → key ≢ codes "properties"
+    → (ns : Members) × (unevaluated_as_additional (object ms) ≡ object ns) × (get_member key ns ≡ get_member key ms)
+definitions-stay key ms rest additional properties =
+    by_rest (λ s. (ns : Members) × (s ≡ object ns) × (get_member key ns ≡ get_member key ms)) ms
+    (without (codes "unevaluatedProperties") ms, refl, without-other (codes "unevaluatedProperties") key ms rest)
+    (λ d. (without (codes "properties") (closed_members d ms), refl, closed d))
+    (λ d e. (put (codes "properties") e (without (codes "properties") (closed_members d ms)), refl,
+    get_member-put_other key (codes "properties") e (without (codes "properties") (closed_members d ms)) properties ∙ closed d))
+    (get_member (codes "unevaluatedProperties") ms)
+  where
+    closed : (d : Data) → get_member key (without (codes "properties") (closed_members d ms)) ≡ get_member key ms
+    closed d =
+        without-other (codes "properties") key (closed_members d ms) properties
+        ∙ (get_member-put_other key (codes "additionalProperties") d (without (codes "unevaluatedProperties") ms) additional
+        ∙ without-other (codes "unevaluatedProperties") key ms rest)
+
+pub none-kept : (ms : Members) → HasNoUnevaluated ms → HasNoUnevaluated (walked unevaluated_as_additional ms)
+none-kept ms none =
+    (once-walked unevaluated_as_additional (codes "unevaluatedProperties") ms none.0,
+    none-walked unevaluated_as_additional (codes "unevaluatedProperties") ms none.1)
+
+pub unevaluated_properties : (key : Text) (d : Dialect) → key ≢ codes "unevaluatedProperties" → key ≢ codes "additionalProperties"
+    → key ≢ codes "properties" → Change unevaluated_as_additional key (with_unevaluated d) (without_unevaluated d) HasNoUnevaluated
+unevaluated_properties key d rest additional properties = record {
+  schema = schema-unevaluated;
+  of_truth = λ c b is. truth-judge c b;
+  of_object = λ c ms is none. judge-unevaluated c d (walked unevaluated_as_additional ms) is (none-kept ms none);
+  definitions = λ ms. definitions-stay key ms rest additional properties;
+}

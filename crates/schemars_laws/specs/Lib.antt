@@ -1,0 +1,5 @@
+-- The definitions that the laws cite.
+pub mod Everywhere
+pub mod Names
+pub mod Classes
+pub mod Laws

@@ -1,0 +1,46 @@
+-- References that name the document or one of its definitions.
+use Rattle.std.specs.Prelude.{◌≡◌, ◌⊎◌, Option, Some, None, option_and_then, codes}
+use Rattle.serde_json.specs.Data.{Data, null, boolean, number, string, array, object, Members}
+use Rattle.serde_json.specs.Find.{get_member, as_str}
+use Rattle.schemars_json.specs.Json.{Text}
+use Rattle.schemars_json.specs.Encoding.{lookup}
+
+-- where a map stands at key in a document, the reference leads to its member k, and to nothing where nothing stands there
+pub record IsNameOf (key k reference : Text) : Type 0 where
+  pub there : (ms es : Members) → get_member key ms ≡ Some (object es) → lookup reference (object ms) ≡ get_member k es
+  pub missing : (ms : Members) → get_member key ms ≡ None → lookup reference (object ms) ≡ None
+
+-- the whole, or a definition, where the definitions stand at key
+abbrev pub IsName : Text → Text → Type 0
+IsName key reference = (reference ≡ codes "#") ⊎ ((k : Text) × IsNameOf key k reference)
+
+abbrev pub IsNamed : Text → Option Text → Type 0
+IsNamed key None = Unit {0}
+IsNamed key (Some reference) = IsName key reference
+
+-- what stands under `$ref`, if it is a text, names the document or a definition
+abbrev pub HasName : Text → Members → Type 0
+HasName key ms = IsNamed key (option_and_then as_str (get_member (codes "$ref") ms))
+
+abbrev pub IsNoObject : Option Data → Type 0
+IsNoObject None = Unit {0}
+IsNoObject (Some null) = Unit {0}
+IsNoObject (Some (boolean b)) = Unit {0}
+IsNoObject (Some (number n)) = Unit {0}
+IsNoObject (Some (string s)) = Unit {0}
+IsNoObject (Some (array ds)) = Unit {0}
+IsNoObject (Some (object ms)) = ⊥
+
+-- so, and as Q says; under `unevaluatedProperties`, where a walk doesn't lead, there is to be no schema object
+abbrev pub Named : Text → (Members → Type 0) → Members → Type 0
+Named key Q ms = HasName key ms × IsNoObject (get_member (codes "unevaluatedProperties") ms) × Q ms
+
+-- the definitions are a map, or there are none
+abbrev pub IsMap : Option Data → Type 0
+IsMap None = Unit {0}
+IsMap (Some null) = ⊥
+IsMap (Some (boolean b)) = ⊥
+IsMap (Some (number n)) = ⊥
+IsMap (Some (string s)) = ⊥
+IsMap (Some (array ds)) = ⊥
+IsMap (Some (object ms)) = Unit {0}
