@@ -32,9 +32,10 @@ alone = record { schema = schema-siblings; of_truth = λ b. tt; of_object = go }
             → (asked IsReferenceAlone (if b then object ns else reference_moved o (object (without (codes "$ref") ns)))).as_schema
         each true one o = (inr one, a)
         each false one None = (inl gone, asked-without IsReferenceAlone (codes "$ref") ns a)
-        each false one (Some r) =
-            (inl (get-moved r ns (codes "$ref") (differ (codes "$ref") (codes "allOf") refl) ∙ gone),
-            asked-moved IsReferenceAlone r (inr refl, (tt, tt)) ns a)
+        each false one (Some r) = (
+          inl (get-moved r ns (codes "$ref") (differ (codes "$ref") (codes "allOf") refl) ∙ gone),
+          asked-moved IsReferenceAlone r (inr refl, (tt, tt)) ns a,
+        )
 
 pub references-alone : (s : Data) → Everywhere (IsOnce (codes "$ref")) s → Everywhere IsReferenceAlone (remove_ref_siblings s)
 references-alone s once = after without_siblings (IsOnce (codes "$ref")) IsReferenceAlone alone s once

@@ -51,21 +51,35 @@ module _ (c : Context) (d : Dialect) (ms : Members) (once : IsOnce (codes "const
   none-same : get_member (codes "const") ms ≡ None
       → four_by c (without_const d) (look_up (const_members None ms)) v x ≡ four_by c (with_const d) (look_up ms) v x
   none-same none =
-      rw (other None (codes "prefixItems") refl refl, other None (codes "items") refl refl, other None (codes "additionalItems") refl refl,
-      without-other (codes "const") (codes "enum") ms (differ (codes "enum") (codes "const") refl), once,
-      other None (codes "type") refl refl, other None (codes "nullable") refl refl, none)
+      rw (
+        other None (codes "prefixItems") refl refl,
+        other None (codes "items") refl refl,
+        other None (codes "additionalItems") refl refl,
+        without-other (codes "const") (codes "enum") ms (differ (codes "enum") (codes "const") refl),
+        once,
+        other None (codes "type") refl refl,
+        other None (codes "nullable") refl refl,
+        none,
+      )
       (no_const c d (get_member (codes "prefixItems") ms) (get_member (codes "items") ms) (get_member (codes "additionalItems") ms)
       (get_member (codes "type") ms) (get_member (codes "nullable") ms) v x (get_member (codes "enum") ms))
 
   some-same : (w : Data) → get_member (codes "const") ms ≡ Some w → get_member (codes "enum") ms ≡ None
       → four_by c (without_const d) (look_up (const_members (Some w) ms)) v x ≡ four_by c (with_const d) (look_up ms) v x
   some-same w const enum =
-      rw (other (Some w) (codes "prefixItems") refl refl, other (Some w) (codes "items") refl refl,
-      other (Some w) (codes "additionalItems") refl refl,
-      get_member-put (codes "enum") (array (item w no_items)) (without (codes "const") ms),
-      get_member-put_other (codes "const") (codes "enum") (array (item w no_items)) (without (codes "const") ms)
-      (differ (codes "const") (codes "enum") refl), once,
-      other (Some w) (codes "type") refl refl, other (Some w) (codes "nullable") refl refl, const, enum)
+      rw (
+        other (Some w) (codes "prefixItems") refl refl,
+        other (Some w) (codes "items") refl refl,
+        other (Some w) (codes "additionalItems") refl refl,
+        get_member-put (codes "enum") (array (item w no_items)) (without (codes "const") ms),
+        get_member-put_other (codes "const") (codes "enum") (array (item w no_items)) (without (codes "const") ms)
+            (differ (codes "const") (codes "enum") refl),
+        once,
+        other (Some w) (codes "type") refl refl,
+        other (Some w) (codes "nullable") refl refl,
+        const,
+        enum,
+      )
       (as_enum c d (get_member (codes "prefixItems") ms) (get_member (codes "items") ms) (get_member (codes "additionalItems") ms)
       (get_member (codes "type") ms) (get_member (codes "nullable") ms) v x w)
 
@@ -123,6 +137,9 @@ const_value key d const enum = record {
   schema = schema-const;
   of_truth = λ c b is. truth-const c b;
   of_object = λ c ms is alone. judge-const c d (walked const_as_enum ms) is (alone-walked ms alone);
-  definitions = λ ms. (const_members (get_member (codes "const") ms) ms, changed (get_member (codes "const") ms) ms,
-      get-other (get_member (codes "const") ms) key ms const enum);
+  definitions = λ ms. (
+    const_members (get_member (codes "const") ms) ms,
+    changed (get_member (codes "const") ms) ms,
+    get-other (get_member (codes "const") ms) key ms const enum,
+  );
 }

@@ -43,15 +43,18 @@ after-unevaluated key = record { schema = schema-unevaluated; of_truth = λ b. t
     kept ms is =
         let ns = walked unevaluated_as_additional ms in
         let none : get_member (codes "unevaluatedProperties") (without (codes "unevaluatedProperties") ns) ≡ None =
-        (none-kept ms is.2.0).0 in
-        (name-alike key (without (codes "unevaluatedProperties") ns) ns (alike-without (codes "$ref") (codes "unevaluatedProperties") ns refl)
-        (named-walked unevaluated_as_additional key ms is.0),
-        subst IsNoObject (sym none) tt,
-        (reference-alike (without (codes "unevaluatedProperties") ns) ns (alike-without (codes "$ref") (codes "unevaluatedProperties") ns refl)
-        (alike-without (codes "allOf") (codes "unevaluatedProperties") ns refl) (reference-walked unevaluated_as_additional schema-unevaluated ms is.2.1),
-        items-alike (without (codes "unevaluatedProperties") ns) ns (alike-without (codes "prefixItems") (codes "unevaluatedProperties") ns refl)
-        (alike-without (codes "items") (codes "unevaluatedProperties") ns refl) (alike-without (codes "additionalItems") (codes "unevaluatedProperties") ns refl)
-        (items-walked unevaluated_as_additional schema-unevaluated ms is.2.2)))
+        (none-kept ms is.2.0).0 in (
+          name-alike key (without (codes "unevaluatedProperties") ns) ns (alike-without (codes "$ref") (codes "unevaluatedProperties") ns refl)
+              (named-walked unevaluated_as_additional key ms is.0),
+          subst IsNoObject (sym none) tt,
+          (
+            reference-alike (without (codes "unevaluatedProperties") ns) ns (alike-without (codes "$ref") (codes "unevaluatedProperties") ns refl)
+                (alike-without (codes "allOf") (codes "unevaluatedProperties") ns refl) (reference-walked unevaluated_as_additional schema-unevaluated ms is.2.1),
+            items-alike (without (codes "unevaluatedProperties") ns) ns (alike-without (codes "prefixItems") (codes "unevaluatedProperties") ns refl)
+                (alike-without (codes "items") (codes "unevaluatedProperties") ns refl) (alike-without (codes "additionalItems") (codes "unevaluatedProperties") ns refl)
+                (items-walked unevaluated_as_additional schema-unevaluated ms is.2.2),
+          ),
+        )
 
     go : (ms : Members) → Named key IsDraft07 ms → asked_of_keywords (Named key WithReferences) (walked unevaluated_as_additional ms)
         → (asked (Named key WithReferences) (unevaluated_as_additional (object (walked unevaluated_as_additional ms)))).as_schema
@@ -87,9 +90,9 @@ without-moved : (r : Data) (k : Text) (ms : Members) → k ≢ codes "allOf"
 without-moved r k ms other = go (get_member (codes "allOf") (without (codes "$ref") ms))
   where
     go : (o : Option Data) → get_member k (without k (elim o [
-          | None ↦ put (codes "allOf") (with_last (reference r) (array no_items)) (without (codes "$ref") ms)
-          | Some e ↦ replaced (codes "allOf") (with_last (reference r) e) (without (codes "$ref") ms)
-        ])) ≡ get_member k (without k (without (codes "$ref") ms))
+      | None ↦ put (codes "allOf") (with_last (reference r) (array no_items)) (without (codes "$ref") ms)
+      | Some e ↦ replaced (codes "allOf") (with_last (reference r) e) (without (codes "$ref") ms)
+    ])) ≡ get_member k (without k (without (codes "$ref") ms))
     go None = without-put k (codes "allOf") (with_last (reference r) (array no_items)) (without (codes "$ref") ms) other
     go (Some e) = without-replaced k (codes "allOf") (with_last (reference r) e) (without (codes "$ref") ms) other
 
@@ -123,9 +126,9 @@ module _ (Q : Members → Type 0) (r : Data) (here : (asked Q (reference r)).as_
       old = asked-without Q (codes "$ref") ms a
 
       go : (o : Option Data) → get_member (codes "allOf") (without (codes "$ref") ms) ≡ o → asked_of_keywords Q (elim o [
-            | None ↦ put (codes "allOf") (with_last (reference r) (array no_items)) (without (codes "$ref") ms)
-            | Some e ↦ replaced (codes "allOf") (with_last (reference r) e) (without (codes "$ref") ms)
-          ])
+        | None ↦ put (codes "allOf") (with_last (reference r) (array no_items)) (without (codes "$ref") ms)
+        | Some e ↦ replaced (codes "allOf") (with_last (reference r) e) (without (codes "$ref") ms)
+      ])
       go None is = asked-put Q (codes "allOf") (with_last (reference r) (array no_items)) (without (codes "$ref") ms) (here, tt) old
       go (Some e) is =
           asked-replaced Q (codes "allOf") (with_last (reference r) e) (without (codes "$ref") ms)
@@ -147,20 +150,22 @@ after-siblings key = record { schema = schema-siblings; of_truth = λ b. tt; of_
 
     gone : (ns : Members) → IsOnce (codes "$ref") ns → IsNoObject (get_member (codes "unevaluatedProperties") ns) → HasPlainItems ns
         → Q (without (codes "$ref") ns)
-    gone ns once closed items =
-        (subst (λ o. IsNamed key (option_and_then as_str o)) (sym once) tt,
-        subst IsNoObject (sym (without-other (codes "$ref") (codes "unevaluatedProperties") ns (differ (codes "unevaluatedProperties") (codes "$ref") refl))) closed,
-        items-alike (without (codes "$ref") ns) ns (alike-without (codes "prefixItems") (codes "$ref") ns refl)
-        (alike-without (codes "items") (codes "$ref") ns refl) (alike-without (codes "additionalItems") (codes "$ref") ns refl) items)
+    gone ns once closed items = (
+      subst (λ o. IsNamed key (option_and_then as_str o)) (sym once) tt,
+      subst IsNoObject (sym (without-other (codes "$ref") (codes "unevaluatedProperties") ns (differ (codes "unevaluatedProperties") (codes "$ref") refl))) closed,
+      items-alike (without (codes "$ref") ns) ns (alike-without (codes "prefixItems") (codes "$ref") ns refl)
+          (alike-without (codes "items") (codes "$ref") ns refl) (alike-without (codes "additionalItems") (codes "$ref") ns refl) items,
+    )
 
     moved : (r : Data) (ns : Members) → IsOnce (codes "$ref") ns → IsNoObject (get_member (codes "unevaluatedProperties") ns) → HasPlainItems ns
         → Q (moved_members r ns)
-    moved r ns once closed items =
-        (subst (λ o. IsNamed key (option_and_then as_str o))
-        (sym (get-moved r ns (codes "$ref") (differ (codes "$ref") (codes "allOf") refl) ∙ once)) tt,
-        subst IsNoObject (sym (alike-moved r (codes "unevaluatedProperties") ns refl refl).first) closed,
-        items-alike (moved_members r ns) ns (alike-moved r (codes "prefixItems") ns refl refl) (alike-moved r (codes "items") ns refl refl)
-        (alike-moved r (codes "additionalItems") ns refl refl) items)
+    moved r ns once closed items = (
+      subst (λ o. IsNamed key (option_and_then as_str o))
+          (sym (get-moved r ns (codes "$ref") (differ (codes "$ref") (codes "allOf") refl) ∙ once)) tt,
+      subst IsNoObject (sym (alike-moved r (codes "unevaluatedProperties") ns refl refl).first) closed,
+      items-alike (moved_members r ns) ns (alike-moved r (codes "prefixItems") ns refl refl) (alike-moved r (codes "items") ns refl refl)
+          (alike-moved r (codes "additionalItems") ns refl refl) items,
+    )
 
     go : (ms : Members) → Named key WithReferences ms → asked_of_keywords Q (walked without_siblings ms)
         → (asked Q (without_siblings (object (walked without_siblings ms)))).as_schema

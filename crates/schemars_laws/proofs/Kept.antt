@@ -197,6 +197,7 @@ module _ {R : Type 0} (ρ : Rules R) (before after : Context) (P : Members → T
 
   mutual
     unfolding asked forms read_data
+
     pub one : (r : R) (d : Data) → (asked P d).as_schema → KeptSchema (forms ρ r d).as_schema d
     one r null a = refl
     one r (boolean b) a =

@@ -152,8 +152,17 @@ module _ (c : Context) (d : Dialect) (ms : Members) (is : c.dialect ≡ with_nul
 
       same : (v : Data) (x : Verdict) → four_by c (with_nullable_read d) (look_up (alone_members ms)) v x ≡ four_by c (without_nullable_read d) (look_up ms) v x
       same v x =
-          rw (other (codes "prefixItems") refl refl refl, other (codes "items") refl refl refl, other (codes "additionalItems") refl refl refl,
-          other (codes "enum") refl refl refl, alone-const ms, alone-type ms once, alone-nullable ms, const, none)
+          rw (
+            other (codes "prefixItems") refl refl refl,
+            other (codes "items") refl refl refl,
+            other (codes "additionalItems") refl refl refl,
+            other (codes "enum") refl refl refl,
+            alone-const ms,
+            alone-type ms once,
+            alone-nullable ms,
+            const,
+            none,
+          )
           (four-alone c d (get_member (codes "prefixItems") ms) (get_member (codes "items") ms) (get_member (codes "additionalItems") ms)
           (get_member (codes "enum") ms) v x (get_member (codes "type") ms) (type v))
 
@@ -168,8 +177,17 @@ module _ (c : Context) (d : Dialect) (ms : Members) (is : c.dialect ≡ with_nul
 
       same : (v : Data) (x : Verdict) → four_by c (with_nullable_read d) (look_up (among_members t ms)) v x ≡ four_by c (without_nullable_read d) (look_up ms) v x
       same v x =
-          rw (other (codes "prefixItems") refl refl, other (codes "items") refl refl, other (codes "additionalItems") refl refl,
-          other (codes "enum") refl refl, other (codes "const") refl refl, among-type t ms here, among-nullable t ms, here, none)
+          rw (
+            other (codes "prefixItems") refl refl,
+            other (codes "items") refl refl,
+            other (codes "additionalItems") refl refl,
+            other (codes "enum") refl refl,
+            other (codes "const") refl refl,
+            among-type t ms here,
+            among-nullable t ms,
+            here,
+            none,
+          )
           (four-among c d (get_member (codes "prefixItems") ms) (get_member (codes "items") ms) (get_member (codes "additionalItems") ms)
           (get_member (codes "enum") ms) v x (get_member (codes "const") ms) (Some t) (Some (type_without_null t)) (type v))
 
@@ -292,11 +310,12 @@ definitions-stay key ms type const nullable =
     (λ t. (among_members t ms, refl, among-other t key ms type nullable)) (get_member (codes "type") ms) refl
 
 plain-walked : (ms : Members) → HasPlainType ms → HasPlainType (walked nullable_change ms)
-plain-walked ms plain =
-    (once-walked nullable_change (codes "type") ms plain.0,
-    subst IsTypes (sym (raw-walked nullable_change (codes "type") ms refl)) plain.1,
-    raw-walked nullable_change (codes "nullable") ms refl ∙ plain.2,
-    one plain.3)
+plain-walked ms plain = (
+  once-walked nullable_change (codes "type") ms plain.0,
+  subst IsTypes (sym (raw-walked nullable_change (codes "type") ms refl)) plain.1,
+  raw-walked nullable_change (codes "nullable") ms refl ∙ plain.2,
+  one plain.3,
+)
   where
     one : (is_null_alone (get_member (codes "type") ms) ≡ false) ⊎ (get_member (codes "const") ms ≡ None)
         → (is_null_alone (get_member (codes "type") (walked nullable_change ms)) ≡ false) ⊎ (get_member (codes "const") (walked nullable_change ms) ≡ None)

@@ -23,14 +23,19 @@ closed-walked f ms is = subst IsNoObject (sym (raw-walked f (codes "unevaluatedP
 
 module _ (f : Data → Data) (schema : (s : Data) → IsSchema s → IsSchema (f s)) where
   pub reference-walked : (ms : Members) → HasPlainReference ms → HasPlainReference (walked f ms)
-  reference-walked ms plain =
-      (once-walked f (codes "$ref") ms plain.0, subst IsText (sym (raw-walked f (codes "$ref") ms refl)) plain.1,
-      list-walked f schema (codes "allOf") ms refl plain.2)
+  reference-walked ms plain = (
+    once-walked f (codes "$ref") ms plain.0,
+    subst IsText (sym (raw-walked f (codes "$ref") ms refl)) plain.1,
+    list-walked f schema (codes "allOf") ms refl plain.2,
+  )
 
   pub items-walked : (ms : Members) → HasPlainItems ms → HasPlainItems (walked f ms)
-  items-walked ms plain =
-      (once-walked f (codes "prefixItems") ms plain.0, list-walked f schema (codes "prefixItems") ms refl plain.1,
-      no_list-walked f schema (codes "items") ms refl plain.2, none-walked f (codes "additionalItems") ms plain.3)
+  items-walked ms plain = (
+    once-walked f (codes "prefixItems") ms plain.0,
+    list-walked f schema (codes "prefixItems") ms refl plain.1,
+    no_list-walked f schema (codes "items") ms refl plain.2,
+    none-walked f (codes "additionalItems") ms plain.3,
+  )
 
 -- ---- by look-ups
 

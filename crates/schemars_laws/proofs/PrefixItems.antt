@@ -173,11 +173,16 @@ judge-prefix c d ms is plain =
         → four_by c (by_items d) (look_up (moved_members (get_member (codes "prefixItems") ms) (get_member (codes "items") ms) ms)) v x
         ≡ four_by c (by_prefix_items d) (look_up ms) v x
     same v x =
-        rw (prefix-gone ms plain.0 plain.3 (get_member (codes "prefixItems") ms) (get_member (codes "items") ms),
-        items-moved ms plain.0 plain.3 (get_member (codes "prefixItems") ms),
-        additional-moved ms plain.0 plain.3 (get_member (codes "prefixItems") ms) (get_member (codes "items") ms),
-        other (codes "enum") refl refl refl, other (codes "const") refl refl refl, other (codes "type") refl refl refl,
-        other (codes "nullable") refl refl refl, plain.3)
+        rw (
+          prefix-gone ms plain.0 plain.3 (get_member (codes "prefixItems") ms) (get_member (codes "items") ms),
+          items-moved ms plain.0 plain.3 (get_member (codes "prefixItems") ms),
+          additional-moved ms plain.0 plain.3 (get_member (codes "prefixItems") ms) (get_member (codes "items") ms),
+          other (codes "enum") refl refl refl,
+          other (codes "const") refl refl refl,
+          other (codes "type") refl refl refl,
+          other (codes "nullable") refl refl refl,
+          plain.3,
+        )
         (four-same c d (get_member (codes "prefixItems") ms) (get_member (codes "items") ms) (get_member (codes "enum") ms)
         (get_member (codes "const") ms) (get_member (codes "type") ms) (get_member (codes "nullable") ms) v x plain.1 plain.2)
 
@@ -196,11 +201,12 @@ unfolding read_data
 truth-prefix c b = refl
 
 plain-walked : (ms : Members) → HasPlainItems ms → HasPlainItems (walked prefix_as_items ms)
-plain-walked ms plain =
-    (once-walked prefix_as_items (codes "prefixItems") ms plain.0,
-    list-walked prefix_as_items schema-prefix (codes "prefixItems") ms refl plain.1,
-    no_list-walked prefix_as_items schema-prefix (codes "items") ms refl plain.2,
-    none-walked prefix_as_items (codes "additionalItems") ms plain.3)
+plain-walked ms plain = (
+  once-walked prefix_as_items (codes "prefixItems") ms plain.0,
+  list-walked prefix_as_items schema-prefix (codes "prefixItems") ms refl plain.1,
+  no_list-walked prefix_as_items schema-prefix (codes "items") ms refl plain.2,
+  none-walked prefix_as_items (codes "additionalItems") ms plain.3,
+)
 
 pub prefix_items : (key : Text) (d : Dialect) → key ≢ codes "prefixItems" → key ≢ codes "items" → key ≢ codes "additionalItems"
     → Change prefix_as_items key (by_prefix_items d) (by_items d) HasPlainItems
@@ -208,6 +214,9 @@ prefix_items key d prefix items additional = record {
   schema = schema-prefix;
   of_truth = λ c b is. truth-prefix c b;
   of_object = λ c ms is plain. judge-prefix c d (walked prefix_as_items ms) is (plain-walked ms plain);
-  definitions = λ ms. (moved_members (get_member (codes "prefixItems") ms) (get_member (codes "items") ms) ms, changed ms,
-      get-other (get_member (codes "prefixItems") ms) (get_member (codes "items") ms) key ms prefix items additional);
+  definitions = λ ms. (
+    moved_members (get_member (codes "prefixItems") ms) (get_member (codes "items") ms) ms,
+    changed ms,
+    get-other (get_member (codes "prefixItems") ms) (get_member (codes "items") ms) key ms prefix items additional,
+  );
 }

@@ -87,6 +87,7 @@ weaker-at P Q d one list names SchemasByName a = names a
 module _ (P Q : Members → Type 0) (h : (ms : Members) → P ms → Q ms) where
   mutual
     unfolding asked
+
     pub weaker : (d : Data) → (asked P d).as_schema → (asked Q d).as_schema
     weaker null a = tt
     weaker (boolean b) a = tt
@@ -147,9 +148,10 @@ module _ (f : Data → Data) (P Q : Members → Type 0) (h : Preserves f P Q) wh
         subst (λ x. asked_at SchemaOrList (asked Q (forms (change_rules f) tt x).as_either)) is
         (tt, subst (λ x. (asked Q (forms (change_rules f) tt x).as_list).as_list) (sym is) (more a.1))
     either (object ms) is a =
-        subst (λ x. asked_at SchemaOrList (asked Q (forms (change_rules f) tt x).as_either)) is
-        (subst (λ x. (asked Q (forms (change_rules f) tt x).as_schema).as_schema) (sym is) (one a.0),
-        schema-no_list Q (f (object (walked f ms))) (h.schema (object (walked f ms)) tt))
+        subst (λ x. asked_at SchemaOrList (asked Q (forms (change_rules f) tt x).as_either)) is (
+          subst (λ x. (asked Q (forms (change_rules f) tt x).as_schema).as_schema) (sym is) (one a.0),
+          schema-no_list Q (f (object (walked f ms))) (h.schema (object (walked f ms)) tt),
+        )
 
     at : (p : Place) → asked_at p (asked P d) → asked_at p (asked Q (form_at p d (forms (change_rules f) tt d)))
     at NoSchemas a = tt
@@ -160,6 +162,7 @@ module _ (f : Data → Data) (P Q : Members → Type 0) (h : Preserves f P Q) wh
 
   mutual
     unfolding asked forms
+
     pub after : (d : Data) → (asked P d).as_schema → (asked Q (forms (change_rules f) tt d).as_schema).as_schema
     after null a = tt
     after (boolean b) a = h.of_truth b

@@ -34,10 +34,13 @@ nowhere-defs rest ms none =
     ∙ text-nowhere (λ p. pointer p (object ms)) (codes "/$defs/" ++ percent_decoded_bytes rest) (missing-defs (percent_decoded_bytes rest) ms none)
 
 pub defs-name : (k : Text) → IsUtf8 k → IsName (codes "$defs") (codes "#/$defs/" ++ encoded k)
-defs-name k text = inr (k, record {
-  there = λ ms es is. lookup-definition (codes "/$defs") k (object ms) es plain-defs (pointer-defs ms (object es) is) text;
-  missing = λ ms none. nowhere-defs (encoded k) ms none;
-})
+defs-name k text = inr (
+  k,
+  record {
+    there = λ ms es is. lookup-definition (codes "/$defs") k (object ms) es plain-defs (pointer-defs ms (object es) is) text;
+    missing = λ ms none. nowhere-defs (encoded k) ms none;
+  },
+)
 
 missing-definitions : (bs : Text) (ms : Members) → get_member (codes "definitions") ms ≡ None → pointer (codes "/definitions/" ++ bs) (object ms) ≡ None
 unfolding serde_json_on_literals
@@ -58,8 +61,11 @@ nowhere-definitions rest ms none =
     (missing-definitions (percent_decoded_bytes rest) ms none)
 
 pub definitions-name : (k : Text) → IsUtf8 k → IsName (codes "definitions") (codes "#/definitions/" ++ encoded k)
-definitions-name k text = inr (k, record {
-  there = λ ms es is.
-      lookup-definition (codes "/definitions") k (object ms) es plain-definitions (pointer-definitions ms (object es) is) text;
-  missing = λ ms none. nowhere-definitions (encoded k) ms none;
-})
+definitions-name k text = inr (
+  k,
+  record {
+    there = λ ms es is.
+        lookup-definition (codes "/definitions") k (object ms) es plain-definitions (pointer-definitions ms (object es) is) text;
+    missing = λ ms none. nowhere-definitions (encoded k) ms none;
+  },
+)

@@ -166,9 +166,9 @@ module _ (r : Data) (ms : Members) where
   get-moved k other = go (get_member (codes "allOf") (without (codes "$ref") ms))
     where
       go : (o : Option Data) → get_member k (elim o [
-            | None ↦ put (codes "allOf") (with_last (reference r) (array no_items)) (without (codes "$ref") ms)
-            | Some e ↦ replaced (codes "allOf") (with_last (reference r) e) (without (codes "$ref") ms)
-          ]) ≡ get_member k (without (codes "$ref") ms)
+        | None ↦ put (codes "allOf") (with_last (reference r) (array no_items)) (without (codes "$ref") ms)
+        | Some e ↦ replaced (codes "allOf") (with_last (reference r) e) (without (codes "$ref") ms)
+      ]) ≡ get_member k (without (codes "$ref") ms)
       go None = get_member-put_other k (codes "allOf") (with_last (reference r) (array no_items)) (without (codes "$ref") ms) other
       go (Some e) = replaced-other (codes "allOf") k (with_last (reference r) e) (without (codes "$ref") ms) other
 
@@ -178,9 +178,9 @@ module _ (r : Data) (ms : Members) where
       ∙ ap (λ o. Some (list_with o (reference r))) all_of-before
     where
       go : (o : Option Data) → get_member (codes "allOf") (without (codes "$ref") ms) ≡ o → get_member (codes "allOf") (elim o [
-            | None ↦ put (codes "allOf") (with_last (reference r) (array no_items)) (without (codes "$ref") ms)
-            | Some e ↦ replaced (codes "allOf") (with_last (reference r) e) (without (codes "$ref") ms)
-          ]) ≡ Some (list_with o (reference r))
+        | None ↦ put (codes "allOf") (with_last (reference r) (array no_items)) (without (codes "$ref") ms)
+        | Some e ↦ replaced (codes "allOf") (with_last (reference r) e) (without (codes "$ref") ms)
+      ]) ≡ Some (list_with o (reference r))
       go None is = get_member-put (codes "allOf") (with_last (reference r) (array no_items)) (without (codes "$ref") ms)
       go (Some e) is = replaced-at (codes "allOf") (with_last (reference r) e) e (without (codes "$ref") ms) is
 
@@ -442,8 +442,11 @@ module _ (c : Context) (d : Dialect) (t : Text) where
   single-fits : (v : Data) → (all_keywords (was c d) (look_up (single t)) single-read).fits v ≡ (c.follow t).fits v
   unfolding all_keywords single-read read_data
   single-fits v =
-      rw (items-none d.reads_prefix_items v, const-none d.reads_const v,
-      unevaluated-none d.reads_unevaluated (judged_beside (was c d) (look_up (single t)) single-read v) v) (both-yes ((c.follow t).fits v))
+      rw (
+        items-none d.reads_prefix_items v,
+        const-none d.reads_const v,
+        unevaluated-none d.reads_unevaluated (judged_beside (was c d) (look_up (single t)) single-read v) v,
+      ) (both-yes ((c.follow t).fits v))
 
   single-judges : (v : Data) (k : Text) → (all_keywords (was c d) (look_up (single t)) single-read).judges v k ≡ judged_by (c.follow t) v k
   unfolding all_keywords single-read read_data
@@ -531,10 +534,11 @@ unfolding read_data
 truth-siblings c b = refl
 
 plain-walked : (ms : Members) → HasPlainReference ms → HasPlainReference (walked without_siblings ms)
-plain-walked ms plain =
-    (once-walked without_siblings (codes "$ref") ms plain.0,
-    subst IsText (sym (raw-walked without_siblings (codes "$ref") ms refl)) plain.1,
-    list-walked without_siblings schema-siblings (codes "allOf") ms refl plain.2)
+plain-walked ms plain = (
+  once-walked without_siblings (codes "$ref") ms plain.0,
+  subst IsText (sym (raw-walked without_siblings (codes "$ref") ms refl)) plain.1,
+  list-walked without_siblings schema-siblings (codes "allOf") ms refl plain.2,
+)
 
 pub definitions-stay : (key : Text) (ms : Members) → key ≢ codes "$ref" → key ≢ codes "allOf"
     → (ns : Members) × (without_siblings (object ms) ≡ object ns) × (get_member key ns ≡ get_member key ms)

@@ -101,8 +101,11 @@ definitions-stay key ms rest additional properties =
     by_rest (λ s. (ns : Members) × (s ≡ object ns) × (get_member key ns ≡ get_member key ms)) ms
     (without (codes "unevaluatedProperties") ms, refl, without-other (codes "unevaluatedProperties") key ms rest)
     (λ d. (without (codes "properties") (closed_members d ms), refl, closed d))
-    (λ d e. (put (codes "properties") e (without (codes "properties") (closed_members d ms)), refl,
-    get_member-put_other key (codes "properties") e (without (codes "properties") (closed_members d ms)) properties ∙ closed d))
+    (λ d e. (
+      put (codes "properties") e (without (codes "properties") (closed_members d ms)),
+      refl,
+      get_member-put_other key (codes "properties") e (without (codes "properties") (closed_members d ms)) properties ∙ closed d,
+    ))
     (get_member (codes "unevaluatedProperties") ms)
   where
     closed : (d : Data) → get_member key (without (codes "properties") (closed_members d ms)) ≡ get_member key ms
@@ -112,9 +115,10 @@ definitions-stay key ms rest additional properties =
         ∙ without-other (codes "unevaluatedProperties") key ms rest)
 
 pub none-kept : (ms : Members) → HasNoUnevaluated ms → HasNoUnevaluated (walked unevaluated_as_additional ms)
-none-kept ms none =
-    (once-walked unevaluated_as_additional (codes "unevaluatedProperties") ms none.0,
-    none-walked unevaluated_as_additional (codes "unevaluatedProperties") ms none.1)
+none-kept ms none = (
+  once-walked unevaluated_as_additional (codes "unevaluatedProperties") ms none.0,
+  none-walked unevaluated_as_additional (codes "unevaluatedProperties") ms none.1,
+)
 
 pub unevaluated_properties : (key : Text) (d : Dialect) → key ≢ codes "unevaluatedProperties" → key ≢ codes "additionalProperties"
     → key ≢ codes "properties" → Change unevaluated_as_additional key (with_unevaluated d) (without_unevaluated d) HasNoUnevaluated
