@@ -1,5 +1,5 @@
 -- After the siblings of references have gone, no schema has a keyword beside `$ref`.
-use Rattle.std.proofs.Common.{◌≡◌, ◌⊎◌, inl, inr, Option, Some, None, Bool, true, false, codes, refl, ◌∙◌}
+use Rattle.std.proofs.Common.{◌≡◌, inl, inr, Option, Some, None, Bool, true, false, codes, refl, ◌∙◌}
 use Rattle.std.specs.Prelude.{if◌then◌else◌, ◌==◌}
 use Rattle.serde_json.specs.Data.{Data, object, Members}
 use Rattle.serde_json.specs.Find.{get_member}
@@ -10,7 +10,7 @@ use Rattle.schemars_laws.specs.Everywhere.{Everywhere, asked, asked_of_keywords}
 use Rattle.schemars_laws.specs.Classes.{IsOnce, IsReferenceAlone}
 use Rattle.schemars_laws.proofs.Looked.{walked, once-walked}
 use Rattle.schemars_laws.proofs.Apart.{differ}
-use Rattle.schemars_laws.proofs.Siblings.{schema-siblings, moved_members, get-moved}
+use Rattle.schemars_laws.proofs.Siblings.{schema-siblings, get-moved}
 use Rattle.schemars_laws.proofs.Preserved.{Preserves, after, asked-without}
 use Rattle.schemars_laws.proofs.Drafts.{asked-moved}
 

@@ -1,5 +1,5 @@
 -- The keywords of which dialects read some in another way, apart from all others.
-use Rattle.std.proofs.Common.{◌≡◌, ◌≢◌, List, [], ◌∷◌, Option, Some, None, Bool, true, false, codes, option_map, refl, sym, ap, ◌∙◌, true≢false}
+use Rattle.std.proofs.Common.{◌≡◌, ◌≢◌, List, [], ◌∷◌, Option, Bool, true, false, codes, option_map, refl, sym, ap, ◌∙◌, true≢false}
 use Rattle.std.proofs.Math.Path.{fun_ext}
 use Rattle.std.proofs.lemmas.Slice.Eq.{bytes_eq-Decides}
 use Rattle.std.specs.Prelude.{bytes_eq, ◌++◌, if◌then◌else◌, ◌||◌, ◌&&◌, not}
@@ -7,13 +7,11 @@ use Rattle.serde_json.specs.Data.{Data, object, Members}
 use Rattle.serde_json.specs.Find.{get_member}
 use Rattle.schemars_json.specs.Json.{Text}
 use Rattle.schemars_json.specs.OrderedText.{is_listed}
-use Rattle.schemars_schema.specs.Verdict.{Verdict, Yes, No, Open, both, all_of, any_of, one_of}
-use Rattle.schemars_schema.specs.Acceptance.{Dialect, Context, Raw, Readings, Reading, Judge, keywords, all_keywords, items_say}
-use Rattle.schemars_schema.specs.Acceptance.{reference_says, type_says, const_says, enum_says, minimum_says, maximum_says}
-use Rattle.schemars_schema.specs.Acceptance.{min_length_says, max_length_says, pattern_says, min_items_says, max_items_says}
-use Rattle.schemars_schema.specs.Acceptance.{unique_items_says, required_says, properties_say, pattern_properties_say}
-use Rattle.schemars_schema.specs.Acceptance.{additional_properties_say, each_says, not_says, unevaluated_properties_say}
-use Rattle.schemars_schema.specs.Acceptance.{judged_beside, is_covered, stands_schema, reference_alone, is_reference}
+use Rattle.schemars_schema.specs.Verdict.{Verdict, Yes, No, Open, both, all_of}
+use Rattle.schemars_schema.specs.Acceptance.{Dialect, Context, Raw, Readings, keywords, all_keywords, items_say}
+use Rattle.schemars_schema.specs.Acceptance.{reference_says, type_says, const_says, enum_says}
+use Rattle.schemars_schema.specs.Acceptance.{each_says}
+use Rattle.schemars_schema.specs.Acceptance.{judged_beside, stands_schema, reference_alone, is_reference}
 use Rattle.schemars_schema.specs.Acceptance.{judge, read_data, read_members, reading_at}
 use Rattle.schemars_schema.proofs.Objects.{reading_at-members}
 use Rattle.schemars_laws.proofs.Keywords.{counts_say, members_say, last_say, fits-all, left_out, AgreeOutside, left_out-agree}

@@ -1,13 +1,13 @@
 -- Objects in place of truth values say the same.
-use Rattle.std.proofs.Common.{◌≡◌, ◌⊎◌, inl, inr, Option, Some, None, Bool, true, false, [], ◌∷◌, codes, refl, sym, ap, ◌∙◌}
-use Rattle.std.specs.Prelude.{bytes_eq, if◌then◌else◌, ◌||◌, ◌&&◌, not, is_some}
+use Rattle.std.proofs.Common.{◌≡◌, ◌⊎◌, inl, inr, Some, None, Bool, true, false, [], ◌∷◌, codes, refl, ap, ◌∙◌}
+use Rattle.std.specs.Prelude.{bytes_eq, if◌then◌else◌, ◌&&◌, not, is_some}
 use Rattle.serde_json.specs.Data.{Data, null, boolean, number, string, array, object, Members, no_members, member}
-use Rattle.serde_json.specs.Find.{get, get_member, as_bool}
+use Rattle.serde_json.specs.Find.{as_bool}
 use Rattle.schemars_json.specs.Json.{Text}
-use Rattle.schemars_schema.specs.SchemaData.{IsSchema, members_in}
+use Rattle.schemars_schema.specs.SchemaData.{members_in}
 use Rattle.schemars_schema.specs.References.{NoSchemas, place_under}
-use Rattle.schemars_schema.specs.Verdict.{Verdict, Yes, No, opposite}
-use Rattle.schemars_schema.specs.Acceptance.{Dialect, Context, Reading, Readings, Raw, Judge, judge, read_data, reading_at, keywords, all_keywords, reference_alone, truth_value}
+use Rattle.schemars_schema.specs.Verdict.{Yes, opposite}
+use Rattle.schemars_schema.specs.Acceptance.{Dialect, Context, Readings, Raw, Judge, judge, read_data, reading_at, keywords, all_keywords, reference_alone, truth_value}
 use Rattle.schemars_transform.specs.Built.{bool_rules}
 use Rattle.schemars_transform.specs.declared.bool_schemas.ReplaceBoolSchemas.{ReplaceBoolSchemas}
 use Rattle.schemars_walk.specs.Rewritten.{in_keywords}
@@ -15,7 +15,7 @@ use Rattle.schemars_laws.proofs.Seen.{judge_ext}
 use Rattle.schemars_laws.proofs.Kept.{IsTruth}
 use Rattle.schemars_laws.proofs.Named.{Moves}
 use Rattle.schemars_laws.proofs.Examples.{same-dialect}
-use Rattle.schemars_laws.proofs.PrefixItems.{both-yes}
+use Rattle.schemars_schema.proofs.Verdicts.{both-yes}
 use Rattle.schemars_laws.proofs.Siblings.{items-none, const-none, unevaluated-none, and-false}
 
 -- an object with a schema under `not` alone

@@ -1,17 +1,16 @@
 -- An `enum` of one value in place of `const`, for readers that do not know `const`.
-use Rattle.std.proofs.Common.{◌≡◌, ◌≢◌, ◌⊎◌, inl, inr, Option, Some, None, Bool, true, false, codes, refl, sym, ap, ◌∙◌, true≢false}
-use Rattle.std.specs.Prelude.{bytes_eq, ◌||◌}
-use Rattle.std.proofs.lemmas.Slice.Eq.{bytes_eq-Decides}
-use Rattle.serde_json.specs.Data.{Data, null, boolean, number, string, array, object, Items, no_items, item, Members, no_members, member, put}
-use Rattle.serde_json.specs.Find.{get, get_member}
+use Rattle.std.proofs.Common.{◌≡◌, ◌≢◌, ◌⊎◌, inl, inr, Option, Some, None, Bool, false, codes, refl, sym, ap, ◌∙◌}
+use Rattle.std.specs.Prelude.{bytes_eq}
+use Rattle.serde_json.specs.Data.{Data, null, boolean, number, string, array, object, no_items, item, Members, put}
+use Rattle.serde_json.specs.Find.{get_member}
 use Rattle.serde_json.proofs.Views.{get_member-put, get_member-put_other}
 use Rattle.schemars_json.specs.Json.{Text, json_eq}
-use Rattle.schemars_json.specs.OrderedText.{is_listed}
 use Rattle.schemars_schema.specs.SchemaData.{IsSchema}
 use Rattle.schemars_schema.specs.Edits.{without}
-use Rattle.schemars_schema.specs.Verdict.{Verdict, verdict, both}
+use Rattle.schemars_schema.specs.Verdict.{Verdict}
 use Rattle.schemars_schema.specs.Acceptance.{Dialect, Context, judge, keywords, truth_value, read_data, read_members, reading_at}
 use Rattle.schemars_transform.specs.Built.{const_as_enum, value_as_enum}
+use Rattle.schemars_rewrite.proofs.NullKeywords.{or-false}
 use Rattle.schemars_laws.specs.Classes.{IsOnce, IsConstAlone, without_const, with_const}
 use Rattle.schemars_laws.proofs.Looked.{without-other, walked, raw-walked, once-walked, Change}
 use Rattle.schemars_laws.proofs.Apart.{four_of, four_by, look_up, says-moved, differ, outside}
@@ -28,10 +27,6 @@ get-other : (o : Option Data) (k : Text) (ms : Members) → k ≢ codes "const" 
 get-other None k ms const enum = without-other (codes "const") k ms const
 get-other (Some w) k ms const enum =
     get_member-put_other k (codes "enum") (array (item w no_items)) (without (codes "const") ms) enum ∙ without-other (codes "const") k ms const
-
-or-false : (b : Bool) → b || false ≡ b
-or-false true = refl
-or-false false = refl
 
 module _ (c : Context) (d : Dialect) (p i a t n : Option Data) (v : Data) (x : Verdict) where
   no_const : (e : Option Data) → four_of c (without_const d) p i a e None t n v x ≡ four_of c (with_const d) p i a e None t n v x

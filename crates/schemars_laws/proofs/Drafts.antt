@@ -1,29 +1,27 @@
 -- What documents accept after all transforms of Draft 7, and after that of 2019-09.
-use Rattle.std.proofs.Common.{◌≡◌, ◌≢◌, ◌⊎◌, ℕ, Option, Some, None, Bool, true, false, codes, option_map, refl, sym, ap, ◌∙◌, subst}
+use Rattle.std.proofs.Common.{◌≡◌, ◌≢◌, ℕ, Option, Some, None, Bool, true, false, codes, refl, sym, ap, ◌∙◌, subst}
 use Rattle.std.specs.Prelude.{bytes_eq, if◌then◌else◌, option_and_then, ◌==◌}
 use Rattle.std.proofs.lemmas.Slice.Eq.{bytes_eq-Decides}
 use Rattle.serde_json.specs.Data.{Data, null, boolean, number, string, array, object, Items, no_items, item, Members, no_members, member, put}
 use Rattle.serde_json.specs.Find.{get_member, as_str}
 use Rattle.serde_json.specs.Events.{members_len}
-use Rattle.serde_json.proofs.Views.{get_member-put_other}
 use Rattle.schemars_json.specs.Json.{Text}
-use Rattle.schemars_schema.specs.SchemaData.{IsSchema}
 use Rattle.schemars_schema.specs.Edits.{without, replaced}
 use Rattle.schemars_schema.specs.References.{NoSchemas, OneSchema, SchemaList, SchemasByName, place_under}
 use Rattle.schemars_schema.specs.Acceptance.{Dialect, Patterns, accepts, draft2020_12, draft2019_09, draft07}
 use Rattle.schemars_rewrite.specs.AllowNull.{with_item}
-use Rattle.schemars_rewrite.specs.Properties.{with_last, changed_at}
-use Rattle.schemars_transform.specs.Built.{reference, reference_moved, without_siblings, remove_ref_siblings, replace_prefix_items, prefix_as_items}
+use Rattle.schemars_rewrite.specs.Properties.{with_last}
+use Rattle.schemars_transform.specs.Built.{reference, reference_moved, without_siblings, remove_ref_siblings, replace_prefix_items}
 use Rattle.schemars_gen_transform.specs.Unevaluated.{unevaluated_as_additional, closed_by, replace_unevaluated_properties}
 use Rattle.schemars_laws.specs.Everywhere.{Everywhere, asked, asked_of_items, asked_of_keywords}
 use Rattle.schemars_laws.specs.Names.{HasName, IsNamed, IsNoObject, Named, IsMap}
-use Rattle.schemars_laws.specs.Classes.{IsOnce, IsText, IsSchemaList, HasPlainItems, HasPlainReference, HasNoUnevaluated, IsDraft07}
+use Rattle.schemars_laws.specs.Classes.{IsOnce, HasPlainItems, HasPlainReference, HasNoUnevaluated, IsDraft07}
 use Rattle.schemars_laws.specs.Laws.{MovesAcceptance}
 use Rattle.schemars_laws.specs.Classes.{alone_by, without_unevaluated}
 use Rattle.schemars_laws.proofs.Laws.{replace_unevaluated_properties-law, remove_ref_siblings-law, replace_prefix_items-law, other, none}
 use Rattle.schemars_laws.proofs.Looked.{get_member-first, unequal, without-other, walked, changed-document}
 use Rattle.schemars_laws.proofs.Apart.{differ}
-use Rattle.schemars_laws.proofs.Siblings.{schema-siblings, definitions-stay as siblings-stay, replaced-other, list_with, moved_members, get-moved, all_of-moved}
+use Rattle.schemars_laws.proofs.Siblings.{schema-siblings, definitions-stay as siblings-stay, replaced-other, moved_members, get-moved}
 use Rattle.schemars_laws.proofs.Nullable.{without-put}
 use Rattle.schemars_laws.proofs.Unevaluated.{schema-unevaluated, none-kept, definitions-stay as unevaluated-stay}
 use Rattle.schemars_laws.proofs.Preserved.{Preserves, after, weaker, asked-without, asked-put, asked-replaced, asked-get}

@@ -1,9 +1,9 @@
 -- A format less changes nothing of what is accepted.
-use Rattle.std.proofs.Common.{◌≡◌, ◌≢◌, inl, Option, Some, None, Bool, true, false, codes, refl, sym, ap, ◌∙◌, String, Global}
+use Rattle.std.proofs.Common.{◌≡◌, ◌≢◌, inl, Bool, true, false, codes, refl, ◌∙◌, String, Global}
 use Rattle.std.specs.Prelude.{if◌then◌else◌, option_and_then}
 use Rattle.std.specs.BTreeSet.{BTreeSet}
 use Rattle.serde_json.specs.Data.{Data, null, boolean, number, string, array, object, Members}
-use Rattle.serde_json.specs.Find.{get, get_member, as_str}
+use Rattle.serde_json.specs.Find.{get_member, as_str}
 use Rattle.schemars_json.specs.Json.{Text}
 use Rattle.schemars_schema.specs.SchemaData.{IsSchema}
 use Rattle.schemars_schema.specs.Edits.{without, removed}

@@ -1,5 +1,5 @@
 -- A rewrite of every schema keeps what is said of values, where what it makes of one schema does.
-use Rattle.std.proofs.Common.{◌≡◌, ◌⊎◌, inl, inr, List, [], ◌∷◌, Option, Some, None, Bool, true, false, codes, option_map, refl, sym, ap, ◌∙◌, subst}
+use Rattle.std.proofs.Common.{◌≡◌, ◌⊎◌, inl, inr, Option, Some, None, Bool, true, false, codes, option_map, refl, sym, ap, ◌∙◌, subst}
 use Rattle.std.proofs.Math.Path.{fun_ext}
 use Rattle.std.proofs.lemmas.Slice.Eq.{bytes_eq-Decides}
 use Rattle.std.specs.Prelude.{bytes_eq, if◌then◌else◌}
@@ -8,10 +8,10 @@ use Rattle.serde_json.specs.Find.{get_member}
 use Rattle.schemars_json.specs.Json.{Text}
 use Rattle.schemars_schema.specs.SchemaData.{IsSchema}
 use Rattle.schemars_schema.specs.References.{Place, NoSchemas, OneSchema, SchemaList, SchemaOrList, SchemasByName, place_under}
-use Rattle.schemars_schema.specs.Acceptance.{Context, Judge, Raw, Readings, Reading, judge, keywords, truth_value, both_some, all_named}
+use Rattle.schemars_schema.specs.Acceptance.{Context, Raw, Readings, Reading, judge, keywords, truth_value, all_named}
 use Rattle.schemars_schema.specs.Acceptance.{read_data, read_items, read_members, reading_at}
 use Rattle.schemars_schema.proofs.Objects.{schema-judge, reading_at-members}
-use Rattle.schemars_walk.specs.Rewritten.{Rules, Forms, form_at, forms, in_items, in_names, in_keywords}
+use Rattle.schemars_walk.specs.Rewritten.{Rules, form_at, forms, in_items, in_names, in_keywords}
 use Rattle.schemars_walk.proofs.KeywordLaws.{keywords_get}
 use Rattle.schemars_laws.specs.Everywhere.{asked, asked_at, asked_of_items, asked_of_members, asked_of_keywords}
 use Rattle.schemars_laws.specs.Names.{IsNoObject}

@@ -1,25 +1,25 @@
 -- A rewrite of a whole document moves what it accepts from one dialect to another, through references too.
 use Rattle.std.proofs.Common.{◌≡◌, ◌⊎◌, inl, inr, ℕ, zero, suc, Option, Some, None, Bool, true, false, Ordering, Less, Equal, Greater, nat_cmp, codes}
 use Rattle.std.proofs.Common.{option_map, is_eq, refl, sym, ap, ◌∙◌, subst}
-use Rattle.std.specs.Prelude.{option_and_then, if◌then◌else◌, bytes_eq}
+use Rattle.std.specs.Prelude.{option_and_then, if◌then◌else◌}
 use Rattle.std.specs.Cmp.Lexicographic.{slice_cmp}
 use Rattle.std.specs.Ordering.{match_ordering}
 use Rattle.std.proofs.lemmas.Map.Text.{is_eq-slice_cmp}
 use Rattle.std.proofs.lemmas.Slice.Eq.{bytes_eq-Decides}
-use Rattle.serde_json.specs.Data.{Data, null, boolean, number, string, array, object, Items, no_items, item, Members, no_members, member}
-use Rattle.serde_json.specs.Find.{get, get_member, as_str}
+use Rattle.serde_json.specs.Data.{Data, null, boolean, number, string, array, object, Members, no_members, member}
+use Rattle.serde_json.specs.Find.{get_member, as_str}
 use Rattle.schemars_json.specs.Json.{Text}
 use Rattle.schemars_json.specs.Encoding.{lookup}
-use Rattle.schemars_schema.specs.SchemaData.{IsSchema, is_schema, members_in}
+use Rattle.schemars_schema.specs.SchemaData.{IsSchema, is_schema}
 use Rattle.schemars_schema.specs.References.{NoSchemas, SchemasByName, place_under}
 use Rattle.schemars_schema.specs.Lookup.{resolved, schema_only}
 use Rattle.schemars_schema.specs.Acceptance.{Dialect, Patterns, Context, Judge, judge, keywords, truth_value, read_data, read_members, reading_at}
 use Rattle.schemars_schema.specs.Acceptance.{follow, context, accepts, unanswered, nothing}
 use Rattle.schemars_schema.proofs.Placings.{lookup-whole}
-use Rattle.schemars_walk.specs.Rewritten.{Rules, form_at, forms, in_items, in_names, in_keywords}
+use Rattle.schemars_walk.specs.Rewritten.{Rules, form_at, forms, in_names, in_keywords}
 use Rattle.schemars_walk.proofs.KeywordLaws.{keywords_get}
 use Rattle.schemars_laws.specs.Everywhere.{asked, asked_at, asked_of_members, asked_of_keywords, Everywhere}
-use Rattle.schemars_laws.specs.Names.{IsNameOf, IsName, IsNamed, HasName, Named, IsMap}
+use Rattle.schemars_laws.specs.Names.{IsNameOf, IsName, IsNamed, Named, IsMap}
 use Rattle.schemars_laws.proofs.Seen.{AgreeOn}
 use Rattle.schemars_laws.proofs.Kept.{Keeps, IsTruth, one}
 

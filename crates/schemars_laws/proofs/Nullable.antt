@@ -6,20 +6,18 @@ use Rattle.std.specs.Cmp.Lexicographic.{slice_cmp}
 use Rattle.std.specs.Ordering.{match_ordering}
 use Rattle.std.specs.Prelude.{bytes_eq, if◌then◌else◌, ◌&&◌}
 use Rattle.serde_json.specs.Data.{Data, null, boolean, number, string, array, object, Items, no_items, item, Members, no_members, member, put}
-use Rattle.serde_json.specs.Find.{get, get_member}
+use Rattle.serde_json.specs.Find.{get_member}
 use Rattle.serde_json.proofs.Views.{get_member-put, get_member-put_other}
 use Rattle.schemars_json.specs.Json.{Text, json_eq}
-use Rattle.schemars_json.specs.OrderedText.{is_listed}
 use Rattle.schemars_schema.specs.SchemaData.{IsSchema}
 use Rattle.schemars_schema.specs.Edits.{without, replaced}
-use Rattle.schemars_schema.specs.Verdict.{Verdict, Yes, verdict, both}
+use Rattle.schemars_schema.specs.Verdict.{Verdict, verdict}
 use Rattle.schemars_schema.specs.Acceptance.{Dialect, Context, judge, keywords, truth_value, read_data, read_members, reading_at, is_null, type_says}
 use Rattle.schemars_rewrite.specs.AllowNull.{holds_text}
 use Rattle.schemars_transform.specs.Nullable.{all_null, nulls_in, type_without_null, null_taken_out, nullable_by, with_nullable}
-use Rattle.schemars_transform.specs.declared.nullable.AddNullable.{AddNullable}
 use Rattle.schemars_laws.specs.Classes.{IsOnce, IsTypes, is_null_alone, HasPlainType, plain_nullable, with_nullable_read, without_nullable_read}
 use Rattle.schemars_laws.proofs.Looked.{get_member-first, unequal, without-other, walked, raw-walked, once-walked, Change}
-use Rattle.schemars_laws.proofs.Apart.{four, four_of, four_by, look_up, says-moved, differ, outside}
+use Rattle.schemars_laws.proofs.Apart.{four_of, four_by, look_up, says-moved, differ, outside}
 use Rattle.schemars_laws.proofs.Siblings.{replaced-other, replaced-at}
 use Rattle.schemars_laws.proofs.TypeNames.{text-missing, list-missing, text-alone, list-alone, list-among}
 

@@ -1,14 +1,14 @@
 -- The kinds of schema objects that laws speak of are kept by a walk, and by changes of other keywords.
-use Rattle.std.proofs.Common.{◌≡◌, ◌≢◌, Option, Some, None, Bool, true, false, codes, refl, sym, ap, ◌∙◌, subst}
+use Rattle.std.proofs.Common.{◌≡◌, ◌≢◌, Some, Bool, true, false, codes, refl, sym, ap, ◌∙◌, subst}
 use Rattle.std.proofs.lemmas.Slice.Eq.{bytes_eq-Decides}
 use Rattle.std.specs.Prelude.{bytes_eq, if◌then◌else◌, option_and_then}
-use Rattle.serde_json.specs.Data.{Data, Members, no_members, member, put}
+use Rattle.serde_json.specs.Data.{Data, Members, no_members, member}
 use Rattle.serde_json.specs.Find.{get_member, as_str}
 use Rattle.schemars_json.specs.Json.{Text}
 use Rattle.schemars_schema.specs.SchemaData.{IsSchema}
-use Rattle.schemars_schema.specs.Edits.{without, replaced}
-use Rattle.schemars_laws.specs.Names.{IsNamed, HasName, IsNoObject, Named}
-use Rattle.schemars_laws.specs.Classes.{IsOnce, IsText, IsSchemaList, IsNoList, HasPlainItems, HasPlainReference}
+use Rattle.schemars_schema.specs.Edits.{without}
+use Rattle.schemars_laws.specs.Names.{IsNamed, HasName, IsNoObject}
+use Rattle.schemars_laws.specs.Classes.{IsText, IsSchemaList, IsNoList, HasPlainItems, HasPlainReference}
 use Rattle.schemars_laws.proofs.Looked.{get_member-first, unequal, without-other, walked, raw-walked, none-walked, once-walked, list-walked, no_list-walked}
 use Rattle.schemars_laws.proofs.Apart.{differ}
 

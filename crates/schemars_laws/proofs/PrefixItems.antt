@@ -1,27 +1,23 @@
 -- A list under `items` in place of `prefixItems`, for readers that judge by position under `items`.
 use Rattle.std.proofs.Common.{◌≡◌, ◌≢◌, List, [], ◌∷◌, Option, Some, None, Bool, true, false, codes, option_map, refl, sym, ap, ◌∙◌, subst}
-use Rattle.std.specs.Prelude.{bytes_eq, length}
-use Rattle.serde_json.specs.Data.{Data, null, boolean, number, string, array, object, Items, no_items, item, Members, no_members, member, put}
-use Rattle.serde_json.specs.Find.{get, get_member, as_array}
+use Rattle.std.specs.Prelude.{bytes_eq}
+use Rattle.serde_json.specs.Data.{Data, null, boolean, number, string, array, object, Items, no_items, item, Members, put}
+use Rattle.serde_json.specs.Find.{get_member, as_array}
 use Rattle.serde_json.proofs.Views.{get_member-put, get_member-put_other}
 use Rattle.schemars_json.specs.Json.{Text}
 use Rattle.schemars_schema.specs.SchemaData.{IsSchema}
 use Rattle.schemars_schema.specs.Edits.{without}
-use Rattle.schemars_schema.specs.Verdict.{Verdict, Yes, No, Open, both}
-use Rattle.schemars_schema.specs.Acceptance.{Dialect, Context, Judge, Reading, judge, keywords, truth_value, read_data, read_items, read_members, reading_at}
-use Rattle.schemars_schema.specs.Acceptance.{items_say, positions_say, past_say, past_list_say, where_some, each_past, by_position}
+use Rattle.schemars_schema.specs.Verdict.{Verdict, Yes}
+use Rattle.schemars_schema.specs.Acceptance.{Dialect, Context, Judge, judge, keywords, truth_value, read_data, read_items, read_members, reading_at}
+use Rattle.schemars_schema.specs.Acceptance.{items_say, where_some}
 use Rattle.schemars_schema.proofs.Objects.{schema-judge}
 use Rattle.schemars_transform.specs.Built.{prefix_as_items, prefix_moved, old_items_moved}
 use Rattle.schemars_laws.specs.Classes.{IsOnce, AreSchemas, IsSchemaList, IsNoList, HasPlainItems, by_items, by_prefix_items}
+use Rattle.schemars_schema.proofs.Verdicts.{both-yes}
 use Rattle.schemars_laws.proofs.Looked.{without-other, walked, none-walked, once-walked, list-walked, no_list-walked, Change}
 use Rattle.schemars_laws.proofs.Apart.{four_of, four_by, look_up, says-moved, differ, outside}
 
 -- ---- what the keywords for items say
-
-pub both-yes : (x : Verdict) → both x Yes ≡ x
-both-yes Yes = refl
-both-yes No = refl
-both-yes Open = refl
 
 where-yes : {A : Type 0} (o : Option A) → where_some o (λ a. Yes) ≡ Yes
 where-yes None = refl

@@ -1,5 +1,5 @@
 -- What holds of every schema object after a change of each.
-use Rattle.std.proofs.Common.{◌≡◌, ◌≢◌, Option, Some, None, Bool, true, false, Ordering, Less, Equal, Greater, nat_cmp, is_eq, refl, sym, ap, ◌∙◌, subst}
+use Rattle.std.proofs.Common.{◌≡◌, Some, Bool, true, false, Ordering, Less, Equal, Greater, nat_cmp, is_eq, refl, sym, ap, ◌∙◌, subst}
 use Rattle.std.proofs.lemmas.Slice.Eq.{bytes_eq-Decides}
 use Rattle.std.proofs.lemmas.Map.Text.{is_eq-slice_cmp}
 use Rattle.std.specs.Cmp.Lexicographic.{slice_cmp}
@@ -11,7 +11,7 @@ use Rattle.schemars_json.specs.Json.{Text}
 use Rattle.schemars_schema.specs.SchemaData.{IsSchema}
 use Rattle.schemars_schema.specs.Edits.{without, replaced}
 use Rattle.schemars_schema.specs.References.{Place, NoSchemas, OneSchema, SchemaList, SchemaOrList, SchemasByName, place_under}
-use Rattle.schemars_walk.specs.Rewritten.{forms, form_at, in_items, in_names, in_keywords}
+use Rattle.schemars_walk.specs.Rewritten.{forms, form_at, in_items, in_names}
 use Rattle.schemars_laws.specs.Everywhere.{asked, asked_at, asked_of_items, asked_of_members, asked_of_keywords}
 use Rattle.schemars_laws.proofs.Looked.{change_rules, walked}
 

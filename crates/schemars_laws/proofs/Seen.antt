@@ -1,5 +1,5 @@
 -- What an object says depends on one reading of what stands under each keyword: as a schema, as a list, or by name.
-use Rattle.std.proofs.Common.{◌≡◌, List, [], ◌∷◌, Option, Some, None, Bool, true, false, codes, option_map, refl, sym, ap, ◌∙◌}
+use Rattle.std.proofs.Common.{◌≡◌, List, ◌∷◌, Option, Some, None, Bool, true, false, codes, option_map, refl, sym, ap, ◌∙◌}
 use Rattle.std.proofs.Math.Path.{fun_ext}
 use Rattle.std.specs.Prelude.{bytes_eq, if◌then◌else◌, ◌||◌, ◌&&◌, option_and_then}
 use Rattle.serde_json.specs.Find.{as_str}
@@ -10,9 +10,8 @@ use Rattle.schemars_schema.specs.References.{Place, NoSchemas, OneSchema, Schema
 use Rattle.schemars_schema.specs.Acceptance.{Context, Raw, Readings, Reading, Judge, Patterns, keywords, all_keywords, items_say}
 use Rattle.schemars_schema.specs.Acceptance.{properties_say, pattern_properties_say, additional_properties_say, each_says, not_says}
 use Rattle.schemars_laws.proofs.Keywords.{all_say, fits-all}
-use Rattle.schemars_schema.specs.Acceptance.{reference_says, type_says, const_says, enum_says, minimum_says, maximum_says}
-use Rattle.schemars_schema.specs.Acceptance.{min_length_says, max_length_says, pattern_says, min_items_says, max_items_says}
-use Rattle.schemars_schema.specs.Acceptance.{unique_items_says, required_says, reference_alone, judged_by, judged_by_reference}
+use Rattle.schemars_schema.specs.Acceptance.{reference_says}
+use Rattle.schemars_schema.specs.Acceptance.{reference_alone, judged_by, judged_by_reference}
 use Rattle.schemars_schema.specs.Acceptance.{unevaluated_properties_say, judged_beside, is_covered, stands_schema, judged_by_list}
 
 -- the place under a keyword whose schemas are read, whether a walk reaches them or not

@@ -3,25 +3,24 @@ use Rattle.std.proofs.Common.{◌≡◌, ◌≢◌, ℕ, suc, arith, List, [], �
 use Rattle.std.proofs.Math.Path.{fun_ext}
 use Rattle.std.proofs.lemmas.Slice.Eq.{bytes_eq-Decides}
 use Rattle.std.proofs.lemmas.Bool.Decides.{nat_tests}
-use Rattle.std.specs.Prelude.{bytes_eq, if◌then◌else◌, ◌||◌, ◌&&◌, ◌++◌, not, option_and_then, ◌==◌}
+use Rattle.std.specs.Prelude.{bytes_eq, if◌then◌else◌, ◌||◌, ◌&&◌, ◌++◌, ◌==◌}
 use Rattle.serde_json.specs.Data.{Data, null, boolean, number, string, array, object, Items, no_items, item, Members, no_members, member, put}
-use Rattle.serde_json.specs.Find.{get, get_member, as_str}
+use Rattle.serde_json.specs.Find.{get_member}
 use Rattle.serde_json.specs.Events.{members_len}
 use Rattle.serde_json.proofs.Views.{get_member-put, get_member-put_other}
 use Rattle.schemars_json.specs.Json.{Text}
 use Rattle.schemars_json.specs.OrderedText.{is_listed}
 use Rattle.schemars_schema.specs.SchemaData.{IsSchema}
 use Rattle.schemars_schema.specs.Edits.{without, replaced}
-use Rattle.schemars_schema.specs.Verdict.{Verdict, Yes, No, Open, both, all_of, any_of, one_of, is_yes}
-use Rattle.schemars_schema.specs.Acceptance.{Dialect, Context, Raw, Readings, Reading, Judge, judge, keywords, all_keywords, reference_alone, is_reference}
+use Rattle.schemars_schema.specs.Verdict.{Verdict, Yes, No, Open, both, all_of, is_yes}
+use Rattle.schemars_schema.specs.Acceptance.{Dialect, Context, Raw, Readings, Judge, judge, keywords, all_keywords, reference_alone, is_reference}
 use Rattle.schemars_schema.specs.Acceptance.{truth_value, read_data, read_items, read_members, reading_at, judged_by_reference, judged_by, judged_by_list}
 use Rattle.schemars_schema.specs.Acceptance.{judged_by_some, judged_beside, both_some}
-use Rattle.schemars_schema.specs.Acceptance.{reference_says, type_says, const_says, enum_says, minimum_says, maximum_says, items_say}
-use Rattle.schemars_schema.specs.Acceptance.{min_length_says, max_length_says, pattern_says, min_items_says, max_items_says}
-use Rattle.schemars_schema.specs.Acceptance.{unique_items_says, required_says, properties_say, pattern_properties_say, stands_schema, is_covered}
-use Rattle.schemars_schema.specs.Acceptance.{additional_properties_say, each_says, not_says, unevaluated_properties_say}
+use Rattle.schemars_schema.specs.Acceptance.{reference_says, type_says, const_says, enum_says, items_say}
+use Rattle.schemars_schema.specs.Acceptance.{stands_schema, is_covered}
+use Rattle.schemars_schema.specs.Acceptance.{each_says, unevaluated_properties_say}
 use Rattle.schemars_schema.proofs.Objects.{schema-judge, reading_at-members, judge-agree}
-use Rattle.schemars_rewrite.specs.AllowNull.{has_one_member, with_item}
+use Rattle.schemars_rewrite.specs.AllowNull.{with_item}
 use Rattle.schemars_rewrite.specs.Properties.{with_last, changed_at}
 use Rattle.schemars_transform.specs.Built.{reference, reference_moved, without_siblings}
 use Rattle.schemars_laws.proofs.Keywords.{counts_say, members_say, last_say, fits-all, left_out, AgreeOutside, left_out-agree}
@@ -29,7 +28,9 @@ use Rattle.schemars_laws.proofs.Seen.{judge_ext}
 use Rattle.schemars_laws.specs.Classes.{IsOnce, IsText, IsSchemaList, HasPlainReference, alone_by, beside_by}
 use Rattle.schemars_laws.proofs.Looked.{get_member-first, unequal, without-other, walked, raw-walked, once-walked, list-walked, Change}
 use Rattle.schemars_laws.proofs.Apart.{pulled, look_up, differ}
-use Rattle.schemars_laws.proofs.PrefixItems.{some-list, both-yes}
+use Rattle.schemars_schema.proofs.Verdicts.{both-yes}
+use Rattle.schemars_rewrite.proofs.NullKeywords.{or-false}
+use Rattle.schemars_laws.proofs.PrefixItems.{some-list}
 
 -- ---- `$ref` and `allOf` apart from the other keywords
 
@@ -211,10 +212,6 @@ all_of-last (s ∷ ss) j v =
 or-assoc : (a b c : Bool) → (a || b) || c ≡ a || (b || c)
 or-assoc true b c = refl
 or-assoc false b c = refl
-
-or-false : (a : Bool) → a || false ≡ a
-or-false true = refl
-or-false false = refl
 
 judged-last : (ss : List Judge) (j : Judge) (v : Data) (k : Text) → judged_by_some (ss ++ j ∷ []) v k ≡ judged_by_some ss v k || judged_by j v k
 judged-last [] j v k = or-false (judged_by j v k)

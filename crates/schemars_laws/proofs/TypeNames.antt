@@ -1,17 +1,18 @@
 -- The names of types with null among them, and without.
 use Rattle.std.proofs.Common.{◌≡◌, List, [], ◌∷◌, Option, Some, None, Bool, true, false, codes, refl, sym, ap, ◌∙◌, true≢false}
-use Rattle.std.specs.Prelude.{bytes_eq, if◌then◌else◌, ◌||◌, ◌&&◌, option_and_then}
+use Rattle.std.specs.Prelude.{bytes_eq, if◌then◌else◌, ◌||◌, ◌&&◌}
 use Rattle.std.proofs.lemmas.Slice.Eq.{bytes_eq-Decides}
 use Rattle.serde_json.specs.Data.{Data, null, boolean, number, string, array, object, Items, no_items, item}
-use Rattle.serde_json.specs.Find.{as_str}
-use Rattle.schemars_json.specs.Json.{Text, json_eq}
+use Rattle.schemars_json.specs.Json.{Text}
 use Rattle.schemars_json.specs.OrderedText.{is_listed}
-use Rattle.schemars_schema.specs.Verdict.{Verdict, Yes, verdict}
-use Rattle.schemars_schema.specs.Acceptance.{type_names, is_of_type, is_of_some_type, texts_in, are_type_names, when, types_in, is_null, is_true}
+use Rattle.schemars_schema.specs.Verdict.{Verdict, verdict}
+use Rattle.schemars_schema.specs.Acceptance.{type_names, is_of_type, is_of_some_type, texts_in, are_type_names, when, types_in, is_null}
 use Rattle.schemars_schema.specs.Acceptance.{type_fits, type_says, where_some}
 use Rattle.schemars_rewrite.specs.AllowNull.{holds_text}
-use Rattle.schemars_transform.specs.Nullable.{is_null_name, all_null, nulls_in, without_null, one_or_list, type_without_null}
-use Rattle.schemars_laws.specs.Classes.{IsText, AreTexts, IsTypes}
+use Rattle.schemars_transform.specs.Nullable.{all_null, without_null, one_or_list, type_without_null}
+use Rattle.schemars_rewrite.proofs.NullKeywords.{or-false}
+use Rattle.schemars_rewrite.proofs.NullMembers.{and-parts}
+use Rattle.schemars_laws.specs.Classes.{AreTexts}
 
 bytes_eq-sym : (k l : Text) → bytes_eq k l ≡ bytes_eq l k
 bytes_eq-sym k l = go (bytes_eq k l) refl
@@ -137,10 +138,6 @@ others-types (s ∷ ss) v = go (bytes_eq s (codes "null")) refl (others-types ss
 
 -- ---- what `type` says, with null in it and without
 
-or-false : (b : Bool) → b || false ≡ b
-or-false true = refl
-or-false false = refl
-
 -- what names say, where they all are names of types
 abbrev by_names : Bool → Option Data → Bool → List Text → Data → Verdict
 by_names reads nullable are ss v = where_some (when are ss) (λ ts. verdict (type_fits reads nullable ts v))
@@ -172,10 +169,6 @@ pub text-alone : (s : Text) (v : Data) → bytes_eq s (codes "null") ≡ true �
 text-alone s v is =
     ap (λ x. type_says false (Some (string x)) None v) ((bytes_eq-Decides s (codes "null")).0 is)
     ∙ ap verdict (or-false (is_of_type (codes "null") v) ∙ null-type v)
-
-and-parts : (a b : Bool) → a && b ≡ true → (a ≡ true) × (b ≡ true)
-and-parts true b h = (refl, h)
-and-parts false b h = absurd (true≢false (sym h))
 
 all-others : (ds : Items) → AreTexts ds → all_null ds ≡ true → others (texts ds) ≡ []
 all-others no_items are all = refl

@@ -1,16 +1,16 @@
 -- Where there are no `unevaluatedProperties`, nothing changes, whether they are read or not.
-use Rattle.std.proofs.Common.{◌≡◌, ◌≢◌, List, [], ◌∷◌, Option, Some, None, Bool, true, false, codes, option_map, refl, sym, ap, ◌∙◌, subst}
+use Rattle.std.proofs.Common.{◌≡◌, ◌≢◌, List, Option, Some, None, Bool, true, false, codes, option_map, refl, sym, ap, ◌∙◌, subst}
 use Rattle.std.proofs.lemmas.Slice.Eq.{bytes_eq-Decides}
 use Rattle.std.specs.Prelude.{bytes_eq, if◌then◌else◌, ◌||◌, ◌&&◌, not}
 use Rattle.serde_json.specs.Data.{Data, null, boolean, number, string, array, object, Members, no_members, member, put}
-use Rattle.serde_json.specs.Find.{get, get_member}
+use Rattle.serde_json.specs.Find.{get_member}
 use Rattle.serde_json.proofs.Views.{get_member-put_other}
 use Rattle.schemars_json.specs.Json.{Text}
 use Rattle.schemars_schema.specs.SchemaData.{IsSchema}
 use Rattle.schemars_schema.specs.Edits.{without}
-use Rattle.schemars_schema.specs.Verdict.{Verdict, Yes}
+use Rattle.schemars_schema.specs.Verdict.{Yes}
 use Rattle.schemars_schema.specs.Acceptance.{Dialect, Context, Raw, Readings, judge, keywords, all_keywords, reference_alone, is_reference}
-use Rattle.schemars_schema.specs.Acceptance.{truth_value, read_data, read_members, reading_at, unevaluated_properties_say, judged_beside, stands_schema}
+use Rattle.schemars_schema.specs.Acceptance.{read_data, read_members, reading_at, unevaluated_properties_say, judged_beside, stands_schema}
 use Rattle.schemars_schema.proofs.Objects.{judge-agree, reading_at-members}
 use Rattle.schemars_gen_transform.specs.Unevaluated.{unevaluated_as_additional, closed_by, property_names, properties_made, properties_named, named_in, with_names}
 use Rattle.schemars_laws.specs.Classes.{HasNoUnevaluated, with_unevaluated, without_unevaluated}
@@ -18,7 +18,6 @@ use Rattle.schemars_laws.proofs.Seen.{judge_ext}
 use Rattle.schemars_laws.proofs.Formats.{truth-judge}
 use Rattle.schemars_laws.proofs.Looked.{without-other, walked, none-walked, once-walked, Change}
 use Rattle.schemars_laws.proofs.Apart.{look_up, differ}
-use Rattle.schemars_laws.proofs.Siblings.{unevaluated-none, and-false}
 
 -- what is not there is not missed
 module _ (c : Context) (d : Dialect) (raw : Raw) (read : Readings) (none : read (codes "unevaluatedProperties") ≡ None) where
