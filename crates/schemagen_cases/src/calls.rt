@@ -1,10 +1,10 @@
 //! What calls of the libraries answer, as text.
-use crate::{builders, schemas};
+use crate::{builders, samples, schemas};
 use schemagen_run::fault::Fault;
 use schemars_schema::encoding::{encode_ref_name, percent_decode};
 use schemars_schema::{NotASchema, Schema, json_eq, json_eq_members};
 use serde_json::Value;
-use std::alloc::{AllocError, Global};
+use std::alloc::{AllocError, AllocFailed, Global};
 use std::borrow::CowStr;
 
 /// Why there is no answer.
@@ -20,6 +20,12 @@ pub enum NoAnswer {
 
 impl From<AllocError> for NoAnswer {
     fn from(_e: AllocError) -> NoAnswer {
+        NoAnswer::OutOfMemory
+    }
+}
+
+impl<T: Drop> From<AllocFailed<T>> for NoAnswer {
+    fn from(_e: AllocFailed<T>) -> NoAnswer {
         NoAnswer::OutOfMemory
     }
 }
@@ -71,6 +77,7 @@ fn answer_about(
             builders::answer_about_text(alloc, call, text)
         }
         "fault" => fault(alloc, value),
+        "into_root_schema_for_value" => samples::answer(alloc, argument, value),
         _ => schemas::answer(alloc, call, argument, value),
     }
 }

@@ -10,6 +10,7 @@ mod calls;
 mod cases;
 mod edits;
 mod runs;
+mod samples;
 mod schemas;
 mod transforms;
 
@@ -17,7 +18,7 @@ use crate::cases::{Asked, work_cases};
 use std::{fs, io};
 
 // The files, and whom their cases ask.
-const FILES: [(&str, Asked); 12] = [
+const FILES: [(&str, Asked); 13] = [
     ("rows.tsv", Asked::Program),
     ("structs.tsv", Asked::Program),
     ("enums.tsv", Asked::Program),
@@ -30,6 +31,7 @@ const FILES: [(&str, Asked); 12] = [
     ("samples.tsv", Asked::Program),
     ("calls.tsv", Asked::Libraries),
     ("transforms.tsv", Asked::Libraries),
+    ("kinds.tsv", Asked::Libraries),
 ];
 
 fn main(rt: HostRuntime) -> io::Result<()> {
