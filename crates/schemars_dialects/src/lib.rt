@@ -1,0 +1,2 @@
+//! That generators' documents mean their types in the older drafts too.
+#![tactic(auto)]
