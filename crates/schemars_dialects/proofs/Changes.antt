@@ -26,8 +26,11 @@ use Rattle.schemars_laws.proofs.Preserved.{asked-without, asked-put}
 
 -- ---- keywords that the class doesn't look at
 
-abbrev watched : List Text
+abbrev pub watched : List Text
 watched = codes "$ref" ∷ codes "allOf" ∷ codes "prefixItems" ∷ codes "items" ∷ codes "additionalItems" ∷ codes "unevaluatedProperties" ∷ []
+
+abbrev pub IsWatched : Text → Type 0
+IsWatched k = is_listed k watched ≡ true
 
 abbrev pub IsUnwatched : Text → Type 0
 IsUnwatched k = is_listed k watched ≡ false
