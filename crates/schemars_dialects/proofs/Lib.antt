@@ -1,2 +1,4 @@
 pub mod Changes
 pub mod Documents
+pub mod Filled
+pub mod Classes
