@@ -2,3 +2,4 @@ pub mod Changes
 pub mod Documents
 pub mod Filled
 pub mod Classes
+pub mod RootClass
