@@ -1,8 +1,8 @@
 -- Which changes leave a schema object one that the laws of the drafts speak of.
 use Rattle.std.proofs.Common.{◌≡◌, ◌≢◌, List, [], ◌∷◌, Option, Some, None, Bool, true, false, codes, refl, sym, ap, ◌∙◌, subst, true≢false}
-use Rattle.std.specs.Prelude.{bytes_eq, if◌then◌else◌, ◌||◌}
+use Rattle.std.specs.Prelude.{option_and_then, bytes_eq, if◌then◌else◌, ◌||◌}
 use Rattle.serde_json.specs.Data.{Data, null, boolean, number, string, array, object, no_items, item, Members, no_members, member, put}
-use Rattle.serde_json.specs.Find.{get_member}
+use Rattle.serde_json.specs.Find.{get_member, as_str}
 use Rattle.serde_json.proofs.Views.{get_member-put_other}
 use Rattle.schemars_json.specs.Json.{Text}
 use Rattle.schemars_json.specs.OrderedText.{is_listed}
@@ -17,11 +17,11 @@ use Rattle.schemars_rewrite.specs.AllowNull.{enum_with_null, null_in_enum, const
 use Rattle.schemars_documents.specs.Documents.{annotated}
 use Rattle.schemars_meaning.proofs.MapDocument.{noted_by, AllNotes}
 use Rattle.schemars_laws.specs.Everywhere.{Everywhere, asked, asked_at, asked_of_keywords}
-use Rattle.schemars_laws.specs.Names.{Named, IsNoObject}
+use Rattle.schemars_laws.specs.Names.{IsName, IsNamed, IsNoObject}
 use Rattle.schemars_laws.specs.Classes.{IsDraft07}
 use Rattle.schemars_laws.proofs.Looked.{without-other}
 use Rattle.schemars_laws.proofs.Nullable.{without-put}
-use Rattle.schemars_laws.proofs.Plain.{Alike, name-alike, reference-alike, items-alike, without-swap}
+use Rattle.schemars_laws.proofs.Plain.{Alike, reference-alike, items-alike, without-swap}
 use Rattle.schemars_laws.proofs.Preserved.{asked-without, asked-put}
 
 -- ---- keywords that the class doesn't look at
@@ -59,16 +59,39 @@ note-place k note =
 pub asked-nothing : (P : Members → Type 0) (k : Text) (d : Data) → place_under k ≡ NoSchemas → asked_at (place_under k) (asked P d)
 asked-nothing P k d is = subst (λ p. asked_at p (asked P d)) (sym is) tt
 
+-- ---- what stands under `$ref`
+
+-- a text of which R holds, if anything
+abbrev pub IsReferring : (Text → Type 0) → Option Data → Type 0
+IsReferring R None = Unit {0}
+IsReferring R (Some null) = ⊥
+IsReferring R (Some (boolean b)) = ⊥
+IsReferring R (Some (number n)) = ⊥
+IsReferring R (Some (string t)) = R t
+IsReferring R (Some (array ds)) = ⊥
+IsReferring R (Some (object ms)) = ⊥
+
+-- a name, then
+pub referring-named : (key : Text) (o : Option Data) → IsReferring (IsName key) o → IsNamed key (option_and_then as_str o)
+referring-named key None is = tt
+referring-named key (Some (string t)) is = is
+referring-named key (Some null) is = absurd is
+referring-named key (Some (boolean b)) is = absurd is
+referring-named key (Some (number n)) is = absurd is
+referring-named key (Some (array ds)) is = absurd is
+referring-named key (Some (object ms)) is = absurd is
+
 -- ---- members put in, and taken out
 
-module _ (key : Text) where
+module _ (R : Text → Type 0) where
+  -- what the laws of Draft 7 ask for, where references are texts of which R holds
   abbrev pub Class : Members → Type 0
-  Class = Named key IsDraft07
+  Class ms = IsReferring R (get_member (codes "$ref") ms) × IsNoObject (get_member (codes "unevaluatedProperties") ms) × IsDraft07 ms
 
   class-alike : (ns ms : Members) → ((k : Text) → is_listed k watched ≡ true → Alike k ns ms) → Class ms → Class ns
   class-alike ns ms a is =
       let rest : Alike (codes "unevaluatedProperties") ns ms = a (codes "unevaluatedProperties") refl in (
-        name-alike key ns ms (a (codes "$ref") refl) is.0,
+        subst (IsReferring R) (sym (a (codes "$ref") refl).first) is.0,
         subst IsNoObject (sym rest.first) is.1,
         (
           (rest.others ∙ is.2.0.0, rest.first ∙ is.2.0.1),

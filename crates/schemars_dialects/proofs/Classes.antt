@@ -1,7 +1,8 @@
 -- In a plain table each document of a row is one that the laws of the drafts speak of.
 use Rattle.std.proofs.Common.{ℕ, zero, suc, inl, inr, List, [], ◌∷◌, Option, Some, None, true, false, codes, refl, sym, ◌∙◌, subst}
 use Rattle.std.specs.Option.{option_map_or}
-use Rattle.serde_json.specs.Data.{Data}
+use Rattle.serde_json.specs.Data.{Data, Members}
+use Rattle.serde_json.specs.Find.{get_member}
 use Rattle.schemars_json.specs.Json.{Text}
 use Rattle.schemars_schema.proofs.Literals.{literal_is_schema}
 use Rattle.schemars_rewrite.specs.Variants.{unit_variant}
@@ -21,64 +22,66 @@ use Rattle.schemars_meaning.proofs.References.{IsNotedShape}
 use Rattle.schemars_meaning.proofs.Referring.{IsNotedRow, AreNotedRows, plain_rows}
 use Rattle.schemars_meaning.proofs.Following.{described_fields}
 use Rattle.schemars_laws.specs.Everywhere.{Everywhere}
-use Rattle.schemars_laws.specs.Names.{IsName}
-use Rattle.schemars_dialects.proofs.Changes.{Class, IsGood, good_truth, good-annotated, good-allow_null}
+use Rattle.schemars_laws.specs.Names.{IsName, Named}
+use Rattle.schemars_laws.specs.Classes.{IsDraft07}
+use Rattle.schemars_laws.proofs.Preserved.{weaker}
+use Rattle.schemars_dialects.proofs.Changes.{Class, referring-named, IsGood, good_truth, good-annotated, good-allow_null}
 use Rattle.schemars_dialects.proofs.Documents.{type-good, int-good, non_zero-good, char-good, formatted-good, bytes-good}
 use Rattle.schemars_dialects.proofs.Documents.{schema_itself-good, reference-good, empty_list-good, seq-good, set-good, array-good, up_to-good}
 use Rattle.schemars_dialects.proofs.Documents.{tuple-good, parts-good, fields-good, one_of-good, member-good, map-good, unit-good, literal-good}
 use Rattle.schemars_dialects.proofs.Filled.{noted-effective, external-makes, untagged-makes, internal-makes, values-make}
 
-module _ (key : Text) (A : Ask → Data → Type 0) (has : ℕ → List Field) (basis : Basis)
+module _ (R : Text → Type 0) (A : Ask → Data → Type 0) (has : ℕ → List Field) (basis : Basis)
     (fields : AnswersFields has basis.rows basis.contract A) (noted_rows : (n : ℕ) → AreNoted (has n))
-    (parts : (j : ℕ) (t : Data) → A (part j) t → IsGood key t) where
+    (parts : (j : ℕ) (t : Data) → A (part j) t → IsGood R t) where
   shape-good : (kind : Shape) (s : Data) (others : ℕ → List Field) → IsPlainShape (spread others kind) → IsNotedShape kind
-      → ArePlainParts basis.rows (parts_in kind) → IsDocument A has basis kind s → IsGood key s
-  shape-good shape.null s others p own flat is = rw is (type-good key (codes "null"))
-  shape-good shape.bool s others p own flat is = rw is (type-good key (codes "boolean"))
-  shape-good (shape.int k) s others p own flat is = rw is (int-good key k)
-  shape-good (shape.non_zero k) s others p own flat is = rw is (non_zero-good key k)
-  shape-good shape.number s others p own flat is = rw is (type-good key (codes "number"))
-  shape-good shape.text s others p own flat is = rw is (type-good key (codes "string"))
-  shape-good shape.char s others p own flat is = rw is (char-good key)
-  shape-good (shape.formatted f) s others p own flat is = rw is (formatted-good key f)
-  shape-good shape.any s others p own flat is = rw is (good_truth key true)
-  shape-good shape.bytes s others p own flat is = rw is (bytes-good key basis.contract)
-  shape-good shape.schema_itself s others p own flat is = rw is (schema_itself-good key)
-  shape-good (shape.option n) s others p own flat is = rw is.2 (good-allow_null key is.0 (parts n is.0 is.1))
-  shape-good (shape.seq n) s others p own flat is = rw is.2 (seq-good key is.0 (parts n is.0 is.1))
-  shape-good (shape.set n) s others p own flat is = rw is.2 (set-good key is.0 (parts n is.0 is.1))
-  shape-good (shape.array n zero) s others p own flat is = rw is (empty_list-good key)
-  shape-good (shape.array n (suc len)) s others p own flat is = rw is.2 (array-good key (suc len) is.0 (parts n is.0 is.1))
-  shape-good (shape.up_to n cap) s others p own flat is = rw is.2 (up_to-good key cap is.0 (parts n is.0 is.1))
+      → ArePlainParts basis.rows (parts_in kind) → IsDocument A has basis kind s → IsGood R s
+  shape-good shape.null s others p own flat is = rw is (type-good R (codes "null"))
+  shape-good shape.bool s others p own flat is = rw is (type-good R (codes "boolean"))
+  shape-good (shape.int k) s others p own flat is = rw is (int-good R k)
+  shape-good (shape.non_zero k) s others p own flat is = rw is (non_zero-good R k)
+  shape-good shape.number s others p own flat is = rw is (type-good R (codes "number"))
+  shape-good shape.text s others p own flat is = rw is (type-good R (codes "string"))
+  shape-good shape.char s others p own flat is = rw is (char-good R)
+  shape-good (shape.formatted f) s others p own flat is = rw is (formatted-good R f)
+  shape-good shape.any s others p own flat is = rw is (good_truth R true)
+  shape-good shape.bytes s others p own flat is = rw is (bytes-good R basis.contract)
+  shape-good shape.schema_itself s others p own flat is = rw is (schema_itself-good R)
+  shape-good (shape.option n) s others p own flat is = rw is.2 (good-allow_null R is.0 (parts n is.0 is.1))
+  shape-good (shape.seq n) s others p own flat is = rw is.2 (seq-good R is.0 (parts n is.0 is.1))
+  shape-good (shape.set n) s others p own flat is = rw is.2 (set-good R is.0 (parts n is.0 is.1))
+  shape-good (shape.array n zero) s others p own flat is = rw is (empty_list-good R)
+  shape-good (shape.array n (suc len)) s others p own flat is = rw is.2 (array-good R (suc len) is.0 (parts n is.0 is.1))
+  shape-good (shape.up_to n cap) s others p own flat is = rw is.2 (up_to-good R cap is.0 (parts n is.0 is.1))
   shape-good (shape.tuple ns) s others p own flat is =
-      rw is.2 (tuple-good key is.0 (parts-good key (λ j. A (part j)) parts ns is.0 is.1))
+      rw is.2 (tuple-good R is.0 (parts-good R (λ j. A (part j)) parts ns is.0 is.1))
   shape-good (shape.struct x) s others p own flat is =
-      fields-good key (λ j. A (part j)) parts basis.contract (effective has x) x.closed s (noted-effective has noted_rows x own) is
+      fields-good R (λ j. A (part j)) parts basis.contract (effective has x) x.closed s (noted-effective has noted_rows x own) is
   shape-good (shape.newtype n) s others p own flat is = parts n s is
   shape-good (shape.result a b) s others p own flat is =
-      rw is.4 (one_of-good key (member_document false (codes "Ok") is.0 ∷ member_document false (codes "Err") is.1 ∷ [])
-      (member-good key false (codes "Ok") is.0 (parts a is.0 is.2), (member-good key false (codes "Err") is.1 (parts b is.1 is.3), tt)))
+      rw is.4 (one_of-good R (member_document false (codes "Ok") is.0 ∷ member_document false (codes "Err") is.1 ∷ [])
+      (member-good R false (codes "Ok") is.0 (parts a is.0 is.2), (member-good R false (codes "Err") is.1 (parts b is.1 is.3), tt)))
   shape-good (shape.bound n) s others p own flat is =
-      rw is.4 (one_of-good key (member_document false (codes "Included") is.0 ∷ member_document false (codes "Excluded") is.1
+      rw is.4 (one_of-good R (member_document false (codes "Included") is.0 ∷ member_document false (codes "Excluded") is.1
       ∷ unit_variant (codes "Unbounded") ∷ [])
-      (member-good key false (codes "Included") is.0 (parts n is.0 is.2),
-      (member-good key false (codes "Excluded") is.1 (parts n is.1 is.3), (unit-good key (codes "Unbounded"), tt))))
+      (member-good R false (codes "Included") is.0 (parts n is.0 is.2),
+      (member-good R false (codes "Excluded") is.1 (parts n is.1 is.3), (unit-good R (codes "Unbounded"), tt))))
   shape-good (shape.range n) s others p own flat is =
-      rw is.4 (map-good key ((codes "start", is.0) ∷ (codes "end", is.1) ∷ []) (codes "start" ∷ codes "end" ∷ []) false
+      rw is.4 (map-good R ((codes "start", is.0) ∷ (codes "end", is.1) ∷ []) (codes "start" ∷ codes "end" ∷ []) false
       (parts n is.0 is.2, (parts n is.1 is.3, tt)))
   shape-good (shape.either a b) s others p own flat is =
-      rw is.4 (one_of-good key (member_document true (codes "Left") is.0 ∷ member_document true (codes "Right") is.1 ∷ [])
-      (member-good key true (codes "Left") is.0 (parts a is.0 is.2), (member-good key true (codes "Right") is.1 (parts b is.1 is.3), tt)))
+      rw is.4 (one_of-good R (member_document true (codes "Left") is.0 ∷ member_document true (codes "Right") is.1 ∷ [])
+      (member-good R true (codes "Left") is.0 (parts a is.0 is.2), (member-good R true (codes "Right") is.1 (parts b is.1 is.3), tt)))
   shape-good (shape.map_from from value) s others p own flat is =
-      rw is.is (values-make key A parts (key_options basis.rows from) value is.parts is.answered)
+      rw is.is (values-make R A parts (key_options basis.rows from) value is.parts is.answered)
   shape-good (shape.external xs) s others p own flat is =
-      rw is.is (external-makes key A has basis fields noted_rows parts xs own flat is.parts is.answered)
+      rw is.is (external-makes R A has basis fields noted_rows parts xs own flat is.parts is.answered)
   shape-good (shape.untagged xs) s others p own flat is =
-      rw is.is (untagged-makes key A has basis fields noted_rows parts xs own flat is.parts is.answered)
+      rw is.is (untagged-makes R A has basis fields noted_rows parts xs own flat is.parts is.answered)
   shape-good (shape.internal tag closed xs) s others p own flat is =
-      rw is.is (internal-makes key A has basis fields noted_rows parts others tag closed xs p.2 own flat is.parts is.answered)
+      rw is.is (internal-makes R A has basis fields noted_rows parts others tag closed xs p.2 own flat is.parts is.answered)
   shape-good (shape.literal d) s others p own flat is =
-      rw (is ∙ literal_document-schema d (literal_is_schema d p)) (literal-good key d p)
+      rw (is ∙ literal_document-schema d (literal_is_schema d p)) (literal-good R d p)
 
 -- ---- fields
 
@@ -100,8 +103,8 @@ module _ (rows : List Row) (noted : AreNotedRows rows) where
 
 -- ---- the documents of rows
 
-module _ (key : Text) (basis : Basis) (Refers : ℕ → Text → Type 0) (plain : IsPlainTable basis.rows)
-    (names : (j : ℕ) (r : Text) → Refers j r → IsName key r) where
+module _ (R : Text → Type 0) (basis : Basis) (Refers : ℕ → Text → Type 0) (plain : IsPlainTable basis.rows)
+    (names : (j : ℕ) (r : Text) → Refers j r → R r) where
   abbrev In : ℕ → ℕ → Data → Type 0
   In d = IsWritten Refers (Describes basis Refers d)
 
@@ -112,32 +115,39 @@ module _ (key : Text) (basis : Basis) (Refers : ℕ → Text → Type 0) (plain 
   unfolding fields_within
   fields_down d = described_fields basis Refers plain (fields_within basis.rows) (λ e n. refl) d
 
-  own-good : (d : ℕ) → ((j : ℕ) (t : Data) → In d j t → IsGood key t) → (o : Option Entry) → IsPlainEntry basis.rows o → IsNotedRow o
-      → (t : Data) → IsOwnDocument (Answer d) basis o t → IsGood key t
+  own-good : (d : ℕ) → ((j : ℕ) (t : Data) → In d j t → IsGood R t) → (o : Option Entry) → IsPlainEntry basis.rows o → IsNotedRow o
+      → (t : Data) → IsOwnDocument (Answer d) basis o t → IsGood R t
   own-good d parts None entry noted t is = absurd is
   own-good d parts (Some e) entry noted t is =
       let has = fields_within basis.rows d in
       let own = own_document (Answer d) has basis (fields_down d) e t entry.2 is in
-      rw own.2 (good-annotated key e.notes own.0 entry.0
-      (shape-good key (Answer d) has basis (fields_down d) (noted-within basis.rows (plain_rows basis.rows plain) d) parts e.shape own.0
+      rw own.2 (good-annotated R e.notes own.0 entry.0
+      (shape-good R (Answer d) has basis (fields_down d) (noted-within basis.rows (plain_rows basis.rows plain) d) parts e.shape own.0
       (row_fields basis.rows) entry.1 noted.1 entry.2 own.1))
 
-  written-by : (d : ℕ) → ((j : ℕ) (t : Data) → Describes basis Refers d j t → IsGood key t) → (j : ℕ) (t : Data) → In d j t → IsGood key t
-  written-by d own j t (inl h) = subst (IsGood key) (sym h.2) (reference-good key h.0 (names j h.0 h.1))
+  written-by : (d : ℕ) → ((j : ℕ) (t : Data) → Describes basis Refers d j t → IsGood R t) → (j : ℕ) (t : Data) → In d j t → IsGood R t
+  written-by d own j t (inl h) = subst (IsGood R) (sym h.2) (reference-good R h.0 (names j h.0 h.1))
   written-by d own j t (inr h) = own j t h
 
-  pub described-good : (d n : ℕ) (t : Data) → Describes basis Refers d n t → IsGood key t
+  pub described-good : (d n : ℕ) (t : Data) → Describes basis Refers d n t → IsGood R t
   unfolding Describes
   described-good zero n t h = absurd h
   described-good (suc d) n t h =
       own-good d (written-by d (described-good d)) (entry_at basis.rows n) (plain n) (plain_rows basis.rows plain n) t h
 
+class-named : (key : Text) (ms : Members) → Class (IsName key) ms → Named key IsDraft07 ms
+class-named key ms is = (referring-named key (get_member (codes "$ref") ms) is.0, is.1, is.2)
+
+-- where references are names
+pub good-named : (key : Text) (s : Data) → Everywhere (Class (IsName key)) s → Everywhere (Named key IsDraft07) s
+good-named key s is = weaker (Class (IsName key)) (Named key IsDraft07) (class-named key) s is
+
 module _ (key : Text) where
   pub described-class : (basis : Basis) (Refers : ℕ → Text → Type 0) → IsPlainTable basis.rows → ((j : ℕ) (r : Text) → Refers j r → IsName key r)
-      → (d n : ℕ) (s : Data) → Describes basis Refers d n s → Everywhere (Class key) s
-  described-class basis Refers plain names d n s h = (described-good key basis Refers plain names d n s h).everywhere
+      → (d n : ℕ) (s : Data) → Describes basis Refers d n s → Everywhere (Named key IsDraft07) s
+  described-class basis Refers plain names d n s h = good-named key s (described-good (IsName key) basis Refers plain names d n s h).everywhere
 
   pub written-class : (basis : Basis) (Refers : ℕ → Text → Type 0) → IsPlainTable basis.rows → ((j : ℕ) (r : Text) → Refers j r → IsName key r)
-      → (d n : ℕ) (t : Data) → IsWritten Refers (Describes basis Refers d) n t → Everywhere (Class key) t
+      → (d n : ℕ) (t : Data) → IsWritten Refers (Describes basis Refers d) n t → Everywhere (Named key IsDraft07) t
   written-class basis Refers plain names d n t h =
-      (written-by key basis Refers plain names d (described-good key basis Refers plain names d) n t h).everywhere
+      good-named key t (written-by (IsName key) basis Refers plain names d (described-good (IsName key) basis Refers plain names d) n t h).everywhere

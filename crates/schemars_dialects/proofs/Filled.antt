@@ -47,9 +47,9 @@ module _ (has : ℕ → List Field) (noted_rows : (n : ℕ) → AreNoted (has n)
   pub noted-effective : (x : Fields) → AreNoted x.list → AreNoted (effective has x)
   noted-effective x own = noted-append x.list (flattened_fields has x.flatten) own (noted-flattened x.flatten)
 
-module _ (key : Text) (A : Ask → Data → Type 0) (has : ℕ → List Field) (basis : Basis)
+module _ (R : Text → Type 0) (A : Ask → Data → Type 0) (has : ℕ → List Field) (basis : Basis)
     (fields : AnswersFields has basis.rows basis.contract A) (noted_rows : (n : ℕ) → AreNoted (has n))
-    (parts : (j : ℕ) (t : Data) → A (part j) t → IsGood key t) where
+    (parts : (j : ℕ) (t : Data) → A (part j) t → IsGood R t) where
   abbrev contract : Contract
   contract = basis.contract
 
@@ -58,52 +58,52 @@ module _ (key : Text) (A : Ask → Data → Type 0) (has : ℕ → List Field) (
 
   -- whatever fills it
   abbrev Makes : Template → Type 0
-  Makes t = (us : List Data) → Fit A (asks_of t) us → IsGood key (filled t us)
+  Makes t = (us : List Data) → Fit A (asks_of t) us → IsGood R (filled t us)
 
   abbrev AllMake : List Template → Type 0
   AllMake [] = Unit {0}
   AllMake (t ∷ ts) = Makes t × AllMake ts
 
   all-filled : (ts : List Template) → AllMake ts → (us : List Data) → Fit A (asks_in (templates_of ts)) us
-      → AllGood key (filled_in (templates_of ts) us)
+      → AllGood R (filled_in (templates_of ts) us)
   all-filled [] make us fit = tt
   all-filled (t ∷ ts) make us fit =
       let p = parted A t (asks_in (templates_of ts)) us fit in (
-        subst (IsGood key) (sym p.4) (make.0 p.0 p.2),
-        subst (λ ws. AllGood key (filled_in (templates_of ts) ws)) (sym p.5) (all-filled ts make.1 p.1 p.3),
+        subst (IsGood R) (sym p.4) (make.0 p.0 p.2),
+        subst (λ ws. AllGood R (filled_in (templates_of ts) ws)) (sym p.5) (all-filled ts make.1 p.1 p.3),
       )
 
   one-makes : (ts : List Template) → AllMake ts → Makes (one_of ts)
   one-makes ts make us fit =
-      one_of-good key (filled_in (templates_of ts) us) (all-filled ts make us (without_end A (asks_in (templates_of ts)) us fit))
+      one_of-good R (filled_in (templates_of ts) us) (all-filled ts make us (without_end A (asks_in (templates_of ts)) us fit))
 
   any-makes : (ts : List Template) → AllMake ts → Makes (any_of ts)
   any-makes ts make us fit =
-      any_of-good key (filled_in (templates_of ts) us) (all-filled ts make us (without_end A (asks_in (templates_of ts)) us fit))
+      any_of-good R (filled_in (templates_of ts) us) (all-filled ts make us (without_end A (asks_in (templates_of ts)) us fit))
 
   noted-makes : (notes : Members) (t : Template) → AreNotes notes → Makes t → Makes (noted notes t)
-  noted-makes notes t plain make us fit = good-annotated key notes (filled t us) plain (make us fit)
+  noted-makes notes t plain make us fit = good-annotated R notes (filled t us) plain (make us fit)
 
   payload-makes : (p : Payload) → IsNotedPayload p → ArePlainParts basis.rows (payload_parts p) → Makes (payload_template contract p)
-  payload-makes no_payload own flat us fit = type-good key (codes "null")
+  payload-makes no_payload own flat us fit = type-good R (codes "null")
   payload-makes (newtype_payload n) own flat [] fit = absurd fit
   payload-makes (newtype_payload n) own flat (t ∷ us) fit = parts n t fit.0
   payload-makes (tuple_payload ns) own flat us fit =
-      let d = tuple_fills A ns us fit in subst (IsGood key) (sym d.2) (tuple-good key d.0 (parts-good key W parts ns d.0 d.1))
+      let d = tuple_fills A ns us fit in subst (IsGood R) (sym d.2) (tuple-good R d.0 (parts-good R W parts ns d.0 d.1))
   payload-makes (struct_payload x) own flat us fit =
-      fields-good key W parts contract (effective has x) x.closed _ (noted-effective has noted_rows x own)
+      fields-good R W parts contract (effective has x) x.closed _ (noted-effective has noted_rows x own)
       (struct_fills A has basis.rows contract fields x flat us fit)
 
   -- ---- by names outside
 
   member-makes : (name : Text) (t : Template) → Makes t → Makes (member_template true name t)
   member-makes name t make us fit =
-      member-good key true name (filled t us)
+      member-good R true name (filled t us)
       (make us (without_end A (asks_of t) us (without_end A (asks_of t ++ []) us fit)))
 
   named-makes : (name : Text) (p : Payload) → IsNotedPayload p → ArePlainParts basis.rows (payload_parts p)
       → Makes (named_template contract name p)
-  named-makes name no_payload own flat us fit = unit-good key name
+  named-makes name no_payload own flat us fit = unit-good R name
   named-makes name (newtype_payload n) own flat us fit =
       member-makes name (payload_template contract (newtype_payload n)) (payload-makes (newtype_payload n) own flat) us fit
   named-makes name (tuple_payload ns) own flat us fit =
@@ -125,11 +125,11 @@ module _ (key : Text) (A : Ask → Data → Type 0) (has : ℕ → List Field) (
           (noted-makes x.notes (named_template contract x.name x.payload) own.0 (named-makes x.name x.payload own.1 flats.0), later)
 
   choice-makes : (ks : List Text) (ts : List Template) → AllMake ts → Makes (choice_of ks ts)
-  choice-makes [] [] make us fit = good_truth key false
+  choice-makes [] [] make us fit = good_truth R false
   choice-makes [] (t ∷ ts) make us fit = one-makes (t ∷ ts) make us fit
-  choice-makes (k ∷ ks) [] make us fit = units-good key (k ∷ ks)
+  choice-makes (k ∷ ks) [] make us fit = units-good R (k ∷ ks)
   choice-makes (k ∷ ks) (t ∷ ts) make us fit =
-      one-makes (units_template (k ∷ ks) ∷ t ∷ ts) (λ us fit. units-good key (k ∷ ks), make) us fit
+      one-makes (units_template (k ∷ ks) ∷ t ∷ ts) (λ us fit. units-good R (k ∷ ks), make) us fit
 
   pub external-makes : (xs : List Variant) → AreNotedVariants xs → ArePlainParts basis.rows (variant_parts xs)
       → Makes (external_template contract xs)
@@ -154,7 +154,7 @@ module _ (key : Text) (A : Ask → Data → Type 0) (has : ℕ → List Field) (
 
   pub untagged-makes : (xs : List Variant) → AreNotedVariants xs → ArePlainParts basis.rows (variant_parts xs)
       → Makes (untagged_template contract basis.titles xs)
-  untagged-makes [] own flat us fit = good_truth key false
+  untagged-makes [] own flat us fit = good_truth R false
   untagged-makes (x ∷ xs) own flat us fit =
       any-makes (map (payload_item contract basis.titles) (x ∷ xs)) (payloads-make (x ∷ xs) own flat) us fit
 
@@ -164,7 +164,7 @@ module _ (key : Text) (A : Ask → Data → Type 0) (has : ℕ → List Field) (
     tag-makes : (name : Text) (p : Payload) → IsTagged tag (spread_payload others p) → IsNotedPayload p
         → ArePlainParts basis.rows (payload_parts p) → Makes (tagged tag name closed (content_template contract p))
     tag-makes name no_payload is own flat us fit =
-        subst (IsGood key) (sym (tagged-null tag name closed)) (tagged-good key W parts contract tag name [] [] closed tt refl)
+        subst (IsGood R) (sym (tagged-null tag name closed)) (tagged-good R W parts contract tag name [] [] closed tt refl)
     tag-makes name (newtype_payload n) is own flat us fit = absurd is
     tag-makes name (tuple_payload ns) is own flat us fit = absurd is
     tag-makes name (struct_payload x) is own flat us fit =
@@ -174,9 +174,9 @@ module _ (key : Text) (A : Ask → Data → Type 0) (has : ℕ → List Field) (
         ap (internally_tagged_variant tag name closed) d.is
         ∙ tagged-map d.notes tag name closed (field_keywords (effective has x) d.parts) (required_names contract (effective has x))
         x.closed d.are_notes in
-        subst (IsGood key) (sym same)
-        (good-noted_by key d.notes (tagged_document contract tag name (effective has x) d.parts x.closed) d.are_notes
-        (tagged-good key W parts contract tag name (effective has x) d.parts x.closed (noted-effective has noted_rows x own) d.written))
+        subst (IsGood R) (sym same)
+        (good-noted_by R d.notes (tagged_document contract tag name (effective has x) d.parts x.closed) d.are_notes
+        (tagged-good R W parts contract tag name (effective has x) d.parts x.closed (noted-effective has noted_rows x own) d.written))
 
     internals-make : (xs : List Variant) → AreTagged tag (map (spread_variant others) xs) → AreNotedVariants xs
         → ArePlainParts basis.rows (variant_parts xs) → AllMake (map (internal_item contract tag closed) xs)
@@ -190,13 +190,13 @@ module _ (key : Text) (A : Ask → Data → Type 0) (has : ℕ → List Field) (
 
     pub internal-makes : (xs : List Variant) → AreTagged tag (map (spread_variant others) xs) → AreNotedVariants xs
         → ArePlainParts basis.rows (variant_parts xs) → Makes (internal_template contract tag closed xs)
-    internal-makes [] are own flat us fit = good_truth key false
+    internal-makes [] are own flat us fit = good_truth R false
     internal-makes (x ∷ xs) are own flat us fit =
         one-makes (map (internal_item contract tag closed) (x ∷ xs)) (internals-make (x ∷ xs) are own flat) us fit
 
 -- ---- maps
 
-module _ (key : Text) where
+module _ (R : Text → Type 0) where
   abbrev rows_at : ℕ → List Text → Templates
   rows_at value ks = templates_of (map (λ (e : KeywordTemplate). e.1) (values_of value ks))
 
@@ -204,47 +204,47 @@ module _ (key : Text) where
   keywords_at value ks us = keyed (map (λ (e : KeywordTemplate). e.0) (values_of value ks)) (filled_in (rows_at value ks) us)
 
   -- the values of these keys
-  rows-named : (value : ℕ) (ks : List Text) (us : List Data) → AllGood key us → AllNamed key (keywords_at value ks us)
+  rows-named : (value : ℕ) (ks : List Text) (us : List Data) → AllGood R us → AllNamed R (keywords_at value ks us)
   rows-named value [] us all = tt
   rows-named value (k ∷ ks) us all =
-      (first_all (IsGood key) (good_truth key true) us all, rows-named value ks _ (left_all (IsGood key) (row value) us all))
+      (first_all (IsGood R) (good_truth R true) us all, rows-named value ks _ (left_all (IsGood R) (row value) us all))
 
-  named-asked : (value : ℕ) (ks : List Text) (us : List Data) → AllGood key us
-      → asked_of_members (Class key) (put_all (keywords_at value ks us) no_members)
+  named-asked : (value : ℕ) (ks : List Text) (us : List Data) → AllGood R us
+      → asked_of_members (Class R) (put_all (keywords_at value ks us) no_members)
   unfolding asked
-  named-asked value ks us all = asked-all key (keywords_at value ks us) no_members (rows-named value ks us all) tt
+  named-asked value ks us all = asked-all R (keywords_at value ks us) no_members (rows-named value ks us all) tt
 
-  keyed-good : (other : Template) (value : ℕ) (texts qs : List Text) (us : List Data) → IsGood key (filled other us) → AllGood key us
-      → IsGood key (filled (object_with (typed (codes "object") ∷ (codes "additionalProperties", other)
+  keyed-good : (other : Template) (value : ℕ) (texts qs : List Text) (us : List Data) → IsGood R (filled other us) → AllGood R us
+      → IsGood R (filled (object_with (typed (codes "object") ∷ (codes "additionalProperties", other)
       ∷ (pattern_properties_at (values_of value qs) ++ properties_at (values_of value texts)))) us)
   unfolding asked
   keyed-good other value texts qs us is all = go texts qs
     where
-      start : Are key (put (codes "additionalProperties") (filled other us) (put (codes "type") (string (codes "object")) no_members))
+      start : Are R (put (codes "additionalProperties") (filled other us) (put (codes "type") (string (codes "object")) no_members))
       start =
-          are-put key (codes "additionalProperties") (filled other us) (put (codes "type") (string (codes "object")) no_members) refl is.everywhere
-          (are-put key (codes "type") (string (codes "object")) no_members refl tt (nothing key))
+          are-put R (codes "additionalProperties") (filled other us) (put (codes "type") (string (codes "object")) no_members) refl is.everywhere
+          (are-put R (codes "type") (string (codes "object")) no_members refl tt (nothing R))
 
-      behind : AllGood key (left other us)
-      behind = left_all (IsGood key) other us all
+      behind : AllGood R (left other us)
+      behind = left_all (IsGood R) other us all
 
-      go : (texts qs : List Text) → IsGood key (filled (object_with (typed (codes "object") ∷ (codes "additionalProperties", other)
+      go : (texts qs : List Text) → IsGood R (filled (object_with (typed (codes "object") ∷ (codes "additionalProperties", other)
           ∷ (pattern_properties_at (values_of value qs) ++ properties_at (values_of value texts)))) us)
-      go [] [] = good key _ start
+      go [] [] = good R _ start
       go (t ∷ texts) [] =
-          good key _ (are-put key (codes "properties") _ _ refl (named-asked value (t ∷ texts) (left other us) behind) start)
+          good R _ (are-put R (codes "properties") _ _ refl (named-asked value (t ∷ texts) (left other us) behind) start)
       go [] (q ∷ qs) =
-          good key _ (are-put key (codes "patternProperties") _ _ refl (named-asked value (q ∷ qs) (left other us) behind) start)
+          good R _ (are-put R (codes "patternProperties") _ _ refl (named-asked value (q ∷ qs) (left other us) behind) start)
       go (t ∷ texts) (q ∷ qs) =
-          good key _ (are-put key (codes "properties") _ _ refl
-          (named-asked value (t ∷ texts) _ (left_all (IsGood key) (object_with (values_of value (q ∷ qs))) (left other us) behind))
-          (are-put key (codes "patternProperties") _ _ refl (named-asked value (q ∷ qs) (left other us) behind) start))
+          good R _ (are-put R (codes "properties") _ _ refl
+          (named-asked value (t ∷ texts) _ (left_all (IsGood R) (object_with (values_of value (q ∷ qs))) (left other us) behind))
+          (are-put R (codes "patternProperties") _ _ refl (named-asked value (q ∷ qs) (left other us) behind) start))
 
-  other-good : (others : Bool) (value : ℕ) (us : List Data) → AllGood key us → IsGood key (filled (other_values others value) us)
-  other-good true value us all = first_all (IsGood key) (good_truth key true) us all
-  other-good false value us all = good_truth key false
+  other-good : (others : Bool) (value : ℕ) (us : List Data) → AllGood R us → IsGood R (filled (other_values others value) us)
+  other-good true value us all = first_all (IsGood R) (good_truth R true) us all
+  other-good false value us all = good_truth R false
 
-  values-good : (options : KeyOptions) (value : ℕ) (us : List Data) → AllGood key us → IsGood key (filled (values_template options value) us)
+  values-good : (options : KeyOptions) (value : ℕ) (us : List Data) → AllGood R us → IsGood R (filled (values_template options value) us)
   values-good (keys others texts integers ps) value us all =
       keyed-good (other_values others value) value texts (all_patterns integers ps) us (other-good others value us all) all
 
@@ -290,15 +290,15 @@ parts-values : (options : KeyOptions) (value : ℕ) → AreParts (asks_of (value
 parts-values (keys others texts integers ps) value =
     parts-keyed (other_values others value) value texts (all_patterns integers ps) (parts-other others value)
 
-module _ (key : Text) (A : Ask → Data → Type 0) (parts : (j : ℕ) (t : Data) → A (part j) t → IsGood key t) where
-  parts-answered : (asks : List Ask) (us : List Data) → AreParts asks → Fit A asks us → AllGood key us
-  parts-answered [] us are fit = subst (AllGood key) (sym fit) tt
+module _ (R : Text → Type 0) (A : Ask → Data → Type 0) (parts : (j : ℕ) (t : Data) → A (part j) t → IsGood R t) where
+  parts-answered : (asks : List Ask) (us : List Data) → AreParts asks → Fit A asks us → AllGood R us
+  parts-answered [] us are fit = subst (AllGood R) (sym fit) tt
   parts-answered (part n ∷ asks) [] are fit = absurd fit
   parts-answered (part n ∷ asks) (u ∷ us) are fit = (parts n u fit.0, parts-answered asks us are fit.1)
   parts-answered (members_of n required ∷ asks) us are fit = absurd are
   parts-answered (content n ∷ asks) us are fit = absurd are
 
   pub values-make : (options : KeyOptions) (value : ℕ) (us : List Data) → Fit A (asks_of (values_template options value)) us
-      → IsGood key (filled (values_template options value) us)
+      → IsGood R (filled (values_template options value) us)
   values-make options value us fit =
-      values-good key options value us (parts-answered (asks_of (values_template options value)) us (parts-values options value) fit)
+      values-good R options value us (parts-answered (asks_of (values_template options value)) us (parts-values options value) fit)

@@ -2,7 +2,7 @@
 use Rattle.std.proofs.Common.{◌≡◌, ℕ, List, [], inl, inr, Option, Some, None, Bool, true, false, codes, refl, sym, ap, ◌∙◌, subst, arith, true≢false}
 use Rattle.std.specs.Prelude.{is_some, if◌then◌else◌, bytes_eq}
 use Rattle.std.specs.Str.{IsUtf8}
-use Rattle.serde_json.specs.Data.{Data, string, object, Members, no_members, member, put}
+use Rattle.serde_json.specs.Data.{Data, null, boolean, number, string, array, object, Members, no_members, member, put}
 use Rattle.serde_json.specs.Find.{get_member}
 use Rattle.serde_json.proofs.Views.{get_member-put}
 use Rattle.schemars_json.specs.Json.{Text}
@@ -28,12 +28,23 @@ use Rattle.schemars_headline.proofs.OwnKeys.{no_definitions_in}
 use Rattle.schemars_headline.proofs.Standing.{MayRefer, AllStand, refers_may}
 use Rattle.schemars_headline.proofs.Placed.{StandsAt, IsPlaced, stands_key, placed_in}
 use Rattle.schemars_laws.specs.Everywhere.{Everywhere, asked, asked_at, asked_of_members}
-use Rattle.schemars_laws.specs.Names.{IsName, IsMap}
+use Rattle.schemars_laws.specs.Names.{IsName, Named, IsMap}
+use Rattle.schemars_laws.specs.Classes.{IsDraft07}
 use Rattle.schemars_laws.proofs.References.{defs-name, definitions-name}
 use Rattle.schemars_dialects.proofs.Changes.{IsUnwatched, Class, Are, are-put, IsGood, good, good-members, watched}
-use Rattle.schemars_dialects.proofs.Classes.{described-good}
+use Rattle.schemars_dialects.proofs.Classes.{described-good, good-named}
 
 -- ---- where definitions stand
+
+-- those of a map that stands there; none where none does
+abbrev pub entries : Option Data → Members
+entries None = no_members
+entries (Some null) = no_members
+entries (Some (boolean b)) = no_members
+entries (Some (number n)) = no_members
+entries (Some (string s)) = no_members
+entries (Some (array ds)) = no_members
+entries (Some (object es)) = es
 
 stands-unwatched : (path key : Text) → StandsAt path key → IsUnwatched key
 stands-unwatched path key (inl at) = ap (λ k. is_listed k watched) at.1
@@ -72,56 +83,70 @@ module _ (plan : Plan) (w : Work) (key : Text) (at : StandsAt plan.path key) (de
       subst (IsName key) (sym is.3) (to-name plan.path key is.0 at (definitions is.0 is.2.0 is.2.1).is_text)
 
   -- a reference of a definition that stands, or of a document beside it
-  pub may_refer-name : (j : ℕ) (r : Text) → MayRefer plan w j r → IsName key r
+  may_refer-name : (j : ℕ) (r : Text) → MayRefer plan w j r → IsName key r
   may_refer-name j r (inl is) = refers-name plan.root j r is
   may_refer-name j r (inr is) = refers-name None j r is
 
 -- ---- root documents
 
-module _ (key : Text) where
-  are-titled : (name : Text) (ms : Members) → Are key ms → Are key (with_title name ms)
+module _ (R : Text → Type 0) where
+  are-titled : (name : Text) (ms : Members) → Are R ms → Are R (with_title name ms)
   are-titled name ms is = go (is_some (get_member (codes "title") ms))
     where
-      go : (b : Bool) → Are key (if b then ms else put (codes "title") (string name) ms)
+      go : (b : Bool) → Are R (if b then ms else put (codes "title") (string name) ms)
       go true = is
-      go false = are-put key (codes "title") (string name) ms refl tt is
+      go false = are-put R (codes "title") (string name) ms refl tt is
 
-  are-with_meta_schema : (uri : Option Text) (ms : Members) → Are key ms → Are key (with_meta_schema uri ms)
+  are-with_meta_schema : (uri : Option Text) (ms : Members) → Are R ms → Are R (with_meta_schema uri ms)
   are-with_meta_schema None ms is = is
-  are-with_meta_schema (Some uri) ms is = are-put key (codes "$schema") (string uri) ms refl tt is
+  are-with_meta_schema (Some uri) ms is = are-put R (codes "$schema") (string uri) ms refl tt is
 
-  pub root-are : (name : Text) (uri : Option Text) (s : Data) → IsGood key s → Are key (members_in (root_document name uri s))
+  pub root-are : (name : Text) (uri : Option Text) (s : Data) → IsGood R s → Are R (members_in (root_document name uri s))
   root-are name uri s is =
-      are-with_meta_schema uri (with_title name (members_in s)) (are-titled name (members_in s) (good-members key s is))
+      are-with_meta_schema uri (with_title name (members_in s)) (are-titled name (members_in s) (good-members R s is))
 
-  definitions-asked : (ms : Members) → AllMembers (IsGood key) ms → asked_of_members (Class key) ms
+  definitions-asked : (ms : Members) → AllMembers (IsGood R) ms → asked_of_members (Class R) ms
   unfolding asked
   definitions-asked no_members all = tt
   definitions-asked (member k d ms) all = (all.0.everywhere, definitions-asked ms all.1)
 
   -- the members of the class with the definitions at their key
-  with-definitions : (path : Text) → StandsAt path key → (definitions ms : Members) → AllMembers (IsGood key) definitions → Are key ms
-      → Are key (put key (object definitions) ms)
+  with-definitions : (path key : Text) → StandsAt path key → (definitions ms : Members) → AllMembers (IsGood R) definitions → Are R ms
+      → Are R (put key (object definitions) ms)
   unfolding asked
-  with-definitions path at definitions ms all is =
-      are-put key key (object definitions) ms (stands-unwatched path key at)
-      (subst (λ p. asked_at p (asked (Class key) (object definitions))) (sym (stands-place path key at)) (definitions-asked definitions all)) is
+  with-definitions path key at definitions ms all is =
+      are-put R key (object definitions) ms (stands-unwatched path key at)
+      (subst (λ p. asked_at p (asked (Class R) (object definitions))) (sym (stands-place path key at)) (definitions-asked definitions all)) is
 
--- a document of the class, whose definitions are a map
-abbrev pub IsReady : Text → Data → Type 0
-IsReady key document = Everywhere (Class key) document × ((ms : Members) × (document ≡ object ms) × IsMap (get_member key ms))
+-- an object of the class, with these definitions under a key, if there are any
+pub record IsReady (R : Text → Type 0) (key : Text) (definitions : Members) (document : Data) : Type 0 where
+  pub everywhere : Everywhere (Class R) document
+  pub inside : Members
+  pub is_object : document ≡ object inside
+  pub is_map : IsMap (get_member key inside)
+  pub stands : entries (get_member key inside) ≡ definitions
 
-placed-ready : (path key : Text) (definitions ms : Members) (document : Data) → StandsAt path key → AllMembers (IsGood key) definitions
-    → Are key ms → get_member key ms ≡ None → IsPlaced path definitions (object ms) document → IsReady key document
-placed-ready path key definitions ms document at all is none (inl placed) =
-    subst (IsReady key) (sym placed.1) ((good key ms is).everywhere, (ms, refl, subst IsMap (sym none) tt))
-placed-ready path key definitions ms document at all is none (inr placed) =
+placed-ready : (R : Text → Type 0) (path key : Text) (definitions ms : Members) (document : Data) → StandsAt path key
+    → AllMembers (IsGood R) definitions → Are R ms → get_member key ms ≡ None → IsPlaced path definitions (object ms) document
+    → IsReady R key definitions document
+placed-ready R path key definitions ms document at all is none (inl placed) =
+    subst (IsReady R key definitions) (sym placed.1) (record {
+      everywhere = (good R ms is).everywhere;
+      inside = ms;
+      is_object = refl;
+      is_map = subst IsMap (sym none) tt;
+      stands = ap entries none ∙ sym placed.0;
+    })
+placed-ready R path key definitions ms document at all is none (inr placed) =
     let same : document ≡ object (put key (object definitions) ms) =
     placed.2 ∙ ap (λ k. object (put k (object definitions) ms)) (same_key path placed.0 key placed.1 at) in
-    subst (IsReady key) (sym same) (
-      (good key (put key (object definitions) ms) (with-definitions key path at definitions ms all is)).everywhere,
-      (put key (object definitions) ms, refl, subst IsMap (sym (get_member-put key (object definitions) ms)) tt),
-    )
+    subst (IsReady R key definitions) (sym same) (record {
+      everywhere = (good R (put key (object definitions) ms) (with-definitions R path key at definitions ms all is)).everywhere;
+      inside = put key (object definitions) ms;
+      is_object = refl;
+      is_map = subst IsMap (sym (get_member-put key (object definitions) ms)) tt;
+      stands = ap entries (get_member-put key (object definitions) ms);
+    })
 
 noted-literal : (kind : Shape) → IsNotedShape kind → HasPlainLiteral kind
 noted-literal (shape.literal d) own = own
@@ -135,34 +160,43 @@ plain_notes rows plain n = go (entry_at rows n) (plain_rows rows plain n)
     go (Some e) own = (own.0, noted-literal e.shape own.1)
 
 -- a root document with its definitions
-pub root-ready : (plan : Plan) (w : Work) (n : ℕ) (name : Text) (uri : Option Text) (depth : ℕ) (own document : Data) (key : Text)
+root-ready : (plan : Plan) (w : Work) (n : ℕ) (name : Text) (uri : Option Text) (depth : ℕ) (own document : Data) (key : Text)
     → StandsAt plan.path key → IsPlainTable plan.rows → HasKeysOnce w.definitions → AllStand plan w
     → Describes (basis_of plan) (MayRefer plan w) depth n own
-    → with_definitions plan.path w.definitions (root_document name uri own) ≡ Some document → IsReady key document
-root-ready plan w n name uri depth own document key at plain once definitions h made =
-    placed-ready plan.path key w.definitions ms document at all (root-are key name uri own (each depth n own h)) (room key (stands_key plan.path key at))
+    → with_definitions plan.path w.definitions (root_document name uri own) ≡ Some document
+    → (R : Text → Type 0) → ((j : ℕ) (r : Text) → MayRefer plan w j r → R r) → IsReady R key w.definitions document
+root-ready plan w n name uri depth own document key at plain once definitions h made R refer =
+    placed-ready R plan.path key w.definitions ms document at all (root-are R name uri own (each depth n own h)) (room key (stands_key plan.path key at))
     (placed_in plan.path w.definitions ms document (stands-draft plan.path key at) room made)
   where
     ms : Members
     ms = members_in (root_document name uri own)
 
-    each : (d n : ℕ) (t : Data) → Describes (basis_of plan) (MayRefer plan w) d n t → IsGood key t
-    each = described-good key (basis_of plan) (MayRefer plan w) plain (may_refer-name plan w key at definitions)
+    each : (d n : ℕ) (t : Data) → Describes (basis_of plan) (MayRefer plan w) d n t → IsGood R t
+    each = described-good R (basis_of plan) (MayRefer plan w) plain refer
 
-    all : AllMembers (IsGood key) w.definitions
-    all = all_members (IsGood key) w.definitions once (λ k d found.
+    all : AllMembers (IsGood R) w.definitions
+    all = all_members (IsGood R) w.definitions once (λ k d found.
         let definition = definitions k d found in each definition.depth definition.row d definition.describes)
 
     room : (k : Text) → IsDefinitionsKey k → get_member k ms ≡ None
     room k is = no_definitions_in k is (basis_of plan) (MayRefer plan w) (plain_notes plan.rows plain) name uri depth n own h
 
--- what a root call makes is so in a plain table, where its definitions stand at a draft's path
-pub root_call-class : (old : State) (n : ℕ) (w : Work) (document : Data) (key : Text) → IsRootOf old n w document → IsPlainTable old.rows
+-- what a root call makes, in a plain table, where its definitions stand at a draft's path
+pub root_call-ready : (old : State) (n : ℕ) (w : Work) (document : Data) (key : Text) → IsRootOf old n w document → IsPlainTable old.rows
     → HasKeysOnce w.definitions → AllStand (plan_of old (Some n)) w → StandsAt (path_of old) key
-    → Everywhere (Class key) document × ((ms : Members) × (document ≡ object ms) × IsMap (get_member key ms))
-root_call-class old n w document key h plain once definitions at =
+    → (R : Text → Type 0) → ((j : ℕ) (r : Text) → MayRefer (plan_of old (Some n)) w j r → R r) → IsReady R key w.definitions document
+root_call-ready old n w document key h plain once definitions at R refer =
     let plan = plan_of old (Some n) in
     let depth = h.is_document.0 in
     let described = describes-wider (basis_of plan) (Refers plan true w) (MayRefer plan w) (refers_may plan w true)
     depth depth (omega arith) n h.own (document_describes (basis_of plan) plan.inlines (Refers plan true w) [] n h.own h.is_document) in
-    root-ready plan w n (name_at old.rows n) old.settings.meta_schema depth h.own document key at plain once definitions described h.is_root
+    root-ready plan w n (name_at old.rows n) old.settings.meta_schema depth h.own document key at plain once definitions described h.is_root R refer
+
+pub root_call-class : (old : State) (n : ℕ) (w : Work) (document : Data) (key : Text) → IsRootOf old n w document → IsPlainTable old.rows
+    → HasKeysOnce w.definitions → AllStand (plan_of old (Some n)) w → StandsAt (path_of old) key
+    → Everywhere (Named key IsDraft07) document × ((ms : Members) × (document ≡ object ms) × IsMap (get_member key ms))
+root_call-class old n w document key h plain once definitions at =
+    let ready = root_call-ready old n w document key h plain once definitions at (IsName key)
+    (may_refer-name (plan_of old (Some n)) w key at definitions) in
+    (good-named key document ready.everywhere, (ready.inside, ready.is_object, ready.is_map))
