@@ -3,3 +3,4 @@ pub mod Documents
 pub mod Filled
 pub mod Classes
 pub mod RootClass
+pub mod Definitions

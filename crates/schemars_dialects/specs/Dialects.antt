@@ -1,0 +1,44 @@
+-- What documents for the older drafts promise: they accept just the values that belong to their type.
+use Rattle.std.specs.Prelude.{◌≡◌, ◌≤◌, ℕ, List, codes}
+use Rattle.serde_json.specs.Data.{Data}
+use Rattle.schemars_json.specs.Json.{Text, IsJson}
+use Rattle.schemars_schema.specs.Verdict.{verdict}
+use Rattle.schemars_schema.specs.Acceptance.{Dialect, Patterns, draft07, draft2019_09, accepts, bound}
+use Rattle.schemars_schema.specs.References.{ReferencesResolve}
+use Rattle.schemars_transform.specs.Built.{remove_ref_siblings, replace_prefix_items}
+use Rattle.schemars_gen_transform.specs.Unevaluated.{replace_unevaluated_properties}
+use Rattle.schemars_types.specs.Rows.{Row}
+use Rattle.schemars_types.specs.Meaning.{Contract, belongs}
+use Rattle.schemars_documents.specs.PlainTable.{IsPlainTable}
+use Rattle.schemars_documents.specs.ContractOf.{contract_of}
+use Rattle.schemars_headline.specs.State.{State, path_of, HasOwnDefinitions}
+
+-- the transforms of Draft 7, one after another, and that of 2019-09
+abbrev pub for_draft07 : Data → Data
+for_draft07 document = replace_prefix_items (remove_ref_siblings (replace_unevaluated_properties document))
+
+abbrev pub for_draft2019_09 : Data → Data
+for_draft2019_09 document = replace_prefix_items document
+
+-- under every reading of patterns, from the bound on, the document accepts under this dialect a JSON value exactly when it
+-- belongs to the row, and never leaves it open
+abbrev pub AcceptsItsValuesUnder : Dialect → List Row → Contract → Text → ℕ → Data → Type 0
+AcceptsItsValuesUnder dialect rows contract path n document =
+    (patterns : Patterns) (v : Data) → IsJson v → (followed : ℕ) → bound path document v ≤ followed
+    → accepts dialect document patterns followed document v ≡ verdict (belongs rows contract patterns n v)
+
+-- the headline under a dialect, for a document of row n whose definitions stand at the path
+pub record MeansItsTypeUnder (dialect : Dialect) (rows : List Row) (contract : Contract) (path : Text) (n : ℕ) (document : Data) : Type 0 where
+  pub accepts_its_values : AcceptsItsValuesUnder dialect rows contract path n document
+  pub references_resolve : ReferencesResolve document
+
+-- what is made for the drafts of a root document of row n, where tables are plain and definitions the generator's own
+abbrev pub Draft07Headline : State → ℕ → Data → Type 0
+Draft07Headline s n document =
+    HasOwnDefinitions s → path_of s ≡ codes "/definitions" → IsPlainTable s.rows
+    → MeansItsTypeUnder draft07 s.rows (contract_of s.settings.contract) (path_of s) n (for_draft07 document)
+
+abbrev pub Draft2019_09Headline : State → ℕ → Data → Type 0
+Draft2019_09Headline s n document =
+    HasOwnDefinitions s → path_of s ≡ codes "/$defs" → IsPlainTable s.rows
+    → MeansItsTypeUnder draft2019_09 s.rows (contract_of s.settings.contract) (path_of s) n (for_draft2019_09 document)
