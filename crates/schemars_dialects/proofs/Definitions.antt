@@ -27,6 +27,9 @@ pub record Stay (old new : Members) : Type 0 where
   pub count : members_len new ≡ members_len old
   pub keys : (k : Text) (d : Data) → get_member k old ≡ Some d → IsSchema d → (e : Data) × (get_member k new ≡ Some e) × IsSchema e
 
+pub stay-same : (es : Members) → Stay es es
+stay-same es = record { count = refl; keys = λ k d found is. (d, found, is) }
+
 pub stay-then : (a b c : Members) → Stay a b → Stay b c → Stay a c
 stay-then a b c first then = record {
   count = then.count ∙ first.count;
@@ -70,7 +73,7 @@ module _ (f : Data → Data) (schema : (s : Data) → IsSchema s → IsSchema (f
 
   stay-form : (o : Option Data) → IsMap o → Stay (entries o) (entries (option_map (λ d. (forms (change_rules f) tt d).by_name) o))
   unfolding forms
-  stay-form None is = record { count = refl; keys = λ k d found is. (d, found, is) }
+  stay-form None is = stay-same no_members
   stay-form (Some (object es)) is = stay-names es
   stay-form (Some null) is = absurd is
   stay-form (Some (boolean b)) is = absurd is

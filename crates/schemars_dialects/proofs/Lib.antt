@@ -4,3 +4,4 @@ pub mod Filled
 pub mod Classes
 pub mod RootClass
 pub mod Definitions
+pub mod Accepting

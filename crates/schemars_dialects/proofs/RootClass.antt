@@ -83,7 +83,7 @@ module _ (plan : Plan) (w : Work) (key : Text) (at : StandsAt plan.path key) (de
       subst (IsName key) (sym is.3) (to-name plan.path key is.0 at (definitions is.0 is.2.0 is.2.1).is_text)
 
   -- a reference of a definition that stands, or of a document beside it
-  may_refer-name : (j : ℕ) (r : Text) → MayRefer plan w j r → IsName key r
+  pub may_refer-name : (j : ℕ) (r : Text) → MayRefer plan w j r → IsName key r
   may_refer-name j r (inl is) = refers-name plan.root j r is
   may_refer-name j r (inr is) = refers-name None j r is
 
