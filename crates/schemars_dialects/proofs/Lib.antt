@@ -5,3 +5,4 @@ pub mod Classes
 pub mod RootClass
 pub mod Definitions
 pub mod Accepting
+pub mod ReferencesKept
