@@ -6,3 +6,4 @@ pub mod RootClass
 pub mod Definitions
 pub mod Accepting
 pub mod ReferencesKept
+pub mod Resolving
