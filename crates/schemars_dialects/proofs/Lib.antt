@@ -7,3 +7,4 @@ pub mod Definitions
 pub mod Accepting
 pub mod ReferencesKept
 pub mod Resolving
+pub mod DialectRoots

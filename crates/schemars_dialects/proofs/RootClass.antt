@@ -69,7 +69,7 @@ same_key path a b (inr x) (inr y) = x.1 ∙ sym y.1
 
 -- ---- references
 
-to-name : (path key name : Text) → StandsAt path key → IsUtf8 name → IsName key (reference_to path name)
+pub to-name : (path key name : Text) → StandsAt path key → IsUtf8 name → IsName key (reference_to path name)
 to-name path key name (inl at) text =
     subst (λ p. IsName key (reference_to p name)) (sym at.0) (subst (λ k. IsName k (reference_to (codes "/$defs") name)) (sym at.1) (defs-name name text))
 to-name path key name (inr at) text =
