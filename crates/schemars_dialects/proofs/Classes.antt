@@ -63,9 +63,10 @@ module _ (R : Text → Type 0) (A : Ask → Data → Type 0) (has : ℕ → List
       (member-good R false (codes "Ok") is.0 (parts a is.0 is.2), (member-good R false (codes "Err") is.1 (parts b is.1 is.3), tt)))
   shape-good (shape.bound n) s others p own flat is =
       rw is.4 (one_of-good R (member_document false (codes "Included") is.0 ∷ member_document false (codes "Excluded") is.1
-      ∷ unit_variant (codes "Unbounded") ∷ [])
-      (member-good R false (codes "Included") is.0 (parts n is.0 is.2),
-      (member-good R false (codes "Excluded") is.1 (parts n is.1 is.3), (unit-good R (codes "Unbounded"), tt))))
+      ∷ unit_variant (codes "Unbounded") ∷ []) (
+        member-good R false (codes "Included") is.0 (parts n is.0 is.2),
+        (member-good R false (codes "Excluded") is.1 (parts n is.1 is.3), (unit-good R (codes "Unbounded"), tt)),
+      ))
   shape-good (shape.range n) s others p own flat is =
       rw is.4 (map-good R ((codes "start", is.0) ∷ (codes "end", is.1) ∷ []) (codes "start" ∷ codes "end" ∷ []) false
       (parts n is.0 is.2, (parts n is.1 is.3, tt)))

@@ -48,12 +48,16 @@ module _ (plan : Plan) (w : Work) (key : Text) (at : StandsAt plan.path key) (pl
 
       go : IsName key (reference_to plan.path is.0) → NamesOne key w.definitions r
       go (inl whole) = inl (is.3 ∙ whole)
-      go (inr (k, name)) = inr (k, subst (IsNameOf key k) (sym is.3) name, (
-        is.2.0,
-        sym (name.there alone w.definitions (get_member-put key (object w.definitions) no_members))
-            ∙ (holds_put plan.path key at w.definitions no_members).leads is.0 is.2.0 stands.is_text is.2.1,
-        described_schema (basis_of plan) (MayRefer plan w) plain stands.depth stands.row is.2.0 stands.describes,
-      ))
+      go (inr (k, name)) = inr (
+        k,
+        subst (IsNameOf key k) (sym is.3) name,
+        (
+          is.2.0,
+          sym (name.there alone w.definitions (get_member-put key (object w.definitions) no_members))
+              ∙ (holds_put plan.path key at w.definitions no_members).leads is.0 is.2.0 stands.is_text is.2.1,
+          described_schema (basis_of plan) (MayRefer plan w) plain stands.depth stands.row is.2.0 stands.describes,
+        ),
+      )
 
   -- each reference is one, of a definition that stands or of a document beside it
   may_refer-one : (j : ℕ) (r : Text) → MayRefer plan w j r → NamesOne key w.definitions r

@@ -99,9 +99,9 @@ module _ (R : Text → Type 0) where
             subst (IsReferring R) (sym none) tt,
             absent-once R (codes "$ref") (moved_members r ns) none,
             listed-alike (moved_members r ns) ns (
-              get-moved r ns (codes "prefixItems") (differ (codes "prefixItems") (codes "allOf") refl)
-              ∙ without-other (codes "$ref") (codes "prefixItems") ns (differ (codes "prefixItems") (codes "$ref") refl)
-            ) items,
+                get-moved r ns (codes "prefixItems") (differ (codes "prefixItems") (codes "allOf") refl)
+                ∙ without-other (codes "$ref") (codes "prefixItems") ns (differ (codes "prefixItems") (codes "$ref") refl)
+                ) items,
           )
 
       go : (ms : Members) → WithPlain ms → asked_of_keywords WithItems (walked without_siblings ms)

@@ -70,7 +70,7 @@ module _ (R : Text → Type 0) (document : Data) (leads : (t : Text) → R t →
         later (
           subst (IsReferring R) (found false at) is.0,
           sym (get_member-first (codes "$ref") k d (without (codes "$ref") ms)
-          ∙ ap (λ x. if x then Some d else get_member (codes "$ref") (without (codes "$ref") ms)) at) ∙ others false at,
+              ∙ ap (λ x. if x then Some d else get_member (codes "$ref") (without (codes "$ref") ms)) at) ∙ others false at,
         ),
       )
 
