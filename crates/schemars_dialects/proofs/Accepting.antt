@@ -30,7 +30,8 @@ use Rattle.schemars_dialects.proofs.RootClass.{IsReady, root_call-ready, may_ref
 use Rattle.schemars_dialects.proofs.Definitions.{Stay, stay-same, Has, prefix-has, siblings-has, unevaluated-has, count-has}
 
 -- a transform that moves acceptance, and keeps the number of definitions
-accepts-moved : (T : Data → Data) (dialect : Dialect) (key : Text) (Q : Members → Type 0) → MovesAcceptance T draft2020_12 dialect key Q
+accepts-moved : (T : Data → Data) (dialect : Dialect) (key : Text) (Q : Members → Type 0)
+    → MovesAcceptance T draft2020_12 dialect key Q
     → (document : Data) (ms : Members) → document ≡ object ms → IsMap (get_member key ms) → Everywhere (Named key Q) document
     → (rows : List Row) (contract : Contract) (path : Text) (n : ℕ)
     → count_of_definitions path (T document) ≡ count_of_definitions path document
@@ -38,9 +39,11 @@ accepts-moved : (T : Data → Data) (dialect : Dialect) (key : Text) (Q : Member
 accepts-moved T dialect key Q law document ms is map all rows contract path n same accept patterns v json followed bounded =
     moved ∙ accept patterns v json followed (subst (λ c. (depth v + 1) * (c + 2) ≤ followed) same bounded)
   where
-    moved : accepts dialect (T document) patterns followed (T document) v ≡ accepts draft2020_12 document patterns followed document v
+    moved : accepts dialect (T document) patterns followed (T document) v
+        ≡ accepts draft2020_12 document patterns followed document v
     moved =
-        subst (λ d. Everywhere (Named key Q) d → accepts dialect (T d) patterns followed (T d) v ≡ accepts draft2020_12 d patterns followed d v) (sym is)
+        subst (λ d. Everywhere (Named key Q) d → accepts dialect (T d) patterns followed (T d) v
+        ≡ accepts draft2020_12 d patterns followed d v) (sym is)
         (λ here. law ms map here patterns followed (object ms) v here) all
 
 pub at-defs : StandsAt (codes "/$defs") (codes "$defs")
@@ -77,7 +80,8 @@ module _ (s : State) (n : ℕ) (w : Work) (document : Data) (checked : IsChecked
   standing = definitions_in s (Some n) w root.step own
 
   ready : IsReady (IsName key) key w.definitions document
-  ready = root_call-ready s n w document key root plain once standing at (IsName key) (may_refer-name (plan_of s (Some n)) w key at standing)
+  ready = root_call-ready s n w document key root plain once standing at (IsName key)
+      (may_refer-name (plan_of s (Some n)) w key at standing)
 
   has : Has key w.definitions document
   has = ready-has (IsName key) key w.definitions document ready
@@ -88,21 +92,26 @@ module _ (s : State) (n : ℕ) (w : Work) (document : Data) (checked : IsChecked
   all : Everywhere (Named key IsDraft07) document
   all = good-named key document ready.everywhere
 
-  pub draft07_accepts : AcceptsItsValuesUnder draft07 s.rows (contract_of s.settings.contract) (path_of s) n (for_draft07 document)
+  pub draft07_accepts : AcceptsItsValuesUnder draft07 s.rows (contract_of s.settings.contract) (path_of s) n
+      (for_draft07 document)
   draft07_accepts =
-      accepts-moved for_draft07 draft07 key IsDraft07 (draft07-law key (stands-place (path_of s) key at) (not-properties (path_of s) key at))
+      accepts-moved for_draft07 draft07 key IsDraft07
+      (draft07-law key (stands-place (path_of s) key at) (not-properties (path_of s) key at))
       document ready.inside ready.is_object ready.is_map all s.rows (contract_of s.settings.contract) (path_of s) n
-      (count-has (path_of s) key at w.definitions (for_draft07 document) (draft07-has (path_of s) key at w.definitions document has)
+      (count-has (path_of s) key at w.definitions (for_draft07 document)
+      (draft07-has (path_of s) key at w.definitions document has)
       ∙ sym (count-has (path_of s) key at w.definitions document has))
       means.accepts_its_values
 
-  pub draft2019_09_accepts : AcceptsItsValuesUnder draft2019_09 s.rows (contract_of s.settings.contract) (path_of s) n (for_draft2019_09 document)
+  pub draft2019_09_accepts : AcceptsItsValuesUnder draft2019_09 s.rows (contract_of s.settings.contract) (path_of s) n
+      (for_draft2019_09 document)
   draft2019_09_accepts =
       accepts-moved for_draft2019_09 draft2019_09 key HasPlainItems
       (draft2019_09-law key (stands-place (path_of s) key at) (not-properties (path_of s) key at))
       document ready.inside ready.is_object ready.is_map
       (weaker (Named key IsDraft07) (Named key HasPlainItems) (λ ms is. (is.0, is.1, is.2.2)) document all)
       s.rows (contract_of s.settings.contract) (path_of s) n
-      (count-has (path_of s) key at w.definitions (for_draft2019_09 document) (prefix-has key (stands-place (path_of s) key at) w.definitions document has)
+      (count-has (path_of s) key at w.definitions (for_draft2019_09 document)
+      (prefix-has key (stands-place (path_of s) key at) w.definitions document has)
       ∙ sym (count-has (path_of s) key at w.definitions document has))
       means.accepts_its_values

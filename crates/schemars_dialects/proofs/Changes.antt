@@ -1,7 +1,9 @@
 -- Which changes leave a schema object one that the laws of the drafts speak of.
-use Rattle.std.proofs.Common.{◌≡◌, ◌≢◌, List, [], ◌∷◌, Option, Some, None, Bool, true, false, codes, refl, sym, ap, ◌∙◌, subst, true≢false}
+use Rattle.std.proofs.Common.{◌≡◌, ◌≢◌, List, [], ◌∷◌, Option, Some, None, Bool, true, false, codes, refl, sym, ap, ◌∙◌, subst}
+use Rattle.std.proofs.Common.{true≢false}
 use Rattle.std.specs.Prelude.{option_and_then, bytes_eq, if◌then◌else◌, ◌||◌}
-use Rattle.serde_json.specs.Data.{Data, null, boolean, number, string, array, object, no_items, item, Members, no_members, member, put}
+use Rattle.serde_json.specs.Data.{Data, null, boolean, number, string, array, object, no_items, item, Members, no_members, member}
+use Rattle.serde_json.specs.Data.{put}
 use Rattle.serde_json.specs.Find.{get_member, as_str}
 use Rattle.serde_json.proofs.Views.{get_member-put_other}
 use Rattle.schemars_json.specs.Json.{Text}
@@ -27,7 +29,8 @@ use Rattle.schemars_laws.proofs.Preserved.{asked-without, asked-put}
 -- ---- keywords that the class doesn't look at
 
 abbrev pub watched : List Text
-watched = codes "$ref" ∷ codes "allOf" ∷ codes "prefixItems" ∷ codes "items" ∷ codes "additionalItems" ∷ codes "unevaluatedProperties" ∷ []
+watched = codes "$ref" ∷ codes "allOf" ∷ codes "prefixItems" ∷ codes "items" ∷ codes "additionalItems"
+    ∷ codes "unevaluatedProperties" ∷ []
 
 abbrev pub IsWatched : Text → Type 0
 IsWatched k = is_listed k watched ≡ true
@@ -43,7 +46,8 @@ either_false true h = h
 either_false false h = h
 
 -- no schema stands under a keyword of no list
-pub place-none : (k : Text) → is_listed k with_schema ≡ false → is_listed k with_list ≡ false → is_listed k (codes "items" ∷ []) ≡ false
+pub place-none : (k : Text) → is_listed k with_schema ≡ false → is_listed k with_list ≡ false
+    → is_listed k (codes "items" ∷ []) ≡ false
     → is_listed k with_names ≡ false → place_under k ≡ NoSchemas
 place-none k one list items names = rw (one, list, either_false (bytes_eq k (codes "items")) items, names) refl
 
@@ -56,7 +60,8 @@ note-place k note =
     (annotation-not_listed k (codes "items" ∷ []) refl note) (annotation-not_listed k with_names refl note)
 
 -- where no schema stands, nothing is asked
-pub asked-nothing : (P : Members → Type 0) (k : Text) (d : Data) → place_under k ≡ NoSchemas → asked_at (place_under k) (asked P d)
+pub asked-nothing : (P : Members → Type 0) (k : Text) (d : Data) → place_under k ≡ NoSchemas
+    → asked_at (place_under k) (asked P d)
 asked-nothing P k d is = subst (λ p. asked_at p (asked P d)) (sym is) tt
 
 -- ---- what stands under `$ref`
@@ -86,7 +91,8 @@ referring-named key (Some (object ms)) is = absurd is
 module _ (R : Text → Type 0) where
   -- what the laws of Draft 7 ask for, where references are texts of which R holds
   abbrev pub Class : Members → Type 0
-  Class ms = IsReferring R (get_member (codes "$ref") ms) × IsNoObject (get_member (codes "unevaluatedProperties") ms) × IsDraft07 ms
+  Class ms = IsReferring R (get_member (codes "$ref") ms) × IsNoObject (get_member (codes "unevaluatedProperties") ms)
+      × IsDraft07 ms
 
   class-alike : (ns ms : Members) → ((k : Text) → is_listed k watched ≡ true → Alike k ns ms) → Class ms → Class ns
   class-alike ns ms a is =
@@ -117,7 +123,8 @@ module _ (R : Text → Type 0) where
     pub own : Class ms
     pub inside : asked_of_keywords Class ms
 
-  pub are-put : (l : Text) (d : Data) (ms : Members) → IsUnwatched l → asked_at (place_under l) (asked Class d) → Are ms → Are (put l d ms)
+  pub are-put : (l : Text) (d : Data) (ms : Members) → IsUnwatched l → asked_at (place_under l) (asked Class d) → Are ms
+      → Are (put l d ms)
   are-put l d ms out here is = record { own = class-put l d ms out is.own; inside = asked-put Class l d ms here is.inside }
 
   are-without : (l : Text) (ms : Members) → IsUnwatched l → Are ms → Are (without l ms)

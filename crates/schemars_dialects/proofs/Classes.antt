@@ -1,5 +1,6 @@
 -- In a plain table each document of a row is one that the laws of the drafts speak of.
-use Rattle.std.proofs.Common.{ℕ, zero, suc, inl, inr, List, [], ◌∷◌, Option, Some, None, true, false, codes, refl, sym, ◌∙◌, subst}
+use Rattle.std.proofs.Common.{ℕ, zero, suc, inl, inr, List, [], ◌∷◌, Option, Some, None, true, false, codes, refl, sym, ◌∙◌}
+use Rattle.std.proofs.Common.{subst}
 use Rattle.std.specs.Option.{option_map_or}
 use Rattle.serde_json.specs.Data.{Data, Members}
 use Rattle.serde_json.specs.Find.{get_member}
@@ -27,8 +28,10 @@ use Rattle.schemars_laws.specs.Classes.{IsDraft07}
 use Rattle.schemars_laws.proofs.Preserved.{weaker}
 use Rattle.schemars_dialects.proofs.Changes.{Class, referring-named, IsGood, good_truth, good-annotated, good-allow_null}
 use Rattle.schemars_dialects.proofs.Documents.{type-good, int-good, non_zero-good, char-good, formatted-good, bytes-good}
-use Rattle.schemars_dialects.proofs.Documents.{schema_itself-good, reference-good, empty_list-good, seq-good, set-good, array-good, up_to-good}
-use Rattle.schemars_dialects.proofs.Documents.{tuple-good, parts-good, fields-good, one_of-good, member-good, map-good, unit-good, literal-good}
+use Rattle.schemars_dialects.proofs.Documents.{schema_itself-good, reference-good, empty_list-good, seq-good, set-good}
+use Rattle.schemars_dialects.proofs.Documents.{array-good, up_to-good}
+use Rattle.schemars_dialects.proofs.Documents.{tuple-good, parts-good, fields-good, one_of-good, member-good, map-good, unit-good}
+use Rattle.schemars_dialects.proofs.Documents.{literal-good}
 use Rattle.schemars_dialects.proofs.Filled.{noted-effective, external-makes, untagged-makes, internal-makes, values-make}
 
 module _ (R : Text → Type 0) (A : Ask → Data → Type 0) (has : ℕ → List Field) (basis : Basis)
@@ -59,8 +62,11 @@ module _ (R : Text → Type 0) (A : Ask → Data → Type 0) (has : ℕ → List
       fields-good R (λ j. A (part j)) parts basis.contract (effective has x) x.closed s (noted-effective has noted_rows x own) is
   shape-good (shape.newtype n) s others p own flat is = parts n s is
   shape-good (shape.result a b) s others p own flat is =
-      rw is.4 (one_of-good R (member_document false (codes "Ok") is.0 ∷ member_document false (codes "Err") is.1 ∷ [])
-      (member-good R false (codes "Ok") is.0 (parts a is.0 is.2), (member-good R false (codes "Err") is.1 (parts b is.1 is.3), tt)))
+      rw is.4 (one_of-good R (member_document false (codes "Ok") is.0 ∷ member_document false (codes "Err") is.1 ∷ []) (
+        member-good R false (codes "Ok") is.0
+            (parts a is.0 is.2),
+        (member-good R false (codes "Err") is.1 (parts b is.1 is.3), tt),
+      ))
   shape-good (shape.bound n) s others p own flat is =
       rw is.4 (one_of-good R (member_document false (codes "Included") is.0 ∷ member_document false (codes "Excluded") is.1
       ∷ unit_variant (codes "Unbounded") ∷ []) (
@@ -71,8 +77,11 @@ module _ (R : Text → Type 0) (A : Ask → Data → Type 0) (has : ℕ → List
       rw is.4 (map-good R ((codes "start", is.0) ∷ (codes "end", is.1) ∷ []) (codes "start" ∷ codes "end" ∷ []) false
       (parts n is.0 is.2, (parts n is.1 is.3, tt)))
   shape-good (shape.either a b) s others p own flat is =
-      rw is.4 (one_of-good R (member_document true (codes "Left") is.0 ∷ member_document true (codes "Right") is.1 ∷ [])
-      (member-good R true (codes "Left") is.0 (parts a is.0 is.2), (member-good R true (codes "Right") is.1 (parts b is.1 is.3), tt)))
+      rw is.4 (one_of-good R (member_document true (codes "Left") is.0 ∷ member_document true (codes "Right") is.1 ∷ []) (
+        member-good R true (codes "Left") is.0
+            (parts a is.0 is.2),
+        (member-good R true (codes "Right") is.1 (parts b is.1 is.3), tt),
+      ))
   shape-good (shape.map_from from value) s others p own flat is =
       rw is.is (values-make R A parts (key_options basis.rows from) value is.parts is.answered)
   shape-good (shape.external xs) s others p own flat is =
@@ -88,7 +97,8 @@ module _ (R : Text → Type 0) (A : Ask → Data → Type 0) (has : ℕ → List
 
 -- the own fields of each row are noted, so that those of flattened rows are
 module _ (rows : List Row) (noted : AreNotedRows rows) where
-  noted-shape : (has : ℕ → List Field) → ((n : ℕ) → AreNoted (has n)) → (kind : Shape) → IsNotedShape kind → AreNoted (shape_fields has kind)
+  noted-shape : (has : ℕ → List Field) → ((n : ℕ) → AreNoted (has n)) → (kind : Shape) → IsNotedShape kind
+      → AreNoted (shape_fields has kind)
   noted-shape has all (shape.struct x) own = noted-effective has all x own
   noted-shape has all kind own = tt
 
@@ -116,17 +126,20 @@ module _ (R : Text → Type 0) (basis : Basis) (Refers : ℕ → Text → Type 0
   unfolding fields_within
   fields_down d = described_fields basis Refers plain (fields_within basis.rows) (λ e n. refl) d
 
-  own-good : (d : ℕ) → ((j : ℕ) (t : Data) → In d j t → IsGood R t) → (o : Option Entry) → IsPlainEntry basis.rows o → IsNotedRow o
+  own-good : (d : ℕ) → ((j : ℕ) (t : Data) → In d j t → IsGood R t) → (o : Option Entry) → IsPlainEntry basis.rows o
+      → IsNotedRow o
       → (t : Data) → IsOwnDocument (Answer d) basis o t → IsGood R t
   own-good d parts None entry noted t is = absurd is
   own-good d parts (Some e) entry noted t is =
       let has = fields_within basis.rows d in
       let own = own_document (Answer d) has basis (fields_down d) e t entry.2 is in
       rw own.2 (good-annotated R e.notes own.0 entry.0
-      (shape-good R (Answer d) has basis (fields_down d) (noted-within basis.rows (plain_rows basis.rows plain) d) parts e.shape own.0
+      (shape-good R (Answer d) has basis (fields_down d)
+      (noted-within basis.rows (plain_rows basis.rows plain) d) parts e.shape own.0
       (row_fields basis.rows) entry.1 noted.1 entry.2 own.1))
 
-  written-by : (d : ℕ) → ((j : ℕ) (t : Data) → Describes basis Refers d j t → IsGood R t) → (j : ℕ) (t : Data) → In d j t → IsGood R t
+  written-by : (d : ℕ) → ((j : ℕ) (t : Data) → Describes basis Refers d j t → IsGood R t) → (j : ℕ) (t : Data) → In d j t
+      → IsGood R t
   written-by d own j t (inl h) = subst (IsGood R) (sym h.2) (reference-good R h.0 (names j h.0 h.1))
   written-by d own j t (inr h) = own j t h
 
@@ -144,11 +157,15 @@ pub good-named : (key : Text) (s : Data) → Everywhere (Class (IsName key)) s �
 good-named key s is = weaker (Class (IsName key)) (Named key IsDraft07) (class-named key) s is
 
 module _ (key : Text) where
-  pub described-class : (basis : Basis) (Refers : ℕ → Text → Type 0) → IsPlainTable basis.rows → ((j : ℕ) (r : Text) → Refers j r → IsName key r)
+  pub described-class : (basis : Basis) (Refers : ℕ → Text → Type 0) → IsPlainTable basis.rows
+      → ((j : ℕ) (r : Text) → Refers j r → IsName key r)
       → (d n : ℕ) (s : Data) → Describes basis Refers d n s → Everywhere (Named key IsDraft07) s
-  described-class basis Refers plain names d n s h = good-named key s (described-good (IsName key) basis Refers plain names d n s h).everywhere
+  described-class basis Refers plain names d n s h =
+      good-named key s (described-good (IsName key) basis Refers plain names d n s h).everywhere
 
-  pub written-class : (basis : Basis) (Refers : ℕ → Text → Type 0) → IsPlainTable basis.rows → ((j : ℕ) (r : Text) → Refers j r → IsName key r)
+  pub written-class : (basis : Basis) (Refers : ℕ → Text → Type 0) → IsPlainTable basis.rows
+      → ((j : ℕ) (r : Text) → Refers j r → IsName key r)
       → (d n : ℕ) (t : Data) → IsWritten Refers (Describes basis Refers d) n t → Everywhere (Named key IsDraft07) t
   written-class basis Refers plain names d n t h =
-      good-named key t (written-by (IsName key) basis Refers plain names d (described-good (IsName key) basis Refers plain names d) n t h).everywhere
+      good-named key t (written-by (IsName key) basis Refers plain names d
+      (described-good (IsName key) basis Refers plain names d) n t h).everywhere

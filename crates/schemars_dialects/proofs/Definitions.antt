@@ -1,5 +1,6 @@
 -- The transforms of the drafts keep the definitions of a document: their number and their keys.
-use Rattle.std.proofs.Common.{◌≡◌, ◌≢◌, suc, inl, inr, option_and_then, Option, Some, None, Ordering, Less, Equal, Greater, nat_cmp, codes, option_map, refl, sym, ap, ◌∙◌, subst}
+use Rattle.std.proofs.Common.{◌≡◌, ◌≢◌, suc, inl, inr, option_and_then, Option, Some, None, Ordering, Less, Equal, Greater}
+use Rattle.std.proofs.Common.{nat_cmp, codes, option_map, refl, sym, ap, ◌∙◌, subst}
 use Rattle.std.specs.Ordering.{match_ordering}
 use Rattle.std.specs.Cmp.Lexicographic.{slice_cmp}
 use Rattle.serde_json.specs.Data.{Data, null, boolean, number, string, array, object, Members, no_members, member}
@@ -25,7 +26,8 @@ use Rattle.schemars_dialects.proofs.RootClass.{entries}
 -- as many definitions, and a schema under each key that had one
 pub record Stay (old new : Members) : Type 0 where
   pub count : members_len new ≡ members_len old
-  pub keys : (k : Text) (d : Data) → get_member k old ≡ Some d → IsSchema d → (e : Data) × (get_member k new ≡ Some e) × IsSchema e
+  pub keys : (k : Text) (d : Data) → get_member k old ≡ Some d → IsSchema d
+      → (e : Data) × (get_member k new ≡ Some e) × IsSchema e
 
 pub stay-same : (es : Members) → Stay es es
 stay-same es = record { count = refl; keys = λ k d found is. (d, found, is) }
@@ -58,7 +60,8 @@ module _ (f : Data → Data) (schema : (s : Data) → IsSchema s → IsSchema (f
   names-found k (member l e es) d found = go (slice_cmp nat_cmp k l) found (names-found k es d)
     where
       go : (o : Ordering) → match_ordering o (get_member k es) (Some e) (get_member k es) ≡ Some d
-          → (get_member k es ≡ Some d → get_member k (in_names (change_rules f) tt es) ≡ Some (forms (change_rules f) tt d).as_schema)
+          → (get_member k es ≡ Some d → get_member k (in_names (change_rules f) tt es) ≡ Some
+          (forms (change_rules f) tt d).as_schema)
           → match_ordering o (get_member k (in_names (change_rules f) tt es)) (Some (forms (change_rules f) tt e).as_schema)
           (get_member k (in_names (change_rules f) tt es)) ≡ Some (forms (change_rules f) tt d).as_schema
       go Less found later = later found
@@ -89,7 +92,8 @@ pub record Has (key : Text) (definitions : Members) (document : Data) : Type 0 w
   pub stay : Stay definitions (entries (get_member key inside))
 
 module _ (key : Text) (at : place_under key ≡ SchemasByName) where
-  changed-has : (f : Data → Data) (old new : Dialect) (Q : Members → Type 0) → Change f key old new Q → (definitions : Members) (document : Data)
+  changed-has : (f : Data → Data) (old new : Dialect) (Q : Members → Type 0) → Change f key old new Q
+      → (definitions : Members) (document : Data)
       → Has key definitions document → Has key definitions (all_changed f document)
   unfolding forms
   changed-has f old new Q h definitions document has =
@@ -102,20 +106,25 @@ module _ (key : Text) (at : place_under key ≡ SchemasByName) where
         is_object = ap (all_changed f) has.is_object ∙ now.1;
         is_map = subst IsMap (sym now.2) (map-walked f key has.inside at has.is_map);
         stay = stay-then definitions (entries (get_member key has.inside)) (entries (get_member key now.0)) has.stay
-            (subst (λ o. Stay (entries (get_member key has.inside)) (entries o)) (sym same) (stay-form f h.schema (get_member key has.inside) has.is_map));
+            (subst (λ o. Stay (entries (get_member key has.inside)) (entries o)) (sym same)
+            (stay-form f h.schema (get_member key has.inside) has.is_map));
       }
 
-  pub prefix-has : (definitions : Members) (document : Data) → Has key definitions document → Has key definitions (replace_prefix_items document)
+  pub prefix-has : (definitions : Members) (document : Data) → Has key definitions document
+      → Has key definitions (replace_prefix_items document)
   prefix-has definitions document has =
       changed-has prefix_as_items _ _ _
       (prefix_items key draft2020_12 (other key (codes "prefixItems") SchemaList at refl (λ e. cc))
-      (other key (codes "items") SchemaOrList at refl (λ e. cc)) (other key (codes "additionalItems") OneSchema at refl (λ e. cc)))
+      (other key (codes "items") SchemaOrList at refl (λ e. cc))
+      (other key (codes "additionalItems") OneSchema at refl (λ e. cc)))
       definitions document has
 
-  pub siblings-has : (definitions : Members) (document : Data) → Has key definitions document → Has key definitions (remove_ref_siblings document)
+  pub siblings-has : (definitions : Members) (document : Data) → Has key definitions document
+      → Has key definitions (remove_ref_siblings document)
   siblings-has definitions document has =
       changed-has without_siblings _ _ _
-      (ref_siblings key draft2020_12 (other key (codes "$ref") NoSchemas at refl none) (other key (codes "allOf") SchemaList at refl (λ e. cc)))
+      (ref_siblings key draft2020_12 (other key (codes "$ref") NoSchemas at refl none)
+      (other key (codes "allOf") SchemaList at refl (λ e. cc)))
       definitions document has
 
   pub unevaluated-has : key ≢ codes "properties" → (definitions : Members) (document : Data) → Has key definitions document
@@ -133,7 +142,8 @@ unfolding walk unescape
 pointer-key path key (inl is) ms = rw (is.0, is.1)
 pointer-key path key (inr is) ms = rw (is.0, is.1)
 
-count-entries : (o : Option Data) → elim (option_and_then as_object o) [ None ↦ 0 | Some ms ↦ members_len ms ] ≡ members_len (entries o)
+count-entries : (o : Option Data) → elim (option_and_then as_object o) [ None ↦ 0 | Some ms ↦ members_len ms ] ≡ members_len
+    (entries o)
 count-entries None = refl
 count-entries (Some null) = refl
 count-entries (Some (boolean b)) = refl

@@ -34,12 +34,14 @@ abbrev NamesOne : Text → Members → Text → Type 0
 NamesOne key definitions t =
     (t ≡ codes "#") ⊎ ((k : Text) × IsNameOf key k t × ((d : Data) × (get_member k definitions ≡ Some d) × IsSchema d))
 
-module _ (plan : Plan) (w : Work) (key : Text) (at : StandsAt plan.path key) (plain : IsPlainTable plan.rows) (definitions : AllStand plan w) where
+module _ (plan : Plan) (w : Work) (key : Text) (at : StandsAt plan.path key) (plain : IsPlainTable plan.rows)
+    (definitions : AllStand plan w) where
   -- the definitions by themselves
   abbrev alone : Members
   alone = put key (object w.definitions) no_members
 
-  refers-one : (root : Option ℕ) (j : ℕ) (r : Text) → Refers (record plan { root = root }) true w j r → NamesOne key w.definitions r
+  refers-one : (root : Option ℕ) (j : ℕ) (r : Text) → Refers (record plan { root = root }) true w j r
+      → NamesOne key w.definitions r
   refers-one root j r (inl is) = inl is.2
   refers-one root j r (inr is) = go (to-name plan.path key is.0 at stands.is_text)
     where
@@ -65,7 +67,8 @@ module _ (plan : Plan) (w : Work) (key : Text) (at : StandsAt plan.path key) (pl
   may_refer-one j r (inr is) = refers-one None j r is
 
 -- it resolves where the definitions stay
-one-resolves : (key : Text) (definitions : Members) (document : Data) → Has key definitions document → (t : Text) → NamesOne key definitions t
+one-resolves : (key : Text) (definitions : Members) (document : Data) → Has key definitions document → (t : Text)
+    → NamesOne key definitions t
     → resolves document (string t) ≡ true
 unfolding resolved
 one-resolves key definitions document has t is = subst (λ d. is_some (resolved d t) ≡ true) (sym has.is_object) (go is)
@@ -74,7 +77,8 @@ one-resolves key definitions document has t is = subst (λ d. is_some (resolved 
         → lookup t (object has.inside) ≡ Some d
     found k name d here = by (get_member key has.inside) refl has.is_map here
       where
-        by : (o : Option Data) → get_member key has.inside ≡ o → IsMap o → get_member k (entries o) ≡ Some d → lookup t (object has.inside) ≡ Some d
+        by : (o : Option Data) → get_member key has.inside ≡ o → IsMap o → get_member k (entries o) ≡ Some d
+            → lookup t (object has.inside) ≡ Some d
         by None there map here = cc
         by (Some (object es)) there map here = name.there has.inside es there ∙ here
         by (Some null) there map here = absurd map
@@ -97,7 +101,8 @@ module _ (s : State) (n : ℕ) (w : Work) (document : Data) (root : IsRootOf s n
   ready : IsReady One key w.definitions document
   ready =
       let standing = definitions_in s (Some n) w root.step own in
-      root_call-ready s n w document key root plain once standing at One (may_refer-one (plan_of s (Some n)) w key at plain standing)
+      root_call-ready s n w document key root plain once standing at One
+      (may_refer-one (plan_of s (Some n)) w key at plain standing)
 
   has : Has key w.definitions document
   has = ready-has One key w.definitions document ready
@@ -111,7 +116,8 @@ module _ (s : State) (n : ℕ) (w : Work) (document : Data) (root : IsRootOf s n
   draft2019_09_resolve : ReferencesResolve (for_draft2019_09 document)
   draft2019_09_resolve =
       each-resolves One (for_draft2019_09 document)
-      (one-resolves key w.definitions (for_draft2019_09 document) (prefix-has key (stands-place (path_of s) key at) w.definitions document has))
+      (one-resolves key w.definitions (for_draft2019_09 document)
+      (prefix-has key (stands-place (path_of s) key at) w.definitions document has))
       (for_draft2019_09 document) (draft2019_09-refers One document ready.everywhere)
 
 -- what a root call makes means its type in each draft, at the draft's path
@@ -124,7 +130,8 @@ draft07_means s n w d checked root once one own path plain =
       references_resolve = draft07_resolve s n w d root once own plain (codes "definitions") at;
     }
 
-pub draft2019_09_means : (s : State) (n : ℕ) (w : Work) (d : Data) → IsChecked s.rows → IsRootOf s n w d → HasKeysOnce w.definitions
+pub draft2019_09_means : (s : State) (n : ℕ) (w : Work) (d : Data) → IsChecked s.rows → IsRootOf s n w d
+    → HasKeysOnce w.definitions
     → IsOneToOne w.names → Draft2019_09Headline s n d
 draft2019_09_means s n w d checked root once one own path plain =
     let at : StandsAt (path_of s) (codes "$defs") = inl (path, refl) in

@@ -1,5 +1,6 @@
 -- The documents of shapes are ones that the laws of the drafts speak of, where those of their parts are.
-use Rattle.std.proofs.Common.{◌≡◌, ℕ, List, [], ◌∷◌, ◌++◌, Option, Some, None, Bool, true, false, codes, refl, sym, ap, ◌∙◌, subst, true≢false}
+use Rattle.std.proofs.Common.{◌≡◌, ℕ, List, [], ◌∷◌, ◌++◌, Option, Some, None, Bool, true, false, codes, refl, sym, ap, ◌∙◌}
+use Rattle.std.proofs.Common.{subst, true≢false}
 use Rattle.std.proofs.Common.{ℤ, pos, Ordering, Less, Equal, Greater, nat_cmp}
 use Rattle.std.specs.Prelude.{bytes_eq, if◌then◌else◌, ◌&&◌, ◌||◌, not}
 use Rattle.std.specs.List.{AllByRecursion}
@@ -32,13 +33,15 @@ use Rattle.schemars_meaning.proofs.Parts.{either}
 use Rattle.schemars_meaning.proofs.Filling.{ArePartsWritten}
 use Rattle.schemars_meaning.proofs.Spread.{field_keywords, AreWritten, IsFieldsDocument}
 use Rattle.schemars_meaning.proofs.ByShape.{seq_document, set_document, array_document, up_to_document, tuple_document}
-use Rattle.schemars_meaning.proofs.ByShape.{items_from, one_of_document, any_of_document, units_document, member_document, tagged_document}
+use Rattle.schemars_meaning.proofs.ByShape.{items_from, one_of_document, any_of_document, units_document, member_document}
+use Rattle.schemars_meaning.proofs.ByShape.{tagged_document}
 use Rattle.schemars_laws.specs.Everywhere.{asked, asked_of_items, asked_of_members, asked_of_keywords}
 use Rattle.schemars_laws.specs.Names.{IsNoObject}
 use Rattle.schemars_laws.specs.Classes.{IsOnce, IsText, IsNoList, AreSchemas, IsSchemaList}
 use Rattle.schemars_laws.proofs.Looked.{get_member-first}
 use Rattle.schemars_laws.proofs.Preserved.{schema-no_list}
-use Rattle.schemars_dialects.proofs.Changes.{IsReferring, watched, IsWatched, place-none, asked-nothing, Class, Are, are-put, nothing, IsGood, good}
+use Rattle.schemars_dialects.proofs.Changes.{IsReferring, watched, IsWatched, place-none, asked-nothing, Class, Are, are-put}
+use Rattle.schemars_dialects.proofs.Changes.{nothing, IsGood, good}
 use Rattle.schemars_dialects.proofs.Changes.{good_truth, good-annotated, good-noted_by}
 
 module _ (R : Text → Type 0) where
@@ -82,7 +85,8 @@ module _ (R : Text → Type 0) where
   bounded-good : (format : Text) (least greatest : Option ℤ) → IsGood R (object_of (int_keywords format least greatest))
   bounded-good format least greatest = good R _ (bounded format least greatest)
 
-  with_zero : (es : List Keyword) (ms : Members) → Are R (put_all es ms) → Are R (put_all (es ++ (codes "not", zero_schema) ∷ []) ms)
+  with_zero : (es : List Keyword) (ms : Members) → Are R (put_all es ms)
+      → Are R (put_all (es ++ (codes "not", zero_schema) ∷ []) ms)
   with_zero [] ms is = are-put R (codes "not") zero_schema ms refl zero-good.everywhere is
   with_zero (e ∷ es) ms is = with_zero es (put e.0 e.1 ms) is
 
@@ -233,12 +237,14 @@ module _ (R : Text → Type 0) where
       go [] [] true is = good R _ (are-put R (codes "additionalProperties") (boolean false) _ refl tt start)
       go [] (k ∷ ks) false is = good R _ (are-put R (codes "required") _ _ refl tt start)
       go [] (k ∷ ks) true is =
-          good R _ (are-put R (codes "additionalProperties") (boolean false) _ refl tt (are-put R (codes "required") _ _ refl tt start))
+          good R _ (are-put R (codes "additionalProperties") (boolean false) _ refl tt
+          (are-put R (codes "required") _ _ refl tt start))
       go (e ∷ es) [] false is = good R _ (with e es is)
       go (e ∷ es) [] true is = good R _ (are-put R (codes "additionalProperties") (boolean false) _ refl tt (with e es is))
       go (e ∷ es) (k ∷ ks) false is = good R _ (are-put R (codes "required") _ _ refl tt (with e es is))
       go (e ∷ es) (k ∷ ks) true is =
-          good R _ (are-put R (codes "additionalProperties") (boolean false) _ refl tt (are-put R (codes "required") _ _ refl tt (with e es is)))
+          good R _ (are-put R (codes "additionalProperties") (boolean false) _ refl tt
+          (are-put R (codes "required") _ _ refl tt (with e es is)))
 
   pub member-good : (closed : Bool) (name : Text) (t : Data) → IsGood R t → IsGood R (member_document closed name t)
   member-good closed name t is = map-good ((name, t) ∷ []) (name ∷ []) closed (is, tt)
@@ -256,7 +262,8 @@ module _ (R : Text → Type 0) where
         → IsFieldsDocument W contract list closed s → IsGood R s
     fields-good contract list closed s noted is =
         subst (IsGood R) (sym is.is) (good-noted_by R is.notes _ is.are_notes
-        (map-good (field_keywords list is.parts) (required_names contract list) closed (fields-named list is.parts noted is.written)))
+        (map-good (field_keywords list is.parts) (required_names contract list) closed
+        (fields-named list is.parts noted is.written)))
 
     pub tagged-good : (contract : Contract) (tag name : Text) (list : List Field) (ts : List Data) (closed : Bool) → AreNoted list
         → AreWritten W list ts → IsGood R (tagged_document contract tag name list ts closed)
@@ -282,7 +289,8 @@ module _ (R : Text → Type 0) where
       found : get_member k (member l d ms) ≡ (if bytes_eq k l then Some d else get_member k ms)
       found = get_member-first k l d ms
 
-      go : (b : Bool) → bytes_eq k l ≡ b → (get_member k ms ≡ None → IsOnce k ms) → get_member k (if b then ms else member l d (without k ms)) ≡ None
+      go : (b : Bool) → bytes_eq k l ≡ b → (get_member k ms ≡ None → IsOnce k ms)
+          → get_member k (if b then ms else member l d (without k ms)) ≡ None
       go true at later =
           let some : Some d ≡ None = sym (found ∙ ap (λ b. if b then Some d else get_member k ms) at) ∙ none in cc
       go false at later =
@@ -296,7 +304,11 @@ module _ (R : Text → Type 0) where
     subst (IsReferring R) (sym (none (codes "$ref") refl)) tt,
     subst IsNoObject (sym (none (codes "unevaluatedProperties") refl)) tt,
     (
-      (absent-once (codes "unevaluatedProperties") ms (none (codes "unevaluatedProperties") refl), none (codes "unevaluatedProperties") refl),
+      (
+        absent-once (codes "unevaluatedProperties") ms (none (codes "unevaluatedProperties") refl),
+        none
+            (codes "unevaluatedProperties") refl,
+      ),
       (
         absent-once (codes "$ref") ms (none (codes "$ref") refl),
         subst IsText (sym (none (codes "$ref") refl)) tt,
@@ -320,7 +332,8 @@ not-true : (a b : Bool) → not a && b ≡ true → (a ≡ false) × (b ≡ true
 not-true false b h = (refl, h)
 not-true true b h = absurd (true≢false (sym h))
 
-plain-not_listed : (k : Text) (d : Data) (ls : List Text) → none_plain ls d ≡ true → is_plain_member k d ≡ true → is_listed k ls ≡ false
+plain-not_listed : (k : Text) (d : Data) (ls : List Text) → none_plain ls d ≡ true → is_plain_member k d ≡ true
+    → is_listed k ls ≡ false
 plain-not_listed k d [] none plain = refl
 plain-not_listed k d (l ∷ ls) none plain = go (bytes_eq k l) refl (plain-not_listed k d ls parts.1 plain)
   where
@@ -353,7 +366,8 @@ module _ (R : Text → Type 0) where
 
   pub literal-good : (d : Data) → IsPlainLiteral d → IsGood R d
   literal-good (boolean b) plain = good_truth R b
-  literal-good (object ms) plain = good R ms (record { own = class-absent R ms (no_watched ms plain.members); inside = asked-plain ms plain.members })
+  literal-good (object ms) plain = good R ms
+      (record { own = class-absent R ms (no_watched ms plain.members); inside = asked-plain ms plain.members })
   literal-good null plain = absurd plain
   literal-good (number n) plain = absurd plain
   literal-good (string s) plain = absurd plain

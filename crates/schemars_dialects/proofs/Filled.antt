@@ -6,7 +6,8 @@ use Rattle.schemars_json.specs.Json.{Text}
 use Rattle.schemars_schema.specs.SchemaData.{put_all}
 use Rattle.schemars_schema.specs.Annotations.{AreNotes}
 use Rattle.schemars_rewrite.specs.Properties.{internally_tagged_variant}
-use Rattle.schemars_shapes.specs.Shape.{Field, Fields, Flattened, Payload, Variant, no_payload, newtype_payload, tuple_payload, struct_payload}
+use Rattle.schemars_shapes.specs.Shape.{Field, Fields, Flattened, Payload, Variant, no_payload, newtype_payload, tuple_payload}
+use Rattle.schemars_shapes.specs.Shape.{struct_payload}
 use Rattle.schemars_shapes.specs.Units.{is_bare_unit}
 use Rattle.schemars_types.specs.Meaning.{Contract}
 use Rattle.schemars_types.specs.Effective.{flattened_fields, effective, spread_payload, spread_variant}
@@ -14,10 +15,13 @@ use Rattle.schemars_types.specs.KeyOptions.{KeyOptions, keys}
 use Rattle.schemars_documents.specs.PlainTable.{AreNoted, IsTagged, AreTagged, ArePlainParts, payload_parts, variant_parts}
 use Rattle.schemars_documents.specs.Documents.{Keyword, required_names}
 use Rattle.schemars_templates.specs.Basis.{Basis}
-use Rattle.schemars_templates.specs.Template.{Ask, part, members_of, content, Template, noted, tagged, row, asks_of, asks_in, filled, filled_in, keyed}
+use Rattle.schemars_templates.specs.Template.{Ask, part, members_of, content, Template, noted, tagged, row, asks_of, asks_in}
+use Rattle.schemars_templates.specs.Template.{filled, filled_in, keyed}
 use Rattle.schemars_templates.specs.Template.{left, Templates}
-use Rattle.schemars_templates.specs.OfShape.{templates_of, one_of, any_of, payload_template, named_template, member_template, bare_units}
-use Rattle.schemars_templates.specs.OfShape.{other_items, units_template, choice_of, external_template, title_alone, titled, payload_item}
+use Rattle.schemars_templates.specs.OfShape.{templates_of, one_of, any_of, payload_template, named_template, member_template}
+use Rattle.schemars_templates.specs.OfShape.{bare_units}
+use Rattle.schemars_templates.specs.OfShape.{other_items, units_template, choice_of, external_template, title_alone, titled}
+use Rattle.schemars_templates.specs.OfShape.{payload_item}
 use Rattle.schemars_templates.specs.OfShape.{untagged_template, content_template, internal_item, internal_template}
 use Rattle.schemars_templates.specs.OfShape.{KeywordTemplate, typed, object_with, values_of, all_patterns, pattern_properties_at}
 use Rattle.schemars_templates.specs.OfShape.{properties_at, other_values, values_template}
@@ -31,8 +35,10 @@ use Rattle.schemars_meaning.proofs.Enums.{title_noted}
 use Rattle.schemars_meaning.proofs.MapDocument.{noted_by}
 use Rattle.schemars_meaning.proofs.References.{IsNotedPayload, AreNotedVariants}
 use Rattle.schemars_laws.specs.Everywhere.{asked, asked_of_members}
-use Rattle.schemars_dialects.proofs.Changes.{Class, Are, are-put, nothing, IsGood, good, good_truth, good-annotated, good-noted_by}
-use Rattle.schemars_dialects.proofs.Documents.{AllGood, type-good, tuple-good, parts-good, fields-good, tagged-good, unit-good, units-good}
+use Rattle.schemars_dialects.proofs.Changes.{Class, Are, are-put, nothing, IsGood, good, good_truth, good-annotated}
+use Rattle.schemars_dialects.proofs.Changes.{good-noted_by}
+use Rattle.schemars_dialects.proofs.Documents.{AllGood, type-good, tuple-good, parts-good, fields-good, tagged-good, unit-good}
+use Rattle.schemars_dialects.proofs.Documents.{units-good}
 use Rattle.schemars_dialects.proofs.Documents.{one_of-good, any_of-good, member-good, AllNamed, asked-all}
 
 noted-append : (xs ys : List Field) → AreNoted xs → AreNoted ys → AreNoted (xs ++ ys)
@@ -84,7 +90,8 @@ module _ (R : Text → Type 0) (A : Ask → Data → Type 0) (has : ℕ → List
   noted-makes : (notes : Members) (t : Template) → AreNotes notes → Makes t → Makes (noted notes t)
   noted-makes notes t plain make us fit = good-annotated R notes (filled t us) plain (make us fit)
 
-  payload-makes : (p : Payload) → IsNotedPayload p → ArePlainParts basis.rows (payload_parts p) → Makes (payload_template contract p)
+  payload-makes : (p : Payload) → IsNotedPayload p → ArePlainParts basis.rows (payload_parts p)
+      → Makes (payload_template contract p)
   payload-makes no_payload own flat us fit = type-good R (codes "null")
   payload-makes (newtype_payload n) own flat [] fit = absurd fit
   payload-makes (newtype_payload n) own flat (t ∷ us) fit = parts n t fit.0
@@ -111,7 +118,8 @@ module _ (R : Text → Type 0) (A : Ask → Data → Type 0) (has : ℕ → List
   named-makes name (struct_payload x) own flat us fit =
       member-makes name (payload_template contract (struct_payload x)) (payload-makes (struct_payload x) own flat) us fit
 
-  others-make : (xs : List Variant) → AreNotedVariants xs → ArePlainParts basis.rows (variant_parts xs) → AllMake (other_items contract xs)
+  others-make : (xs : List Variant) → AreNotedVariants xs → ArePlainParts basis.rows (variant_parts xs)
+      → AllMake (other_items contract xs)
   others-make [] own flat = tt
   others-make (x ∷ xs) own flat = go (is_bare_unit x) (others-make xs own.2 flats.1)
     where
@@ -119,10 +127,14 @@ module _ (R : Text → Type 0) (A : Ask → Data → Type 0) (has : ℕ → List
       flats = parts_apart basis.rows (payload_parts x.payload) (variant_parts xs) flat
 
       go : (b : Bool) → AllMake (other_items contract xs)
-          → AllMake (if b then other_items contract xs else noted x.notes (named_template contract x.name x.payload) ∷ other_items contract xs)
+          → AllMake (if b then other_items contract xs else noted x.notes (named_template contract x.name x.payload)
+          ∷ other_items contract xs)
       go true later = later
-      go false later =
-          (noted-makes x.notes (named_template contract x.name x.payload) own.0 (named-makes x.name x.payload own.1 flats.0), later)
+      go false later = (
+        noted-makes x.notes (named_template contract x.name x.payload) own.0
+            (named-makes x.name x.payload own.1 flats.0),
+        later,
+      )
 
   choice-makes : (ks : List Text) (ts : List Template) → AllMake ts → Makes (choice_of ks ts)
   choice-makes [] [] make us fit = good_truth R false
@@ -172,11 +184,13 @@ module _ (R : Text → Type 0) (A : Ask → Data → Type 0) (has : ℕ → List
         let same : filled (tagged tag name closed (content_template contract (struct_payload x))) us
         ≡ noted_by d.notes (tagged_document contract tag name (effective has x) d.parts x.closed) =
         ap (internally_tagged_variant tag name closed) d.is
-        ∙ tagged-map d.notes tag name closed (field_keywords (effective has x) d.parts) (required_names contract (effective has x))
+        ∙ tagged-map d.notes tag name closed (field_keywords (effective has x) d.parts)
+        (required_names contract (effective has x))
         x.closed d.are_notes in
         subst (IsGood R) (sym same)
         (good-noted_by R d.notes (tagged_document contract tag name (effective has x) d.parts x.closed) d.are_notes
-        (tagged-good R W parts contract tag name (effective has x) d.parts x.closed (noted-effective has noted_rows x own) d.written))
+        (tagged-good R W parts contract tag name (effective has x) d.parts x.closed
+        (noted-effective has noted_rows x own) d.written))
 
     internals-make : (xs : List Variant) → AreTagged tag (map (spread_variant others) xs) → AreNotedVariants xs
         → ArePlainParts basis.rows (variant_parts xs) → AllMake (map (internal_item contract tag closed) xs)
@@ -220,9 +234,11 @@ module _ (R : Text → Type 0) where
   unfolding asked
   keyed-good other value texts qs us is all = go texts qs
     where
-      start : Are R (put (codes "additionalProperties") (filled other us) (put (codes "type") (string (codes "object")) no_members))
+      start : Are R (put (codes "additionalProperties") (filled other us)
+          (put (codes "type") (string (codes "object")) no_members))
       start =
-          are-put R (codes "additionalProperties") (filled other us) (put (codes "type") (string (codes "object")) no_members) refl is.everywhere
+          are-put R (codes "additionalProperties") (filled other us)
+          (put (codes "type") (string (codes "object")) no_members) refl is.everywhere
           (are-put R (codes "type") (string (codes "object")) no_members refl tt (nothing R))
 
       behind : AllGood R (left other us)
@@ -244,7 +260,8 @@ module _ (R : Text → Type 0) where
   other-good true value us all = first_all (IsGood R) (good_truth R true) us all
   other-good false value us all = good_truth R false
 
-  values-good : (options : KeyOptions) (value : ℕ) (us : List Data) → AllGood R us → IsGood R (filled (values_template options value) us)
+  values-good : (options : KeyOptions) (value : ℕ) (us : List Data) → AllGood R us
+      → IsGood R (filled (values_template options value) us)
   values-good (keys others texts integers ps) value us all =
       keyed-good (other_values others value) value texts (all_patterns integers ps) us (other-good others value us all) all
 
@@ -277,10 +294,12 @@ parts-keyed : (other : Template) (value : ℕ) (texts qs : List Text) → ArePar
 parts-keyed other value [] [] are = parts-append (asks_of other) [] are tt
 parts-keyed other value (t ∷ texts) [] are =
     parts-append (asks_of other) (row_asks value (t ∷ texts) ++ []) are (parts-last value (t ∷ texts))
-parts-keyed other value [] (q ∷ qs) are = parts-append (asks_of other) (row_asks value (q ∷ qs) ++ []) are (parts-last value (q ∷ qs))
+parts-keyed other value [] (q ∷ qs) are = parts-append (asks_of other) (row_asks value (q ∷ qs) ++ []) are
+    (parts-last value (q ∷ qs))
 parts-keyed other value (t ∷ texts) (q ∷ qs) are =
     parts-append (asks_of other) (row_asks value (q ∷ qs) ++ (row_asks value (t ∷ texts) ++ [])) are
-    (parts-append (row_asks value (q ∷ qs)) (row_asks value (t ∷ texts) ++ []) (parts-rows value (q ∷ qs)) (parts-last value (t ∷ texts)))
+    (parts-append (row_asks value (q ∷ qs)) (row_asks value (t ∷ texts) ++ []) (parts-rows value (q ∷ qs))
+    (parts-last value (t ∷ texts)))
 
 parts-other : (others : Bool) (value : ℕ) → AreParts (asks_of (other_values others value))
 parts-other true value = tt
@@ -301,4 +320,5 @@ module _ (R : Text → Type 0) (A : Ask → Data → Type 0) (parts : (j : ℕ) 
   pub values-make : (options : KeyOptions) (value : ℕ) (us : List Data) → Fit A (asks_of (values_template options value)) us
       → IsGood R (filled (values_template options value) us)
   values-make options value us fit =
-      values-good R options value us (parts-answered (asks_of (values_template options value)) us (parts-values options value) fit)
+      values-good R options value us
+      (parts-answered (asks_of (values_template options value)) us (parts-values options value) fit)

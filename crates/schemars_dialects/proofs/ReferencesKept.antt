@@ -9,7 +9,8 @@ use Rattle.schemars_json.specs.Json.{Text}
 use Rattle.schemars_schema.specs.SchemaData.{IsSchema}
 use Rattle.schemars_schema.specs.Acceptance.{draft2020_12}
 use Rattle.schemars_schema.specs.Edits.{without}
-use Rattle.schemars_transform.specs.Built.{reference_moved, without_siblings, remove_ref_siblings, prefix_moved, old_items_moved, prefix_as_items}
+use Rattle.schemars_transform.specs.Built.{reference_moved, without_siblings, remove_ref_siblings, prefix_moved, old_items_moved}
+use Rattle.schemars_transform.specs.Built.{prefix_as_items}
 use Rattle.schemars_gen_transform.specs.Unevaluated.{unevaluated_as_additional, closed_by, replace_unevaluated_properties}
 use Rattle.schemars_laws.specs.Everywhere.{Everywhere, asked, asked_of_keywords}
 use Rattle.schemars_laws.specs.Classes.{IsOnce, IsSchemaList, HasPlainReference}
@@ -50,7 +51,8 @@ module _ (R : Text → Type 0) where
   abbrev IsListed : Members → Type 0
   IsListed ms = IsSchemaList (get_member (codes "prefixItems") ms)
 
-  listed-alike : (ns ms : Members) → get_member (codes "prefixItems") ns ≡ get_member (codes "prefixItems") ms → IsListed ms → IsListed ns
+  listed-alike : (ns ms : Members) → get_member (codes "prefixItems") ns ≡ get_member (codes "prefixItems") ms → IsListed ms
+      → IsListed ns
   listed-alike ns ms same is = subst IsSchemaList (sym same) is
 
   -- ---- without `unevaluatedProperties`
@@ -59,13 +61,16 @@ module _ (R : Text → Type 0) where
   unfolding asked
   after-unevaluated = record { schema = schema-unevaluated; of_truth = λ b. tt; of_object = go }
     where
-      kept : (ms : Members) → Class R ms → WithPlain (without (codes "unevaluatedProperties") (walked unevaluated_as_additional ms))
+      kept : (ms : Members) → Class R ms
+          → WithPlain (without (codes "unevaluatedProperties") (walked unevaluated_as_additional ms))
       kept ms is =
           let ns = walked unevaluated_as_additional ms in
           let rest = without (codes "unevaluatedProperties") ns in (
-            refers-alike rest ns (alike-without (codes "$ref") (codes "unevaluatedProperties") ns refl) (refers-walked unevaluated_as_additional ms is.0),
+            refers-alike rest ns (alike-without (codes "$ref") (codes "unevaluatedProperties") ns refl)
+                (refers-walked unevaluated_as_additional ms is.0),
             reference-alike rest ns (alike-without (codes "$ref") (codes "unevaluatedProperties") ns refl)
-                (alike-without (codes "allOf") (codes "unevaluatedProperties") ns refl) (reference-walked unevaluated_as_additional schema-unevaluated ms is.2.1),
+                (alike-without (codes "allOf") (codes "unevaluatedProperties") ns refl)
+                (reference-walked unevaluated_as_additional schema-unevaluated ms is.2.1),
             listed-alike rest ns (alike-without (codes "prefixItems") (codes "unevaluatedProperties") ns refl).first
                 (list-walked unevaluated_as_additional schema-unevaluated (codes "prefixItems") ms refl is.2.2.1),
           )
@@ -83,7 +88,8 @@ module _ (R : Text → Type 0) where
   unfolding asked
   after-siblings = record { schema = schema-siblings; of_truth = λ b. tt; of_object = go }
     where
-      alone : (r : Data) (ns : Members) → get_member (codes "$ref") ns ≡ Some r → Refers ns → WithItems (member (codes "$ref") r no_members)
+      alone : (r : Data) (ns : Members) → get_member (codes "$ref") ns ≡ Some r → Refers ns
+          → WithItems (member (codes "$ref") r no_members)
       alone r ns here is = (subst (IsReferring R) here is, refl, tt)
 
       gone : (ns : Members) → IsOnce (codes "$ref") ns → IsListed ns → WithItems (without (codes "$ref") ns)
@@ -95,7 +101,8 @@ module _ (R : Text → Type 0) where
 
       moved : (r : Data) (ns : Members) → IsOnce (codes "$ref") ns → IsListed ns → WithItems (moved_members r ns)
       moved r ns once items =
-          let none : get_member (codes "$ref") (moved_members r ns) ≡ None = get-moved r ns (codes "$ref") (differ (codes "$ref") (codes "allOf") refl) ∙ once in (
+          let none : get_member (codes "$ref") (moved_members r ns) ≡ None =
+          get-moved r ns (codes "$ref") (differ (codes "$ref") (codes "allOf") refl) ∙ once in (
             subst (IsReferring R) (sym none) tt,
             absent-once R (codes "$ref") (moved_members r ns) none,
             listed-alike (moved_members r ns) ns (
@@ -166,7 +173,8 @@ module _ (R : Text → Type 0) where
 
           rest_is : RefersOnce rest
           rest_is = (
-            subst (IsReferring R) (sym (without-other (codes "prefixItems") (codes "$ref") ns apart)) (refers-walked prefix_as_items ms is.0),
+            subst (IsReferring R) (sym (without-other (codes "prefixItems") (codes "$ref") ns apart))
+                (refers-walked prefix_as_items ms is.0),
             without-swap (codes "$ref") (codes "prefixItems") ns apart ∙ once-walked prefix_as_items (codes "$ref") ms is.1,
           )
 
@@ -176,23 +184,27 @@ module _ (R : Text → Type 0) where
           plain : IsListed ns
           plain = list-walked prefix_as_items schema-prefix (codes "prefixItems") ms refl is.2
 
-          with_prefix : (p : Data) → get_member (codes "prefixItems") ns ≡ Some p → asked_of_keywords RefersOnce (put (codes "items") p rest)
+          with_prefix : (p : Data) → get_member (codes "prefixItems") ns ≡ Some p
+              → asked_of_keywords RefersOnce (put (codes "items") p rest)
           with_prefix p here =
               asked-put RefersOnce (codes "items") p rest
               (listed p (subst IsSchemaList here plain), asked-get RefersOnce (codes "prefixItems") ns p here a) rest_asked
 
-          moved_items : (p : Data) → get_member (codes "prefixItems") ns ≡ Some p → (o : Option Data) → get_member (codes "items") rest ≡ o
+          moved_items : (p : Data) → get_member (codes "prefixItems") ns ≡ Some p → (o : Option Data)
+              → get_member (codes "items") rest ≡ o
               → (asked RefersOnce (old_items_moved o (object (put (codes "items") p rest)))).as_schema
           moved_items p here None there =
               (refers-put (codes "items") p rest (differ (codes "$ref") (codes "items") refl) rest_is, with_prefix p here)
           moved_items p here (Some e) there = (
-            refers-put (codes "additionalItems") e (put (codes "items") p rest) (differ (codes "$ref") (codes "additionalItems") refl)
+            refers-put (codes "additionalItems") e (put (codes "items") p rest)
+                (differ (codes "$ref") (codes "additionalItems") refl)
                 (refers-put (codes "items") p rest (differ (codes "$ref") (codes "items") refl) rest_is),
             asked-put RefersOnce (codes "additionalItems") e (put (codes "items") p rest)
                 (asked-get RefersOnce (codes "items") rest e there rest_asked).0 (with_prefix p here),
           )
 
-          each : (o : Option Data) → get_member (codes "prefixItems") ns ≡ o → (asked RefersOnce (prefix_moved o (object rest))).as_schema
+          each : (o : Option Data) → get_member (codes "prefixItems") ns ≡ o
+              → (asked RefersOnce (prefix_moved o (object rest))).as_schema
           each None here = (rest_is, rest_asked)
           each (Some p) here = moved_items p here (get_member (codes "items") rest) refl
 
@@ -200,7 +212,8 @@ module _ (R : Text → Type 0) where
 
   pub draft2019_09-refers : (d : Data) → Everywhere (Class R) d → Everywhere RefersOnce (for_draft2019_09 d)
   draft2019_09-refers d is =
-      after prefix_as_items WithItems RefersOnce after-prefix d (weaker (Class R) WithItems (λ ms h. (h.0, h.2.1.0, h.2.2.1)) d is)
+      after prefix_as_items WithItems RefersOnce after-prefix d
+      (weaker (Class R) WithItems (λ ms h. (h.0, h.2.1.0, h.2.2.1)) d is)
 
   pub draft07-refers : (d : Data) → Everywhere (Class R) d → Everywhere RefersOnce (for_draft07 d)
   draft07-refers d is =

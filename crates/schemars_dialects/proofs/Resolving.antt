@@ -1,13 +1,17 @@
 -- The references of root documents resolve after the transforms of the older drafts.
-use Rattle.std.proofs.Common.{◌≡◌, List, [], ◌∷◌, ◌++◌, Some, None, Bool, true, false, codes, refl, sym, ap, ◌∙◌, subst, true≢false}
+use Rattle.std.proofs.Common.{◌≡◌, List, [], ◌∷◌, ◌++◌, Some, None, Bool, true, false, codes, refl, sym, ap, ◌∙◌, subst}
+use Rattle.std.proofs.Common.{true≢false}
 use Rattle.std.specs.Prelude.{bytes_eq, if◌then◌else◌, ◌&&◌}
 use Rattle.std.proofs.lemmas.Slice.Eq.{bytes_eq-Decides}
-use Rattle.serde_json.specs.Data.{Data, null, boolean, number, string, array, object, Items, no_items, item, Members, no_members, member}
+use Rattle.serde_json.specs.Data.{Data, null, boolean, number, string, array, object, Items, no_items, item, Members, no_members}
+use Rattle.serde_json.specs.Data.{member}
 use Rattle.serde_json.specs.Find.{get_member}
 use Rattle.schemars_json.specs.Json.{Text}
 use Rattle.schemars_schema.specs.Edits.{without}
-use Rattle.schemars_schema.specs.References.{Place, NoSchemas, OneSchema, SchemaList, SchemaOrList, SchemasByName, place_under, at_place}
-use Rattle.schemars_schema.specs.References.{found_in, found_in_items, found_in_members, found_in_keywords, references, resolves, all_resolve}
+use Rattle.schemars_schema.specs.References.{Place, NoSchemas, OneSchema, SchemaList, SchemaOrList, SchemasByName, place_under}
+use Rattle.schemars_schema.specs.References.{at_place}
+use Rattle.schemars_schema.specs.References.{found_in, found_in_items, found_in_members, found_in_keywords, references, resolves}
+use Rattle.schemars_schema.specs.References.{all_resolve}
 use Rattle.schemars_laws.specs.Everywhere.{asked, asked_at, asked_of_items, asked_of_members, asked_of_keywords}
 use Rattle.schemars_laws.proofs.Looked.{get_member-first}
 use Rattle.schemars_dialects.proofs.Changes.{IsReferring}
@@ -49,14 +53,16 @@ module _ (R : Text → Type 0) (document : Data) (leads : (t : Text) → R t →
 
       never : bytes_eq k (codes "$ref") ≡ true → ⊥
       never at =
-          let same : bytes_eq (codes "$ref") k ≡ true = (bytes_eq-Decides (codes "$ref") k).1 (sym ((bytes_eq-Decides k (codes "$ref")).0 at)) in
+          let same : bytes_eq (codes "$ref") k ≡ true =
+          (bytes_eq-Decides (codes "$ref") k).1 (sym ((bytes_eq-Decides k (codes "$ref")).0 at)) in
           let some : Some d ≡ None = sym (ap (λ b. if b then Some d else get_member (codes "$ref") ms) same) ∙ first in cc
 
   each-refers : (ms : Members) → P ms → EachRefers ms
   each-refers no_members is = tt
   each-refers (member k d ms) is = go (bytes_eq (codes "$ref") k) refl (each-refers ms)
     where
-      found : (b : Bool) → bytes_eq (codes "$ref") k ≡ b → get_member (codes "$ref") (member k d ms) ≡ (if b then Some d else get_member (codes "$ref") ms)
+      found : (b : Bool) → bytes_eq (codes "$ref") k ≡ b
+          → get_member (codes "$ref") (member k d ms) ≡ (if b then Some d else get_member (codes "$ref") ms)
       found b at = get_member-first (codes "$ref") k d ms ∙ ap (λ x. if x then Some d else get_member (codes "$ref") ms) at
 
       others : (b : Bool) → bytes_eq (codes "$ref") k ≡ b
@@ -66,7 +72,8 @@ module _ (R : Text → Type 0) (document : Data) (leads : (t : Text) → R t →
       go : (b : Bool) → bytes_eq (codes "$ref") k ≡ b → (P ms → EachRefers ms) → EachRefers (member k d ms)
       go true at later = (λ same. subst (IsReferring R) (found true at) is.0, none-refers ms (others true at))
       go false at later = (
-        λ same. absurd (true≢false (sym ((bytes_eq-Decides (codes "$ref") k).1 (sym ((bytes_eq-Decides k (codes "$ref")).0 same))) ∙ at)),
+        λ same. absurd (true≢false
+            (sym ((bytes_eq-Decides (codes "$ref") k).1 (sym ((bytes_eq-Decides k (codes "$ref")).0 same))) ∙ at)),
         later (
           subst (IsReferring R) (found false at) is.0,
           sym (get_member-first (codes "$ref") k d (without (codes "$ref") ms)
@@ -82,7 +89,8 @@ module _ (R : Text → Type 0) (document : Data) (leads : (t : Text) → R t →
   referring-leads (array ds) is = absurd is
   referring-leads (object ms) is = absurd is
 
-  at : (p : Place) (d : Data) → ((asked P d).as_schema → Resolve (references d)) → ((asked P d).as_list → Resolve (found_in d).in_list)
+  at : (p : Place) (d : Data) → ((asked P d).as_schema → Resolve (references d))
+      → ((asked P d).as_list → Resolve (found_in d).in_list)
       → ((asked P d).by_name → Resolve (found_in d).by_name) → asked_at p (asked P d) → Resolve (at_place p (found_in d))
   at NoSchemas d one list names a = refl
   at OneSchema d one list names a = one a
@@ -90,11 +98,13 @@ module _ (R : Text → Type 0) (document : Data) (leads : (t : Text) → R t →
   at SchemaOrList d one list names a = resolve-append (references d) (found_in d).in_list (one a.0) (list a.1)
   at SchemasByName d one list names a = names a
 
-  under : (k : Text) (d : Data) → (bytes_eq k (codes "$ref") ≡ true → IsReferring R (Some d)) → Resolve (at_place (place_under k) (found_in d))
+  under : (k : Text) (d : Data) → (bytes_eq k (codes "$ref") ≡ true → IsReferring R (Some d))
+      → Resolve (at_place (place_under k) (found_in d))
       → Resolve (if bytes_eq k (codes "$ref") then d ∷ [] else at_place (place_under k) (found_in d))
   under k d here inside = go (bytes_eq k (codes "$ref")) here
     where
-      go : (b : Bool) → (b ≡ true → IsReferring R (Some d)) → Resolve (if b then d ∷ [] else at_place (place_under k) (found_in d))
+      go : (b : Bool) → (b ≡ true → IsReferring R (Some d))
+          → Resolve (if b then d ∷ [] else at_place (place_under k) (found_in d))
       go true here = rw (referring-leads d (here refl)) refl
       go false here = inside
 
@@ -131,11 +141,13 @@ module _ (R : Text → Type 0) (document : Data) (leads : (t : Text) → R t →
 
     members-resolve : (ms : Members) → asked_of_members P ms → Resolve (found_in_members ms)
     members-resolve no_members a = refl
-    members-resolve (member k d ms) a = resolve-append (references d) (found_in_members ms) (each-resolves d a.0) (members-resolve ms a.1)
+    members-resolve (member k d ms) a = resolve-append (references d) (found_in_members ms) (each-resolves d a.0)
+        (members-resolve ms a.1)
 
     keywords-resolve : (ms : Members) → EachRefers ms → asked_of_keywords P ms → Resolve (found_in_keywords ms)
     keywords-resolve no_members each a = refl
     keywords-resolve (member k d ms) each a =
-        resolve-append (if bytes_eq k (codes "$ref") then d ∷ [] else at_place (place_under k) (found_in d)) (found_in_keywords ms)
+        resolve-append (if bytes_eq k (codes "$ref") then d ∷ [] else at_place (place_under k) (found_in d))
+        (found_in_keywords ms)
         (under k d each.0 (at (place_under k) d (each-resolves d) (list-resolves d) (names-resolve d) a.0))
         (keywords-resolve ms each.1 a.1)

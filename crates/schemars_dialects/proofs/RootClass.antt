@@ -1,5 +1,6 @@
 -- Root documents of plain tables are ones that the laws of the drafts speak of, with their definitions.
-use Rattle.std.proofs.Common.{◌≡◌, ℕ, List, [], inl, inr, Option, Some, None, Bool, true, false, codes, refl, sym, ap, ◌∙◌, subst, arith, true≢false}
+use Rattle.std.proofs.Common.{◌≡◌, ℕ, List, [], inl, inr, Option, Some, None, Bool, true, false, codes, refl, sym, ap, ◌∙◌, subst}
+use Rattle.std.proofs.Common.{arith, true≢false}
 use Rattle.std.specs.Prelude.{is_some, if◌then◌else◌, bytes_eq}
 use Rattle.std.specs.Str.{IsUtf8}
 use Rattle.serde_json.specs.Data.{Data, null, boolean, number, string, array, object, Members, no_members, member, put}
@@ -71,7 +72,8 @@ same_key path a b (inr x) (inr y) = x.1 ∙ sym y.1
 
 pub to-name : (path key name : Text) → StandsAt path key → IsUtf8 name → IsName key (reference_to path name)
 to-name path key name (inl at) text =
-    subst (λ p. IsName key (reference_to p name)) (sym at.0) (subst (λ k. IsName k (reference_to (codes "/$defs") name)) (sym at.1) (defs-name name text))
+    subst (λ p. IsName key (reference_to p name)) (sym at.0)
+    (subst (λ k. IsName k (reference_to (codes "/$defs") name)) (sym at.1) (defs-name name text))
 to-name path key name (inr at) text =
     subst (λ p. IsName key (reference_to p name)) (sym at.0)
     (subst (λ k. IsName k (reference_to (codes "/definitions") name)) (sym at.1) (definitions-name name text))
@@ -111,12 +113,14 @@ module _ (R : Text → Type 0) where
   definitions-asked (member k d ms) all = (all.0.everywhere, definitions-asked ms all.1)
 
   -- the members of the class with the definitions at their key
-  with-definitions : (path key : Text) → StandsAt path key → (definitions ms : Members) → AllMembers (IsGood R) definitions → Are R ms
+  with-definitions : (path key : Text) → StandsAt path key → (definitions ms : Members) → AllMembers (IsGood R) definitions
+      → Are R ms
       → Are R (put key (object definitions) ms)
   unfolding asked
   with-definitions path key at definitions ms all is =
       are-put R key (object definitions) ms (stands-unwatched path key at)
-      (subst (λ p. asked_at p (asked (Class R) (object definitions))) (sym (stands-place path key at)) (definitions-asked definitions all)) is
+      (subst (λ p. asked_at p (asked (Class R) (object definitions))) (sym (stands-place path key at))
+      (definitions-asked definitions all)) is
 
 -- an object of the class, with these definitions under a key, if there are any
 pub record IsReady (R : Text → Type 0) (key : Text) (definitions : Members) (document : Data) : Type 0 where
@@ -166,7 +170,8 @@ root-ready : (plan : Plan) (w : Work) (n : ℕ) (name : Text) (uri : Option Text
     → with_definitions plan.path w.definitions (root_document name uri own) ≡ Some document
     → (R : Text → Type 0) → ((j : ℕ) (r : Text) → MayRefer plan w j r → R r) → IsReady R key w.definitions document
 root-ready plan w n name uri depth own document key at plain once definitions h made R refer =
-    placed-ready R plan.path key w.definitions ms document at all (root-are R name uri own (each depth n own h)) (room key (stands_key plan.path key at))
+    placed-ready R plan.path key w.definitions ms document at all (root-are R name uri own (each depth n own h))
+    (room key (stands_key plan.path key at))
     (placed_in plan.path w.definitions ms document (stands-draft plan.path key at) room made)
   where
     ms : Members
@@ -183,17 +188,21 @@ root-ready plan w n name uri depth own document key at plain once definitions h 
     room k is = no_definitions_in k is (basis_of plan) (MayRefer plan w) (plain_notes plan.rows plain) name uri depth n own h
 
 -- what a root call makes, in a plain table, where its definitions stand at a draft's path
-pub root_call-ready : (old : State) (n : ℕ) (w : Work) (document : Data) (key : Text) → IsRootOf old n w document → IsPlainTable old.rows
+pub root_call-ready : (old : State) (n : ℕ) (w : Work) (document : Data) (key : Text) → IsRootOf old n w document
+    → IsPlainTable old.rows
     → HasKeysOnce w.definitions → AllStand (plan_of old (Some n)) w → StandsAt (path_of old) key
-    → (R : Text → Type 0) → ((j : ℕ) (r : Text) → MayRefer (plan_of old (Some n)) w j r → R r) → IsReady R key w.definitions document
+    → (R : Text → Type 0) → ((j : ℕ) (r : Text) → MayRefer (plan_of old (Some n)) w j r → R r)
+    → IsReady R key w.definitions document
 root_call-ready old n w document key h plain once definitions at R refer =
     let plan = plan_of old (Some n) in
     let depth = h.is_document.0 in
     let described = describes-wider (basis_of plan) (Refers plan true w) (MayRefer plan w) (refers_may plan w true)
-    depth depth (omega arith) n h.own (document_describes (basis_of plan) plan.inlines (Refers plan true w) [] n h.own h.is_document) in
+    depth depth (omega arith) n h.own
+    (document_describes (basis_of plan) plan.inlines (Refers plan true w) [] n h.own h.is_document) in
     root-ready plan w n (name_at old.rows n) old.settings.meta_schema depth h.own document key at plain once definitions described h.is_root R refer
 
-pub root_call-class : (old : State) (n : ℕ) (w : Work) (document : Data) (key : Text) → IsRootOf old n w document → IsPlainTable old.rows
+pub root_call-class : (old : State) (n : ℕ) (w : Work) (document : Data) (key : Text) → IsRootOf old n w document
+    → IsPlainTable old.rows
     → HasKeysOnce w.definitions → AllStand (plan_of old (Some n)) w → StandsAt (path_of old) key
     → Everywhere (Named key IsDraft07) document × ((ms : Members) × (document ≡ object ms) × IsMap (get_member key ms))
 root_call-class old n w document key h plain once definitions at =

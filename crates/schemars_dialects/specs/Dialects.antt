@@ -28,7 +28,8 @@ AcceptsItsValuesUnder dialect rows contract path n document =
     → accepts dialect document patterns followed document v ≡ verdict (belongs rows contract patterns n v)
 
 -- the headline under a dialect, for a document of row n whose definitions stand at the path
-pub record MeansItsTypeUnder (dialect : Dialect) (rows : List Row) (contract : Contract) (path : Text) (n : ℕ) (document : Data) : Type 0 where
+pub record MeansItsTypeUnder (dialect : Dialect) (rows : List Row) (contract : Contract) (path : Text) (n : ℕ)
+    (document : Data) : Type 0 where
   pub accepts_its_values : AcceptsItsValuesUnder dialect rows contract path n document
   pub references_resolve : ReferencesResolve document
 
