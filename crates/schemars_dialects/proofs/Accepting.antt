@@ -46,12 +46,6 @@ accepts-moved T dialect key Q law document ms is map all rows contract path n sa
         ≡ accepts draft2020_12 d patterns followed d v) (sym is)
         (λ here. law ms map here patterns followed (object ms) v here) all
 
-pub at-defs : StandsAt (codes "/$defs") (codes "$defs")
-at-defs = inl (refl, refl)
-
-pub at-definitions : StandsAt (codes "/definitions") (codes "definitions")
-at-definitions = inr (refl, refl)
-
 -- the document before the transforms
 pub ready-has : (R : Text → Type 0) (key : Text) (definitions : Members) (document : Data) → IsReady R key definitions document
     → Has key definitions document

@@ -26,8 +26,9 @@ use Rattle.schemars_laws.proofs.Nullable.{without-put}
 use Rattle.schemars_laws.proofs.Plain.{Alike, reference-alike, items-alike, without-swap}
 use Rattle.schemars_laws.proofs.Preserved.{asked-without, asked-put}
 
--- ---- keywords that the class doesn't look at
+-- ---- keywords
 
+-- those that the laws of the drafts ask about
 abbrev pub watched : List Text
 watched = codes "$ref" ∷ codes "allOf" ∷ codes "prefixItems" ∷ codes "items" ∷ codes "additionalItems"
     ∷ codes "unevaluatedProperties" ∷ []
@@ -47,14 +48,13 @@ either_false false h = h
 
 -- no schema stands under a keyword of no list
 pub place-none : (k : Text) → is_listed k with_schema ≡ false → is_listed k with_list ≡ false
-    → is_listed k (codes "items" ∷ []) ≡ false
-    → is_listed k with_names ≡ false → place_under k ≡ NoSchemas
+    → is_listed k (codes "items" ∷ []) ≡ false → is_listed k with_names ≡ false → place_under k ≡ NoSchemas
 place-none k one list items names = rw (one, list, either_false (bytes_eq k (codes "items")) items, names) refl
 
-pub note-unwatched : (k : Text) → is_annotation k ≡ true → IsUnwatched k
+note-unwatched : (k : Text) → is_annotation k ≡ true → IsUnwatched k
 note-unwatched k note = annotation-not_listed k watched refl note
 
-pub note-place : (k : Text) → is_annotation k ≡ true → place_under k ≡ NoSchemas
+note-place : (k : Text) → is_annotation k ≡ true → place_under k ≡ NoSchemas
 note-place k note =
     place-none k (annotation-not_listed k with_schema refl note) (annotation-not_listed k with_list refl note)
     (annotation-not_listed k (codes "items" ∷ []) refl note) (annotation-not_listed k with_names refl note)
@@ -119,18 +119,18 @@ module _ (R : Text → Type 0) where
   }) is
 
   -- members of the class, and schemas of it inside them
-  pub record Are (ms : Members) : Type 0 where
+  pub record AreGood (ms : Members) : Type 0 where
     pub own : Class ms
     pub inside : asked_of_keywords Class ms
 
-  pub are-put : (l : Text) (d : Data) (ms : Members) → IsUnwatched l → asked_at (place_under l) (asked Class d) → Are ms
-      → Are (put l d ms)
+  pub are-put : (l : Text) (d : Data) (ms : Members) → IsUnwatched l → asked_at (place_under l) (asked Class d) → AreGood ms
+      → AreGood (put l d ms)
   are-put l d ms out here is = record { own = class-put l d ms out is.own; inside = asked-put Class l d ms here is.inside }
 
-  are-without : (l : Text) (ms : Members) → IsUnwatched l → Are ms → Are (without l ms)
+  are-without : (l : Text) (ms : Members) → IsUnwatched l → AreGood ms → AreGood (without l ms)
   are-without l ms out is = record { own = class-without l ms out is.own; inside = asked-without Class l ms is.inside }
 
-  pub nothing : Are no_members
+  pub nothing : AreGood no_members
   unfolding asked_of_keywords
   nothing = record { own = (tt, tt, ((refl, refl), (refl, tt, tt), (refl, tt, tt, refl))); inside = tt }
 
@@ -141,7 +141,7 @@ module _ (R : Text → Type 0) where
     pub schema : IsSchema s
     pub everywhere : Everywhere Class s
 
-  pub good : (ms : Members) → Are ms → IsGood (object ms)
+  pub good : (ms : Members) → AreGood ms → IsGood (object ms)
   unfolding asked
   good ms is = record { schema = tt; everywhere = (is.own, is.inside) }
 
@@ -149,7 +149,7 @@ module _ (R : Text → Type 0) where
   unfolding asked
   good_truth b = record { schema = tt; everywhere = tt }
 
-  pub good-members : (s : Data) → IsGood s → Are (members_in s)
+  pub good-members : (s : Data) → IsGood s → AreGood (members_in s)
   unfolding asked
   good-members (boolean true) is = nothing
   good-members (boolean false) is =
@@ -162,7 +162,7 @@ module _ (R : Text → Type 0) where
 
   -- ---- notes
 
-  are-noted : (notes ms : Members) → AreNotes notes → Are ms → Are (put_members notes ms)
+  are-noted : (notes ms : Members) → AreNotes notes → AreGood ms → AreGood (put_members notes ms)
   are-noted no_members ms noted is = is
   are-noted (member k d notes) ms noted is =
       are-noted notes (put k d ms) noted.1
@@ -179,19 +179,19 @@ module _ (R : Text → Type 0) where
 
   -- ---- null
 
-  are-null_in_type : (o : Option Data) (ms : Members) → Are ms → Are (null_in_type o ms)
+  are-null_in_type : (o : Option Data) (ms : Members) → AreGood ms → AreGood (null_in_type o ms)
   are-null_in_type None ms is = is
   are-null_in_type (Some d) ms is = are-put (codes "type") (type_with_null d) ms refl tt is
 
-  are-null_in_enum : (o : Option Data) (ms : Members) → Are ms → Are (null_in_enum o ms)
+  are-null_in_enum : (o : Option Data) (ms : Members) → AreGood ms → AreGood (null_in_enum o ms)
   are-null_in_enum None ms is = is
   are-null_in_enum (Some d) ms is = are-put (codes "enum") (enum_with_null d) ms refl tt is
 
-  are-null_in_const : (o : Option Data) (ms : Members) → Are ms → Are (null_in_const o ms)
+  are-null_in_const : (o : Option Data) (ms : Members) → AreGood ms → AreGood (null_in_const o ms)
   are-null_in_const None ms is = are-null_in_enum (get_member (codes "enum") ms) ms is
   are-null_in_const (Some c) ms is = go (is_null c)
     where
-      go : (b : Bool) → Are (if b then ms else const_or_null c ms)
+      go : (b : Bool) → AreGood (if b then ms else const_or_null c ms)
       go true = is
       go false =
           are-put (codes "enum") (array (item c (item null no_items))) (without (codes "const") ms) refl tt

@@ -29,9 +29,8 @@ use Rattle.schemars_laws.proofs.Preserved.{weaker}
 use Rattle.schemars_dialects.proofs.Changes.{Class, referring-named, IsGood, good_truth, good-annotated, good-allow_null}
 use Rattle.schemars_dialects.proofs.Documents.{type-good, int-good, non_zero-good, char-good, formatted-good, bytes-good}
 use Rattle.schemars_dialects.proofs.Documents.{schema_itself-good, reference-good, empty_list-good, seq-good, set-good}
-use Rattle.schemars_dialects.proofs.Documents.{array-good, up_to-good}
-use Rattle.schemars_dialects.proofs.Documents.{tuple-good, parts-good, fields-good, one_of-good, member-good, map-good, unit-good}
-use Rattle.schemars_dialects.proofs.Documents.{literal-good}
+use Rattle.schemars_dialects.proofs.Documents.{array-good, up_to-good, tuple-good, parts-good, fields-good, one_of-good}
+use Rattle.schemars_dialects.proofs.Documents.{member-good, map-good, unit-good, literal-good}
 use Rattle.schemars_dialects.proofs.Filled.{noted-effective, external-makes, untagged-makes, internal-makes, values-make}
 
 module _ (R : Text → Type 0) (A : Ask → Data → Type 0) (has : ℕ → List Field) (basis : Basis)
@@ -78,8 +77,7 @@ module _ (R : Text → Type 0) (A : Ask → Data → Type 0) (has : ℕ → List
       (parts n is.0 is.2, (parts n is.1 is.3, tt)))
   shape-good (shape.either a b) s others p own flat is =
       rw is.4 (one_of-good R (member_document true (codes "Left") is.0 ∷ member_document true (codes "Right") is.1 ∷ []) (
-        member-good R true (codes "Left") is.0
-            (parts a is.0 is.2),
+        member-good R true (codes "Left") is.0 (parts a is.0 is.2),
         (member-good R true (codes "Right") is.1 (parts b is.1 is.3), tt),
       ))
   shape-good (shape.map_from from value) s others p own flat is =
@@ -127,8 +125,7 @@ module _ (R : Text → Type 0) (basis : Basis) (Refers : ℕ → Text → Type 0
   fields_down d = described_fields basis Refers plain (fields_within basis.rows) (λ e n. refl) d
 
   own-good : (d : ℕ) → ((j : ℕ) (t : Data) → In d j t → IsGood R t) → (o : Option Entry) → IsPlainEntry basis.rows o
-      → IsNotedRow o
-      → (t : Data) → IsOwnDocument (Answer d) basis o t → IsGood R t
+      → IsNotedRow o → (t : Data) → IsOwnDocument (Answer d) basis o t → IsGood R t
   own-good d parts None entry noted t is = absurd is
   own-good d parts (Some e) entry noted t is =
       let has = fields_within basis.rows d in

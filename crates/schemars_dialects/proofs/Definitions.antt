@@ -32,7 +32,7 @@ pub record Stay (old new : Members) : Type 0 where
 pub stay-same : (es : Members) → Stay es es
 stay-same es = record { count = refl; keys = λ k d found is. (d, found, is) }
 
-pub stay-then : (a b c : Members) → Stay a b → Stay b c → Stay a c
+stay-then : (a b c : Members) → Stay a b → Stay b c → Stay a c
 stay-then a b c first then = record {
   count = then.count ∙ first.count;
   keys = λ k d found is. let e = first.keys k d found is in then.keys k e.0 e.1 e.2;
@@ -60,8 +60,8 @@ module _ (f : Data → Data) (schema : (s : Data) → IsSchema s → IsSchema (f
   names-found k (member l e es) d found = go (slice_cmp nat_cmp k l) found (names-found k es d)
     where
       go : (o : Ordering) → match_ordering o (get_member k es) (Some e) (get_member k es) ≡ Some d
-          → (get_member k es ≡ Some d → get_member k (in_names (change_rules f) tt es) ≡ Some
-          (forms (change_rules f) tt d).as_schema)
+          → (get_member k es ≡ Some d
+          → get_member k (in_names (change_rules f) tt es) ≡ Some (forms (change_rules f) tt d).as_schema)
           → match_ordering o (get_member k (in_names (change_rules f) tt es)) (Some (forms (change_rules f) tt e).as_schema)
           (get_member k (in_names (change_rules f) tt es)) ≡ Some (forms (change_rules f) tt d).as_schema
       go Less found later = later found
@@ -93,8 +93,7 @@ pub record Has (key : Text) (definitions : Members) (document : Data) : Type 0 w
 
 module _ (key : Text) (at : place_under key ≡ SchemasByName) where
   changed-has : (f : Data → Data) (old new : Dialect) (Q : Members → Type 0) → Change f key old new Q
-      → (definitions : Members) (document : Data)
-      → Has key definitions document → Has key definitions (all_changed f document)
+      → (definitions : Members) (document : Data) → Has key definitions document → Has key definitions (all_changed f document)
   unfolding forms
   changed-has f old new Q h definitions document has =
       let now = h.definitions (walked f has.inside) in
@@ -142,8 +141,8 @@ unfolding walk unescape
 pointer-key path key (inl is) ms = rw (is.0, is.1)
 pointer-key path key (inr is) ms = rw (is.0, is.1)
 
-count-entries : (o : Option Data) → elim (option_and_then as_object o) [ None ↦ 0 | Some ms ↦ members_len ms ] ≡ members_len
-    (entries o)
+count-entries : (o : Option Data)
+    → elim (option_and_then as_object o) [ None ↦ 0 | Some ms ↦ members_len ms ] ≡ members_len (entries o)
 count-entries None = refl
 count-entries (Some null) = refl
 count-entries (Some (boolean b)) = refl

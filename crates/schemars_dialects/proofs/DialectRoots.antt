@@ -68,8 +68,7 @@ module _ (plan : Plan) (w : Work) (key : Text) (at : StandsAt plan.path key) (pl
 
 -- it resolves where the definitions stay
 one-resolves : (key : Text) (definitions : Members) (document : Data) → Has key definitions document → (t : Text)
-    → NamesOne key definitions t
-    → resolves document (string t) ≡ true
+    → NamesOne key definitions t → resolves document (string t) ≡ true
 unfolding resolved
 one-resolves key definitions document has t is = subst (λ d. is_some (resolved d t) ≡ true) (sym has.is_object) (go is)
   where
@@ -131,8 +130,7 @@ draft07_means s n w d checked root once one own path plain =
     }
 
 pub draft2019_09_means : (s : State) (n : ℕ) (w : Work) (d : Data) → IsChecked s.rows → IsRootOf s n w d
-    → HasKeysOnce w.definitions
-    → IsOneToOne w.names → Draft2019_09Headline s n d
+    → HasKeysOnce w.definitions → IsOneToOne w.names → Draft2019_09Headline s n d
 draft2019_09_means s n w d checked root once one own path plain =
     let at : StandsAt (path_of s) (codes "$defs") = inl (path, refl) in
     record {

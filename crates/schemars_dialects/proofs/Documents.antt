@@ -1,7 +1,6 @@
 -- The documents of shapes are ones that the laws of the drafts speak of, where those of their parts are.
 use Rattle.std.proofs.Common.{◌≡◌, ℕ, List, [], ◌∷◌, ◌++◌, Option, Some, None, Bool, true, false, codes, refl, sym, ap, ◌∙◌}
-use Rattle.std.proofs.Common.{subst, true≢false}
-use Rattle.std.proofs.Common.{ℤ, pos, Ordering, Less, Equal, Greater, nat_cmp}
+use Rattle.std.proofs.Common.{subst, true≢false, ℤ, pos, Ordering, Less, Equal, Greater, nat_cmp}
 use Rattle.std.specs.Prelude.{bytes_eq, if◌then◌else◌, ◌&&◌, ◌||◌, not}
 use Rattle.std.specs.List.{AllByRecursion}
 use Rattle.std.specs.Ordering.{match_ordering}
@@ -25,8 +24,8 @@ use Rattle.schemars_shapes.specs.declared.shape.IntKind.TheVariants.{U8}
 use Rattle.schemars_shapes.specs.Shape.{Field}
 use Rattle.schemars_types.specs.Meaning.{Contract, Deserialize, Serialize, least_of, greatest_of}
 use Rattle.schemars_documents.specs.Documents.{Keyword, type_alone, int_keywords, int_document, non_zero_document, is_signed}
-use Rattle.schemars_documents.specs.Documents.{char_document, formatted_document, empty_list_document, bytes_document}
-use Rattle.schemars_documents.specs.Documents.{bytes_type, byte_document, schema_document, reference, required_names}
+use Rattle.schemars_documents.specs.Documents.{char_document, formatted_document, empty_list_document, bytes_document, bytes_type}
+use Rattle.schemars_documents.specs.Documents.{byte_document, schema_document, reference, required_names}
 use Rattle.schemars_documents.specs.PlainTable.{AreNoted}
 use Rattle.schemars_meaning.proofs.MapDocument.{map_document}
 use Rattle.schemars_meaning.proofs.Parts.{either}
@@ -40,9 +39,25 @@ use Rattle.schemars_laws.specs.Names.{IsNoObject}
 use Rattle.schemars_laws.specs.Classes.{IsOnce, IsText, IsNoList, AreSchemas, IsSchemaList}
 use Rattle.schemars_laws.proofs.Looked.{get_member-first}
 use Rattle.schemars_laws.proofs.Preserved.{schema-no_list}
-use Rattle.schemars_dialects.proofs.Changes.{IsReferring, watched, IsWatched, place-none, asked-nothing, Class, Are, are-put}
-use Rattle.schemars_dialects.proofs.Changes.{nothing, IsGood, good}
-use Rattle.schemars_dialects.proofs.Changes.{good_truth, good-annotated, good-noted_by}
+use Rattle.schemars_dialects.proofs.Changes.{IsReferring, watched, IsWatched, place-none, asked-nothing, Class, AreGood, are-put}
+use Rattle.schemars_dialects.proofs.Changes.{nothing, IsGood, good, good_truth, good-annotated, good-noted_by}
+
+-- where a key isn't there, it isn't there twice
+pub absent-once : (k : Text) (ms : Members) → get_member k ms ≡ None → IsOnce k ms
+absent-once k no_members none = refl
+absent-once k (member l d ms) none = go (bytes_eq k l) refl (absent-once k ms)
+  where
+    found : get_member k (member l d ms) ≡ (if bytes_eq k l then Some d else get_member k ms)
+    found = get_member-first k l d ms
+
+    go : (b : Bool) → bytes_eq k l ≡ b → (get_member k ms ≡ None → IsOnce k ms)
+        → get_member k (if b then ms else member l d (without k ms)) ≡ None
+    go true at later =
+        let some : Some d ≡ None = sym (found ∙ ap (λ b. if b then Some d else get_member k ms) at) ∙ none in cc
+    go false at later =
+        let none_later : get_member k ms ≡ None = sym (found ∙ ap (λ b. if b then Some d else get_member k ms) at) ∙ none in
+        get_member-first k l d (without k ms)
+        ∙ (ap (λ b. if b then Some d else get_member k (without k ms)) at ∙ later none_later)
 
 module _ (R : Text → Type 0) where
   -- ---- without parts
@@ -57,7 +72,7 @@ module _ (R : Text → Type 0) where
     inside = (tt, tt);
   })
 
-  are-typed : (name : Text) (ms : Members) → Are R ms → Are R (put (codes "type") (string name) ms)
+  are-typed : (name : Text) (ms : Members) → AreGood R ms → AreGood R (put (codes "type") (string name) ms)
   are-typed name ms is = are-put R (codes "type") (string name) ms refl tt is
 
   pub formatted-good : (format : Text) → IsGood R (formatted_document format)
@@ -67,16 +82,16 @@ module _ (R : Text → Type 0) where
   zero-good : IsGood R zero_schema
   zero-good = good R _ (are-put R (codes "const") _ no_members refl tt (nothing R))
 
-  bounded : (format : Text) (least greatest : Option ℤ) → Are R (put_all (int_keywords format least greatest) no_members)
+  bounded : (format : Text) (least greatest : Option ℤ) → AreGood R (put_all (int_keywords format least greatest) no_members)
   bounded format least greatest = go least greatest
     where
       ms : Members
       ms = put (codes "format") (string format) (put (codes "type") (string (codes "integer")) no_members)
 
-      start : Are R ms
+      start : AreGood R ms
       start = are-put R (codes "format") (string format) _ refl tt (are-typed (codes "integer") no_members (nothing R))
 
-      go : (least greatest : Option ℤ) → Are R (put_all (int_keywords format least greatest) no_members)
+      go : (least greatest : Option ℤ) → AreGood R (put_all (int_keywords format least greatest) no_members)
       go None None = start
       go None (Some g) = are-put R (codes "maximum") _ ms refl tt start
       go (Some l) None = are-put R (codes "minimum") _ ms refl tt start
@@ -85,8 +100,8 @@ module _ (R : Text → Type 0) where
   bounded-good : (format : Text) (least greatest : Option ℤ) → IsGood R (object_of (int_keywords format least greatest))
   bounded-good format least greatest = good R _ (bounded format least greatest)
 
-  with_zero : (es : List Keyword) (ms : Members) → Are R (put_all es ms)
-      → Are R (put_all (es ++ (codes "not", zero_schema) ∷ []) ms)
+  with_zero : (es : List Keyword) (ms : Members) → AreGood R (put_all es ms)
+      → AreGood R (put_all (es ++ (codes "not", zero_schema) ∷ []) ms)
   with_zero [] ms is = are-put R (codes "not") zero_schema ms refl zero-good.everywhere is
   with_zero (e ∷ es) ms is = with_zero es (put e.0 e.1 ms) is
 
@@ -122,7 +137,7 @@ module _ (R : Text → Type 0) where
   no_list (array ds) is = absurd is
 
   -- its items, with a type
-  are-items : (type t : Data) → IsGood R t → Are R (put (codes "items") t (put (codes "type") type no_members))
+  are-items : (type t : Data) → IsGood R t → AreGood R (put (codes "items") t (put (codes "type") type no_members))
   unfolding asked
   are-items type t is = record {
     own = (tt, tt, ((refl, refl), (refl, tt, tt), (refl, tt, no_list t is.schema, refl)));
@@ -160,7 +175,7 @@ module _ (R : Text → Type 0) where
   schemas-from (t ∷ ts) is = (is.0.schema, schemas-from ts is.1)
 
   are-listed : (t : Data) (ts : List Data) → AllGood (t ∷ ts)
-      → Are R (put (codes "prefixItems") (array (items_from (t ∷ ts))) (put (codes "type") (string (codes "array")) no_members))
+      → AreGood R (put (codes "prefixItems") (array (items_from (t ∷ ts))) (put (codes "type") (string (codes "array")) no_members))
   unfolding asked
   are-listed t ts is = record {
     own = (tt, tt, ((refl, refl), (refl, tt, tt), (refl, schemas-from (t ∷ ts) is, tt, refl)));
@@ -174,7 +189,7 @@ module _ (R : Text → Type 0) where
 
   -- ---- choices
 
-  pub asked-items : (ts : List Data) → AllGood ts → asked_of_items (Class R) (items_of ts)
+  asked-items : (ts : List Data) → AllGood ts → asked_of_items (Class R) (items_of ts)
   unfolding asked
   asked-items [] is = tt
   asked-items (t ∷ ts) is = (is.0.everywhere, asked-items ts is.1)
@@ -225,11 +240,11 @@ module _ (R : Text → Type 0) where
   unfolding asked
   map-good es ks closed is = go es ks closed is
     where
-      start : Are R (put (codes "type") (string (codes "object")) no_members)
+      start : AreGood R (put (codes "type") (string (codes "object")) no_members)
       start = are-typed (codes "object") no_members (nothing R)
 
       with : (e : Keyword) (es : List Keyword) → AllNamed (e ∷ es)
-          → Are R (put (codes "properties") (object_of (e ∷ es)) (put (codes "type") (string (codes "object")) no_members))
+          → AreGood R (put (codes "properties") (object_of (e ∷ es)) (put (codes "type") (string (codes "object")) no_members))
       with e es is = are-put R (codes "properties") (object_of (e ∷ es)) _ refl (asked-new (e ∷ es) is) start
 
       go : (es : List Keyword) (ks : List Text) (closed : Bool) → AllNamed es → IsGood R (map_document es ks closed)
@@ -282,22 +297,6 @@ module _ (R : Text → Type 0) where
 
   -- ---- literals
 
-  pub absent-once : (k : Text) (ms : Members) → get_member k ms ≡ None → IsOnce k ms
-  absent-once k no_members none = refl
-  absent-once k (member l d ms) none = go (bytes_eq k l) refl (absent-once k ms)
-    where
-      found : get_member k (member l d ms) ≡ (if bytes_eq k l then Some d else get_member k ms)
-      found = get_member-first k l d ms
-
-      go : (b : Bool) → bytes_eq k l ≡ b → (get_member k ms ≡ None → IsOnce k ms)
-          → get_member k (if b then ms else member l d (without k ms)) ≡ None
-      go true at later =
-          let some : Some d ≡ None = sym (found ∙ ap (λ b. if b then Some d else get_member k ms) at) ∙ none in cc
-      go false at later =
-          let none_later : get_member k ms ≡ None = sym (found ∙ ap (λ b. if b then Some d else get_member k ms) at) ∙ none in
-          get_member-first k l d (without k ms)
-          ∙ (ap (λ b. if b then Some d else get_member k (without k ms)) at ∙ later none_later)
-
   -- where none of the keywords stands that the class looks at
   class-absent : (ms : Members) → ((k : Text) → IsWatched k → get_member k ms ≡ None) → Class R ms
   class-absent ms none = (
@@ -306,8 +305,7 @@ module _ (R : Text → Type 0) where
     (
       (
         absent-once (codes "unevaluatedProperties") ms (none (codes "unevaluatedProperties") refl),
-        none
-            (codes "unevaluatedProperties") refl,
+        none (codes "unevaluatedProperties") refl,
       ),
       (
         absent-once (codes "$ref") ms (none (codes "$ref") refl),

@@ -16,15 +16,12 @@ use Rattle.schemars_documents.specs.PlainTable.{AreNoted, IsTagged, AreTagged, A
 use Rattle.schemars_documents.specs.Documents.{Keyword, required_names}
 use Rattle.schemars_templates.specs.Basis.{Basis}
 use Rattle.schemars_templates.specs.Template.{Ask, part, members_of, content, Template, noted, tagged, row, asks_of, asks_in}
-use Rattle.schemars_templates.specs.Template.{filled, filled_in, keyed}
-use Rattle.schemars_templates.specs.Template.{left, Templates}
+use Rattle.schemars_templates.specs.Template.{filled, filled_in, keyed, left, Templates}
 use Rattle.schemars_templates.specs.OfShape.{templates_of, one_of, any_of, payload_template, named_template, member_template}
-use Rattle.schemars_templates.specs.OfShape.{bare_units}
-use Rattle.schemars_templates.specs.OfShape.{other_items, units_template, choice_of, external_template, title_alone, titled}
-use Rattle.schemars_templates.specs.OfShape.{payload_item}
-use Rattle.schemars_templates.specs.OfShape.{untagged_template, content_template, internal_item, internal_template}
-use Rattle.schemars_templates.specs.OfShape.{KeywordTemplate, typed, object_with, values_of, all_patterns, pattern_properties_at}
-use Rattle.schemars_templates.specs.OfShape.{properties_at, other_values, values_template}
+use Rattle.schemars_templates.specs.OfShape.{bare_units, other_items, units_template, choice_of, external_template, title_alone}
+use Rattle.schemars_templates.specs.OfShape.{titled, payload_item, untagged_template, content_template, internal_item}
+use Rattle.schemars_templates.specs.OfShape.{internal_template, KeywordTemplate, typed, object_with, values_of, all_patterns}
+use Rattle.schemars_templates.specs.OfShape.{pattern_properties_at, properties_at, other_values, values_template}
 use Rattle.schemars_meaning.proofs.Parts.{first_all, left_all}
 use Rattle.schemars_meaning.proofs.Spread.{AnswersFields, field_keywords}
 use Rattle.schemars_meaning.proofs.Filling.{Fit, without_end, parted}
@@ -35,11 +32,10 @@ use Rattle.schemars_meaning.proofs.Enums.{title_noted}
 use Rattle.schemars_meaning.proofs.MapDocument.{noted_by}
 use Rattle.schemars_meaning.proofs.References.{IsNotedPayload, AreNotedVariants}
 use Rattle.schemars_laws.specs.Everywhere.{asked, asked_of_members}
-use Rattle.schemars_dialects.proofs.Changes.{Class, Are, are-put, nothing, IsGood, good, good_truth, good-annotated}
+use Rattle.schemars_dialects.proofs.Changes.{Class, AreGood, are-put, nothing, IsGood, good, good_truth, good-annotated}
 use Rattle.schemars_dialects.proofs.Changes.{good-noted_by}
 use Rattle.schemars_dialects.proofs.Documents.{AllGood, type-good, tuple-good, parts-good, fields-good, tagged-good, unit-good}
-use Rattle.schemars_dialects.proofs.Documents.{units-good}
-use Rattle.schemars_dialects.proofs.Documents.{one_of-good, any_of-good, member-good, AllNamed, asked-all}
+use Rattle.schemars_dialects.proofs.Documents.{units-good, one_of-good, any_of-good, member-good, AllNamed, asked-all}
 
 noted-append : (xs ys : List Field) → AreNoted xs → AreNoted ys → AreNoted (xs ++ ys)
 noted-append [] ys a b = b
@@ -234,7 +230,7 @@ module _ (R : Text → Type 0) where
   unfolding asked
   keyed-good other value texts qs us is all = go texts qs
     where
-      start : Are R (put (codes "additionalProperties") (filled other us)
+      start : AreGood R (put (codes "additionalProperties") (filled other us)
           (put (codes "type") (string (codes "object")) no_members))
       start =
           are-put R (codes "additionalProperties") (filled other us)

@@ -95,7 +95,7 @@ module _ (R : Text → Type 0) where
       gone : (ns : Members) → IsOnce (codes "$ref") ns → IsListed ns → WithItems (without (codes "$ref") ns)
       gone ns once items = (
         subst (IsReferring R) (sym once) tt,
-        absent-once R (codes "$ref") (without (codes "$ref") ns) once,
+        absent-once (codes "$ref") (without (codes "$ref") ns) once,
         listed-alike (without (codes "$ref") ns) ns (alike-without (codes "prefixItems") (codes "$ref") ns refl).first items,
       )
 
@@ -104,7 +104,7 @@ module _ (R : Text → Type 0) where
           let none : get_member (codes "$ref") (moved_members r ns) ≡ None =
           get-moved r ns (codes "$ref") (differ (codes "$ref") (codes "allOf") refl) ∙ once in (
             subst (IsReferring R) (sym none) tt,
-            absent-once R (codes "$ref") (moved_members r ns) none,
+            absent-once (codes "$ref") (moved_members r ns) none,
             listed-alike (moved_members r ns) ns (
                 get-moved r ns (codes "prefixItems") (differ (codes "prefixItems") (codes "allOf") refl)
                 ∙ without-other (codes "$ref") (codes "prefixItems") ns (differ (codes "prefixItems") (codes "$ref") refl)

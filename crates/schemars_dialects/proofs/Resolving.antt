@@ -9,9 +9,8 @@ use Rattle.serde_json.specs.Find.{get_member}
 use Rattle.schemars_json.specs.Json.{Text}
 use Rattle.schemars_schema.specs.Edits.{without}
 use Rattle.schemars_schema.specs.References.{Place, NoSchemas, OneSchema, SchemaList, SchemaOrList, SchemasByName, place_under}
-use Rattle.schemars_schema.specs.References.{at_place}
-use Rattle.schemars_schema.specs.References.{found_in, found_in_items, found_in_members, found_in_keywords, references, resolves}
-use Rattle.schemars_schema.specs.References.{all_resolve}
+use Rattle.schemars_schema.specs.References.{at_place, found_in, found_in_items, found_in_members, found_in_keywords, references}
+use Rattle.schemars_schema.specs.References.{resolves, all_resolve}
 use Rattle.schemars_laws.specs.Everywhere.{asked, asked_at, asked_of_items, asked_of_members, asked_of_keywords}
 use Rattle.schemars_laws.proofs.Looked.{get_member-first}
 use Rattle.schemars_dialects.proofs.Changes.{IsReferring}

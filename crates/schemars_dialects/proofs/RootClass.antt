@@ -32,7 +32,7 @@ use Rattle.schemars_laws.specs.Everywhere.{Everywhere, asked, asked_at, asked_of
 use Rattle.schemars_laws.specs.Names.{IsName, Named, IsMap}
 use Rattle.schemars_laws.specs.Classes.{IsDraft07}
 use Rattle.schemars_laws.proofs.References.{defs-name, definitions-name}
-use Rattle.schemars_dialects.proofs.Changes.{IsUnwatched, Class, Are, are-put, IsGood, good, good-members, watched}
+use Rattle.schemars_dialects.proofs.Changes.{IsUnwatched, Class, AreGood, are-put, IsGood, good, good-members, watched}
 use Rattle.schemars_dialects.proofs.Classes.{described-good, good-named}
 
 -- ---- where definitions stand
@@ -92,18 +92,18 @@ module _ (plan : Plan) (w : Work) (key : Text) (at : StandsAt plan.path key) (de
 -- ---- root documents
 
 module _ (R : Text → Type 0) where
-  are-titled : (name : Text) (ms : Members) → Are R ms → Are R (with_title name ms)
+  are-titled : (name : Text) (ms : Members) → AreGood R ms → AreGood R (with_title name ms)
   are-titled name ms is = go (is_some (get_member (codes "title") ms))
     where
-      go : (b : Bool) → Are R (if b then ms else put (codes "title") (string name) ms)
+      go : (b : Bool) → AreGood R (if b then ms else put (codes "title") (string name) ms)
       go true = is
       go false = are-put R (codes "title") (string name) ms refl tt is
 
-  are-with_meta_schema : (uri : Option Text) (ms : Members) → Are R ms → Are R (with_meta_schema uri ms)
+  are-with_meta_schema : (uri : Option Text) (ms : Members) → AreGood R ms → AreGood R (with_meta_schema uri ms)
   are-with_meta_schema None ms is = is
   are-with_meta_schema (Some uri) ms is = are-put R (codes "$schema") (string uri) ms refl tt is
 
-  pub root-are : (name : Text) (uri : Option Text) (s : Data) → IsGood R s → Are R (members_in (root_document name uri s))
+  root-are : (name : Text) (uri : Option Text) (s : Data) → IsGood R s → AreGood R (members_in (root_document name uri s))
   root-are name uri s is =
       are-with_meta_schema uri (with_title name (members_in s)) (are-titled name (members_in s) (good-members R s is))
 
@@ -114,8 +114,7 @@ module _ (R : Text → Type 0) where
 
   -- the members of the class with the definitions at their key
   with-definitions : (path key : Text) → StandsAt path key → (definitions ms : Members) → AllMembers (IsGood R) definitions
-      → Are R ms
-      → Are R (put key (object definitions) ms)
+      → AreGood R ms → AreGood R (put key (object definitions) ms)
   unfolding asked
   with-definitions path key at definitions ms all is =
       are-put R key (object definitions) ms (stands-unwatched path key at)
@@ -131,7 +130,7 @@ pub record IsReady (R : Text → Type 0) (key : Text) (definitions : Members) (d
   pub stands : entries (get_member key inside) ≡ definitions
 
 placed-ready : (R : Text → Type 0) (path key : Text) (definitions ms : Members) (document : Data) → StandsAt path key
-    → AllMembers (IsGood R) definitions → Are R ms → get_member key ms ≡ None → IsPlaced path definitions (object ms) document
+    → AllMembers (IsGood R) definitions → AreGood R ms → get_member key ms ≡ None → IsPlaced path definitions (object ms) document
     → IsReady R key definitions document
 placed-ready R path key definitions ms document at all is none (inl placed) =
     subst (IsReady R key definitions) (sym placed.1) (record {
@@ -189,8 +188,7 @@ root-ready plan w n name uri depth own document key at plain once definitions h 
 
 -- what a root call makes, in a plain table, where its definitions stand at a draft's path
 pub root_call-ready : (old : State) (n : ℕ) (w : Work) (document : Data) (key : Text) → IsRootOf old n w document
-    → IsPlainTable old.rows
-    → HasKeysOnce w.definitions → AllStand (plan_of old (Some n)) w → StandsAt (path_of old) key
+    → IsPlainTable old.rows → HasKeysOnce w.definitions → AllStand (plan_of old (Some n)) w → StandsAt (path_of old) key
     → (R : Text → Type 0) → ((j : ℕ) (r : Text) → MayRefer (plan_of old (Some n)) w j r → R r)
     → IsReady R key w.definitions document
 root_call-ready old n w document key h plain once definitions at R refer =
@@ -199,11 +197,12 @@ root_call-ready old n w document key h plain once definitions at R refer =
     let described = describes-wider (basis_of plan) (Refers plan true w) (MayRefer plan w) (refers_may plan w true)
     depth depth (omega arith) n h.own
     (document_describes (basis_of plan) plan.inlines (Refers plan true w) [] n h.own h.is_document) in
-    root-ready plan w n (name_at old.rows n) old.settings.meta_schema depth h.own document key at plain once definitions described h.is_root R refer
+    root-ready plan w n (name_at old.rows n) old.settings.meta_schema depth h.own document key at plain once definitions described
+    h.is_root R refer
 
+-- so it is of the class that the laws ask for, and its definitions are a map
 pub root_call-class : (old : State) (n : ℕ) (w : Work) (document : Data) (key : Text) → IsRootOf old n w document
-    → IsPlainTable old.rows
-    → HasKeysOnce w.definitions → AllStand (plan_of old (Some n)) w → StandsAt (path_of old) key
+    → IsPlainTable old.rows → HasKeysOnce w.definitions → AllStand (plan_of old (Some n)) w → StandsAt (path_of old) key
     → Everywhere (Named key IsDraft07) document × ((ms : Members) × (document ≡ object ms) × IsMap (get_member key ms))
 root_call-class old n w document key h plain once definitions at =
     let ready = root_call-ready old n w document key h plain once definitions at (IsName key)
