@@ -170,6 +170,8 @@ def draw_kind(draw, deep=3):
     return {key: [{draw.pick(KEYS): part} for part in parts]}
 
 
+CALLS = [f"{call} {dialect}" for dialect in DIALECTS for call in ("into_root_schema_for_value", "root_schema_for_value")]
+
 # The words of each call: how to draw the example that it is made on, and the line that it gives.
-KIND_CALLS = {f"into_root_schema_for_value {dialect}":
-              (draw_kind, lambda sample, dialect=dialect: kind_answer(dialect, sample)) for dialect in DIALECTS}
+KIND_CALLS = {words: (draw_kind, lambda sample, words=words: kind_answer(words.split()[1], sample))
+              for words in CALLS + ["schema_for_value 2020-12"]}

@@ -77,7 +77,9 @@ fn answer_about(
             builders::answer_about_text(alloc, call, text)
         }
         "fault" => fault(alloc, value),
-        "into_root_schema_for_value" => samples::answer(alloc, argument, value),
+        "into_root_schema_for_value" | "root_schema_for_value" | "schema_for_value" => {
+            samples::answer(alloc, call, argument, value)
+        }
         _ => schemas::answer(alloc, call, argument, value),
     }
 }

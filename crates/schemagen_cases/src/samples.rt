@@ -4,20 +4,34 @@
 //! has one; its value is the content, and null where there is none. Entries are a list of objects.
 use crate::calls::NoAnswer;
 use schemars::sample::Sample;
-use schemars::{GenerateError, SchemaGenerator, SchemaSettings};
+use schemars::{GenerateError, Schema, SchemaGenerator, SchemaSettings, schema_for_value};
 use serde_json::{Map, Value};
 use std::alloc::Global;
 
-/// The root document of the example that a value describes, in this dialect.
-pub fn answer(alloc: Global, dialect: &str, value: &Value) -> Result<String, NoAnswer> {
+/// The root document of the example that a value describes: by a generator for this dialect that is kept or used up,
+/// or by the macro.
+pub fn answer(alloc: Global, call: &str, dialect: &str, value: &Value) -> Result<String, NoAnswer> {
     let sample = sample_in(alloc, value)?;
     let settings = settings_of(alloc, dialect)?;
-    let generator = SchemaGenerator::new(alloc, settings);
-    match generator.into_root_schema_for_value(alloc, &sample) {
+    let made = match call {
+        "schema_for_value" => schema_for_value!(in alloc; sample),
+        "root_schema_for_value" => root_of(alloc, settings, &sample),
+        _ => SchemaGenerator::new(alloc, settings).into_root_schema_for_value(alloc, &sample),
+    };
+    match made {
         Ok(schema) => Ok(schema.to_ordered_string(alloc)?),
         Err(GenerateError::OutOfMemory) => Err(NoAnswer::OutOfMemory),
         Err(_) => Err(NoAnswer::BadInput),
     }
+}
+
+fn root_of(
+    alloc: Global,
+    settings: SchemaSettings,
+    sample: &Sample,
+) -> Result<Schema, GenerateError> {
+    let mut generator = SchemaGenerator::new(alloc, settings);
+    generator.root_schema_for_value(alloc, sample)
 }
 
 fn settings_of(alloc: Global, dialect: &str) -> Result<SchemaSettings, NoAnswer> {
@@ -84,24 +98,25 @@ fn samples_in(alloc: Global, items: &[Value]) -> Result<Vec<Sample>, NoAnswer> {
 fn entries_in(alloc: Global, items: &[Value]) -> Result<Vec<(String, Sample)>, NoAnswer> {
     let mut entries = Vec::new(alloc);
     for item in items {
-        match item {
-            Value::Object(members) => add_entries(alloc, &mut entries, members)?,
-            _ => return Err(NoAnswer::BadInput),
-        }
+        let Value::Object(members) = item else {
+            return Err(NoAnswer::BadInput);
+        };
+        let mut more = members_in(alloc, members)?;
+        entries.append(&mut more)?;
     }
     Ok(entries)
 }
 
 #[cycle(sample)]
-fn add_entries(
+fn members_in(
     alloc: Global,
-    entries: &mut Vec<(String, Sample)>,
     members: &Map<String, Value>,
-) -> Result<(), NoAnswer> {
+) -> Result<Vec<(String, Sample)>, NoAnswer> {
+    let mut entries = Vec::new(alloc);
     for (key, value) in members.iter() {
         entries.push((key.clone()?, sample_in(alloc, value)?))?;
     }
-    Ok(())
+    Ok(entries)
 }
 
 fn with_part(alloc: Global, kind: &str, name: &str, part: Box<Sample>) -> Result<Sample, NoAnswer> {

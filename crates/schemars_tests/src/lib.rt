@@ -20,7 +20,6 @@ mod names;
 #[cfg(test)]
 mod registered;
 #[cfg(test)]
-mod samples;
 #[cfg(test)]
 mod schema;
 #[cfg(test)]

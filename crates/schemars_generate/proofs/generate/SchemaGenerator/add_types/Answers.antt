@@ -10,3 +10,6 @@ pub returns-clause-keys : goal.returns-clause-keys
 returns-clause-keys g c =
     λ own plain.
     references_name_keys (state_with (settings_of c.args.self.now.settings) c.add_types.new.self) (returns-clause-own g c own) plain
+
+pub returns-clause-only_memory : goal.returns-clause-only_memory
+returns-clause-only_memory g c = c.add_types.ensures.only_memory
