@@ -33,13 +33,15 @@ pub record MeansItsTypeUnder (dialect : Dialect) (rows : List Row) (contract : C
   pub accepts_its_values : AcceptsItsValuesUnder dialect rows contract path n document
   pub references_resolve : ReferencesResolve document
 
--- what is made for the drafts of a root document of row n, where tables are plain and definitions the generator's own
+-- the headline of a generator whose definitions are its own, and stand at this path
+abbrev pub RootHeadlineUnder : Dialect → Text → State → ℕ → Data → Type 0
+RootHeadlineUnder dialect path s n document =
+    HasOwnDefinitions s → path_of s ≡ path → IsPlainTable s.rows
+    → MeansItsTypeUnder dialect s.rows (contract_of s.settings.contract) (path_of s) n document
+
+-- what is made for the drafts of a root document of row n
 abbrev pub Draft07Headline : State → ℕ → Data → Type 0
-Draft07Headline s n document =
-    HasOwnDefinitions s → path_of s ≡ codes "/definitions" → IsPlainTable s.rows
-    → MeansItsTypeUnder draft07 s.rows (contract_of s.settings.contract) (path_of s) n (for_draft07 document)
+Draft07Headline s n document = RootHeadlineUnder draft07 (codes "/definitions") s n (for_draft07 document)
 
 abbrev pub Draft2019_09Headline : State → ℕ → Data → Type 0
-Draft2019_09Headline s n document =
-    HasOwnDefinitions s → path_of s ≡ codes "/$defs" → IsPlainTable s.rows
-    → MeansItsTypeUnder draft2019_09 s.rows (contract_of s.settings.contract) (path_of s) n (for_draft2019_09 document)
+Draft2019_09Headline s n document = RootHeadlineUnder draft2019_09 (codes "/$defs") s n (for_draft2019_09 document)

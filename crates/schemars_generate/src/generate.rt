@@ -1,9 +1,10 @@
 //! From a table of types to documents.
 ghost use Rattle.std.specs.Prelude.{[], ◌≡◌, ◌<◌, ◌≤◌, ◌⊎◌, ◌↔◌, true, false, length};
-ghost use Rattle.std.specs.Prelude.{Err, IsOk, IsTrue, IfOk, IfErr, OnOk, OnErr};
+ghost use Rattle.std.specs.Prelude.{Err, IsOk, IsTrue, IfOk, IfErr, OnOk, OnErr, codes};
 ghost use Rattle.serde_json.specs.Data.{no_members};
 ghost use Rattle.serde_json.specs.View.{members_view};
 ghost use Rattle.serde_json.specs.Written.{has_float};
+ghost use Rattle.schemars_schema.specs.Acceptance.{draft07, draft2019_09};
 ghost use Rattle.schemars_schema.specs.References.{references};
 ghost use Rattle.schemars_types.specs.Extends.{begins_with};
 ghost use Rattle.schemars_types.specs.Faults.{IsAccepted, IsChecked};
@@ -12,6 +13,7 @@ ghost use Rattle.schemars_headline.specs.Calls.{IsPartOf, IsReferenceOf, Adds, I
 ghost use Rattle.schemars_headline.specs.State.{path_of, settings2020_12, HasOwnDefinitions, ReferencesNameKeys};
 ghost use Rattle.schemars_naming.specs.Naming.{IsOneToOne};
 ghost use Rattle.schemars_documents.specs.PlainTable.{IsPlainTable, HasPlainNotes};
+ghost use Rattle.schemars_dialects.specs.Dialects.{RootHeadlineUnder};
 ghost use Rattle.schemars_error.specs.Refusals.{HasFault};
 ghost use Rattle.schemars_roots.specs.Through.{IsThrough, AreThrough, AreTurnedDown, IsRootRefused};
 ghost use Rattle.schemars_roots.specs.Through.{IsUntransformed, IsUntransformedCall, IsRefused};
@@ -19,6 +21,7 @@ ghost use Rattle.schemars_transforms.specs.Member.{some_own};
 ghost use Rattle.std.specs.Borrow.{sem};
 ghost use Rattle.schemars_generate.specs.Lends.{LendsDefinitions};
 ghost use Rattle.schemars_generate.specs.Settings.{settings_of, state, ApplyInOrder, AreSettingsCopied};
+ghost use Rattle.schemars_generate.specs.Settings.{transforms07, transforms2019_09};
 
 pub use crate::settings::SchemaSettings;
 pub use schemars_documents::Contract;
@@ -245,7 +248,8 @@ impl<O: Transform + Drop> SchemaGenerator<O> {
     }
 
     /// The root document of row `n`, through the transforms. Before them it accepts exactly the JSON values
-    /// that belong to the row.
+    /// that belong to the row; so it does after those of Draft 7 and of 2019-09, under that draft, with the
+    /// definitions at its path.
     ///
     /// Refusals: `UnknownType(n)` where the table has no row `n`, `DefinitionsPath` where there are
     /// definitions that can't be placed at the path, those of the transforms, and want of memory.
@@ -255,6 +259,10 @@ impl<O: Transform + Drop> SchemaGenerator<O> {
         n: TypeNo,
     ) -> Result<Schema, GenerateError>
         ensures headline { self.old.settings.transforms.items ≡ [] → IfOk result (RootHeadline (state self.old) n) }
+        ensures draft07 { self.old.settings.transforms.items ≡ transforms07
+            → IfOk result (RootHeadlineUnder draft07 (codes "/definitions") (state self.old) n) }
+        ensures draft2019_09 { self.old.settings.transforms.items ≡ transforms2019_09
+            → IfOk result (RootHeadlineUnder draft2019_09 (codes "/$defs") (state self.old) n) }
         ensures untransformed { self.old.settings.transforms.items ≡ []
             → IfOk result (IsUntransformedCall (state self.old) n (state self.new)) }
         ensures root { IfOk result (IsThrough (ApplyInOrder O.makes) self.old.settings.transforms
@@ -288,6 +296,10 @@ impl<O: Transform + Drop> SchemaGenerator<O> {
         n: TypeNo,
     ) -> Result<Schema, GenerateError>
         ensures headline { self.settings.transforms.items ≡ [] → IfOk result (RootHeadline (state self) n) }
+        ensures draft07 { self.settings.transforms.items ≡ transforms07
+            → IfOk result (RootHeadlineUnder draft07 (codes "/definitions") (state self) n) }
+        ensures draft2019_09 { self.settings.transforms.items ≡ transforms2019_09
+            → IfOk result (RootHeadlineUnder draft2019_09 (codes "/$defs") (state self) n) }
         ensures untransformed { self.settings.transforms.items ≡ [] → IfOk result (IsUntransformed (state self) n) }
         ensures root { IfOk result (λ d. (after : _) × IsThrough (ApplyInOrder O.makes) self.settings.transforms after
             (IsUntransformed (state self) n) d) }

@@ -11,6 +11,7 @@ use Rattle.schemars_headline.specs.Keys.{HasKeysOnce}
 use Rattle.schemars_headline.specs.State.{State, path_of}
 use Rattle.schemars_headline.proofs.Calls.{root_means, root_is_whole, always_placed}
 use Rattle.schemars_headline.proofs.Inlined.{root_inlined}
+use Rattle.schemars_dialects.proofs.DialectRoots.{draft07_means, draft2019_09_means}
 use Rattle.schemars_walk.specs.Walk.{Step}
 use Rattle.schemars_roots.specs.Through.{IsUntransformed, IsRefused, IsRefusedThrough, IsTurnedDown}
 use Rattle.schemars_error.specs.declared.error.GenerateError.{GenerateError}
@@ -21,6 +22,8 @@ pub untransformed : (s : State) (n : ℕ) (w : Work) (d : Data) → IsChecked s.
 untransformed s n w d checked root once one = record {
   last = (w, root);
   headline = λ own path. root_means s n w d checked root once one own path;
+  draft07 = draft07_means s n w d checked root once one;
+  draft2019_09 = draft2019_09_means s n w d checked root once one;
   inlined = root_inlined s n w d root;
   whole = λ none own. root_is_whole s n w d root once none own;
 }

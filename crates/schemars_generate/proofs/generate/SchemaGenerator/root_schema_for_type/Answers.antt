@@ -1,5 +1,7 @@
-use Rattle.std.proofs.Common.{◌≡◌, ◌<◌, ◌⊎◌, length, Vec, Global, IfOk, IfErr, subst}
+use Rattle.std.proofs.Common.{◌≡◌, ◌<◌, ◌⊎◌, length, codes, Vec, Global, IfOk, IfErr, subst}
+use Rattle.schemars_schema.specs.Acceptance.{draft07, draft2019_09}
 use Rattle.schemars_documents.specs.PlainTable.{HasPlainNotes}
+use Rattle.schemars_dialects.specs.Dialects.{RootHeadlineUnder}
 use Rattle.schemars_headline.specs.Calls.{IsLastRootCall}
 use Rattle.schemars_headline.specs.Headline.{IsDraftPath}
 use Rattle.schemars_headline.specs.State.{Settings, path_of, HasOwnDefinitions}
@@ -10,6 +12,7 @@ use Rattle.schemars_roots.specs.Through.{IsThrough, IsTurnedDown, IsRootRefused,
 use Rattle.schemars_error.specs.declared.error.GenerateError.TheVariants.{OutOfMemory}
 use Rattle.std.proofs.lemmas.Result.{IfOk-weaker, IfErr-weaker}
 use Rattle.schemars_generate.specs.Settings.{settings_of, ApplyInOrder}
+use Rattle.schemars_generate.proofs.Drafts.{through-07, through-2019_09}
 use Rattle.schemars_generate.proofs.Untouched.{untouched, not_turned_down, refused_untouched}
 use Rattle.schemars_generate.proofs.generate.SchemaGenerator.root_schema_for_type.Goals as goal
 
@@ -71,6 +74,28 @@ pub returns-clause-headline : goal.returns-clause-headline
 returns-clause-headline g c =
     let r = c.root_schema-answer.result in
     λ none. IfOk-weaker r _ _ (λ d h. h.0.headline) (returns-clause-untransformed g c none)
+
+pub returns-clause-draft07 : goal.returns-clause-draft07
+returns-clause-draft07 g c =
+    let r = c.root_schema-answer.result in
+    let u = c.root_schema-answer.new.transforms in
+    let Q = g.O.Transform.makes in
+    let before = c.args.self.now.settings in
+    let s = state_with (settings_of before) c.args.self.now.contents in
+    λ is.
+    IfOk-weaker r _ _ (λ d h. through-07 Q before.transforms u _ (RootHeadlineUnder draft07 (codes "/definitions") s c.args.n) d is
+    (λ e i. i.0.draft07) h) (returns-clause-root g c)
+
+pub returns-clause-draft2019_09 : goal.returns-clause-draft2019_09
+returns-clause-draft2019_09 g c =
+    let r = c.root_schema-answer.result in
+    let u = c.root_schema-answer.new.transforms in
+    let Q = g.O.Transform.makes in
+    let before = c.args.self.now.settings in
+    let s = state_with (settings_of before) c.args.self.now.contents in
+    λ is.
+    IfOk-weaker r _ _ (λ d h. through-2019_09 Q before.transforms u _ (RootHeadlineUnder draft2019_09 (codes "/$defs") s c.args.n) d is
+    (λ e i. i.0.draft2019_09) h) (returns-clause-root g c)
 
 pub returns-clause-only_memory : goal.returns-clause-only_memory
 returns-clause-only_memory g c =
