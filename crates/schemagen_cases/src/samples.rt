@@ -207,9 +207,17 @@ fn of_text(alloc: Global, kind: &str, text: &str) -> Result<Sample, NoAnswer> {
 fn bytes_in(alloc: Global, items: &[Value]) -> Result<Vec<u8>, NoAnswer> {
     let mut bytes = Vec::new(alloc);
     for item in items {
-        let number = item.as_u64().ok_or(NoAnswer::BadInput)?;
-        let byte = u8::try_from(number).ok().ok_or(NoAnswer::BadInput)?;
-        bytes.push(byte)?;
+        match byte_in(item) {
+            Some(byte) => bytes.push(byte)?,
+            None => return Err(NoAnswer::BadInput),
+        }
     }
     Ok(bytes)
+}
+
+fn byte_in(item: &Value) -> Option<u8> {
+    match item.as_u64() {
+        Some(number) => u8::try_from(number).ok(),
+        None => None,
+    }
 }

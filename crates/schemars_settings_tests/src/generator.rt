@@ -191,9 +191,17 @@ fn answer(
     }
 }
 
+fn transforms_of_copy(
+    alloc: Global,
+    generator: &SchemaGenerator<Own>,
+) -> Result<usize, GenerateError> {
+    let copy = generator.try_clone(alloc)?;
+    Ok(copy.settings().transforms.len())
+}
+
 fn copied(alloc: Global, generator: &SchemaGenerator<Own>) -> Result<String, AllocError> {
-    match generator.try_clone(alloc) {
-        Ok(copy) => format!(in alloc; "{} transforms", copy.settings().transforms.len()),
+    match transforms_of_copy(alloc, generator) {
+        Ok(transforms) => format!(in alloc; "{transforms} transforms"),
         Err(error) => format!(in alloc; "{} {error}", error.code()),
     }
 }

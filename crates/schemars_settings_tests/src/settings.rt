@@ -2,20 +2,25 @@
 use crate::own::Own;
 use schemars::transform::GenTransform;
 use schemars::{GenerateError, SchemaSettings};
-use std::alloc::Global;
+use std::alloc::{AllocError, Global};
 use std::test::Fail;
+
+fn built_in(alloc: Global, draft: &str) -> Result<SchemaSettings, AllocError> {
+    match draft {
+        "draft-07" => SchemaSettings::draft07(alloc),
+        "2019-09" => SchemaSettings::draft2019_09(alloc),
+        "openapi3" => SchemaSettings::openapi3(alloc),
+        _ => Ok(SchemaSettings::default(alloc)),
+    }
+}
 
 /// The settings of a draft, with room for transforms of one's own.
 pub(crate) fn settings_of(
     alloc: Global,
     draft: &str,
 ) -> Result<SchemaSettings<Own>, GenerateError> {
-    match draft {
-        "draft-07" => SchemaSettings::draft07(alloc)?.for_own(alloc),
-        "2019-09" => SchemaSettings::draft2019_09(alloc)?.for_own(alloc),
-        "openapi3" => SchemaSettings::openapi3(alloc)?.for_own(alloc),
-        _ => SchemaSettings::default(alloc).for_own(alloc),
-    }
+    let settings = built_in(alloc, draft)?;
+    settings.for_own(alloc)
 }
 
 // How many transforms there are, and how many without that of truth values.
