@@ -10,10 +10,11 @@ use Rattle.schemars_schema.specs.Verdict.{verdict}
 use Rattle.schemars_json.specs.Json.{Text, IsJson}
 use Rattle.schemars_schema.specs.SchemaData.{IsSchema}
 use Rattle.schemars_schema.specs.Lookup.{resolved}
-use Rattle.schemars_schema.specs.Acceptance.{Patterns, Judge, draft2020_12, judge, read_data, all_keywords, follow}
+use Rattle.schemars_schema.specs.Acceptance.{Dialect, Patterns, Judge, draft2020_12, judge, read_data, all_keywords, follow}
 use Rattle.schemars_schema.proofs.Verdicts.{both-yes}
-use Rattle.schemars_rewrite.specs.NullLaw.{context2020_12}
-use Rattle.schemars_rewrite.proofs.Nulls.{IsReady, ready-schema}
+use Rattle.schemars_rewrite.specs.AllowNull.{allow_null}
+use Rattle.schemars_rewrite.specs.NullLaw.{context2020_12, IsDraft, AcceptsNullToo}
+use Rattle.schemars_rewrite.proofs.Nulls.{IsReady, ready-schema, ready-law}
 use Rattle.schemars_shapes.specs.Shape.{Field, Shape, Entry, option_of}
 use Rattle.schemars_types.specs.Rows.{Row, entry_at}
 use Rattle.schemars_types.specs.Edges.{option_at}
@@ -161,7 +162,8 @@ module _ (basis : Basis) (Refers : ℕ → Text → Type 0) where
 
 module _ (basis : Basis) (Refers : ℕ → Text → Type 0) (plain : IsPlainTable basis.rows) where
   reference_ready : (r : Text) → IsReady (reference r)
-  reference_ready r = inl (record { combined = refl; offers = λ stays. absurd (true≢false (sym stays)) }, refl)
+  reference_ready r =
+      inl (λ dialect draft. record { combined = refl; offers = λ stays. absurd (true≢false (sym stays)) }, refl)
 
   -- as far as the document goes down
   fields_down : (d : ℕ) → AnswersFields (fields_within basis.rows d) basis.rows basis.contract (Answer basis Refers d)
@@ -202,6 +204,11 @@ module _ (basis : Basis) (Refers : ℕ → Text → Type 0) (plain : IsPlainTabl
 
   pub written_ready : (d n : ℕ) (t : Data) → In basis Refers d n t → IsReady t
   written_ready d n t h = written_by d (described_ready d) n t h
+
+  -- with null added, what is written for a row accepts under each draft what it accepted, and null
+  pub written_or_null : (d n : ℕ) (t : Data) → In basis Refers d n t → (dialect : Dialect) → IsDraft dialect
+      → AcceptsNullToo dialect t (allow_null t)
+  written_or_null d n t h dialect draft = ready-law dialect draft t (written_ready d n t h)
 
   pub described_schema : (d n : ℕ) (t : Data) → Describes basis Refers d n t → IsSchema t
   described_schema d n t h = ready-schema t (described_ready d n t h)

@@ -4,10 +4,9 @@ use Rattle.serde_json.specs.Data.{Data, depth}
 use Rattle.schemars_schema.specs.Verdict.{verdict}
 use Rattle.schemars_json.specs.Json.{Text, IsJson}
 use Rattle.schemars_schema.specs.SchemaData.{IsSchema}
-use Rattle.schemars_schema.specs.Acceptance.{Patterns, Judge, Context, judge}
+use Rattle.schemars_schema.specs.Acceptance.{draft2020_12, Patterns, Judge, Context, judge}
 use Rattle.schemars_rewrite.specs.NullLaw.{context2020_12}
-use Rattle.schemars_rewrite.proofs.NullMembers.{allow_null-says}
-use Rattle.schemars_rewrite.proofs.Nulls.{IsReady, ready-schema, ready_nullable, ready-allow_null}
+use Rattle.schemars_rewrite.proofs.Nulls.{IsReady, ready-schema, ready-law, ready-allow_null}
 use Rattle.schemars_types.specs.KeyOptions.{key_options}
 use Rattle.schemars_meaning.proofs.Ready.{int_ready, non_zero_ready, bytes_ready, map_ready, tuple_ready, one_of_ready, fields_ready}
 use Rattle.schemars_meaning.proofs.Enums.{IsNewtypeIn, external_ready, untagged_ready, external_says, untagged_says}
@@ -164,7 +163,7 @@ module _ (patterns : Patterns) (f : Text → Judge) (basis : Basis) (A : Ask →
   shape_says shape.bytes s p flat is v json agree = rw is (bytes_say patterns f basis M v)
   shape_says shape.schema_itself s p flat is v json agree = rw is (schema_says patterns f basis M v)
   shape_says (shape.option j) s p flat is v json agree =
-      rw is.2 (allow_null-says patterns f is.0 (ready_nullable is.0 (ready j is.0 is.1)) v (M j v)
+      rw is.2 (ready-law draft2020_12 (inl refl) is.0 (ready j is.0 is.1) patterns f v (M j v)
       (agree j is.0 v is.1 json (inr (refl, refl))))
   shape_says (shape.seq j) s p flat is v json agree = rw is.2 (seq_says patterns f basis M j is.0 (schemas j is.0 is.1) v json
       (λ w js less. agree j is.0 w is.1 js (inl less)))

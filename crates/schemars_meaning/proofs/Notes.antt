@@ -108,7 +108,7 @@ ready-agree : (ms ns : Members) → HasNote ms → ((l : Text) → is_annotation
     → get_member (codes "const") (without (codes "const") ms) ≡ get_member (codes "const") (without (codes "const") ns)
     → IsReady (object ns) → IsReady (object ms)
 ready-agree ms ns noted e once (inl p) = inl (
-  record {
+  λ dialect draft. record {
     combined = rw (
       e (codes "if") refl,
       e (codes "allOf") refl,
@@ -116,7 +116,7 @@ ready-agree ms ns noted e once (inl p) = inl (
       e (codes "oneOf") refl,
       e (codes "$ref") refl,
       e (codes "not") refl,
-    ) p.0.combined;
+    ) (p.0 dialect draft).combined;
     offers = λ stays. absurd (noted-not_choice ms noted stays);
   },
   e (codes "type") refl ∙ p.1,
@@ -138,7 +138,8 @@ ready-agree ms ns noted e once (inr p) = inr (record {
 ready-members_in : (s : Data) → IsReady s → IsReady (object (members_in s))
 ready-members_in (boolean true) r =
     inr (record { alone = refl; type_form = tt; values = inl refl; not_form = inl refl })
-ready-members_in (boolean false) r = inl (record { combined = refl; offers = λ stays. absurd (true≢false (sym stays)) }, refl)
+ready-members_in (boolean false) r =
+    inl (λ dialect draft. record { combined = refl; offers = λ stays. absurd (true≢false (sym stays)) }, refl)
 ready-members_in (object ms) r = r
 ready-members_in null r = absurd r
 ready-members_in (number n) r = absurd r

@@ -68,11 +68,12 @@ tuple_ready [] = inr (record { alone = refl; type_form = refl; values = inl refl
 tuple_ready (t ∷ ts) = inr (record { alone = refl; type_form = refl; values = inl refl; not_form = inl refl })
 
 pub one_of_ready : (ts : List Data) (s : Data) → s ≡ one_of_document ts → IsReady s
-one_of_ready ts s is = rw is (inl (record { combined = refl; offers = λ stays. absurd (true≢false (sym stays)) }, refl))
+one_of_ready ts s is =
+    rw is (inl (λ dialect draft. record { combined = refl; offers = λ stays. absurd (true≢false (sym stays)) }, refl))
 
 pub any_of_ready : (ts : List Data) → AreReady ts → IsReady (any_of_document ts)
 any_of_ready ts r = inl (
-  record { combined = refl; offers = λ stays. some_accepts_null ts r stays },
+  λ dialect draft. record { combined = refl; offers = λ stays. some_accepts_null dialect draft ts r stays },
   refl,
 )
 

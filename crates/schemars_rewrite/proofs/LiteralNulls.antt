@@ -9,15 +9,15 @@ use Rattle.serde_json.specs.Find.{get_member, as_str}
 use Rattle.schemars_json.specs.Json.{Text}
 use Rattle.schemars_json.specs.OrderedText.{is_listed}
 use Rattle.schemars_schema.specs.Verdict.{verdict}
-use Rattle.schemars_schema.specs.Acceptance.{Patterns, draft2020_12, accepts, follow, is_null, types_in, texts_in}
+use Rattle.schemars_schema.specs.Acceptance.{Dialect, Patterns, accepts, context, follow, is_null, types_in, texts_in}
 use Rattle.schemars_schema.specs.Acceptance.{are_type_names, type_names, when}
 use Rattle.schemars_schema.specs.Edits.{without}
 use Rattle.schemars_schema.specs.Literal.{ArePlainMembers, IsPlainLiteral, has_literal}
-use Rattle.schemars_schema.proofs.Literals.{plain_at, plain_absent, literal_judges}
+use Rattle.schemars_schema.proofs.Literals.{plain_at, plain_absent, literal_judged}
 use Rattle.schemars_rewrite.specs.AllowNull.{allow_null}
-use Rattle.schemars_rewrite.specs.NullLaw.{text_items, HasTypeForm, HasPlainValues}
-use Rattle.schemars_rewrite.proofs.NullMembers.{and-parts, allow_null-says}
-use Rattle.schemars_rewrite.proofs.Nulls.{IsReady, ready_nullable}
+use Rattle.schemars_rewrite.specs.NullLaw.{text_items, HasTypeForm, HasPlainValues, IsDraft}
+use Rattle.schemars_rewrite.proofs.NullMembers.{and-parts, drafted, each_draft}
+use Rattle.schemars_rewrite.proofs.Nulls.{IsReady, ready-law}
 use Rattle.schemars_rewrite.proofs.Removals.{later_member}
 
 -- ---- the type has the right form
@@ -114,8 +114,11 @@ literal_ready (string s) plain = absurd plain
 literal_ready (array ds) plain = absurd plain
 
 -- with null added it accepts what it accepted, and null
-pub literal_or_null : (document : Data) (patterns : Patterns) (n : ℕ) (l v : Data) → IsPlainLiteral l
-    → accepts draft2020_12 document patterns n (allow_null l) v ≡ verdict (is_null v || has_literal patterns l v)
-literal_or_null document patterns n l v plain =
-    allow_null-says patterns (follow draft2020_12 document patterns n) l (ready_nullable l (literal_ready l plain)) v
-    (has_literal patterns l v) (literal_judges document patterns n l v plain)
+pub literal_or_null : (dialect : Dialect) → IsDraft dialect → (document : Data) (patterns : Patterns) (n : ℕ) (l v : Data)
+    → IsPlainLiteral l
+    → accepts dialect document patterns n (allow_null l) v ≡ verdict (is_null v || has_literal patterns l v)
+literal_or_null dialect draft document patterns n l v plain =
+    ready-law dialect draft l (literal_ready l plain) patterns (follow dialect document patterns n) v (has_literal patterns l v)
+    (each_draft (λ d. accepts d document patterns n l v ≡ verdict (has_literal patterns l v))
+    (λ siblings prefix unevaluated. literal_judged (context (drafted siblings prefix unevaluated) document patterns n) refl refl l v plain)
+    dialect draft)

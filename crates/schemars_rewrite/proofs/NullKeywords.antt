@@ -1,48 +1,16 @@
 -- Keywords of one schema once null is allowed: the type, and the values.
 use Rattle.std.proofs.Common.{◌≡◌, ◌⊎◌, inl, inr, List, [], ◌∷◌, ◌++◌, Option, Some, None, Bool, true, false, refl, sym}
 use Rattle.std.proofs.Common.{ap, ◌∙◌, true≢false}
-use Rattle.std.specs.Prelude.{codes, bytes_eq, ◌||◌, ◌&&◌, if◌then◌else◌, is_some}
-use Rattle.serde_json.specs.Data.{Data, null, boolean, number, string, array, object, Items, no_items, item, Members}
-use Rattle.serde_json.specs.Data.{no_members, member, put}
-use Rattle.serde_json.specs.Find.{get_member}
-use Rattle.serde_json.specs.View.{view, items_view, items_of, members_view}
-use Rattle.serde_json.specs.declared.value.Value.{Value}
-use Rattle.std.specs.Prelude.{IsTrue, length}
-use Rattle.std.proofs.Common.{arith, suc}
-use Rattle.std.specs.Prelude.{map, option_and_then}
-use Rattle.std.specs.Cmp.Lexicographic.{slice_cmp}
-use Rattle.std.specs.Ordering.{match_ordering}
-use Rattle.std.proofs.Common.{Ordering, Less, Equal, Greater, nat_cmp, is_eq}
-use Rattle.std.proofs.lemmas.Bool.{eqb-true}
+use Rattle.std.specs.Prelude.{codes, bytes_eq, ◌||◌, ◌&&◌, if◌then◌else◌}
+use Rattle.serde_json.specs.Data.{Data, null, boolean, number, string, array, object, Items, no_items, item}
 use Rattle.std.proofs.Math.Bool.{or_assoc}
-use Rattle.std.proofs.lemmas.Map.Text.{is_eq-slice_cmp}
-use Rattle.serde_json.specs.Find.{as_object, as_bool, as_str}
-use Rattle.serde_json.specs.Events.{members_len}
-use Rattle.schemars_schema.specs.SchemaData.{members_in}
-use Rattle.schemars_rewrite.specs.AllowNull.{accepts_everything}
-use Rattle.serde_json.proofs.Views.{Entry, get_member-put, get_member-put_other}
-use Rattle.std.proofs.lemmas.Slice.Eq.{bytes_eq-Decides}
-use Rattle.schemars_schema.specs.Verdict.{Verdict, Yes, No, Open, both, verdict, opposite, none_of, any_of}
+use Rattle.schemars_schema.specs.Verdict.{Verdict, Yes, both, verdict}
 use Rattle.schemars_json.specs.Json.{Text, json_eq, is_among}
-use Rattle.schemars_schema.specs.SchemaData.{IsSchema}
 use Rattle.schemars_json.specs.OrderedText.{is_listed}
-use Rattle.schemars_schema.specs.Acceptance.{Patterns, Judge, Context, Raw, judge, read_data, read_items, all_keywords}
-use Rattle.schemars_schema.specs.Edits.{without}
-use Rattle.schemars_schema.specs.Acceptance.{where_some, type_says, const_says, enum_says, texts_in, type_names}
-use Rattle.schemars_schema.specs.Acceptance.{are_type_names}
-use Rattle.schemars_schema.specs.Acceptance.{is_of_type, is_of_some_type, is_null, each_says, both_some, nothing}
-use Rattle.schemars_schema.proofs.Verdicts.{both-yes, either-verdict}
-use Rattle.schemars_schema.proofs.Objects.{schema-judge, judge-object, says, says-agree}
-use Rattle.schemars_rewrite.specs.AllowNull.{null_schema, is_combined, is_null_choice, offers_null, holds_text}
-use Rattle.schemars_rewrite.specs.AllowNull.{holds_null, with_item, type_with_null, null_in_type, enum_with_null}
-use Rattle.schemars_rewrite.specs.AllowNull.{is_text, const_admits_null, enum_admits_null, is_null_schema}
-use Rattle.schemars_rewrite.specs.AllowNull.{holds_null_schema}
-use Rattle.schemars_rewrite.specs.AllowNull.{null_in_enum, const_or_null, null_in_const, null_in_values, or_null}
-use Rattle.schemars_rewrite.specs.AllowNull.{allow_null}
-use Rattle.schemars_rewrite.specs.NullLaw.{text_items, HasTypeForm, zero_schema, AcceptsNull, SomeAcceptsNull}
-use Rattle.schemars_rewrite.specs.NullLaw.{OffersNull, IsChoice, HasPlainValues, IsPlain, IsNullable, context2020_12}
-use Rattle.schemars_rewrite.specs.NullLaw.{AcceptsNullToo}
-use Rattle.schemars_rewrite.proofs.Removals.{without-other, without-put}
+use Rattle.schemars_schema.specs.Acceptance.{type_says, const_says, enum_says, texts_in, type_names, are_type_names}
+use Rattle.schemars_schema.specs.Acceptance.{is_of_type, is_of_some_type, is_null}
+use Rattle.schemars_rewrite.specs.AllowNull.{holds_text, holds_null, with_item, type_with_null, enum_with_null}
+use Rattle.schemars_rewrite.specs.NullLaw.{text_items, HasTypeForm}
 
 -- ---- truth values
 

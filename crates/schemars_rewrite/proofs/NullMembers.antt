@@ -1,47 +1,33 @@
 -- What an object says of null and of other values once null is allowed.
-use Rattle.std.proofs.Common.{◌≡◌, ◌⊎◌, inl, inr, List, [], ◌∷◌, ◌++◌, Option, Some, None, Bool, true, false, refl, sym}
-use Rattle.std.proofs.Common.{ap, ◌∙◌, true≢false}
-use Rattle.std.specs.Prelude.{codes, bytes_eq, ◌||◌, ◌&&◌, if◌then◌else◌, is_some}
+use Rattle.std.proofs.Common.{◌≡◌, ◌⊎◌, inl, inr, List, ◌∷◌, Option, Some, None, Bool, true, false, refl, sym}
+use Rattle.std.proofs.Common.{ap, ◌∙◌, subst, true≢false}
+use Rattle.std.specs.Prelude.{codes, bytes_eq, ◌||◌, ◌&&◌, if◌then◌else◌, is_some, not, length, map, option_map}
 use Rattle.serde_json.specs.Data.{Data, null, boolean, number, string, array, object, Items, no_items, item, Members}
 use Rattle.serde_json.specs.Data.{no_members, member, put}
 use Rattle.serde_json.specs.Find.{get_member}
-use Rattle.serde_json.specs.View.{view, items_view, items_of, members_view}
-use Rattle.serde_json.specs.declared.value.Value.{Value}
-use Rattle.std.specs.Prelude.{IsTrue, length}
 use Rattle.std.proofs.Common.{arith, suc}
-use Rattle.std.specs.Prelude.{map, option_and_then}
 use Rattle.std.specs.Cmp.Lexicographic.{slice_cmp}
 use Rattle.std.specs.Ordering.{match_ordering}
 use Rattle.std.proofs.Common.{Ordering, Less, Equal, Greater, nat_cmp, is_eq}
 use Rattle.std.proofs.lemmas.Bool.{eqb-true}
-use Rattle.std.proofs.Math.Bool.{or_assoc}
 use Rattle.std.proofs.lemmas.Map.Text.{is_eq-slice_cmp}
-use Rattle.serde_json.specs.Find.{as_object, as_bool, as_str}
 use Rattle.serde_json.specs.Events.{members_len}
-use Rattle.schemars_schema.specs.SchemaData.{members_in}
-use Rattle.schemars_rewrite.specs.AllowNull.{accepts_everything}
-use Rattle.serde_json.proofs.Views.{Entry, get_member-put, get_member-put_other}
+use Rattle.serde_json.proofs.Views.{get_member-put, get_member-put_other}
 use Rattle.std.proofs.lemmas.Slice.Eq.{bytes_eq-Decides}
 use Rattle.schemars_schema.specs.Verdict.{Verdict, Yes, No, Open, both, verdict, opposite, none_of, any_of}
-use Rattle.schemars_json.specs.Json.{Text, json_eq, is_among}
+use Rattle.schemars_json.specs.Json.{Text, json_eq}
 use Rattle.schemars_schema.specs.SchemaData.{IsSchema}
-use Rattle.schemars_json.specs.OrderedText.{is_listed}
-use Rattle.schemars_schema.specs.Acceptance.{Patterns, Judge, Context, Raw, judge, read_data, read_items, all_keywords}
+use Rattle.schemars_schema.specs.Acceptance.{Dialect, Patterns, Judge, Context, Raw, Reading, judge, read_data, read_items}
+use Rattle.schemars_schema.specs.Acceptance.{all_keywords, where_some, type_says, items_say, past_say, each_says, not_says}
+use Rattle.schemars_schema.specs.Acceptance.{unevaluated_properties_say, is_reference, reference_alone, both_some, nothing, is_null}
 use Rattle.schemars_schema.specs.Edits.{without}
-use Rattle.schemars_schema.specs.Acceptance.{where_some, type_says, const_says, enum_says, texts_in, type_names}
-use Rattle.schemars_schema.specs.Acceptance.{are_type_names}
-use Rattle.schemars_schema.specs.Acceptance.{is_of_type, is_of_some_type, is_null, each_says, both_some, nothing}
 use Rattle.schemars_schema.proofs.Verdicts.{both-yes, either-verdict}
 use Rattle.schemars_schema.proofs.Objects.{schema-judge, judge-object, says, says-agree}
-use Rattle.schemars_rewrite.specs.AllowNull.{null_schema, is_combined, is_null_choice, offers_null, holds_text}
-use Rattle.schemars_rewrite.specs.AllowNull.{holds_null, with_item, type_with_null, null_in_type, enum_with_null}
-use Rattle.schemars_rewrite.specs.AllowNull.{is_text, const_admits_null, enum_admits_null, is_null_schema}
-use Rattle.schemars_rewrite.specs.AllowNull.{holds_null_schema}
-use Rattle.schemars_rewrite.specs.AllowNull.{null_in_enum, const_or_null, null_in_const, null_in_values, or_null}
-use Rattle.schemars_rewrite.specs.AllowNull.{allow_null}
-use Rattle.schemars_rewrite.specs.NullLaw.{text_items, HasTypeForm, zero_schema, AcceptsNull, SomeAcceptsNull}
-use Rattle.schemars_rewrite.specs.NullLaw.{OffersNull, IsChoice, HasPlainValues, IsPlain, IsNullable, context2020_12}
-use Rattle.schemars_rewrite.specs.NullLaw.{AcceptsNullToo}
+use Rattle.schemars_rewrite.specs.AllowNull.{null_schema, is_combined, is_null_choice, offers_null, type_with_null}
+use Rattle.schemars_rewrite.specs.AllowNull.{null_in_type, enum_with_null, null_in_enum, const_or_null, null_in_const}
+use Rattle.schemars_rewrite.specs.AllowNull.{null_in_values, or_null, allow_null}
+use Rattle.schemars_rewrite.specs.NullLaw.{IsDraft, context_of, HasTypeForm, zero_schema, AcceptsNull, SomeAcceptsNull}
+use Rattle.schemars_rewrite.specs.NullLaw.{OffersNull, IsChoice, HasPlainValues, IsPlain, IsNullable}
 use Rattle.schemars_rewrite.proofs.Removals.{without-other, without-put}
 use Rattle.schemars_rewrite.proofs.NullKeywords.{const_null, const_plus, enum_plus, or-false, or-parts, or-true, type_null}
 use Rattle.schemars_rewrite.proofs.NullKeywords.{type_other, type_plus, values_null, values_other, values_plus}
@@ -263,16 +249,17 @@ choice_key (member l d no_members) stays k e h = go (get_member (codes "anyOf") 
     go (Some x) is offers = (same_key k l d e h).0 ∙ sym (same_key (codes "anyOf") l d x is).0
 
 -- the one member is a list under `anyOf`
-only_choice : (ms : Members) → is_null_choice (object ms) ≡ true → OffersNull (get_member (codes "anyOf") ms)
-    → (ds : Items) × (ms ≡ member (codes "anyOf") (array ds) no_members) × SomeAcceptsNull ds
-only_choice no_members stays h = absurd h
-only_choice (member l d (member k e ms)) stays h =
+only_choice : (dialect : Dialect) (ms : Members) → is_null_choice (object ms) ≡ true
+    → OffersNull dialect (get_member (codes "anyOf") ms)
+    → (ds : Items) × (ms ≡ member (codes "anyOf") (array ds) no_members) × SomeAcceptsNull dialect ds
+only_choice dialect no_members stays h = absurd h
+only_choice dialect (member l d (member k e ms)) stays h =
     let one : suc (suc (members_len ms)) ≡ 1 = eqb-true _ _ (and-parts _ _ stays).0 in
     absurd (omega (arith, one))
-only_choice (member l d no_members) stays h = go (get_member (codes "anyOf") (member l d no_members)) refl h
+only_choice dialect (member l d no_members) stays h = go (get_member (codes "anyOf") (member l d no_members)) refl h
   where
-    go : (o : Option Data) → get_member (codes "anyOf") (member l d no_members) ≡ o → OffersNull o
-        → (ds : Items) × (member l d no_members ≡ member (codes "anyOf") (array ds) no_members) × SomeAcceptsNull ds
+    go : (o : Option Data) → get_member (codes "anyOf") (member l d no_members) ≡ o → OffersNull dialect o
+        → (ds : Items) × (member l d no_members ≡ member (codes "anyOf") (array ds) no_members) × SomeAcceptsNull dialect ds
     go None is h = absurd h
     go (Some (array ds)) is h =
         let same = same_key (codes "anyOf") l d (array ds) is in
@@ -313,76 +300,160 @@ accepted Yes false some h = absurd (some refl)
 accepted No false some h = cc
 accepted Open false some h = cc
 
-module _ (patterns : Patterns) (f : Text → Judge) where
+-- ---- under each draft
+
+-- a dialect that reads `const`, and no `nullable`
+abbrev pub drafted : Bool → Bool → Bool → Dialect
+drafted siblings prefix unevaluated = record {
+  judges_siblings = siblings;
+  reads_prefix_items = prefix;
+  reads_nullable = false;
+  reads_const = true;
+  reads_unevaluated = unevaluated;
+}
+
+pub each_draft : (P : Dialect → Type 0) → ((siblings prefix unevaluated : Bool) → P (drafted siblings prefix unevaluated))
+    → (dialect : Dialect) → IsDraft dialect → P dialect
+each_draft P h dialect (inl is) = subst P (sym is) (h true true true)
+each_draft P h dialect (inr (inl is)) = subst P (sym is) (h true false true)
+each_draft P h dialect (inr (inr is)) = subst P (sym is) (h false false false)
+
+and-false : (a : Bool) → a && false ≡ false
+and-false true = refl
+and-false false = refl
+
+-- keywords for lists and maps say nothing of null
+items_of_null : (reads : Bool) (prefix items additional : Option Reading) → items_say reads prefix items additional null ≡ Yes
+items_of_null true prefix items additional = simp silent
+items_of_null false prefix None additional = refl
+items_of_null false prefix (Some x) additional = go x.listed
+  where
+    go : (o : Option (List Judge)) → where_some o (λ ss. past_say (length ss) additional null) ≡ Yes
+    go None = refl
+    go (Some ss) = simp silent
+
+unevaluated_of_null : (reads : Bool) (judged : Text → Bool) (o : Option Reading)
+    → unevaluated_properties_say reads judged o null ≡ Yes
+unevaluated_of_null true judged o = silent o
+unevaluated_of_null false judged o = refl
+
+items_none : (reads : Bool) (v : Data) → items_say reads None None None v ≡ Yes
+items_none true v = refl
+items_none false v = refl
+
+unevaluated_none : (reads : Bool) (judged : Text → Bool) (v : Data) → unevaluated_properties_say reads judged None v ≡ Yes
+unevaluated_none true judged v = refl
+unevaluated_none false judged v = refl
+
+-- where a reference stands alone, the rest of two objects need not agree
+beside : (alone : Bool) (r s t : Judge) (v : Data) → s.fits v ≡ t.fits v
+    → (if alone then r else s).fits v ≡ (if alone then r else t).fits v
+beside true r s t v e = refl
+beside false r s t v e = e
+
+only_null : (v : Data) → type_says false (Some (string (codes "null"))) None v ≡ verdict (is_null v)
+only_null null = refl
+only_null (boolean b) = refl
+only_null (number n) = refl
+only_null (string s) = refl
+only_null (array vs) = refl
+only_null (object ms) = refl
+
+module _ (siblings prefix unevaluated : Bool) (patterns : Patterns) (f : Text → Judge) where
+  abbrev dialect : Dialect
+  dialect = drafted siblings prefix unevaluated
+
   abbrev pub c : Context
-  c = context2020_12 patterns f
+  c = context_of dialect patterns f
 
   other_says : (g : Raw) → HasTypeForm (g (codes "type")) → ((g (codes "const") ≡ None) ⊎ (g (codes "enum") ≡ None))
       → (v : Data) → is_null v ≡ false → (says c (nulled g)).fits v ≡ (says c g).fits v
   unfolding says all_keywords
   other_says g h values v other =
-      rw (type_other (g (codes "type")) h v other, values_other (g (codes "const")) (g (codes "enum")) values v other)
+      beside (not siblings && is_reference (g (codes "$ref"))) (reference_alone c g) _ _ v
+      (rw (type_other (g (codes "type")) h v other, values_other (g (codes "const")) (g (codes "enum")) values v other) refl)
+
+  -- the schema of 0 refuses null
+  not_zero : (o : Option Data) → (o ≡ None) ⊎ (o ≡ Some zero_schema) → not_says (option_map (read_data c) o) null ≡ Yes
+  unfolding read_data all_keywords json_eq
+  not_zero o (inl none) = rw none refl
+  not_zero o (inr zero) =
+      rw (
+        zero,
+        and-false (not siblings),
+        items_none prefix null,
+        unevaluated_none unevaluated _ null,
+      )
+      refl
 
   pub null_says : (g : Raw) → HasTypeForm (g (codes "type")) → ((g (codes "const") ≡ None) ⊎ (g (codes "enum") ≡ None))
       → ((g (codes "not") ≡ None) ⊎ (g (codes "not") ≡ Some zero_schema))
       → (g (codes "allOf") ≡ None) → (g (codes "anyOf") ≡ None) → (g (codes "oneOf") ≡ None) → (g (codes "$ref") ≡ None)
       → (says c (nulled g)).fits null ≡ Yes
-  unfolding says all_keywords read_data json_eq
-  null_says g h values (inl no_not) no_all no_any no_one no_ref =
+  unfolding says all_keywords
+  null_says g h values not_form no_all no_any no_one no_ref =
       rw (
+        no_ref,
+        and-false (not siblings),
         type_null (g (codes "type")) h,
         const_null (g (codes "const")),
         values_null _ _ values,
-        no_not,
+        not_zero (g (codes "not")) not_form,
         no_all,
         no_any,
         no_one,
-        no_ref,
       )
-      (simp silent)
-  null_says g h values (inr not_zero) no_all no_any no_one no_ref =
-      rw (
-        type_null (g (codes "type")) h,
-        const_null (g (codes "const")),
-        values_null _ _ values,
-        not_zero,
-        no_all,
-        no_any,
-        no_one,
-        no_ref,
-      )
-      (simp silent)
+      (simp (silent, items_of_null, unevaluated_of_null))
 
   pub of_null : (v : Data) → (judge c null_schema).fits v ≡ verdict (is_null v)
   unfolding read_data all_keywords
-  of_null null = refl
-  of_null (boolean b) = refl
-  of_null (number n) = refl
-  of_null (string s) = refl
-  of_null (array vs) = refl
-  of_null (object ms) = refl
+  of_null v =
+      rw (
+        and-false (not siblings),
+        items_none prefix v,
+        unevaluated_none unevaluated _ v,
+        both-yes,
+      )
+      (only_null v)
+
+  -- `anyOf` alone
+  choice_alone : (ds : Items) (v : Data) → (judge c (object (member (codes "anyOf") (array ds) no_members))).fits v
+      ≡ each_says any_of (Some (record { schema = None; listed = read_items c ds; named = None })) v
+  unfolding read_data all_keywords
+  choice_alone ds v =
+      rw (
+        and-false (not siblings),
+        items_none prefix v,
+        unevaluated_none unevaluated _ v,
+        both-yes,
+      )
+      refl
 
   or_null-says : (t : Data) → IsSchema t → (v : Data) (b : Bool) → (judge c t).fits v ≡ verdict b
       → (judge c (or_null t)).fits v ≡ verdict (is_null v || b)
-  unfolding read_data all_keywords
-  or_null-says t is v b e = rw (schema-judge c t is, both-yes, e, of_null v)
+  unfolding read_data
+  or_null-says t is v b e =
+      choice_alone (item t (item null_schema no_items)) v
+      ∙ rw (schema-judge c t is, e, of_null v)
       (either-verdict b (is_null v) ∙ ap verdict (or-swap b (is_null v)))
 
-  some_listed : (ds : Items) → SomeAcceptsNull ds → (ss : List Judge) → read_items c ds ≡ Some ss
+  some_listed : (ds : Items) → SomeAcceptsNull dialect ds → (ss : List Judge) → read_items c ds ≡ Some ss
       → none_of (map (λ s. s.fits null) ss) ≡ Yes → ⊥
   unfolding read_data
   some_listed no_items some ss is = absurd some
   some_listed (item d ds) some ss is = go (λ more rest later. some_listed ds more rest later) (read_data c d).schema (read_items c ds)
       refl refl is
     where
-      go : (SomeAcceptsNull ds → (rest : List Judge) → read_items c ds ≡ Some rest → none_of (map (λ s. s.fits null) rest) ≡ Yes → ⊥)
+      go : (SomeAcceptsNull dialect ds → (rest : List Judge) → read_items c ds ≡ Some rest
+          → none_of (map (λ s. s.fits null) rest) ≡ Yes → ⊥)
           → (s : Option Judge) (o : Option (List Judge)) → (read_data c d).schema ≡ s → read_items c ds ≡ o
           → both_some (λ s ss. s ∷ ss) s o ≡ Some ss → none_of (map (λ s. s.fits null) ss) ≡ Yes → ⊥
       go below None o first later at = cc
       go below (Some s) None first later at = cc
       go below (Some s) (Some rest) first later at = rw (← (some_inj at)) (here some)
         where
-          here : AcceptsNull d ⊎ SomeAcceptsNull ds → both (opposite (s.fits null)) (none_of (map (λ s. s.fits null) rest)) ≡ Yes → ⊥
+          here : AcceptsNull dialect d ⊎ SomeAcceptsNull dialect ds
+              → both (opposite (s.fits null)) (none_of (map (λ s. s.fits null) rest)) ≡ Yes → ⊥
           here (inl accepts) = let fits : s.fits null ≡ Yes = sym (ap (λ o. (judge_in o).fits null) first) ∙ accepts patterns f in
               rw fits (refused (none_of (map (λ s. s.fits null) rest)))
           here (inr more) = refused_later (opposite (s.fits null)) (none_of (map (λ s. s.fits null) rest)) (below more rest later)
@@ -391,23 +462,22 @@ module _ (patterns : Patterns) (f : Text → Judge) where
   always true h = refl
   always false h = cc
 
-  choice_accepts : (ds : Items) → SomeAcceptsNull ds → (b : Bool) → (judge c
+  choice_accepts : (ds : Items) → SomeAcceptsNull dialect ds → (b : Bool) → (judge c
       (object (member (codes "anyOf") (array ds) no_members))).fits null ≡ verdict b → b ≡ true
   unfolding read_data all_keywords
-  choice_accepts ds some b e = go (read_items c ds) refl (sym (both-yes
-      (each_says any_of (Some (record { schema = None; listed = read_items c ds; named = None })) null)) ∙ e)
+  choice_accepts ds some b e = go (read_items c ds) refl (sym (choice_alone ds null) ∙ e)
     where
       go : (o : Option (List Judge)) → read_items c ds ≡ o → each_says any_of (Some (record { schema = None; listed = o; named = None }))
           null ≡ verdict b → b ≡ true
       go None is h = always b h
       go (Some ss) is h = accepted (none_of (map (λ s. s.fits null) ss)) b (some_listed ds some ss is) h
 
-  choice_says : (ms : Members) → IsChoice ms → is_null_choice (object ms) ≡ true → (v : Data) (n b : Bool) → is_null v ≡ n
+  choice_says : (ms : Members) → IsChoice dialect ms → is_null_choice (object ms) ≡ true → (v : Data) (n b : Bool) → is_null v ≡ n
       → (judge c (object ms)).fits v ≡ verdict b
       → (judge c (object ms)).fits v ≡ verdict (n || b)
   choice_says ms p stays v false b is e = e
   choice_says ms p stays v true b is e =
-      let only = only_choice ms stays (p.offers stays) in
+      let only = only_choice dialect ms stays (p.offers stays) in
       let at_null : (judge c (object (member (codes "anyOf") (array only.0) no_members))).fits null ≡ verdict b =
       ap (λ ns. (judge c (object ns)).fits null) (sym only.1) ∙ (ap (judge c (object ms)).fits (sym (is_null_value v is)) ∙ e) in
       e ∙ ap verdict (choice_accepts only.0 only.2 b at_null)
@@ -426,23 +496,31 @@ module _ (patterns : Patterns) (f : Text → Judge) where
       ap (λ j. j.fits v) (judge-object c (with_null ms) ∙ says-agree c _ _ (λ k key. with_null-agree ms p.values k))
       ∙ (other_says g p.type_form (one_form ms p.values) v is ∙ (sym (ap (λ j. j.fits v) (judge-object c ms)) ∙ e))
 
-  pub allow_null-says : (t : Data) → IsNullable t → (v : Data) (b : Bool) → (judge c t).fits v ≡ verdict b
+  drafted-says : (t : Data) → IsNullable dialect t → (v : Data) (b : Bool) → (judge c t).fits v ≡ verdict b
       → (judge c (allow_null t)).fits v ≡ verdict (is_null v || b)
   unfolding read_data
-  allow_null-says (boolean true) r v true e = ap verdict (sym (or-true (is_null v)))
-  allow_null-says (boolean true) r v false e = cc
-  allow_null-says (boolean false) r v true e = cc
-  allow_null-says (boolean false) r v false e = of_null v ∙ ap verdict (sym (or-false (is_null v)))
-  allow_null-says (object ms) r v b e = go (is_null_choice (object ms)) (is_combined (object ms)) refl refl r
+  drafted-says (boolean true) r v true e = ap verdict (sym (or-true (is_null v)))
+  drafted-says (boolean true) r v false e = cc
+  drafted-says (boolean false) r v true e = cc
+  drafted-says (boolean false) r v false e = of_null v ∙ ap verdict (sym (or-false (is_null v)))
+  drafted-says (object ms) r v b e = go (is_null_choice (object ms)) (is_combined (object ms)) refl refl r
     where
-      go : (s o : Bool) → is_null_choice (object ms) ≡ s → is_combined (object ms) ≡ o → IsChoice ms ⊎ IsPlain ms
+      go : (s o : Bool) → is_null_choice (object ms) ≡ s → is_combined (object ms) ≡ o → IsChoice dialect ms ⊎ IsPlain ms
           → (judge c (if s then object ms else if o then or_null (object ms) else object (with_null ms))).fits v ≡ verdict (is_null v || b)
       go true o stays is (inl p) = choice_says ms p stays v (is_null v) b refl e
       go true o stays is (inr p) = absurd (alone-not_choice ms p.alone stays)
       go false true stays is h = or_null-says (object ms) tt v b e
       go false false stays is (inl p) = absurd (true≢false (sym p.combined ∙ is))
       go false false stays is (inr p) = plain_says ms is p v (is_null v) b refl e
-  allow_null-says null r v b e = absurd r
-  allow_null-says (number n) r v b e = absurd r
-  allow_null-says (string s) r v b e = absurd r
-  allow_null-says (array ds) r v b e = absurd r
+  drafted-says null r v b e = absurd r
+  drafted-says (number n) r v b e = absurd r
+  drafted-says (string s) r v b e = absurd r
+  drafted-says (array ds) r v b e = absurd r
+
+pub allow_null-says : (dialect : Dialect) → IsDraft dialect → (patterns : Patterns) (f : Text → Judge) (t : Data)
+    → IsNullable dialect t → (v : Data) (b : Bool) → (judge (context_of dialect patterns f) t).fits v ≡ verdict b
+    → (judge (context_of dialect patterns f) (allow_null t)).fits v ≡ verdict (is_null v || b)
+allow_null-says dialect draft patterns f t =
+    each_draft (λ d. IsNullable d t → (v : Data) (b : Bool) → (judge (context_of d patterns f) t).fits v ≡ verdict b
+    → (judge (context_of d patterns f) (allow_null t)).fits v ≡ verdict (is_null v || b))
+    (λ siblings prefix unevaluated. drafted-says siblings prefix unevaluated patterns f t) dialect draft

@@ -1,52 +1,29 @@
 -- Schemas that null can be allowed in, once and again.
 use Rattle.std.proofs.Common.{◌≡◌, ◌⊎◌, inl, inr, List, [], ◌∷◌, ◌++◌, Option, Some, None, Bool, true, false, refl, sym}
-use Rattle.std.proofs.Common.{ap, ◌∙◌, true≢false}
-use Rattle.std.specs.Prelude.{codes, bytes_eq, ◌||◌, ◌&&◌, if◌then◌else◌, is_some}
-use Rattle.serde_json.specs.Data.{Data, null, boolean, number, string, array, object, Items, no_items, item, Members}
-use Rattle.serde_json.specs.Data.{no_members, member, put}
+use Rattle.std.proofs.Common.{ap, ◌∙◌, arith, true≢false}
+use Rattle.std.specs.Prelude.{codes, bytes_eq, ◌||◌, if◌then◌else◌, is_some, IsTrue, length, option_and_then}
+use Rattle.serde_json.specs.Data.{Data, null, boolean, number, string, array, object, no_items, item, Members}
 use Rattle.serde_json.specs.Find.{get_member}
 use Rattle.serde_json.specs.View.{view, items_view, items_of, members_view}
 use Rattle.serde_json.specs.declared.value.Value.{Value}
-use Rattle.std.specs.Prelude.{IsTrue, length}
-use Rattle.std.proofs.Common.{arith, suc}
-use Rattle.std.specs.Prelude.{map, option_and_then}
-use Rattle.std.specs.Cmp.Lexicographic.{slice_cmp}
-use Rattle.std.specs.Ordering.{match_ordering}
-use Rattle.std.proofs.Common.{Ordering, Less, Equal, Greater, nat_cmp, is_eq}
-use Rattle.std.proofs.lemmas.Bool.{eqb-true}
-use Rattle.std.proofs.Math.Bool.{or_assoc}
-use Rattle.std.proofs.lemmas.Map.Text.{is_eq-slice_cmp}
 use Rattle.serde_json.specs.Find.{as_object, as_bool, as_str}
-use Rattle.serde_json.specs.Events.{members_len}
 use Rattle.schemars_schema.specs.SchemaData.{members_in}
 use Rattle.schemars_rewrite.specs.AllowNull.{accepts_everything}
-use Rattle.serde_json.proofs.Views.{Entry, get_member-put, get_member-put_other}
-use Rattle.std.proofs.lemmas.Slice.Eq.{bytes_eq-Decides}
-use Rattle.schemars_schema.specs.Verdict.{Verdict, Yes, No, Open, both, verdict, opposite, none_of, any_of}
-use Rattle.schemars_json.specs.Json.{Text, json_eq, is_among}
+use Rattle.serde_json.proofs.Views.{Entry}
+use Rattle.schemars_json.specs.Json.{Text}
 use Rattle.schemars_schema.specs.SchemaData.{IsSchema}
-use Rattle.schemars_json.specs.OrderedText.{is_listed}
-use Rattle.schemars_schema.specs.Acceptance.{Patterns, Judge, Context, Raw, judge, read_data, read_items, all_keywords}
+use Rattle.schemars_schema.specs.Acceptance.{Dialect, draft2020_12, Context, Raw, is_null}
 use Rattle.schemars_schema.specs.Edits.{without}
-use Rattle.schemars_schema.specs.Acceptance.{where_some, type_says, const_says, enum_says, texts_in, type_names}
-use Rattle.schemars_schema.specs.Acceptance.{are_type_names}
-use Rattle.schemars_schema.specs.Acceptance.{is_of_type, is_of_some_type, is_null, each_says, both_some, nothing}
-use Rattle.schemars_schema.proofs.Verdicts.{both-yes, either-verdict}
-use Rattle.schemars_schema.proofs.Objects.{schema-judge, judge-object, says, says-agree}
-use Rattle.schemars_rewrite.specs.AllowNull.{null_schema, is_combined, is_null_choice, offers_null, holds_text}
-use Rattle.schemars_rewrite.specs.AllowNull.{holds_null, with_item, type_with_null, null_in_type, enum_with_null}
-use Rattle.schemars_rewrite.specs.AllowNull.{is_text, const_admits_null, enum_admits_null, is_null_schema}
-use Rattle.schemars_rewrite.specs.AllowNull.{holds_null_schema}
-use Rattle.schemars_rewrite.specs.AllowNull.{null_in_enum, const_or_null, null_in_const, null_in_values, or_null}
-use Rattle.schemars_rewrite.specs.AllowNull.{allow_null}
-use Rattle.schemars_rewrite.specs.NullLaw.{text_items, HasTypeForm, zero_schema, AcceptsNull, SomeAcceptsNull}
-use Rattle.schemars_rewrite.specs.NullLaw.{OffersNull, IsChoice, HasPlainValues, IsPlain, IsNullable, context2020_12}
-use Rattle.schemars_rewrite.specs.NullLaw.{AcceptsNullToo}
-use Rattle.schemars_rewrite.proofs.Removals.{without-other, without-put}
+use Rattle.schemars_schema.proofs.Objects.{judge-object, says-agree}
+use Rattle.schemars_rewrite.specs.AllowNull.{null_schema, is_combined, is_null_choice, holds_text, with_item, is_text}
+use Rattle.schemars_rewrite.specs.AllowNull.{const_admits_null, enum_admits_null, is_null_schema, holds_null_schema}
+use Rattle.schemars_rewrite.specs.AllowNull.{const_or_null, or_null, allow_null}
+use Rattle.schemars_rewrite.specs.NullLaw.{IsDraft, AcceptsNull, SomeAcceptsNull, IsChoice, HasTypeForm, HasPlainValues}
+use Rattle.schemars_rewrite.specs.NullLaw.{IsPlain, IsNullable, AcceptsNullToo}
 use Rattle.schemars_rewrite.proofs.NullKeywords.{are_names_append, const_plus, enum_plus, type_plus, values_plus}
 use Rattle.schemars_rewrite.proofs.NullKeywords.{with_item-text_items}
 use Rattle.schemars_rewrite.proofs.NullMembers.{agree-none, allow_null-says, alone_parts, and-parts, at_type}
-use Rattle.schemars_rewrite.proofs.NullMembers.{c, const_or_null-const, null_says, nulled, of_null, one_form}
+use Rattle.schemars_rewrite.proofs.NullMembers.{c, const_or_null-const, each_draft, null_says, nulled, of_null, one_form}
 use Rattle.schemars_rewrite.proofs.NullMembers.{same_text, type_once, with_const, with_null, with_null-agree, with_null_type}
 
 -- ---- null can be allowed again
@@ -113,23 +90,28 @@ plain-with_null ms p =
       not_form = rw (at (codes "not") refl refl refl) p.not_form;
     }
 
--- a schema to which null can be added, that combines schemas without a type or is plain
+-- a schema to which null can be added under each draft, that combines schemas without a type or is plain
 abbrev pub IsReady : Data → Type 0
 IsReady null = ⊥
 IsReady (boolean b) = Unit {0}
 IsReady (number n) = ⊥
 IsReady (string s) = ⊥
 IsReady (array ds) = ⊥
-IsReady (object ms) = (IsChoice ms × (get_member (codes "type") ms ≡ None)) ⊎ IsPlain ms
+IsReady (object ms) =
+    (((dialect : Dialect) → IsDraft dialect → IsChoice dialect ms) × (get_member (codes "type") ms ≡ None)) ⊎ IsPlain ms
 
-pub ready_nullable : (t : Data) → IsReady t → IsNullable t
-ready_nullable (boolean b) r = tt
-ready_nullable (object ms) (inl choice) = inl choice.0
-ready_nullable (object ms) (inr p) = inr p
-ready_nullable null r = absurd r
-ready_nullable (number n) r = absurd r
-ready_nullable (string s) r = absurd r
-ready_nullable (array ds) r = absurd r
+ready_nullable : (dialect : Dialect) → IsDraft dialect → (t : Data) → IsReady t → IsNullable dialect t
+ready_nullable dialect draft (boolean b) r = tt
+ready_nullable dialect draft (object ms) (inl choice) = inl (choice.0 dialect draft)
+ready_nullable dialect draft (object ms) (inr p) = inr p
+ready_nullable dialect draft null r = absurd r
+ready_nullable dialect draft (number n) r = absurd r
+ready_nullable dialect draft (string s) r = absurd r
+ready_nullable dialect draft (array ds) r = absurd r
+
+null_fits : (dialect : Dialect) → IsDraft dialect → AcceptsNull dialect null_schema
+null_fits = each_draft (λ d. AcceptsNull d null_schema)
+    (λ siblings prefix unevaluated patterns follow. of_null siblings prefix unevaluated patterns follow null)
 
 pub ready-allow_null : (t : Data) → IsReady t → IsReady (allow_null t)
 ready-allow_null (boolean true) r = tt
@@ -141,10 +123,13 @@ ready-allow_null (object ms) r = go (is_null_choice (object ms)) (is_combined (o
         → IsReady (if s then object ms else if o then or_null (object ms) else object (with_null ms))
     go true o is h = h
     go false true is h = inl (
-      record { combined = refl; offers = λ stays. inr (inl (λ patterns follow. of_null patterns follow null)) },
+      λ dialect draft. record {
+        combined = refl;
+        offers = λ stays. inr (inl (null_fits dialect draft));
+      },
       refl,
     )
-    go false false is (inl p) = absurd (true≢false (sym p.0.combined ∙ is))
+    go false false is (inl p) = absurd (true≢false (sym (p.0 draft2020_12 (inl refl)).combined ∙ is))
     go false false is (inr p) = inr (plain-with_null ms p)
 ready-allow_null null r = absurd r
 ready-allow_null (number n) r = absurd r
@@ -199,56 +184,65 @@ kept g typed admits_const admits k =
     go false false false p q r = refl
 
 -- a plain schema whose type is null, and whose values admit it, accepts it
-plain_null : (ms : Members) → IsPlain ms → is_null_schema (object ms) ≡ true → AcceptsNull (object ms)
-plain_null ms p is patterns f =
+plain_null : (ms : Members) → IsPlain ms → is_null_schema (object ms) ≡ true
+    → (dialect : Dialect) → IsDraft dialect → AcceptsNull dialect (object ms)
+plain_null ms p is = each_draft (λ d. AcceptsNull d (object ms)) (λ siblings prefix unevaluated patterns f.
+    let at : Context = c siblings prefix unevaluated patterns f in
     let g : Raw = λ k. get_member k ms in
     let parts = alone_parts ms p.alone in
     let said = and-parts _ _ is in
     let values = and-parts _ _ said.1 in
-    ap (λ j. j.fits null) (judge-object (c patterns f) ms ∙ says-agree (c patterns f) g (nulled g)
-    (λ k key. kept g said.0 values.0 values.1 k))
-    ∙ null_says patterns f g p.type_form (one_form ms p.values) p.not_form parts.0 parts.1 parts.2 parts.3
+    ap (λ j. j.fits null) (judge-object at ms ∙ says-agree at g (nulled g) (λ k key. kept g said.0 values.0 values.1 k))
+    ∙ null_says siblings prefix unevaluated patterns f g p.type_form (one_form ms p.values) p.not_form
+    parts.0 parts.1 parts.2 parts.3)
 
-pub ready_null : (t : Data) → IsReady t → is_null_schema t ≡ true → AcceptsNull t
-ready_null (boolean b) r is = absurd (true≢false (sym is))
-ready_null (object ms) (inl choice) is =
+ready_null : (dialect : Dialect) → IsDraft dialect → (t : Data) → IsReady t → is_null_schema t ≡ true
+    → AcceptsNull dialect t
+ready_null dialect draft (boolean b) r is = absurd (true≢false (sym is))
+ready_null dialect draft (object ms) (inl choice) is =
     let typed : is_text (codes "null") (option_and_then as_str (get_member (codes "type") ms)) ≡ true = (and-parts _ _ is).0 in
     absurd (true≢false (sym typed ∙ ap (λ o. is_text (codes "null") (option_and_then as_str o)) choice.1))
-ready_null (object ms) (inr p) is = plain_null ms p is
-ready_null null r is = absurd r
-ready_null (number n) r is = absurd r
-ready_null (string s) r is = absurd r
-ready_null (array ds) r is = absurd r
+ready_null dialect draft (object ms) (inr p) is = plain_null ms p is dialect draft
+ready_null dialect draft null r is = absurd r
+ready_null dialect draft (number n) r is = absurd r
+ready_null dialect draft (string s) r is = absurd r
+ready_null dialect draft (array ds) r is = absurd r
 
 -- one of such schemas accepts null where one of them is the schema of null
 abbrev pub AreReady : List Data → Type 0
 AreReady [] = Unit {0}
 AreReady (t ∷ ts) = IsReady t × AreReady ts
 
-pub some_accepts_null : (ts : List Data) → AreReady ts → holds_null_schema (items_of ts) ≡ true → SomeAcceptsNull (items_of ts)
-some_accepts_null [] r is = absurd (true≢false (sym is))
-some_accepts_null (t ∷ ts) r is = go (is_null_schema t) refl is (some_accepts_null ts r.1)
+pub some_accepts_null : (dialect : Dialect) → IsDraft dialect → (ts : List Data) → AreReady ts
+    → holds_null_schema (items_of ts) ≡ true → SomeAcceptsNull dialect (items_of ts)
+some_accepts_null dialect draft [] r is = absurd (true≢false (sym is))
+some_accepts_null dialect draft (t ∷ ts) r is = go (is_null_schema t) refl is (some_accepts_null dialect draft ts r.1)
   where
     go : (b : Bool) → is_null_schema t ≡ b → b || holds_null_schema (items_of ts) ≡ true
-        → (holds_null_schema (items_of ts) ≡ true → SomeAcceptsNull (items_of ts)) → AcceptsNull t ⊎ SomeAcceptsNull (items_of ts)
-    go true e h later = inl (ready_null t r.0 e)
+        → (holds_null_schema (items_of ts) ≡ true → SomeAcceptsNull dialect (items_of ts))
+        → AcceptsNull dialect t ⊎ SomeAcceptsNull dialect (items_of ts)
+    go true e h later = inl (ready_null dialect draft t r.0 e)
     go false e h later = inr (later h)
 
-pub nullable-schema : (t : Data) → IsNullable t → IsSchema t
-nullable-schema (boolean b) h = tt
-nullable-schema (object ms) h = tt
-nullable-schema null h = absurd h
-nullable-schema (number n) h = absurd h
-nullable-schema (string s) h = absurd h
-nullable-schema (array ds) h = absurd h
-
 pub ready-schema : (t : Data) → IsReady t → IsSchema t
-ready-schema t r = nullable-schema t (ready_nullable t r)
+ready-schema (boolean b) r = tt
+ready-schema (object ms) r = tt
+ready-schema null r = absurd r
+ready-schema (number n) r = absurd r
+ready-schema (string s) r = absurd r
+ready-schema (array ds) r = absurd r
+
+-- ---- the law
+
+pub allow_null-law : (old new : Data) → new ≡ allow_null old
+    → (dialect : Dialect) → IsDraft dialect → IsNullable dialect old → AcceptsNullToo dialect old new
+allow_null-law old new e dialect draft r patterns follow v b h =
+    rw e (allow_null-says dialect draft patterns follow old r v b h)
+
+pub ready-law : (dialect : Dialect) → IsDraft dialect → (t : Data) → IsReady t → AcceptsNullToo dialect t (allow_null t)
+ready-law dialect draft t r = allow_null-law t (allow_null t) refl dialect draft (ready_nullable dialect draft t r)
 
 -- ---- for the code
-
-pub allow_null-law : (old new : Data) → new ≡ allow_null old → IsNullable old → AcceptsNullToo old new
-allow_null-law old new e r patterns follow v b h = rw e (allow_null-says patterns follow old r v b h)
 
 pub empty_accepts : (b : Bool) (es : List Entry) → (IsTrue b → length es ≡ 0) → (length es ≡ 0 → IsTrue b)
     → b ≡ accepts_everything (Some (object (members_view es)))

@@ -3,14 +3,14 @@ ghost use Rattle.serde_json.specs.Data.{Data, string, array, object, no_items, i
 ghost use Rattle.serde_json.specs.Find.{get, get_member, as_object, as_str};
 ghost use Rattle.serde_json.specs.View.{view, items_view};
 ghost use Rattle.schemars_schema.specs.SchemaData.{members_in};
-ghost use Rattle.schemars_schema.specs.Acceptance.{is_null};
+ghost use Rattle.schemars_schema.specs.Acceptance.{Dialect, is_null};
 ghost use Rattle.schemars_rewrite.specs.AllowNull.{allow_null, null_schema, is_null_schema, holds_null};
 ghost use Rattle.schemars_rewrite.specs.AllowNull.{holds_null_schema, const_admits_null, enum_admits_null, offers_null};
 ghost use Rattle.schemars_rewrite.specs.AllowNull.{has_one_member, is_null_choice, is_combined, accepts_everything};
 ghost use Rattle.schemars_rewrite.specs.AllowNull.{is_text, holds_text, with_item, type_with_null, null_in_type};
 ghost use Rattle.schemars_rewrite.specs.AllowNull.{enum_with_null, null_in_enum, const_or_null, null_in_values};
 ghost use Rattle.schemars_rewrite.specs.AllowNull.{or_null};
-ghost use Rattle.schemars_rewrite.specs.NullLaw.{IsNullable, AcceptsNullToo};
+ghost use Rattle.schemars_rewrite.specs.NullLaw.{IsDraft, IsNullable, AcceptsNullToo};
 ghost use Rattle.schemars_rewrite.specs.Variants.{unit_variant, externally_tagged_variant};
 ghost use Rattle.std.specs.Prelude.{None};
 ghost use Rattle.serde_json.specs.Find.{as_bool};
@@ -30,7 +30,8 @@ use std::mem;
 /// becomes an `enum` of its value and null.
 pub fn allow_null(alloc: Global, schema: &mut Schema) -> Result<(), AllocError>
     ensures becomes { OnOk result (schema.new ≡ allow_null schema.old) }
-    ensures law { OnOk result (IsNullable schema.old → AcceptsNullToo schema.old schema.new) }
+    ensures law { OnOk result ((dialect : Dialect) → IsDraft dialect
+        → IsNullable dialect schema.old → AcceptsNullToo dialect schema.old schema.new) }
 {
     make_nullable(alloc, schema)?;
     Ok(())

@@ -15,11 +15,11 @@ use Rattle.schemars_json.specs.Json.{Text}
 use Rattle.schemars_schema.specs.Verdict.{Yes, verdict}
 use Rattle.schemars_schema.specs.SchemaData.{IsSchema, members_in}
 use Rattle.schemars_schema.specs.Acceptance.{Patterns, Judge, judge, read_data, all_keywords, by_position, each_past}
-use Rattle.schemars_schema.specs.Acceptance.{each_member, is_null}
+use Rattle.schemars_schema.specs.Acceptance.{draft2020_12, each_member, is_null}
 use Rattle.schemars_schema.proofs.Objects.{IsSilent, judge-put}
 use Rattle.schemars_rewrite.specs.AllowNull.{allow_null}
 use Rattle.schemars_rewrite.specs.NullLaw.{context2020_12}
-use Rattle.schemars_rewrite.proofs.Nulls.{IsReady, ready_nullable, ready-allow_null, ready-schema, allow_null-law}
+use Rattle.schemars_rewrite.proofs.Nulls.{IsReady, ready-law, ready-allow_null, ready-schema}
 use Rattle.schemars_documents.specs.Documents.{type_alone, byte_document, with_meta_schema}
 use Rattle.schemars_sample.specs.Accepted.{AcceptsExample}
 use Rattle.schemars_sample.specs.Example.{Example, truth, whole, character, text, bytes, no_value, some_value}
@@ -75,7 +75,7 @@ module _ (patterns : Patterns) (follow : Text → Judge) where
   sound-nullable s r h = (
     ready-schema (allow_null s) (ready-allow_null s r),
     λ v. let told = h.1 v in
-        (is_null v || told.0, allow_null-law s (allow_null s) refl (ready_nullable s r) patterns follow v told.0 told.1),
+        (is_null v || told.0, ready-law draft2020_12 (inl refl) s r patterns follow v told.0 told.1),
   )
 
   mutual
@@ -192,7 +192,7 @@ module _ (patterns : Patterns) (follow : Text → Judge) where
         (list-says patterns follow byte_document tt (items_of (map (λ b. number (unsigned b)) bs)) ∙ bytes-fit bs parts.0)
     accepted no_value json e = refl
     accepted (some_value x) json e =
-        allow_null-law (sample_schema x) (sample_schema (some_value x)) refl (ready_nullable _ (ready x)) patterns follow json true
+        ready-law draft2020_12 (inl refl) (sample_schema x) (ready x) patterns follow json true
         (accepted x json e) ∙ ap verdict (or-true (is_null json))
     accepted unit_struct json e = subst (λ v. Fits (sample_schema unit_struct) v) (same_Some _ json e) refl
     accepted (unit_variant variant) json e = refl
