@@ -1,5 +1,8 @@
 -- The lemmas of the proofs.
 pub mod Reading
+pub mod Written
+pub mod LibraryShapes
 mod Examples
+mod WrittenExamples
 mod Samples
 mod SampleJson

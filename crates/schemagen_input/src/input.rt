@@ -1,8 +1,10 @@
 //! The table that a JSON value says.
-ghost use Rattle.std.specs.Prelude.{◌≡◌, [], true, None, Some, IfOk, IfErr, option_map, length};
+ghost use Rattle.std.specs.Prelude.{◌≡◌, ◌≢◌, ◌<◌, ℕ, List, [], true, None, Some, IfOk, IfErr, option_map, length};
 ghost use Rattle.serde_json.specs.View.{view, items_view};
 ghost use Rattle.schemagen_forms.specs.Forms.{needed};
-ghost use Rattle.schemagen_input.specs.Input.{heading_in, unentered, is_complete, table_in};
+ghost use Rattle.schemagen_input.specs.Input.{heading_in, unentered, is_complete, table_in, input_of};
+ghost use Rattle.schemagen_input.specs.Written.{json_of, CanBeWritten};
+ghost use Rattle.schemars_types.specs.Rows.{Row};
 ghost use Rattle.schemagen_input.specs.Reading.{headings_in, reserved_after, fitting_after};
 ghost use Rattle.serde_json.specs.Find.{as_array};
 
@@ -76,10 +78,19 @@ fn items_in<'v>(value: &'v Value, name: &str) -> Option<&'v Vec<Value>>
 /// `inline` and `notes`. No two rows have one id, and each number in a shape is a row's: the row's
 /// own, or one before or behind it. The notes of rows, fields and variants are objects with any
 /// members.
+///
+/// The JSON of a table reads back as that table, and each table that is read can be written so.
 pub fn read_input(alloc: Global, value: &Value) -> Result<(Types, TypeNo), InputError>
     ensures ok { IfOk result (λ t. table_in (view value.now) ≡ Some (t.0, t.1)) }
     ensures complete { IfOk result (λ t. is_complete t.0 ≡ true) }
     ensures bad { IfErr result (λ e. e ≡ InputError.BadTable → table_in (view value.now) ≡ None) }
+    ensures read_back { (rows : List Row) (root : ℕ) → CanBeWritten rows
+        → view value.now ≡ json_of rows root → IfOk result (λ t. (t.0 ≡ rows) × (t.1 ≡ root)) }
+    ensures not_refused { (rows : List Row) (root : ℕ) → CanBeWritten rows
+        → view value.now ≡ json_of rows root → IfErr result (λ e. e ≢ InputError.BadTable) }
+    ensures can_be_written { IfOk result (λ t. CanBeWritten t.0) }
+    ensures input { (rows : List Row) (root : ℕ) → CanBeWritten rows
+        → root < length rows → input_of (json_of rows root) ≡ Some (rows, root) }
 {
     if !has_only(value, &["types", "root"]) {
         return Err(InputError::BadTable);
