@@ -106,3 +106,10 @@ unfoldable mutual
 -- the text of a schema
 abbrev pub ordered_text : Data → Text
 ordered_text d = text_in SchemaLayout d
+
+abbrev pub object_text : Layout → Members → Text
+object_text layout ms = text_in layout (object ms)
+
+-- the text of definitions: schemas by name
+abbrev pub definitions_text : Members → Text
+definitions_text ms = object_text NamedSchemas ms

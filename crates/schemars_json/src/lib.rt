@@ -8,5 +8,5 @@ mod output;
 mod sending;
 
 pub use equality::{json_eq, json_eq_members};
-pub use ordered::to_ordered_string;
+pub use ordered::{definitions_to_ordered_string, to_ordered_string};
 pub use sending::send_ordered;

@@ -7,7 +7,7 @@ ghost use Rattle.serde_json.specs.Written.{has_float, items_have_float, members_
 ghost use Rattle.schemars_json.specs.OrderedText.{first_keywords, last_keywords, is_listed, holds_plain_json};
 ghost use Rattle.schemars_json.specs.OrderedText.{holds_named_schemas, SchemaLayout, layout_under, layout_inside};
 ghost use Rattle.schemars_json.specs.OrderedText.{each_written_at, others, arranged, texts, ordered_text, text_in};
-ghost use Rattle.schemars_json.specs.OrderedText.{item_texts, member_texts};
+ghost use Rattle.schemars_json.specs.OrderedText.{item_texts, member_texts, definitions_text, object_text};
 ghost use Rattle.schemars_json.specs.Output.{with_value, with_values, meant};
 
 use crate::output::Output;
@@ -31,6 +31,20 @@ pub fn to_ordered_string(alloc: Global, schema: &Value) -> Result<String, AllocE
 {
     let mut out = Output::new(alloc);
     write_value(schema, Layout::Schema, &mut out)?;
+    Ok(out.into_string())
+}
+
+/// Definitions as compact JSON: one object in map order, with each definition written as by `to_ordered_string`.
+pub fn definitions_to_ordered_string(
+    alloc: Global,
+    definitions: &Map<String, Value>,
+) -> Result<String, AllocError>
+    ensures ordered { IfOk result (λ s. members_have_float (members_view definitions.now.entries) ≡ false
+        → string_bytes s ≡ definitions_text (members_view definitions.now.entries)) }
+    ensures compact { IfOk result (λ s. string_bytes s ≡ print (tokens (string_bytes s))) }
+{
+    let mut out = Output::new(alloc);
+    write_object(definitions, Layout::NamedSchemas, &mut out)?;
     Ok(out.into_string())
 }
 
@@ -137,12 +151,23 @@ fn write_value(value: &Value, layout: Layout, out: &mut Output) -> Result<(), Al
             write_items(items, layout.inside(), out)?;
             out.token(Token::EndArray)?;
         }
-        Value::Object(members) => {
-            out.token(Token::BeginObject)?;
-            write_members(members, layout, out)?;
-            out.token(Token::EndObject)?;
-        }
+        Value::Object(members) => write_object(members, layout, out)?,
     }
+    Ok(())
+}
+
+#[cycle(write)]
+fn write_object(
+    members: &Map<String, Value>,
+    layout: Layout,
+    out: &mut Output,
+) -> Result<(), AllocError>
+    ensures { OnOk result (members_have_float (members_view members.now.entries) ≡ false
+        → out.new ≡ with_value out.old (object_text (meant layout) (members_view members.now.entries))) }
+{
+    out.token(Token::BeginObject)?;
+    write_members(members, layout, out)?;
+    out.token(Token::EndObject)?;
     Ok(())
 }
 

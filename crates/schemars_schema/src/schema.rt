@@ -11,6 +11,7 @@ ghost use Rattle.schemars_schema.specs.Acceptance.{Dialect, Patterns, accepts};
 ghost use Rattle.schemars_schema.specs.Edits.{removed, replaced, without};
 
 use crate::error::NotASchema;
+pub use schemars_json::definitions_to_ordered_string;
 use serde_json::{Map, Value};
 use std::alloc::{AllocError, Global};
 use std::marker::Model;

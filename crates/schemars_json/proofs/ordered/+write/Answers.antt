@@ -1,5 +1,5 @@
 -- A list or an object is its parts between brackets, and a keyword's member is found by its key.
-use Rattle.std.proofs.Common.{ap, ◌∙◌}
+use Rattle.std.proofs.Common.{refl, ap, ◌∙◌}
 use Rattle.serde_json.specs.View.{view, members_view}
 use Rattle.serde_json.proofs.Views.{view-Array, view-Object}
 use Rattle.schemars_json.specs.OrderedText.{SchemaLayout, first_keywords, last_keywords, member_texts, others, each_written_at}
@@ -12,10 +12,14 @@ write_value-returns-in_ok-token-in-Array-2 t c =
     array_written _ _ _ _ _ _ _ _ (ap view c.in-Array.is ∙ view-Array c.in-Array.items) c.inside.ensures
     c.in_ok-token-in-Array.ensures c.in_ok-write_items-in-Array.ensures c.in_ok-token-in-Array-2.ensures
 
-pub write_value-returns-in_ok-token-in-Object-2 : goal.write_value-returns-in_ok-token-in-Object-2
-write_value-returns-in_ok-token-in-Object-2 t c =
-    object_written _ _ _ _ _ _ _ (ap view c.in-Object.is ∙ view-Object c.in-Object.members)
-    c.in_ok-token-in-Object.ensures c.in_ok-write_members-in-Object.ensures c.in_ok-token-in-Object-2.ensures
+pub write_value-returns-in_ok-write_object-in-Object : goal.write_value-returns-in_ok-write_object-in-Object
+write_value-returns-in_ok-write_object-in-Object t c = λ none.
+    let is = ap view c.in-Object.is ∙ view-Object c.in-Object.members in
+    rw is (c.in_ok-write_object-in-Object.ensures (rw is at none))
+
+pub write_object-returns : goal.write_object-returns
+write_object-returns t c =
+    object_written _ _ _ _ _ _ _ refl c.in_ok-token.ensures c.in_ok-write_members.ensures c.in_ok-token-2.ensures
 
 pub write_members-returns-in_ok-write_keywords-in-Schema-2 : goal.write_members-returns-in_ok-write_keywords-in-Schema-2
 write_members-returns-in_ok-write_keywords-in-Schema-2 t c = λ none.
