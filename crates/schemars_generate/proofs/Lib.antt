@@ -1,2 +1,1 @@
-pub mod Untouched
-pub mod Drafts
+pub mod BuiltIns

@@ -18,6 +18,7 @@ ghost use Rattle.schemars_error.specs.Refusals.{HasFault};
 ghost use Rattle.schemars_roots.specs.Through.{IsThrough, AreThrough, AreTurnedDown, IsRootRefused};
 ghost use Rattle.schemars_roots.specs.Through.{IsUntransformed, IsUntransformedCall, IsRefused};
 ghost use Rattle.schemars_transforms.specs.Member.{some_own};
+ghost use Rattle.schemars_transforms.specs.BuiltIn.{IsMadeBy, each_made_by};
 ghost use Rattle.std.specs.Borrow.{sem};
 ghost use Rattle.schemars_generate.specs.Lends.{LendsDefinitions};
 ghost use Rattle.schemars_generate.specs.Settings.{settings_of, state, ApplyInOrder, AreSettingsCopied};
@@ -230,6 +231,9 @@ impl<O: Transform + Drop> SchemaGenerator<O> {
         ensures through { apply_transforms ≡ true → IfOk result (λ m. AreThrough (ApplyInOrder O.makes)
             self.old.settings.transforms self.new.settings.transforms (state self.old).definitions
             (members_view m.entries)) }
+        ensures built_in { apply_transforms ≡ true → some_own self.old.settings.transforms.items ≡ false
+            → IfOk result (λ m. members_view m.entries
+            ≡ each_made_by self.old.settings.transforms.items (state self.old).definitions) }
         ensures rest { OnOk result (state self.new ≡ record (state self.old) { definitions = no_members }) }
         ensures own { OnOk result (HasOwnDefinitions (state self.new)) }
         ensures keys { OnOk result (ReferencesNameKeys (state self.new)) }
@@ -238,6 +242,8 @@ impl<O: Transform + Drop> SchemaGenerator<O> {
             ((e ≡ GenerateError.OutOfMemory) × (self.new.settings.transforms ≡ self.old.settings.transforms))
             ⊎ AreTurnedDown (ApplyInOrder O.makes) self.old.settings.transforms self.new.settings.transforms
             (state self.old).definitions e) }
+        ensures only_memory { some_own self.old.settings.transforms.items ≡ false
+            → IfErr result (λ e. e ≡ GenerateError.OutOfMemory) }
         ensures err { OnErr result (state self.new ≡ state self.old) }
     {
         if !apply_transforms {
@@ -263,8 +269,9 @@ impl<O: Transform + Drop> SchemaGenerator<O> {
             → IfOk result (RootHeadlineUnder draft07 (codes "/definitions") (state self.old) n) }
         ensures draft2019_09 { self.old.settings.transforms.items ≡ transforms2019_09
             → IfOk result (RootHeadlineUnder draft2019_09 (codes "/$defs") (state self.old) n) }
-        ensures untransformed { self.old.settings.transforms.items ≡ []
-            → IfOk result (IsUntransformedCall (state self.old) n (state self.new)) }
+        ensures built_in { some_own self.old.settings.transforms.items ≡ false
+            → IfOk result (IsMadeBy self.old.settings.transforms.items
+            (IsUntransformedCall (state self.old) n (state self.new))) }
         ensures root { IfOk result (IsThrough (ApplyInOrder O.makes) self.old.settings.transforms
             self.new.settings.transforms (IsUntransformedCall (state self.old) n (state self.new))) }
         ensures own { HasOwnDefinitions (state self.old) → HasOwnDefinitions (state self.new) }
@@ -273,9 +280,9 @@ impl<O: Transform + Drop> SchemaGenerator<O> {
         ensures unknown { (result ≡ Err (GenerateError.UnknownType n)) ↔ (length self.old.contents.rows ≤ n) }
         ensures refused { IfErr result (IsRootRefused (ApplyInOrder O.makes) self.old.settings.transforms
             self.new.settings.transforms (state self.old) n) }
-        ensures refused_untransformed { self.old.settings.transforms.items ≡ []
+        ensures refused_built_in { some_own self.old.settings.transforms.items ≡ false
             → IfErr result (λ e. (e ≡ GenerateError.UnknownType n) ⊎ IsRefused (state self.old) n e) }
-        ensures only_memory { self.old.settings.transforms.items ≡ [] → HasPlainNotes self.old.contents.rows
+        ensures only_memory { some_own self.old.settings.transforms.items ≡ false → HasPlainNotes self.old.contents.rows
             → IsDraftPath (path_of (state self.old)) → n < length self.old.contents.rows
             → IfErr result (λ e. e ≡ GenerateError.OutOfMemory) }
         ensures err { OnErr result (state self.new ≡ state self.old) }
@@ -300,15 +307,16 @@ impl<O: Transform + Drop> SchemaGenerator<O> {
             → IfOk result (RootHeadlineUnder draft07 (codes "/definitions") (state self) n) }
         ensures draft2019_09 { self.settings.transforms.items ≡ transforms2019_09
             → IfOk result (RootHeadlineUnder draft2019_09 (codes "/$defs") (state self) n) }
-        ensures untransformed { self.settings.transforms.items ≡ [] → IfOk result (IsUntransformed (state self) n) }
+        ensures built_in { some_own self.settings.transforms.items ≡ false
+            → IfOk result (IsMadeBy self.settings.transforms.items (IsUntransformed (state self) n)) }
         ensures root { IfOk result (λ d. (after : _) × IsThrough (ApplyInOrder O.makes) self.settings.transforms after
             (IsUntransformed (state self) n) d) }
         ensures unknown { (result ≡ Err (GenerateError.UnknownType n)) ↔ (length self.contents.rows ≤ n) }
         ensures refused { IfErr result (λ e. (after : _)
             × IsRootRefused (ApplyInOrder O.makes) self.settings.transforms after (state self) n e) }
-        ensures refused_untransformed { self.settings.transforms.items ≡ []
+        ensures refused_built_in { some_own self.settings.transforms.items ≡ false
             → IfErr result (λ e. (e ≡ GenerateError.UnknownType n) ⊎ IsRefused (state self) n e) }
-        ensures only_memory { self.settings.transforms.items ≡ [] → HasPlainNotes self.contents.rows
+        ensures only_memory { some_own self.settings.transforms.items ≡ false → HasPlainNotes self.contents.rows
             → IsDraftPath (path_of (state self)) → n < length self.contents.rows
             → IfErr result (λ e. e ≡ GenerateError.OutOfMemory) }
     {

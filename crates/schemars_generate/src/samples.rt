@@ -1,10 +1,12 @@
 //! Root documents from example values.
-ghost use Rattle.std.specs.Prelude.{[], ◌≡◌, IfOk, IfErr};
+ghost use Rattle.std.specs.Prelude.{◌≡◌, false, IfOk, IfErr};
 ghost use Rattle.schemars_headline.specs.Headline.{IsDraftPath};
 ghost use Rattle.schemars_headline.specs.State.{path_of};
 ghost use Rattle.schemars_roots.specs.Samples.{IsSampleRoot, IsSampleRefused, IsSampleRefusedThrough};
 ghost use Rattle.schemars_roots.specs.Through.{IsThrough};
 ghost use Rattle.schemars_sample.specs.Example.{example_of};
+ghost use Rattle.schemars_transforms.specs.BuiltIn.{IsMadeBy};
+ghost use Rattle.schemars_transforms.specs.Member.{some_own};
 ghost use Rattle.schemars_generate.specs.Settings.{settings_of, state, ApplyInOrder};
 
 use crate::generate::SchemaGenerator;
@@ -27,17 +29,18 @@ impl<O: Transform + Drop> SchemaGenerator<O> {
         alloc: Global,
         value: &Sample,
     ) -> Result<Schema, GenerateError>
-        ensures untransformed { self.old.settings.transforms.items ≡ [] → IfOk result
-            (IsSampleRoot (settings_of self.old.settings) self.old.contents.definitions (example_of value.now)) }
+        ensures built_in { some_own self.old.settings.transforms.items ≡ false
+            → IfOk result (IsMadeBy self.old.settings.transforms.items
+            (IsSampleRoot (settings_of self.old.settings) self.old.contents.definitions (example_of value.now))) }
         ensures root { IfOk result (IsThrough (ApplyInOrder O.makes) self.old.settings.transforms
             self.new.settings.transforms
             (IsSampleRoot (settings_of self.old.settings) self.old.contents.definitions (example_of value.now))) }
         ensures refused { IfErr result (IsSampleRefusedThrough (ApplyInOrder O.makes) self.old.settings.transforms
             self.new.settings.transforms (settings_of self.old.settings) self.old.contents.definitions
             (example_of value.now)) }
-        ensures refused_untransformed { self.old.settings.transforms.items ≡ [] → IfErr result
+        ensures refused_built_in { some_own self.old.settings.transforms.items ≡ false → IfErr result
             (IsSampleRefused (settings_of self.old.settings) self.old.contents.definitions (example_of value.now)) }
-        ensures only_memory { self.old.settings.transforms.items ≡ [] → IsDraftPath (path_of (state self.old))
+        ensures only_memory { some_own self.old.settings.transforms.items ≡ false → IsDraftPath (path_of (state self.old))
             → IfErr result (λ e. e ≡ GenerateError.OutOfMemory) }
         ensures rest { state self.new ≡ state self.old }
     {
@@ -56,16 +59,16 @@ impl<O: Transform + Drop> SchemaGenerator<O> {
         alloc: Global,
         value: &Sample,
     ) -> Result<Schema, GenerateError>
-        ensures untransformed { self.settings.transforms.items ≡ [] → IfOk result
-            (IsSampleRoot (settings_of self.settings) self.contents.definitions (example_of value.now)) }
+        ensures built_in { some_own self.settings.transforms.items ≡ false → IfOk result (IsMadeBy self.settings.transforms.items
+            (IsSampleRoot (settings_of self.settings) self.contents.definitions (example_of value.now))) }
         ensures root { IfOk result (λ d. (after : _) × IsThrough (ApplyInOrder O.makes) self.settings.transforms after
             (IsSampleRoot (settings_of self.settings) self.contents.definitions (example_of value.now)) d) }
         ensures refused { IfErr result (λ e. (after : _) × IsSampleRefusedThrough (ApplyInOrder O.makes)
             self.settings.transforms after (settings_of self.settings) self.contents.definitions
             (example_of value.now) e) }
-        ensures refused_untransformed { self.settings.transforms.items ≡ [] → IfErr result
+        ensures refused_built_in { some_own self.settings.transforms.items ≡ false → IfErr result
             (IsSampleRefused (settings_of self.settings) self.contents.definitions (example_of value.now)) }
-        ensures only_memory { self.settings.transforms.items ≡ [] → IsDraftPath (path_of (state self))
+        ensures only_memory { some_own self.settings.transforms.items ≡ false → IsDraftPath (path_of (state self))
             → IfErr result (λ e. e ≡ GenerateError.OutOfMemory) }
     {
         let SchemaGenerator {

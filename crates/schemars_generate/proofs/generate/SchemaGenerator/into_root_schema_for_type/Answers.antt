@@ -1,18 +1,19 @@
-use Rattle.std.proofs.Common.{◌≡◌, ◌<◌, ◌⊎◌, length, codes, Vec, Global, IfOk, IfErr, subst}
+use Rattle.std.proofs.Common.{◌≡◌, ◌<◌, ◌⊎◌, [], length, codes, Vec, Global, IfOk, IfErr, ap, subst}
 use Rattle.schemars_schema.specs.Acceptance.{draft07, draft2019_09}
 use Rattle.schemars_documents.specs.PlainTable.{HasPlainNotes}
 use Rattle.schemars_dialects.specs.Dialects.{RootHeadlineUnder}
 use Rattle.schemars_headline.specs.Calls.{IsLastRootCall}
-use Rattle.schemars_headline.specs.Headline.{IsDraftPath}
+use Rattle.schemars_headline.specs.Headline.{RootHeadline, IsDraftPath}
 use Rattle.schemars_headline.specs.State.{Settings, path_of}
+use Rattle.schemars_transforms.specs.Member.{some_own}
 use Rattle.schemars_transforms.specs.declared.gen_transform.GenTransform.{GenTransform}
 use Rattle.schemars_roots.specs.Settings.{state_with}
 use Rattle.schemars_roots.specs.Through.{IsThrough, IsTurnedDown, IsRootRefused, IsUntransformed}
 use Rattle.schemars_error.specs.declared.error.GenerateError.TheVariants.{OutOfMemory}
 use Rattle.std.proofs.lemmas.Result.{IfOk-weaker, IfErr-weaker}
 use Rattle.schemars_generate.specs.Settings.{settings_of, ApplyInOrder}
-use Rattle.schemars_generate.proofs.Drafts.{through-07, through-2019_09}
-use Rattle.schemars_generate.proofs.Untouched.{untouched, not_turned_down, refused_untouched}
+use Rattle.schemars_generate.specs.Settings.{transforms07, transforms2019_09}
+use Rattle.schemars_generate.proofs.BuiltIns.{built_in, made_by_these, not_turned_down, refused_built_in}
 use Rattle.schemars_generate.proofs.generate.SchemaGenerator.into_root_schema_for_type.Goals as goal
 
 abbrev Ts : Type 0 → Type 0
@@ -44,38 +45,40 @@ returns-clause-refused g c =
     IfErr-weaker r _ _ (λ e h. (u, h))
     (subst (λ t. P (settings_of before) t) c.replace-transforms.ensures.value told)
 
-pub returns-clause-untransformed : goal.returns-clause-untransformed
-returns-clause-untransformed g c =
+pub returns-clause-built_in : goal.returns-clause-built_in
+returns-clause-built_in g c =
     let r = c.into_root_schema.result in
     let Q = g.O.Transform.makes in
-    let before = c.args.self.settings in
+    let ts = c.args.self.settings.transforms in
     λ none.
-    IfOk-weaker r _ _ (λ d h. untouched Q before.transforms h.0 _ d none h.1) (returns-clause-root g c)
+    IfOk-weaker r _ _ (λ d h. built_in Q ts h.0 none _ d h.1) (returns-clause-root g c)
 
 pub returns-clause-headline : goal.returns-clause-headline
 returns-clause-headline g c =
     let r = c.into_root_schema.result in
-    λ none. IfOk-weaker r _ _ (λ d h. h.headline) (returns-clause-untransformed g c none)
+    let ts = c.args.self.settings.transforms.items in
+    let s = state_with (settings_of c.args.self.settings) c.args.self.contents in
+    λ is.
+    IfOk-weaker r _ _ (λ d h. made_by_these ts [] _ (RootHeadline s c.args.n) d is (λ e i. i.headline) h)
+    (returns-clause-built_in g c (ap some_own is))
 
 pub returns-clause-draft07 : goal.returns-clause-draft07
 returns-clause-draft07 g c =
     let r = c.into_root_schema.result in
-    let Q = g.O.Transform.makes in
-    let before = c.args.self.settings in
-    let s = state_with (settings_of before) c.args.self.contents in
+    let ts = c.args.self.settings.transforms.items in
+    let s = state_with (settings_of c.args.self.settings) c.args.self.contents in
     λ is.
-    IfOk-weaker r _ _ (λ d h. through-07 Q before.transforms h.0 _ (RootHeadlineUnder draft07 (codes "/definitions") s c.args.n) d is
-    (λ e i. i.draft07) h.1) (returns-clause-root g c)
+    IfOk-weaker r _ _ (λ d h. made_by_these ts transforms07 _ (RootHeadlineUnder draft07 (codes "/definitions") s c.args.n) d is (λ e i. i.draft07) h)
+    (returns-clause-built_in g c (ap some_own is))
 
 pub returns-clause-draft2019_09 : goal.returns-clause-draft2019_09
 returns-clause-draft2019_09 g c =
     let r = c.into_root_schema.result in
-    let Q = g.O.Transform.makes in
-    let before = c.args.self.settings in
-    let s = state_with (settings_of before) c.args.self.contents in
+    let ts = c.args.self.settings.transforms.items in
+    let s = state_with (settings_of c.args.self.settings) c.args.self.contents in
     λ is.
-    IfOk-weaker r _ _ (λ d h. through-2019_09 Q before.transforms h.0 _ (RootHeadlineUnder draft2019_09 (codes "/$defs") s c.args.n) d is
-    (λ e i. i.draft2019_09) h.1) (returns-clause-root g c)
+    IfOk-weaker r _ _ (λ d h. made_by_these ts transforms2019_09 _ (RootHeadlineUnder draft2019_09 (codes "/$defs") s c.args.n) d is (λ e i. i.draft2019_09) h)
+    (returns-clause-built_in g c (ap some_own is))
 
 pub returns-clause-only_memory : goal.returns-clause-only_memory
 returns-clause-only_memory g c =
@@ -92,15 +95,15 @@ returns-clause-only_memory g c =
     let told = subst (λ x. P x c.replace-transforms.result) c.document-document.ensures c.into_root_schema.ensures.only_memory in
     let all = subst (λ t. P (settings_of before) t) c.replace-transforms.ensures.value told in
     λ none plain path known.
-    IfErr-weaker r _ _ (λ e h. not_turned_down Q before.transforms u
-    (IsLastRootCall s c.args.n) e none h) (all plain path known)
+    IfErr-weaker r _ _ (λ e h. not_turned_down Q before.transforms u none
+    (IsLastRootCall s c.args.n) e h) (all plain path known)
 
-pub returns-clause-refused_untransformed : goal.returns-clause-refused_untransformed
-returns-clause-refused_untransformed g c =
+pub returns-clause-refused_built_in : goal.returns-clause-refused_built_in
+returns-clause-refused_built_in g c =
     let r = c.into_root_schema.result in
     let old = c.args.self.contents in
     let Q = g.O.Transform.makes in
     let before = c.args.self.settings in
     λ none.
-    IfErr-weaker r _ _ (λ e h. refused_untouched Q before.transforms h.0
-    (state_with (settings_of before) old) c.args.n e none h.1) (returns-clause-refused g c)
+    IfErr-weaker r _ _ (λ e h. refused_built_in Q before.transforms h.0 none
+    (state_with (settings_of before) old) c.args.n e h.1) (returns-clause-refused g c)

@@ -7,7 +7,7 @@ use Rattle.schemars_roots.specs.Samples.{IsSampleRoot, IsSampleRefusedThrough}
 use Rattle.schemars_roots.specs.Through.{IsThrough}
 use Rattle.std.proofs.lemmas.Result.{IfOk-weaker, IfErr-weaker}
 use Rattle.schemars_generate.specs.Settings.{settings_of, ApplyInOrder}
-use Rattle.schemars_generate.proofs.Untouched.{untouched, sample_untouched, sample_memory}
+use Rattle.schemars_generate.proofs.BuiltIns.{built_in, sample_built_in, sample_memory}
 use Rattle.schemars_generate.proofs.generate.SchemaGenerator.into_root_schema_for_value.Goals as goal
 
 abbrev Ts : Type 0 → Type 0
@@ -39,23 +39,23 @@ returns-clause-refused g c =
     IfErr-weaker r _ _ (λ e h. (u, h))
     (subst (λ t. P (settings_of before) t) c.replace-transforms.ensures.value told)
 
-pub returns-clause-untransformed : goal.returns-clause-untransformed
-returns-clause-untransformed g c =
+pub returns-clause-built_in : goal.returns-clause-built_in
+returns-clause-built_in g c =
     let r = c.into_sample_root.result in
     let Q = g.O.Transform.makes in
     let before = c.args.self.settings in
     λ none.
-    IfOk-weaker r _ _ (λ d h. untouched Q before.transforms h.0 _ d none h.1) (returns-clause-root g c)
+    IfOk-weaker r _ _ (λ d h. built_in Q before.transforms h.0 none _ d h.1) (returns-clause-root g c)
 
-pub returns-clause-refused_untransformed : goal.returns-clause-refused_untransformed
-returns-clause-refused_untransformed g c =
+pub returns-clause-refused_built_in : goal.returns-clause-refused_built_in
+returns-clause-refused_built_in g c =
     let r = c.into_sample_root.result in
     let old = c.args.self.contents in
     let Q = g.O.Transform.makes in
     let before = c.args.self.settings in
     λ none.
-    IfErr-weaker r _ _ (λ e h. sample_untouched Q before.transforms h.0 (settings_of before) old.definitions
-    (example_of c.args.value.now) e none h.1) (returns-clause-refused g c)
+    IfErr-weaker r _ _ (λ e h. sample_built_in Q before.transforms h.0 none (settings_of before) old.definitions
+    (example_of c.args.value.now) e h.1) (returns-clause-refused g c)
 
 pub returns-clause-only_memory : goal.returns-clause-only_memory
 returns-clause-only_memory g c =
@@ -64,4 +64,4 @@ returns-clause-only_memory g c =
     let old = c.args.self.contents in
     λ none path.
     IfErr-weaker r _ _ (λ e h. sample_memory (settings_of before) old.definitions (example_of c.args.value.now) e path h)
-    (returns-clause-refused_untransformed g c none)
+    (returns-clause-refused_built_in g c none)

@@ -1,0 +1,56 @@
+-- What a list of built-in transforms makes of documents, and that it refuses for want of memory alone.
+use Rattle.std.proofs.Common.{◌≡◌, ◌⊎◌, inl, inr, ℕ, List, [], Vec, Ok, Err, Global, false, refl, sym, ap, ◌∙◌, subst}
+use Rattle.serde_json.specs.Data.{Data, Members}
+use Rattle.schemars_headline.specs.Headline.{IsDraftPath}
+use Rattle.schemars_headline.specs.State.{State, Settings, stripped}
+use Rattle.schemars_walk.specs.Walk.{Step}
+use Rattle.schemars_transforms.specs.Member.{some_own}
+use Rattle.schemars_transforms.specs.BuiltIn.{made_by, IsMadeBy}
+use Rattle.schemars_transforms.specs.declared.gen_transform.GenTransform.{GenTransform}
+use Rattle.schemars_transforms.proofs.Laws.{built_ins_make, each_wants_memory}
+use Rattle.schemars_sample.specs.Example.{Example}
+use Rattle.schemars_roots.specs.Samples.{IsSampleRefused, IsSampleRefusedThrough}
+use Rattle.schemars_roots.specs.Through.{IsThrough, IsTurnedDown, AreTurnedDown, IsRefused, IsRootRefused}
+use Rattle.schemars_error.specs.Refusals.{told}
+use Rattle.schemars_error.specs.declared.error.GenerateError.{GenerateError}
+use Rattle.schemars_error.specs.declared.error.GenerateError.TheVariants.{OutOfMemory, UnknownType}
+use Rattle.schemars_generate.specs.Settings.{ApplyInOrder}
+
+-- what holds of what these transforms make of each such document holds of theirs
+pub made_by_these : {O : Type 0} (ts fs : List (GenTransform O)) (R P : Data → Type 0) (document : Data) → ts ≡ fs
+    → ((d : Data) → R d → P (made_by fs d)) → IsMadeBy ts R document → P document
+made_by_these ts fs R P document is all (d, here, same) = subst P (sym (same ∙ ap (λ xs. made_by xs d) is)) (all d here)
+
+module _ {O : Type 0} (Q : Step O) (ts us : Vec (GenTransform O) Global) (none : some_own ts.items ≡ false) where
+  pub built_in : (R : Data → Type 0) (document : Data) → IsThrough (ApplyInOrder Q) ts us R document → IsMadeBy ts.items R document
+  built_in R document (d, here, made) = (d, here, built_ins_make Q ts.items us.items d document (Ok tt) none made)
+
+  wants_memory : (R : Data → Type 0) (e : GenerateError) → IsTurnedDown (ApplyInOrder Q) ts us R e → e ≡ OutOfMemory
+  wants_memory R e (a, d, v, here, made, is) = is ∙ ap told (built_ins_make Q ts.items us.items d v (Err a) none made)
+
+  pub not_turned_down : (R : Data → Type 0) (e : GenerateError) → (e ≡ OutOfMemory) ⊎ IsTurnedDown (ApplyInOrder Q) ts us R e
+      → e ≡ OutOfMemory
+  not_turned_down R e (inl memory) = memory
+  not_turned_down R e (inr turned) = wants_memory R e turned
+
+  pub refused_built_in : (s : State) (n : ℕ) (e : GenerateError) → IsRootRefused (ApplyInOrder Q) ts us s n e
+      → (e ≡ UnknownType n) ⊎ IsRefused s n e
+  refused_built_in s n e (inl unknown) = inl unknown.0
+  refused_built_in s n e (inr (inl refused)) = inr refused.0
+  refused_built_in s n e (inr (inr turned)) = inr (inl (wants_memory _ e turned))
+
+  pub sample_built_in : (s : Settings) (definitions : Members) (x : Example) (e : GenerateError)
+      → IsSampleRefusedThrough (ApplyInOrder Q) ts us s definitions x e → IsSampleRefused s definitions x e
+  sample_built_in s definitions x e (inl refused) = refused.0
+  sample_built_in s definitions x e (inr turned) = inl (wants_memory _ e turned)
+
+  pub taken_built_in : {P : Type 0} (definitions : Members) (e : GenerateError)
+      → ((e ≡ OutOfMemory) × P) ⊎ AreTurnedDown (ApplyInOrder Q) ts us definitions e → e ≡ OutOfMemory
+  taken_built_in definitions e (inl memory) = memory.0
+  taken_built_in definitions e (inr (a, taken, made, is)) =
+      is ∙ ap told (each_wants_memory Q ts us definitions taken (Err a) none made)
+
+pub sample_memory : (s : Settings) (definitions : Members) (x : Example) (e : GenerateError)
+    → IsDraftPath (stripped s.definitions_path) → IsSampleRefused s definitions x e → e ≡ OutOfMemory
+sample_memory s definitions x e path (inl memory) = memory
+sample_memory s definitions x e path (inr h) = absurd (h.1.other_path path)
