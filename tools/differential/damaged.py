@@ -10,7 +10,7 @@ VALUES = [None, True, 0, -1, 99, 1.0, -0.0, 2**64, "", "null", "unit", "u9", [],
           {"int": "i8"}, {"tuple": []}, {"deserialize": True}, {"deserialize": True, "serialize": False}]
 MEMBERS = ["notes", "inline", "required", "closed", "flatten", "fields", "payload", "extra", "name", "id",
            "type", "variants", "tag", "shape", "root", "types", "of", "len", "newtype", "struct", "tuple"]
-OTHER_WORDS = ["", "types", "2020-12", "types 2020-12 --Inline", "types --inline 2020-12", "sample",
+OTHER_WORDS = ["", "types", "2020-12", "types draft-7", "types 2019-09 --inline --inline", "types openapi", "types 2020-12 --Inline", "types --inline 2020-12", "sample",
                "types 2020-12 --inline --inline", "types 2020-12 --serialize x", "Types 2020-12"]
 
 

@@ -1,9 +1,9 @@
 """The documents of examples of every kind in each dialect, and random examples."""
 import copy
 
+from dialects import DIALECTS
 from edits import allow_null, ensure_object
 from jsontext import write
-from transforms import TRANSFORMS
 
 NAMES = ["", "A", "B", "é", "two words", "title", "a/b~c"]
 KEYS = ["a", "b", "", "$ref", "type", "properties", "é", "x-1", "examples"]
@@ -17,17 +17,6 @@ MADE = {"Bool": {"type": "boolean"}, "Int": {"type": "integer"}, "UInt": {"type"
 ONE_PART = ["Some", "NewtypeStruct", "NewtypeVariant"]
 ITEMS = ["Seq", "Tuple", "TupleStruct", "TupleVariant"]
 ENTRIES = ["Map", "CollectMap", "Struct", "StructVariant"]
-
-# The meta-schema of each dialect, and what its documents go through.
-DIALECTS = {
-    "draft-07": ("http://json-schema.org/draft-07/schema#",
-                 ["replace_unevaluated_properties", "remove_ref_siblings", "replace_prefix_items"]),
-    "2019-09": ("https://json-schema.org/draft/2019-09/schema", ["replace_prefix_items"]),
-    "2020-12": ("https://json-schema.org/draft/2020-12/schema", []),
-    "openapi3": ("https://spec.openapis.org/oas/3.0/schema/2024-10-18#/definitions/Schema",
-                 ["replace_unevaluated_properties", "replace_bool_schemas skip", "add_nullable",
-                  "remove_ref_siblings", "set_single_example", "replace_const_value", "replace_prefix_items"]),
-}
 
 
 class TooLarge(Exception):
@@ -122,16 +111,14 @@ def schema_object(schema):
 
 def kind_answer(dialect, sample):
     """The root document of an example in a dialect, as a line."""
-    meta_schema, transforms = DIALECTS[dialect]
+    dialect = DIALECTS[dialect]
     document = schema_object(_titled(sample))
     try:
         document["examples"] = [json_form(sample)]
     except TooLarge:
         pass
-    document["$schema"] = meta_schema
-    for name in transforms:
-        document = TRANSFORMS[name](document)
-    return write(document)
+    document["$schema"] = dialect.meta_schema
+    return write(dialect.transformed(document))
 
 
 def _draw_leaf(draw):

@@ -3,6 +3,7 @@ import copy
 import itertools
 from typing import NamedTuple
 
+from dialects import DIALECTS
 from edits import (CLOSING, allow_null, allow_unknown, as_flattened, encode, ensure_object, flatten,
                    parts_in_place, tag_variant, with_notes)
 from jsontext import read_json, write
@@ -10,7 +11,6 @@ from rows import ENUMS, Refused, Table
 
 USAGE = "usage: schemagen types DIALECT [--inline] [--serialize] | schemagen sample DIALECT"
 FLAGS = [[], ["--inline"], ["--serialize"], ["--inline", "--serialize"]]
-DIALECT = "https://json-schema.org/draft/2020-12/schema"
 MOST_DOCUMENTS = 20_000
 
 PLAIN = {"null": {"type": "null"}, "unit": {"type": "null"}, "bool": {"type": "boolean"}, "any": True,
@@ -75,9 +75,10 @@ def _is_plain_unit(variant):
 class Generator:
     """Makes the documents of rows, and keeps the definitions that they refer to."""
 
-    def __init__(self, table, inlining, serializing):
+    def __init__(self, table, root, dialect, inlining, serializing):
         self.rows = table.rows
-        self.root = table.root
+        self.root = root
+        self._path = "#/" + "/".join(dialect.path) + "/"
         self.inlining = inlining
         self.serializing = serializing
         self.definitions = {}
@@ -102,7 +103,7 @@ class Generator:
         row = self.rows[number]
         return with_notes(self._shape(row.shape), row.notes)
 
-    def _use(self, number):
+    def use(self, number):
         """What stands where a row is used: its document, or a reference."""
         if self.rows[number].inline or (self.inlining and number not in self._pending):
             return self.pending_document(number)
@@ -112,7 +113,7 @@ class Generator:
         if name not in self.definitions:
             self.definitions[name] = False
             self.definitions[name] = self.pending_document(number)
-        return {"$ref": "#/$defs/" + encode(name)}
+        return {"$ref": self._path + encode(name)}
 
     def _name(self, number):
         """The row's own name, or where another row took it, with the least free number from 2 on."""
@@ -138,44 +139,44 @@ class Generator:
             case "literal":
                 return copy.deepcopy(content)
             case "newtype":
-                return self._use(content)
+                return self.use(content)
             case "option":
-                return allow_null(self._use(content))
+                return allow_null(self.use(content))
             case "seq":
-                return {"type": "array", "items": self._use(content)}
+                return {"type": "array", "items": self.use(content)}
             case "set":
-                return {"type": "array", "items": self._use(content), "uniqueItems": True}
+                return {"type": "array", "items": self.use(content), "uniqueItems": True}
             case "up_to":
-                return {"type": "array", "items": self._use(content.of), "maxItems": content.cap}
+                return {"type": "array", "items": self.use(content.of), "maxItems": content.cap}
             case "range":
-                return _object({"start": self._use(content), "end": self._use(content)})
+                return _object({"start": self.use(content), "end": self.use(content)})
         return getattr(self, "_" + kind)(content)
 
     def _bound(self, number):
-        return {"oneOf": [_object({"Included": self._use(number)}), _object({"Excluded": self._use(number)}),
+        return {"oneOf": [_object({"Included": self.use(number)}), _object({"Excluded": self.use(number)}),
                           {"type": "string", "const": "Unbounded"}]}
 
     def _result(self, result):
-        return {"oneOf": [_object({"Ok": self._use(result.ok)}), _object({"Err": self._use(result.err)})]}
+        return {"oneOf": [_object({"Ok": self.use(result.ok)}), _object({"Err": self.use(result.err)})]}
 
     def _either(self, either):
-        return {"oneOf": [_object({"Left": self._use(either.left)}, closed=True),
-                          _object({"Right": self._use(either.right)}, closed=True)]}
+        return {"oneOf": [_object({"Left": self.use(either.left)}, closed=True),
+                          _object({"Right": self.use(either.right)}, closed=True)]}
 
     def _array(self, array):
         if array.len == 0:
             return self._tuple([])
         bounds = {"minItems": array.len, "maxItems": array.len}
-        return {"type": "array", "items": self._use(array.of)} | bounds
+        return {"type": "array", "items": self.use(array.of)} | bounds
 
     def _tuple(self, numbers):
-        items = [self._use(number) for number in numbers]
+        items = [self.use(number) for number in numbers]
         bounds = {"prefixItems": items, "minItems": len(items)} if items else {}
         return {"type": "array", "maxItems": len(items)} | bounds
 
     def _struct(self, struct):
         schema = {"type": "object"}
-        properties = {field.name: with_notes(self._use(field.type), field.notes) for field in struct.fields}
+        properties = {field.name: with_notes(self.use(field.type), field.notes) for field in struct.fields}
         required = [field.name for field in struct.fields if field.required[self.serializing]]
         if properties:
             schema["properties"] = properties
@@ -232,14 +233,14 @@ class Generator:
             closed = any(document.get(keyword) is False for keyword in CLOSING)
             if closed or document.get("type") == "null":
                 return document
-        return self._use(number)
+        return self.use(number)
 
     def _map(self, types):
         keys = self._keys(types.key)
         patterns = set(keys.patterns)
         if keys.integers:
             patterns.add(INTEGER_PATTERNS[keys.integers])
-        value = self._use(types.value) if keys.any or keys.texts or patterns else False
+        value = self.use(types.value) if keys.any or keys.texts or patterns else False
         schema = {"type": "object", "additionalProperties": copy.deepcopy(value) if keys.any else False}
         if patterns:
             schema["patternProperties"] = {pattern: copy.deepcopy(value) for pattern in patterns}
@@ -283,9 +284,27 @@ class Generator:
         return shape.kind == "any" or (shape.kind == "literal" and isinstance(shape.content, bool))
 
 
+def _root_document(table, dialect, flags):
+    generator = Generator(table, table.root, dialect, "--inline" in flags, "--serialize" in flags)
+    document = ensure_object(generator.pending_document(table.root))
+    document.setdefault("title", table.rows[table.root].name)
+    document["$schema"] = dialect.meta_schema
+    if generator.definitions:
+        if not isinstance(document.setdefault(dialect.path[0], {}), dict):
+            raise Refused("9 DefinitionsPath")
+        document[dialect.path[0]].update(generator.definitions)
+    return write(dialect.transformed(document))
+
+
+def _definitions(table, dialect, flags):
+    generator = Generator(table, None, dialect, "--inline" in flags, "--serialize" in flags)
+    generator.use(table.root)
+    return write({name: dialect.transformed(schema) for name, schema in generator.definitions.items()}, "holder")
+
+
 def _line(words, text):
     flags = words[2:]
-    if words[:2] != ["types", "2020-12"] or sorted(flags) not in FLAGS:
+    if len(words) < 2 or words[0] != "types" or words[1] not in DIALECTS or sorted(flags) not in FLAGS:
         return USAGE
     try:
         value = read_json(text)
@@ -293,15 +312,7 @@ def _line(words, text):
         raise Refused("20 NotJson") from None
     table = Table(value)
     table.check()
-    generator = Generator(table, "--inline" in flags, "--serialize" in flags)
-    document = ensure_object(generator.pending_document(table.root))
-    document.setdefault("title", table.rows[table.root].name)
-    document["$schema"] = DIALECT
-    if generator.definitions:
-        if not isinstance(document.setdefault("$defs", {}), dict):
-            raise Refused("9 DefinitionsPath")
-        document["$defs"].update(generator.definitions)
-    return write(document)
+    return (_definitions if words[1] == "openapi3" else _root_document)(table, DIALECTS[words[1]], flags)
 
 
 def answer(words, text):

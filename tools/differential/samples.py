@@ -1,9 +1,9 @@
 """The document of an example value, and random examples."""
 import json
 
+from dialects import DIALECTS
 from jsontext import read_json, write
 
-META_SCHEMA = "https://json-schema.org/draft/2020-12/schema"
 KEYS = ["a", "b", "", "$ref", "properties", "é", "x y", "type", "title", "x-1", "examples", 'a"', "a\\"]
 LEAVES = [None, True, False, 0, 1, -1, 2**63 - 1, -2**63, 2**64 - 1, "", "a", "é", "🚀", "\n", 'say "a"']
 ODD_LEAVES = [1.5, -0.0, 1.0, 2.0**64, 1e21]
@@ -36,8 +36,8 @@ def schema_of(value):
     return {"type": "array", "items": different[0] if len(different) == 1 else {"anyOf": different}}
 
 
-def sample_answer(text):
-    """The line that the program writes for the text of an example."""
+def sample_answer(dialect, text):
+    """The line that the program writes for the text of an example, in a dialect."""
     try:
         value = read_json(text)
     except ValueError:
@@ -46,8 +46,9 @@ def sample_answer(text):
         schema = schema_of(value)
     except NotWhole:
         return "schemagen: 22 NotWhole"
+    dialect = DIALECTS[dialect]
     document = {} if schema is True else schema
-    return write({**document, "examples": [value], "$schema": META_SCHEMA})
+    return write(dialect.transformed({**document, "examples": [value], "$schema": dialect.meta_schema}))
 
 
 def draw_sample(draw, deep=4):

@@ -18,6 +18,8 @@ ANNOTATIONS = {"title": "own", "description": "d", "format": "f", "default": 1, 
                "examples": [{"b": 1, "a": 2}], "readOnly": False, "x-k": {"z": 1, "type": 2}}
 DEFINITION_NOTES = [3, None, "x", [], {}, True, {"A": True}, {"A": {"title": 5}, "B": 3, "Config": {}}]
 
+DIALECT_WORDS = ["2020-12", "2020-12", "2020-12", "draft-07", "2019-09", "openapi3"]
+
 # Keywords of literals by what becomes of them, and the types beside them.
 OBJECT_LITERALS = (["properties", "patternProperties", "required", "additionalProperties", "oneOf", "anyOf",
                     "unevaluatedProperties", "allOf", "if", "then", "else", "$ref", "not", "title", "x-k"],
@@ -197,4 +199,4 @@ def draw_words(draw):
     """The words that ask for its document."""
     flags = ["--inline"] * draw.chance(0.25) + ["--serialize"] * draw.chance(0.35)
     draw.random.shuffle(flags)
-    return ["types", "2020-12", *flags]
+    return ["types", draw.pick(DIALECT_WORDS), *flags]

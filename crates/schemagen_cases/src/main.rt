@@ -18,7 +18,7 @@ use crate::cases::{Asked, work_cases};
 use std::{fs, io};
 
 // The files, and whom their cases ask.
-const FILES: [(&str, Asked); 13] = [
+const FILES: [(&str, Asked); 14] = [
     ("rows.tsv", Asked::Program),
     ("structs.tsv", Asked::Program),
     ("enums.tsv", Asked::Program),
@@ -29,6 +29,7 @@ const FILES: [(&str, Asked); 13] = [
     ("upstream.tsv", Asked::Program),
     ("damaged.tsv", Asked::Program),
     ("samples.tsv", Asked::Program),
+    ("dialects.tsv", Asked::Program),
     ("calls.tsv", Asked::Libraries),
     ("transforms.tsv", Asked::Libraries),
     ("kinds.tsv", Asked::Libraries),

@@ -2,3 +2,4 @@
 pub mod Results
 pub mod Tables
 pub mod Runs
+pub mod Samples

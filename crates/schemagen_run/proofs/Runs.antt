@@ -1,11 +1,10 @@
 -- Which words a run knows, and what it refuses.
-use Rattle.std.proofs.Common.{◌≡◌, ◌⊎◌, ◌<◌, refl, inl, inr, ℕ, List, [], ◌∷◌, ◌++◌, append-nil, subst}
+use Rattle.std.proofs.Common.{◌≡◌, ◌≢◌, ◌⊎◌, ◌<◌, refl, inl, inr, ℕ, map, List, [], ◌∷◌, ◌++◌, append-nil, subst}
 use Rattle.std.proofs.Common.{Option, Some, None}
 use Rattle.std.proofs.Common.{length, get_or, ◌&&◌, true, String, Global, string_bytes, codes, sym, ap}
 use Rattle.std.proofs.Common.{◌∙◌, arith}
 use Rattle.std.specs.Str.{bytes_eq}
 use Rattle.std.proofs.lemmas.Slice.Eq.{bytes_eq-Decides}
-use Rattle.schemars_documents.specs.declared.contract.Contract.TheVariants.{Deserialize}
 use Rattle.schemars_types.specs.Rows.{Row}
 use Rattle.schemars_types.specs.Faults.{IsAccepted, Refusal}
 use Rattle.schemars_documents.specs.PlainTable.{HasPlainNotes}
@@ -21,115 +20,110 @@ use Rattle.schemagen_run.specs.Fault.{IsReadFault, IsTableFault, IsLineFault, Is
 use Rattle.schemagen_input.specs.Input.{input_of}
 use Rattle.schemagen_run.specs.declared.words.Asked.{Asked}
 use Rattle.std.specs.Prelude.{MatchOption}
-use Rattle.schemagen_run.specs.Words.{AskFor, AskForTypes, AskForSample, AreFlagsFor, AreKnownFlags}
-use Rattle.schemagen_run.specs.Run.{IsLineOf}
+use Rattle.schemagen_run.specs.declared.words.Dialect.{Dialect}
+use Rattle.schemagen_run.specs.declared.words.Dialect.TheVariants.{Draft2020_12, Draft2019_09, Draft07, OpenApi3}
+use Rattle.schemagen_run.specs.Words.{AskFor, AskForTypes, AskForExample, AskForSample, IsAskedBy, IsKnown, IsDialect, word_for}
+use Rattle.schemagen_run.specs.Run.{IsLineOf, IsLineIn, IsDocumentLine, IsRefusal, IsLineRefusal}
 use Rattle.schemagen_run.specs.Run.{GivesAll, IsNoJson, IsBadTable, IsTableText, IsAcceptedText, IsNotedText}
 use Rattle.schemagen_run.specs.Run.{IsFaultyTable, Tells}
-use Rattle.schemagen_run.proofs.Tables.{both}
 use Rattle.std.proofs.Common.{Bool, false, nat_lt, ◌||◌, true≢false}
 use Rattle.schemagen_run.specs.declared.fault.Fault.TheVariants.{Usage}
 
 is_word : (a u : String Global) (t : List ℕ) → a ≡ u → bytes_eq (string_bytes a) t ≡ true → string_bytes u ≡ t
 is_word a u t same is = ap string_bytes (sym same) ∙ (bytes_eq-Decides (string_bytes a) t).0 is
 
-abbrev Types : String Global → String Global → Bool
-Types a b = bytes_eq (string_bytes a) (codes "types") && bytes_eq (string_bytes b) (codes "2020-12")
+-- ---- words
+
+-- what the word for the dialect and the flags behind it tell, and what all words do
+abbrev pub Told : Option Asked → List ℕ → List (List ℕ) → Type 0
+Told r word flags = MatchOption r (¬ (IsKnown word flags)) (IsAskedBy word flags)
+
+abbrev ToldOfAll : Option Asked → List (String Global) → Type 0
+ToldOfAll r words = MatchOption r (¬ (AskForTypes words)) (AskFor words)
+
+asked_words : (u v : String Global) (fs : List (String Global)) (r : Option Asked) → string_bytes u ≡ codes "types"
+    → Told r (string_bytes v) (map string_bytes fs) → ToldOfAll r (u ∷ v ∷ fs)
+asked_words u v fs None types unknown = λ (asked, (word, flags, by, is)).
+    let dialect : word ≡ string_bytes v = cc in
+    let others : flags ≡ map string_bytes fs = cc in
+    unknown (asked, subst (λ l. IsAskedBy (string_bytes v) l asked) others (subst (λ t. IsAskedBy t flags asked) dialect by))
+asked_words u v fs (Some asked) types by =
+    (string_bytes v, map string_bytes fs, by, ap (λ (t : List ℕ). t ∷ string_bytes v ∷ map string_bytes fs) types)
 
 pub two_words : (words : List (String Global)) (a b : String Global) → length words ≡ 2 → a ≡ get_or words 0 a → b ≡ get_or words 1 b
-    → Types a b ≡ true → AskFor words (record { contract = Deserialize; inlines = false })
-two_words [] a b two first second types = absurd (omega arith)
-two_words (u ∷ []) a b two first second types = absurd (omega arith)
-two_words (u ∷ v ∷ w ∷ ws) a b two first second types = absurd (omega arith)
-two_words (u ∷ v ∷ []) a b two first second types =
-    let parts = both (bytes_eq (string_bytes a) (codes "types")) (bytes_eq (string_bytes b) (codes "2020-12")) types in (
-      [],
-      refl,
-      rw (is_word a u (codes "types") first parts.0, is_word b v (codes "2020-12") second parts.1) refl,
-    )
-
-pub sample_words : (words : List (String Global)) (a b : String Global) → length words ≡ 2 → a ≡ get_or words 0 a → b ≡ get_or words 1 b
-    → (bytes_eq (string_bytes a) (codes "sample") ≡ true → bytes_eq (string_bytes b) (codes "2020-12") ≡ true → AskForSample words)
-    × (AskForSample words → bytes_eq (string_bytes b) (codes "2020-12") ≡ true)
-sample_words [] a b two first second = absurd (omega arith)
-sample_words (u ∷ []) a b two first second = absurd (omega arith)
-sample_words (u ∷ v ∷ w ∷ ws) a b two first second = absurd (omega arith)
-sample_words (u ∷ v ∷ []) a b two first second = (
-  λ command dialect. rw (is_word a u (codes "sample") first command, is_word b v (codes "2020-12") second dialect) refl,
-  λ asks. (bytes_eq-Decides (string_bytes b) (codes "2020-12")).1 (ap string_bytes second ∙ last_of asks),
-)
-  where
-    last_of : {s t p q : List ℕ} → s ∷ t ∷ [] ≡ p ∷ q ∷ [] → t ≡ q
-    last_of same = cc
+    → bytes_eq (string_bytes a) (codes "types") ≡ true → (r : Option Asked) → Told r (string_bytes b) [] → ToldOfAll r words
+two_words [] a b two first second types r told = absurd (omega arith)
+two_words (u ∷ []) a b two first second types r told = absurd (omega arith)
+two_words (u ∷ v ∷ w ∷ ws) a b two first second types r told = absurd (omega arith)
+two_words (u ∷ v ∷ []) a b two first second types r told =
+    asked_words u v [] r (is_word a u (codes "types") first types) (subst (λ t. Told r t []) (ap string_bytes second) told)
 
 pub three_words : (words : List (String Global)) (a b c : String Global) → length words ≡ 3 → a ≡ get_or words 0 a → b ≡ get_or words 1 b
-    → c ≡ get_or words 2 c → Types a b ≡ true → (r : Option Asked)
-    → MatchOption r (¬ (AreKnownFlags (string_bytes c ∷ []))) (λ asked. AreFlagsFor asked.contract asked.inlines (string_bytes c ∷ []))
-    → MatchOption r (¬ (AskForTypes words)) (λ asked. AskFor words asked)
+    → c ≡ get_or words 2 c → bytes_eq (string_bytes a) (codes "types") ≡ true → (r : Option Asked)
+    → Told r (string_bytes b) (string_bytes c ∷ []) → ToldOfAll r words
 three_words [] a b c three first second third types r told = absurd (omega arith)
 three_words (u ∷ []) a b c three first second third types r told = absurd (omega arith)
 three_words (u ∷ v ∷ []) a b c three first second third types r told = absurd (omega arith)
 three_words (u ∷ v ∷ w ∷ x ∷ ws) a b c three first second third types r told = absurd (omega arith)
-three_words (u ∷ v ∷ w ∷ []) a b c three first second third types r told = by r told
-  where
-    same : string_bytes c ≡ string_bytes w
-    same = ap string_bytes third
-
-    by : (r : Option Asked)
-        → MatchOption r (¬ (AreKnownFlags (string_bytes c ∷ []))) (λ asked. AreFlagsFor asked.contract asked.inlines (string_bytes c ∷ []))
-        → MatchOption r (¬ (AskForTypes (u ∷ v ∷ w ∷ []))) (λ asked. AskFor (u ∷ v ∷ w ∷ []) asked)
-    by None unknown = λ (asked, (flags, are, is)).
-        let flag : flags ≡ string_bytes c ∷ [] = cc in
-        unknown (asked, subst (AreFlagsFor asked.contract asked.inlines) flag are)
-    by (Some asked) are =
-        let parts = both (bytes_eq (string_bytes a) (codes "types")) (bytes_eq (string_bytes b) (codes "2020-12")) types in (
-          string_bytes c ∷ [],
-          are,
-          rw (is_word a u (codes "types") first parts.0, is_word b v (codes "2020-12") second parts.1, sym same) refl,
-        )
+three_words (u ∷ v ∷ w ∷ []) a b c three first second third types r told =
+    asked_words u v (w ∷ []) r (is_word a u (codes "types") first types)
+    (subst (λ t. Told r t (string_bytes w ∷ [])) (ap string_bytes second)
+    (subst (λ t. Told r (string_bytes b) (t ∷ [])) (ap string_bytes third) told))
 
 pub four_words : (words : List (String Global)) (a b c d : String Global) → length words ≡ 4 → a ≡ get_or words 0 a → b ≡ get_or words 1 b
-    → c ≡ get_or words 2 c → d ≡ get_or words 3 d → Types a b ≡ true → (r : Option Asked)
-    → MatchOption r (¬ (AreKnownFlags (string_bytes c ∷ string_bytes d ∷ [])))
-    (λ asked. AreFlagsFor asked.contract asked.inlines (string_bytes c ∷ string_bytes d ∷ []))
-    → MatchOption r (¬ (AskForTypes words)) (λ asked. AskFor words asked)
+    → c ≡ get_or words 2 c → d ≡ get_or words 3 d → bytes_eq (string_bytes a) (codes "types") ≡ true → (r : Option Asked)
+    → Told r (string_bytes b) (string_bytes c ∷ string_bytes d ∷ []) → ToldOfAll r words
 four_words [] a b c d four first second third fourth types r told = absurd (omega arith)
 four_words (u ∷ []) a b c d four first second third fourth types r told = absurd (omega arith)
 four_words (u ∷ v ∷ []) a b c d four first second third fourth types r told = absurd (omega arith)
 four_words (u ∷ v ∷ w ∷ []) a b c d four first second third fourth types r told = absurd (omega arith)
 four_words (u ∷ v ∷ w ∷ x ∷ y ∷ ws) a b c d four first second third fourth types r told = absurd (omega arith)
-four_words (u ∷ v ∷ w ∷ x ∷ []) a b c d four first second third fourth types r told = by r told
-  where
-    same : string_bytes c ≡ string_bytes w
-    same = ap string_bytes third
+four_words (u ∷ v ∷ w ∷ x ∷ []) a b c d four first second third fourth types r told =
+    asked_words u v (w ∷ x ∷ []) r (is_word a u (codes "types") first types)
+    (subst (λ t. Told r t (string_bytes w ∷ string_bytes x ∷ [])) (ap string_bytes second)
+    (subst (λ t. Told r (string_bytes b) (t ∷ string_bytes x ∷ [])) (ap string_bytes third)
+    (subst (λ t. Told r (string_bytes b) (string_bytes c ∷ t ∷ [])) (ap string_bytes fourth) told)))
 
-    alike : string_bytes d ≡ string_bytes x
-    alike = ap string_bytes fourth
-
-    by : (r : Option Asked)
-        → MatchOption r (¬ (AreKnownFlags (string_bytes c ∷ string_bytes d ∷ [])))
-        (λ asked. AreFlagsFor asked.contract asked.inlines (string_bytes c ∷ string_bytes d ∷ []))
-        → MatchOption r (¬ (AskForTypes (u ∷ v ∷ w ∷ x ∷ []))) (λ asked. AskFor (u ∷ v ∷ w ∷ x ∷ []) asked)
-    by None unknown = λ (asked, (flags, are, is)).
-        let both_flags : flags ≡ string_bytes c ∷ string_bytes d ∷ [] = cc in
-        unknown (asked, subst (AreFlagsFor asked.contract asked.inlines) both_flags are)
-    by (Some asked) are =
-        let parts = both (bytes_eq (string_bytes a) (codes "types")) (bytes_eq (string_bytes b) (codes "2020-12")) types in (
-          string_bytes c ∷ string_bytes d ∷ [],
-          are,
-          rw (is_word a u (codes "types") first parts.0, is_word b v (codes "2020-12") second parts.1, sym same, sym alike) refl,
-        )
+pub sample_words : (words : List (String Global)) (a b : String Global) → length words ≡ 2 → a ≡ get_or words 0 a → b ≡ get_or words 1 b
+    → bytes_eq (string_bytes a) (codes "sample") ≡ true → (r : Option Dialect)
+    → MatchOption r (¬ (IsDialect (string_bytes b))) (λ d. string_bytes b ≡ word_for d)
+    → MatchOption r (¬ (AskForSample words)) (AskForExample words)
+sample_words [] a b two first second sample r told = absurd (omega arith)
+sample_words (u ∷ []) a b two first second sample r told = absurd (omega arith)
+sample_words (u ∷ v ∷ w ∷ ws) a b two first second sample r told = absurd (omega arith)
+sample_words (u ∷ v ∷ []) a b two first second sample None unknown = λ (dialect, is).
+    let word : string_bytes v ≡ word_for dialect = cc in
+    unknown (dialect, ap string_bytes second ∙ word)
+sample_words (u ∷ v ∷ []) a b two first second sample (Some dialect) word =
+    rw (is_word a u (codes "sample") first sample, sym (ap string_bytes second) ∙ word) refl
 
 -- ---- lines
 
 -- a line has its newline
 pub line_is_some : (asked : Asked) (rows : List Row) (root : ℕ) (line : List ℕ) → IsLineOf asked rows root line
     → 0 < length line
-line_is_some asked rows root line (document, of, (text, ordered, same)) =
-    subst (λ (t : List ℕ). 0 < length t) (sym same) (ends text)
+line_is_some asked rows root line of = by asked.dialect of
   where
     ends : (t : List ℕ) → 0 < length (t ++ 10 ∷ [])
     ends [] = omega arith
     ends (x ∷ t) = omega arith
+
+    of_document : IsDocumentLine asked rows root line → 0 < length line
+    of_document (document, of, (text, ordered, same)) = subst (λ (t : List ℕ). 0 < length t) (sym same) (ends text)
+
+    by : (dialect : Dialect) → IsLineIn dialect asked rows root line → 0 < length line
+    by Draft2020_12 of = of_document of
+    by Draft2019_09 of = of_document of
+    by Draft07 of = of_document of
+    by OpenApi3 (taken, of, (text, ordered, same)) = subst (λ (t : List ℕ). 0 < length t) (sym same) (ends text)
+
+-- the line of a document, where the dialect has one
+pub in_draft : (asked : Asked) (rows : List Row) (root : ℕ) (line : List ℕ) (dialect : Dialect) → dialect ≢ OpenApi3
+    → IsDocumentLine asked rows root line → IsLineIn dialect asked rows root line
+in_draft asked rows root line Draft2020_12 draft of = of
+in_draft asked rows root line Draft2019_09 draft of = of
+in_draft asked rows root line Draft07 draft of = of
+in_draft asked rows root line OpenApi3 draft of = absurd (draft refl)
 
 -- ---- tables without faults
 
@@ -251,6 +245,26 @@ pub of_line : {U : Type 0} (rows : List Row) (e : GenerateError) (f : Fault)
 of_line rows e f (inl memory) same = inl (of_code e OutOfMemory f same memory)
 of_line rows e f (inr (inl fault)) same = inr (inl (of_table rows e f fault same))
 of_line rows e f (inr (inr (path, why))) same = inr (inr (of_code e DefinitionsPath f same path))
+
+-- a refusal of the generator refuses the line
+pub line_refused : (asked : Asked) (rows : List Row) (root : ℕ) (e : GenerateError) (f : Fault) → IsRefusal asked rows root e
+    → f ≡ Refused (code_of e) → IsLineRefusal asked rows root f
+line_refused asked rows root e f why same = record {
+  refused = told rows e f why.refused same;
+  faults = of_line rows e f why.refused same;
+  unfaulty = λ accepted. told_of_two e f (why.unfaulty accepted) same;
+  only_memory = λ accepted plain. of_code e OutOfMemory f same (why.only_memory accepted plain);
+}
+
+-- so does want of memory
+pub line_wants_memory : (asked : Asked) (rows : List Row) (root : ℕ) (f : Fault) → f ≡ Refused OUT_OF_MEMORY
+    → IsLineRefusal asked rows root f
+line_wants_memory asked rows root f memory = record {
+  refused = inl memory;
+  faults = inl memory;
+  unfaulty = λ _. inl memory;
+  only_memory = λ _ _. memory;
+}
 
 -- a refusal of its document
 pub has_no_place : {U : Type 0} (rows : List Row) (e : Fault)

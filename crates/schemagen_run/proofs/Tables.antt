@@ -1,24 +1,35 @@
 -- What the generator asks of a table holds of each input, and what it answers is the root document of a row.
-use Rattle.std.proofs.Common.{◌≡◌, ◌⊎◌, ◌↔◌, ◌<◌, ◌≤◌, ℕ, nat_lt, List, [], length, Bool, true, false, ◌&&◌}
+use Rattle.std.proofs.Common.{◌≡◌, ◌≢◌, ◌⊎◌, ◌↔◌, ◌<◌, ◌≤◌, ℕ, codes, nat_lt, List, [], length, Bool, true, false, ◌&&◌}
 use Rattle.std.proofs.Common.{Some, refl, ap, ◌∙◌, subst, sym, inl, inr, Result, Ok, Err, IfOk, IfErr, arith}
 use Rattle.std.proofs.lemmas.Bool.Decides.{nat_tests}
 use borrow.Author.Tests.{ltb-true}
-use Rattle.serde_json.specs.Data.{Data, no_members}
+use Rattle.serde_json.specs.Data.{Data, Members, no_members}
 use Rattle.serde_json.specs.Written.{has_float}
 use Rattle.schemars_types.specs.Rows.{Row}
 use Rattle.schemars_types.specs.Faults.{IsAccepted}
+use Rattle.schemars_schema.specs.Acceptance.{draft07, draft2019_09}
+use Rattle.schemars_schema.specs.References.{references}
+use Rattle.schemars_headline.specs.Calls.{IsPartOf, Adds, IsNeeded}
+use Rattle.schemars_documents.specs.declared.contract.Contract.{Contract}
+use Rattle.schemars_documents.specs.ContractOf.{contract_of}
+use Rattle.schemars_dialects.specs.Dialects.{MeansItsTypeUnder}
+use Rattle.schemars_transforms.specs.declared.gen_transform.GenTransform.{GenTransform}
+use Rattle.schemars_transforms.specs.declared.no_transform.NoTransform.{NoTransform}
+use Rattle.schemars_transforms.specs.Member.{some_own}
+use Rattle.schemars_transforms.specs.BuiltIn.{made_by, each_made_by, IsMadeBy}
 use Rattle.schemagen_run.specs.declared.words.Asked.{Asked}
+use Rattle.schemagen_run.specs.declared.words.Dialect.{Dialect}
+use Rattle.schemagen_run.specs.declared.words.Dialect.TheVariants.{Draft2020_12, Draft2019_09, Draft07, OpenApi3}
 use Rattle.schemars_error.specs.declared.error.GenerateError.{GenerateError}
 use Rattle.schemars_error.specs.declared.error.GenerateError.TheVariants.{OutOfMemory, UnknownType, DefinitionsPath}
 use Rattle.schemars_error.specs.Refusals.{HasFault}
-use Rattle.schemars_headline.specs.Headline.{RootHeadline, IsDraftPath, CannotPlace}
-use Rattle.schemars_headline.specs.Calls.{IsLastRootCall}
-use Rattle.schemars_documents.specs.PlainTable.{HasPlainNotes, HasNoFloat}
+use Rattle.schemars_headline.specs.Headline.{MeansItsType, IsDraftPath, CannotPlace}
+use Rattle.schemars_documents.specs.PlainTable.{IsPlainTable, HasPlainNotes}
 use Rattle.schemars_roots.specs.Settings.{Held, state_with}
 use Rattle.schemars_roots.specs.Through.{IsUntransformed, IsRefused}
 use Rattle.schemars_headline.specs.State.{Settings, State, path_of, HasOwnDefinitions}
 use Rattle.schemagen_input.specs.Input.{is_complete, is_table, table_in, input_of}
-use Rattle.schemagen_run.specs.Run.{settings_for, fresh, IsDocumentOf, IsUnplaced}
+use Rattle.schemagen_run.specs.Run.{settings_for, transforms_of_dialect, fresh, Means, IsDocumentOf, AreDefinitionsOf, IsUnplaced, IsRefusal}
 
 pub both : (a b : Bool) → a && b ≡ true → (a ≡ true) × (b ≡ true)
 both true b e = (refl, e)
@@ -39,31 +50,78 @@ pub is_input : (d : Data) (rows : List Row) (root count : ℕ) → table_in d �
     → input_of d ≡ Some (rows, root)
 is_input d rows root count table many within = rw (table, below root (length rows) (omega (arith, many, within)))
 
+-- ---- kinds of refusals
+
+is_faulty : {U : Type 0} (rows : List Row) (e f : GenerateError) → (e ≡ OutOfMemory) ⊎ HasFault rows e → f ≡ e
+    → (f ≡ OutOfMemory) ⊎ HasFault rows f ⊎ U
+is_faulty rows e f (inl memory) same = inl (same ∙ memory)
+is_faulty rows e f (inr fault) same = inr (inl (subst (HasFault rows) (sym same) fault))
+
+of_three : {A B C : Type 0} → A ⊎ C → A ⊎ B ⊎ C
+of_three (inl a) = inl a
+of_three (inr c) = inr (inr c)
+
+of_two : {A B C : Type 0} → A ⊎ (B × C) → A ⊎ B
+of_two (inl a) = inl a
+of_two (inr (b, c)) = inr b
+
 -- ---- a generator over the table
 
 pub fresh_of : (settings : Settings) (held : Held) (asked : Asked) (rows : List Row) → settings ≡ settings_for asked
     → held ≡ record { rows = rows; names = []; definitions = no_members } → state_with settings held ≡ fresh asked rows
 fresh_of settings held asked rows same made = λ i. state_with (same i) (made i)
 
-has_own_definitions : (asked : Asked) (rows : List Row) → HasOwnDefinitions (fresh asked rows)
+pub has_own_definitions : (asked : Asked) (rows : List Row) → HasOwnDefinitions (fresh asked rows)
 has_own_definitions asked rows name d there = cc
+
+pub none_own : (dialect : Dialect) → some_own (transforms_of_dialect dialect) ≡ false
+none_own Draft2020_12 = refl
+none_own Draft2019_09 = refl
+none_own Draft07 = refl
+none_own OpenApi3 = refl
+
+-- what stands for the words
+abbrev asks : Dialect → Contract → Bool → Asked
+asks dialect contract inlines = record { dialect = dialect; contract = contract; inlines = inlines }
+
+means : (dialect : Dialect) (c : Contract) (inlines : Bool) (rows : List Row) (root : ℕ) (d document : Data)
+    → IsUntransformed (fresh (asks dialect c inlines) rows) root d → document ≡ made_by (transforms_of_dialect dialect) d
+    → IsPlainTable rows → Means dialect rows (contract_of c) root document
+means Draft2020_12 c inlines rows root d document told same plain =
+    subst (MeansItsType rows (contract_of c) (codes "/$defs") root) (sym same)
+    (told.headline (has_own_definitions (asks Draft2020_12 c inlines) rows) (inl refl) plain)
+means Draft2019_09 c inlines rows root d document told same plain =
+    subst (MeansItsTypeUnder draft2019_09 rows (contract_of c) (codes "/$defs") root) (sym same)
+    (told.draft2019_09 (has_own_definitions (asks Draft2019_09 c inlines) rows) refl plain)
+means Draft07 c inlines rows root d document told same plain =
+    subst (MeansItsTypeUnder draft07 rows (contract_of c) (codes "/definitions") root) (sym same)
+    (told.draft07 (has_own_definitions (asks Draft07 c inlines) rows) refl plain)
+means OpenApi3 c inlines rows root d document told same plain = tt
 
 -- what the generator answers is the root document of the row
 pub is_document : {E : Type 0} (r : Result Data E) (s : State) (asked : Asked) (rows : List Row) (root : ℕ)
-    → s ≡ fresh asked rows → IfOk r (IsUntransformed s root) → IfOk r (IsDocumentOf asked rows root)
-is_document (Err e) s asked rows root same made = tt
-is_document (Ok document) s asked rows root same made =
-    let headline : RootHeadline (fresh asked rows) root document =
-    subst (λ (t : State). RootHeadline t root document) same made.headline in
-    let here : HasNoFloat rows → HasOwnDefinitions (fresh asked rows) → has_float document ≡ false =
-    subst (λ (t : State). HasNoFloat t.rows → HasOwnDefinitions t → has_float document ≡ false) same made.whole in (
-      subst (λ (t : State). IsLastRootCall t root document) same made.last,
-      headline (has_own_definitions asked rows) (inl refl),
-      λ none. here none (has_own_definitions asked rows),
+    (ts : List (GenTransform NoTransform)) → s ≡ fresh asked rows → ts ≡ transforms_of_dialect asked.dialect
+    → (some_own ts ≡ false → IfOk r (IsMadeBy ts (IsUntransformed s root))) → IfOk r (IsDocumentOf asked rows root)
+is_document (Err e) s asked rows root ts same is made = tt
+is_document (Ok document) s asked rows root ts same is made =
+    let (d, told, of) = made (ap some_own is ∙ none_own asked.dialect) in
+    let here : IsUntransformed (fresh asked rows) root d = subst (λ (t : State). IsUntransformed t root d) same told in
+    let by : document ≡ made_by (transforms_of_dialect asked.dialect) d = of ∙ ap (λ (xs : List (GenTransform NoTransform)). made_by xs d) is in (
+      (d, here.last, by),
+      means asked.dialect asked.contract asked.inlines rows root d document here by,
+      λ empty none. ap has_float (by ∙ ap (λ (xs : List (GenTransform NoTransform)). made_by xs d) empty)
+          ∙ here.whole none (has_own_definitions asked rows),
     )
 
+draft_path : (dialect : Dialect) (c : Contract) (inlines : Bool) (rows : List Row) → dialect ≢ OpenApi3
+    → IsDraftPath (path_of (fresh (asks dialect c inlines) rows))
+draft_path Draft2020_12 c inlines rows draft = inl refl
+draft_path Draft2019_09 c inlines rows draft = inl refl
+draft_path Draft07 c inlines rows draft = inr refl
+draft_path OpenApi3 c inlines rows draft = absurd (draft refl)
+
 -- it refuses for want of memory, or where there is no place for the definitions
-pub is_refused : (r : Result Data GenerateError) (s : State) (asked : Asked) (rows : List Row) (root : ℕ)
+is_refused : (r : Result Data GenerateError) (s : State) (asked : Asked) (rows : List Row) (root : ℕ)
     → is_table rows root ≡ true → IsAccepted rows → s ≡ fresh asked rows
     → ((r ≡ Err (UnknownType root)) ↔ (length s.rows ≤ root))
     → IfErr r (λ e. (e ≡ UnknownType root) ⊎ IsRefused s root e)
@@ -78,25 +136,64 @@ is_refused (Err e) s asked rows root table accepted same unknown (inr (inr (is, 
     inr (is, (accepted, subst (λ (t : State). CannotPlace t root) same cannot))
 
 -- where the notes of rows are annotations, memory is all that it may want
-pub wants_only_memory : {P : Type 0} (s : State) (asked : Asked) (rows : List Row) (root : ℕ) → is_table rows root ≡ true
-    → s ≡ fresh asked rows → (HasPlainNotes s.rows → IsDraftPath (path_of s) → root < length s.rows → P)
-    → HasPlainNotes rows → P
-wants_only_memory {P} s asked rows root table same only plain =
+wants_only_memory : {P : Type 0} (s : State) (asked : Asked) (rows : List Row) (root : ℕ) → asked.dialect ≢ OpenApi3
+    → is_table rows root ≡ true → s ≡ fresh asked rows
+    → (HasPlainNotes s.rows → IsDraftPath (path_of s) → root < length s.rows → P) → HasPlainNotes rows → P
+wants_only_memory {P} s asked rows root draft table same only plain =
     let here : HasPlainNotes rows → IsDraftPath (path_of (fresh asked rows)) → root < length rows → P =
     subst (λ (t : State). HasPlainNotes t.rows → IsDraftPath (path_of t) → root < length t.rows → P) same only in
-    here plain (inl refl) (root_is_within rows root table)
+    here plain (draft_path asked.dialect asked.contract asked.inlines rows draft) (root_is_within rows root table)
 
--- ---- kinds of refusals
+-- why it answers no document
+pub is_refusal : (r : Result Data GenerateError) (s : State) (asked : Asked) (rows : List Row) (root : ℕ) → asked.dialect ≢ OpenApi3
+    → is_table rows root ≡ true → IsAccepted rows → s ≡ fresh asked rows
+    → ((r ≡ Err (UnknownType root)) ↔ (length s.rows ≤ root))
+    → IfErr r (λ e. (e ≡ UnknownType root) ⊎ IsRefused s root e)
+    → (HasPlainNotes s.rows → IsDraftPath (path_of s) → root < length s.rows → IfErr r (λ e. e ≡ OutOfMemory))
+    → IfErr r (IsRefusal asked rows root)
+is_refusal (Ok d) s asked rows root draft table accepted same unknown why only = tt
+is_refusal (Err e) s asked rows root draft table accepted same unknown why only =
+    let told = is_refused (Err e) s asked rows root table accepted same unknown why in
+    record {
+      refused = of_three told;
+      unfaulty = λ _. of_two told;
+      only_memory = λ _ plain. wants_only_memory s asked rows root draft table same only plain;
+    }
 
-pub is_faulty : {U : Type 0} (rows : List Row) (e f : GenerateError) → (e ≡ OutOfMemory) ⊎ HasFault rows e → f ≡ e
-    → (f ≡ OutOfMemory) ⊎ HasFault rows f ⊎ U
-is_faulty rows e f (inl memory) same = inl (same ∙ memory)
-is_faulty rows e f (inr fault) same = inr (inl (subst (HasFault rows) (sym same) fault))
+-- the table's own refusal, or want of memory
+pub faulty_refusal : (asked : Asked) (rows : List Row) (root : ℕ) (e : GenerateError) → (e ≡ OutOfMemory) ⊎ HasFault rows e
+    → (IsAccepted rows → e ≡ OutOfMemory) → IsRefusal asked rows root e
+faulty_refusal asked rows root e why only = record {
+  refused = is_faulty rows e e why refl;
+  unfaulty = λ accepted. inl (only accepted);
+  only_memory = λ accepted _. only accepted;
+}
 
-pub of_three : {A B C : Type 0} → A ⊎ C → A ⊎ B ⊎ C
-of_three (inl a) = inl a
-of_three (inr c) = inr (inr c)
+pub memory_refusal : (asked : Asked) (rows : List Row) (root : ℕ) (e : GenerateError) → e ≡ OutOfMemory → IsRefusal asked rows root e
+memory_refusal asked rows root e memory = record {
+  refused = inl memory;
+  unfaulty = λ _. inl memory;
+  only_memory = λ _ _. memory;
+}
 
-pub of_two : {A B C : Type 0} → A ⊎ (B × C) → A ⊎ B
-of_two (inl a) = inl a
-of_two (inr (b, c)) = inr b
+-- why it answers no part for a row of the table
+pub part_refusal : (asked : Asked) (rows : List Row) (root : ℕ) (held : ℕ) (e : GenerateError) → is_table rows root ≡ true
+    → held ≡ length rows → (e ≡ OutOfMemory) ⊎ (e ≡ UnknownType root) → (e ≡ UnknownType root → held ≤ root) → IsRefusal asked rows root e
+part_refusal asked rows root held e table many (inl memory) unknown = memory_refusal asked rows root e memory
+part_refusal asked rows root held e table many (inr is) unknown =
+    absurd (omega (arith, unknown is, many, root_is_within rows root table))
+
+-- the definitions that the generator takes are those that a part for the row leads to
+pub are_definitions : (s new : State) (asked : Asked) (rows : List Row) (root : ℕ) (ts : List (GenTransform NoTransform)) (part : Data)
+    (taken : Members) → s ≡ fresh asked rows → IsPartOf new root part → Adds s new → (HasOwnDefinitions s → HasOwnDefinitions new)
+    → IsNeeded s new (references part) → taken ≡ each_made_by ts new.definitions → ts ≡ transforms_of_dialect asked.dialect
+    → AreDefinitionsOf asked rows root taken
+are_definitions s new asked rows root ts part taken same is_part adds own needed made is = (
+  new,
+  part,
+  is_part,
+  subst (λ (t : State). Adds t new) same adds,
+  own (subst HasOwnDefinitions (sym same) (has_own_definitions asked rows)),
+  subst (λ (t : State). IsNeeded t new (references part)) same needed,
+  made ∙ ap (λ (xs : List (GenTransform NoTransform)). each_made_by xs new.definitions) is,
+)

@@ -3,11 +3,13 @@ use Rattle.std.specs.Prelude.{◌≡◌, ◌⊎◌, ℕ, List, [], ◌∷◌, �
 use Rattle.std.specs.Prelude.{None, false, codes, String, IsUtf8}
 use Rattle.std.specs.declared.alloc.Global.{Global}
 use Rattle.std.specs.Io.KnownBytes.{Consumes, IsAtEnd}
-use Rattle.serde_json.specs.Data.{Data, no_members}
+use Rattle.serde_json.specs.Data.{Data, Members, no_members}
 use Rattle.serde_json.specs.Read.{read}
-use Rattle.serde_json.specs.Written.{has_float}
+use Rattle.serde_json.specs.Written.{has_float, members_have_float}
 use Rattle.schemars_json.specs.Json.{Text, IsJson}
-use Rattle.schemars_json.specs.OrderedText.{ordered_text}
+use Rattle.schemars_json.specs.OrderedText.{ordered_text, definitions_text}
+use Rattle.schemars_schema.specs.Acceptance.{draft07, draft2019_09}
+use Rattle.schemars_schema.specs.References.{references}
 use Rattle.schemars_sample.specs.Accepted.{AcceptsExample}
 use Rattle.schemars_sample.specs.Example.{Example}
 use Rattle.schemars_sample.specs.SampleJson.{sample_json}
@@ -16,15 +18,27 @@ use Rattle.schemars_types.specs.Rows.{Row}
 use Rattle.schemars_types.specs.Faults.{IsAccepted}
 use Rattle.schemars_documents.specs.PlainTable.{IsPlainTable, HasPlainNotes, HasNoFloat}
 use Rattle.schemars_error.specs.declared.error.GenerateError.{GenerateError}
-use Rattle.schemars_headline.specs.Headline.{MeansItsType, IsRootOf, CannotPlace}
+use Rattle.schemars_error.specs.declared.error.GenerateError.TheVariants.{OutOfMemory, DefinitionsPath}
+use Rattle.schemars_headline.specs.Headline.{MeansItsType, CannotPlace}
+use Rattle.schemars_headline.specs.Calls.{IsLastRootCall, IsPartOf, Adds, IsNeeded}
+use Rattle.schemars_dialects.specs.Dialects.{MeansItsTypeUnder}
 use Rattle.schemars_documents.specs.ContractOf.{contract_of}
 use Rattle.schemars_error.specs.Refusals.{code_of, HasFault}
-use Rattle.schemars_headline.specs.State.{Settings, State, settings2020_12}
-use Rattle.schemars_naming.specs.Work.{Work}
+use Rattle.schemars_headline.specs.State.{Settings, State, settings2020_12, HasOwnDefinitions}
+use Rattle.schemars_types.specs.Meaning.{Contract}
+use Rattle.schemars_transforms.specs.declared.gen_transform.GenTransform.{GenTransform}
+use Rattle.schemars_transforms.specs.declared.no_transform.NoTransform.{NoTransform}
+use Rattle.schemars_transforms.specs.BuiltIn.{IsMadeBy, each_made_by}
+use Rattle.schemars_generate.specs.Settings.{settings07, settings2019_09, settings_openapi3}
+use Rattle.schemars_generate.specs.Settings.{transforms07, transforms2019_09, transforms_openapi3}
 use Rattle.schemagen_run.specs.declared.words.Asked.{Asked}
-use Rattle.schemagen_run.specs.Words.{AskFor, AskForSample}
+use Rattle.schemagen_run.specs.declared.words.Dialect.{Dialect}
+use Rattle.schemagen_run.specs.declared.words.Dialect.TheVariants.{Draft2020_12, Draft2019_09, Draft07, OpenApi3}
+use Rattle.schemagen_run.specs.Words.{AskFor, AskForExample}
 use Rattle.schemagen_run.specs.declared.fault.Fault.{Fault}
 use Rattle.schemagen_run.specs.declared.fault.Fault.TheVariants.{Refused}
+use Rattle.schemagen_run.specs.declared.fault.TheConstants.{OUT_OF_MEMORY, DEFINITIONS_PATH}
+use Rattle.schemagen_run.specs.Fault.{IsLineFault}
 use Rattle.schemagen_input.specs.Input.{input_of}
 use Rattle.schemagen_input.specs.SampleInput.{sample_input}
 
@@ -66,33 +80,87 @@ IsFaultyTable fault bytes = (rows : List Row) × ((root : ℕ) × IsTableText ro
 
 -- ---- documents
 
+-- the settings and the transforms of a dialect
+abbrev pub settings_of_dialect : Dialect → Settings
+settings_of_dialect Draft2020_12 = settings2020_12
+settings_of_dialect Draft2019_09 = settings2019_09
+settings_of_dialect Draft07 = settings07
+settings_of_dialect OpenApi3 = settings_openapi3
+
+abbrev pub transforms_of_dialect : Dialect → List (GenTransform NoTransform)
+transforms_of_dialect Draft2020_12 = []
+transforms_of_dialect Draft2019_09 = transforms2019_09
+transforms_of_dialect Draft07 = transforms07
+transforms_of_dialect OpenApi3 = transforms_openapi3
+
 abbrev pub settings_for : Asked → Settings
-settings_for asked = record settings2020_12 { contract = asked.contract; inlines = asked.inlines }
+settings_for asked = record (settings_of_dialect asked.dialect) { contract = asked.contract; inlines = asked.inlines }
 
 -- a generator over the table that has made nothing yet
 abbrev pub fresh : Asked → List Row → State
 fresh asked rows = record { settings = settings_for asked; rows = rows; names = []; definitions = no_members }
 
--- the root document of this row: it is made by the rules, and where the table is plain it accepts just the values of
--- the type; the numbers in it are whole, where those in notes are
+-- under the keywords of a draft the document accepts just the values of the row; of OpenAPI nothing is told
+abbrev pub Means : Dialect → List Row → Contract → ℕ → Data → Type 0
+Means Draft2020_12 rows contract root document = MeansItsType rows contract (codes "/$defs") root document
+Means Draft2019_09 rows contract root document = MeansItsTypeUnder draft2019_09 rows contract (codes "/$defs") root document
+Means Draft07 rows contract root document = MeansItsTypeUnder draft07 rows contract (codes "/definitions") root document
+Means OpenApi3 rows contract root document = Unit {0}
+
+-- the root document of this row: the transforms of the dialect make it of the one that is made by the rules, and where the
+-- table is plain it accepts just the values of the type; without transforms the numbers in it are whole, where those in notes are
 abbrev pub IsDocumentOf : Asked → List Row → ℕ → Data → Type 0
 IsDocumentOf asked rows root document =
-    ((w : Work) × IsRootOf (fresh asked rows) root w document)
-    × (IsPlainTable rows → MeansItsType rows (contract_of asked.contract) (codes "/$defs") root document)
-    × (HasNoFloat rows → has_float document ≡ false)
+    IsMadeBy (transforms_of_dialect asked.dialect) (IsLastRootCall (fresh asked rows) root) document
+    × (IsPlainTable rows → Means asked.dialect rows (contract_of asked.contract) root document)
+    × (transforms_of_dialect asked.dialect ≡ [] → HasNoFloat rows → has_float document ≡ false)
+
+-- the definitions that a part for this row leads to, after the transforms of the dialect
+abbrev pub AreDefinitionsOf : Asked → List Row → ℕ → Members → Type 0
+AreDefinitionsOf asked rows root taken =
+    (s : State) × (part : Data) × IsPartOf s root part × Adds (fresh asked rows) s × HasOwnDefinitions s
+    × IsNeeded (fresh asked rows) s (references part)
+    × (taken ≡ each_made_by (transforms_of_dialect asked.dialect) s.definitions)
 
 -- the text of a document in order, where the numbers in it are whole, and a newline
 abbrev pub IsTextLine : Data → Text → Type 0
 IsTextLine document line =
     (text : Text) × (has_float document ≡ false → text ≡ ordered_text document) × (line ≡ text ++ 10 ∷ [])
 
--- the line of a root document of this row
+-- that of definitions
+abbrev pub IsDefinitionsLine : Members → Text → Type 0
+IsDefinitionsLine taken line =
+    (text : Text) × (members_have_float taken ≡ false → text ≡ definitions_text taken) × (line ≡ text ++ 10 ∷ [])
+
+abbrev pub IsDocumentLine : Asked → List Row → ℕ → Text → Type 0
+IsDocumentLine asked rows root line = (document : Data) × IsDocumentOf asked rows root document × IsTextLine document line
+
+-- the line of this row in a dialect: of its root document, or, for OpenAPI, of the definitions that it leads to
+abbrev pub IsLineIn : Dialect → Asked → List Row → ℕ → Text → Type 0
+IsLineIn Draft2020_12 asked rows root line = IsDocumentLine asked rows root line
+IsLineIn Draft2019_09 asked rows root line = IsDocumentLine asked rows root line
+IsLineIn Draft07 asked rows root line = IsDocumentLine asked rows root line
+IsLineIn OpenApi3 asked rows root line = (taken : Members) × AreDefinitionsOf asked rows root taken × IsDefinitionsLine taken line
+
 abbrev pub IsLineOf : Asked → List Row → ℕ → Text → Type 0
-IsLineOf asked rows root line = (document : Data) × IsDocumentOf asked rows root document × IsTextLine document line
+IsLineOf asked rows root line = IsLineIn asked.dialect asked rows root line
 
 -- the root document of this row has definitions, and no place for them
 abbrev pub IsUnplaced : Asked → List Row → ℕ → Type 0
 IsUnplaced asked rows root = IsAccepted rows × CannotPlace (fresh asked rows) root
+
+-- why there is no document of this row, or are no definitions
+pub record IsRefusal (asked : Asked) (rows : List Row) (root : ℕ) (e : GenerateError) : Type 0 where
+  pub refused : (e ≡ OutOfMemory) ⊎ HasFault rows e ⊎ ((e ≡ DefinitionsPath) × IsUnplaced asked rows root)
+  pub unfaulty : IsAccepted rows → (e ≡ OutOfMemory) ⊎ (e ≡ DefinitionsPath)
+  pub only_memory : IsAccepted rows → HasPlainNotes rows → e ≡ OutOfMemory
+
+-- and so is no line
+pub record IsLineRefusal (asked : Asked) (rows : List Row) (root : ℕ) (f : Fault) : Type 0 where
+  pub refused : (f ≡ Refused OUT_OF_MEMORY) ⊎ Tells rows f ⊎ ((f ≡ Refused DEFINITIONS_PATH) × IsUnplaced asked rows root)
+  pub faults : IsLineFault f
+  pub unfaulty : IsAccepted rows → (f ≡ Refused OUT_OF_MEMORY) ⊎ (f ≡ Refused DEFINITIONS_PATH)
+  pub only_memory : IsAccepted rows → HasPlainNotes rows → f ≡ Refused OUT_OF_MEMORY
 
 -- the bytes are the text of a table without faults, and Q holds of the line of its root
 abbrev pub IsTableLine : Asked → List ℕ → (Text → Type 0) → Type 0
@@ -118,24 +186,36 @@ IsNotWhole bytes = (d : Data) × IsTextOf d bytes × (sample_input d ≡ None)
 abbrev pub IsSampleText : List ℕ → Type 0
 IsSampleText bytes = (d : Data) × IsTextOf d bytes × ((x : Example) × (sample_input d ≡ Some x))
 
--- the root document of this example, which accepts it, and whose numbers are whole
-abbrev pub IsSampleDocument : Example → Data → Type 0
-IsSampleDocument x document =
-    (document ≡ sample_root settings2020_12.meta_schema x) × AcceptsExample x document × (has_float document ≡ false)
+-- the document accepts the example; of OpenAPI nothing is told
+abbrev pub AcceptsIn : Dialect → Example → Data → Type 0
+AcceptsIn Draft2020_12 x document = AcceptsExample x document
+AcceptsIn Draft2019_09 x document = AcceptsExample x document
+AcceptsIn Draft07 x document = AcceptsExample x document
+AcceptsIn OpenApi3 x document = Unit {0}
+
+-- the root document of this example before the transforms: it accepts the example, and its numbers are whole
+abbrev pub IsUntransformedExample : Dialect → Example → Data → Type 0
+IsUntransformedExample dialect x document =
+    (document ≡ sample_root (settings_of_dialect dialect).meta_schema x) × AcceptsIn dialect x document × (has_float document ≡ false)
+
+-- after the transforms of the dialect
+abbrev pub IsSampleDocument : Dialect → Example → Data → Type 0
+IsSampleDocument dialect x document = IsMadeBy (transforms_of_dialect dialect) (IsUntransformedExample dialect x) document
 
 -- the line of the document of the example that the value is, whose own JSON the value is
-abbrev pub IsSampleLineOf : Data → Text → Type 0
-IsSampleLineOf d line =
+abbrev pub IsSampleLineOf : Dialect → Data → Text → Type 0
+IsSampleLineOf dialect d line =
     (x : Example) × ((document : Data)
-    × (sample_input d ≡ Some x) × (IsJson d → sample_json x ≡ Some d) × IsSampleDocument x document × IsTextLine document line)
+    × (sample_input d ≡ Some x) × (IsJson d → sample_json x ≡ Some d) × IsSampleDocument dialect x document × IsTextLine document line)
 
 -- the bytes are the text of this value, and Q holds of the line of its document
-abbrev pub IsSampleLine : List ℕ → (Text → Type 0) → Type 0
-IsSampleLine bytes Q = (d : Data) × ((line : Text) × IsTextOf d bytes × IsSampleLineOf d line × Q line)
+abbrev pub IsSampleLine : Dialect → List ℕ → (Text → Type 0) → Type 0
+IsSampleLine dialect bytes Q = (d : Data) × ((line : Text) × IsTextOf d bytes × IsSampleLineOf dialect d line × Q line)
 
 -- ---- lines
 
 -- Q holds of the line that the words ask for, of the text that the bytes are
 abbrev pub IsLineFor : List (String Global) → List ℕ → (Text → Type 0) → Type 0
 IsLineFor words bytes Q =
-    ((asked : Asked) × AskFor words asked × IsTableLine asked bytes Q) ⊎ (AskForSample words × IsSampleLine bytes Q)
+    ((asked : Asked) × AskFor words asked × IsTableLine asked bytes Q)
+    ⊎ ((dialect : Dialect) × AskForExample words dialect × IsSampleLine dialect bytes Q)

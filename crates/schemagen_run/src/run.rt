@@ -1,45 +1,49 @@
 //! A run of the program over its words, a source and a sink.
 ghost use Rattle.std.specs.Prelude.{◌≡◌, ◌≢◌, ◌⊎◌, ◌↔◌, ℕ, List, Some, None, false, true, Err, IsTrue, IfOk, IfErr, OnOk};
-ghost use Rattle.std.specs.Prelude.{string_bytes, []};
+ghost use Rattle.std.specs.Prelude.{string_bytes, [], ◌∷◌, ◌++◌};
 ghost use Rattle.std.specs.Io.KnownBytes.{Appends};
-ghost use Rattle.serde_json.specs.View.{view};
+ghost use Rattle.serde_json.specs.View.{view, members_view};
 ghost use Rattle.schemars_types.specs.Faults.{IsAccepted};
-ghost use Rattle.schemars_documents.specs.PlainTable.{HasPlainNotes};
 ghost use Rattle.schemars_generate.specs.Settings.{settings_of};
-ghost use Rattle.schemars_error.specs.Refusals.{HasFault};
 ghost use Rattle.schemagen_run.specs.Streams.{AppendsBeginning};
 ghost use Rattle.schemars_json.specs.Json.{IsJson};
 ghost use Rattle.schemars_sample.specs.Example.{example_of};
 ghost use Rattle.schemars_sample.specs.SampleJson.{sample_json};
 ghost use Rattle.schemagen_input.specs.Input.{is_table, input_of};
 ghost use Rattle.schemagen_input.specs.SampleInput.{sample_input};
+ghost use Rattle.schemagen_run.specs.declared.words.Dialect.TheVariants.{OpenApi3};
 ghost use Rattle.schemagen_run.specs.Words.{AskForTypes, AskForSample, AreKnown};
 ghost use Rattle.schemagen_run.specs.Run.{GivesAll, IsTextOf, IsNoJson, IsBadTable, IsTableText};
-ghost use Rattle.schemagen_run.specs.Run.{IsAcceptedText, IsNotedText, IsFaultyTable, Tells, settings_for};
-ghost use Rattle.schemagen_run.specs.Run.{IsDocumentOf, IsTextLine, IsLineOf, IsUnplaced, IsTableLine, IsUnplacedText};
+ghost use Rattle.schemagen_run.specs.Run.{IsAcceptedText, IsNotedText, IsFaultyTable, IsRefusal, IsLineRefusal};
+ghost use Rattle.schemagen_run.specs.Run.{settings_for, settings_of_dialect, transforms_of_dialect};
+ghost use Rattle.schemagen_run.specs.Run.{IsDocumentOf, IsTextLine, IsDocumentLine, IsLineOf, IsTableLine, IsUnplacedText};
+ghost use Rattle.schemagen_run.specs.Run.{AreDefinitionsOf, IsDefinitionsLine};
 ghost use Rattle.schemagen_run.specs.Run.{IsNotWhole, IsSampleText, IsSampleDocument, IsSampleLineOf, IsSampleLine};
 ghost use Rattle.schemagen_run.specs.Run.{IsLineFor, IsUnplacedFor};
-ghost use Rattle.schemagen_run.specs.Fault.{IsValueFault, IsReadFault, IsTableFault, IsLineFault, IsOutside};
+ghost use Rattle.schemagen_run.specs.Fault.{IsValueFault, IsReadFault, IsTableFault, IsOutside};
 ghost use Rattle.schemagen_run.specs.Fault.{IsTypesFault, IsSampleFault, IsFault};
 
 use crate::fault::{
     BAD_TABLE, DEFINITIONS_PATH, Fault, NOT_JSON, NOT_WHOLE, OUT_OF_MEMORY, READ, WRITE,
 };
 use crate::streams::{Failed, ReadError, Sink, Source, read_all, write_all};
-use crate::words::{Asked, Command, command_in};
+use crate::words::{Asked, Command, Dialect, command_in};
 use schemagen_input::{InputError, SampleError, read_input, read_sample};
 use schemars::sample::Sample;
+use schemars::schema::definitions_to_ordered_string;
 use schemars::{GenerateError, Schema, SchemaGenerator, SchemaSettings};
 use schemars_types::{TypeNo, Types};
-use serde_json::Value;
+use serde_json::{Map, Value};
 use std::alloc::{AllocError, Global};
 
 /// Reads a table of types from the source, and writes the root document of its root to the sink; or reads an example, and
 /// writes the root document of a schema that is made from it. The document is in ordered text, with a newline at its end.
+/// For a table and OpenAPI it writes the definitions that the root leads to, as one object.
 ///
-/// The words are those after the program's name: `types`, the dialect `2020-12`, and, in either order,
+/// The words are those after the program's name: `types`, a dialect, and, in either order,
 /// `--inline` where rows are to be written in place and `--serialize` where the document is to be for
-/// the values that are written; or `sample` and the dialect `2020-12`. Other words are refused first, with
+/// the values that are written; or `sample` and a dialect. The dialects are `2020-12`, `2019-09`, `draft-07` and
+/// `openapi3`. Other words are refused first, with
 /// nothing read. Then a run is refused where the source fails, where the bytes are no JSON, where
 /// the value is no table with a root, where the table has a fault, where the notes of its rows leave no
 /// place for the definitions, where a number of an example is no 64-bit whole number, and where the sink fails, in this
@@ -90,7 +94,7 @@ pub fn run<S: Source, K: Sink>(
 {
     match command_in(words) {
         Some(Command::Types(asked)) => run_types(alloc, asked, source, sink),
-        Some(Command::Sample) => run_sample(alloc, source, sink),
+        Some(Command::Sample(dialect)) => run_sample(alloc, dialect, source, sink),
         None => Err(Fault::Usage),
     }
 }
@@ -135,17 +139,22 @@ fn run_types<S: Source, K: Sink>(
 }
 
 // The document of an example.
-fn run_sample<S: Source, K: Sink>(alloc: Global, source: &mut S, sink: &mut K) -> Result<(), Fault>
+fn run_sample<S: Source, K: Sink>(
+    alloc: Global,
+    dialect: Dialect,
+    source: &mut S,
+    sink: &mut K,
+) -> Result<(), Fault>
     ensures read { (result ≡ Err (Fault.Refused READ)) ↔ IsTrue (S.has_failed source.new) }
     ensures not_json { result ≡ Err (Fault.Refused NOT_JSON)
         → GivesAll (S.left source.old) (S.left source.new) IsNoJson }
     ensures not_whole { result ≡ Err (Fault.Refused NOT_WHOLE)
         → GivesAll (S.left source.old) (S.left source.new) IsNotWhole }
     ensures write { result ≡ Err (Fault.Refused WRITE)
-        → GivesAll (S.left source.old) (S.left source.new) (λ bytes. IsSampleLine bytes
+        → GivesAll (S.left source.old) (S.left source.new) (λ bytes. IsSampleLine dialect bytes
         (AppendsBeginning (K.bytes sink.old) (K.bytes sink.new))) }
     ensures done { OnOk result
-        (GivesAll (S.left source.old) (S.left source.new) (λ bytes. IsSampleLine bytes
+        (GivesAll (S.left source.old) (S.left source.new) (λ bytes. IsSampleLine dialect bytes
         (Appends (K.bytes sink.old) (K.bytes sink.new)))) }
     ensures failed { result ≡ Err (Fault.Refused WRITE) → IsTrue (K.has_failed sink.new) }
     ensures sound { OnOk result (K.has_failed sink.new ≡ false) }
@@ -155,7 +164,7 @@ fn run_sample<S: Source, K: Sink>(alloc: Global, source: &mut S, sink: &mut K) -
     ensures whole { (bytes : List ℕ) → S.left source.old ≡ Some bytes → IsSampleText bytes → IfErr result IsOutside }
 {
     let value = read_value(alloc, source)?;
-    let line = sample_line(alloc, &value)?;
+    let line = sample_line(alloc, dialect, &value)?;
     match write_all(sink, line.as_bytes()) {
         Ok(()) => Ok(()),
         Err(_) => Err(Fault::Refused(WRITE)),
@@ -231,28 +240,52 @@ fn input_of(alloc: Global, value: &Value) -> Result<(Types, TypeNo), Fault>
     Ok((types, root))
 }
 
-fn settings_for(alloc: Global, asked: Asked) -> SchemaSettings
-    ensures settings { settings_of result ≡ settings_for asked }
-    ensures transforms { result.transforms.items ≡ [] }
+// The settings of a dialect.
+fn settings_of_dialect(alloc: Global, dialect: Dialect) -> Result<SchemaSettings, AllocError>
+    ensures settings { IfOk result (λ s. settings_of s ≡ settings_of_dialect dialect) }
+    ensures transforms { IfOk result (λ s. s.transforms.items ≡ transforms_of_dialect dialect) }
 {
-    let mut settings = SchemaSettings::draft2020_12(alloc);
-    settings.contract = asked.contract;
-    settings.inline_subschemas = asked.inlines;
-    settings
+    match dialect {
+        Dialect::Draft2020_12 => Ok(SchemaSettings::draft2020_12(alloc)),
+        Dialect::Draft2019_09 => SchemaSettings::draft2019_09(alloc),
+        Dialect::Draft07 => SchemaSettings::draft07(alloc),
+        Dialect::OpenApi3 => SchemaSettings::openapi3(alloc),
+    }
 }
 
-// The line of the root document of this row.
+// The settings that are asked for.
+fn settings_for(alloc: Global, asked: Asked) -> Result<SchemaSettings, AllocError>
+    ensures settings { IfOk result (λ s. settings_of s ≡ settings_for asked) }
+    ensures transforms { IfOk result (λ s. s.transforms.items ≡ transforms_of_dialect asked.dialect) }
+{
+    let mut settings = settings_of_dialect(alloc, asked.dialect)?;
+    settings.contract = asked.contract;
+    settings.inline_subschemas = asked.inlines;
+    Ok(settings)
+}
+
+// The line of this row.
 fn line_for(alloc: Global, asked: Asked, types: Types, root: TypeNo) -> Result<String, Fault>
     requires { is_table types root ≡ true }
     ensures ok { IfOk result (λ s. IsLineOf asked types root (string_bytes s)) }
     ensures accepted { OnOk result (IsAccepted types) }
-    ensures refused { IfErr result (λ e. (e ≡ Fault.Refused OUT_OF_MEMORY) ⊎ Tells types e
-        ⊎ ((e ≡ Fault.Refused DEFINITIONS_PATH) × IsUnplaced asked types root)) }
-    ensures faults { IfErr result IsLineFault }
-    ensures unfaulty { IsAccepted types
-        → IfErr result (λ e. (e ≡ Fault.Refused OUT_OF_MEMORY) ⊎ (e ≡ Fault.Refused DEFINITIONS_PATH)) }
-    ensures only_memory { IsAccepted types → HasPlainNotes types
-        → IfErr result (λ e. e ≡ Fault.Refused OUT_OF_MEMORY) }
+    ensures refused { IfErr result (IsLineRefusal asked types root) }
+{
+    match asked.dialect {
+        Dialect::OpenApi3 => definitions_line(alloc, asked, types, root),
+        Dialect::Draft2020_12 => document_line(alloc, asked, types, root),
+        Dialect::Draft2019_09 => document_line(alloc, asked, types, root),
+        Dialect::Draft07 => document_line(alloc, asked, types, root),
+    }
+}
+
+// The line of the root document of this row.
+fn document_line(alloc: Global, asked: Asked, types: Types, root: TypeNo) -> Result<String, Fault>
+    requires table { is_table types root ≡ true }
+    requires draft { asked.dialect ≢ OpenApi3 }
+    ensures ok { IfOk result (λ s. IsDocumentLine asked types root (string_bytes s)) }
+    ensures accepted { OnOk result (IsAccepted types) }
+    ensures refused { IfErr result (IsLineRefusal asked types root) }
 {
     let document = document_of(alloc, asked, types, root)?;
     let line = line_of(alloc, &document)?;
@@ -263,7 +296,43 @@ fn line_for(alloc: Global, asked: Asked, types: Types, root: TypeNo) -> Result<S
 fn line_of(alloc: Global, document: &Schema) -> Result<String, AllocError>
     ensures { IfOk result (λ s. IsTextLine document.now (string_bytes s)) }
 {
-    let mut line = document.to_ordered_string(alloc)?;
+    let text = document.to_ordered_string(alloc)?;
+    with_newline(text)
+}
+
+// The line of the definitions that this row leads to.
+fn definitions_line(
+    alloc: Global,
+    asked: Asked,
+    types: Types,
+    root: TypeNo,
+) -> Result<String, Fault>
+    requires { is_table types root ≡ true }
+    ensures ok { IfOk result (λ s. (taken : _) × AreDefinitionsOf asked types root taken
+        × IsDefinitionsLine taken (string_bytes s)) }
+    ensures accepted { OnOk result (IsAccepted types) }
+    ensures refused { IfErr result (IsLineRefusal asked types root) }
+{
+    let definitions = definitions_of(alloc, asked, types, root)?;
+    let line = line_of_definitions(alloc, &definitions)?;
+    Ok(line)
+}
+
+// The text of definitions, and a newline.
+fn line_of_definitions(
+    alloc: Global,
+    definitions: &Map<String, Value>,
+) -> Result<String, AllocError>
+    ensures { IfOk result (λ s. IsDefinitionsLine (members_view definitions.now.entries) (string_bytes s)) }
+{
+    let text = definitions_to_ordered_string(alloc, definitions)?;
+    with_newline(text)
+}
+
+fn with_newline(text: String) -> Result<String, AllocError>
+    ensures { IfOk result (λ s. string_bytes s ≡ string_bytes text ++ 10 ∷ []) }
+{
+    let mut line = text;
     line.push_str("\n")?;
     Ok(line)
 }
@@ -275,29 +344,43 @@ fn document_of(
     types: Types,
     root: TypeNo,
 ) -> Result<Schema, GenerateError>
-    requires { is_table types root ≡ true }
+    requires table { is_table types root ≡ true }
+    requires draft { asked.dialect ≢ OpenApi3 }
     ensures ok { IfOk result (λ d. IsDocumentOf asked types root d) }
     ensures accepted { OnOk result (IsAccepted types) }
-    ensures refused { IfErr result (λ e. (e ≡ GenerateError.OutOfMemory) ⊎ HasFault types e
-        ⊎ ((e ≡ GenerateError.DefinitionsPath) × IsUnplaced asked types root)) }
-    ensures unfaulty { IsAccepted types
-        → IfErr result (λ e. (e ≡ GenerateError.OutOfMemory) ⊎ (e ≡ GenerateError.DefinitionsPath)) }
-    ensures only_memory { IsAccepted types → HasPlainNotes types
-        → IfErr result (λ e. e ≡ GenerateError.OutOfMemory) }
+    ensures refused { IfErr result (IsRefusal asked types root) }
 {
-    let settings = settings_for(alloc, asked);
+    let settings = settings_for(alloc, asked)?;
     let generator = SchemaGenerator::with_types(alloc, settings, types)?;
     generator.into_root_schema_for_type(alloc, root)
 }
 
+// The definitions that this row leads to, through the transforms.
+fn definitions_of(
+    alloc: Global,
+    asked: Asked,
+    types: Types,
+    root: TypeNo,
+) -> Result<Map<String, Value>, GenerateError>
+    requires { is_table types root ≡ true }
+    ensures ok { IfOk result (λ m. AreDefinitionsOf asked types root (members_view m.entries)) }
+    ensures accepted { OnOk result (IsAccepted types) }
+    ensures refused { IfErr result (IsRefusal asked types root) }
+{
+    let settings = settings_for(alloc, asked)?;
+    let mut generator = SchemaGenerator::with_types(alloc, settings, types)?;
+    generator.subschema_for_type(alloc, root)?;
+    generator.take_definitions(alloc, true)
+}
+
 // The line of the document of the example that the value is.
-fn sample_line(alloc: Global, value: &Value) -> Result<String, Fault>
-    ensures ok { IfOk result (λ s. IsSampleLineOf (view value.now) (string_bytes s)) }
+fn sample_line(alloc: Global, dialect: Dialect, value: &Value) -> Result<String, Fault>
+    ensures ok { IfOk result (λ s. IsSampleLineOf dialect (view value.now) (string_bytes s)) }
     ensures not_whole { result ≡ Err (Fault.Refused NOT_WHOLE) → sample_input (view value.now) ≡ None }
     ensures faults { IfErr result (λ e. (e ≡ Fault.Refused OUT_OF_MEMORY) ⊎ (e ≡ Fault.Refused NOT_WHOLE)) }
 {
     let sample = sample_of(alloc, value)?;
-    let document = sample_document(alloc, &sample)?;
+    let document = sample_document(alloc, dialect, &sample)?;
     let line = line_of(alloc, &document)?;
     Ok(line)
 }
@@ -317,9 +400,15 @@ fn sample_of(alloc: Global, value: &Value) -> Result<Sample, Fault>
 }
 
 // The root document of the example.
-fn sample_document(alloc: Global, sample: &Sample) -> Result<Schema, GenerateError>
-    ensures ok { IfOk result (IsSampleDocument (example_of sample.now)) }
+fn sample_document(
+    alloc: Global,
+    dialect: Dialect,
+    sample: &Sample,
+) -> Result<Schema, GenerateError>
+    ensures ok { IfOk result (IsSampleDocument dialect (example_of sample.now)) }
     ensures only_memory { IfErr result (λ e. e ≡ GenerateError.OutOfMemory) }
 {
-    SchemaGenerator::default(alloc).into_root_schema_for_value(alloc, sample)
+    let settings = settings_of_dialect(alloc, dialect)?;
+    let generator = SchemaGenerator::new(alloc, settings);
+    generator.into_root_schema_for_value(alloc, sample)
 }

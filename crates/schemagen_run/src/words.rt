@@ -1,29 +1,57 @@
 //! What the words of a run ask for.
-ghost use Rattle.std.specs.Prelude.{◌≡◌, ◌↔◌, IsTrue, MatchOption, bytes_eq, codes, ◌&&◌, [], ◌∷◌};
-ghost use Rattle.schemagen_run.specs.Words.{AskFor, AskForTypes, AskForSample, AreKnown, Asks, AreFlagsFor, AreKnownFlags};
+ghost use Rattle.std.specs.Prelude.{◌≡◌, ◌↔◌, IsTrue, MatchOption, bytes_eq, codes, [], ◌∷◌};
+ghost use Rattle.schemagen_run.specs.Words.{AskFor, AskForTypes, AskForExample, AskForSample, AreKnown, Asks};
+ghost use Rattle.schemagen_run.specs.Words.{word_for, IsDialect, IsAskedBy, IsKnown};
 
 use schemars::Contract;
+
+/// A dialect of JSON Schema.
+#[derive(Clone, Copy)]
+pub(crate) enum Dialect {
+    /// Draft 2020-12
+    Draft2020_12,
+    /// Draft 2019-09
+    Draft2019_09,
+    /// Draft 7
+    Draft07,
+    /// the schema objects of OpenAPI 3.0
+    OpenApi3,
+}
 
 /// What the words ask for.
 #[derive(Clone, Copy)]
 pub(crate) enum Command {
-    /// the document of a table's root
+    /// the document of a table's root, or its definitions
     Types(Asked),
-    /// the document of an example
-    Sample,
+    /// the document of an example, in this dialect
+    Sample(Dialect),
 }
 
 /// How the document of a table's root is to be.
 #[derive(Clone, Copy)]
 pub(crate) struct Asked {
+    pub(crate) dialect: Dialect,
     pub(crate) contract: Contract,
     pub(crate) inlines: bool,
 }
 
-fn is_types(command: &str, dialect: &str) -> bool
-    ensures { result ≡ bytes_eq command.now (codes "types") && bytes_eq dialect.now (codes "2020-12") }
+// The dialect that a word stands for.
+fn dialect_of(word: &str) -> Option<Dialect>
+    ensures { MatchOption result (¬ (IsDialect word.now)) (λ dialect. word.now ≡ word_for dialect) }
 {
-    command == "types" && dialect == "2020-12"
+    if word == "2020-12" {
+        return Some(Dialect::Draft2020_12);
+    }
+    if word == "2019-09" {
+        return Some(Dialect::Draft2019_09);
+    }
+    if word == "draft-07" {
+        return Some(Dialect::Draft07);
+    }
+    if word == "openapi3" {
+        return Some(Dialect::OpenApi3);
+    }
+    None
 }
 
 // What the words ask for.
@@ -32,17 +60,20 @@ pub(crate) fn command_in(words: &[String]) -> Option<Command>
 {
     match asked_in(words) {
         Some(asked) => Some(Command::Types(asked)),
-        None if is_sample(words) => Some(Command::Sample),
-        None => None,
+        None => match example_in(words) {
+            Some(dialect) => Some(Command::Sample(dialect)),
+            None => None,
+        },
     }
 }
 
-fn is_sample(words: &[String]) -> bool
-    ensures { IsTrue result ↔ AskForSample words.now }
+// The dialect in which the document of an example is asked for.
+fn example_in(words: &[String]) -> Option<Dialect>
+    ensures { MatchOption result (¬ (AskForSample words.now)) (AskForExample words.now) }
 {
     match words {
-        [command, dialect] => command.as_str() == "sample" && dialect.as_str() == "2020-12",
-        _ => false,
+        [command, dialect] if command.as_str() == "sample" => dialect_of(dialect.as_str()),
+        _ => None,
     }
 }
 
@@ -51,33 +82,44 @@ fn asked_in(words: &[String]) -> Option<Asked>
     ensures { MatchOption result (¬ (AskForTypes words.now)) (λ asked. AskFor words.now asked) }
 {
     match words {
-        [command, dialect] if is_types(command.as_str(), dialect.as_str()) => Some(Asked {
-            contract: Contract::Deserialize,
-            inlines: false,
-        }),
-        [command, dialect, flag] if is_types(command.as_str(), dialect.as_str()) => {
-            asked_by_one(flag.as_str())
+        [command, dialect] if command.as_str() == "types" => asked_plainly(dialect.as_str()),
+        [command, dialect, flag] if command.as_str() == "types" => {
+            asked_by_one(dialect.as_str(), flag.as_str())
         }
-        [command, dialect, first, second] if is_types(command.as_str(), dialect.as_str()) => {
-            asked_by_two(first.as_str(), second.as_str())
+        [command, dialect, first, second] if command.as_str() == "types" => {
+            asked_by_two(dialect.as_str(), first.as_str(), second.as_str())
         }
         _ => None,
     }
 }
 
-// What one flag asks for.
-fn asked_by_one(flag: &str) -> Option<Asked>
-    ensures { MatchOption result (¬ (AreKnownFlags (flag.now ∷ []))) (λ asked. AreFlagsFor asked.contract asked.inlines
-        (flag.now ∷ [])) }
+// What a dialect asks for without flags.
+fn asked_plainly(dialect: &str) -> Option<Asked>
+    ensures { MatchOption result (¬ (IsKnown dialect.now [])) (IsAskedBy dialect.now []) }
 {
+    let dialect = dialect_of(dialect)?;
+    Some(Asked {
+        dialect,
+        contract: Contract::Deserialize,
+        inlines: false,
+    })
+}
+
+// What one flag asks for.
+fn asked_by_one(dialect: &str, flag: &str) -> Option<Asked>
+    ensures { MatchOption result (¬ (IsKnown dialect.now (flag.now ∷ []))) (IsAskedBy dialect.now (flag.now ∷ [])) }
+{
+    let dialect = dialect_of(dialect)?;
     if flag == "--serialize" {
         return Some(Asked {
+            dialect,
             contract: Contract::Serialize,
             inlines: false,
         });
     }
     if flag == "--inline" {
         return Some(Asked {
+            dialect,
             contract: Contract::Deserialize,
             inlines: true,
         });
@@ -86,14 +128,16 @@ fn asked_by_one(flag: &str) -> Option<Asked>
 }
 
 // What two flags ask for, which stand in either order.
-fn asked_by_two(first: &str, second: &str) -> Option<Asked>
-    ensures { MatchOption result (¬ (AreKnownFlags (first.now ∷ second.now ∷ []))) (λ asked. AreFlagsFor asked.contract
-        asked.inlines (first.now ∷ second.now ∷ [])) }
+fn asked_by_two(dialect: &str, first: &str, second: &str) -> Option<Asked>
+    ensures { MatchOption result (¬ (IsKnown dialect.now (first.now ∷ second.now ∷ [])))
+        (IsAskedBy dialect.now (first.now ∷ second.now ∷ [])) }
 {
+    let dialect = dialect_of(dialect)?;
     let inline_first = first == "--inline" && second == "--serialize";
     let inline_last = first == "--serialize" && second == "--inline";
     if inline_first || inline_last {
         return Some(Asked {
+            dialect,
             contract: Contract::Serialize,
             inlines: true,
         });

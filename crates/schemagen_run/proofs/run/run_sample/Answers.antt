@@ -19,3 +19,20 @@ returns-clause-write g c = λ _.
         ),
       ),
     )
+
+pub returns-in-Ok-clause-done : goal.returns-in-Ok-clause-done
+returns-in-Ok-clause-done g c =
+    let (bytes, consumed, end, text) = c.in_ok-value.ensures.ok in (
+      bytes,
+      consumed,
+      end,
+      (
+        view c.in_ok-value.value,
+        (
+          string_bytes c.in_ok-line.line,
+          text,
+          c.in_ok-line.ensures.ok,
+          rw (sym c.as_bytes.ensures.value) c.in-Ok.ensures.bytes,
+        ),
+      ),
+    )

@@ -92,7 +92,7 @@ returns-in_err-types g c =
 pub returns-in_err-line : goal.returns-in_err-line
 returns-in_err-line g c =
     let e = c.in_err-line.field-0.0 in
-    let why = c.in_err-line.ensures in
+    let why = c.in_err-line.ensures.refused in
     let r = c.from_residual-in_err-line.result in
     let is = passed_on r e c.from_residual-in_err-line.ensures.1 in
     let given = c.in_ok-types.ensures.ok in

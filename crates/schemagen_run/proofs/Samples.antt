@@ -1,0 +1,52 @@
+-- The root document of an example, in each dialect.
+use Rattle.std.proofs.Common.{◌≡◌, inl, inr, List, Result, Ok, Err, Some, IfOk, IfErr, false, refl, ap, ◌∙◌, subst}
+use Rattle.serde_json.specs.Data.{Data, Members, no_members}
+use Rattle.schemars_sample.specs.Example.{Example}
+use Rattle.schemars_headline.specs.State.{Settings}
+use Rattle.schemars_error.specs.declared.error.GenerateError.{GenerateError}
+use Rattle.schemars_error.specs.declared.error.GenerateError.TheVariants.{OutOfMemory}
+use Rattle.schemars_roots.specs.Samples.{IsSampleRoot, IsSampleRefused}
+use Rattle.schemars_transforms.specs.declared.gen_transform.GenTransform.{GenTransform}
+use Rattle.schemars_transforms.specs.declared.no_transform.NoTransform.{NoTransform}
+use Rattle.schemars_transforms.specs.Member.{some_own}
+use Rattle.schemars_transforms.specs.BuiltIn.{made_by, IsMadeBy}
+use Rattle.schemagen_run.specs.declared.words.Dialect.{Dialect}
+use Rattle.schemagen_run.specs.declared.words.Dialect.TheVariants.{Draft2020_12, Draft2019_09, Draft07, OpenApi3}
+use Rattle.schemagen_run.specs.Run.{settings_of_dialect, transforms_of_dialect, AcceptsIn, IsUntransformedExample, IsSampleDocument}
+use Rattle.schemagen_run.proofs.Tables.{none_own}
+
+accepts_in : (dialect : Dialect) (x : Example) (d : Data) → IsSampleRoot (settings_of_dialect dialect) no_members x d
+    → AcceptsIn dialect x d
+accepts_in Draft2020_12 x d root = root.accepts (inl refl)
+accepts_in Draft2019_09 x d root = root.accepts (inl refl)
+accepts_in Draft07 x d root = root.accepts (inr refl)
+accepts_in OpenApi3 x d root = tt
+
+same_inside : {d e : Data} → Some d ≡ Some e → e ≡ d
+same_inside h = cc
+
+is_untransformed : (dialect : Dialect) (x : Example) (d : Data) → IsSampleRoot (settings_of_dialect dialect) no_members x d
+    → IsUntransformedExample dialect x d
+is_untransformed dialect x d root = (same_inside root.placed, accepts_in dialect x d root, root.whole refl)
+
+-- what a generator without definitions answers
+pub sample_made : {E : Type 0} (r : Result Data E) (s : Settings) (definitions : Members) (x : Example) (dialect : Dialect)
+    (ts : List (GenTransform NoTransform)) → s ≡ settings_of_dialect dialect → definitions ≡ no_members → ts ≡ transforms_of_dialect dialect
+    → (some_own ts ≡ false → IfOk r (IsMadeBy ts (IsSampleRoot s definitions x))) → IfOk r (IsSampleDocument dialect x)
+sample_made (Err e) s definitions x dialect ts same empty is made = tt
+sample_made (Ok document) s definitions x dialect ts same empty is made =
+    let (d, root, by) = made (ap some_own is ∙ none_own dialect) in
+    let here : IsSampleRoot (settings_of_dialect dialect) no_members x d =
+    subst (λ (t : Settings). IsSampleRoot t no_members x d) same (subst (λ (ms : Members). IsSampleRoot s ms x d) empty root) in
+    (d, is_untransformed dialect x d here, by ∙ ap (λ (xs : List (GenTransform NoTransform)). made_by xs d) is)
+
+nothing_unplaced : (s : Settings) (x : Example) (e : GenerateError) → IsSampleRefused s no_members x e → e ≡ OutOfMemory
+nothing_unplaced s x e (inl memory) = memory
+nothing_unplaced s x e (inr (path, cannot)) = let never = cannot.no_place in cc
+
+-- it wants memory alone, since there is nothing to place
+pub sample_wants_memory : (r : Result Data GenerateError) (s : Settings) (definitions : Members) (x : Example) → definitions ≡ no_members
+    → IfErr r (IsSampleRefused s definitions x) → IfErr r (λ e. e ≡ OutOfMemory)
+sample_wants_memory (Ok d) s definitions x empty why = tt
+sample_wants_memory (Err e) s definitions x empty why =
+    nothing_unplaced s x e (subst (λ (ms : Members). IsSampleRefused s ms x e) empty why)
