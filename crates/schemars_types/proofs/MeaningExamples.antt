@@ -169,10 +169,19 @@ structs_are_maps : has Deserialize (shape.struct (bare_fields [] false)) (array 
 unfolding has table belongs_within
 structs_are_maps = refl
 
--- `Ok` of bytes, or `Err` of bytes
-results : TellsApart Deserialize (shape.result 0 0) (object_of (member_of "Ok" (whole 1) ∷ member_of "Err" (text "x") ∷ []))
-    (object_of (member_of "Ok" (whole 1) ∷ member_of "Err" (whole 2) ∷ []))
-unfolding TellsApart has table belongs_within whole text member_of
+-- row 1 is the result of an i8, or of the bytes of row 0
+results_table : List Row
+results_table =
+    record { id = codes "u8"; name = codes "u8"; entry = Some (in_place (shape.int U8)) } ∷
+    record { id = codes "r"; name = codes "r"; entry = Some (in_place (shape.result 2 0)) } ∷
+    record { id = codes "i8"; name = codes "i8"; entry = Some (in_place (shape.int I8)) } ∷ []
+
+is_result : Data → Data → Bool
+is_result v w = belongs results_table Deserialize [] 1 (object_of (member_of "Ok" v ∷ member_of "Err" w ∷ []))
+
+-- of `Ok` and `Err` just one fits
+results : (is_result (whole 1) (text "x") ≡ true) × (is_result (whole 1) (whole 2) ≡ false)
+unfolding is_result results_table belongs_within whole text member_of
 results = (refl, refl)
 
 bounds : TellsApart Deserialize (shape.bound 0) (text "Unbounded") (text "Included")
