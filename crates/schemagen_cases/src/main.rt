@@ -18,7 +18,8 @@ use crate::cases::{Asked, work_cases};
 use std::{fs, io};
 
 // The files, and whom their cases ask.
-const FILES: [(&str, Asked); 14] = [
+const FILES: [(&str, Asked); 15] = [
+    ("examples.tsv", Asked::Program),
     ("rows.tsv", Asked::Program),
     ("structs.tsv", Asked::Program),
     ("enums.tsv", Asked::Program),

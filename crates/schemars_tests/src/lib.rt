@@ -20,7 +20,6 @@ mod names;
 #[cfg(test)]
 mod registered;
 #[cfg(test)]
-#[cfg(test)]
 mod schema;
 #[cfg(test)]
 mod streams;
