@@ -53,6 +53,13 @@ unescaped-escaped (b ∷ bs) = unescaped_byte b (escaped bs) ∙ ap (λ l. b ∷
 
 -- ---- the bytes of a character
 
+-- a list has a number, whichever side of the test it stands on
+pub list_any-either_way : (b : ℕ) (bs : List ℕ) → list_any (λ s. s == b) bs ≡ list_any (λ s. b == s) bs
+list_any-either_way b [] = refl
+list_any-either_way b (s ∷ bs) =
+    let same : (s == b) ≡ (b == s) = grind (arith, nat_tests) in
+    rw (same, list_any-either_way b bs) refl
+
 not_among : (b : ℕ) (bs : List ℕ) → 128 ≤ b → are_ascii bs ≡ true → list_any (λ s. b == s) bs ≡ false
 not_among b [] above ascii = refl
 not_among b (s ∷ bs) above ascii =

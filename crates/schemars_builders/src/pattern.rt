@@ -33,8 +33,8 @@ fn push_escaped(pattern: &mut String, character: char) -> Result<(), AllocError>
 fn is_special(character: char) -> bool
     ensures { result ≡ is_special character }
 {
-    matches!(
-        character,
-        '#' | '$' | '&' | '('..='+' | '-' | '.' | '?' | '['..='^' | '{'..='~'
-    )
+    [
+        '\\', '.', '+', '*', '?', '(', ')', '|', '[', ']', '{', '}', '^', '$', '#', '&', '-', '~',
+    ]
+    .contains(&character)
 }

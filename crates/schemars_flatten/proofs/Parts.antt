@@ -20,8 +20,8 @@ use Rattle.schemars_schema.specs.Edits.{replaced, without}
 use Rattle.schemars_schema.specs.Acceptance.{both_some}
 use Rattle.schemars_schema.proofs.MapEdits.{members_view-set_value}
 use Rattle.schemars_rewrite.proofs.NullKeywords.{or-false}
-use Rattle.schemars_flatten.specs.Flatten.{moved, appended, joined, merged, united, with_united, both_choices}
-use Rattle.schemars_flatten.specs.Flatten.{with_choice}
+use Rattle.schemars_flatten.specs.Flatten.{moved, appended, is_joined, joined, is_merged, merged, united, with_united}
+use Rattle.schemars_flatten.specs.Flatten.{both_choices, with_choice}
 use Rattle.schemars_flatten.specs.Flatten.{opened, opened_schema, united_all, flattened}
 
 -- what isn't there can't be taken out
@@ -107,6 +107,13 @@ choice_missing k ms mid new d missing taken made =
     made ∙ (ap (put k d) (taken ∙ without_missing k ms missing)
     ∙ at_none (get_member k ms) (put k d ms)
     (λ e. with_united (codes "allOf") (both_choices k e d) (without k ms)) missing)
+
+-- under any other keyword the first stays
+pub united_other : (k : Text) (first second : Data) → is_joined k ≡ false → is_merged k ≡ false
+    → first ≡ united k first second
+united_other k first second not_joined not_merged =
+    ap (λ b. if b then merged first second else first) (sym not_merged)
+    ∙ ap (λ b. if b then joined first second else if is_merged k then merged first second else first) (sym not_joined)
 
 -- ---- lists and objects
 

@@ -99,6 +99,8 @@ fn unite_values(key: &str, first: &mut Value, second: Value) -> Result<(), Alloc
     } else if is_merged(key) {
         merge(first, second)
     } else {
+        // The first stays.
+        drop(second);
         Ok(())
     }
 }
