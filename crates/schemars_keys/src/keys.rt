@@ -157,7 +157,9 @@ fn member_takes_all(types: &Types, payload: &Payload) -> bool
 {
     match payload {
         Payload::Newtype(m) => takes_all(types, *m),
-        _ => false,
+        Payload::Unit => false,
+        Payload::Tuple(_) => false,
+        Payload::Struct(_) => false,
     }
 }
 
