@@ -1,4 +1,4 @@
-ghost use Rattle.std.specs.Prelude.{◌≡◌, ◌++◌, [], ◌∷◌, false, codes, None, IfOk, OnErr, IfErr, string_bytes, map, find, nat_le, length};
+ghost use Rattle.std.specs.Prelude.{◌≡◌, ◌++◌, [], ◌∷◌, false, codes, None, IfOk, OnOk, OnErr, IfErr, string_bytes, map, find, nat_le, length};
 ghost use Rattle.std.specs.List.{join_by};
 ghost use Rattle.schemars_types.specs.Names.{tuple_id, tuple_name};
 ghost use Rattle.schemars_shapes.specs.IntKind.{format_of, non_zero_name};
@@ -7,10 +7,12 @@ ghost use Rattle.schemars_types.specs.Names.{array_id, array_name, up_to_id, up_
 ghost use Rattle.schemars_types.specs.Names.{bound_id, bound_name, range_id, range_name, either_id, either_name};
 ghost use Rattle.schemars_types.specs.Names.{map_id, map_name};
 ghost use Rattle.schemars_shapes.specs.Shape.{Shape as shape, shape_of, in_place, array_of, without_notes};
-ghost use Rattle.schemars_shapes.specs.Shape.{field_of, fields_of, needed};
+ghost use Rattle.schemars_shapes.specs.Shape.{field_of, fields_of, needed, numbers_of};
 ghost use Rattle.schemars_types.specs.Rows.{id_at, name_at, unknown_in};
 ghost use Rattle.schemars_types.specs.Refusals.{Registers, Refuses};
 ghost use Rattle.schemars_types.specs.Version.{version_schema};
+ghost use Rattle.schemars_schema.specs.SchemaData.{inserted};
+ghost use Rattle.serde_json.specs.Data.{string};
 ghost use Rattle.schemars_types.specs.Times.{time_fields, RegistersTime, RefusesTime};
 
 use crate::error::TypesError;
@@ -181,12 +183,15 @@ impl Types {
         ensures refused { IfErr result
             (Refuses (option_id (id_at self.old n)) (in_place (shape.option n)) self.old) }
     {
-        let (Some(id), Some(name)) = (self.id(n), self.name(n)) else {
-            return Err(TypesError::UnknownType(n));
-        };
-        let id = format!(in alloc; "Option<{id}>")?;
-        let name = format!(in alloc; "Nullable_{name}")?;
-        self.register_row(alloc, id, name, true, Shape::Option(n))
+        self.register_around(
+            alloc,
+            n,
+            "Option<",
+            ">",
+            "Nullable_",
+            true,
+            Shape::Option(n),
+        )
     }
 
     /// The type of lists of values of row `n`.
@@ -197,12 +202,7 @@ impl Types {
         ensures refused { IfErr result
             (Refuses (seq_id (id_at self.old n)) (in_place (shape.seq n)) self.old) }
     {
-        let (Some(id), Some(name)) = (self.id(n), self.name(n)) else {
-            return Err(TypesError::UnknownType(n));
-        };
-        let id = format!(in alloc; "[{id}]")?;
-        let name = format!(in alloc; "Array_of_{name}")?;
-        self.register_row(alloc, id, name, true, Shape::Seq(n))
+        self.register_around(alloc, n, "[", "]", "Array_of_", true, Shape::Seq(n))
     }
 
     /// The type of lists of values of row `n`, no two of them equal.
@@ -213,12 +213,7 @@ impl Types {
         ensures refused { IfErr result
             (Refuses (set_id (id_at self.old n)) (in_place (shape.set n)) self.old) }
     {
-        let (Some(id), Some(name)) = (self.id(n), self.name(n)) else {
-            return Err(TypesError::UnknownType(n));
-        };
-        let id = format!(in alloc; "Set<{id}>")?;
-        let name = format!(in alloc; "Set_of_{name}")?;
-        self.register_row(alloc, id, name, true, Shape::Set(n))
+        self.register_around(alloc, n, "Set<", ">", "Set_of_", true, Shape::Set(n))
     }
 
     /// The type of lists of just `len` values of row `n`. Where `len` is 0 it is that of empty lists,
@@ -234,12 +229,20 @@ impl Types {
             let empty = Shape::Tuple(Vec::new(alloc));
             return self.register_named(alloc, "[]", "EmptyArray", true, empty);
         }
-        let (Some(id), Some(name)) = (self.id(n), self.name(n)) else {
+        if self.len() <= n {
             return Err(TypesError::UnknownType(n));
-        };
-        let id = format!(in alloc; "[{len}; {id}]")?;
-        let name = format!(in alloc; "Array_size_{len}_of_{name}")?;
-        self.register_row(alloc, id, name, true, Shape::Array(n, len))
+        }
+        let before = format!(in alloc; "[{len}; ")?;
+        let name_before = format!(in alloc; "Array_size_{len}_of_")?;
+        self.register_around(
+            alloc,
+            n,
+            before.as_str(),
+            "]",
+            name_before.as_str(),
+            true,
+            Shape::Array(n, len),
+        )
     }
 
     /// The type of lists of at most `cap` values of row `n`.
@@ -250,12 +253,20 @@ impl Types {
         ensures refused { IfErr result
             (Refuses (up_to_id (id_at self.old n) cap) (in_place (shape.up_to n cap)) self.old) }
     {
-        let (Some(id), Some(name)) = (self.id(n), self.name(n)) else {
+        if self.len() <= n {
             return Err(TypesError::UnknownType(n));
-        };
-        let id = format!(in alloc; "[{id}; up to {cap}]")?;
-        let name = format!(in alloc; "Array_up_to_size_{cap}_of_{name}")?;
-        self.register_row(alloc, id, name, true, Shape::UpTo(n, cap))
+        }
+        let after = format!(in alloc; "; up to {cap}]")?;
+        let name_before = format!(in alloc; "Array_up_to_size_{cap}_of_")?;
+        self.register_around(
+            alloc,
+            n,
+            "[",
+            after.as_str(),
+            name_before.as_str(),
+            true,
+            Shape::UpTo(n, cap),
+        )
     }
 
     /// The type of lists of one value of each of these rows, in their order. Without rows it is that
@@ -329,15 +340,16 @@ impl Types {
         ensures refused { IfErr result (Refuses (result_id (id_at self.old value) (id_at self.old error))
             (without_notes false (shape.result value error)) self.old) }
     {
-        let (Some(value_id), Some(value_name)) = (self.id(value), self.name(value)) else {
-            return Err(TypesError::UnknownType(value));
-        };
-        let (Some(error_id), Some(error_name)) = (self.id(error), self.name(error)) else {
-            return Err(TypesError::UnknownType(error));
-        };
-        let id = format!(in alloc; "Result<{value_id}, {error_id}>")?;
-        let name = format!(in alloc; "Result_of_{value_name}_or_{error_name}")?;
-        self.register_row(alloc, id, name, false, Shape::Result(value, error))
+        self.register_pair(
+            alloc,
+            value,
+            error,
+            "Result",
+            "Result_of_",
+            "_or_",
+            false,
+            Shape::Result(value, error),
+        )
     }
 
     /// The type of bounds: maps with `Included` or with `Excluded` of row `n`, and not both, and
@@ -349,12 +361,7 @@ impl Types {
         ensures refused { IfErr result
             (Refuses (bound_id (id_at self.old n)) (without_notes false (shape.bound n)) self.old) }
     {
-        let (Some(id), Some(name)) = (self.id(n), self.name(n)) else {
-            return Err(TypesError::UnknownType(n));
-        };
-        let id = format!(in alloc; "Bound<{id}>")?;
-        let name = format!(in alloc; "Bound_of_{name}")?;
-        self.register_row(alloc, id, name, false, Shape::Bound(n))
+        self.register_around(alloc, n, "Bound<", ">", "Bound_of_", false, Shape::Bound(n))
     }
 
     /// The type of maps with `start` and `end` of row `n`.
@@ -365,12 +372,7 @@ impl Types {
         ensures refused { IfErr result
             (Refuses (range_id (id_at self.old n)) (without_notes false (shape.range n)) self.old) }
     {
-        let (Some(id), Some(name)) = (self.id(n), self.name(n)) else {
-            return Err(TypesError::UnknownType(n));
-        };
-        let id = format!(in alloc; "Range<{id}>")?;
-        let name = format!(in alloc; "Range_of_{name}")?;
-        self.register_row(alloc, id, name, false, Shape::Range(n))
+        self.register_around(alloc, n, "Range<", ">", "Range_of_", false, Shape::Range(n))
     }
 
     /// The type of maps with one key: `Left` of row `left`, or `Right` of row `right`.
@@ -387,15 +389,16 @@ impl Types {
         ensures refused { IfErr result (Refuses (either_id (id_at self.old left) (id_at self.old right))
             (in_place (shape.either left right)) self.old) }
     {
-        let (Some(left_id), Some(left_name)) = (self.id(left), self.name(left)) else {
-            return Err(TypesError::UnknownType(left));
-        };
-        let (Some(right_id), Some(right_name)) = (self.id(right), self.name(right)) else {
-            return Err(TypesError::UnknownType(right));
-        };
-        let id = format!(in alloc; "either::Either<{left_id}, {right_id}>")?;
-        let name = format!(in alloc; "Either_{left_name}_or_{right_name}")?;
-        self.register_row(alloc, id, name, true, Shape::Either(left, right))
+        self.register_pair(
+            alloc,
+            left,
+            right,
+            "either::Either",
+            "Either_",
+            "_or_",
+            true,
+            Shape::Either(left, right),
+        )
     }
 
     /// The type of maps with keys that row `key` allows, and values of row `value`.
@@ -407,15 +410,16 @@ impl Types {
         ensures refused { IfErr result (Refuses (map_id (id_at self.old key) (id_at self.old value))
             (in_place (shape.map_from key value)) self.old) }
     {
-        let (Some(key_id), Some(key_name)) = (self.id(key), self.name(key)) else {
+        let Some(key_id) = self.id(key) else {
             return Err(TypesError::UnknownType(key));
         };
-        let (Some(value_id), Some(value_name)) = (self.id(value), self.name(value)) else {
-            return Err(TypesError::UnknownType(value));
-        };
-        let id = map_id(alloc, key_id, value_id)?;
-        let name = map_name(alloc, key_id, key_name, value_name)?;
-        self.register_row(alloc, id, name, true, Shape::Map(key, value))
+        let shape = Shape::Map(key, value);
+
+        // A map with texts for its keys is named by its values alone.
+        if key_id == "string" {
+            return self.register_around(alloc, value, "Map<", ">", "Map_of_", true, shape);
+        }
+        self.register_pair(alloc, key, value, "Map", "Map_from_", "_to_", true, shape)
     }
 
     /// The type of spans of time: maps with `secs`, a 64-bit number, and `nanos`, a 32-bit number. The
@@ -489,7 +493,68 @@ impl Types {
         Ok(n)
     }
 
-    // The same with copies of the id and the name.
+    // Registers a row that is made of row `n`: its id has the id of `n` between these texts, and its
+    // name has that of `n` behind this one.
+    fn register_around(
+        &mut self,
+        alloc: Global,
+        n: TypeNo,
+        before: &str,
+        after: &str,
+        name_before: &str,
+        inline: bool,
+        shape: Shape,
+    ) -> Result<TypeNo, TypesError>
+        requires { unknown_in self.old (shape_of shape) ≡ find (λ m. nat_le (length self.old) m) (n ∷ []) }
+        ensures ok { IfOk result (Registers (before.now ++ (id_at self.old n ++ after.now))
+            (name_before.now ++ name_at self.old n)
+            (without_notes inline (shape_of shape)) self.old self.new) }
+        ensures err { OnErr result (self.new ≡ self.old) }
+        ensures refused { IfErr result (Refuses (before.now ++ (id_at self.old n ++ after.now))
+            (without_notes inline (shape_of shape)) self.old) }
+    {
+        let (Some(id), Some(name)) = (self.id(n), self.name(n)) else {
+            return Err(TypesError::UnknownType(n));
+        };
+        let id = format!(in alloc; "{before}{id}{after}")?;
+        let name = format!(in alloc; "{name_before}{name}")?;
+        self.register_row(alloc, id, name, inline, shape)
+    }
+
+    // Registers a row that is made of two others, in their order.
+    fn register_pair(
+        &mut self,
+        alloc: Global,
+        first: TypeNo,
+        second: TypeNo,
+        generic: &str,
+        name_before: &str,
+        name_between: &str,
+        inline: bool,
+        shape: Shape,
+    ) -> Result<TypeNo, TypesError>
+        requires { numbers_of (shape_of shape) ≡ first ∷ second ∷ [] }
+        ensures ok { IfOk result (Registers
+            (generic.now ++ (codes "<" ++ (id_at self.old first ++ (codes ", " ++ (id_at self.old second ++ codes ">")))))
+            (name_before.now ++ (name_at self.old first ++ (name_between.now ++ name_at self.old second)))
+            (without_notes inline (shape_of shape)) self.old self.new) }
+        ensures err { OnErr result (self.new ≡ self.old) }
+        ensures refused { IfErr result (Refuses
+            (generic.now ++ (codes "<" ++ (id_at self.old first ++ (codes ", " ++ (id_at self.old second ++ codes ">")))))
+            (without_notes inline (shape_of shape)) self.old) }
+    {
+        let (Some(first_id), Some(first_name)) = (self.id(first), self.name(first)) else {
+            return Err(TypesError::UnknownType(first));
+        };
+        let (Some(second_id), Some(second_name)) = (self.id(second), self.name(second)) else {
+            return Err(TypesError::UnknownType(second));
+        };
+        let id = format!(in alloc; "{generic}<{first_id}, {second_id}>")?;
+        let name = format!(in alloc; "{name_before}{first_name}{name_between}{second_name}")?;
+        self.register_row(alloc, id, name, inline, shape)
+    }
+
+    // The same as `register_row` with copies of the id and the name.
     fn register_named(
         &mut self,
         alloc: Global,
@@ -509,25 +574,6 @@ impl Types {
         let name = String::from_str(alloc, name)?;
         self.register_row(alloc, id, name, inline, shape)
     }
-}
-
-// A map with texts for its keys is named by its values alone.
-fn map_id(alloc: Global, key: &str, value: &str) -> Result<String, AllocError>
-    ensures { IfOk result (λ s. string_bytes s ≡ map_id key.now value.now) }
-{
-    if key == "string" {
-        return format!(in alloc; "Map<{value}>");
-    }
-    format!(in alloc; "Map<{key}, {value}>")
-}
-
-fn map_name(alloc: Global, key_id: &str, key: &str, value: &str) -> Result<String, AllocError>
-    ensures { IfOk result (λ s. string_bytes s ≡ map_name key_id.now key.now value.now) }
-{
-    if key_id == "string" {
-        return format!(in alloc; "Map_of_{value}");
-    }
-    format!(in alloc; "Map_from_{key}_to_{value}")
 }
 
 // The fields of a time: whole seconds, and nanoseconds.
@@ -572,13 +618,16 @@ fn version_schema(alloc: Global) -> Result<Schema, AllocError>
     ensures { IfOk result (λ s. s ≡ version_schema) }
 {
     let mut schema = Schema::default(alloc);
-    let text = String::from_str(alloc, "string")?;
-    schema.insert(alloc, String::from_str(alloc, "type")?, Value::String(text))?;
-    let pattern = String::from_str(alloc, VERSION)?;
-    schema.insert(
-        alloc,
-        String::from_str(alloc, "pattern")?,
-        Value::String(pattern),
-    )?;
+    insert_text(alloc, &mut schema, "type", "string")?;
+    insert_text(alloc, &mut schema, "pattern", VERSION)?;
     Ok(schema)
+}
+
+// Writes a text under a key of the schema.
+fn insert_text(alloc: Global, schema: &mut Schema, key: &str, text: &str) -> Result<(), AllocError>
+    ensures { OnOk result (schema.new ≡ inserted key.now (string text.now) schema.old) }
+{
+    let text = String::from_str(alloc, text)?;
+    schema.insert(alloc, String::from_str(alloc, key)?, Value::String(text))?;
+    Ok(())
 }

@@ -1,18 +1,11 @@
-use Rattle.std.proofs.Common.{◌≡◌, rules, subst, string_bytes}
-use Rattle.std.specs.Result.{IfErr}
-use Rattle.schemars_json.specs.Json.{Text}
-use Rattle.schemars_shapes.specs.Shape.{in_place, either}
-use Rattle.schemars_types.specs.Names.{either_id}
-use Rattle.schemars_types.specs.Refusals.{Refuses}
-use Rattle.schemars_types.specs.Rows.{id_at}
+use Rattle.std.proofs.Common.{refl}
 use Rattle.schemars_types.proofs.table.Types.either.Goals as goal
 
+pub register_pair-requires : goal.register_pair-requires
+register_pair-requires c = refl
+
 pub returns-clause-ok : goal.returns-clause-ok
-returns-clause-ok c = search rules
+returns-clause-ok c = c.register_pair.ensures.ok
 
 pub returns-clause-refused : goal.returns-clause-refused
-returns-clause-refused c =
-    let rows = c.args.self.now in
-    let written : string_bytes c.in_ok-id.id ≡ either_id (id_at rows c.args.left) (id_at rows c.args.right) = search rules in
-    subst (λ (id : Text). IfErr c.register_row.result (Refuses id (in_place (either c.args.left c.args.right)) rows)) written
-    c.register_row.ensures.refused
+returns-clause-refused c = c.register_pair.ensures.refused

@@ -1,18 +1,28 @@
-use Rattle.std.proofs.Common.{◌≡◌, rules, subst, string_bytes}
-use Rattle.std.specs.Result.{IfErr}
-use Rattle.schemars_json.specs.Json.{Text}
-use Rattle.schemars_shapes.specs.Shape.{in_place, map_from}
-use Rattle.schemars_types.specs.Names.{map_id}
-use Rattle.schemars_types.specs.Refusals.{Refuses}
+-- Which of the two forms a name has, by the id of the keys.
+use Rattle.std.proofs.Common.{refl, ◌≡◌, true, false, rules}
+use Rattle.schemars_types.specs.Names.{is_text_id}
 use Rattle.schemars_types.specs.Rows.{id_at}
 use Rattle.schemars_types.proofs.table.Types.map.Goals as goal
 
+pub register_pair-requires : goal.register_pair-requires
+register_pair-requires c = refl
+
+pub returns-then-eq-clause-ok : goal.returns-then-eq-clause-ok
+returns-then-eq-clause-ok c =
+    let text : is_text_id (id_at c.args.self.now c.args.key) ≡ true = search rules in
+    rw text c.register_around.ensures.ok
+
+pub returns-then-eq-clause-refused : goal.returns-then-eq-clause-refused
+returns-then-eq-clause-refused c =
+    let text : is_text_id (id_at c.args.self.now c.args.key) ≡ true = search rules in
+    rw text c.register_around.ensures.refused
+
 pub returns-clause-ok : goal.returns-clause-ok
-returns-clause-ok c = search rules
+returns-clause-ok c =
+    let other : is_text_id (id_at c.args.self.now c.args.key) ≡ false = search rules in
+    rw other c.register_pair.ensures.ok
 
 pub returns-clause-refused : goal.returns-clause-refused
 returns-clause-refused c =
-    let rows = c.args.self.now in
-    let written : string_bytes c.in_ok-id.id ≡ map_id (id_at rows c.args.key) (id_at rows c.args.value) = search rules in
-    subst (λ (id : Text). IfErr c.register_row.result (Refuses id (in_place (map_from c.args.key c.args.value)) rows)) written
-    c.register_row.ensures.refused
+    let other : is_text_id (id_at c.args.self.now c.args.key) ≡ false = search rules in
+    rw other c.register_pair.ensures.refused
