@@ -2,6 +2,8 @@
 #![tactic(auto)]
 
 #[cfg(test)]
+mod closure;
+#[cfg(test)]
 mod generator;
 #[cfg(test)]
 mod own;
