@@ -37,7 +37,7 @@ both false b e = cc
 
 -- ---- the root
 
-root_is_within : (rows : List Row) (root : ℕ) → is_table rows root ≡ true → root < length rows
+pub root_is_within : (rows : List Row) (root : ℕ) → is_table rows root ≡ true → root < length rows
 root_is_within rows root table = ltb-true root (length rows) (both (is_complete rows) (nat_lt root (length rows)) table).1
 
 below : (m n : ℕ) → m < n → nat_lt m n ≡ true
@@ -176,12 +176,11 @@ memory_refusal asked rows root e memory = record {
   only_memory = λ _ _. memory;
 }
 
--- why it answers no part for a row of the table
-pub part_refusal : (asked : Asked) (rows : List Row) (root : ℕ) (held : ℕ) (e : GenerateError) → is_table rows root ≡ true
-    → held ≡ length rows → (e ≡ OutOfMemory) ⊎ (e ≡ UnknownType root) → (e ≡ UnknownType root → held ≤ root) → IsRefusal asked rows root e
-part_refusal asked rows root held e table many (inl memory) unknown = memory_refusal asked rows root e memory
-part_refusal asked rows root held e table many (inr is) unknown =
-    absurd (omega (arith, unknown is, many, root_is_within rows root table))
+-- why it answers no part for a row that it has
+pub known_refusal : (root : ℕ) (held : ℕ) (e : GenerateError) → root < held → (e ≡ OutOfMemory) ⊎ (e ≡ UnknownType root)
+    → (e ≡ UnknownType root → held ≤ root) → e ≡ OutOfMemory
+known_refusal root held e known (inl memory) unknown = memory
+known_refusal root held e known (inr is) unknown = absurd (omega (arith, unknown is, known))
 
 -- the definitions that the generator takes are those that a part for the row leads to
 pub are_definitions : (s new : State) (asked : Asked) (rows : List Row) (root : ℕ) (ts : List (GenTransform NoTransform)) (part : Data)

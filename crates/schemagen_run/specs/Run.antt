@@ -115,6 +115,12 @@ IsDocumentOf asked rows root document =
     × (IsPlainTable rows → Means asked.dialect rows (contract_of asked.contract) root document)
     × (transforms_of_dialect asked.dialect ≡ [] → HasNoFloat rows → has_float document ≡ false)
 
+-- the definitions that a part for this row leads to, through these transforms
+abbrev pub AreTaken : List (GenTransform NoTransform) → State → ℕ → Members → Type 0
+AreTaken ts old root taken =
+    (s : State) × (part : Data) × IsPartOf s root part × Adds old s × (HasOwnDefinitions old → HasOwnDefinitions s)
+    × IsNeeded old s (references part) × (taken ≡ each_made_by ts s.definitions)
+
 -- the definitions that a part for this row leads to, after the transforms of the dialect
 abbrev pub AreDefinitionsOf : Asked → List Row → ℕ → Members → Type 0
 AreDefinitionsOf asked rows root taken =
@@ -202,7 +208,11 @@ IsUntransformedExample dialect x document =
 abbrev pub IsSampleDocument : Dialect → Example → Data → Type 0
 IsSampleDocument dialect x document = IsMadeBy (transforms_of_dialect dialect) (IsUntransformedExample dialect x) document
 
--- the line of the document of the example that the value is, whose own JSON the value is
+-- the line of the document of the example
+abbrev pub IsExampleLine : Dialect → Example → Text → Type 0
+IsExampleLine dialect x line = (document : Data) × IsSampleDocument dialect x document × IsTextLine document line
+
+-- that of the example that the value is, whose own JSON the value is
 abbrev pub IsSampleLineOf : Dialect → Data → Text → Type 0
 IsSampleLineOf dialect d line =
     (x : Example) × ((document : Data)

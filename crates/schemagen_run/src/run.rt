@@ -1,10 +1,11 @@
 //! A run of the program over its words, a source and a sink.
 ghost use Rattle.std.specs.Prelude.{◌≡◌, ◌≢◌, ◌⊎◌, ◌↔◌, ℕ, List, Some, None, false, true, Err, IsTrue, IfOk, IfErr, OnOk};
-ghost use Rattle.std.specs.Prelude.{string_bytes, [], ◌∷◌, ◌++◌};
+ghost use Rattle.std.specs.Prelude.{string_bytes, [], ◌∷◌, ◌++◌, ◌<◌, length};
 ghost use Rattle.std.specs.Io.KnownBytes.{Appends};
 ghost use Rattle.serde_json.specs.View.{view, members_view};
 ghost use Rattle.schemars_types.specs.Faults.{IsAccepted};
-ghost use Rattle.schemars_generate.specs.Settings.{settings_of};
+ghost use Rattle.schemars_generate.specs.Settings.{settings_of, state};
+ghost use Rattle.schemars_transforms.specs.Member.{some_own};
 ghost use Rattle.schemagen_run.specs.Streams.{AppendsBeginning};
 ghost use Rattle.schemars_json.specs.Json.{IsJson};
 ghost use Rattle.schemars_sample.specs.Example.{example_of};
@@ -17,8 +18,8 @@ ghost use Rattle.schemagen_run.specs.Run.{GivesAll, IsTextOf, IsNoJson, IsBadTab
 ghost use Rattle.schemagen_run.specs.Run.{IsAcceptedText, IsNotedText, IsFaultyTable, IsRefusal, IsLineRefusal};
 ghost use Rattle.schemagen_run.specs.Run.{settings_for, settings_of_dialect, transforms_of_dialect};
 ghost use Rattle.schemagen_run.specs.Run.{IsDocumentOf, IsTextLine, IsDocumentLine, IsLineOf, IsTableLine, IsUnplacedText};
-ghost use Rattle.schemagen_run.specs.Run.{AreDefinitionsOf, IsDefinitionsLine};
-ghost use Rattle.schemagen_run.specs.Run.{IsNotWhole, IsSampleText, IsSampleDocument, IsSampleLineOf, IsSampleLine};
+ghost use Rattle.schemagen_run.specs.Run.{AreDefinitionsOf, AreTaken, IsDefinitionsLine};
+ghost use Rattle.schemagen_run.specs.Run.{IsNotWhole, IsSampleText, IsSampleDocument, IsExampleLine, IsSampleLineOf, IsSampleLine};
 ghost use Rattle.schemagen_run.specs.Run.{IsLineFor, IsUnplacedFor};
 ghost use Rattle.schemagen_run.specs.Fault.{IsValueFault, IsReadFault, IsTableFault, IsOutside};
 ghost use Rattle.schemagen_run.specs.Fault.{IsTypesFault, IsSampleFault, IsFault};
@@ -369,6 +370,21 @@ fn definitions_of(
 {
     let settings = settings_for(alloc, asked)?;
     let mut generator = SchemaGenerator::with_types(alloc, settings, types)?;
+    taken_definitions(alloc, &mut generator, root)
+}
+
+// Makes a part for this row, and takes the definitions that it leads to.
+fn taken_definitions(
+    alloc: Global,
+    generator: &mut SchemaGenerator,
+    root: TypeNo,
+) -> Result<Map<String, Value>, GenerateError>
+    requires own { some_own generator.old.settings.transforms.items ≡ false }
+    requires known { root < length generator.old.contents.rows }
+    ensures ok { IfOk result (λ m. AreTaken generator.old.settings.transforms.items (state generator.old) root
+        (members_view m.entries)) }
+    ensures only_memory { IfErr result (λ e. e ≡ GenerateError.OutOfMemory) }
+{
     generator.subschema_for_type(alloc, root)?;
     generator.take_definitions(alloc, true)
 }
@@ -380,7 +396,15 @@ fn sample_line(alloc: Global, dialect: Dialect, value: &Value) -> Result<String,
     ensures faults { IfErr result (λ e. (e ≡ Fault.Refused OUT_OF_MEMORY) ⊎ (e ≡ Fault.Refused NOT_WHOLE)) }
 {
     let sample = sample_of(alloc, value)?;
-    let document = sample_document(alloc, dialect, &sample)?;
+    example_line(alloc, dialect, &sample)
+}
+
+// The line of the document of the example.
+fn example_line(alloc: Global, dialect: Dialect, sample: &Sample) -> Result<String, Fault>
+    ensures ok { IfOk result (λ s. IsExampleLine dialect (example_of sample.now) (string_bytes s)) }
+    ensures only_memory { IfErr result (λ e. e ≡ Fault.Refused OUT_OF_MEMORY) }
+{
+    let document = sample_document(alloc, dialect, sample)?;
     let line = line_of(alloc, &document)?;
     Ok(line)
 }

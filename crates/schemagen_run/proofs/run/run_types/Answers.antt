@@ -1,7 +1,9 @@
 -- The line is that of the table's root, and the sink has taken it, or a beginning of it.
-use Rattle.std.proofs.Common.{◌<◌, ℕ, List, length, sym, ap, subst, refl, inl, inr, Err, string_bytes}
+use Rattle.std.proofs.Common.{◌≡◌, ◌<◌, ℕ, nat_eq, false, List, length, sym, ap, subst, refl, inl, inr, Err, string_bytes}
 use Rattle.schemagen_run.specs.declared.fault.Fault.TheVariants.{Refused}
 use Rattle.schemagen_run.specs.declared.fault.TheConstants.{DEFINITIONS_PATH, NOT_JSON, BAD_TABLE, READ, WRITE}
+use Rattle.schemagen_run.specs.declared.fault.TheConstants.{UNDEFINED_TYPE, REPEATED_NAME, DIRECT_CYCLE, EMPTY_CYCLE}
+use Rattle.schemagen_run.specs.Fault.{IsTableFault}
 use Rattle.schemagen_run.proofs.Results.{passed_on, same_error, other_result, ok_is_no_error}
 use Rattle.schemagen_run.proofs.Runs.{read_is_no_write, read_is_no_path, read_is_of_no_table}
 use Rattle.schemagen_run.proofs.Runs.{line_is_no_other}
@@ -9,52 +11,45 @@ use Rattle.schemagen_run.proofs.Runs.{gave, read_outside, read_is_accepted, read
 use Rattle.schemagen_run.proofs.Runs.{read_is_faulty, has_no_place, is_outside, line_is_some}
 use Rattle.schemagen_run.proofs.run.run_types.Goals as goal
 
-pub returns-clause-write : goal.returns-clause-write
-returns-clause-write g c = λ _.
-    let (bytes, consumed, end, text) = c.in_ok-types.ensures.ok in (
-      bytes,
-      consumed,
-      end,
-      (
-        c.in_ok-types.types,
-        (
-          c.in_ok-types.root,
-          (
-            string_bytes c.in_ok-line.line,
-            text,
-            c.in_ok-line.ensures.accepted,
-            c.in_ok-line.ensures.ok,
-            rw (sym c.as_bytes.ensures.value) c.in-Err.ensures.beginning,
-          ),
-        ),
-      ),
-    )
-
-pub returns-in-Ok-clause-done : goal.returns-in-Ok-clause-done
-returns-in-Ok-clause-done g c =
-    let (bytes, consumed, end, text) = c.in_ok-types.ensures.ok in (
-      bytes,
-      consumed,
-      end,
-      (
-        c.in_ok-types.types,
-        (
-          c.in_ok-types.root,
-          (
-            string_bytes c.in_ok-line.line,
-            text,
-            c.in_ok-line.ensures.accepted,
-            c.in_ok-line.ensures.ok,
-            rw (sym c.as_bytes.ensures.value) c.in-Ok.ensures.bytes,
-          ),
-        ),
-      ),
-    )
-
-pub returns-in-Ok-clause-sound : goal.returns-in-Ok-clause-sound
-returns-in-Ok-clause-sound g c =
+pub returns-in-Ok : goal.returns-in-Ok
+returns-in-Ok g c =
+    let (bytes, consumed, end, text) = c.in_ok-types.ensures.ok in
     let some : 0 < length (string_bytes c.in_ok-line.line) = line_is_some _ _ _ _ c.in_ok-line.ensures.ok in
-    c.in-Ok.ensures.sound (subst (λ (t : List ℕ). 0 < length t) (sym c.as_bytes.ensures.value) some)
+    record {
+      read = (
+        λ u. absurd (ok_is_no_error _ _ u),
+        λ failed. absurd (ok_is_no_error _ _ (c.in_ok-types.ensures.read.1 failed)),
+      );
+      not_json = λ u. absurd (ok_is_no_error _ _ u);
+      bad_table = λ u. absurd (ok_is_no_error _ _ u);
+      faulty = tt;
+      unplaced = λ u. absurd (ok_is_no_error _ _ u);
+      write = λ u. absurd (ok_is_no_error _ _ u);
+      done = (
+        bytes,
+        consumed,
+        end,
+        (
+          c.in_ok-types.types,
+          (
+            c.in_ok-types.root,
+            (
+              string_bytes c.in_ok-line.line,
+              text,
+              c.in_ok-line.ensures.accepted,
+              c.in_ok-line.ensures.ok,
+              rw (sym c.as_bytes.ensures.value) c.in-Ok.ensures.bytes,
+            ),
+          ),
+        ),
+      );
+      failed = λ u. absurd (ok_is_no_error _ _ u);
+      sound = c.in-Ok.ensures.sound (subst (λ (t : List ℕ). 0 < length t) (sym c.as_bytes.ensures.value) some);
+      unwritten = tt;
+      faults = tt;
+      accepted = λ _ _ _. tt;
+      noted = λ _ _ _. tt;
+    }
 
 -- ---- the table is refused
 
@@ -128,14 +123,50 @@ returns-in_err-line g c =
 
 -- ---- the sink has failed
 
-pub returns-clause-done : goal.returns-clause-done
-returns-clause-done g c = tt
+no_write : (n : ℕ) → nat_eq WRITE n ≡ false → Refused WRITE ≡ Refused n → ⊥
+no_write n other is = cc
 
-pub returns-clause-sound : goal.returns-clause-sound
-returns-clause-sound g c = tt
+no_table : IsTableFault (Refused WRITE) → ⊥
+no_table (inl is) = no_write UNDEFINED_TYPE refl is
+no_table (inr (inl is)) = no_write REPEATED_NAME refl is
+no_table (inr (inr (inl is))) = no_write DIRECT_CYCLE refl is
+no_table (inr (inr (inr is))) = no_write EMPTY_CYCLE refl is
 
-pub returns-clause-accepted : goal.returns-clause-accepted
-returns-clause-accepted g c = λ _ _ _. inl (inr (inr refl))
-
-pub returns-clause-noted : goal.returns-clause-noted
-returns-clause-noted g c = λ _ _ _. inr (inr refl)
+pub returns : goal.returns
+returns g c =
+    let (bytes, consumed, end, text) = c.in_ok-types.ensures.ok in
+    record {
+      read = (
+        λ u. absurd (no_write READ refl (same_error _ _ _ refl u)),
+        λ failed. absurd (ok_is_no_error _ _ (c.in_ok-types.ensures.read.1 failed)),
+      );
+      not_json = λ u. absurd (no_write NOT_JSON refl (same_error _ _ _ refl u));
+      bad_table = λ u. absurd (no_write BAD_TABLE refl (same_error _ _ _ refl u));
+      faulty = λ table. absurd (no_table table);
+      unplaced = λ u. absurd (no_write DEFINITIONS_PATH refl (same_error _ _ _ refl u));
+      write = λ _. (
+        bytes,
+        consumed,
+        end,
+        (
+          c.in_ok-types.types,
+          (
+            c.in_ok-types.root,
+            (
+              string_bytes c.in_ok-line.line,
+              text,
+              c.in_ok-line.ensures.accepted,
+              c.in_ok-line.ensures.ok,
+              rw (sym c.as_bytes.ensures.value) c.in-Err.ensures.beginning,
+            ),
+          ),
+        ),
+      );
+      done = tt;
+      failed = λ _. c.in-Err.ensures.failed;
+      sound = tt;
+      unwritten = λ other. absurd (other refl);
+      faults = inr (inr refl);
+      accepted = λ _ _ _. inl (inr (inr refl));
+      noted = λ _ _ _. inr (inr refl);
+    }
