@@ -116,6 +116,9 @@ answer-members_of-requires t c =
     asked_down plan c.args.work.now c.args.ask (members_of c.in-MembersOf.n c.in-MembersOf.required) (ap ask_of c.in-MembersOf.is) in
     (search rules, (c.requires.checked, known))
 
+pub answer-returns-in-MembersOf-clause-is : goal.answer-returns-in-MembersOf-clause-is
+answer-returns-in-MembersOf-clause-is t c = rw c.in-MembersOf.is c.members_of.ensures.is
+
 pub answer-content-requires : goal.answer-content-requires
 answer-content-requires t c =
     let plan = plan_of c.args.plan.now in
