@@ -1,7 +1,9 @@
 //! The templates of results, bounds and either of two.
-ghost use Rattle.std.specs.Prelude.{◌≡◌, IfOk};
+ghost use Rattle.std.specs.Prelude.{◌≡◌, ◌∷◌, ◌++◌, [], map, IfOk, OnOk};
+ghost use Rattle.schemars_rewrite.specs.Variants.{unit_variant};
+ghost use Rattle.schemars_templates.specs.Template.{row, finished};
 ghost use Rattle.schemars_templates.specs.View.{template_view};
-ghost use Rattle.schemars_templates.specs.OfShape.{result_template, bound_template, either_template};
+ghost use Rattle.schemars_templates.specs.OfShape.{member_template, result_template, bound_template, either_template};
 
 use schemars_rewrite::builders::new_unit_enum_variant;
 use schemars_templates::maps::member_template;
@@ -18,9 +20,9 @@ pub fn result_template<'t>(
 ) -> Result<Template<'t>, AllocError>
     ensures { IfOk result (λ t. template_view t ≡ result_template ok err) }
 {
-    let ok = member_template(alloc, "Ok", row(ok), false)?;
-    let err = member_template(alloc, "Err", row(err), false)?;
-    let results: Vec<Template<'t>> = vec![in alloc; ok, err]?;
+    let mut results = Vec::new(alloc);
+    add_member(alloc, &mut results, "Ok", ok, false)?;
+    add_member(alloc, &mut results, "Err", err, false)?;
     one_of(alloc, results)
 }
 
@@ -28,10 +30,10 @@ pub fn result_template<'t>(
 pub fn bound_template<'t>(alloc: Global, n: TypeNo) -> Result<Template<'t>, AllocError>
     ensures { IfOk result (λ t. template_view t ≡ bound_template n) }
 {
-    let included = member_template(alloc, "Included", row(n), false)?;
-    let excluded = member_template(alloc, "Excluded", row(n), false)?;
-    let unbounded = finished(new_unit_enum_variant(alloc, "Unbounded")?)?;
-    let choices: Vec<Template<'t>> = vec![in alloc; included, excluded, unbounded]?;
+    let mut choices = Vec::new(alloc);
+    add_member(alloc, &mut choices, "Included", n, false)?;
+    add_member(alloc, &mut choices, "Excluded", n, false)?;
+    add_unit(alloc, &mut choices, "Unbounded")?;
     one_of(alloc, choices)
 }
 
@@ -43,8 +45,38 @@ pub fn either_template<'t>(
 ) -> Result<Template<'t>, AllocError>
     ensures { IfOk result (λ t. template_view t ≡ either_template left right) }
 {
-    let left = member_template(alloc, "Left", row(left), true)?;
-    let right = member_template(alloc, "Right", row(right), true)?;
-    let choices: Vec<Template<'t>> = vec![in alloc; left, right]?;
+    let mut choices = Vec::new(alloc);
+    add_member(alloc, &mut choices, "Left", left, true)?;
+    add_member(alloc, &mut choices, "Right", right, true)?;
     one_of(alloc, choices)
+}
+
+// Adds a map with a value of this row under this name.
+fn add_member<'t>(
+    alloc: Global,
+    choices: &mut Vec<Template<'t>>,
+    name: &'t str,
+    n: TypeNo,
+    closed: bool,
+) -> Result<(), AllocError>
+    ensures { OnOk result (map template_view choices.new.items
+        ≡ map template_view choices.old.items ++ member_template closed name.now (row n) ∷ []) }
+{
+    let member = member_template(alloc, name, row(n), closed)?;
+    choices.push(member)?;
+    Ok(())
+}
+
+// Adds this name alone.
+fn add_unit<'t>(
+    alloc: Global,
+    choices: &mut Vec<Template<'t>>,
+    name: &str,
+) -> Result<(), AllocError>
+    ensures { OnOk result (map template_view choices.new.items
+        ≡ map template_view choices.old.items ++ finished (unit_variant name.now) ∷ []) }
+{
+    let unit = finished(new_unit_enum_variant(alloc, name)?)?;
+    choices.push(unit)?;
+    Ok(())
 }

@@ -2,11 +2,12 @@
 ghost use Rattle.std.specs.Prelude.{◌≡◌, ◌∷◌, ◌++◌, None, map, filter, not, bytes_eq, IfOk, OnOk};
 ghost use Rattle.schemars_types.specs.Faults.{IsChecked};
 ghost use Rattle.schemars_types.specs.KeyOptions.{key_options, keys};
+ghost use Rattle.schemars_keys.specs.Found.{options_of};
 ghost use Rattle.schemars_templates.specs.Template.{row};
 ghost use Rattle.schemars_templates.specs.View.{template_view, keyword_view};
 ghost use Rattle.schemars_templates.specs.OfShape.{pattern_properties_at, other_values, values_template, values_of};
 
-use schemars_keys::key_options;
+use schemars_keys::{KeyOptions, key_options};
 use schemars_templates::maps::{add_properties, typed};
 use schemars_templates::nodes::{object_with, row, text};
 use schemars_templates::template::Template;
@@ -25,17 +26,25 @@ pub fn values_template<'t>(
     ensures { IfOk result (λ t. template_view t ≡ values_template (key_options types.now key) value) }
 {
     let options = key_options(alloc, types, key)?;
+    options_template(alloc, &options, value)
+}
+
+// A map with these keys; the pattern of integers stands before the others.
+fn options_template<'t>(
+    alloc: Global,
+    options: &KeyOptions<'t>,
+    value: TypeNo,
+) -> Result<Template<'t>, AllocError>
+    ensures { IfOk result (λ t. template_view t ≡ values_template (options_of options.now) value) }
+{
     let others = options.others;
-    let integers = options.integers;
     let texts = options.texts.as_slice();
     let patterns = options.patterns.as_slice();
-    match integers {
-        None => keyed_template(alloc, others, texts, patterns, value),
-        Some(integers) => {
-            let patterns = with_first(alloc, integers.pattern(), patterns)?;
-            keyed_template(alloc, others, texts, &patterns, value)
-        }
-    }
+    let Some(integers) = options.integers else {
+        return keyed_template(alloc, others, texts, patterns, value);
+    };
+    let patterns = with_first(alloc, integers.pattern(), patterns)?;
+    keyed_template(alloc, others, texts, &patterns, value)
 }
 
 // This pattern, and the others of these.
