@@ -1,5 +1,6 @@
 ghost use Rattle.std.specs.Prelude.{◌≡◌, ◌++◌, [], ◌∷◌, false, codes, None, IfOk, OnOk, OnErr, IfErr, string_bytes, map, find, nat_le, length};
 ghost use Rattle.std.specs.List.{join_by};
+ghost use Rattle.std.specs.Option.{option_map_or};
 ghost use Rattle.schemars_types.specs.Names.{tuple_id, tuple_name};
 ghost use Rattle.schemars_shapes.specs.IntKind.{format_of, non_zero_name};
 ghost use Rattle.schemars_types.specs.Names.{non_zero_id, option_id, option_name, seq_id, seq_name, set_id, set_name};
@@ -308,7 +309,7 @@ impl Types {
     {
         let mut ids = Vec::new(alloc);
         for n in parts {
-            ids.push(self.id(*n).unwrap_or(""))?;
+            ids.push(self.id_at(*n))?;
         }
         let ids = ids.join(alloc, ",")?;
         format!(in alloc; "({ids})")
@@ -320,7 +321,7 @@ impl Types {
     {
         let mut names = Vec::new(alloc);
         for n in parts {
-            names.push(self.name(*n).unwrap_or(""))?;
+            names.push(self.name_at(*n))?;
         }
         let names = names.join(alloc, "_and_")?;
         format!(in alloc; "Tuple_of_{names}")
@@ -410,13 +411,10 @@ impl Types {
         ensures refused { IfErr result (Refuses (map_id (id_at self.old key) (id_at self.old value))
             (in_place (shape.map_from key value)) self.old) }
     {
-        let Some(key_id) = self.id(key) else {
-            return Err(TypesError::UnknownType(key));
-        };
         let shape = Shape::Map(key, value);
 
         // A map with texts for its keys is named by its values alone.
-        if key_id == "string" {
+        if self.id_at(key) == "string" {
             return self.register_around(alloc, value, "Map<", ">", "Map_of_", true, shape);
         }
         self.register_pair(alloc, key, value, "Map", "Map_from_", "_to_", true, shape)
@@ -513,12 +511,32 @@ impl Types {
         ensures refused { IfErr result (Refuses (before.now ++ (id_at self.old n ++ after.now))
             (without_notes inline (shape_of shape)) self.old) }
     {
-        let (Some(id), Some(name)) = (self.id(n), self.name(n)) else {
+        let (id, name) = self.texts_around(alloc, n, before, after, name_before)?;
+        self.register_row(alloc, id, name, inline, shape)
+    }
+
+    // The id and the name of a row that is made of row `n`.
+    fn texts_around(
+        &self,
+        alloc: Global,
+        n: TypeNo,
+        before: &str,
+        after: &str,
+        name_before: &str,
+    ) -> Result<(String, String), TypesError>
+        ensures known { OnOk result (find (λ m. nat_le (length self.now) m) (n ∷ []) ≡ None) }
+        ensures id { IfOk result (λ t. string_bytes t.0 ≡ before.now ++ (id_at self.now n ++ after.now)) }
+        ensures name { IfOk result (λ t. string_bytes t.1 ≡ name_before.now ++ name_at self.now n) }
+        ensures refused { IfErr result (λ e. e ≡ option_map_or (λ m. TypesError.UnknownType m)
+            (find (λ m. nat_le (length self.now) m) (n ∷ [])) TypesError.OutOfMemory) }
+    {
+        if self.len() <= n {
             return Err(TypesError::UnknownType(n));
-        };
+        }
+        let (id, name) = (self.id_at(n), self.name_at(n));
         let id = format!(in alloc; "{before}{id}{after}")?;
         let name = format!(in alloc; "{name_before}{name}")?;
-        self.register_row(alloc, id, name, inline, shape)
+        Ok((id, name))
     }
 
     // Registers a row that is made of two others, in their order.
@@ -543,15 +561,50 @@ impl Types {
             (generic.now ++ (codes "<" ++ (id_at self.old first ++ (codes ", " ++ (id_at self.old second ++ codes ">")))))
             (without_notes inline (shape_of shape)) self.old) }
     {
-        let (Some(first_id), Some(first_name)) = (self.id(first), self.name(first)) else {
-            return Err(TypesError::UnknownType(first));
-        };
-        let (Some(second_id), Some(second_name)) = (self.id(second), self.name(second)) else {
-            return Err(TypesError::UnknownType(second));
-        };
-        let id = format!(in alloc; "{generic}<{first_id}, {second_id}>")?;
-        let name = format!(in alloc; "{name_before}{first_name}{name_between}{second_name}")?;
+        let (id, name) = self.pair_texts(alloc, first, second, generic, name_before, name_between)?;
         self.register_row(alloc, id, name, inline, shape)
+    }
+
+    // The id and the name of a row that is made of two others.
+    fn pair_texts(
+        &self,
+        alloc: Global,
+        first: TypeNo,
+        second: TypeNo,
+        generic: &str,
+        name_before: &str,
+        name_between: &str,
+    ) -> Result<(String, String), TypesError>
+        ensures known { OnOk result (find (λ m. nat_le (length self.now) m) (first ∷ second ∷ []) ≡ None) }
+        ensures id { IfOk result (λ t. string_bytes t.0 ≡ generic.now
+            ++ (codes "<" ++ (id_at self.now first ++ (codes ", " ++ (id_at self.now second ++ codes ">"))))) }
+        ensures name { IfOk result (λ t. string_bytes t.1
+            ≡ name_before.now ++ (name_at self.now first ++ (name_between.now ++ name_at self.now second))) }
+        ensures refused { IfErr result (λ e. e ≡ option_map_or (λ m. TypesError.UnknownType m)
+            (find (λ m. nat_le (length self.now) m) (first ∷ second ∷ [])) TypesError.OutOfMemory) }
+    {
+        if let Some(n) = self.first_unknown_in(&[first, second]) {
+            return Err(TypesError::UnknownType(n));
+        }
+        let (first_id, second_id) = (self.id_at(first), self.id_at(second));
+        let id = format!(in alloc; "{generic}<{first_id}, {second_id}>")?;
+        let (first_name, second_name) = (self.name_at(first), self.name_at(second));
+        let name = format!(in alloc; "{name_before}{first_name}{name_between}{second_name}")?;
+        Ok((id, name))
+    }
+
+    // The id of row `n`, and no text where there is no such row.
+    fn id_at(&self, n: TypeNo) -> &str
+        ensures { result.now ≡ id_at self.now n }
+    {
+        self.id(n).unwrap_or("")
+    }
+
+    // The name of row `n`, and no text where there is no such row.
+    fn name_at(&self, n: TypeNo) -> &str
+        ensures { result.now ≡ name_at self.now n }
+    {
+        self.name(n).unwrap_or("")
     }
 
     // The same as `register_row` with copies of the id and the name.
