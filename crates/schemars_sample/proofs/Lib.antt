@@ -5,3 +5,5 @@ mod Forms
 mod Listed
 mod Characters
 pub mod Accepting
+mod Seen
+mod Parts

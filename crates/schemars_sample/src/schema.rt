@@ -1,17 +1,17 @@
 //! The schemas of example values.
-ghost use Rattle.std.specs.Prelude.{◌≡◌, IfOk, OnOk, [], map, option_map};
+ghost use Rattle.std.specs.Prelude.{◌≡◌, ◌∷◌, IfOk, OnOk, [], map, option_map, unwrap_or, Some, true};
 ghost use Rattle.serde_json.specs.Data.{object, no_members};
 ghost use Rattle.serde_json.specs.View.{view, items_view};
-ghost use Rattle.schemars_json.specs.Json.{is_among};
+ghost use Rattle.schemars_json.specs.Json.{is_among, json_eq};
 ghost use Rattle.schemars_schema.specs.SchemaData.{inserted};
 ghost use Rattle.schemars_rewrite.specs.AllowNull.{allow_null};
 ghost use Rattle.schemars_types.specs.Meaning.{Serialize};
-ghost use Rattle.schemars_documents.specs.Documents.{bytes_document};
+ghost use Rattle.schemars_documents.specs.Documents.{type_alone, bytes_document};
 ghost use Rattle.schemars_sample.specs.Accepted.{AcceptsExample};
 ghost use Rattle.schemars_sample.specs.Example.{example_of, examples_view, entries_view};
 ghost use Rattle.schemars_sample.specs.SampleSchema as spec;
 ghost use Rattle.schemars_sample.specs.SampleSchema.{sample_schema, item_schemas, entry_schemas, value_schemas};
-ghost use Rattle.schemars_sample.specs.SampleSchema.{one_beside, choice_of, shared_by, with_name, sample_root};
+ghost use Rattle.schemars_sample.specs.SampleSchema.{one_beside, is_everything, each_once, choice_of, shared_by, with_name, sample_root};
 
 use crate::json::json_of;
 use crate::sample::Sample;
@@ -105,27 +105,17 @@ fn schema_of(alloc: Global, sample: &Sample) -> Result<Schema, AllocError>
             Ok(Schema::from(true))
         }
         Sample::StructVariant(_, _) => Ok(Schema::from(true)),
-        Sample::Some(inner) => {
-            let mut schema = schema_of(alloc, inner)?;
-            allow_null(alloc, &mut schema)?;
-            Ok(schema)
-        }
+        Sample::Some(inner) => nullable(alloc, schema_of(alloc, inner)?),
         Sample::NewtypeStruct(_, inner) => schema_of(alloc, inner),
-        Sample::Seq(items) => list_schema(alloc, items),
+        Sample::Seq(items) => typed_with(alloc, "array", "items", schema_of_each(alloc, items)?),
         Sample::Tuple(parts) | Sample::TupleStruct(_, parts) => tuple_schema(alloc, parts),
         Sample::Map(entries) => struct_schema(alloc, entries),
         Sample::Struct(_, entries) => struct_schema(alloc, entries),
-        Sample::CollectMap(entries) => map_schema(alloc, entries),
+        Sample::CollectMap(entries) => {
+            let values = shared_schema(alloc, entries)?;
+            typed_with(alloc, "object", "additionalProperties", values)
+        }
     }
-}
-
-#[cycle(schemas)]
-fn list_schema(alloc: Global, items: &[Sample]) -> Result<Schema, AllocError>
-    ensures { IfOk result (λ s. s ≡ spec.list_schema (one_beside [] (item_schemas (examples_view items.now)))) }
-{
-    let mut schema = type_alone(alloc, "array")?;
-    insert(alloc, &mut schema, "items", schema_of_each(alloc, items)?)?;
-    Ok(schema)
 }
 
 // A schema that each of the items has, or one for all of them.
@@ -136,12 +126,10 @@ fn schema_of_each(alloc: Global, items: &[Sample]) -> Result<Value, AllocError>
     let mut seen = Vec::new(alloc);
     for item in items {
         let schema = schema_of(alloc, item)?.to_value();
-        if schema.as_bool() == Some(true) {
+        if is_everything(&schema) {
             return Ok(Value::Bool(true));
         }
-        if !is_among(&seen, &schema) {
-            serde_json::push(&mut seen, schema)?;
-        }
+        add_once(&mut seen, schema)?;
     }
     choice_of(alloc, seen)
 }
@@ -166,23 +154,7 @@ fn struct_schema(alloc: Global, entries: &[(String, Sample)]) -> Result<Schema, 
         let schema = schema_of(alloc, sample)?;
         serde_json::put(&mut properties, alloc, key.as_str(), schema.to_value())?;
     }
-    let mut schema = type_alone(alloc, "object")?;
-    insert(alloc, &mut schema, "properties", Value::Object(properties))?;
-    Ok(schema)
-}
-
-#[cycle(schemas)]
-fn map_schema(alloc: Global, entries: &[(String, Sample)]) -> Result<Schema, AllocError>
-    ensures { IfOk result (λ s. s ≡ spec.map_schema (shared_by (value_schemas (entries_view entries.now)))) }
-{
-    let mut schema = type_alone(alloc, "object")?;
-    insert(
-        alloc,
-        &mut schema,
-        "additionalProperties",
-        shared_schema(alloc, entries)?,
-    )?;
-    Ok(schema)
+    typed_with(alloc, "object", "properties", Value::Object(properties))
 }
 
 // The schema that all of the values have, or else `true`.
@@ -193,16 +165,41 @@ fn shared_schema(alloc: Global, entries: &[(String, Sample)]) -> Result<Value, A
     let mut shared = None;
     for (_, sample) in entries {
         let schema = schema_of(alloc, sample)?.to_value();
-        match &shared {
-            None => shared = Some(schema),
-            Some(first) => {
-                if !json_eq(first, &schema) {
-                    return Ok(Value::Bool(true));
-                }
-            }
+        if !agrees(&mut shared, schema) {
+            return Ok(Value::Bool(true));
         }
     }
     Ok(shared.unwrap_or(Value::Bool(true)))
+}
+
+// Whether the schema is equal to the one before; where there is none it is kept.
+fn agrees(shared: &mut Option<Value>, schema: Value) -> bool
+    ensures equal { result ≡ unwrap_or (option_map (λ first. json_eq first (view schema)) (option_map view shared.old)) true }
+    ensures kept { option_map view shared.new ≡ Some (unwrap_or (option_map view shared.old) (view schema)) }
+{
+    match shared {
+        Some(first) => json_eq(first, &schema),
+        None => {
+            *shared = Some(schema);
+            true
+        }
+    }
+}
+
+fn is_everything(schema: &Value) -> bool
+    ensures { result ≡ is_everything (view schema.now) }
+{
+    schema.as_bool() == Some(true)
+}
+
+// Adds the schema, unless it is there.
+fn add_once(schemas: &mut Vec<Value>, schema: Value) -> Result<(), AllocError>
+    ensures { OnOk result (map view schemas.new.items ≡ each_once (map view schemas.old.items) (view schema ∷ [])) }
+{
+    if !is_among(schemas, &schema) {
+        serde_json::push(schemas, schema)?;
+    }
+    Ok(())
 }
 
 fn is_among(schemas: &[Value], schema: &Value) -> bool
@@ -237,6 +234,24 @@ fn tuple_of(alloc: Global, parts: Vec<Value>) -> Result<Schema, AllocError>
     insert(alloc, &mut schema, "prefixItems", Value::Array(parts))?;
     insert(alloc, &mut schema, "maxItems", Value::from(count))?;
     insert(alloc, &mut schema, "minItems", Value::from(count))?;
+    Ok(schema)
+}
+
+// The schema of this type with one more keyword.
+fn typed_with(alloc: Global, name: &str, key: &str, value: Value) -> Result<Schema, AllocError>
+    ensures { IfOk result (λ s. s ≡ inserted key.now (view value) (type_alone name.now)) }
+{
+    let mut schema = type_alone(alloc, name)?;
+    insert(alloc, &mut schema, key, value)?;
+    Ok(schema)
+}
+
+// The schema that accepts null too.
+fn nullable(alloc: Global, schema: Schema) -> Result<Schema, AllocError>
+    ensures { IfOk result (λ s. s ≡ allow_null schema) }
+{
+    let mut schema = schema;
+    allow_null(alloc, &mut schema)?;
     Ok(schema)
 }
 

@@ -1,9 +1,10 @@
 -- What is left is still to be added, or to be compared.
-use Rattle.std.proofs.Common.{◌≡◌, ◌++◌, [], Option, Some, None, option_map, map, drop, List, ◌∷◌}
-use Rattle.serde_json.specs.Data.{Data, no_members}
+use Rattle.std.proofs.Common.{◌≡◌, ◌++◌, [], option_map, map, drop}
+use Rattle.serde_json.specs.Data.{no_members}
 use Rattle.serde_json.specs.View.{view, members_view}
 use Rattle.schemars_sample.specs.Example.{examples_view, entries_view}
 use Rattle.schemars_sample.specs.SampleSchema.{item_schemas, entry_schemas, value_schemas, one_beside, shared_by}
+use Rattle.schemars_sample.proofs.Seen.{with_seen}
 use Rattle.schemars_sample.proofs.schema.+schemas.Given as goal
 
 abbrev pub invariant-schema_of_each-loop-item : goal.invariant-schema_of_each-loop-item
@@ -20,11 +21,6 @@ abbrev pub invariant-struct_schema-loop-key : goal.invariant-struct_schema-loop-
 invariant-struct_schema-loop-key l =
     entry_schemas (entries_view (drop l.key-index l.entries)) (members_view l.properties.entries)
     ≡ entry_schemas (entries_view l.entries) no_members
-
--- those that were seen stand before the others
-abbrev with_seen : Option Data → List Data → Data
-with_seen None ds = shared_by ds
-with_seen (Some d) ds = shared_by (d ∷ ds)
 
 abbrev pub invariant-shared_schema-loop-sample : goal.invariant-shared_schema-loop-sample
 invariant-shared_schema-loop-sample l =
