@@ -5,6 +5,7 @@ ghost use Rattle.serde_json.specs.View.{items_view};
 ghost use Rattle.schemars_shapes.specs.Shape.{payload_of, variant_of};
 ghost use Rattle.schemars_rewrite.specs.NullLaw.{text_items};
 ghost use Rattle.schemars_documents.specs.ContractOf.{contract_of};
+ghost use Rattle.schemars_templates.specs.Template.{noted};
 ghost use Rattle.schemars_templates.specs.View.{template_view};
 ghost use Rattle.schemars_templates.specs.OfShape.{object_with, typed, said, payload_template, named_template};
 ghost use Rattle.schemars_templates.specs.OfShape.{bare_units, other_items, external_template};
@@ -16,8 +17,8 @@ use schemars_rewrite::builders::new_unit_enum_variant;
 use schemars_schema::Schema;
 use schemars_shapes::is_bare_unit;
 use schemars_templates::lists::tuple_template;
-use schemars_templates::maps::{member_template, struct_template};
-use schemars_templates::nodes::{any_of, finished, one_of, row, text};
+use schemars_templates::maps::{member_template, struct_template, typed};
+use schemars_templates::nodes::{any_of, finished, object_with, one_of, row};
 use schemars_templates::template::Template;
 use schemars_types::{Payload, Variant};
 use serde_json::Value;
@@ -90,21 +91,43 @@ fn other_items<'t>(
     let mut items = Vec::new(alloc);
     for variant in variants {
         if !is_bare_unit(variant) {
-            let item = named_template(alloc, contract, variant.name.as_str(), &variant.payload)?;
-            items.push(Template::Noted(&variant.notes, Box::new(alloc, item)?))?;
+            let item = other_item(alloc, contract, variant)?;
+            items.push(item)?;
         }
     }
     Ok(items)
+}
+
+fn other_item<'t>(
+    alloc: Global,
+    contract: Contract,
+    variant: &'t Variant,
+) -> Result<Template<'t>, AllocError>
+    ensures { IfOk result (λ t. template_view t ≡ noted (variant_of variant.now).notes
+        (named_template (contract_of contract) (variant_of variant.now).name (variant_of variant.now).payload)) }
+{
+    let item = named_template(alloc, contract, variant.name.as_str(), &variant.payload)?;
+    noted(alloc, variant, item)
+}
+
+// The template with the variant's notes.
+fn noted<'t>(
+    alloc: Global,
+    variant: &'t Variant,
+    template: Template<'t>,
+) -> Result<Template<'t>, AllocError>
+    ensures { IfOk result (λ t. template_view t ≡ noted (variant_of variant.now).notes (template_view template.entry)) }
+{
+    Ok(Template::Noted(&variant.notes, Box::new(alloc, template)?))
 }
 
 fn units_template<'t>(alloc: Global, names: Vec<Value>) -> Result<Template<'t>, AllocError>
     ensures { IfOk result (λ t. template_view t
         ≡ object_with (typed (codes "string") ∷ said (codes "enum") (array (items_view names.items)) ∷ [])) }
 {
-    let string = text(alloc, "string")?;
-    let keys = vec![in alloc; "type", "enum"]?;
-    let values = vec![in alloc; string, Template::Value(Value::Array(names))]?;
-    Ok(Template::Object(keys, values))
+    let mut keywords: Vec<(&'t str, Template<'t>)> = typed(alloc, "string")?;
+    keywords.push(("enum", Template::Value(Value::Array(names))))?;
+    object_with(alloc, keywords)
 }
 
 fn led_by<'t>(
@@ -115,9 +138,8 @@ fn led_by<'t>(
     ensures { IfOk result (λ v. map template_view v.items
         ≡ template_view first.entry ∷ map template_view rest.entry.items) }
 {
-    let mut items: Vec<Template<'t>> = vec![in alloc; first]?;
-    items.append(&mut rest)?;
-    Ok(items)
+    rest.insert(0, first)?;
+    Ok(rest)
 }
 
 // A unit by its name, and another payload under that name alone.
@@ -148,11 +170,24 @@ fn payload_items<'t>(
 {
     let mut items = Vec::new(alloc);
     for variant in variants {
-        let payload = payload_template(alloc, contract, &variant.payload)?;
-        let item = titled(alloc, titles, variant.name.as_str(), payload)?;
-        items.push(Template::Noted(&variant.notes, Box::new(alloc, item)?))?;
+        let item = payload_item(alloc, contract, titles, variant)?;
+        items.push(item)?;
     }
     Ok(items)
+}
+
+fn payload_item<'t>(
+    alloc: Global,
+    contract: Contract,
+    titles: bool,
+    variant: &'t Variant,
+) -> Result<Template<'t>, AllocError>
+    ensures { IfOk result (λ t. template_view t
+        ≡ payload_item (contract_of contract) titles (variant_of variant.now)) }
+{
+    let payload = payload_template(alloc, contract, &variant.payload)?;
+    let item = titled(alloc, titles, variant.name.as_str(), payload)?;
+    noted(alloc, variant, item)
 }
 
 // The template under this title, where there are titles.
