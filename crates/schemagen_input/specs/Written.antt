@@ -1,4 +1,5 @@
--- The JSON of a table, with every member written out, and the tables that can be written so. Objects have their keys in order (`object_of`).
+-- The JSON of a table, with every member written out, and the tables that can be written so. Objects have their keys in order
+-- (`object_of`).
 use Rattle.std.specs.Prelude.{◌≡◌, ℕ, List, [], ◌∷◌, Bool, true, map, codes, Option, Some, None, is_some}
 use Rattle.std.specs.List.{list_all}
 use Rattle.std.specs.Option.{option_map_or}

@@ -25,7 +25,8 @@ use Rattle.schemagen_run.specs.declared.words.Dialect.TheVariants.{Draft2020_12,
 use Rattle.schemagen_run.specs.Words.{AskFor, AskForTypes, AskForExample, AskForSample, IsAskedBy, IsKnown, IsDialect, word_for}
 use Rattle.schemagen_run.specs.Run.{IsLineOf, IsLineIn, IsDocumentLine, IsRefusal, IsLineRefusal}
 use Rattle.schemagen_run.specs.Run.{GivesAll, IsNoJson, IsBadTable, IsTableText, IsAcceptedText, IsNotedText}
-use Rattle.schemagen_run.specs.Run.{IsFaultyTable, Tells}
+use Rattle.schemagen_run.specs.Run.{IsFaultyTable, Tells, IsTextOf, IsTableLine, IsSampleLineOf, IsSampleLine}
+use Rattle.serde_json.specs.Data.{Data}
 use Rattle.std.proofs.Common.{Bool, false, nat_lt, ◌||◌, true≢false}
 use Rattle.schemagen_run.specs.declared.fault.Fault.TheVariants.{Usage}
 
@@ -124,6 +125,19 @@ in_draft asked rows root line Draft2020_12 draft of = of
 in_draft asked rows root line Draft2019_09 draft of = of
 in_draft asked rows root line Draft07 draft of = of
 in_draft asked rows root line OpenApi3 draft of = absurd (draft refl)
+
+-- the line of the table that is read, of which Q holds
+pub gives_line : {Q : List ℕ → Type 0} (asked : Asked) (rows : List Row) (root : ℕ) (line : List ℕ) (old new : Option (List ℕ))
+    → GivesAll old new (IsTableText rows root) → IsAccepted rows → IsLineOf asked rows root line → Q line
+    → GivesAll old new (λ bytes. IsTableLine asked bytes Q)
+gives_line asked rows root line old new (bytes, consumed, end, text) accepted of holds =
+    (bytes, consumed, end, (rows, (root, (line, text, accepted, of, holds))))
+
+-- that of the example that is read
+pub gives_sample_line : {Q : List ℕ → Type 0} (dialect : Dialect) (d : Data) (line : List ℕ) (old new : Option (List ℕ))
+    → GivesAll old new (IsTextOf d) → IsSampleLineOf dialect d line → Q line
+    → GivesAll old new (λ bytes. IsSampleLine dialect bytes Q)
+gives_sample_line dialect d line old new (bytes, consumed, end, text) of holds = (bytes, consumed, end, (d, (line, text, of, holds)))
 
 -- ---- tables without faults
 

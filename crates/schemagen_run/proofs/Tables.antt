@@ -8,15 +8,13 @@ use Rattle.serde_json.specs.Written.{has_float}
 use Rattle.schemars_types.specs.Rows.{Row}
 use Rattle.schemars_types.specs.Faults.{IsAccepted}
 use Rattle.schemars_schema.specs.Acceptance.{draft07, draft2019_09}
-use Rattle.schemars_schema.specs.References.{references}
-use Rattle.schemars_headline.specs.Calls.{IsPartOf, Adds, IsNeeded}
 use Rattle.schemars_documents.specs.declared.contract.Contract.{Contract}
 use Rattle.schemars_documents.specs.ContractOf.{contract_of}
 use Rattle.schemars_dialects.specs.Dialects.{MeansItsTypeUnder}
 use Rattle.schemars_transforms.specs.declared.gen_transform.GenTransform.{GenTransform}
 use Rattle.schemars_transforms.specs.declared.no_transform.NoTransform.{NoTransform}
 use Rattle.schemars_transforms.specs.Member.{some_own}
-use Rattle.schemars_transforms.specs.BuiltIn.{made_by, each_made_by, IsMadeBy}
+use Rattle.schemars_transforms.specs.BuiltIn.{made_by, IsMadeBy}
 use Rattle.schemagen_run.specs.declared.words.Asked.{Asked}
 use Rattle.schemagen_run.specs.declared.words.Dialect.{Dialect}
 use Rattle.schemagen_run.specs.declared.words.Dialect.TheVariants.{Draft2020_12, Draft2019_09, Draft07, OpenApi3}
@@ -29,7 +27,8 @@ use Rattle.schemars_roots.specs.Settings.{Held, state_with}
 use Rattle.schemars_roots.specs.Through.{IsUntransformed, IsRefused}
 use Rattle.schemars_headline.specs.State.{Settings, State, path_of, HasOwnDefinitions}
 use Rattle.schemagen_input.specs.Input.{is_complete, is_table, table_in, input_of}
-use Rattle.schemagen_run.specs.Run.{settings_for, transforms_of_dialect, fresh, Means, IsDocumentOf, AreDefinitionsOf, IsUnplaced, IsRefusal}
+use Rattle.schemagen_run.specs.Run.{settings_for, transforms_of_dialect, fresh, Means, IsDocumentOf, IsUnplaced, IsRefusal}
+use Rattle.schemagen_run.specs.Run.{AreTaken, AreDefinitionsOf}
 
 pub both : (a b : Bool) → a && b ≡ true → (a ≡ true) × (b ≡ true)
 both true b e = (refl, e)
@@ -183,16 +182,8 @@ known_refusal root held e known (inl memory) unknown = memory
 known_refusal root held e known (inr is) unknown = absurd (omega (arith, unknown is, known))
 
 -- the definitions that the generator takes are those that a part for the row leads to
-pub are_definitions : (s new : State) (asked : Asked) (rows : List Row) (root : ℕ) (ts : List (GenTransform NoTransform)) (part : Data)
-    (taken : Members) → s ≡ fresh asked rows → IsPartOf new root part → Adds s new → (HasOwnDefinitions s → HasOwnDefinitions new)
-    → IsNeeded s new (references part) → taken ≡ each_made_by ts new.definitions → ts ≡ transforms_of_dialect asked.dialect
-    → AreDefinitionsOf asked rows root taken
-are_definitions s new asked rows root ts part taken same is_part adds own needed made is = (
-  new,
-  part,
-  is_part,
-  subst (λ (t : State). Adds t new) same adds,
-  own (subst HasOwnDefinitions (sym same) (has_own_definitions asked rows)),
-  subst (λ (t : State). IsNeeded t new (references part)) same needed,
-  made ∙ ap (λ (xs : List (GenTransform NoTransform)). each_made_by xs new.definitions) is,
-)
+pub are_definitions : (s : State) (asked : Asked) (rows : List Row) (root : ℕ) (ts : List (GenTransform NoTransform)) (taken : Members)
+    → s ≡ fresh asked rows → ts ≡ transforms_of_dialect asked.dialect → AreTaken ts s root taken → AreDefinitionsOf asked rows root taken
+are_definitions s asked rows root ts taken same is made =
+    subst (λ (xs : List (GenTransform NoTransform)). AreTaken xs (fresh asked rows) root taken) is
+    (subst (λ (t : State). AreTaken ts t root taken) same made)

@@ -123,10 +123,7 @@ AreTaken ts old root taken =
 
 -- the definitions that a part for this row leads to, after the transforms of the dialect
 abbrev pub AreDefinitionsOf : Asked → List Row → ℕ → Members → Type 0
-AreDefinitionsOf asked rows root taken =
-    (s : State) × (part : Data) × IsPartOf s root part × Adds (fresh asked rows) s × HasOwnDefinitions s
-    × IsNeeded (fresh asked rows) s (references part)
-    × (taken ≡ each_made_by (transforms_of_dialect asked.dialect) s.definitions)
+AreDefinitionsOf asked rows root taken = AreTaken (transforms_of_dialect asked.dialect) (fresh asked rows) root taken
 
 -- the text of a document in order, where the numbers in it are whole, and a newline
 abbrev pub IsTextLine : Data → Text → Type 0
@@ -215,8 +212,7 @@ IsExampleLine dialect x line = (document : Data) × IsSampleDocument dialect x d
 -- that of the example that the value is, whose own JSON the value is
 abbrev pub IsSampleLineOf : Dialect → Data → Text → Type 0
 IsSampleLineOf dialect d line =
-    (x : Example) × ((document : Data)
-    × (sample_input d ≡ Some x) × (IsJson d → sample_json x ≡ Some d) × IsSampleDocument dialect x document × IsTextLine document line)
+    (x : Example) × (sample_input d ≡ Some x) × (IsJson d → sample_json x ≡ Some d) × IsExampleLine dialect x line
 
 -- the bytes are the text of this value, and Q holds of the line of its document
 abbrev pub IsSampleLine : Dialect → List ℕ → (Text → Type 0) → Type 0

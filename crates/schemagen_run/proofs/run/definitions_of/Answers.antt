@@ -48,9 +48,7 @@ returns c =
     let these = ap (λ s. s.transforms.items) own ∙ wanted.transforms in
     let r = c.taken_definitions.result in
     record {
-      ok = IfOk-weaker r _ _ (λ m taken.
-          let (s, part, is_part, adds, kept, needed, made) = taken in
-          are_definitions (state g) s c.args.asked c.args.types c.args.root _ part _ same is_part adds kept needed made these)
+      ok = IfOk-weaker r _ _ (λ m taken. are_definitions (state g) c.args.asked c.args.types c.args.root _ _ same these taken)
           c.taken_definitions.ensures.ok;
       accepted = so_at_ok r c.in_ok-generator.ensures.accepted;
       refused = IfErr-weaker r _ _ (λ e memory. memory_refusal c.args.asked c.args.types c.args.root e memory)

@@ -1,38 +1,13 @@
 -- The line is that of the example, and the sink has taken a beginning of it.
 use Rattle.std.proofs.Common.{sym, string_bytes}
 use Rattle.serde_json.specs.View.{view}
+use Rattle.schemagen_run.proofs.Runs.{gives_sample_line}
 use Rattle.schemagen_run.proofs.run.run_sample.Goals as goal
 
 pub returns-clause-write : goal.returns-clause-write
-returns-clause-write g c = λ _.
-    let (bytes, consumed, end, text) = c.in_ok-value.ensures.ok in (
-      bytes,
-      consumed,
-      end,
-      (
-        view c.in_ok-value.value,
-        (
-          string_bytes c.in_ok-line.line,
-          text,
-          c.in_ok-line.ensures.ok,
-          rw (sym c.as_bytes.ensures.value) c.in-Err.ensures.beginning,
-        ),
-      ),
-    )
+returns-clause-write g c = λ _. gives_sample_line c.args.dialect (view c.in_ok-value.value) (string_bytes c.in_ok-line.line) _ _
+    c.in_ok-value.ensures.ok c.in_ok-line.ensures.ok (rw (sym c.as_bytes.ensures.value) c.in-Err.ensures.beginning)
 
 pub returns-in-Ok-clause-done : goal.returns-in-Ok-clause-done
-returns-in-Ok-clause-done g c =
-    let (bytes, consumed, end, text) = c.in_ok-value.ensures.ok in (
-      bytes,
-      consumed,
-      end,
-      (
-        view c.in_ok-value.value,
-        (
-          string_bytes c.in_ok-line.line,
-          text,
-          c.in_ok-line.ensures.ok,
-          rw (sym c.as_bytes.ensures.value) c.in-Ok.ensures.bytes,
-        ),
-      ),
-    )
+returns-in-Ok-clause-done g c = gives_sample_line c.args.dialect (view c.in_ok-value.value) (string_bytes c.in_ok-line.line) _ _
+    c.in_ok-value.ensures.ok c.in_ok-line.ensures.ok (rw (sym c.as_bytes.ensures.value) c.in-Ok.ensures.bytes)

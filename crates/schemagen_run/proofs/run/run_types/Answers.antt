@@ -8,12 +8,11 @@ use Rattle.schemagen_run.proofs.Results.{passed_on, same_error, other_result, ok
 use Rattle.schemagen_run.proofs.Runs.{read_is_no_write, read_is_no_path, read_is_of_no_table}
 use Rattle.schemagen_run.proofs.Runs.{line_is_no_other}
 use Rattle.schemagen_run.proofs.Runs.{gave, read_outside, read_is_accepted, read_is_noted, noted_is_accepted}
-use Rattle.schemagen_run.proofs.Runs.{read_is_faulty, has_no_place, is_outside, line_is_some}
+use Rattle.schemagen_run.proofs.Runs.{read_is_faulty, has_no_place, is_outside, line_is_some, gives_line}
 use Rattle.schemagen_run.proofs.run.run_types.Goals as goal
 
 pub returns-in-Ok : goal.returns-in-Ok
 returns-in-Ok g c =
-    let (bytes, consumed, end, text) = c.in_ok-types.ensures.ok in
     let some : 0 < length (string_bytes c.in_ok-line.line) = line_is_some _ _ _ _ c.in_ok-line.ensures.ok in
     record {
       read = (
@@ -25,24 +24,9 @@ returns-in-Ok g c =
       faulty = tt;
       unplaced = λ u. absurd (ok_is_no_error _ _ u);
       write = λ u. absurd (ok_is_no_error _ _ u);
-      done = (
-        bytes,
-        consumed,
-        end,
-        (
-          c.in_ok-types.types,
-          (
-            c.in_ok-types.root,
-            (
-              string_bytes c.in_ok-line.line,
-              text,
-              c.in_ok-line.ensures.accepted,
-              c.in_ok-line.ensures.ok,
-              rw (sym c.as_bytes.ensures.value) c.in-Ok.ensures.bytes,
-            ),
-          ),
-        ),
-      );
+      done = gives_line c.args.asked c.in_ok-types.types c.in_ok-types.root (string_bytes c.in_ok-line.line) _ _
+          c.in_ok-types.ensures.ok c.in_ok-line.ensures.accepted c.in_ok-line.ensures.ok
+          (rw (sym c.as_bytes.ensures.value) c.in-Ok.ensures.bytes);
       failed = λ u. absurd (ok_is_no_error _ _ u);
       sound = c.in-Ok.ensures.sound (subst (λ (t : List ℕ). 0 < length t) (sym c.as_bytes.ensures.value) some);
       unwritten = tt;
@@ -133,40 +117,23 @@ no_table (inr (inr (inl is))) = no_write DIRECT_CYCLE refl is
 no_table (inr (inr (inr is))) = no_write EMPTY_CYCLE refl is
 
 pub returns : goal.returns
-returns g c =
-    let (bytes, consumed, end, text) = c.in_ok-types.ensures.ok in
-    record {
-      read = (
-        λ u. absurd (no_write READ refl (same_error _ _ _ refl u)),
-        λ failed. absurd (ok_is_no_error _ _ (c.in_ok-types.ensures.read.1 failed)),
-      );
-      not_json = λ u. absurd (no_write NOT_JSON refl (same_error _ _ _ refl u));
-      bad_table = λ u. absurd (no_write BAD_TABLE refl (same_error _ _ _ refl u));
-      faulty = λ table. absurd (no_table table);
-      unplaced = λ u. absurd (no_write DEFINITIONS_PATH refl (same_error _ _ _ refl u));
-      write = λ _. (
-        bytes,
-        consumed,
-        end,
-        (
-          c.in_ok-types.types,
-          (
-            c.in_ok-types.root,
-            (
-              string_bytes c.in_ok-line.line,
-              text,
-              c.in_ok-line.ensures.accepted,
-              c.in_ok-line.ensures.ok,
-              rw (sym c.as_bytes.ensures.value) c.in-Err.ensures.beginning,
-            ),
-          ),
-        ),
-      );
-      done = tt;
-      failed = λ _. c.in-Err.ensures.failed;
-      sound = tt;
-      unwritten = λ other. absurd (other refl);
-      faults = inr (inr refl);
-      accepted = λ _ _ _. inl (inr (inr refl));
-      noted = λ _ _ _. inr (inr refl);
-    }
+returns g c = record {
+  read = (
+    λ u. absurd (no_write READ refl (same_error _ _ _ refl u)),
+    λ failed. absurd (ok_is_no_error _ _ (c.in_ok-types.ensures.read.1 failed)),
+  );
+  not_json = λ u. absurd (no_write NOT_JSON refl (same_error _ _ _ refl u));
+  bad_table = λ u. absurd (no_write BAD_TABLE refl (same_error _ _ _ refl u));
+  faulty = λ table. absurd (no_table table);
+  unplaced = λ u. absurd (no_write DEFINITIONS_PATH refl (same_error _ _ _ refl u));
+  write = λ _. gives_line c.args.asked c.in_ok-types.types c.in_ok-types.root (string_bytes c.in_ok-line.line) _ _
+      c.in_ok-types.ensures.ok c.in_ok-line.ensures.accepted c.in_ok-line.ensures.ok
+      (rw (sym c.as_bytes.ensures.value) c.in-Err.ensures.beginning);
+  done = tt;
+  failed = λ _. c.in-Err.ensures.failed;
+  sound = tt;
+  unwritten = λ other. absurd (other refl);
+  faults = inr (inr refl);
+  accepted = λ _ _ _. inl (inr (inr refl));
+  noted = λ _ _ _. inr (inr refl);
+}
