@@ -1,44 +1,12 @@
 //! What calls of the libraries answer, as text.
-use crate::{builders, samples, schemas};
+use crate::samples;
+use schemagen_calls::{NoAnswer, answer_about_text, pair_in, text_of_bool};
 use schemagen_run::fault::Fault;
 use schemars_schema::encoding::{encode_ref_name, percent_decode};
 use schemars_schema::{NotASchema, Schema, json_eq, json_eq_members};
 use serde_json::Value;
-use std::alloc::{AllocError, AllocFailed, Global};
+use std::alloc::{AllocError, Global};
 use std::borrow::CowStr;
-
-/// Why there is no answer.
-#[derive(Clone, Copy)]
-pub enum NoAnswer {
-    /// Memory ran out.
-    OutOfMemory,
-    /// No call has this name.
-    NoCall,
-    /// The call takes no such input.
-    BadInput,
-}
-
-impl From<AllocError> for NoAnswer {
-    fn from(_e: AllocError) -> NoAnswer {
-        NoAnswer::OutOfMemory
-    }
-}
-
-impl<T: Drop> From<AllocFailed<T>> for NoAnswer {
-    fn from(_e: AllocFailed<T>) -> NoAnswer {
-        NoAnswer::OutOfMemory
-    }
-}
-
-impl From<serde_json::Error> for NoAnswer {
-    fn from(e: serde_json::Error) -> NoAnswer {
-        if e.is_memory() {
-            NoAnswer::OutOfMemory
-        } else {
-            NoAnswer::BadInput
-        }
-    }
-}
 
 /// What the call answers that the first word names. The rest of the words is its argument, and the
 /// input its value, or a list of its values.
@@ -74,40 +42,19 @@ fn answer_about(
         "encode_ref_name" | "percent_decode" | "new_ref" => about_text(alloc, call, value),
         "escape" | "get_title_and_description" => {
             let text = value.as_str().ok_or(NoAnswer::BadInput)?;
-            builders::answer_about_text(alloc, call, text)
+            answer_about_text(alloc, call, text)
         }
         "fault" => fault(alloc, value),
         "into_root_schema_for_value" | "root_schema_for_value" | "schema_for_value" => {
             samples::answer(alloc, call, argument, value)
         }
-        _ => schemas::answer(alloc, call, argument, value),
+        _ => schemagen_calls::answer(alloc, call, argument, value),
     }
 }
 
 fn deserialized(alloc: Global, input: &str) -> Result<String, NoAnswer> {
     let schema: Schema = serde_json::from_str(alloc, input)?;
     Ok(schema.to_ordered_string(alloc)?)
-}
-
-/// A truth value's text, and `none` where there is none.
-pub fn text_of_bool(alloc: Global, value: Option<bool>) -> Result<String, NoAnswer> {
-    let text = match value {
-        Some(true) => "true",
-        Some(false) => "false",
-        None => "none",
-    };
-    Ok(String::from_str(alloc, text)?)
-}
-
-/// The two values of a list.
-pub fn pair_in(value: &Value) -> Option<(&Value, &Value)> {
-    match value {
-        Value::Array(items) => match items.as_slice() {
-            [first, second] => Some((first, second)),
-            _ => None,
-        },
-        _ => None,
-    }
 }
 
 fn try_from(alloc: Global, value: &Value) -> Result<String, NoAnswer> {

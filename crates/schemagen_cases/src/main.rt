@@ -5,14 +5,10 @@
 //! file, and nothing to prove.
 #![tactic(auto)]
 
-mod builders;
 mod calls;
 mod cases;
-mod edits;
 mod runs;
 mod samples;
-mod schemas;
-mod transforms;
 
 use crate::cases::{Asked, work_cases};
 use std::{fs, io};

@@ -4,6 +4,7 @@ ghost use Rattle.std.specs.Prelude.{string_bytes, [], ◌∷◌, ◌++◌, ◌<�
 ghost use Rattle.std.specs.Io.KnownBytes.{Appends};
 ghost use Rattle.serde_json.specs.View.{view, members_view};
 ghost use Rattle.schemars_types.specs.Faults.{IsAccepted};
+ghost use Rattle.schemars_error.specs.Refusals.{HasFault};
 ghost use Rattle.schemars_generate.specs.Settings.{settings_of, state};
 ghost use Rattle.schemars_transforms.specs.Member.{some_own};
 ghost use Rattle.schemagen_run.specs.Streams.{AppendsBeginning};
@@ -16,7 +17,7 @@ ghost use Rattle.schemagen_run.specs.declared.words.Dialect.TheVariants.{OpenApi
 ghost use Rattle.schemagen_run.specs.Words.{AskForTypes, AskForSample, AreKnown};
 ghost use Rattle.schemagen_run.specs.Run.{GivesAll, IsTextOf, IsNoJson, IsBadTable, IsTableText};
 ghost use Rattle.schemagen_run.specs.Run.{IsAcceptedText, IsNotedText, IsFaultyTable, IsRefusal, IsLineRefusal};
-ghost use Rattle.schemagen_run.specs.Run.{settings_for, settings_of_dialect, transforms_of_dialect};
+ghost use Rattle.schemagen_run.specs.Run.{settings_for, settings_of_dialect, transforms_of_dialect, fresh};
 ghost use Rattle.schemagen_run.specs.Run.{IsDocumentOf, IsTextLine, IsDocumentLine, IsLineOf, IsTableLine, IsUnplacedText};
 ghost use Rattle.schemagen_run.specs.Run.{AreDefinitionsOf, AreTaken, IsDefinitionsLine};
 ghost use Rattle.schemagen_run.specs.Run.{IsNotWhole, IsSampleText, IsSampleDocument, IsExampleLine, IsSampleLineOf, IsSampleLine};
@@ -235,7 +236,8 @@ fn input_of(alloc: Global, value: &Value) -> Result<(Types, TypeNo), Fault>
         Err(InputError::OutOfMemory) => return Err(Fault::Refused(OUT_OF_MEMORY)),
         Err(InputError::BadTable) => return Err(Fault::Refused(BAD_TABLE)),
     };
-    if root >= types.len() {
+    let is_row = root < types.len();
+    if !is_row {
         return Err(Fault::Refused(BAD_TABLE));
     }
     Ok((types, root))
@@ -338,6 +340,22 @@ fn with_newline(text: String) -> Result<String, AllocError>
     Ok(line)
 }
 
+// A generator for what is asked, over this table.
+fn generator_over(
+    alloc: Global,
+    asked: Asked,
+    types: Types,
+) -> Result<SchemaGenerator, GenerateError>
+    ensures fresh { IfOk result (λ g. state g ≡ fresh asked types) }
+    ensures transforms { IfOk result (λ g. g.settings.transforms.items ≡ transforms_of_dialect asked.dialect) }
+    ensures accepted { OnOk result (IsAccepted types) }
+    ensures refused { IfErr result (λ e. (e ≡ GenerateError.OutOfMemory) ⊎ HasFault types e) }
+    ensures only_memory { IsAccepted types → IfErr result (λ e. e ≡ GenerateError.OutOfMemory) }
+{
+    let settings = settings_for(alloc, asked)?;
+    SchemaGenerator::with_types(alloc, settings, types)
+}
+
 // The root document of this row.
 fn document_of(
     alloc: Global,
@@ -351,8 +369,7 @@ fn document_of(
     ensures accepted { OnOk result (IsAccepted types) }
     ensures refused { IfErr result (IsRefusal asked types root) }
 {
-    let settings = settings_for(alloc, asked)?;
-    let generator = SchemaGenerator::with_types(alloc, settings, types)?;
+    let generator = generator_over(alloc, asked, types)?;
     generator.into_root_schema_for_type(alloc, root)
 }
 
@@ -368,8 +385,7 @@ fn definitions_of(
     ensures accepted { OnOk result (IsAccepted types) }
     ensures refused { IfErr result (IsRefusal asked types root) }
 {
-    let settings = settings_for(alloc, asked)?;
-    let mut generator = SchemaGenerator::with_types(alloc, settings, types)?;
+    let mut generator = generator_over(alloc, asked, types)?;
     taken_definitions(alloc, &mut generator, root)
 }
 

@@ -12,6 +12,7 @@ ghost use Rattle.schemars_rows.specs.Undefined.{IsUndefined};
 use crate::slots::{Slot, count, entry};
 use indexmap::IndexMap;
 use schemars_cycles::least_on_cycle;
+use schemars_edges::{asked_numbers, flattened_numbers, numbers, same_value_numbers};
 use schemars_shapes::{Shape, TypeNo};
 use std::alloc::{AllocError, Global};
 
@@ -65,7 +66,7 @@ fn repeated_name(
         (λ s. IsFirstRepeated (names_at (map row_of slots.now.entries) n) (string_bytes s))) }
 {
     match entry(slots, n) {
-        Some(entry) => entry.shape.repeated_name(alloc),
+        Some(entry) => schemars_edges::repeated_name(alloc, &entry.shape),
         None => Ok(None),
     }
 }
@@ -116,7 +117,7 @@ fn targets(
     match kind {
         EdgeKind::Direct => direct_targets(alloc, slots, &entry.shape),
         EdgeKind::SameValue => {
-            let numbers = entry.shape.same_value_numbers(alloc)?;
+            let numbers = same_value_numbers(alloc, &entry.shape)?;
             rows_among(alloc, slots, numbers)
         }
     }
@@ -132,7 +133,7 @@ fn direct_targets(
         ++ filter (is_row (map row_of slots.now.entries))
         (asked_in (map row_of slots.now.entries) (shape_of shape.now))) }
 {
-    let mut targets = in_place_among(alloc, slots, shape.numbers(alloc)?)?;
+    let mut targets = in_place_among(alloc, slots, numbers(alloc, shape)?)?;
     let mut asked = rows_among(alloc, slots, asked(alloc, slots, shape)?)?;
     targets.append(&mut asked)?;
     Ok(targets)
@@ -175,8 +176,8 @@ fn asked(
     ensures { IfOk result (λ v. v.items
         ≡ asked_in (map row_of slots.now.entries) (shape_of shape.now)) }
 {
-    let mut asked = shape.asked_numbers(alloc)?;
-    let flattened = shape.flattened_numbers(alloc)?;
+    let mut asked = asked_numbers(alloc, shape)?;
+    let flattened = flattened_numbers(alloc, shape)?;
     for n in &flattened {
         add_below(slots, *n, &mut asked)?;
     }

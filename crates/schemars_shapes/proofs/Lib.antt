@@ -2,5 +2,4 @@ pub mod FieldLemmas
 pub mod EqualEntries
 pub mod SelfEqual
 pub mod Copies
-pub mod Numbers
 pub mod Units

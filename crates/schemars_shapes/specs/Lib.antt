@@ -1,7 +1,6 @@
 pub mod IntKind
 pub mod IntegerKeys
 pub mod Shape
-pub mod Rows
 pub mod Equality
 pub mod Repeated
 pub mod Decimals

@@ -1,9 +1,7 @@
-//! The shapes of values: what a row of a table of types says, when two rows say the same, and what
-//! they refer to.
+//! The shapes of values: what a row of a table of types says, and when two rows say the same.
 #![tactic(auto)]
 
 mod clone;
-mod names;
 mod shape;
 mod variant;
 

@@ -1,21 +1,14 @@
-ghost use Rattle.std.specs.Prelude.{◌≡◌, ◌&&◌, ◌++◌, nat_le, find, map, bytes_eq, string_bytes, IfOk, OnOk, MatchOption};
-ghost use Rattle.std.specs.List.{IsDistinct};
+ghost use Rattle.std.specs.Prelude.{◌≡◌, map};
 ghost use Rattle.schemars_shapes.specs.IntKind.{format_of, non_zero_name};
 ghost use Rattle.schemars_shapes.specs.IntegerKeys.{pattern_of, integers_of};
-ghost use Rattle.schemars_shapes.specs.Shape.{shape_of, field_of, flattened_of, fields_of, entry_of, numbers_of, fields_numbers};
-ghost use Rattle.schemars_shapes.specs.Shape.{flattened_rows, same_value_numbers, flattened_numbers, asked_numbers, option_of};
-ghost use Rattle.schemars_shapes.specs.Shape.{payload_numbers, payload_flattened, payload_same, of_variants, names_of, without_notes};
-ghost use Rattle.schemars_shapes.specs.Repeated.{IsRepeated, AreDistinctLists, IsFirstRepeated};
+ghost use Rattle.schemars_shapes.specs.Shape.{shape_of, field_of, flattened_of, fields_of, entry_of, option_of, without_notes};
 ghost use Rattle.std.specs.Cmp.Lexicographic.{pointwise};
-ghost use Rattle.schemars_shapes.specs.Equality.{shape_eq, list_eq, field_eq, flattened_eq, fields_eq, bool_eq, entry_eq};
+ghost use Rattle.schemars_shapes.specs.Equality.{shape_eq, list_eq, field_eq, flattened_eq, fields_eq, entry_eq};
 
-use crate::names::first_repeated;
-use crate::variant::{
-    Internal, Rows, Variant, first_unknown_in, repeated_in, rows_in, variants_equal,
-};
+use crate::variant::{Internal, Variant, variants_equal};
 use schemars_schema::{Schema, json_eq, json_eq_members};
 use serde_json::{Map, Value};
-use std::alloc::{AllocError, Global};
+use std::alloc::Global;
 
 /// A row's number in a table.
 pub type TypeNo = usize;
@@ -217,98 +210,6 @@ pub struct Required {
 }
 
 impl Shape {
-    /// The first number that the shape refers to and that is no row of a table of this length.
-    pub fn first_unknown(&self, len: usize) -> Option<TypeNo>
-        ensures { result ≡ find (λ n. nat_le len n) (numbers_of (shape_of self.now)) }
-    {
-        match self {
-            Shape::Option(n) | Shape::Newtype(n) => first_unknown(&[*n], len),
-            Shape::Seq(n) | Shape::Set(n) => first_unknown(&[*n], len),
-            Shape::Array(n, _) | Shape::UpTo(n, _) => first_unknown(&[*n], len),
-            Shape::Bound(n) | Shape::Range(n) => first_unknown(&[*n], len),
-            Shape::Result(n, m) | Shape::Either(n, m) => first_unknown(&[*n, *m], len),
-            Shape::Map(key, value) => first_unknown(&[*key, *value], len),
-            Shape::External(variants) | Shape::Untagged(variants) => first_unknown_in(
-                variants, len,
-            ),
-            Shape::Internal(internal) => internal.first_unknown(len),
-            Shape::Tuple(parts) => first_unknown(parts, len),
-            Shape::Struct(fields) => fields.first_unknown(len),
-            _ => None,
-        }
-    }
-
-    /// The rows that the shape refers to, as they are written.
-    pub fn numbers(&self, alloc: Global) -> Result<Vec<TypeNo>, AllocError>
-        ensures { IfOk result (λ v. v.items ≡ numbers_of (shape_of self.now)) }
-    {
-        match self {
-            Shape::Option(n) | Shape::Newtype(n) => Ok(vec![in alloc; *n]?),
-            Shape::Seq(n) | Shape::Set(n) => Ok(vec![in alloc; *n]?),
-            Shape::Array(n, _) | Shape::UpTo(n, _) => Ok(vec![in alloc; *n]?),
-            Shape::Bound(n) | Shape::Range(n) => Ok(vec![in alloc; *n]?),
-            Shape::Result(n, m) | Shape::Either(n, m) => Ok(vec![in alloc; *n, *m]?),
-            Shape::Map(key, value) => Ok(vec![in alloc; *key, *value]?),
-            Shape::External(variants) | Shape::Untagged(variants) => rows_in(
-                alloc,
-                Rows::All,
-                variants,
-            ),
-            Shape::Internal(internal) => internal.rows(alloc, Rows::All),
-            Shape::Tuple(parts) => parts.clone(),
-            Shape::Struct(fields) => fields.numbers(alloc),
-            _ => Ok(Vec::new(alloc)),
-        }
-    }
-
-    /// The rows whose values, or whose members, the shape has itself.
-    pub fn same_value_numbers(&self, alloc: Global) -> Result<Vec<TypeNo>, AllocError>
-        ensures { IfOk result (λ v. v.items ≡ same_value_numbers (shape_of self.now)) }
-    {
-        match self {
-            Shape::Option(n) | Shape::Newtype(n) => Ok(vec![in alloc; *n]?),
-            Shape::Struct(fields) => fields.flattened_rows(alloc),
-            Shape::External(variants) => rows_in(alloc, Rows::Flattened, variants),
-            Shape::Untagged(variants) => rows_in(alloc, Rows::Same, variants),
-            Shape::Internal(internal) => internal.rows(alloc, Rows::Same),
-            _ => Ok(Vec::new(alloc)),
-        }
-    }
-
-    /// The rows that are flattened into the shape's maps.
-    pub fn flattened_numbers(&self, alloc: Global) -> Result<Vec<TypeNo>, AllocError>
-        ensures { IfOk result (λ v. v.items ≡ flattened_numbers (shape_of self.now)) }
-    {
-        match self {
-            Shape::Struct(fields) => fields.flattened_rows(alloc),
-            Shape::External(variants) | Shape::Untagged(variants) => rows_in(
-                alloc,
-                Rows::Flattened,
-                variants,
-            ),
-            Shape::Internal(internal) => internal.rows(alloc, Rows::Flattened),
-            _ => Ok(Vec::new(alloc)),
-        }
-    }
-
-    /// The rows that the shape asks at once, whether they are written in place or not: that of a
-    /// map's keys, and those whose members stand in the shape's own maps.
-    pub fn asked_numbers(&self, alloc: Global) -> Result<Vec<TypeNo>, AllocError>
-        ensures { IfOk result (λ v. v.items ≡ asked_numbers (shape_of self.now)) }
-    {
-        match self {
-            Shape::Map(key, _) => Ok(vec![in alloc; *key]?),
-            Shape::Struct(fields) => fields.flattened_rows(alloc),
-            Shape::External(variants) | Shape::Untagged(variants) => rows_in(
-                alloc,
-                Rows::Flattened,
-                variants,
-            ),
-            Shape::Internal(internal) => internal.rows(alloc, Rows::Same),
-            _ => Ok(Vec::new(alloc)),
-        }
-    }
-
     /// The row in an Option.
     pub fn option(&self) -> Option<TypeNo>
         ensures { result ≡ option_of (shape_of self.now) }
@@ -316,26 +217,6 @@ impl Shape {
         match self {
             Shape::Option(n) => Some(*n),
             _ => None,
-        }
-    }
-
-    /// The first name that is met a second time: in the list of fields, or in that of variants, or
-    /// else in the list of fields of a variant.
-    pub fn repeated_name(&self, alloc: Global) -> Result<Option<String>, AllocError>
-        ensures { IfOk result (λ r. MatchOption r (AreDistinctLists (names_of (shape_of self.now)))
-            (λ s. IsFirstRepeated (names_of (shape_of self.now)) (string_bytes s))) }
-    {
-        match self {
-            Shape::Struct(fields) => fields.repeated_name(alloc),
-            Shape::External(variants) | Shape::Untagged(variants) => repeated_in(alloc, variants),
-            Shape::Internal(internal) => internal.repeated_name(alloc),
-            Shape::Null | Shape::Bool | Shape::Int(_) | Shape::NonZero(_) => Ok(None),
-            Shape::Number | Shape::Text | Shape::Char | Shape::Formatted(_) => Ok(None),
-            Shape::Any | Shape::Bytes | Shape::SchemaItself => Ok(None),
-            Shape::Option(_) | Shape::Newtype(_) | Shape::Seq(_) | Shape::Set(_) => Ok(None),
-            Shape::Array(..) | Shape::UpTo(..) | Shape::Tuple(_) => Ok(None),
-            Shape::Result(..) | Shape::Either(..) | Shape::Bound(_) | Shape::Range(_) => Ok(None),
-            Shape::Map(..) | Shape::Literal(_) => Ok(None),
         }
     }
 
@@ -376,102 +257,7 @@ impl Shape {
     }
 }
 
-pub(crate) fn first_unknown(numbers: &[TypeNo], len: usize) -> Option<TypeNo>
-    ensures { result ≡ find (λ n. nat_le len n) numbers.now }
-{
-    for n in numbers {
-        if len <= *n {
-            return Some(*n);
-        }
-    }
-    None
-}
-
 impl Fields {
-    fn numbers(&self, alloc: Global) -> Result<Vec<TypeNo>, AllocError>
-        ensures { IfOk result (λ v. v.items ≡ fields_numbers (fields_of self.now)) }
-    {
-        let mut numbers = Vec::new(alloc);
-        self.add_numbers(&mut numbers)?;
-        Ok(numbers)
-    }
-
-    pub(crate) fn add_numbers(&self, numbers: &mut Vec<TypeNo>) -> Result<(), AllocError>
-        ensures { OnOk result (numbers.new.items ≡ numbers.old.items ++ fields_numbers (fields_of self.now)) }
-    {
-        self.add_types(numbers)?;
-        self.add_flattened(numbers)
-    }
-
-    fn add_types(&self, numbers: &mut Vec<TypeNo>) -> Result<(), AllocError>
-        ensures { OnOk result (numbers.new.items ≡ numbers.old.items ++ map (λ f. f.ty) (map field_of self.now.list.items)) }
-    {
-        for field in &self.list {
-            numbers.push(field.ty)?;
-        }
-        Ok(())
-    }
-
-    pub(crate) fn add_flattened(&self, numbers: &mut Vec<TypeNo>) -> Result<(), AllocError>
-        ensures { OnOk result (numbers.new.items ≡ numbers.old.items ++ flattened_rows (fields_of self.now)) }
-    {
-        for flattened in &self.flatten {
-            numbers.push(flattened.ty)?;
-        }
-        Ok(())
-    }
-
-    fn flattened_rows(&self, alloc: Global) -> Result<Vec<TypeNo>, AllocError>
-        ensures { IfOk result (λ v. v.items ≡ flattened_rows (fields_of self.now)) }
-    {
-        let mut numbers = Vec::new(alloc);
-        self.add_flattened(&mut numbers)?;
-        Ok(numbers)
-    }
-
-    pub(crate) fn repeated_name(&self, alloc: Global) -> Result<Option<String>, AllocError>
-        ensures { IfOk result (λ r.
-            let names = map (λ f. f.name) (map field_of self.now.list.items) in
-            MatchOption r (IsDistinct bytes_eq names) (λ s. IsRepeated names (string_bytes s))) }
-    {
-        let mut names = Vec::new(alloc);
-        for field in &self.list {
-            names.push(field.name.as_str())?;
-        }
-        first_repeated(alloc, &names)
-    }
-
-    pub(crate) fn first_unknown(&self, len: usize) -> Option<TypeNo>
-        ensures { result ≡ find (λ n. nat_le len n) (fields_numbers (fields_of self.now)) }
-    {
-        match self.unknown_field(len) {
-            Some(n) => Some(n),
-            None => self.unknown_flattened(len),
-        }
-    }
-
-    fn unknown_field(&self, len: usize) -> Option<TypeNo>
-        ensures { result ≡ find (λ n. nat_le len n) (map (λ f. f.ty) (map field_of self.now.list.items)) }
-    {
-        for field in &self.list {
-            if len <= field.ty {
-                return Some(field.ty);
-            }
-        }
-        None
-    }
-
-    fn unknown_flattened(&self, len: usize) -> Option<TypeNo>
-        ensures { result ≡ find (λ n. nat_le len n) (flattened_rows (fields_of self.now)) }
-    {
-        for flattened in &self.flatten {
-            if len <= flattened.ty {
-                return Some(flattened.ty);
-            }
-        }
-        None
-    }
-
     // The order of the fields and of the flattened rows counts.
     pub(crate) fn is_equal(&self, other: &Fields) -> bool
         ensures { result ≡ fields_eq (fields_of self.now) (fields_of other.now) }

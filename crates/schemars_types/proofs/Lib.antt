@@ -6,4 +6,3 @@ pub mod Accepted
 pub mod Copies
 pub mod Within
 mod MeaningExamples
-pub mod Joined

@@ -1,13 +1,12 @@
 -- What `define` answers for a row that was just reserved.
 use Rattle.std.proofs.Common.{◌≡◌, ◌<◌, ◌≤◌, ◌+◌, ℕ, List, [], ◌∷◌, ◌++◌, length, find, nat_le, Bool, true, false}
 use Rattle.std.proofs.Common.{Option, Some, None, cond, if◌then◌else◌, refl, ap, ◌∙◌, sym, subst, arith, length-append}
-use Rattle.std.specs.Option.{option_map_or}
 use Rattle.std.proofs.lemmas.Bool.Decides.{nat_tests}
 use Rattle.std.specs.List.{position_from}
 use Rattle.std.specs.Str.{bytes_eq}
 use Rattle.schemars_json.specs.Json.{Text}
 use Rattle.schemars_types.specs.declared.error.TypesError.{TypesError}
-use Rattle.schemars_types.specs.declared.error.TypesError.TheVariants.{AlreadyDefined, OutOfMemory, UnknownType}
+use Rattle.schemars_types.specs.declared.error.TypesError.TheVariants.{AlreadyDefined}
 use Rattle.schemars_shapes.specs.Shape.{Shape, Entry, numbers_of}
 use Rattle.schemars_types.specs.Rows.{Row, place_of, entry_at, reserved, unknown_in, holds_another}
 use Rattle.schemars_types.specs.Refusals.{Refuses, refusal_of}
@@ -112,11 +111,8 @@ module _ (id name : Text) (e : Entry) (old : List Row) (n : ℕ) (known : unknow
           let there : place_of id old ≡ Some n = ap (place_of id) (sym same) ∙ number in
           free (holds_another old n e) (sym (refusal_of-old there) ∙ ap (λ rows. refusal_of rows n e) (sym same) ∙ accepted)
 
--- where its texts are not made, a number of the shape is unknown, or else memory ran out
-pub texts-refused : (id : Text) (e : Entry) (old : List Row) (err : TypesError)
-    → err ≡ option_map_or (λ m. UnknownType m) (unknown_in old e.shape) OutOfMemory → Refuses id e old err
-texts-refused id e old err is = by (unknown_in old e.shape) refl is
-  where
-    by : (o : Option ℕ) → unknown_in old e.shape ≡ o → err ≡ option_map_or (λ m. UnknownType m) o OutOfMemory → Refuses id e old err
-    by None known same = subst (Refuses id e old) (sym same) known
-    by (Some m) unknown same = subst (Refuses id e old) (sym same) unknown
+-- the first of a shape's numbers that is no row's
+pub unknown_among : (rows : List Row) (s : Shape) (ns : List ℕ) (len : ℕ) (o : Option ℕ) → numbers_of s ≡ ns → len ≡ length rows
+    → o ≡ find (λ m. nat_le len m) ns → unknown_in rows s ≡ o
+unknown_among rows s ns len o numbers same is =
+    ap (find (λ m. nat_le (length rows) m)) numbers ∙ ap (λ l. find (λ m. nat_le l m) ns) (sym same) ∙ sym is

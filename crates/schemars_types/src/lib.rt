@@ -2,8 +2,11 @@
 #![tactic(auto)]
 
 mod check;
-mod constructors;
+mod containers;
 mod error;
+mod fixed;
+mod register;
+mod scalars;
 mod table;
 
 pub use error::TypesError;

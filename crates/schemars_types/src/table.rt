@@ -11,6 +11,7 @@ ghost use Rattle.std.specs.Result.{result_err};
 
 use crate::error::TypesError;
 use indexmap::IndexMap;
+use schemars_edges::first_unknown;
 use schemars_rows::{Slot, entry, slots_begin_with};
 use schemars_shapes::{Shape, TypeEntry, TypeNo};
 use std::alloc::{AllocError, Global};
@@ -173,7 +174,7 @@ impl Types {
         if len <= n {
             return Some(n);
         }
-        shape.first_unknown(len)
+        first_unknown(shape, len)
     }
 
     fn set_entry(&mut self, n: TypeNo, entry: TypeEntry)

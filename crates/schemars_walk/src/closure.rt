@@ -23,6 +23,14 @@ impl FnTransform {
     {
         FnTransform { call }
     }
+
+    // Calls the closure.
+    fn call(&mut self, schema: &mut Schema) -> Result<(), TransformError>
+        ensures { (p : _) × (q : _) × (p.now ≡ schema.old) × (q.now ≡ schema.new)
+            × Call.step self.old.call p result q self.new.call }
+    {
+        (self.call)(schema)
+    }
 }
 
 impl Transform for FnTransform {
@@ -33,7 +41,7 @@ impl Transform for FnTransform {
         × Call.step t.call p r q u.call };
 
     fn transform(&mut self, _alloc: Global, schema: &mut Schema) -> Result<(), TransformError> {
-        (self.call)(schema)
+        self.call(schema)
     }
 }
 

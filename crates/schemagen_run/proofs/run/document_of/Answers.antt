@@ -1,27 +1,17 @@
 -- The table suits the generator.
 use Rattle.std.proofs.Common.{◌∙◌, ap}
-use Rattle.schemars_generate.specs.Settings.{settings_of, state}
+use Rattle.schemars_generate.specs.Settings.{state}
 use Rattle.schemars_transforms.specs.Member.{some_own}
 use Rattle.schemagen_run.proofs.Results.{ok_at_err, err_passed, so_at_ok}
-use Rattle.schemagen_run.proofs.Tables.{fresh_of, none_own, is_document, is_refusal, faulty_refusal, memory_refusal}
+use Rattle.schemagen_run.proofs.Tables.{none_own, is_document, is_refusal, faulty_refusal}
 use Rattle.schemagen_run.proofs.run.document_of.Goals as goal
-
-pub returns-in_err-settings : goal.returns-in_err-settings
-returns-in_err-settings c =
-    let r = c.from_residual.result in
-    let passed = c.from_residual.ensures.1 in
-    record {
-      ok = ok_at_err _ _ r passed;
-      accepted = ok_at_err _ _ r passed;
-      refused = err_passed r passed (λ f same. memory_refusal c.args.asked c.args.types c.args.root f same);
-    }
 
 pub returns-in_err-generator : goal.returns-in_err-generator
 returns-in_err-generator c =
     let e = c.in_err-generator.field-0.0 in
     let why = c.in_err-generator.ensures in
-    let r = c.from_residual-in_err-generator.result in
-    let passed = c.from_residual-in_err-generator.ensures.1 in
+    let r = c.from_residual.result in
+    let passed = c.from_residual.ensures.1 in
     record {
       ok = ok_at_err _ _ r passed;
       accepted = ok_at_err _ _ r passed;
@@ -33,16 +23,11 @@ returns c =
     let g = c.in_ok-generator.generator in
     let made = c.into_root_schema_for_type.ensures in
     let r = c.into_root_schema_for_type.result in
-    let accepted = c.in_ok-generator.ensures.accepted in
-    let own = c.in_ok-generator.ensures.settings in
-    let wanted = c.in_ok-settings.ensures in
-    let these = ap (λ s. s.transforms.items) own ∙ wanted.transforms in
-    let none = ap some_own these ∙ none_own c.args.asked.dialect in
-    let same = fresh_of (settings_of g.settings) g.contents c.args.asked c.args.types
-    (ap settings_of own ∙ wanted.settings) c.in_ok-generator.ensures.made in
+    let told = c.in_ok-generator.ensures in
+    let none = ap some_own told.transforms ∙ none_own c.args.asked.dialect in
     record {
-      ok = is_document r (state g) c.args.asked c.args.types c.args.root g.settings.transforms.items same these made.built_in;
-      accepted = so_at_ok r accepted;
-      refused = is_refusal r (state g) c.args.asked c.args.types c.args.root c.requires.draft c.requires.table accepted same made.unknown
-          (made.refused_built_in none) (made.only_memory none);
+      ok = is_document r (state g) c.args.asked c.args.types c.args.root g.settings.transforms.items told.fresh told.transforms made.built_in;
+      accepted = so_at_ok r told.accepted;
+      refused = is_refusal r (state g) c.args.asked c.args.types c.args.root c.requires.draft c.requires.table told.accepted told.fresh
+          made.unknown (made.refused_built_in none) (made.only_memory none);
     }

@@ -1,5 +1,5 @@
 -- The names of a row are those of its entry, and a row without one has none.
-use Rattle.std.proofs.Common.{◌≡◌, List, [], sym, ap, subst, map, string_bytes, IfOk}
+use Rattle.std.proofs.Common.{List, [], sym, ap, subst, map, string_bytes, IfOk}
 use Rattle.std.specs.Option.{MatchOption, option_map_or}
 use Rattle.schemars_json.specs.Json.{Text}
 use Rattle.schemars_shapes.specs.Repeated.{AreDistinctLists, IsFirstRepeated}

@@ -1,27 +1,24 @@
-use Rattle.std.proofs.Common.{◌++◌, codes, find, nat_le, length, ap, ◌∙◌, sym}
-use Rattle.std.specs.Option.{option_map_or}
 use Rattle.std.proofs.lemmas.Result.{err_from_is_err_and}
-use Rattle.schemars_shapes.specs.Shape.{shape_of, without_notes}
-use Rattle.schemars_types.specs.declared.error.TypesError.TheVariants.{OutOfMemory, UnknownType}
-use Rattle.schemars_types.specs.Rows.{id_at}
-use Rattle.schemars_types.proofs.Registered.{texts-refused}
+use Rattle.schemars_shapes.specs.Shape.{shape_of}
+use Rattle.schemars_types.proofs.Registered.{unknown_among}
 use Rattle.schemars_types.proofs.table.Types.register_pair.Goals as goal
+
+pub returns-in-Some-clause-refused : goal.returns-in-Some-clause-refused
+returns-in-Some-clause-refused c =
+    unknown_among c.args.self.now (shape_of c.args.shape) _ c.len.result _ c.requires c.len.ensures.len c.in-Some.ensures
 
 pub returns-in_err-id-clause-refused : goal.returns-in_err-id-clause-refused
 returns-in_err-id-clause-refused c =
-    let rows = c.args.self.now in
     let p = err_from_is_err_and c.from_residual.result c.from_residual.ensures.1 in
-    rw p.1 (texts-refused
-    (c.args.generic.now ++ (codes "<" ++ (id_at rows c.args.first ++ (codes ", " ++ (id_at rows c.args.second ++ codes ">")))))
-    (without_notes c.args.inline (shape_of c.args.shape)) rows p.0
-    (p.2 ∙ c.in_err-id.ensures.refused
-    ∙ ap (λ ns. option_map_or (λ m. UnknownType m) (find (λ m. nat_le (length rows) m) ns) OutOfMemory) (sym c.requires)))
+    rw (p.1, p.2)
+    (unknown_among c.args.self.now (shape_of c.args.shape) _ c.len.result _ c.requires c.len.ensures.len c.in_default.ensures)
 
 pub register_row-requires : goal.register_row-requires
-register_row-requires c = ap (find (λ m. nat_le (length c.args.self.now) m)) c.requires ∙ c.in_ok-id.ensures.known
+register_row-requires c =
+    unknown_among c.args.self.now (shape_of c.args.shape) _ c.len.result _ c.requires c.len.ensures.len c.in_default.ensures
 
 pub returns-clause-ok : goal.returns-clause-ok
-returns-clause-ok c = rw (c.in_ok-id.ensures.id, c.in_ok-id.ensures.name) at c.register_row.ensures.ok
+returns-clause-ok c = rw (c.in_ok-id.ensures.id, c.in_ok-id.ensures.name, c.self.view_is) at c.register_row.ensures.ok
 
 pub returns-clause-refused : goal.returns-clause-refused
-returns-clause-refused c = rw c.in_ok-id.ensures.id at c.register_row.ensures.refused
+returns-clause-refused c = rw (c.in_ok-id.ensures.id, c.self.view_is) at c.register_row.ensures.refused

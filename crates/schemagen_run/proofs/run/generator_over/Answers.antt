@@ -1,0 +1,33 @@
+-- The settings are those that are asked for, and the table is the one that is given.
+use Rattle.std.proofs.Common.{◌∙◌, ap, inl}
+use Rattle.std.proofs.lemmas.Result.{IfOk-weaker}
+use Rattle.schemars_generate.specs.Settings.{settings_of}
+use Rattle.schemagen_run.proofs.Results.{ok_at_err, err_passed, both_at_ok}
+use Rattle.schemagen_run.proofs.Tables.{fresh_of}
+use Rattle.schemagen_run.proofs.run.generator_over.Goals as goal
+
+pub returns-in_err-settings : goal.returns-in_err-settings
+returns-in_err-settings c =
+    let r = c.from_residual.result in
+    let passed = c.from_residual.ensures.1 in
+    record {
+      fresh = ok_at_err _ _ r passed;
+      transforms = ok_at_err _ _ r passed;
+      accepted = ok_at_err _ _ r passed;
+      refused = err_passed r passed (λ f same. inl same);
+      only_memory = λ _. err_passed r passed (λ f same. same);
+    }
+
+pub returns : goal.returns
+returns c =
+    let r = c.with_types.result in
+    let wanted = c.in_ok-settings.ensures in
+    let told = c.with_types.ensures in
+    record {
+      fresh = both_at_ok r told.settings told.made (λ g own held. fresh_of (settings_of g.settings) g.contents c.args.asked
+          c.args.types (ap settings_of own ∙ wanted.settings) held);
+      transforms = IfOk-weaker r _ _ (λ g own. ap (λ s. s.transforms.items) own ∙ wanted.transforms) told.settings;
+      accepted = told.accepted;
+      refused = told.refused;
+      only_memory = told.only_memory;
+    }
