@@ -1,6 +1,6 @@
 -- What the generator asks of a table holds of each input, and what it answers is the root document of a row.
 use Rattle.std.proofs.Common.{◌≡◌, ◌≢◌, ◌⊎◌, ◌↔◌, ◌<◌, ◌≤◌, ℕ, codes, nat_lt, List, [], length, Bool, true, false, ◌&&◌}
-use Rattle.std.proofs.Common.{Some, refl, ap, ◌∙◌, subst, sym, inl, inr, Result, Ok, Err, IfOk, IfErr, arith}
+use Rattle.std.proofs.Common.{Some, None, refl, ap, ◌∙◌, subst, sym, inl, inr, Result, Ok, Err, IfOk, IfErr, arith}
 use Rattle.std.proofs.lemmas.Bool.Decides.{nat_tests}
 use borrow.Author.Tests.{ltb-true}
 use Rattle.serde_json.specs.Data.{Data, Members, no_members}
@@ -42,12 +42,19 @@ root_is_within rows root table = ltb-true root (length rows) (both (is_complete 
 below : (m n : ℕ) → m < n → nat_lt m n ≡ true
 below m n h = grind (arith, nat_tests)
 
+above : (m n : ℕ) → m ≤ n → nat_lt n m ≡ false
+above m n h = grind (arith, nat_tests)
+
 pub has_root : (rows : List Row) (root count : ℕ) → is_complete rows ≡ true → count ≡ length rows → root < count → is_table rows root ≡ true
 has_root rows root count complete many within = rw (complete, below root (length rows) (omega (arith, many, within)))
 
 pub is_input : (d : Data) (rows : List Row) (root count : ℕ) → table_in d ≡ Some (rows, root) → count ≡ length rows → root < count
     → input_of d ≡ Some (rows, root)
 is_input d rows root count table many within = rw (table, below root (length rows) (omega (arith, many, within)))
+
+pub is_no_input : (d : Data) (rows : List Row) (root count : ℕ) → table_in d ≡ Some (rows, root) → count ≡ length rows
+    → count ≤ root → input_of d ≡ None
+is_no_input d rows root count table many past = rw (table, above (length rows) root (subst (λ n. n ≤ root) many past))
 
 -- ---- kinds of refusals
 
