@@ -1,7 +1,10 @@
 -- The root document of an example, in each dialect.
-use Rattle.std.proofs.Common.{◌≡◌, inl, inr, List, Result, Ok, Err, Some, IfOk, IfErr, false, refl, ap, ◌∙◌, subst}
+use Rattle.std.proofs.Common.{◌≡◌, inl, inr, List, [], Result, Ok, Err, Some, IfOk, IfErr, false, refl, sym, ap, ◌∙◌, subst}
 use Rattle.serde_json.specs.Data.{Data, Members, no_members}
+use Rattle.schemars_schema.specs.Acceptance.{draft07, draft2019_09}
+use Rattle.schemars_sample.specs.Accepted.{AcceptsExample}
 use Rattle.schemars_sample.specs.Example.{Example}
+use Rattle.schemars_dialects.specs.Dialects.{AcceptsExampleUnder}
 use Rattle.schemars_headline.specs.State.{Settings}
 use Rattle.schemars_error.specs.declared.error.GenerateError.{GenerateError}
 use Rattle.schemars_error.specs.declared.error.GenerateError.TheVariants.{OutOfMemory}
@@ -12,7 +15,8 @@ use Rattle.schemars_transforms.specs.Member.{some_own}
 use Rattle.schemars_transforms.specs.BuiltIn.{made_by, IsMadeBy}
 use Rattle.schemagen_run.specs.declared.words.Dialect.{Dialect}
 use Rattle.schemagen_run.specs.declared.words.Dialect.TheVariants.{Draft2020_12, Draft2019_09, Draft07, OpenApi3}
-use Rattle.schemagen_run.specs.Run.{settings_of_dialect, transforms_of_dialect, AcceptsIn, IsUntransformedExample, IsSampleDocument}
+use Rattle.schemagen_run.specs.Run.{settings_of_dialect, transforms_of_dialect, AcceptsIn, AcceptsUnder, IsUntransformedExample}
+use Rattle.schemagen_run.specs.Run.{IsSampleDocument}
 use Rattle.schemagen_run.proofs.Tables.{none_own}
 
 accepts_in : (dialect : Dialect) (x : Example) (d : Data) → IsSampleRoot (settings_of_dialect dialect) no_members x d
@@ -21,6 +25,15 @@ accepts_in Draft2020_12 x d root = root.accepts (inl refl)
 accepts_in Draft2019_09 x d root = root.accepts (inl refl)
 accepts_in Draft07 x d root = root.accepts (inr refl)
 accepts_in OpenApi3 x d root = tt
+
+accepts_under : (dialect : Dialect) (x : Example) (d document : Data) → IsSampleRoot (settings_of_dialect dialect) no_members x d
+    → document ≡ made_by (transforms_of_dialect dialect) d → AcceptsUnder dialect x document
+accepts_under Draft2020_12 x d document root same = subst (AcceptsExample x) (sym same) (root.accepts (inl refl))
+accepts_under Draft2019_09 x d document root same =
+    subst (AcceptsExampleUnder draft2019_09 x) (sym same) (root.draft2019_09 [] [] refl (inl refl))
+accepts_under Draft07 x d document root same =
+    subst (AcceptsExampleUnder draft07 x) (sym same) (root.draft07 [] [] refl (inl refl))
+accepts_under OpenApi3 x d document root same = tt
 
 same_inside : {d e : Data} → Some d ≡ Some e → e ≡ d
 same_inside h = cc
@@ -38,7 +51,9 @@ sample_made (Ok document) s definitions x dialect ts same empty is made =
     let (d, root, by) = made (ap some_own is ∙ none_own dialect) in
     let here : IsSampleRoot (settings_of_dialect dialect) no_members x d =
     subst (λ (t : Settings). IsSampleRoot t no_members x d) same (subst (λ (ms : Members). IsSampleRoot s ms x d) empty root) in
-    (d, is_untransformed dialect x d here, by ∙ ap (λ (xs : List (GenTransform NoTransform)). made_by xs d) is)
+    let same_document : document ≡ made_by (transforms_of_dialect dialect) d =
+    by ∙ ap (λ (xs : List (GenTransform NoTransform)). made_by xs d) is in
+    ((d, is_untransformed dialect x d here, same_document), accepts_under dialect x d document here same_document)
 
 nothing_unplaced : (s : Settings) (x : Example) (e : GenerateError) → IsSampleRefused s no_members x e → e ≡ OutOfMemory
 nothing_unplaced s x e (inl memory) = memory

@@ -21,7 +21,7 @@ use Rattle.schemars_error.specs.declared.error.GenerateError.{GenerateError}
 use Rattle.schemars_error.specs.declared.error.GenerateError.TheVariants.{OutOfMemory, DefinitionsPath}
 use Rattle.schemars_headline.specs.Headline.{MeansItsType, CannotPlace}
 use Rattle.schemars_headline.specs.Calls.{IsLastRootCall, IsPartOf, Adds, IsNeeded}
-use Rattle.schemars_dialects.specs.Dialects.{MeansItsTypeUnder}
+use Rattle.schemars_dialects.specs.Dialects.{MeansItsTypeUnder, AcceptsExampleUnder}
 use Rattle.schemars_documents.specs.ContractOf.{contract_of}
 use Rattle.schemars_error.specs.Refusals.{code_of, HasFault}
 use Rattle.schemars_headline.specs.State.{Settings, State, settings2020_12, HasOwnDefinitions}
@@ -189,7 +189,7 @@ IsNotWhole bytes = (d : Data) × IsTextOf d bytes × (sample_input d ≡ None)
 abbrev pub IsSampleText : List ℕ → Type 0
 IsSampleText bytes = (d : Data) × IsTextOf d bytes × ((x : Example) × (sample_input d ≡ Some x))
 
--- the document accepts the example; of OpenAPI nothing is told
+-- under 2020-12 the document accepts the example; of OpenAPI nothing is told
 abbrev pub AcceptsIn : Dialect → Example → Data → Type 0
 AcceptsIn Draft2020_12 x document = AcceptsExample x document
 AcceptsIn Draft2019_09 x document = AcceptsExample x document
@@ -201,9 +201,17 @@ abbrev pub IsUntransformedExample : Dialect → Example → Data → Type 0
 IsUntransformedExample dialect x document =
     (document ≡ sample_root (settings_of_dialect dialect).meta_schema x) × AcceptsIn dialect x document × (has_float document ≡ false)
 
--- after the transforms of the dialect
+-- under the keywords of a draft the document accepts the example; of OpenAPI nothing is told
+abbrev pub AcceptsUnder : Dialect → Example → Data → Type 0
+AcceptsUnder Draft2020_12 x document = AcceptsExample x document
+AcceptsUnder Draft2019_09 x document = AcceptsExampleUnder draft2019_09 x document
+AcceptsUnder Draft07 x document = AcceptsExampleUnder draft07 x document
+AcceptsUnder OpenApi3 x document = Unit {0}
+
+-- after the transforms of the dialect, where it accepts the example too
 abbrev pub IsSampleDocument : Dialect → Example → Data → Type 0
-IsSampleDocument dialect x document = IsMadeBy (transforms_of_dialect dialect) (IsUntransformedExample dialect x) document
+IsSampleDocument dialect x document =
+    IsMadeBy (transforms_of_dialect dialect) (IsUntransformedExample dialect x) document × AcceptsUnder dialect x document
 
 -- the line of the document of the example
 abbrev pub IsExampleLine : Dialect → Example → Text → Type 0

@@ -3,7 +3,8 @@ use Rattle.std.proofs.Common.{◌≡◌, ◌≢◌, ◌+◌, ◌*◌, ◌≤◌,
 use Rattle.serde_json.specs.Data.{Data, object, Members, depth}
 use Rattle.serde_json.specs.Find.{get_member}
 use Rattle.schemars_json.specs.Json.{Text}
-use Rattle.schemars_schema.specs.Acceptance.{Dialect, draft2020_12, draft2019_09, draft07, accepts, count_of_definitions}
+use Rattle.schemars_schema.specs.Acceptance.{Dialect, Patterns, draft2020_12, draft2019_09, draft07, accepts}
+use Rattle.schemars_schema.specs.Acceptance.{count_of_definitions}
 use Rattle.schemars_types.specs.Rows.{Row}
 use Rattle.schemars_types.specs.Meaning.{Contract}
 use Rattle.schemars_types.specs.Faults.{IsChecked}
@@ -29,7 +30,18 @@ use Rattle.schemars_dialects.proofs.Classes.{good-named}
 use Rattle.schemars_dialects.proofs.RootClass.{IsReady, root_call-ready, may_refer-name, stands-place, stands-draft}
 use Rattle.schemars_dialects.proofs.Definitions.{Stay, stay-same, Has, prefix-has, siblings-has, unevaluated-has, count-has}
 
--- a transform that moves acceptance, and keeps the number of definitions
+-- a transform that moves acceptance
+pub moved : (T : Data → Data) (dialect : Dialect) (key : Text) (Q : Members → Type 0)
+    → MovesAcceptance T draft2020_12 dialect key Q
+    → (document : Data) (ms : Members) → document ≡ object ms → IsMap (get_member key ms) → Everywhere (Named key Q) document
+    → (patterns : Patterns) (followed : ℕ) (v : Data)
+    → accepts dialect (T document) patterns followed (T document) v ≡ accepts draft2020_12 document patterns followed document v
+moved T dialect key Q law document ms is map all patterns followed v =
+    subst (λ d. Everywhere (Named key Q) d → accepts dialect (T d) patterns followed (T d) v
+    ≡ accepts draft2020_12 d patterns followed d v) (sym is)
+    (λ here. law ms map here patterns followed (object ms) v here) all
+
+-- one that keeps the number of definitions too
 accepts-moved : (T : Data → Data) (dialect : Dialect) (key : Text) (Q : Members → Type 0)
     → MovesAcceptance T draft2020_12 dialect key Q
     → (document : Data) (ms : Members) → document ≡ object ms → IsMap (get_member key ms) → Everywhere (Named key Q) document
@@ -37,14 +49,8 @@ accepts-moved : (T : Data → Data) (dialect : Dialect) (key : Text) (Q : Member
     → count_of_definitions path (T document) ≡ count_of_definitions path document
     → AcceptsItsValues rows contract path n document document → AcceptsItsValuesUnder dialect rows contract path n (T document)
 accepts-moved T dialect key Q law document ms is map all rows contract path n same accept patterns v json followed bounded =
-    moved ∙ accept patterns v json followed (subst (λ c. (depth v + 1) * (c + 2) ≤ followed) same bounded)
-  where
-    moved : accepts dialect (T document) patterns followed (T document) v
-        ≡ accepts draft2020_12 document patterns followed document v
-    moved =
-        subst (λ d. Everywhere (Named key Q) d → accepts dialect (T d) patterns followed (T d) v
-        ≡ accepts draft2020_12 d patterns followed d v) (sym is)
-        (λ here. law ms map here patterns followed (object ms) v here) all
+    moved T dialect key Q law document ms is map all patterns followed v
+    ∙ accept patterns v json followed (subst (λ c. (depth v + 1) * (c + 2) ≤ followed) same bounded)
 
 -- the document before the transforms
 pub ready-has : (R : Text → Type 0) (key : Text) (definitions : Members) (document : Data) → IsReady R key definitions document
@@ -56,7 +62,7 @@ ready-has R key definitions document ready = record {
   stay = subst (λ es. Stay definitions es) (sym ready.stands) (stay-same definitions);
 }
 
-not-properties : (path key : Text) → StandsAt path key → key ≢ codes "properties"
+pub not-properties : (path key : Text) → StandsAt path key → key ≢ codes "properties"
 not-properties path key (inl at) same = differ (codes "$defs") (codes "properties") refl (sym at.1 ∙ same)
 not-properties path key (inr at) same = differ (codes "definitions") (codes "properties") refl (sym at.1 ∙ same)
 

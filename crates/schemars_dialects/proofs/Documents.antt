@@ -72,7 +72,7 @@ module _ (R : Text → Type 0) where
     inside = (tt, tt);
   })
 
-  are-typed : (name : Text) (ms : Members) → AreGood R ms → AreGood R (put (codes "type") (string name) ms)
+  pub are-typed : (name : Text) (ms : Members) → AreGood R ms → AreGood R (put (codes "type") (string name) ms)
   are-typed name ms is = are-put R (codes "type") (string name) ms refl tt is
 
   pub formatted-good : (format : Text) → IsGood R (formatted_document format)
@@ -189,7 +189,7 @@ module _ (R : Text → Type 0) where
 
   -- ---- choices
 
-  asked-items : (ts : List Data) → AllGood ts → asked_of_items (Class R) (items_of ts)
+  pub asked-items : (ts : List Data) → AllGood ts → asked_of_items (Class R) (items_of ts)
   unfolding asked
   asked-items [] is = tt
   asked-items (t ∷ ts) is = (is.0.everywhere, asked-items ts is.1)
@@ -211,7 +211,7 @@ module _ (R : Text → Type 0) where
   -- ---- maps
 
   -- schemas by name, in place of any under these names
-  asked-named : (k : Text) (d : Data) (ms : Members) → IsGood R d → asked_of_members (Class R) ms
+  pub asked-named : (k : Text) (d : Data) (ms : Members) → IsGood R d → asked_of_members (Class R) ms
       → asked_of_members (Class R) (put k d ms)
   unfolding asked
   asked-named k d no_members is all = (is.everywhere, tt)

@@ -8,3 +8,4 @@ pub mod Accepting
 pub mod ReferencesKept
 pub mod Resolving
 pub mod DialectRoots
+pub mod Samples

@@ -99,7 +99,7 @@ module _ (R : Text → Type 0) where
       go true = is
       go false = are-put R (codes "title") (string name) ms refl tt is
 
-  are-with_meta_schema : (uri : Option Text) (ms : Members) → AreGood R ms → AreGood R (with_meta_schema uri ms)
+  pub are-with_meta_schema : (uri : Option Text) (ms : Members) → AreGood R ms → AreGood R (with_meta_schema uri ms)
   are-with_meta_schema None ms is = is
   are-with_meta_schema (Some uri) ms is = are-put R (codes "$schema") (string uri) ms refl tt is
 
@@ -129,7 +129,7 @@ pub record IsReady (R : Text → Type 0) (key : Text) (definitions : Members) (d
   pub is_map : IsMap (get_member key inside)
   pub stands : entries (get_member key inside) ≡ definitions
 
-placed-ready : (R : Text → Type 0) (path key : Text) (definitions ms : Members) (document : Data) → StandsAt path key
+pub placed-ready : (R : Text → Type 0) (path key : Text) (definitions ms : Members) (document : Data) → StandsAt path key
     → AllMembers (IsGood R) definitions → AreGood R ms → get_member key ms ≡ None → IsPlaced path definitions (object ms) document
     → IsReady R key definitions document
 placed-ready R path key definitions ms document at all is none (inl placed) =

@@ -1,13 +1,17 @@
 //! Root documents from example values.
-ghost use Rattle.std.specs.Prelude.{◌≡◌, false, IfOk, IfErr};
+ghost use Rattle.std.specs.Prelude.{[], ◌≡◌, false, codes, IfOk, IfErr};
+ghost use Rattle.schemars_schema.specs.Acceptance.{draft07, draft2019_09};
+ghost use Rattle.schemars_dialects.specs.Dialects.{SampleHeadlineUnder};
 ghost use Rattle.schemars_headline.specs.Headline.{IsDraftPath};
 ghost use Rattle.schemars_headline.specs.State.{path_of};
 ghost use Rattle.schemars_roots.specs.Samples.{IsSampleRoot, IsSampleRefused, IsSampleRefusedThrough};
 ghost use Rattle.schemars_roots.specs.Through.{IsThrough};
+ghost use Rattle.schemars_sample.specs.Accepted.{AcceptsExample};
 ghost use Rattle.schemars_sample.specs.Example.{example_of};
 ghost use Rattle.schemars_transforms.specs.BuiltIn.{IsMadeBy};
 ghost use Rattle.schemars_transforms.specs.Member.{some_own};
 ghost use Rattle.schemars_generate.specs.Settings.{settings_of, state, ApplyInOrder};
+ghost use Rattle.schemars_generate.specs.Settings.{transforms07, transforms2019_09};
 
 use crate::generate::SchemaGenerator;
 use schemars_error::GenerateError;
@@ -19,7 +23,8 @@ use std::mem;
 
 impl<O: Transform + Drop> SchemaGenerator<O> {
     /// The root document of an example, with the definitions, through the transforms: a schema that is made from the values
-    /// in it. Before the transforms it accepts the example, where the definitions stand at the path of a draft. The example
+    /// in it. Before the transforms it accepts the example, where the definitions stand at the path of a draft; so it does
+    /// after those of Draft 7 and of 2019-09, under that draft, with the definitions of a plain table at its path. The example
     /// itself stands under `examples`, unless a whole number in it is not from -2^63 to 2^64 - 1.
     ///
     /// Refusals: `DefinitionsPath` where there are definitions that can't be placed at the path, those of the transforms,
@@ -29,6 +34,12 @@ impl<O: Transform + Drop> SchemaGenerator<O> {
         alloc: Global,
         value: &Sample,
     ) -> Result<Schema, GenerateError>
+        ensures accepts { self.old.settings.transforms.items ≡ [] → IsDraftPath (path_of (state self.old))
+            → IfOk result (AcceptsExample (example_of value.now)) }
+        ensures draft07 { self.old.settings.transforms.items ≡ transforms07
+            → IfOk result (SampleHeadlineUnder draft07 (codes "/definitions") (state self.old) (example_of value.now)) }
+        ensures draft2019_09 { self.old.settings.transforms.items ≡ transforms2019_09
+            → IfOk result (SampleHeadlineUnder draft2019_09 (codes "/$defs") (state self.old) (example_of value.now)) }
         ensures built_in { some_own self.old.settings.transforms.items ≡ false
             → IfOk result (IsMadeBy self.old.settings.transforms.items
             (IsSampleRoot (settings_of self.old.settings) self.old.contents.definitions (example_of value.now))) }
@@ -59,6 +70,12 @@ impl<O: Transform + Drop> SchemaGenerator<O> {
         alloc: Global,
         value: &Sample,
     ) -> Result<Schema, GenerateError>
+        ensures accepts { self.settings.transforms.items ≡ [] → IsDraftPath (path_of (state self))
+            → IfOk result (AcceptsExample (example_of value.now)) }
+        ensures draft07 { self.settings.transforms.items ≡ transforms07
+            → IfOk result (SampleHeadlineUnder draft07 (codes "/definitions") (state self) (example_of value.now)) }
+        ensures draft2019_09 { self.settings.transforms.items ≡ transforms2019_09
+            → IfOk result (SampleHeadlineUnder draft2019_09 (codes "/$defs") (state self) (example_of value.now)) }
         ensures built_in { some_own self.settings.transforms.items ≡ false → IfOk result (IsMadeBy self.settings.transforms.items
             (IsSampleRoot (settings_of self.settings) self.contents.definitions (example_of value.now))) }
         ensures root { IfOk result (λ d. (after : _) × IsThrough (ApplyInOrder O.makes) self.settings.transforms after

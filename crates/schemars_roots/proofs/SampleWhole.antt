@@ -1,25 +1,24 @@
 -- The numbers in the document of an example are whole.
-use Rattle.std.proofs.Common.{◌≡◌, ℕ, List, [], ◌∷◌, ◌++◌, map, Option, Some, None, Bool, true, false, refl, option_map}
+use Rattle.std.proofs.Common.{◌≡◌, ℕ, List, [], ◌∷◌, map, Option, Some, None, false, refl, option_map}
 use Rattle.std.proofs.lemmas.Bool.{cond_both}
-use Rattle.std.specs.Prelude.{codes, if◌then◌else◌, option_and_then}
+use Rattle.std.specs.Prelude.{codes, option_and_then}
 use Rattle.std.specs.List.{AllByRecursion}
 use Rattle.std.specs.Option.{IfSome}
-use Rattle.serde_json.specs.Data.{Data, boolean, number, unsigned, string, array, object, no_items, item, Members, no_members, put}
+use Rattle.serde_json.specs.Data.{Data, number, unsigned, string, array, object, no_items, item, Members, no_members, put}
 use Rattle.serde_json.specs.Find.{of_integer}
-use Rattle.serde_json.specs.View.{items_of}
 use Rattle.serde_json.specs.Written.{has_float, members_have_float}
-use Rattle.schemars_json.specs.Json.{Text, is_among}
+use Rattle.schemars_json.specs.Json.{Text}
 use Rattle.schemars_schema.specs.SchemaData.{members_in}
 use Rattle.schemars_schema.proofs.Contents.{members_have_float-put}
-use Rattle.schemars_meaning.proofs.Parts.{either}
 use Rattle.schemars_sample.specs.Example.{Example, truth, whole, character, text, bytes, no_value, some_value}
 use Rattle.schemars_sample.specs.Example.{unit_struct, unit_variant, newtype_struct, newtype_variant, seq, tuple}
 use Rattle.schemars_sample.specs.Example.{tuple_variant, struct, collected_map, struct_variant}
 use Rattle.schemars_sample.specs.Example.{Examples, no_examples, example, Entries, no_entries, entry}
 use Rattle.schemars_sample.specs.SampleJson.{sample_json, items_json, entries_json, array_of, named, are_bytes}
 use Rattle.schemars_sample.specs.SampleSchema.{sample_schema, item_schemas, entry_schemas, value_schemas}
-use Rattle.schemars_sample.specs.SampleSchema.{holds_everything, each_once, choice_of, one_beside, are_all, shared_by}
+use Rattle.schemars_sample.specs.SampleSchema.{choice_of, one_beside, shared_by}
 use Rattle.schemars_sample.specs.SampleSchema.{titled_schema, with_name, with_example, sample_root}
+use Rattle.schemars_sample.proofs.Choices.{one_beside-holds, shared_by-holds}
 use Rattle.schemars_headline.proofs.Floats.{bound_whole, whole_items, whole_allow_null, whole_members_in, whole_with_meta_schema}
 
 abbrev IsWhole : Data → Type 0
@@ -86,31 +85,16 @@ mutual
 
 -- ---- its schema
 
-behind_whole : (ds : List Data) (d : Data) → AreWhole ds → IsWhole d → AreWhole (ds ++ d ∷ [])
-behind_whole [] d h new = (new, tt)
-behind_whole (e ∷ ds) d h new = (h.0, behind_whole ds d h.1 new)
-
-each_once_whole : (seen ds : List Data) → AreWhole seen → AreWhole ds → AreWhole (each_once seen ds)
-each_once_whole seen [] h new = h
-each_once_whole seen (d ∷ ds) h new = go (is_among (items_of seen) d) (λ ts are. each_once_whole ts ds are new.1)
-  where
-    go : (b : Bool) → ((ts : List Data) → AreWhole ts → AreWhole (each_once ts ds))
-        → AreWhole (if b then each_once seen ds else each_once (seen ++ d ∷ []) ds)
-    go true rest = rest seen h
-    go false rest = rest (seen ++ d ∷ []) (behind_whole seen d h new.0)
-
 choice_whole : (ds : List Data) → AreWhole ds → IsWhole (choice_of ds)
 choice_whole [] h = refl
 choice_whole (d ∷ []) h = h.0
 choice_whole (d ∷ e ∷ ds) h = rw (whole_items (d ∷ e ∷ ds) h) refl
 
 one_whole : (ds : List Data) → AreWhole ds → IsWhole (one_beside [] ds)
-one_whole ds h = either IsWhole (holds_everything ds) (boolean true) (choice_of (each_once [] ds)) refl
-    (choice_whole (each_once [] ds) (each_once_whole [] ds tt h))
+one_whole ds h = one_beside-holds IsWhole refl choice_whole ds h
 
 shared_whole : (ds : List Data) → AreWhole ds → IsWhole (shared_by ds)
-shared_whole [] h = refl
-shared_whole (d ∷ ds) h = either IsWhole (are_all d ds) d (boolean true) h.0 refl
+shared_whole ds h = shared_by-holds IsWhole refl ds h
 
 mutual
   schema_whole : (x : Example) → IsWhole (sample_schema x)

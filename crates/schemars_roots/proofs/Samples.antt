@@ -1,7 +1,6 @@
 -- Definitions beside the document of an example.
-use Rattle.std.proofs.Common.{◌≡◌, inl, inr, Option, Some, None, refl, sym, ap, ◌∙◌, subst}
+use Rattle.std.proofs.Common.{◌≡◌, inl, inr, Some, None, refl, sym, subst}
 use Rattle.serde_json.specs.Data.{Data, object, Members}
-use Rattle.serde_json.specs.Find.{get_member}
 use Rattle.schemars_json.specs.Json.{Text}
 use Rattle.schemars_schema.specs.SchemaData.{members_in}
 use Rattle.schemars_schema.proofs.Objects.{IsSilent}
@@ -9,19 +8,14 @@ use Rattle.schemars_sample.specs.Example.{Example}
 use Rattle.schemars_sample.specs.SampleSchema.{sample_root}
 use Rattle.schemars_sample.specs.Accepted.{AcceptsExample}
 use Rattle.schemars_sample.proofs.Accepting.{accepts-put}
-use Rattle.schemars_sample.proofs.Unplaced.{root_free}
 use Rattle.schemars_headline.specs.State.{Settings, stripped}
-use Rattle.schemars_headline.specs.Headline.{with_definitions}
-use Rattle.schemars_headline.proofs.Keys.{IsDefinitionsKey}
+use Rattle.schemars_headline.specs.Headline.{IsDraftPath, with_definitions}
+use Rattle.schemars_headline.specs.Keys.{HasKeysOnce}
 use Rattle.schemars_headline.proofs.Placed.{StandsAt, IsPlaced, placing, placed_in}
 use Rattle.schemars_headline.proofs.Floats.{whole_with_definitions}
+use Rattle.schemars_dialects.proofs.Samples.{definitions_free, draft07_sample, draft2019_09_sample}
 use Rattle.schemars_roots.proofs.SampleWhole.{sample_whole}
-use Rattle.schemars_roots.specs.Samples.{IsSampleRoot, CannotPlaceSample}
-
-definitions_free : (meta_schema : Option Text) (x : Example) (key : Text) → IsDefinitionsKey key
-    → get_member key (members_in (sample_root meta_schema x)) ≡ None
-definitions_free meta_schema x key (inl is) = ap (λ k. get_member k (members_in (sample_root meta_schema x))) is ∙ (root_free meta_schema x).0
-definitions_free meta_schema x key (inr is) = ap (λ k. get_member k (members_in (sample_root meta_schema x))) is ∙ (root_free meta_schema x).1
+use Rattle.schemars_roots.specs.Samples.{holding, IsSampleRoot, CannotPlaceSample}
 
 silent_key : (path key : Text) → StandsAt path key → IsSilent key
 silent_key path key (inl is) = rw (is.1) refl
@@ -34,16 +28,20 @@ accepts_placed path definitions ms x d (inl is) own = subst (AcceptsExample x) (
 accepts_placed path definitions ms x d (inr (key, at, is)) own =
     subst (AcceptsExample x) (sym is) (accepts-put x key (object definitions) ms (silent_key path key at) own)
 
-pub sample_made : (s : Settings) (definitions : Members) (x : Example) (d : Data)
+pub sample_made : (s : Settings) (definitions : Members) (x : Example) (d : Data) → HasKeysOnce definitions
     → AcceptsExample x (sample_root s.meta_schema x)
     → with_definitions (stripped s.definitions_path) definitions (sample_root s.meta_schema x) ≡ Some d → IsSampleRoot s definitions x d
-sample_made s definitions x d own made =
+sample_made s definitions x d once own made =
     let path = stripped s.definitions_path in
     let ms = members_in (sample_root s.meta_schema x) in
+    let fits : IsDraftPath path → AcceptsExample x d =
+    λ draft. accepts_placed path definitions ms x d
+    (placed_in path definitions ms d draft (definitions_free s.meta_schema x) made) own in
     record {
       placed = made;
-      accepts = λ draft. accepts_placed path definitions ms x d
-          (placed_in path definitions ms d draft (definitions_free s.meta_schema x) made) own;
+      accepts = fits;
+      draft07 = λ rows names. draft07_sample (holding s definitions rows names) x d once made fits;
+      draft2019_09 = λ rows names. draft2019_09_sample (holding s definitions rows names) x d once made fits;
       whole = λ none. whole_with_definitions path definitions (sample_root s.meta_schema x) d none (sample_whole s.meta_schema x) made;
     }
 

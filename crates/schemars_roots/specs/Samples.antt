@@ -1,22 +1,32 @@
 -- Root documents of examples.
-use Rattle.std.specs.Prelude.{◌≡◌, ◌⊎◌, false, Some, None}
+use Rattle.std.specs.Prelude.{◌≡◌, ◌⊎◌, List, false, Some, None}
 use Rattle.serde_json.specs.Data.{Data, Members}
 use Rattle.serde_json.specs.Written.{has_float, members_have_float}
 use Rattle.schemars_walk.specs.Walk.{Step}
 use Rattle.schemars_sample.specs.Example.{Example}
 use Rattle.schemars_sample.specs.SampleSchema.{sample_root}
 use Rattle.schemars_sample.specs.Accepted.{AcceptsExample}
-use Rattle.schemars_headline.specs.State.{Settings, stripped}
+use Rattle.schemars_types.specs.Rows.{Row}
+use Rattle.schemars_naming.specs.Naming.{Naming}
+use Rattle.schemars_headline.specs.State.{Settings, State, stripped}
 use Rattle.schemars_headline.specs.Headline.{IsDraftPath, with_definitions}
+use Rattle.schemars_dialects.specs.Dialects.{Draft07Sample, Draft2019_09Sample}
 use Rattle.schemars_error.specs.declared.error.GenerateError.{GenerateError}
 use Rattle.schemars_error.specs.declared.error.GenerateError.TheVariants.{OutOfMemory, DefinitionsPath}
+use Rattle.schemars_roots.specs.Settings.{state_with}
 use Rattle.schemars_roots.specs.Through.{IsTurnedDown}
 
--- the document of an example with the definitions at the path of the settings; at a draft's path it accepts the example, and
--- the numbers in it are whole, where those in the definitions are
+-- a generator of these settings with these definitions, whatever its rows and their names
+abbrev pub holding : Settings → Members → List Row → Naming → State
+holding s definitions rows names = state_with s (record { rows = rows; names = names; definitions = definitions })
+
+-- the document of an example with the definitions at the path of the settings; at a draft's path it accepts the example, so does
+-- what is made of it for an older draft, and the numbers in it are whole, where those in the definitions are
 pub record IsSampleRoot (s : Settings) (definitions : Members) (x : Example) (d : Data) : Type 0 where
   pub placed : with_definitions (stripped s.definitions_path) definitions (sample_root s.meta_schema x) ≡ Some d
   pub accepts : IsDraftPath (stripped s.definitions_path) → AcceptsExample x d
+  pub draft07 : (rows : List Row) (names : Naming) → Draft07Sample (holding s definitions rows names) x d
+  pub draft2019_09 : (rows : List Row) (names : Naming) → Draft2019_09Sample (holding s definitions rows names) x d
   pub whole : members_have_float definitions ≡ false → has_float d ≡ false
 
 -- the definitions can't be placed in the document of an example; at a draft's path they can

@@ -2,6 +2,7 @@ pub mod Unplaced
 mod Views
 mod Members
 mod Forms
+pub mod Choices
 mod Listed
 mod Characters
 pub mod Accepting

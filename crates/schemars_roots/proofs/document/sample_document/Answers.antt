@@ -36,7 +36,7 @@ returns-clause-root c =
     let s = settings_of c.args.settings.now in
     let definitions = members_view c.args.definitions.entries in
     let x = example_of c.args.sample.now in
-    sample_made s definitions x c.in_ok-document.document
+    sample_made s definitions x c.in_ok-document.document c.in_ok-document.ensures.once
     (subst (AcceptsExample x) c.in_ok-own.ensures.document c.in_ok-own.ensures.accepts)
     (
     ap (λ p. with_definitions p definitions (sample_root s.meta_schema x)) (sym c.stripped-path.ensures)

@@ -1,13 +1,18 @@
-use Rattle.std.proofs.Common.{◌≡◌, Vec, Global, IfOk, IfErr, subst}
+use Rattle.std.proofs.Common.{◌≡◌, [], codes, Vec, Global, IfOk, IfErr, ap, subst}
+use Rattle.schemars_schema.specs.Acceptance.{draft07, draft2019_09}
+use Rattle.schemars_dialects.specs.Dialects.{SampleHeadlineUnder}
 use Rattle.schemars_headline.specs.Headline.{IsDraftPath}
 use Rattle.schemars_headline.specs.State.{Settings}
+use Rattle.schemars_sample.specs.Accepted.{AcceptsExample}
 use Rattle.schemars_sample.specs.Example.{example_of}
+use Rattle.schemars_transforms.specs.Member.{some_own}
 use Rattle.schemars_transforms.specs.declared.gen_transform.GenTransform.{GenTransform}
+use Rattle.schemars_roots.specs.Settings.{state_with}
 use Rattle.schemars_roots.specs.Samples.{IsSampleRoot, IsSampleRefusedThrough}
 use Rattle.schemars_roots.specs.Through.{IsThrough}
 use Rattle.std.proofs.lemmas.Result.{IfOk-weaker, IfErr-weaker}
-use Rattle.schemars_generate.specs.Settings.{settings_of, ApplyInOrder}
-use Rattle.schemars_generate.proofs.BuiltIns.{built_in, sample_built_in, sample_memory}
+use Rattle.schemars_generate.specs.Settings.{settings_of, ApplyInOrder, transforms07, transforms2019_09}
+use Rattle.schemars_generate.proofs.BuiltIns.{built_in, made_by_these, sample_built_in, sample_memory}
 use Rattle.schemars_generate.proofs.generate.SchemaGenerator.into_root_schema_for_value.Goals as goal
 
 abbrev Ts : Type 0 → Type 0
@@ -65,3 +70,36 @@ returns-clause-only_memory g c =
     λ none path.
     IfErr-weaker r _ _ (λ e h. sample_memory (settings_of before) old.definitions (example_of c.args.value.now) e path h)
     (returns-clause-refused_built_in g c none)
+
+pub returns-clause-accepts : goal.returns-clause-accepts
+returns-clause-accepts g c =
+    let r = c.into_sample_root.result in
+    let ts = c.args.self.settings.transforms.items in
+    let x = example_of c.args.value.now in
+    λ is path.
+    IfOk-weaker r _ _ (λ d h. made_by_these ts [] _ (AcceptsExample x) d is (λ e i. i.accepts path) h)
+    (returns-clause-built_in g c (ap some_own is))
+
+pub returns-clause-draft07 : goal.returns-clause-draft07
+returns-clause-draft07 g c =
+    let r = c.into_sample_root.result in
+    let ts = c.args.self.settings.transforms.items in
+    let held = c.args.self.contents in
+    let s = state_with (settings_of c.args.self.settings) held in
+    let x = example_of c.args.value.now in
+    λ is.
+    IfOk-weaker r _ _ (λ d h. made_by_these ts transforms07 _ (SampleHeadlineUnder draft07 (codes "/definitions") s x) d is
+    (λ e i. i.draft07 held.rows held.names) h)
+    (returns-clause-built_in g c (ap some_own is))
+
+pub returns-clause-draft2019_09 : goal.returns-clause-draft2019_09
+returns-clause-draft2019_09 g c =
+    let r = c.into_sample_root.result in
+    let ts = c.args.self.settings.transforms.items in
+    let held = c.args.self.contents in
+    let s = state_with (settings_of c.args.self.settings) held in
+    let x = example_of c.args.value.now in
+    λ is.
+    IfOk-weaker r _ _ (λ d h. made_by_these ts transforms2019_09 _ (SampleHeadlineUnder draft2019_09 (codes "/$defs") s x) d is
+    (λ e i. i.draft2019_09 held.rows held.names) h)
+    (returns-clause-built_in g c (ap some_own is))
