@@ -9,7 +9,7 @@ ODD_NAMES = ["a\nb", '"q"', "back\\slash", "\u0001", "\u007f", "🚀", "~0", "%"
              "a b|c`{}^", "\u2028", "$defs", "日本", "!$&'()*+,-.", ":;=?@_", "[x]", "\t", "\u0000"]
 # Names that further numbers make equal to each other.
 NUMBERED = [["Config", "Config2", "Config22", "Config3", "Config23", "Config222"], ["", "2", "22", "3", "23"],
-            ["T", "T1", "T10", "T2", "T3", "T4"], ["1", "11", "12", "2", "21"], ["é", "é2", "é3"], ["A"]]
+            ["Tree", "Tree1", "Tree10", "Tree2", "Tree3", "Tree4"], ["1", "11", "12", "2", "21"], ["é", "é2", "é3"], ["A"]]
 POOLS = [NAMES, NAMES, NAMES + ODD_NAMES, ["A", "B", "Config"], *NUMBERED]
 VARIANTS = ["U", "V", "W", "type", "a/b", "é", "A", "B", "x", "a", "", "x y", "properties", "$ref", "null"]
 TAGS = ["t", "type", "a", "tag", "x", "", "é", "properties"]
