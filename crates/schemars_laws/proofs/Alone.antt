@@ -6,17 +6,18 @@ use Rattle.serde_json.specs.Find.{get_member}
 use Rattle.serde_json.specs.Events.{members_len}
 use Rattle.schemars_schema.specs.Edits.{without}
 use Rattle.schemars_transform.specs.Built.{reference_moved, without_siblings, remove_ref_siblings}
-use Rattle.schemars_laws.specs.Everywhere.{Everywhere, asked, asked_of_keywords}
+use Rattle.schemars_laws.specs.Everywhere.{asked, asked_of_keywords}
 use Rattle.schemars_laws.specs.Classes.{IsOnce, IsReferenceAlone}
-use Rattle.schemars_laws.proofs.Looked.{walked, once-walked}
+use Rattle.schemars_laws.specs.Laws.{LeavesReferencesAlone}
+use Rattle.schemars_laws.proofs.Looked.{change_rules, walked, once-walked}
 use Rattle.schemars_laws.proofs.Apart.{differ}
 use Rattle.schemars_laws.proofs.Siblings.{schema-siblings, get-moved}
-use Rattle.schemars_laws.proofs.Preserved.{Preserves, after, asked-without}
-use Rattle.schemars_laws.proofs.Drafts.{asked-moved}
+use Rattle.schemars_laws.proofs.Preserved.{Preserves, after, change-preserves, asked-without}
+use Rattle.schemars_laws.proofs.Editing.{asked-moved}
 
-alone : Preserves without_siblings (IsOnce (codes "$ref")) IsReferenceAlone
+alone : Preserves (change_rules without_siblings) (IsOnce (codes "$ref")) IsReferenceAlone
 unfolding asked
-alone = record { schema = schema-siblings; of_truth = λ b. tt; of_object = go }
+alone = change-preserves without_siblings (IsOnce (codes "$ref")) IsReferenceAlone schema-siblings (λ b. tt) go
   where
     go : (ms : Members) → IsOnce (codes "$ref") ms → asked_of_keywords IsReferenceAlone (walked without_siblings ms)
         → (asked IsReferenceAlone (without_siblings (object (walked without_siblings ms)))).as_schema
@@ -37,5 +38,5 @@ alone = record { schema = schema-siblings; of_truth = λ b. tt; of_object = go }
           asked-moved IsReferenceAlone r (inr refl, (tt, tt)) ns a,
         )
 
-pub references-alone : (s : Data) → Everywhere (IsOnce (codes "$ref")) s → Everywhere IsReferenceAlone (remove_ref_siblings s)
-references-alone s once = after without_siblings (IsOnce (codes "$ref")) IsReferenceAlone alone s once
+pub references-alone : LeavesReferencesAlone remove_ref_siblings
+references-alone s once = after (change_rules without_siblings) (IsOnce (codes "$ref")) IsReferenceAlone alone tt s once

@@ -13,7 +13,7 @@ use Rattle.schemars_transform.specs.declared.bool_schemas.ReplaceBoolSchemas.{Re
 use Rattle.schemars_walk.specs.Rewritten.{in_keywords}
 use Rattle.schemars_laws.proofs.Seen.{judge_ext}
 use Rattle.schemars_laws.proofs.Kept.{IsTruth}
-use Rattle.schemars_laws.proofs.Named.{Moves}
+use Rattle.schemars_laws.proofs.Moved.{Moves}
 use Rattle.schemars_laws.proofs.Examples.{same-dialect}
 use Rattle.schemars_schema.proofs.Verdicts.{both-yes}
 use Rattle.schemars_laws.proofs.Siblings.{items-none, const-none, unevaluated-none, and-false}
@@ -88,9 +88,11 @@ place-bool r k d = go r.skip_additional_properties (bytes_eq k (codes "additiona
 
 pub bool_schemas : (key : Text) (dialect : Dialect) (Q : Members → Type 0) → Moves bool_rules key dialect dialect Q
 bool_schemas key dialect Q = record {
-  place = place-bool;
-  schema = λ r s is. tt;
-  of_truth = λ c r b is. judge-truth c b;
-  of_object = λ c r ms is q. same-dialect c dialect (in_keywords bool_rules r ms) is;
+  rewrites = record {
+    place = place-bool;
+    schema = λ r s is. tt;
+    of_truth = λ c r b is. judge-truth c b;
+    of_object = λ c r ms is q. same-dialect c dialect (in_keywords bool_rules r ms) is;
+  };
   definitions = λ r ms. (ms, refl, refl);
 }

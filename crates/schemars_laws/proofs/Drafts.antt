@@ -1,31 +1,28 @@
 -- What documents accept after all transforms of Draft 7, and after that of 2019-09.
-use Rattle.std.proofs.Common.{◌≡◌, ◌≢◌, ℕ, Option, Some, None, Bool, true, false, codes, refl, sym, ap, ◌∙◌, subst}
-use Rattle.std.specs.Prelude.{bytes_eq, if◌then◌else◌, option_and_then, ◌==◌}
-use Rattle.std.proofs.lemmas.Slice.Eq.{bytes_eq-Decides}
-use Rattle.serde_json.specs.Data.{Data, null, boolean, number, string, array, object, Items, no_items, item, Members, no_members, member, put}
+use Rattle.std.proofs.Common.{◌≡◌, ◌≢◌, ℕ, Option, Some, None, Bool, true, false, codes, refl, sym, ◌∙◌, subst}
+use Rattle.std.specs.Prelude.{if◌then◌else◌, option_and_then, ◌==◌}
+use Rattle.serde_json.specs.Data.{Data, object, Members, no_members, member}
 use Rattle.serde_json.specs.Find.{get_member, as_str}
 use Rattle.serde_json.specs.Events.{members_len}
 use Rattle.schemars_json.specs.Json.{Text}
-use Rattle.schemars_schema.specs.Edits.{without, replaced}
+use Rattle.schemars_schema.specs.Edits.{without}
 use Rattle.schemars_schema.specs.References.{NoSchemas, OneSchema, SchemaList, SchemasByName, place_under}
 use Rattle.schemars_schema.specs.Acceptance.{Dialect, Patterns, accepts, draft2020_12, draft2019_09, draft07}
-use Rattle.schemars_rewrite.specs.AllowNull.{with_item}
-use Rattle.schemars_rewrite.specs.Properties.{with_last}
-use Rattle.schemars_transform.specs.Built.{reference, reference_moved, without_siblings, remove_ref_siblings, replace_prefix_items}
+use Rattle.schemars_transform.specs.Built.{reference_moved, without_siblings, remove_ref_siblings, replace_prefix_items}
 use Rattle.schemars_gen_transform.specs.Unevaluated.{unevaluated_as_additional, closed_by, replace_unevaluated_properties}
-use Rattle.schemars_laws.specs.Everywhere.{Everywhere, asked, asked_of_items, asked_of_keywords}
-use Rattle.schemars_laws.specs.Names.{HasName, IsNamed, IsNoObject, Named, IsMap}
+use Rattle.schemars_laws.specs.Everywhere.{Everywhere, asked, asked_of_keywords}
+use Rattle.schemars_laws.specs.Names.{IsName, IsNamedBy, HasNameOf, IsNoObject, Named, IsMap}
 use Rattle.schemars_laws.specs.Classes.{IsOnce, HasPlainItems, HasPlainReference, HasNoUnevaluated, IsDraft07}
-use Rattle.schemars_laws.specs.Laws.{MovesAcceptance}
+use Rattle.schemars_laws.specs.Laws.{MovesAcceptance, for_draft07, for_draft2019_09}
 use Rattle.schemars_laws.specs.Classes.{alone_by, without_unevaluated}
-use Rattle.schemars_laws.proofs.Laws.{replace_unevaluated_properties-law, remove_ref_siblings-law, replace_prefix_items-law, other, none}
-use Rattle.schemars_laws.proofs.Looked.{get_member-first, unequal, without-other, walked, changed-document}
+use Rattle.schemars_laws.proofs.Laws.{replace_unevaluated_properties-at, remove_ref_siblings-at, replace_prefix_items-at, other, none}
+use Rattle.schemars_laws.proofs.Looked.{without-other, change_rules, walked, items-walked, changed-document}
 use Rattle.schemars_laws.proofs.Apart.{differ}
-use Rattle.schemars_laws.proofs.Siblings.{schema-siblings, definitions-stay as siblings-stay, replaced-other, moved_members, get-moved}
-use Rattle.schemars_laws.proofs.Nullable.{without-put}
+use Rattle.schemars_laws.proofs.Siblings.{schema-siblings, definitions-stay as siblings-stay, moved_members, get-moved}
+use Rattle.schemars_laws.proofs.Editing.{alike-moved, asked-moved}
 use Rattle.schemars_laws.proofs.Unevaluated.{schema-unevaluated, none-kept, definitions-stay as unevaluated-stay}
-use Rattle.schemars_laws.proofs.Preserved.{Preserves, after, weaker, asked-without, asked-put, asked-replaced, asked-get}
-use Rattle.schemars_laws.proofs.Plain.{named-walked, closed-walked, reference-walked, items-walked, Alike, name-alike, reference-alike, items-alike, alike-without, without-swap}
+use Rattle.schemars_laws.proofs.Preserved.{Preserves, after, change-preserves, weaker, asked-without}
+use Rattle.schemars_laws.proofs.Plain.{named-walked, closed-walked, reference-walked, name-alike, reference-alike, items-alike, alike-without}
 
 -- ---- kinds of schema objects, at each step
 
@@ -33,17 +30,17 @@ abbrev WithReferences : Members → Type 0
 WithReferences ms = HasPlainReference ms × HasPlainItems ms
 
 -- `unevaluatedProperties` that are not there leave the others as they are
-after-unevaluated : (key : Text) → Preserves unevaluated_as_additional (Named key IsDraft07) (Named key WithReferences)
+after-unevaluated : (key : Text) → Preserves (change_rules unevaluated_as_additional) (Named key IsDraft07) (Named key WithReferences)
 unfolding asked
-after-unevaluated key = record { schema = schema-unevaluated; of_truth = λ b. tt; of_object = go }
+after-unevaluated key = change-preserves unevaluated_as_additional (Named key IsDraft07) (Named key WithReferences) schema-unevaluated (λ b. tt) go
   where
     kept : (ms : Members) → Named key IsDraft07 ms → Named key WithReferences (without (codes "unevaluatedProperties") (walked unevaluated_as_additional ms))
     kept ms is =
         let ns = walked unevaluated_as_additional ms in
         let none : get_member (codes "unevaluatedProperties") (without (codes "unevaluatedProperties") ns) ≡ None =
         (none-kept ms is.2.0).0 in (
-          name-alike key (without (codes "unevaluatedProperties") ns) ns (alike-without (codes "$ref") (codes "unevaluatedProperties") ns refl)
-              (named-walked unevaluated_as_additional key ms is.0),
+          name-alike (IsName key) (without (codes "unevaluatedProperties") ns) ns (alike-without (codes "$ref") (codes "unevaluatedProperties") ns refl)
+              (named-walked unevaluated_as_additional (IsName key) ms is.0),
           subst IsNoObject (sym none) tt,
           (
             reference-alike (without (codes "unevaluatedProperties") ns) ns (alike-without (codes "$ref") (codes "unevaluatedProperties") ns refl)
@@ -63,93 +60,24 @@ after-unevaluated key = record { schema = schema-unevaluated; of_truth = λ b. t
 
 -- ---- a reference that has moved
 
-without-replaced : (k l : Text) (d : Data) (ms : Members) → k ≢ l → get_member k (without k (replaced l d ms)) ≡ get_member k (without k ms)
-without-replaced k l d no_members apart = refl
-without-replaced k l d (member j e ms) apart = go (bytes_eq l j) refl (bytes_eq k j) refl (without-replaced k l d ms apart)
-  where
-    go : (b : Bool) → bytes_eq l j ≡ b → (a : Bool) → bytes_eq k j ≡ a → get_member k (without k (replaced l d ms)) ≡ get_member k (without k ms)
-        → get_member k (without k (if b then member j d ms else member j e (replaced l d ms)))
-        ≡ get_member k (if a then ms else member j e (without k ms))
-    go true at_l a at_k rest =
-        let other : bytes_eq k j ≡ false = unequal k j (λ same. apart (same ∙ sym ((bytes_eq-Decides l j).0 at_l))) in
-        ap (λ b. get_member k (if b then ms else member j d (without k ms))) other
-        ∙ (get_member-first k j d (without k ms) ∙ (ap (λ b. if b then Some d else get_member k (without k ms)) other
-        ∙ sym (ap (λ b. get_member k (if b then ms else member j e (without k ms))) (sym at_k ∙ other)
-        ∙ (get_member-first k j e (without k ms) ∙ ap (λ b. if b then Some e else get_member k (without k ms)) other))))
-    go false at_l true at_k rest =
-        ap (λ b. get_member k (if b then replaced l d ms else member j e (without k (replaced l d ms)))) at_k ∙ replaced-other l k d ms apart
-    go false at_l false at_k rest =
-        ap (λ b. get_member k (if b then replaced l d ms else member j e (without k (replaced l d ms)))) at_k
-        ∙ (get_member-first k j e (without k (replaced l d ms))
-        ∙ (ap (λ o. if bytes_eq k j then Some e else o) rest ∙ sym (get_member-first k j e (without k ms))))
-
-without-moved : (r : Data) (k : Text) (ms : Members) → k ≢ codes "allOf"
-    → get_member k (without k (moved_members r ms)) ≡ get_member k (without k (without (codes "$ref") ms))
-without-moved r k ms other = go (get_member (codes "allOf") (without (codes "$ref") ms))
-  where
-    go : (o : Option Data) → get_member k (without k (elim o [
-      | None ↦ put (codes "allOf") (with_last (reference r) (array no_items)) (without (codes "$ref") ms)
-      | Some e ↦ replaced (codes "allOf") (with_last (reference r) e) (without (codes "$ref") ms)
-    ])) ≡ get_member k (without k (without (codes "$ref") ms))
-    go None = without-put k (codes "allOf") (with_last (reference r) (array no_items)) (without (codes "$ref") ms) other
-    go (Some e) = without-replaced k (codes "allOf") (with_last (reference r) e) (without (codes "$ref") ms) other
-
-alike-moved : (r : Data) (k : Text) (ms : Members) → bytes_eq k (codes "allOf") ≡ false → bytes_eq k (codes "$ref") ≡ false → Alike k (moved_members r ms) ms
-alike-moved r k ms all ref = record {
-  first = get-moved r ms k (differ k (codes "allOf") all) ∙ without-other (codes "$ref") k ms (differ k (codes "$ref") ref);
-  others = without-moved r k ms (differ k (codes "allOf") all) ∙ without-swap k (codes "$ref") ms (differ k (codes "$ref") ref);
-}
-
--- the list with the reference behind it
-items-last : (Q : Members → Type 0) (ds : Items) (d : Data) → asked_of_items Q ds → (asked Q d).as_schema → asked_of_items Q (with_item ds d)
+after-siblings : (key : Text) → Preserves (change_rules without_siblings) (Named key WithReferences) (Named key HasPlainItems)
 unfolding asked
-items-last Q no_items d a here = (here, tt)
-items-last Q (item e ds) d a here = (a.0, items-last Q ds d a.1 here)
-
-module _ (Q : Members → Type 0) (r : Data) (here : (asked Q (reference r)).as_schema) where
-  list-longer : (e : Data) → (asked Q e).as_list → (asked Q (with_last (reference r) e)).as_list
-  unfolding asked
-  list-longer null a = tt
-  list-longer (boolean b) a = tt
-  list-longer (number n) a = tt
-  list-longer (string s) a = tt
-  list-longer (array ds) a = items-last Q ds (reference r) a here
-  list-longer (object ms) a = tt
-
-  pub asked-moved : (ms : Members) → asked_of_keywords Q ms → asked_of_keywords Q (moved_members r ms)
-  unfolding asked
-  asked-moved ms a = go (get_member (codes "allOf") (without (codes "$ref") ms)) refl
-    where
-      old : asked_of_keywords Q (without (codes "$ref") ms)
-      old = asked-without Q (codes "$ref") ms a
-
-      go : (o : Option Data) → get_member (codes "allOf") (without (codes "$ref") ms) ≡ o → asked_of_keywords Q (elim o [
-        | None ↦ put (codes "allOf") (with_last (reference r) (array no_items)) (without (codes "$ref") ms)
-        | Some e ↦ replaced (codes "allOf") (with_last (reference r) e) (without (codes "$ref") ms)
-      ])
-      go None is = asked-put Q (codes "allOf") (with_last (reference r) (array no_items)) (without (codes "$ref") ms) (here, tt) old
-      go (Some e) is =
-          asked-replaced Q (codes "allOf") (with_last (reference r) e) (without (codes "$ref") ms)
-          (list-longer e (asked-get Q (codes "allOf") (without (codes "$ref") ms) e is old)) old
-
-after-siblings : (key : Text) → Preserves without_siblings (Named key WithReferences) (Named key HasPlainItems)
-unfolding asked
-after-siblings key = record { schema = schema-siblings; of_truth = λ b. tt; of_object = go }
+after-siblings key = change-preserves without_siblings (Named key WithReferences) (Named key HasPlainItems) schema-siblings (λ b. tt) go
   where
     Q : Members → Type 0
     Q = Named key HasPlainItems
 
     -- of what the walk left
-    stay : (ns : Members) → HasName key ns → IsNoObject (get_member (codes "unevaluatedProperties") ns) → HasPlainItems ns → Q ns
+    stay : (ns : Members) → HasNameOf (IsName key) ns → IsNoObject (get_member (codes "unevaluatedProperties") ns) → HasPlainItems ns → Q ns
     stay ns name closed items = (name, closed, items)
 
-    alone : (r : Data) (ns : Members) → get_member (codes "$ref") ns ≡ Some r → HasName key ns → Q (member (codes "$ref") r no_members)
-    alone r ns here name = (subst (λ o. IsNamed key (option_and_then as_str o)) here name, tt, (refl, tt, tt, refl))
+    alone : (r : Data) (ns : Members) → get_member (codes "$ref") ns ≡ Some r → HasNameOf (IsName key) ns → Q (member (codes "$ref") r no_members)
+    alone r ns here name = (subst (λ o. IsNamedBy (IsName key) (option_and_then as_str o)) here name, tt, (refl, tt, tt, refl))
 
     gone : (ns : Members) → IsOnce (codes "$ref") ns → IsNoObject (get_member (codes "unevaluatedProperties") ns) → HasPlainItems ns
         → Q (without (codes "$ref") ns)
     gone ns once closed items = (
-      subst (λ o. IsNamed key (option_and_then as_str o)) (sym once) tt,
+      subst (λ o. IsNamedBy (IsName key) (option_and_then as_str o)) (sym once) tt,
       subst IsNoObject (sym (without-other (codes "$ref") (codes "unevaluatedProperties") ns (differ (codes "unevaluatedProperties") (codes "$ref") refl))) closed,
       items-alike (without (codes "$ref") ns) ns (alike-without (codes "prefixItems") (codes "$ref") ns refl)
           (alike-without (codes "items") (codes "$ref") ns refl) (alike-without (codes "additionalItems") (codes "$ref") ns refl) items,
@@ -158,7 +86,7 @@ after-siblings key = record { schema = schema-siblings; of_truth = λ b. tt; of_
     moved : (r : Data) (ns : Members) → IsOnce (codes "$ref") ns → IsNoObject (get_member (codes "unevaluatedProperties") ns) → HasPlainItems ns
         → Q (moved_members r ns)
     moved r ns once closed items = (
-      subst (λ o. IsNamed key (option_and_then as_str o))
+      subst (λ o. IsNamedBy (IsName key) (option_and_then as_str o))
           (sym (get-moved r ns (codes "$ref") (differ (codes "$ref") (codes "allOf") refl) ∙ once)) tt,
       subst IsNoObject (sym (alike-moved r (codes "unevaluatedProperties") ns refl refl).first) closed,
       items-alike (moved_members r ns) ns (alike-moved r (codes "prefixItems") ns refl refl) (alike-moved r (codes "items") ns refl refl)
@@ -172,8 +100,8 @@ after-siblings key = record { schema = schema-siblings; of_truth = λ b. tt; of_
         ns : Members
         ns = walked without_siblings ms
 
-        name : HasName key ns
-        name = named-walked without_siblings key ms is.0
+        name : HasNameOf (IsName key) ns
+        name = named-walked without_siblings (IsName key) ms is.0
 
         closed : IsNoObject (get_member (codes "unevaluatedProperties") ns)
         closed = closed-walked without_siblings ms is.1
@@ -202,7 +130,7 @@ at-document T old new key Q law document ns is map all patterns n part v part_is
 
 module _ (key : Text) (at : place_under key ≡ SchemasByName) (apart : key ≢ codes "properties") where
   -- in a document without `unevaluatedProperties`
-  pub draft07-law : MovesAcceptance (λ s. replace_prefix_items (remove_ref_siblings (replace_unevaluated_properties s))) draft2020_12 draft07 key IsDraft07
+  pub draft07-law : MovesAcceptance for_draft07 draft2020_12 draft07 key IsDraft07
   draft07-law ms map is patterns n part v part_is =
       last ∙ (middle ∙ first)
     where
@@ -213,10 +141,10 @@ module _ (key : Text) (at : place_under key ≡ SchemasByName) (apart : key ≢ 
       two s = remove_ref_siblings (one s)
 
       is-one : (d : Data) → Everywhere (Named key IsDraft07) d → Everywhere (Named key WithReferences) (one d)
-      is-one d all = after unevaluated_as_additional (Named key IsDraft07) (Named key WithReferences) (after-unevaluated key) d all
+      is-one d all = after (change_rules unevaluated_as_additional) (Named key IsDraft07) (Named key WithReferences) (after-unevaluated key) tt d all
 
       is-two : (d : Data) → Everywhere (Named key IsDraft07) d → Everywhere (Named key HasPlainItems) (two d)
-      is-two d all = after without_siblings (Named key WithReferences) (Named key HasPlainItems) (after-siblings key) (one d) (is-one d all)
+      is-two d all = after (change_rules without_siblings) (Named key WithReferences) (Named key HasPlainItems) (after-siblings key) tt (one d) (is-one d all)
 
       no-unevaluated : (d : Data) → Everywhere (Named key IsDraft07) d → Everywhere (Named key HasNoUnevaluated) d
       no-unevaluated d all = weaker (Named key IsDraft07) (Named key HasNoUnevaluated) (λ ns h. (h.0, h.1, h.2.0)) d all
@@ -238,21 +166,21 @@ module _ (key : Text) (at : place_under key ≡ SchemasByName) (apart : key ≢ 
           (other key (codes "allOf") SchemaList at refl (λ e. cc))))
 
       first : accepts (without_unevaluated draft2020_12) (one (object ms)) patterns n (one part) v ≡ accepts draft2020_12 (object ms) patterns n part v
-      first = replace_unevaluated_properties-law key at draft2020_12 apart ms map (no-unevaluated (object ms) is) patterns n part v (no-unevaluated part part_is)
+      first = replace_unevaluated_properties-at key at draft2020_12 apart ms map (no-unevaluated (object ms) is) patterns n part v (no-unevaluated part part_is)
 
       middle : accepts (alone_by (without_unevaluated draft2020_12)) (two (object ms)) patterns n (two part) v
           ≡ accepts (without_unevaluated draft2020_12) (one (object ms)) patterns n (one part) v
       middle =
           at-document remove_ref_siblings (without_unevaluated draft2020_12) (alone_by (without_unevaluated draft2020_12)) key HasPlainReference
-          (remove_ref_siblings-law key at (without_unevaluated draft2020_12)) (one (object ms)) document-one.0 document-one.1 document-one.2
+          (remove_ref_siblings-at key at (without_unevaluated draft2020_12)) (one (object ms)) document-one.0 document-one.1 document-one.2
           (with-reference (one (object ms)) (is-one (object ms) is)) patterns n (one part) v (with-reference (one part) (is-one part part_is))
 
       last : accepts draft07 (replace_prefix_items (two (object ms))) patterns n (replace_prefix_items (two part)) v
           ≡ accepts (alone_by (without_unevaluated draft2020_12)) (two (object ms)) patterns n (two part) v
       last =
           at-document replace_prefix_items (alone_by (without_unevaluated draft2020_12)) draft07 key HasPlainItems
-          (replace_prefix_items-law key at (alone_by (without_unevaluated draft2020_12))) (two (object ms)) document-two.0 document-two.1 document-two.2
+          (replace_prefix_items-at key at (alone_by (without_unevaluated draft2020_12))) (two (object ms)) document-two.0 document-two.1 document-two.2
           (is-two (object ms) is) patterns n (two part) v (is-two part part_is)
 
-  pub draft2019_09-law : MovesAcceptance replace_prefix_items draft2020_12 draft2019_09 key HasPlainItems
-  draft2019_09-law = replace_prefix_items-law key at draft2020_12
+  pub draft2019_09-law : MovesAcceptance for_draft2019_09 draft2020_12 draft2019_09 key HasPlainItems
+  draft2019_09-law = replace_prefix_items-at key at draft2020_12

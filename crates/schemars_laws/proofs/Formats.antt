@@ -11,7 +11,7 @@ use Rattle.schemars_schema.specs.Acceptance.{Dialect, Context, judge, truth_valu
 use Rattle.schemars_schema.proofs.Objects.{judge-agree, apart}
 use Rattle.schemars_walk.specs.Rewritten.{in_keywords}
 use Rattle.schemars_gen_transform.specs.Formats.{format_rules, stays}
-use Rattle.schemars_laws.proofs.Named.{Moves}
+use Rattle.schemars_laws.proofs.Moved.{Moves}
 use Rattle.schemars_laws.proofs.Looked.{without-other}
 use Rattle.schemars_laws.proofs.Examples.{same-dialect}
 
@@ -31,14 +31,16 @@ truth-judge c b = refl
 pub formats : (allowed : BTreeSet (String Global)) (key : Text) (dialect : Dialect) (Q : Members → Type 0) → key ≢ codes "format"
     → Moves (format_rules allowed) key dialect dialect Q
 formats allowed key dialect Q other = record {
-  place = λ r k d. inl refl;
-  schema = λ r s is. schema r s is;
-  of_truth = λ c r b is. truth-judge c b;
-  of_object = λ c r ms is q.
-      either (λ s. judge c s ≡ judge c (object (in_keywords (format_rules allowed) r ms))) (in_keywords (format_rules allowed) r ms) refl
-      (judge-format c (in_keywords (format_rules allowed) r ms))
-      (stays r allowed (option_and_then as_str (get_member (codes "format") (in_keywords (format_rules allowed) r ms))))
-      ∙ same-dialect c dialect (in_keywords (format_rules allowed) r ms) is;
+  rewrites = record {
+    place = λ r k d. inl refl;
+    schema = λ r s is. schema r s is;
+    of_truth = λ c r b is. truth-judge c b;
+    of_object = λ c r ms is q.
+        either (λ s. judge c s ≡ judge c (object (in_keywords (format_rules allowed) r ms))) (in_keywords (format_rules allowed) r ms) refl
+        (judge-format c (in_keywords (format_rules allowed) r ms))
+        (stays r allowed (option_and_then as_str (get_member (codes "format") (in_keywords (format_rules allowed) r ms))))
+        ∙ same-dialect c dialect (in_keywords (format_rules allowed) r ms) is;
+  };
   definitions = λ r ms.
       either (λ s. (ns : Members) × (s ≡ object ns) × (get_member key ns ≡ get_member key ms)) ms (ms, refl, refl)
       (without (codes "format") ms, refl, without-other (codes "format") key ms other)

@@ -1,8 +1,12 @@
 pub mod Keywords
 pub mod Seen
 pub mod Kept
-pub mod Named
+pub mod Moved
+pub mod Walking
 pub mod Looked
+pub mod Preserved
+pub mod Paths
+pub mod AtKey
 pub mod Apart
 pub mod Examples
 pub mod ConstValue
@@ -14,8 +18,11 @@ pub mod Nullable
 pub mod Formats
 pub mod Unevaluated
 pub mod Laws
-pub mod Preserved
 pub mod Plain
+pub mod Editing
 pub mod Drafts
 pub mod References
 pub mod Alone
+pub mod Steps
+pub mod Seven
+pub mod Chain

@@ -5,18 +5,20 @@ use Rattle.std.specs.Cmp.Lexicographic.{slice_cmp}
 use Rattle.std.specs.Ordering.{match_ordering}
 use Rattle.std.proofs.lemmas.Map.Text.{is_eq-slice_cmp}
 use Rattle.std.proofs.lemmas.Slice.Eq.{bytes_eq-Decides}
-use Rattle.serde_json.specs.Data.{Data, null, boolean, number, string, array, object, Items, no_items, item, Members, no_members, member}
+use Rattle.serde_json.specs.Data.{Data, null, boolean, number, string, array, object, Members, no_members, member}
 use Rattle.serde_json.specs.Find.{get_member}
 use Rattle.schemars_json.specs.Json.{Text}
 use Rattle.schemars_schema.specs.SchemaData.{IsSchema}
 use Rattle.schemars_schema.specs.Edits.{without}
 use Rattle.schemars_schema.specs.References.{NoSchemas, SchemaList, SchemaOrList, SchemasByName, place_under}
 use Rattle.schemars_schema.specs.Acceptance.{Dialect, Context, judge, keywords, truth_value, read_members, reading_at}
-use Rattle.schemars_walk.specs.Rewritten.{Rules, everywhere, rewritten, forms, in_items, in_keywords, read_at}
+use Rattle.schemars_walk.specs.Rewritten.{Rules, everywhere, rewritten, forms, in_keywords, read_at}
 use Rattle.schemars_walk.proofs.KeywordLaws.{keywords_get}
 use Rattle.schemars_laws.specs.Names.{IsMap}
-use Rattle.schemars_laws.specs.Classes.{IsOnce, AreSchemas, IsSchemaList, IsNoList}
-use Rattle.schemars_laws.proofs.Named.{Moves}
+use Rattle.schemars_laws.specs.Classes.{IsOnce, IsSchemaList, IsNoList, HasPlainItems}
+use Rattle.schemars_laws.proofs.Moved.{Moves}
+use Rattle.schemars_laws.proofs.Walking.{raw-walked as raw-walked_by, none-walked as none-walked_by, once-walked as once-walked_by, list-walked as list-walked_by}
+use Rattle.schemars_laws.proofs.Walking.{no_list-walked as no_list-walked_by, items-walked as items-walked_by}
 
 by_order : (o : Ordering) (b : Bool) (d : Data) (rest : Option Data) → is_eq o ≡ b → match_ordering o rest (Some d) rest ≡ (if b then Some d else rest)
 by_order Less b d rest is = rw (← is) refl
@@ -67,94 +69,41 @@ pub record Change (f : Data → Data) (key : Text) (old new : Dialect) (Q : Memb
 
 pub moves : (f : Data → Data) (key : Text) (old new : Dialect) (Q : Members → Type 0) → Change f key old new Q → Moves (change_rules f) key old new Q
 moves f key old new Q h = record {
-  place = λ r k d. inl refl;
-  schema = λ r s is. h.schema s is;
-  of_truth = λ c r b is. h.of_truth c b is;
-  of_object = λ c r ms is q. h.of_object c ms is q;
+  rewrites = record {
+    place = λ r k d. inl refl;
+    schema = λ r s is. h.schema s is;
+    of_truth = λ c r b is. h.of_truth c b is;
+    of_object = λ c r ms is q. h.of_object c ms is q;
+  };
   definitions = λ r ms. h.definitions ms;
 }
 
--- ---- what stands under keywords without schemas stays
+-- ---- they go down under each keyword, as references say
 
-raw-walked-at : (f : Data → Data) (k : Text) (o : Option Data) → place_under k ≡ NoSchemas
-    → option_map (λ d. read_at (change_rules f) (place_under k) tt d) o ≡ o
-raw-walked-at f k None none = refl
-raw-walked-at f k (Some d) none = ap (λ p. Some (read_at (change_rules f) p tt d)) none
+abbrev pub AnyKey : Text → Type 0
+AnyKey k = Unit {0}
+
+pub goes-down : (f : Data → Data) (r : Unit {0}) (k : Text) (d : Data) → AnyKey k → (change_rules f).place r k d ≡ place_under k
+goes-down f r k d any = refl
 
 pub raw-walked : (f : Data → Data) (k : Text) (ms : Members) → place_under k ≡ NoSchemas → get_member k (walked f ms) ≡ get_member k ms
-raw-walked f k ms none = keywords_get (change_rules f) tt k ms ∙ raw-walked-at f k (get_member k ms) none
-
-pub without-walked : (f : Data → Data) (k : Text) (ms : Members) → without k (walked f ms) ≡ walked f (without k ms)
-unfolding in_keywords
-without-walked f k no_members = refl
-without-walked f k (member l d ms) = go (bytes_eq k l) (without-walked f k ms)
-  where
-    go : (b : Bool) → without k (walked f ms) ≡ walked f (without k ms)
-        → (if b then walked f ms else member l (read_at (change_rules f) (place_under l) tt d) (without k (walked f ms)))
-        ≡ walked f (if b then ms else member l d (without k ms))
-    go true e = refl
-    go false e = ap (member l (read_at (change_rules f) (place_under l) tt d)) e
+raw-walked f k ms none = raw-walked_by (change_rules f) AnyKey (goes-down f) tt k ms tt none
 
 pub none-walked : (f : Data → Data) (k : Text) (ms : Members) → get_member k ms ≡ None → get_member k (walked f ms) ≡ None
-none-walked f k ms none = keywords_get (change_rules f) tt k ms ∙ ap (option_map (λ d. read_at (change_rules f) (place_under k) tt d)) none
+none-walked f k ms none = none-walked_by (change_rules f) AnyKey (goes-down f) tt k ms none
 
 pub once-walked : (f : Data → Data) (k : Text) (ms : Members) → IsOnce k ms → IsOnce k (walked f ms)
-once-walked f k ms once = ap (get_member k) (without-walked f k ms) ∙ none-walked f k (without k ms) once
-
--- ---- lists of schemas stay such
+once-walked f k ms once = once-walked_by (change_rules f) AnyKey (goes-down f) tt k ms once
 
 module _ (f : Data → Data) (kept : (s : Data) → IsSchema s → IsSchema (f s)) where
-  schema-walked : (d : Data) → IsSchema d → IsSchema (forms (change_rules f) tt d).as_schema
-  unfolding forms
-  schema-walked (boolean b) is = kept (boolean b) tt
-  schema-walked (object ms) is = kept (object (walked f ms)) tt
-  schema-walked null is = absurd is
-  schema-walked (number n) is = absurd is
-  schema-walked (string t) is = absurd is
-  schema-walked (array ds) is = absurd is
-
-  schemas-walked : (ds : Items) → AreSchemas ds → AreSchemas (in_items (change_rules f) tt ds)
-  unfolding forms
-  schemas-walked no_items are = tt
-  schemas-walked (item d ds) are = (schema-walked d are.0, schemas-walked ds are.1)
-
-  list-form : (o : Option Data) → IsSchemaList o → IsSchemaList (option_map (λ d. (forms (change_rules f) tt d).as_list) o)
-  unfolding forms
-  list-form None is = tt
-  list-form (Some (array ds)) is = schemas-walked ds is
-  list-form (Some null) is = absurd is
-  list-form (Some (boolean b)) is = absurd is
-  list-form (Some (number n)) is = absurd is
-  list-form (Some (string s)) is = absurd is
-  list-form (Some (object ms)) is = absurd is
-
-  schema-no_list : (s : Data) → IsSchema s → IsNoList (Some s)
-  schema-no_list (boolean b) is = tt
-  schema-no_list (object ms) is = tt
-  schema-no_list null is = absurd is
-  schema-no_list (number n) is = absurd is
-  schema-no_list (string t) is = absurd is
-  schema-no_list (array ds) is = absurd is
-
-  no_list-form : (o : Option Data) → IsNoList o → IsNoList (option_map (λ d. (forms (change_rules f) tt d).as_either) o)
-  unfolding forms
-  no_list-form None is = tt
-  no_list-form (Some null) is = tt
-  no_list-form (Some (boolean b)) is = schema-no_list (f (boolean b)) (kept (boolean b) tt)
-  no_list-form (Some (number n)) is = tt
-  no_list-form (Some (string s)) is = tt
-  no_list-form (Some (array ds)) is = absurd is
-  no_list-form (Some (object ms)) is = schema-no_list (f (object (walked f ms))) (kept (object (walked f ms)) tt)
-
   pub list-walked : (k : Text) (ms : Members) → place_under k ≡ SchemaList → IsSchemaList (get_member k ms) → IsSchemaList (get_member k (walked f ms))
-  list-walked k ms at is =
-      subst IsSchemaList (sym (keywords_get (change_rules f) tt k ms
-      ∙ ap (λ p. option_map (λ d. read_at (change_rules f) p tt d) (get_member k ms)) at)) (list-form (get_member k ms) is)
+  list-walked k ms at is = list-walked_by (change_rules f) AnyKey (goes-down f) (λ r s is. kept s is) tt k ms tt at is
 
   pub no_list-walked : (k : Text) (ms : Members) → place_under k ≡ SchemaOrList → IsNoList (get_member k ms) → IsNoList (get_member k (walked f ms))
-  no_list-walked k ms at is =
-      subst IsNoList (sym (keywords_get (change_rules f) tt k ms
-      ∙ ap (λ p. option_map (λ d. read_at (change_rules f) p tt d) (get_member k ms)) at)) (no_list-form (get_member k ms) is)
+  no_list-walked k ms at is = no_list-walked_by (change_rules f) AnyKey (goes-down f) (λ r s is. kept s is) tt k ms tt at is
+
+  pub items-walked : (ms : Members) → HasPlainItems ms → HasPlainItems (walked f ms)
+  items-walked ms plain = items-walked_by (change_rules f) AnyKey (goes-down f) (λ r s is. kept s is) tt tt tt ms plain
 
 -- ---- a changed document has its definitions where they were
 

@@ -1,56 +1,22 @@
 -- `nullable` in place of null among types, for readers that know it.
-use Rattle.std.proofs.Common.{◌≡◌, ◌≢◌, ◌⊎◌, inl, inr, Option, Some, None, Bool, true, false, Ordering, Less, Equal, Greater, nat_cmp, codes, is_eq, refl, sym, ap, ◌∙◌, subst, true≢false}
-use Rattle.std.proofs.lemmas.Slice.Eq.{bytes_eq-Decides}
-use Rattle.std.proofs.lemmas.Map.Text.{is_eq-slice_cmp}
-use Rattle.std.specs.Cmp.Lexicographic.{slice_cmp}
-use Rattle.std.specs.Ordering.{match_ordering}
-use Rattle.std.specs.Prelude.{bytes_eq, if◌then◌else◌, ◌&&◌}
-use Rattle.serde_json.specs.Data.{Data, null, boolean, number, string, array, object, Items, no_items, item, Members, no_members, member, put}
+use Rattle.std.proofs.Common.{List, ◌≡◌, ◌≢◌, ◌⊎◌, inl, inr, Option, Some, None, Bool, true, false, codes, refl, sym, ap, ◌∙◌, subst, true≢false}
+use Rattle.std.specs.Prelude.{option_map, bytes_eq, if◌then◌else◌, ◌&&◌, ◌||◌}
+use Rattle.serde_json.specs.Data.{Data, null, boolean, number, string, array, object, Items, no_items, item, Members, put}
 use Rattle.serde_json.specs.Find.{get_member}
 use Rattle.serde_json.proofs.Views.{get_member-put, get_member-put_other}
 use Rattle.schemars_json.specs.Json.{Text, json_eq}
+use Rattle.schemars_json.specs.OrderedText.{is_listed}
 use Rattle.schemars_schema.specs.SchemaData.{IsSchema}
 use Rattle.schemars_schema.specs.Edits.{without, replaced}
-use Rattle.schemars_schema.specs.Verdict.{Verdict, verdict}
-use Rattle.schemars_schema.specs.Acceptance.{Dialect, Context, judge, keywords, truth_value, read_data, read_members, reading_at, is_null, type_says}
+use Rattle.schemars_schema.specs.Verdict.{Verdict, Yes, No, Open, both, verdict}
+use Rattle.schemars_schema.specs.Acceptance.{Dialect, Context, judge, keywords, truth_value, read_data, read_members, reading_at, is_null, type_says, type_fits, types_in, is_of_some_type, where_some, items_say, enum_says}
 use Rattle.schemars_rewrite.specs.AllowNull.{holds_text}
 use Rattle.schemars_transform.specs.Nullable.{all_null, nulls_in, type_without_null, null_taken_out, nullable_by, with_nullable}
-use Rattle.schemars_laws.specs.Classes.{IsOnce, IsTypes, is_null_alone, HasPlainType, plain_nullable, with_nullable_read, without_nullable_read}
-use Rattle.schemars_laws.proofs.Looked.{get_member-first, unequal, without-other, walked, raw-walked, once-walked, Change}
+use Rattle.schemars_laws.specs.Classes.{IsTypes, is_null_alone, HasPlainType, plain_nullable, with_nullable_read, without_nullable_read}
+use Rattle.schemars_laws.proofs.Looked.{without-other, walked, raw-walked, Change}
 use Rattle.schemars_laws.proofs.Apart.{four_of, four_by, look_up, says-moved, differ, outside}
 use Rattle.schemars_laws.proofs.Siblings.{replaced-other, replaced-at}
 use Rattle.schemars_laws.proofs.TypeNames.{text-missing, list-missing, text-alone, list-alone, list-among}
-
--- ---- a member put in does not stand in the way
-
-put-first : (o : Ordering) (k l j : Text) (d e : Data) (ms : Members) → k ≢ l → slice_cmp nat_cmp l j ≡ o
-    → get_member k (without k (put l d ms)) ≡ get_member k (without k ms)
-    → get_member k (without k (match_ordering o (member l d (member j e ms)) (member j d ms) (member j e (put l d ms))))
-    ≡ get_member k (without k (member j e ms))
-put-first Less k l j d e ms apart is later =
-    ap (λ b. get_member k (if b then member j e ms else member l d (without k (member j e ms)))) (unequal k l apart)
-    ∙ (get_member-first k l d (without k (member j e ms)) ∙ ap (λ b. if b then Some d else get_member k (without k (member j e ms))) (unequal k l apart))
-put-first Equal k l j d e ms apart is later =
-    let same : l ≡ j = (bytes_eq-Decides l j).0 (sym (is_eq-slice_cmp l j) ∙ ap is_eq is) in
-    let other : bytes_eq k j ≡ false = unequal k j (λ h. apart (h ∙ sym same)) in
-    ap (λ b. get_member k (if b then ms else member j d (without k ms))) other
-    ∙ (get_member-first k j d (without k ms) ∙ (ap (λ b. if b then Some d else get_member k (without k ms)) other
-    ∙ sym (ap (λ b. get_member k (if b then ms else member j e (without k ms))) other
-    ∙ (get_member-first k j e (without k ms) ∙ ap (λ b. if b then Some e else get_member k (without k ms)) other))))
-put-first Greater k l j d e ms apart is later = go (bytes_eq k j) refl
-  where
-    go : (b : Bool) → bytes_eq k j ≡ b → get_member k (if b then put l d ms else member j e (without k (put l d ms)))
-        ≡ get_member k (if b then ms else member j e (without k ms))
-    go true same = get_member-put_other k l d ms apart
-    go false same =
-        get_member-first k j e (without k (put l d ms))
-        ∙ (ap (λ o. if bytes_eq k j then Some e else o) later ∙ sym (get_member-first k j e (without k ms)))
-
-pub without-put : (k l : Text) (d : Data) (ms : Members) → k ≢ l → get_member k (without k (put l d ms)) ≡ get_member k (without k ms)
-without-put k l d no_members apart =
-    ap (λ b. get_member k (if b then no_members else member l d no_members)) (unequal k l apart)
-    ∙ (get_member-first k l d no_members ∙ ap (λ b. if b then Some d else None) (unequal k l apart))
-without-put k l d (member j e ms) apart = put-first (slice_cmp nat_cmp l j) k l j d e ms apart refl (without-put k l d ms apart)
 
 -- ---- the members of one schema
 
@@ -74,11 +40,6 @@ alone-other k ms type const nullable =
 among-other : (t : Data) (k : Text) (ms : Members) → k ≢ codes "type" → k ≢ codes "nullable" → get_member k (among_members t ms) ≡ get_member k ms
 among-other t k ms type nullable =
     replaced-other (codes "type") k (type_without_null t) (nulled ms) type ∙ get_member-put_other k (codes "nullable") (boolean true) ms nullable
-
-alone-type : (ms : Members) → IsOnce (codes "type") ms → get_member (codes "type") (alone_members ms) ≡ None
-alone-type ms once =
-    without-put (codes "type") (codes "const") null (nulled ms) (differ (codes "type") (codes "const") refl)
-    ∙ (without-put (codes "type") (codes "nullable") (boolean true) ms (differ (codes "type") (codes "nullable") refl) ∙ once)
 
 alone-const : (ms : Members) → get_member (codes "const") (alone_members ms) ≡ Some null
 alone-const ms =
@@ -111,16 +72,56 @@ null-equal (string s) = refl
 null-equal (array ds) = refl
 null-equal (object ms) = refl
 
+or-true : (a b : Bool) → a || (b || true) ≡ true
+or-true true b = refl
+or-true false true = refl
+or-true false false = refl
+
+-- beside the `const` null and `nullable` a type says nothing more
+null-fits : (o : Option Data) → type_says true o (Some (boolean true)) null ≡ Yes
+null-fits None = refl
+null-fits (Some t) = go (types_in t)
+  where
+    go : (ts : Option (List _)) → where_some ts (λ ts. verdict (type_fits true (Some (boolean true)) ts null)) ≡ Yes
+    go None = refl
+    go (Some ts) = ap verdict (or-true (is_listed (codes "null") ts) (is_of_some_type ts null))
+
+no-twice : (b : Bool) (x : Verdict) → both No (both (verdict b) x) ≡ both No x
+no-twice true x = refl
+no-twice false Yes = refl
+no-twice false No = refl
+no-twice false Open = refl
+
+said : (o n : Option Data) (v : Data) (x : Verdict) → both No (both (type_says true o n v) x) ≡ both No x
+said None n v x = refl
+said (Some t) n v x = go (types_in t)
+  where
+    go : (ts : Option (List _)) → both No (both (where_some ts (λ ts. verdict (type_fits true n ts v))) x) ≡ both No x
+    go None = refl
+    go (Some ts) = no-twice (type_fits true n ts v) x
+
+left-over : (o : Option Data) (v : Data) (x : Verdict)
+    → both (verdict (is_null v)) (both (type_says true o (Some (boolean true)) v) x) ≡ both (verdict (is_null v)) x
+left-over o null x = ap (λ y. both Yes (both y x)) (null-fits o)
+left-over o (boolean b) x = said o (Some (boolean true)) (boolean b) x
+left-over o (number n) x = said o (Some (boolean true)) (number n) x
+left-over o (string s) x = said o (Some (boolean true)) (string s) x
+left-over o (array ds) x = said o (Some (boolean true)) (array ds) x
+left-over o (object ms) x = said o (Some (boolean true)) (object ms) x
+
 module _ (c : Context) (d : Dialect) (p i a e : Option Data) (v : Data) (x : Verdict) where
   four-missing : (k t : Option Data) → type_says true t None v ≡ type_says false t None v
       → four_of c (with_nullable_read d) p i a e k t None v x ≡ four_of c (without_nullable_read d) p i a e k t None v x
   unfolding four_of
   four-missing k t is = rw is refl
 
-  four-alone : (t : Option Data) → type_says false t None v ≡ verdict (is_null v)
-      → four_of c (with_nullable_read d) p i a e (Some null) None (Some (boolean true)) v x ≡ four_of c (without_nullable_read d) p i a e None t None v x
+  four-alone : (t left : Option Data) → type_says false t None v ≡ verdict (is_null v)
+      → four_of c (with_nullable_read d) p i a e (Some null) left (Some (boolean true)) v x ≡ four_of c (without_nullable_read d) p i a e None t None v x
   unfolding four_of
-  four-alone t is = rw (is, null-equal v) refl
+  four-alone t left is =
+      rw (is, null-equal v)
+      (ap (λ y. both (items_say d.reads_prefix_items (option_map (read_data c) p) (option_map (read_data c) i) (option_map (read_data c) a) v)
+      (both (enum_says e v) y)) (left-over left v x))
 
   four-among : (k t n : Option Data) → type_says true n (Some (boolean true)) v ≡ type_says false t None v
       → four_of c (with_nullable_read d) p i a e k n (Some (boolean true)) v x ≡ four_of c (without_nullable_read d) p i a e k t None v x
@@ -137,9 +138,9 @@ module _ (c : Context) (d : Dialect) (ms : Members) (is : c.dialect ≡ with_nul
       (λ v x. rw none (four-missing c d (get_member (codes "prefixItems") ms) (get_member (codes "items") ms) (get_member (codes "additionalItems") ms)
       (get_member (codes "enum") ms) v x (get_member (codes "const") ms) (get_member (codes "type") ms) (type v)))
 
-  judge-alone : IsOnce (codes "type") ms → get_member (codes "const") ms ≡ None
+  judge-alone : get_member (codes "const") ms ≡ None
       → ((v : Data) → type_says false (get_member (codes "type") ms) None v ≡ verdict (is_null v)) → Says (alone_members ms)
-  judge-alone once const type =
+  judge-alone const type =
       says-moved c (without_nullable_read d) (with_nullable_read d) ms (alone_members ms) is refl refl
       (λ k out. alone-other k ms (outside k (codes "type") out refl) (outside k (codes "const") out refl) (outside k (codes "nullable") out refl))
       same
@@ -156,13 +157,12 @@ module _ (c : Context) (d : Dialect) (ms : Members) (is : c.dialect ≡ with_nul
             other (codes "additionalItems") refl refl refl,
             other (codes "enum") refl refl refl,
             alone-const ms,
-            alone-type ms once,
             alone-nullable ms,
             const,
             none,
           )
           (four-alone c d (get_member (codes "prefixItems") ms) (get_member (codes "items") ms) (get_member (codes "additionalItems") ms)
-          (get_member (codes "enum") ms) v x (get_member (codes "type") ms) (type v))
+          (get_member (codes "enum") ms) v x (get_member (codes "type") ms) (get_member (codes "type") (alone_members ms)) (type v))
 
   judge-among : (t : Data) → get_member (codes "type") ms ≡ Some t
       → ((v : Data) → type_says true (Some (type_without_null t)) (Some (boolean true)) v ≡ type_says false (Some t) None v) → Says (among_members t ms)
@@ -244,14 +244,14 @@ module _ (P : Data → Type 0) (ms : Members) (missing : P (object ms)) (alone :
 
 judge-nullable : (c : Context) (d : Dialect) (ms : Members) → c.dialect ≡ with_nullable_read d → HasPlainType ms
     → judge c (nullable_change (object ms)) ≡ keywords (record c { dialect = without_nullable_read d }) (look_up ms) (reading_at (read_members c ms))
-judge-nullable c d ms is plain = go (get_member (codes "type") ms) refl plain.1 plain.3
+judge-nullable c d ms is plain = go (get_member (codes "type") ms) refl plain.0 plain.2
   where
     Goal : Data → Type 0
     Goal s = judge c s ≡ keywords (record c { dialect = without_nullable_read d }) (look_up ms) (reading_at (read_members c ms))
 
     unread : (t : Data) → get_member (codes "type") ms ≡ Some t → ((v : Data) → type_says true (Some t) None v ≡ type_says false (Some t) None v) → Goal (object ms)
     unread t here same =
-        judge-missing c d ms is plain.2 (λ v. ap (λ o. type_says true o None v) here ∙ (same v ∙ ap (λ o. type_says false o None v) (sym here)))
+        judge-missing c d ms is plain.1 (λ v. ap (λ o. type_says true o None v) here ∙ (same v ∙ ap (λ o. type_says false o None v) (sym here)))
 
     const-none : (t : Data) → get_member (codes "type") ms ≡ Some t → is_null_alone (Some t) ≡ true
         → (is_null_alone (get_member (codes "type") ms) ≡ false) ⊎ (get_member (codes "const") ms ≡ None) → get_member (codes "const") ms ≡ None
@@ -262,14 +262,14 @@ judge-nullable c d ms is plain = go (get_member (codes "type") ms) refl plain.1 
         → (is_null_alone (get_member (codes "type") ms) ≡ false) ⊎ (get_member (codes "const") ms ≡ None)
         → ((v : Data) → type_says false (Some t) None v ≡ verdict (is_null v)) → Goal (object (alone_members ms))
     alone t here alone_is one same =
-        judge-alone c d ms is plain.2 plain.0 (const-none t here alone_is one) (λ v. ap (λ o. type_says false o None v) here ∙ same v)
+        judge-alone c d ms is plain.1 (const-none t here alone_is one) (λ v. ap (λ o. type_says false o None v) here ∙ same v)
 
     go : (o : Option Data) → get_member (codes "type") ms ≡ o → IsTypes (get_member (codes "type") ms)
         → (is_null_alone (get_member (codes "type") ms) ≡ false) ⊎ (get_member (codes "const") ms ≡ None)
         → Goal (changed_for (get_member (codes "type") ms) (object ms))
     go None here types one =
         subst (λ o. Goal (changed_for o (object ms))) (sym here)
-        (judge-missing c d ms is plain.2 (λ v. ap (λ o. type_says true o None v) here ∙ ap (λ o. type_says false o None v) (sym here)))
+        (judge-missing c d ms is plain.1 (λ v. ap (λ o. type_says true o None v) here ∙ ap (λ o. type_says false o None v) (sym here)))
     go (Some (string s)) here types one =
         subst (λ o. Goal (changed_for o (object ms))) (sym here)
         (by_text Goal ms s (λ lacks. unread (string s) here (λ v. text-missing s v lacks)) (λ null_is. alone (string s) here null_is one (λ v. text-alone s v null_is)))
@@ -278,7 +278,7 @@ judge-nullable c d ms is plain = go (get_member (codes "type") ms) refl plain.1 
         subst (λ o. Goal (changed_for o (object ms))) (sym here)
         (by_list Goal ms ds here (λ lacks. unread (array ds) here (λ v. list-missing ds v are lacks))
         (λ holds all. alone (array ds) here (ap (λ b. b && all_null ds) holds ∙ all) one (λ v. list-alone ds v are holds all))
-        (λ holds. judge-among c d ms is plain.2 (array ds) here (λ v. list-among ds v are holds)))
+        (λ holds. judge-among c d ms is plain.1 (array ds) here (λ v. list-among ds v are holds)))
     go (Some null) here types one =
         subst (λ o. Goal (changed_for o (object ms))) (sym here) (unread null here (λ v. refl))
     go (Some (boolean b)) here types one =
@@ -309,10 +309,9 @@ definitions-stay key ms type const nullable =
 
 plain-walked : (ms : Members) → HasPlainType ms → HasPlainType (walked nullable_change ms)
 plain-walked ms plain = (
-  once-walked nullable_change (codes "type") ms plain.0,
-  subst IsTypes (sym (raw-walked nullable_change (codes "type") ms refl)) plain.1,
-  raw-walked nullable_change (codes "nullable") ms refl ∙ plain.2,
-  one plain.3,
+  subst IsTypes (sym (raw-walked nullable_change (codes "type") ms refl)) plain.0,
+  raw-walked nullable_change (codes "nullable") ms refl ∙ plain.1,
+  one plain.2,
 )
   where
     one : (is_null_alone (get_member (codes "type") ms) ≡ false) ⊎ (get_member (codes "const") ms ≡ None)

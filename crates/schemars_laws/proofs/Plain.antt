@@ -7,15 +7,18 @@ use Rattle.serde_json.specs.Find.{get_member, as_str}
 use Rattle.schemars_json.specs.Json.{Text}
 use Rattle.schemars_schema.specs.SchemaData.{IsSchema}
 use Rattle.schemars_schema.specs.Edits.{without}
-use Rattle.schemars_laws.specs.Names.{IsNamed, HasName, IsNoObject}
+use Rattle.schemars_schema.specs.References.{NoSchemas, place_under}
+use Rattle.schemars_walk.specs.Rewritten.{Rules, in_keywords}
+use Rattle.schemars_laws.specs.Names.{IsNamedBy, HasNameOf, IsNoObject}
 use Rattle.schemars_laws.specs.Classes.{IsText, IsSchemaList, IsNoList, HasPlainItems, HasPlainReference}
-use Rattle.schemars_laws.proofs.Looked.{get_member-first, unequal, without-other, walked, raw-walked, none-walked, once-walked, list-walked, no_list-walked}
+use Rattle.schemars_laws.proofs.Walking.{without-walked, raw-walked as raw-walked_by}
+use Rattle.schemars_laws.proofs.Looked.{get_member-first, unequal, without-other, walked, raw-walked, once-walked, list-walked}
 use Rattle.schemars_laws.proofs.Apart.{differ}
 
 -- ---- by a walk
 
-pub named-walked : (f : Data → Data) (key : Text) (ms : Members) → HasName key ms → HasName key (walked f ms)
-named-walked f key ms is = subst (λ o. IsNamed key (option_and_then as_str o)) (sym (raw-walked f (codes "$ref") ms refl)) is
+pub named-walked : (f : Data → Data) (N : Text → Type 0) (ms : Members) → HasNameOf N ms → HasNameOf N (walked f ms)
+named-walked f N ms is = subst (λ o. IsNamedBy N (option_and_then as_str o)) (sym (raw-walked f (codes "$ref") ms refl)) is
 
 pub closed-walked : (f : Data → Data) (ms : Members) → IsNoObject (get_member (codes "unevaluatedProperties") ms)
     → IsNoObject (get_member (codes "unevaluatedProperties") (walked f ms))
@@ -29,14 +32,6 @@ module _ (f : Data → Data) (schema : (s : Data) → IsSchema s → IsSchema (f
     list-walked f schema (codes "allOf") ms refl plain.2,
   )
 
-  pub items-walked : (ms : Members) → HasPlainItems ms → HasPlainItems (walked f ms)
-  items-walked ms plain = (
-    once-walked f (codes "prefixItems") ms plain.0,
-    list-walked f schema (codes "prefixItems") ms refl plain.1,
-    no_list-walked f schema (codes "items") ms refl plain.2,
-    none-walked f (codes "additionalItems") ms plain.3,
-  )
-
 -- ---- by look-ups
 
 -- the members at k, and those behind the first of them, are the same
@@ -44,8 +39,8 @@ pub record Alike (k : Text) (ns ms : Members) : Type 0 where
   pub first : get_member k ns ≡ get_member k ms
   pub others : get_member k (without k ns) ≡ get_member k (without k ms)
 
-pub name-alike : (key : Text) (ns ms : Members) → Alike (codes "$ref") ns ms → HasName key ms → HasName key ns
-name-alike key ns ms a is = subst (λ o. IsNamed key (option_and_then as_str o)) (sym a.first) is
+pub name-alike : (N : Text → Type 0) (ns ms : Members) → Alike (codes "$ref") ns ms → HasNameOf N ms → HasNameOf N ns
+name-alike N ns ms a is = subst (λ o. IsNamedBy N (option_and_then as_str o)) (sym a.first) is
 
 pub reference-alike : (ns ms : Members) → Alike (codes "$ref") ns ms → Alike (codes "allOf") ns ms → HasPlainReference ms → HasPlainReference ns
 reference-alike ns ms a b plain = (a.others ∙ plain.0, subst IsText (sym a.first) plain.1, subst IsSchemaList (sym b.first) plain.2)
@@ -71,6 +66,14 @@ without-swap k l (member j d ms) apart = go (bytes_eq l j) refl (bytes_eq k j) r
         ap (λ b. get_member k (if b then without l ms else member j d (without k (without l ms)))) at_k
         ∙ (get_member-first k j d (without k (without l ms))
         ∙ (ap (λ o. if bytes_eq k j then Some d else o) rest ∙ sym (get_member-first k j d (without k ms))))
+
+-- keywords without schemas that a walk goes down under
+pub alike-walked : {R : Type 0} (ρ : Rules R) (Enters : Text → Type 0) → ((r : R) (k : Text) (d : Data) → Enters k → ρ.place r k d ≡ place_under k)
+    → (r : R) (k : Text) (ms : Members) → Enters k → place_under k ≡ NoSchemas → Alike k (in_keywords ρ r ms) ms
+alike-walked ρ Enters place r k ms enters none = record {
+  first = raw-walked_by ρ Enters place r k ms enters none;
+  others = ap (get_member k) (without-walked ρ Enters place r k ms) ∙ raw-walked_by ρ Enters place r k (without k ms) enters none;
+}
 
 pub alike-without : (k l : Text) (ms : Members) → bytes_eq k l ≡ false → Alike k (without l ms) ms
 alike-without k l ms is = record { first = without-other l k ms (differ k l is); others = without-swap k l ms (differ k l is) }

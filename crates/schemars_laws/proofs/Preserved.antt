@@ -1,5 +1,5 @@
--- What holds of every schema object after a change of each.
-use Rattle.std.proofs.Common.{◌≡◌, Some, Bool, true, false, Ordering, Less, Equal, Greater, nat_cmp, is_eq, refl, sym, ap, ◌∙◌, subst}
+-- What holds of every schema object after a rewrite of each.
+use Rattle.std.proofs.Common.{◌≡◌, ◌⊎◌, inl, inr, Some, Bool, true, false, Ordering, Less, Equal, Greater, nat_cmp, is_eq, refl, sym, ap, ◌∙◌, subst}
 use Rattle.std.proofs.lemmas.Slice.Eq.{bytes_eq-Decides}
 use Rattle.std.proofs.lemmas.Map.Text.{is_eq-slice_cmp}
 use Rattle.std.specs.Cmp.Lexicographic.{slice_cmp}
@@ -11,8 +11,9 @@ use Rattle.schemars_json.specs.Json.{Text}
 use Rattle.schemars_schema.specs.SchemaData.{IsSchema}
 use Rattle.schemars_schema.specs.Edits.{without, replaced}
 use Rattle.schemars_schema.specs.References.{Place, NoSchemas, OneSchema, SchemaList, SchemaOrList, SchemasByName, place_under}
-use Rattle.schemars_walk.specs.Rewritten.{forms, form_at, in_items, in_names}
+use Rattle.schemars_walk.specs.Rewritten.{Rules, forms, form_at, in_items, in_names, in_keywords}
 use Rattle.schemars_laws.specs.Everywhere.{asked, asked_at, asked_of_items, asked_of_members, asked_of_keywords}
+use Rattle.schemars_laws.proofs.Kept.{IsTruth}
 use Rattle.schemars_laws.proofs.Looked.{change_rules, walked}
 
 -- ---- members taken out, and put in
@@ -124,77 +125,116 @@ module _ (P Q : Members → Type 0) (h : (ms : Members) → P ms → Q ms) where
     weaker-keywords no_members a = tt
     weaker-keywords (member k d ms) a = (weaker-at P Q d (weaker d) (weaker-list d) (weaker-names d) (place_under k) a.0, weaker-keywords ms a.1)
 
--- ---- a change of each schema
+-- ---- a rewrite of each schema
 
--- what a change makes of a schema object is as Q says, where the schema was as P says and the schemas inside it now are as Q says
-pub record Preserves (f : Data → Data) (P Q : Members → Type 0) : Type 0 where
-  pub schema : (s : Data) → IsSchema s → IsSchema (f s)
-  pub of_truth : (b : Bool) → (asked Q (f (boolean b))).as_schema
-  pub of_object : (ms : Members) → P ms → asked_of_keywords Q (walked f ms) → (asked Q (f (object (walked f ms)))).as_schema
+-- what a rewrite makes of a schema object is as Q says, where the schema was as P says and the schemas inside it now are as Q says
+pub record Preserves {R : Type 0} (ρ : Rules R) (P Q : Members → Type 0) : Type 0 where
+  pub place : (r : R) (k : Text) (d : Data) → (ρ.place r k d ≡ place_under k) ⊎ ((ρ.place r k d ≡ NoSchemas) × IsTruth d)
+  pub schema : (r : R) (s : Data) → IsSchema s → IsSchema (ρ.finish r s)
+  pub of_truth : (r : R) (b : Bool) → (asked Q (ρ.finish r (boolean b))).as_schema
+  pub of_object : (r : R) (ms : Members) → P ms → asked_of_keywords Q (in_keywords ρ r ms)
+      → (asked Q (ρ.finish r (object (in_keywords ρ r ms)))).as_schema
 
-module _ (f : Data → Data) (P Q : Members → Type 0) (h : Preserves f P Q) where
-  module _ (d : Data) (one : (asked P d).as_schema → (asked Q (forms (change_rules f) tt d).as_schema).as_schema)
-      (more : (asked P d).as_list → (asked Q (forms (change_rules f) tt d).as_list).as_list)
-      (named : (asked P d).by_name → (asked Q (forms (change_rules f) tt d).by_name).by_name) where
-    either : (e : Data) → e ≡ d → asked_at SchemaOrList (asked P d) → asked_at SchemaOrList (asked Q (forms (change_rules f) tt d).as_either)
+module _ {R : Type 0} (ρ : Rules R) (P Q : Members → Type 0) (h : Preserves ρ P Q) where
+  module _ (r : R) (d : Data) (one : (asked P d).as_schema → (asked Q (forms ρ r d).as_schema).as_schema)
+      (more : (asked P d).as_list → (asked Q (forms ρ r d).as_list).as_list)
+      (named : (asked P d).by_name → (asked Q (forms ρ r d).by_name).by_name) where
+    either : (e : Data) → e ≡ d → asked_at SchemaOrList (asked P d) → asked_at SchemaOrList (asked Q (forms ρ r d).as_either)
     unfolding asked forms
-    either null is a = subst (λ x. asked_at SchemaOrList (asked Q (forms (change_rules f) tt x).as_either)) is (tt, tt)
+    either null is a = subst (λ x. asked_at SchemaOrList (asked Q (forms ρ r x).as_either)) is (tt, tt)
     either (boolean b) is a =
-        subst (λ x. asked_at SchemaOrList (asked Q (forms (change_rules f) tt x).as_either)) is
-        (h.of_truth b, schema-no_list Q (f (boolean b)) (h.schema (boolean b) tt))
-    either (number n) is a = subst (λ x. asked_at SchemaOrList (asked Q (forms (change_rules f) tt x).as_either)) is (tt, tt)
-    either (string s) is a = subst (λ x. asked_at SchemaOrList (asked Q (forms (change_rules f) tt x).as_either)) is (tt, tt)
+        subst (λ x. asked_at SchemaOrList (asked Q (forms ρ r x).as_either)) is
+        (h.of_truth (ρ.inside r (boolean b)) b, schema-no_list Q (ρ.finish (ρ.inside r (boolean b)) (boolean b)) (h.schema (ρ.inside r (boolean b)) (boolean b) tt))
+    either (number n) is a = subst (λ x. asked_at SchemaOrList (asked Q (forms ρ r x).as_either)) is (tt, tt)
+    either (string s) is a = subst (λ x. asked_at SchemaOrList (asked Q (forms ρ r x).as_either)) is (tt, tt)
     either (array ds) is a =
-        subst (λ x. asked_at SchemaOrList (asked Q (forms (change_rules f) tt x).as_either)) is
-        (tt, subst (λ x. (asked Q (forms (change_rules f) tt x).as_list).as_list) (sym is) (more a.1))
+        subst (λ x. asked_at SchemaOrList (asked Q (forms ρ r x).as_either)) is
+        (tt, subst (λ x. (asked Q (forms ρ r x).as_list).as_list) (sym is) (more a.1))
     either (object ms) is a =
-        subst (λ x. asked_at SchemaOrList (asked Q (forms (change_rules f) tt x).as_either)) is (
-          subst (λ x. (asked Q (forms (change_rules f) tt x).as_schema).as_schema) (sym is) (one a.0),
-          schema-no_list Q (f (object (walked f ms))) (h.schema (object (walked f ms)) tt),
+        subst (λ x. asked_at SchemaOrList (asked Q (forms ρ r x).as_either)) is (
+          subst (λ x. (asked Q (forms ρ r x).as_schema).as_schema) (sym is) (one a.0),
+          schema-no_list Q (ρ.finish (ρ.inside r (object ms)) (object (in_keywords ρ (ρ.inside r (object ms)) ms)))
+              (h.schema (ρ.inside r (object ms)) (object (in_keywords ρ (ρ.inside r (object ms)) ms)) tt),
         )
 
-    at : (p : Place) → asked_at p (asked P d) → asked_at p (asked Q (form_at p d (forms (change_rules f) tt d)))
-    at NoSchemas a = tt
-    at OneSchema a = one a
-    at SchemaList a = more a
-    at SchemaOrList a = either d refl a
-    at SchemasByName a = named a
+    by_place : (p : Place) → asked_at p (asked P d) → asked_at p (asked Q (form_at p d (forms ρ r d)))
+    by_place NoSchemas a = tt
+    by_place OneSchema a = one a
+    by_place SchemaList a = more a
+    by_place SchemaOrList a = either d refl a
+    by_place SchemasByName a = named a
+
+  of_a_truth : (p : Place) (d : Data) → IsTruth d → asked_at p (asked Q d)
+  unfolding asked
+  of_a_truth NoSchemas (boolean b) is = tt
+  of_a_truth OneSchema (boolean b) is = tt
+  of_a_truth SchemaList (boolean b) is = tt
+  of_a_truth SchemaOrList (boolean b) is = (tt, tt)
+  of_a_truth SchemasByName (boolean b) is = tt
+  of_a_truth p null is = absurd is
+  of_a_truth p (number n) is = absurd is
+  of_a_truth p (string s) is = absurd is
+  of_a_truth p (array ds) is = absurd is
+  of_a_truth p (object ms) is = absurd is
+
+  at : (r : R) (k : Text) (d : Data) → ((asked P d).as_schema → (asked Q (forms ρ r d).as_schema).as_schema)
+      → ((asked P d).as_list → (asked Q (forms ρ r d).as_list).as_list)
+      → ((asked P d).by_name → (asked Q (forms ρ r d).by_name).by_name)
+      → asked_at (place_under k) (asked P d) → asked_at (place_under k) (asked Q (form_at (ρ.place r k d) d (forms ρ r d)))
+  at r k d one more named a = go (h.place r k d)
+    where
+      go : (ρ.place r k d ≡ place_under k) ⊎ ((ρ.place r k d ≡ NoSchemas) × IsTruth d)
+          → asked_at (place_under k) (asked Q (form_at (ρ.place r k d) d (forms ρ r d)))
+      go (inl is) = subst (λ p. asked_at (place_under k) (asked Q (form_at p d (forms ρ r d)))) (sym is) (by_place r d one more named (place_under k) a)
+      go (inr is) = subst (λ p. asked_at (place_under k) (asked Q (form_at p d (forms ρ r d)))) (sym is.0) (of_a_truth (place_under k) d is.1)
 
   mutual
     unfolding asked forms
 
-    pub after : (d : Data) → (asked P d).as_schema → (asked Q (forms (change_rules f) tt d).as_schema).as_schema
-    after null a = tt
-    after (boolean b) a = h.of_truth b
-    after (number n) a = tt
-    after (string s) a = tt
-    after (array ds) a = tt
-    after (object ms) a = h.of_object ms a.0 (keywords ms a.1)
+    pub after : (r : R) (d : Data) → (asked P d).as_schema → (asked Q (forms ρ r d).as_schema).as_schema
+    after r null a = tt
+    after r (boolean b) a = h.of_truth (ρ.inside r (boolean b)) b
+    after r (number n) a = tt
+    after r (string s) a = tt
+    after r (array ds) a = tt
+    after r (object ms) a = h.of_object (ρ.inside r (object ms)) ms a.0 (keywords (ρ.inside r (object ms)) ms a.1)
 
-    list : (d : Data) → (asked P d).as_list → (asked Q (forms (change_rules f) tt d).as_list).as_list
-    list null a = tt
-    list (boolean b) a = tt
-    list (number n) a = tt
-    list (string s) a = tt
-    list (array ds) a = items ds a
-    list (object ms) a = tt
+    list : (r : R) (d : Data) → (asked P d).as_list → (asked Q (forms ρ r d).as_list).as_list
+    list r null a = tt
+    list r (boolean b) a = tt
+    list r (number n) a = tt
+    list r (string s) a = tt
+    list r (array ds) a = items r ds a
+    list r (object ms) a = tt
 
-    names : (d : Data) → (asked P d).by_name → (asked Q (forms (change_rules f) tt d).by_name).by_name
-    names null a = tt
-    names (boolean b) a = tt
-    names (number n) a = tt
-    names (string s) a = tt
-    names (array ds) a = tt
-    names (object ms) a = members ms a
+    names : (r : R) (d : Data) → (asked P d).by_name → (asked Q (forms ρ r d).by_name).by_name
+    names r null a = tt
+    names r (boolean b) a = tt
+    names r (number n) a = tt
+    names r (string s) a = tt
+    names r (array ds) a = tt
+    names r (object ms) a = members r ms a
 
-    items : (ds : Items) → asked_of_items P ds → asked_of_items Q (in_items (change_rules f) tt ds)
-    items no_items a = tt
-    items (item d ds) a = (after d a.0, items ds a.1)
+    items : (r : R) (ds : Items) → asked_of_items P ds → asked_of_items Q (in_items ρ r ds)
+    items r no_items a = tt
+    items r (item d ds) a = (after r d a.0, items r ds a.1)
 
-    members : (ms : Members) → asked_of_members P ms → asked_of_members Q (in_names (change_rules f) tt ms)
-    members no_members a = tt
-    members (member k d ms) a = (after d a.0, members ms a.1)
+    pub members : (r : R) (ms : Members) → asked_of_members P ms → asked_of_members Q (in_names ρ r ms)
+    members r no_members a = tt
+    members r (member k d ms) a = (after r d a.0, members r ms a.1)
 
-    keywords : (ms : Members) → asked_of_keywords P ms → asked_of_keywords Q (walked f ms)
-    keywords no_members a = tt
-    keywords (member k d ms) a = (at d (after d) (list d) (names d) (place_under k) a.0, keywords ms a.1)
+    keywords : (r : R) (ms : Members) → asked_of_keywords P ms → asked_of_keywords Q (in_keywords ρ r ms)
+    keywords r no_members a = tt
+    keywords r (member k d ms) a = (at r k d (after r d) (list r d) (names r d) a.0, keywords r ms a.1)
+
+-- a change of every schema alike keeps a class by what it makes of one whose subschemas are done
+pub change-preserves : (f : Data → Data) (P Q : Members → Type 0) → ((s : Data) → IsSchema s → IsSchema (f s))
+    → ((b : Bool) → (asked Q (f (boolean b))).as_schema)
+    → ((ms : Members) → P ms → asked_of_keywords Q (walked f ms) → (asked Q (f (object (walked f ms)))).as_schema)
+    → Preserves (change_rules f) P Q
+change-preserves f P Q schema truth done = record {
+  place = λ r k d. inl refl;
+  schema = λ r s is. schema s is;
+  of_truth = λ r b. truth b;
+  of_object = λ r ms is a. done ms is a;
+}

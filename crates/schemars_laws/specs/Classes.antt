@@ -89,10 +89,10 @@ abbrev pub HasPlainReference : Members → Type 0
 HasPlainReference ms =
     IsOnce (codes "$ref") ms × IsText (get_member (codes "$ref") ms) × IsSchemaList (get_member (codes "allOf") ms)
 
--- `type` stands once, a list of types is one of texts, there is no `nullable`, and no `const` beside null alone
+-- a list of types is one of texts, there is no `nullable`, and no `const` beside null alone
 abbrev pub HasPlainType : Members → Type 0
 HasPlainType ms =
-    IsOnce (codes "type") ms × IsTypes (get_member (codes "type") ms) × (get_member (codes "nullable") ms ≡ None)
+    IsTypes (get_member (codes "type") ms) × (get_member (codes "nullable") ms ≡ None)
     × ((is_null_alone (get_member (codes "type") ms) ≡ false) ⊎ (get_member (codes "const") ms ≡ None))
 
 -- no other keyword stands beside `$ref`

@@ -2,4 +2,6 @@
 pub mod Everywhere
 pub mod Names
 pub mod Classes
+pub mod Paths
+pub mod Stages
 pub mod Laws

@@ -14,13 +14,14 @@ pub record IsNameOf (key k reference : Text) : Type 0 where
 abbrev pub IsName : Text → Text → Type 0
 IsName key reference = (reference ≡ codes "#") ⊎ ((k : Text) × IsNameOf key k reference)
 
-abbrev pub IsNamed : Text → Option Text → Type 0
-IsNamed key None = Unit {0}
-IsNamed key (Some reference) = IsName key reference
+-- a text of which N holds, if there is one
+abbrev pub IsNamedBy : (Text → Type 0) → Option Text → Type 0
+IsNamedBy N None = Unit {0}
+IsNamedBy N (Some reference) = N reference
 
--- what stands under `$ref`, if it is a text, names the document or a definition
-abbrev pub HasName : Text → Members → Type 0
-HasName key ms = IsNamed key (option_and_then as_str (get_member (codes "$ref") ms))
+-- N holds of what stands under `$ref`, if it is a text
+abbrev pub HasNameOf : (Text → Type 0) → Members → Type 0
+HasNameOf N ms = IsNamedBy N (option_and_then as_str (get_member (codes "$ref") ms))
 
 abbrev pub IsNoObject : Option Data → Type 0
 IsNoObject None = Unit {0}
@@ -31,9 +32,14 @@ IsNoObject (Some (string s)) = Unit {0}
 IsNoObject (Some (array ds)) = Unit {0}
 IsNoObject (Some (object ms)) = ⊥
 
--- so, and as Q says; under `unevaluatedProperties`, where a walk doesn't lead, there is to be no schema object
+-- a schema object with such a reference, of which Q holds; under `unevaluatedProperties`, where a walk doesn't lead, there is
+-- no schema object
+abbrev pub NamedBy : (Text → Type 0) → (Members → Type 0) → Members → Type 0
+NamedBy N Q ms = HasNameOf N ms × IsNoObject (get_member (codes "unevaluatedProperties") ms) × Q ms
+
+-- whose reference names the document or a definition
 abbrev pub Named : Text → (Members → Type 0) → Members → Type 0
-Named key Q ms = HasName key ms × IsNoObject (get_member (codes "unevaluatedProperties") ms) × Q ms
+Named key Q = NamedBy (IsName key) Q
 
 -- the definitions are a map, or there are none
 abbrev pub IsMap : Option Data → Type 0
