@@ -25,10 +25,12 @@ use Rattle.schemars_headline.specs.Headline.{MeansItsType, IsDraftPath, CannotPl
 use Rattle.schemars_documents.specs.PlainTable.{IsPlainTable, HasPlainNotes}
 use Rattle.schemars_roots.specs.Settings.{Held, state_with}
 use Rattle.schemars_roots.specs.Through.{IsUntransformed, IsRefused}
-use Rattle.schemars_headline.specs.State.{Settings, State, path_of, HasOwnDefinitions}
+use Rattle.schemars_headline.specs.State.{Settings, State, stripped, path_of, HasOwnDefinitions}
+use Rattle.schemars_laws.specs.Paths.{components}
+use Rattle.schemars_generate.specs.Settings.{transforms_openapi3}
 use Rattle.schemagen_input.specs.Input.{is_complete, is_table, table_in, input_of}
 use Rattle.schemagen_run.specs.Run.{settings_for, transforms_of_dialect, fresh, Means, IsDocumentOf, IsUnplaced, IsRefusal}
-use Rattle.schemagen_run.specs.Run.{AreTaken, AreDefinitionsOf}
+use Rattle.schemagen_run.specs.Run.{settings_of_dialect, AreTakenAt, AreTaken, AreDefinitionsOf}
 
 pub both : (a b : Bool) → a && b ≡ true → (a ≡ true) × (b ≡ true)
 both true b e = (refl, e)
@@ -190,7 +192,34 @@ known_refusal root held e known (inr is) unknown = absurd (omega (arith, unknown
 
 -- the definitions that the generator takes are those that a part for the row leads to
 pub are_definitions : (s : State) (asked : Asked) (rows : List Row) (root : ℕ) (ts : List (GenTransform NoTransform)) (taken : Members)
-    → s ≡ fresh asked rows → ts ≡ transforms_of_dialect asked.dialect → AreTaken ts s root taken → AreDefinitionsOf asked rows root taken
-are_definitions s asked rows root ts taken same is made =
-    subst (λ (xs : List (GenTransform NoTransform)). AreTaken xs (fresh asked rows) root taken) is
-    (subst (λ (t : State). AreTaken ts t root taken) same made)
+    → asked.dialect ≡ OpenApi3 → s ≡ fresh asked rows → ts ≡ transforms_of_dialect asked.dialect → AreTaken ts s root taken
+    → AreDefinitionsOf asked rows root taken
+are_definitions s asked rows root ts taken openapi3 same is made = (
+  now,
+  at,
+  λ plain. there.2 refl (own (has_own_definitions asked rows)) (ap path_of held ∙ path asked openapi3)
+      (subst IsPlainTable (sym (ap (λ (t : State). t.rows) held)) plain),
+)
+  where
+    path : (asked : Asked) → asked.dialect ≡ OpenApi3 → path_of (fresh asked rows) ≡ components
+    path asked same = ap (λ d. stripped (settings_of_dialect d).definitions_path) same
+
+    these : ts ≡ transforms_openapi3
+    these = is ∙ ap transforms_of_dialect openapi3
+
+    there : AreTaken transforms_openapi3 (fresh asked rows) root taken
+    there =
+        subst (λ (xs : List (GenTransform NoTransform)). AreTaken xs (fresh asked rows) root taken) these
+        (subst (λ (t : State). AreTaken ts t root taken) same made)
+
+    now : State
+    now = there.0
+
+    at : AreTakenAt transforms_openapi3 (fresh asked rows) root now taken
+    at = there.1
+
+    held : now ≡ record (fresh asked rows) { names = now.names; definitions = now.definitions }
+    held = at.2
+
+    own : HasOwnDefinitions (fresh asked rows) → HasOwnDefinitions now
+    own = at.4

@@ -22,6 +22,7 @@ use Rattle.schemars_error.specs.declared.error.GenerateError.TheVariants.{OutOfM
 use Rattle.schemars_headline.specs.Headline.{MeansItsType, CannotPlace}
 use Rattle.schemars_headline.specs.Calls.{IsLastRootCall, IsPartOf, Adds, IsNeeded}
 use Rattle.schemars_dialects.specs.Dialects.{MeansItsTypeUnder, AcceptsExampleUnder}
+use Rattle.schemars_dialects.specs.Taken.{TakenHeadline, MeanTheirRows}
 use Rattle.schemars_documents.specs.ContractOf.{contract_of}
 use Rattle.schemars_error.specs.Refusals.{code_of, HasFault}
 use Rattle.schemars_headline.specs.State.{Settings, State, settings2020_12, HasOwnDefinitions}
@@ -100,7 +101,7 @@ settings_for asked = record (settings_of_dialect asked.dialect) { contract = ask
 abbrev pub fresh : Asked → List Row → State
 fresh asked rows = record { settings = settings_for asked; rows = rows; names = []; definitions = no_members }
 
--- under the keywords of a draft the document accepts just the values of the row; of OpenAPI nothing is told
+-- under the keywords of a draft the document accepts just the values of the row; of a root document for OpenAPI nothing is told
 abbrev pub Means : Dialect → List Row → Contract → ℕ → Data → Type 0
 Means Draft2020_12 rows contract root document = MeansItsType rows contract (codes "/$defs") root document
 Means Draft2019_09 rows contract root document = MeansItsTypeUnder draft2019_09 rows contract (codes "/$defs") root document
@@ -115,15 +116,21 @@ IsDocumentOf asked rows root document =
     × (IsPlainTable rows → Means asked.dialect rows (contract_of asked.contract) root document)
     × (transforms_of_dialect asked.dialect ≡ [] → HasNoFloat rows → has_float document ≡ false)
 
--- the definitions that a part for this row leads to, through these transforms
-abbrev pub AreTaken : List (GenTransform NoTransform) → State → ℕ → Members → Type 0
-AreTaken ts old root taken =
-    (s : State) × (part : Data) × IsPartOf s root part × Adds old s × (HasOwnDefinitions old → HasOwnDefinitions s)
-    × IsNeeded old s (references part) × (taken ≡ each_made_by ts s.definitions)
+-- what a generator holds after it has made a part for this row, and its definitions, through these transforms
+abbrev pub AreTakenAt : List (GenTransform NoTransform) → State → ℕ → State → Members → Type 0
+AreTakenAt ts old root s taken =
+    (part : Data) × IsPartOf s root part × (s ≡ record old { names = s.names; definitions = s.definitions }) × Adds old s
+    × (HasOwnDefinitions old → HasOwnDefinitions s) × IsNeeded old s (references part) × (taken ≡ each_made_by ts s.definitions)
 
--- the definitions that a part for this row leads to, after the transforms of the dialect
+-- the definitions that a part for this row leads to, through these transforms; through those of OpenAPI they mean their rows
+abbrev pub AreTaken : List (GenTransform NoTransform) → State → ℕ → Members → Type 0
+AreTaken ts old root taken = (s : State) × AreTakenAt ts old root s taken × (ts ≡ transforms_openapi3 → TakenHeadline s taken)
+
+-- those that it leads to, through the transforms of OpenAPI: where the table is plain, under `components.schemas` each accepts
+-- under OpenAPI just the values of the row of its name, and its references resolve
 abbrev pub AreDefinitionsOf : Asked → List Row → ℕ → Members → Type 0
-AreDefinitionsOf asked rows root taken = AreTaken (transforms_of_dialect asked.dialect) (fresh asked rows) root taken
+AreDefinitionsOf asked rows root taken =
+    (s : State) × AreTakenAt transforms_openapi3 (fresh asked rows) root s taken × (IsPlainTable rows → MeanTheirRows s taken)
 
 -- the text of a document in order, where the numbers in it are whole, and a newline
 abbrev pub IsTextLine : Data → Text → Type 0

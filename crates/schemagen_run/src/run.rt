@@ -310,7 +310,8 @@ fn definitions_line(
     types: Types,
     root: TypeNo,
 ) -> Result<String, Fault>
-    requires { is_table types root ≡ true }
+    requires table { is_table types root ≡ true }
+    requires openapi3 { asked.dialect ≡ OpenApi3 }
     ensures ok { IfOk result (λ s. (taken : _) × AreDefinitionsOf asked types root taken
         × IsDefinitionsLine taken (string_bytes s)) }
     ensures accepted { OnOk result (IsAccepted types) }
@@ -380,7 +381,8 @@ fn definitions_of(
     types: Types,
     root: TypeNo,
 ) -> Result<Map<String, Value>, GenerateError>
-    requires { is_table types root ≡ true }
+    requires table { is_table types root ≡ true }
+    requires openapi3 { asked.dialect ≡ OpenApi3 }
     ensures ok { IfOk result (λ m. AreDefinitionsOf asked types root (members_view m.entries)) }
     ensures accepted { OnOk result (IsAccepted types) }
     ensures refused { IfErr result (IsRefusal asked types root) }

@@ -21,11 +21,11 @@ use Rattle.schemars_headline.proofs.Calls.{definitions_in, root_means}
 use Rattle.schemars_laws.specs.Everywhere.{Everywhere}
 use Rattle.schemars_laws.specs.Names.{IsName, Named, IsMap}
 use Rattle.schemars_laws.specs.Classes.{IsDraft07, HasPlainItems}
-use Rattle.schemars_laws.specs.Laws.{MovesAcceptance}
+use Rattle.schemars_laws.specs.Laws.{MovesAcceptance, for_draft07, for_draft2019_09}
 use Rattle.schemars_laws.proofs.Preserved.{weaker}
 use Rattle.schemars_laws.proofs.Apart.{differ}
 use Rattle.schemars_laws.proofs.Drafts.{draft07-law, draft2019_09-law}
-use Rattle.schemars_dialects.specs.Dialects.{for_draft07, for_draft2019_09, AcceptsItsValuesUnder}
+use Rattle.schemars_dialects.specs.Dialects.{AcceptsItsValuesUnder}
 use Rattle.schemars_dialects.proofs.Classes.{good-named}
 use Rattle.schemars_dialects.proofs.RootClass.{IsReady, root_call-ready, may_refer-name, stands-place, stands-draft}
 use Rattle.schemars_dialects.proofs.Definitions.{Stay, stay-same, Has, prefix-has, siblings-has, unevaluated-has, count-has}

@@ -2,9 +2,17 @@
 use Rattle.std.proofs.Common.{ℕ, zero, suc, inl, inr, List, [], ◌∷◌, Option, Some, None, true, false, codes, refl, sym, ◌∙◌}
 use Rattle.std.proofs.Common.{subst}
 use Rattle.std.specs.Option.{option_map_or}
-use Rattle.serde_json.specs.Data.{Data, Members}
-use Rattle.serde_json.specs.Find.{get_member}
+use Rattle.serde_json.specs.Data.{Data}
 use Rattle.schemars_json.specs.Json.{Text}
+use Rattle.serde_json.specs.Data.{Members}
+use Rattle.serde_json.specs.Find.{get_member}
+use Rattle.schemars_laws.specs.Everywhere.{Everywhere}
+use Rattle.schemars_laws.specs.Names.{IsName, Named}
+use Rattle.schemars_laws.specs.Classes.{IsDraft07}
+use Rattle.schemars_laws.proofs.Preserved.{weaker}
+use Rattle.schemars_laws.proofs.Steps.{text-alone, text-named}
+use Rattle.schemars_laws.specs.Stages.{Stands, IsForOpenApi}
+use Rattle.schemars_dialects.proofs.Changes.{Class}
 use Rattle.schemars_schema.proofs.Literals.{literal_is_schema}
 use Rattle.schemars_rewrite.specs.Variants.{unit_variant}
 use Rattle.schemars_shapes.specs.Shape as shape
@@ -22,11 +30,7 @@ use Rattle.schemars_meaning.proofs.ByShape.{IsDocument, own_document, member_doc
 use Rattle.schemars_meaning.proofs.References.{IsNotedShape}
 use Rattle.schemars_meaning.proofs.Referring.{IsNotedRow, AreNotedRows, plain_rows}
 use Rattle.schemars_meaning.proofs.Following.{described_fields}
-use Rattle.schemars_laws.specs.Everywhere.{Everywhere}
-use Rattle.schemars_laws.specs.Names.{IsName, Named}
-use Rattle.schemars_laws.specs.Classes.{IsDraft07}
-use Rattle.schemars_laws.proofs.Preserved.{weaker}
-use Rattle.schemars_dialects.proofs.Changes.{Class, referring-named, IsGood, good_truth, good-annotated, good-allow_null}
+use Rattle.schemars_dialects.proofs.Changes.{IsGood, good_truth, good-annotated, good-allow_null}
 use Rattle.schemars_dialects.proofs.Documents.{type-good, int-good, non_zero-good, char-good, formatted-good, bytes-good}
 use Rattle.schemars_dialects.proofs.Documents.{schema_itself-good, reference-good, empty_list-good, seq-good, set-good}
 use Rattle.schemars_dialects.proofs.Documents.{array-good, up_to-good, tuple-good, parts-good, fields-good, one_of-good}
@@ -146,8 +150,12 @@ module _ (R : Text → Type 0) (basis : Basis) (Refers : ℕ → Text → Type 0
   described-good (suc d) n t h =
       own-good d (written-by d (described-good d)) (entry_at basis.rows n) (plain n) (plain_rows basis.rows plain n) t h
 
-class-named : (key : Text) (ms : Members) → Class (IsName key) ms → Named key IsDraft07 ms
-class-named key ms is = (referring-named key (get_member (codes "$ref") ms) is.0, is.1, is.2)
+pub class-named : (key : Text) (ms : Members) → Stands (IsName key) IsForOpenApi ms → Named key IsDraft07 ms
+class-named key ms is = (
+  text-named (IsName key) (get_member (codes "$ref") ms) is.reference,
+  is.closed,
+  (is.own.unevaluated, (is.once, text-alone (IsName key) (get_member (codes "$ref") ms) is.reference, is.own.all_of), is.own.items),
+)
 
 -- where references are names
 pub good-named : (key : Text) (s : Data) → Everywhere (Class (IsName key)) s → Everywhere (Named key IsDraft07) s

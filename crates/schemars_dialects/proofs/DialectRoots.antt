@@ -22,7 +22,8 @@ use Rattle.schemars_headline.proofs.Standing.{MayRefer, Stands, AllStand}
 use Rattle.schemars_headline.proofs.Placed.{StandsAt, holds_put}
 use Rattle.schemars_headline.proofs.Calls.{definitions_in}
 use Rattle.schemars_laws.specs.Names.{IsNameOf, IsName, IsMap}
-use Rattle.schemars_dialects.specs.Dialects.{for_draft07, for_draft2019_09, Draft07Headline, Draft2019_09Headline}
+use Rattle.schemars_laws.specs.Laws.{for_draft07, for_draft2019_09}
+use Rattle.schemars_dialects.specs.Dialects.{Draft07Headline, Draft2019_09Headline}
 use Rattle.schemars_dialects.proofs.RootClass.{IsReady, entries, root_call-ready, stands-place, to-name}
 use Rattle.schemars_dialects.proofs.Definitions.{Has, prefix-has}
 use Rattle.schemars_dialects.proofs.Accepting.{ready-has, draft07-has, draft07_accepts, draft2019_09_accepts}

@@ -32,9 +32,9 @@ use Rattle.schemars_meaning.proofs.Enums.{title_noted}
 use Rattle.schemars_meaning.proofs.MapDocument.{noted_by}
 use Rattle.schemars_meaning.proofs.References.{IsNotedPayload, AreNotedVariants}
 use Rattle.schemars_laws.specs.Everywhere.{asked, asked_of_members}
-use Rattle.schemars_dialects.proofs.Changes.{Class, AreGood, are-put, nothing, IsGood, good, good_truth, good-annotated}
+use Rattle.schemars_dialects.proofs.Changes.{Class, AreGood, are-put, IsGood, good, good_truth, good-annotated}
 use Rattle.schemars_dialects.proofs.Changes.{good-noted_by}
-use Rattle.schemars_dialects.proofs.Documents.{AllGood, type-good, tuple-good, parts-good, fields-good, tagged-good, unit-good}
+use Rattle.schemars_dialects.proofs.Documents.{AllGood, are-typed, type-good, tuple-good, parts-good, fields-good, tagged-good, unit-good}
 use Rattle.schemars_dialects.proofs.Documents.{units-good, one_of-good, any_of-good, member-good, AllNamed, asked-all}
 
 noted-append : (xs ys : List Field) → AreNoted xs → AreNoted ys → AreNoted (xs ++ ys)
@@ -235,7 +235,7 @@ module _ (R : Text → Type 0) where
       start =
           are-put R (codes "additionalProperties") (filled other us)
           (put (codes "type") (string (codes "object")) no_members) refl is.everywhere
-          (are-put R (codes "type") (string (codes "object")) no_members refl tt (nothing R))
+          (are-typed R (codes "object"))
 
       behind : AllGood R (left other us)
       behind = left_all (IsGood R) other us all

@@ -9,3 +9,4 @@ pub mod ReferencesKept
 pub mod Resolving
 pub mod DialectRoots
 pub mod Samples
+pub mod Taken

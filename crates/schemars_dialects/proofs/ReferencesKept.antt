@@ -14,22 +14,22 @@ use Rattle.schemars_transform.specs.Built.{prefix_as_items}
 use Rattle.schemars_gen_transform.specs.Unevaluated.{unevaluated_as_additional, closed_by, replace_unevaluated_properties}
 use Rattle.schemars_laws.specs.Everywhere.{Everywhere, asked, asked_of_keywords}
 use Rattle.schemars_laws.specs.Classes.{IsOnce, IsSchemaList, HasPlainReference}
-use Rattle.schemars_laws.proofs.Looked.{walked, list-walked, raw-walked, once-walked, without-other}
+use Rattle.schemars_laws.proofs.Looked.{change_rules, walked, list-walked, raw-walked, once-walked, without-other}
 use Rattle.schemars_laws.proofs.Apart.{differ}
-use Rattle.schemars_laws.proofs.Nullable.{without-put}
 use Rattle.schemars_laws.proofs.Siblings.{schema-siblings, moved_members, get-moved}
 use Rattle.schemars_laws.proofs.PrefixItems.{prefix_items}
 use Rattle.schemars_laws.proofs.Unevaluated.{schema-unevaluated, none-kept}
-use Rattle.schemars_laws.proofs.Preserved.{Preserves, after, weaker, asked-without, asked-put, asked-get}
-use Rattle.schemars_laws.proofs.Drafts.{asked-moved}
+use Rattle.schemars_laws.proofs.Preserved.{Preserves, after, change-preserves, weaker, asked-without, asked-put, asked-get}
+use Rattle.schemars_laws.proofs.Editing.{without-put, absent-once, asked-moved}
 use Rattle.schemars_laws.proofs.Plain.{Alike, reference-walked, reference-alike, alike-without, without-swap}
-use Rattle.schemars_dialects.specs.Dialects.{for_draft07, for_draft2019_09}
-use Rattle.schemars_dialects.proofs.Changes.{IsReferring, Class}
-use Rattle.schemars_dialects.proofs.Documents.{absent-once}
+use Rattle.schemars_laws.specs.Laws.{for_draft07, for_draft2019_09}
+use Rattle.schemars_laws.specs.Stages.{IsTextOf}
+use Rattle.schemars_dialects.proofs.Changes.{Class}
+use Rattle.schemars_laws.proofs.Steps.{text-alone}
 
 module _ (R : Text → Type 0) where
   abbrev Refers : Members → Type 0
-  Refers ms = IsReferring R (get_member (codes "$ref") ms)
+  Refers ms = IsTextOf R (get_member (codes "$ref") ms)
 
   -- with plain references, and then with references that stand once
   abbrev WithPlain : Members → Type 0
@@ -43,10 +43,10 @@ module _ (R : Text → Type 0) where
   RefersOnce ms = Refers ms × IsOnce (codes "$ref") ms
 
   refers-alike : (ns ms : Members) → Alike (codes "$ref") ns ms → Refers ms → Refers ns
-  refers-alike ns ms a is = subst (IsReferring R) (sym a.first) is
+  refers-alike ns ms a is = subst (IsTextOf R) (sym a.first) is
 
   refers-walked : (f : Data → Data) (ms : Members) → Refers ms → Refers (walked f ms)
-  refers-walked f ms is = subst (IsReferring R) (sym (raw-walked f (codes "$ref") ms refl)) is
+  refers-walked f ms is = subst (IsTextOf R) (sym (raw-walked f (codes "$ref") ms refl)) is
 
   abbrev IsListed : Members → Type 0
   IsListed ms = IsSchemaList (get_member (codes "prefixItems") ms)
@@ -57,9 +57,9 @@ module _ (R : Text → Type 0) where
 
   -- ---- without `unevaluatedProperties`
 
-  after-unevaluated : Preserves unevaluated_as_additional (Class R) WithPlain
+  after-unevaluated : Preserves (change_rules unevaluated_as_additional) (Class R) WithPlain
   unfolding asked
-  after-unevaluated = record { schema = schema-unevaluated; of_truth = λ b. tt; of_object = go }
+  after-unevaluated = change-preserves unevaluated_as_additional (Class R) WithPlain schema-unevaluated (λ b. tt) go
     where
       kept : (ms : Members) → Class R ms
           → WithPlain (without (codes "unevaluatedProperties") (walked unevaluated_as_additional ms))
@@ -67,12 +67,13 @@ module _ (R : Text → Type 0) where
           let ns = walked unevaluated_as_additional ms in
           let rest = without (codes "unevaluatedProperties") ns in (
             refers-alike rest ns (alike-without (codes "$ref") (codes "unevaluatedProperties") ns refl)
-                (refers-walked unevaluated_as_additional ms is.0),
+                (refers-walked unevaluated_as_additional ms is.reference),
             reference-alike rest ns (alike-without (codes "$ref") (codes "unevaluatedProperties") ns refl)
                 (alike-without (codes "allOf") (codes "unevaluatedProperties") ns refl)
-                (reference-walked unevaluated_as_additional schema-unevaluated ms is.2.1),
+                (reference-walked unevaluated_as_additional schema-unevaluated ms
+                (is.once, text-alone R (get_member (codes "$ref") ms) is.reference, is.own.all_of)),
             listed-alike rest ns (alike-without (codes "prefixItems") (codes "unevaluatedProperties") ns refl).first
-                (list-walked unevaluated_as_additional schema-unevaluated (codes "prefixItems") ms refl is.2.2.1),
+                (list-walked unevaluated_as_additional schema-unevaluated (codes "prefixItems") ms refl is.own.items.1),
           )
 
       go : (ms : Members) → Class R ms → asked_of_keywords WithPlain (walked unevaluated_as_additional ms)
@@ -80,21 +81,21 @@ module _ (R : Text → Type 0) where
       go ms is a =
           let ns = walked unevaluated_as_additional ms in
           subst (λ o. (asked WithPlain (closed_by o (object (without (codes "unevaluatedProperties") ns)))).as_schema)
-          (sym (none-kept ms is.2.0).1) (kept ms is, asked-without WithPlain (codes "unevaluatedProperties") ns a)
+          (sym (none-kept ms is.own.unevaluated).1) (kept ms is, asked-without WithPlain (codes "unevaluatedProperties") ns a)
 
   -- ---- without siblings
 
-  after-siblings : Preserves without_siblings WithPlain WithItems
+  after-siblings : Preserves (change_rules without_siblings) WithPlain WithItems
   unfolding asked
-  after-siblings = record { schema = schema-siblings; of_truth = λ b. tt; of_object = go }
+  after-siblings = change-preserves without_siblings WithPlain WithItems schema-siblings (λ b. tt) go
     where
       alone : (r : Data) (ns : Members) → get_member (codes "$ref") ns ≡ Some r → Refers ns
           → WithItems (member (codes "$ref") r no_members)
-      alone r ns here is = (subst (IsReferring R) here is, refl, tt)
+      alone r ns here is = (subst (IsTextOf R) here is, refl, tt)
 
       gone : (ns : Members) → IsOnce (codes "$ref") ns → IsListed ns → WithItems (without (codes "$ref") ns)
       gone ns once items = (
-        subst (IsReferring R) (sym once) tt,
+        subst (IsTextOf R) (sym once) tt,
         absent-once (codes "$ref") (without (codes "$ref") ns) once,
         listed-alike (without (codes "$ref") ns) ns (alike-without (codes "prefixItems") (codes "$ref") ns refl).first items,
       )
@@ -103,7 +104,7 @@ module _ (R : Text → Type 0) where
       moved r ns once items =
           let none : get_member (codes "$ref") (moved_members r ns) ≡ None =
           get-moved r ns (codes "$ref") (differ (codes "$ref") (codes "allOf") refl) ∙ once in (
-            subst (IsReferring R) (sym none) tt,
+            subst (IsTextOf R) (sym none) tt,
             absent-once (codes "$ref") (moved_members r ns) none,
             listed-alike (moved_members r ns) ns (
                 get-moved r ns (codes "prefixItems") (differ (codes "prefixItems") (codes "allOf") refl)
@@ -142,13 +143,13 @@ module _ (R : Text → Type 0) where
 
   refers-put : (l : Text) (d : Data) (ms : Members) → codes "$ref" ≢ l → RefersOnce ms → RefersOnce (put l d ms)
   refers-put l d ms apart is = (
-    subst (IsReferring R) (sym (get_member-put_other (codes "$ref") l d ms apart)) is.0,
+    subst (IsTextOf R) (sym (get_member-put_other (codes "$ref") l d ms apart)) is.0,
     without-put (codes "$ref") l d ms apart ∙ is.1,
   )
 
-  after-prefix : Preserves prefix_as_items WithItems RefersOnce
+  after-prefix : Preserves (change_rules prefix_as_items) WithItems RefersOnce
   unfolding asked
-  after-prefix = record { schema = schema-prefix; of_truth = λ b. tt; of_object = go }
+  after-prefix = change-preserves prefix_as_items WithItems RefersOnce schema-prefix (λ b. tt) go
     where
       listed : (d : Data) → IsSchemaList (Some d) → (asked RefersOnce d).as_schema
       listed (array ds) is = tt
@@ -173,7 +174,7 @@ module _ (R : Text → Type 0) where
 
           rest_is : RefersOnce rest
           rest_is = (
-            subst (IsReferring R) (sym (without-other (codes "prefixItems") (codes "$ref") ns apart))
+            subst (IsTextOf R) (sym (without-other (codes "prefixItems") (codes "$ref") ns apart))
                 (refers-walked prefix_as_items ms is.0),
             without-swap (codes "$ref") (codes "prefixItems") ns apart ∙ once-walked prefix_as_items (codes "$ref") ms is.1,
           )
@@ -212,11 +213,11 @@ module _ (R : Text → Type 0) where
 
   pub draft2019_09-refers : (d : Data) → Everywhere (Class R) d → Everywhere RefersOnce (for_draft2019_09 d)
   draft2019_09-refers d is =
-      after prefix_as_items WithItems RefersOnce after-prefix d
-      (weaker (Class R) WithItems (λ ms h. (h.0, h.2.1.0, h.2.2.1)) d is)
+      after (change_rules prefix_as_items) WithItems RefersOnce after-prefix tt d
+      (weaker (Class R) WithItems (λ ms h. (h.reference, h.once, h.own.items.1)) d is)
 
   pub draft07-refers : (d : Data) → Everywhere (Class R) d → Everywhere RefersOnce (for_draft07 d)
   draft07-refers d is =
-      let one = after unevaluated_as_additional (Class R) WithPlain after-unevaluated d is in
-      let two = after without_siblings WithPlain WithItems after-siblings (replace_unevaluated_properties d) one in
-      after prefix_as_items WithItems RefersOnce after-prefix (remove_ref_siblings (replace_unevaluated_properties d)) two
+      let one = after (change_rules unevaluated_as_additional) (Class R) WithPlain after-unevaluated tt d is in
+      let two = after (change_rules without_siblings) WithPlain WithItems after-siblings tt (replace_unevaluated_properties d) one in
+      after (change_rules prefix_as_items) WithItems RefersOnce after-prefix tt (remove_ref_siblings (replace_unevaluated_properties d)) two

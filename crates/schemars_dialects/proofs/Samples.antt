@@ -31,10 +31,11 @@ use Rattle.schemars_laws.specs.Names.{IsName, Named}
 use Rattle.schemars_laws.specs.Classes.{AreSchemas, IsDraft07, HasPlainItems}
 use Rattle.schemars_laws.proofs.Preserved.{weaker}
 use Rattle.schemars_laws.proofs.Drafts.{draft07-law, draft2019_09-law}
-use Rattle.schemars_dialects.specs.Dialects.{for_draft07, for_draft2019_09, HasPlainDefinitions, AcceptsExampleUnder}
+use Rattle.schemars_laws.specs.Laws.{for_draft07, for_draft2019_09}
+use Rattle.schemars_dialects.specs.Dialects.{HasPlainDefinitions, AcceptsExampleUnder}
 use Rattle.schemars_dialects.specs.Dialects.{Draft07Sample, Draft2019_09Sample}
-use Rattle.schemars_dialects.proofs.Changes.{Class, AreGood, are-put, nothing, IsGood, good, good_truth, good-members, good-allow_null}
-use Rattle.schemars_dialects.proofs.Documents.{type-good, are-typed, char-good, bytes-good, seq-good, AllGood, asked-items}
+use Rattle.schemars_dialects.proofs.Changes.{Class, AreGood, are-put, IsGood, good, good_truth, good-members, good-allow_null}
+use Rattle.schemars_dialects.proofs.Documents.{own-items, type-good, are-typed, char-good, bytes-good, seq-good, AllGood, asked-items}
 use Rattle.schemars_dialects.proofs.Documents.{any_of-good, asked-named}
 use Rattle.schemars_dialects.proofs.Classes.{described-good, good-named}
 use Rattle.schemars_dialects.proofs.RootClass.{IsReady, are-with_meta_schema, placed-ready, may_refer-name, stands-place, stands-draft}
@@ -51,7 +52,7 @@ module _ (R : Text → Type 0) where
       → AreGood R (put (codes "prefixItems") (array_of ts) (put (codes "type") (string (codes "array")) no_members))
   unfolding asked
   are-positions ts is = record {
-    own = (tt, tt, ((refl, refl), (refl, tt, tt), (refl, schemas-of ts is, tt, refl)));
+    own = own-items R _ tt refl refl refl refl refl refl (refl, schemas-of ts is, tt, refl);
     inside = (asked-items R ts is, (tt, tt));
   }
 
@@ -62,12 +63,12 @@ module _ (R : Text → Type 0) where
   struct_schema-good : (ms : Members) → asked_of_members (Class R) ms → IsGood R (struct_schema ms)
   unfolding asked
   struct_schema-good ms is =
-      good R _ (are-put R (codes "properties") (object ms) _ refl is (are-typed R (codes "object") no_members (nothing R)))
+      good R _ (are-put R (codes "properties") (object ms) _ refl is (are-typed R (codes "object")))
 
   map_schema-good : (t : Data) → IsGood R t → IsGood R (map_schema t)
   map_schema-good t is =
       good R _ (are-put R (codes "additionalProperties") t _ refl is.everywhere
-      (are-typed R (codes "object") no_members (nothing R)))
+      (are-typed R (codes "object")))
 
   choice-good : (ts : List Data) → AllGood R ts → IsGood R (choice_of ts)
   choice-good [] is = good_truth R true

@@ -6,8 +6,7 @@ use Rattle.schemars_json.specs.Json.{Text, IsJson}
 use Rattle.schemars_schema.specs.Verdict.{Yes, verdict}
 use Rattle.schemars_schema.specs.Acceptance.{Dialect, Patterns, draft07, draft2019_09, accepts, bound}
 use Rattle.schemars_schema.specs.References.{ReferencesResolve}
-use Rattle.schemars_transform.specs.Built.{remove_ref_siblings, replace_prefix_items}
-use Rattle.schemars_gen_transform.specs.Unevaluated.{replace_unevaluated_properties}
+use Rattle.schemars_laws.specs.Laws.{for_draft07, for_draft2019_09}
 use Rattle.schemars_types.specs.Rows.{Row}
 use Rattle.schemars_types.specs.Meaning.{Contract, belongs}
 use Rattle.schemars_documents.specs.PlainTable.{IsPlainTable}
@@ -15,13 +14,6 @@ use Rattle.schemars_documents.specs.ContractOf.{contract_of}
 use Rattle.schemars_sample.specs.Example.{Example}
 use Rattle.schemars_sample.specs.SampleJson.{sample_json}
 use Rattle.schemars_headline.specs.State.{State, path_of, HasOwnDefinitions}
-
--- the transforms of Draft 7, one after another, and that of 2019-09
-abbrev pub for_draft07 : Data → Data
-for_draft07 document = replace_prefix_items (remove_ref_siblings (replace_unevaluated_properties document))
-
-abbrev pub for_draft2019_09 : Data → Data
-for_draft2019_09 document = replace_prefix_items document
 
 -- under every reading of patterns, from the bound on, the document accepts under this dialect a JSON value exactly when it
 -- belongs to the row, and never leaves it open

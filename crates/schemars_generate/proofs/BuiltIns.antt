@@ -1,11 +1,21 @@
 -- What a list of built-in transforms makes of documents, and that it refuses for want of memory alone.
 use Rattle.std.proofs.Common.{◌≡◌, ◌⊎◌, inl, inr, ℕ, List, [], Vec, Ok, Err, Global, false, refl, sym, ap, ◌∙◌, subst}
-use Rattle.serde_json.specs.Data.{Data, Members}
+use Rattle.std.proofs.Common.{Option, Some, None, option_map, Ordering, Less, Equal, Greater, nat_cmp}
+use Rattle.std.specs.Prelude.{is_some}
+use Rattle.std.specs.Cmp.Lexicographic.{slice_cmp}
+use Rattle.std.specs.Ordering.{match_ordering}
+use Rattle.serde_json.specs.Data.{Data, null, boolean, number, string, array, object, Members, no_members, member}
+use Rattle.serde_json.specs.Find.{get_member}
+use Rattle.schemars_json.specs.Json.{Text}
 use Rattle.schemars_headline.specs.Headline.{IsDraftPath}
 use Rattle.schemars_headline.specs.State.{State, Settings, stripped}
 use Rattle.schemars_walk.specs.Walk.{Step}
+use Rattle.schemars_walk.specs.Rewritten.{forms}
+use Rattle.schemars_laws.specs.Paths.{each_changed}
+use Rattle.schemars_laws.specs.Laws.{for_openapi3}
+use Rattle.schemars_dialects.specs.Taken.{TakenHeadline, OpenApiHeadline, HasSameKeys}
 use Rattle.schemars_transforms.specs.Member.{some_own}
-use Rattle.schemars_transforms.specs.BuiltIn.{made_by, IsMadeBy}
+use Rattle.schemars_transforms.specs.BuiltIn.{made_by, IsMadeBy, value_made_by, each_made_by}
 use Rattle.schemars_transforms.specs.declared.gen_transform.GenTransform.{GenTransform}
 use Rattle.schemars_transforms.proofs.Laws.{built_ins_make, each_wants_memory}
 use Rattle.schemars_sample.specs.Example.{Example}
@@ -14,7 +24,7 @@ use Rattle.schemars_roots.specs.Through.{IsThrough, IsTurnedDown, AreTurnedDown,
 use Rattle.schemars_error.specs.Refusals.{told}
 use Rattle.schemars_error.specs.declared.error.GenerateError.{GenerateError}
 use Rattle.schemars_error.specs.declared.error.GenerateError.TheVariants.{OutOfMemory, UnknownType}
-use Rattle.schemars_generate.specs.Settings.{ApplyInOrder}
+use Rattle.schemars_generate.specs.Settings.{ApplyInOrder, transforms_openapi3}
 
 -- what holds of what these transforms make of each such document holds of theirs
 pub made_by_these : {O : Type 0} (ts fs : List (GenTransform O)) (R P : Data → Type 0) (document : Data) → ts ≡ fs
@@ -54,3 +64,50 @@ pub sample_memory : (s : Settings) (definitions : Members) (x : Example) (e : Ge
     → IsDraftPath (stripped s.definitions_path) → IsSampleRefused s definitions x e → e ≡ OutOfMemory
 sample_memory s definitions x e path (inl memory) = memory
 sample_memory s definitions x e path (inr h) = absurd (h.1.other_path path)
+
+-- ---- definitions through the transforms of OpenAPI
+
+-- what is taken has just the keys that there were, whatever the built-in transforms
+each_made-get : {O : Type 0} (ts : List (GenTransform O)) (k : Text) (ms : Members)
+    → get_member k (each_made_by ts ms) ≡ option_map (value_made_by ts) (get_member k ms)
+each_made-get ts k no_members = refl
+each_made-get ts k (member l d ms) = rw (each_made-get ts k ms) (go (slice_cmp nat_cmp k l) (get_member k ms))
+  where
+    go : (o : Ordering) (found : Option Data)
+        → match_ordering o (option_map (value_made_by ts) found) (Some (value_made_by ts d)) (option_map (value_made_by ts) found)
+        ≡ option_map (value_made_by ts) (match_ordering o found (Some d) found)
+    go Less found = refl
+    go Equal found = refl
+    go Greater found = refl
+
+pub same-keys : {O : Type 0} (ts : List (GenTransform O)) (ms : Members) → HasSameKeys (each_made_by ts ms) ms
+same-keys ts ms k = ap is_some (each_made-get ts k ms) ∙ go (get_member k ms)
+  where
+    go : (o : Option Data) → is_some (option_map (value_made_by ts) o) ≡ is_some o
+    go None = refl
+    go (Some d) = refl
+
+-- the list of transforms makes what their functions make
+value_made-openapi3 : (O : Type 0) (d : Data) → value_made_by {O = O} transforms_openapi3 d ≡ for_openapi3 d
+unfolding forms
+value_made-openapi3 O null = refl
+value_made-openapi3 O (boolean b) = refl
+value_made-openapi3 O (number n) = refl
+value_made-openapi3 O (string s) = refl
+value_made-openapi3 O (array ds) = refl
+value_made-openapi3 O (object ms) = refl
+
+each_made-openapi3 : (O : Type 0) (es : Members) → each_made_by {O = O} transforms_openapi3 es ≡ each_changed for_openapi3 es
+each_made-openapi3 O no_members = refl
+each_made-openapi3 O (member k d es) =
+    ap (λ x. member k x (each_made_by {O = O} transforms_openapi3 es)) (value_made-openapi3 O d)
+    ∙ ap (member k (for_openapi3 d)) (each_made-openapi3 O es)
+
+pub taken-openapi3 : {O : Type 0} (s : State) (ts : List (GenTransform O)) (taken : Members) → ts ≡ transforms_openapi3
+    → taken ≡ each_made_by ts s.definitions → OpenApiHeadline s → HasSameKeys taken s.definitions × TakenHeadline s taken
+taken-openapi3 {O} s ts taken is made headline =
+    let these : taken ≡ each_made_by {O = O} transforms_openapi3 s.definitions =
+    made ∙ ap (λ (xs : List (GenTransform O)). each_made_by xs s.definitions) is in (
+      subst (λ ms. HasSameKeys ms s.definitions) (sym made) (same-keys ts s.definitions),
+      subst (TakenHeadline s) (sym (these ∙ each_made-openapi3 O s.definitions)) headline,
+    )

@@ -14,6 +14,7 @@ ghost use Rattle.schemars_headline.specs.State.{path_of, settings2020_12, HasOwn
 ghost use Rattle.schemars_naming.specs.Naming.{IsOneToOne};
 ghost use Rattle.schemars_documents.specs.PlainTable.{IsPlainTable, HasPlainNotes};
 ghost use Rattle.schemars_dialects.specs.Dialects.{RootHeadlineUnder};
+ghost use Rattle.schemars_dialects.specs.Taken.{TakenHeadline, HasSameKeys};
 ghost use Rattle.schemars_error.specs.Refusals.{HasFault};
 ghost use Rattle.schemars_roots.specs.Through.{IsThrough, AreThrough, AreTurnedDown, IsRootRefused};
 ghost use Rattle.schemars_roots.specs.Through.{IsUntransformed, IsUntransformedCall, IsRefused};
@@ -22,7 +23,7 @@ ghost use Rattle.schemars_transforms.specs.BuiltIn.{IsMadeBy, each_made_by};
 ghost use Rattle.std.specs.Borrow.{sem};
 ghost use Rattle.schemars_generate.specs.Lends.{LendsDefinitions};
 ghost use Rattle.schemars_generate.specs.Settings.{settings_of, state, ApplyInOrder, AreSettingsCopied};
-ghost use Rattle.schemars_generate.specs.Settings.{transforms07, transforms2019_09};
+ghost use Rattle.schemars_generate.specs.Settings.{transforms07, transforms2019_09, transforms_openapi3};
 
 pub use crate::settings::SchemaSettings;
 pub use schemars_documents::Contract;
@@ -218,7 +219,8 @@ impl<O> SchemaGenerator<O> {
 
 impl<O: Transform + Drop> SchemaGenerator<O> {
     /// Takes the definitions, so that there are none: as they are, or each through the transforms, in map
-    /// order, where what is no schema stays as it is. Names stay.
+    /// order, where what is no schema stays as it is. Names stay. Through the transforms of OpenAPI, and
+    /// under `components.schemas`, each accepts exactly the JSON values that belong to the row of its name.
     ///
     /// Refusals, with transforms: theirs, and want of memory.
     pub fn take_definitions(
@@ -234,6 +236,9 @@ impl<O: Transform + Drop> SchemaGenerator<O> {
         ensures built_in { apply_transforms ≡ true → some_own self.old.settings.transforms.items ≡ false
             → IfOk result (λ m. members_view m.entries
             ≡ each_made_by self.old.settings.transforms.items (state self.old).definitions) }
+        ensures openapi3 { apply_transforms ≡ true → self.old.settings.transforms.items ≡ transforms_openapi3
+            → IfOk result (λ m. HasSameKeys (members_view m.entries) (state self.old).definitions
+            × TakenHeadline (state self.old) (members_view m.entries)) }
         ensures rest { OnOk result (state self.new ≡ record (state self.old) { definitions = no_members }) }
         ensures own { OnOk result (HasOwnDefinitions (state self.new)) }
         ensures keys { OnOk result (ReferencesNameKeys (state self.new)) }

@@ -11,6 +11,7 @@ ghost use Rattle.schemars_types.specs.Rows.{entry_at};
 ghost use Rattle.schemars_types.specs.Faults.{IsAccepted, IsChecked};
 ghost use Rattle.schemars_headline.specs.Headline.{SubschemaHeadline, IsDraftPath, IsInlined, CannotPlace};
 ghost use Rattle.schemars_headline.specs.Calls.{IsPartOf, IsReferenceOf, Adds, IsNeeded, IsLastRootCall};
+ghost use Rattle.schemars_dialects.specs.Taken.{OpenApiHeadline};
 ghost use Rattle.schemars_build.specs.Missing.{row_asked};
 ghost use Rattle.schemars_build.specs.Parts.{IsPlainAsk};
 ghost use Rattle.schemars_naming.specs.Naming.{IsOneToOne};
@@ -167,6 +168,7 @@ impl Contents {
     ) -> Result<Map<String, Value>, GenerateError>
         ensures through { IfOk result (λ m. AreThrough T.makes transforms.old transforms.new self.old.definitions
             (members_view m.entries)) }
+        ensures openapi3 { OnOk result ((x : Settings) → OpenApiHeadline (state_with x self.old)) }
         ensures rest { OnOk result (self.new ≡ record self.old { definitions = no_members }) }
         ensures refused { IfErr result (λ e. ((e ≡ GenerateError.OutOfMemory) × (transforms.new ≡ transforms.old))
             ⊎ AreTurnedDown T.makes transforms.old transforms.new self.old.definitions e) }

@@ -26,7 +26,7 @@ taken_definitions-requires c =
     record {
       own = ap some_own told.transforms ∙ none_own c.args.asked.dialect;
       known = subst (λ n. c.args.root < n) (ap (λ (s : State). length s.rows) (sym told.fresh))
-          (root_is_within c.args.types c.args.root c.requires);
+          (root_is_within c.args.types c.args.root c.requires.table);
     }
 
 pub returns : goal.returns
@@ -35,7 +35,7 @@ returns c =
     let told = c.in_ok-generator.ensures in
     let r = c.taken_definitions.result in
     record {
-      ok = IfOk-weaker r _ _ (λ m taken. are_definitions (state g) c.args.asked c.args.types c.args.root _ _ told.fresh told.transforms
+      ok = IfOk-weaker r _ _ (λ m taken. are_definitions (state g) c.args.asked c.args.types c.args.root _ _ c.requires.openapi3 told.fresh told.transforms
           taken) c.taken_definitions.ensures.ok;
       accepted = so_at_ok r told.accepted;
       refused = IfErr-weaker r _ _ (λ e memory. memory_refusal c.args.asked c.args.types c.args.root e memory)

@@ -1,10 +1,10 @@
 -- The row is known, so that memory is all that a part may want.
 use Rattle.std.proofs.Common.{◌∙◌, ap, refl, length, Err}
-use Rattle.std.proofs.lemmas.Result.{IfOk-weaker}
-use Rattle.schemars_generate.specs.Settings.{state}
+use Rattle.schemars_roots.specs.Settings.{state_with}
+use Rattle.schemars_generate.specs.Settings.{settings_of, state}
 use Rattle.schemars_transforms.specs.Member.{some_own}
 use Rattle.schemars_transforms.specs.BuiltIn.{each_made_by}
-use Rattle.schemagen_run.proofs.Results.{ok_at_err, err_passed}
+use Rattle.schemagen_run.proofs.Results.{ok_at_err, err_passed, both_at_ok, at_ok_under}
 use Rattle.schemagen_run.proofs.Tables.{known_refusal}
 use Rattle.schemagen_run.proofs.run.taken_definitions.Goals as goal
 
@@ -27,14 +27,21 @@ returns c =
     let own = ap (λ s. some_own s.transforms.items) told.settings ∙ c.requires.own in
     let new = state c.subschema_for_type.new.self in
     record {
-      ok = IfOk-weaker c.take_definitions.result _ _ (λ m made. (
-        new,
-        _,
-        told.part,
-        told.step,
-        told.own,
-        told.reached,
-        made ∙ ap (λ s. each_made_by s.transforms.items new.definitions) told.settings,
-      )) (taken.built_in refl own);
+      ok = both_at_ok c.take_definitions.result (taken.built_in refl own)
+          (at_ok_under c.take_definitions.result
+          (λ is. taken.openapi3 refl (ap (λ s. s.transforms.items) told.settings ∙ is)))
+          (λ m made means. (
+            new,
+            (
+              _,
+              told.part,
+              (λ i. state_with (settings_of (told.settings i)) (told.rest i)),
+              told.step,
+              told.own,
+              told.reached,
+              made ∙ ap (λ s. each_made_by s.transforms.items new.definitions) told.settings,
+            ),
+            λ is. (means is).1,
+          ));
       only_memory = taken.only_memory own;
     }

@@ -1,7 +1,11 @@
 use Rattle.std.proofs.Common.{◌≡◌, ◌⊎◌, ◌∙◌, Err, inr, ap, subst}
 use Rattle.serde_json.specs.Data.{Members}
 use Rattle.serde_json.specs.View.{members_view}
+use Rattle.schemars_headline.specs.State.{Settings}
 use Rattle.schemars_headline.proofs.Calls.{err_told}
+use Rattle.schemars_dialects.specs.Taken.{OpenApiHeadline}
+use Rattle.schemars_dialects.proofs.Taken.{openapi_headline}
+use Rattle.schemars_roots.specs.Settings.{Held, state_with}
 use Rattle.schemars_walk.specs.Walk.{EachMember, AtSchema}
 use Rattle.schemars_roots.specs.Through.{AreThrough, AreTurnedDown}
 use Rattle.schemars_error.specs.declared.error.GenerateError.{GenerateError}
@@ -31,3 +35,8 @@ returns-clause-through g c =
     λ ms. AreThrough g.T.Transform.makes c.args.transforms.now c.transform_members.new.t ms
     (members_view c.transform_members.new.members.entries) in
     subst M same c.in_ok-transform_members.ensures
+
+pub returns-clause-openapi3 : goal.returns-clause-openapi3
+returns-clause-openapi3 g c =
+    let P : Held → Type 0 = λ h. (x : Settings) → OpenApiHeadline (state_with x h) in
+    subst P c.self.view_is (λ x. openapi_headline (state_with x _) c.self.invariant.0 c.self.invariant.1)
