@@ -14,7 +14,7 @@ use crate::cases::{Asked, work_cases};
 use std::{fs, io};
 
 // The files, and whom their cases ask.
-const FILES: [(&str, Asked); 15] = [
+const FILES: [(&str, Asked); 16] = [
     ("examples.tsv", Asked::Program),
     ("rows.tsv", Asked::Program),
     ("structs.tsv", Asked::Program),
@@ -22,6 +22,7 @@ const FILES: [(&str, Asked); 15] = [
     ("inline.tsv", Asked::Program),
     ("literals.tsv", Asked::Program),
     ("flattened.tsv", Asked::Program),
+    ("unevaluated.tsv", Asked::Program),
     ("corners.tsv", Asked::Program),
     ("upstream.tsv", Asked::Program),
     ("damaged.tsv", Asked::Program),
