@@ -14,7 +14,7 @@ ghost use Rattle.std.specs.Borrow.{Lends, sem};
 ghost use Rattle.serde_json.specs.Rows.{map_row};
 
 use crate::names::Names;
-use indexmap::IndexSet;
+use crate::pending::Pending;
 use schemars_documents::Contract;
 use schemars_schema::Schema;
 use schemars_types::{TypeNo, Types};
@@ -31,8 +31,7 @@ pub struct Work {
     begun: Vec<String>,
     kept: usize,
     meets_root: bool,
-    // the rows whose documents are being made, the innermost last
-    pending: IndexSet<TypeNo>,
+    pending: Pending,
 }
 
 impl Model for Work {
@@ -53,7 +52,7 @@ impl Model for Work {
       begun = map string_bytes w.begun.items;
       kept = w.kept;
       meets_root = w.meets_root;
-      pending = w.pending.keys;
+      pending = w.pending;
     } };
 
     ghost invariant = { λ w. (is_some (as_object w.definitions) ≡ true) × (w.kept ≤ length w.names) };
@@ -96,8 +95,16 @@ impl Work {
             begun: Vec::new(alloc),
             kept: 0,
             meets_root: false,
-            pending: IndexSet::new(alloc),
+            pending: Pending::new(alloc),
         }
+    }
+
+    /// Makes room for what is noted of this many rows.
+    pub fn extend(&mut self, rows: usize) -> Result<(), AllocError>
+        ensures { self.new ≡ self.old }
+    {
+        self.names.extend(rows)?;
+        self.pending.extend(rows)
     }
 
     /// Whether there is a definition of this name.
@@ -173,7 +180,7 @@ impl Work {
     pub fn is_pending(&self, n: TypeNo) -> bool
         ensures { result ≡ is_pending self.now.pending n }
     {
-        self.pending.contains(&n)
+        self.pending.contains(n)
     }
 
     /// Notes, where rows are inlined, that the document of row `n` is being made. The answer is whether
@@ -186,7 +193,7 @@ impl Work {
         if !inlines {
             return Ok(false);
         }
-        let is_new = self.pending.insert(n)?;
+        let is_new = self.pending.enter(n)?;
         Ok(is_new)
     }
 
@@ -196,8 +203,7 @@ impl Work {
             ≡ record self.old { pending = if entered then without_last self.old.pending else self.old.pending } }
     {
         if entered {
-            let rest = self.pending.len().saturating_sub(1);
-            self.pending.truncate(rest);
+            self.pending.leave();
         }
     }
 

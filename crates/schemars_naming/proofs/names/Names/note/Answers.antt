@@ -1,0 +1,26 @@
+use Rattle.std.proofs.Common.{◌≡◌, ◌⊎◌, sym, subst, Some, inl, inr, ℕ, string_bytes}
+use Rattle.std.specs.HashMap.{get_by_text}
+use Rattle.schemars_json.specs.Json.{Text}
+use Rattle.schemars_naming.specs.Naming.{Naming}
+use Rattle.schemars_naming.specs.Owners.{naming_of, AreUsed}
+use Rattle.schemars_naming.proofs.names.Names.note.Goals as goal
+
+pub invariant_of-self : goal.invariant_of-self
+invariant_of-self c = record {
+  same = c.self.invariant.same;
+  placed = c.self.invariant.placed;
+  used = λ base count found. by base count (c.note.ensures base count found);
+}
+  where
+    names : Naming
+    names = naming_of c.self.inside.owners.items c.self.inside.given.keys
+
+    given : AreUsed names (string_bytes c.args.base) c.args.count
+    given = subst (λ (ns : Naming). AreUsed ns (string_bytes c.args.base) c.args.count) (sym c.self.view_is) c.requires
+
+    by : (base : Text) (count : ℕ)
+        → (get_by_text c.self.inside.tried base ≡ Some count) ⊎ ((base ≡ string_bytes c.args.base) × (count ≡ c.args.count))
+        → AreUsed names base count
+    by base count (inl h) = c.self.invariant.used base count h
+    by base count (inr h) = subst (λ b. AreUsed names b count) (sym h.0)
+        (subst (λ k. AreUsed names (string_bytes c.args.base) k) (sym h.1) given)
