@@ -16,43 +16,9 @@ use Rattle.schemars_naming.specs.Work.{Plan, Work}
 use Rattle.schemars_templates.specs.Template.{Ask, part, members_of, content}
 use Rattle.schemars_templates.specs.Describes.{without_options}
 use Rattle.schemars_build.specs.Missing.{failing_below, missing, fresh, depth_in_place, IsLower, IsAskedIn}
+use Rattle.schemars_build.specs.Left.{width, places, left_of_definition, left_of_part, left_of_own_document, left_of_filled}
+use Rattle.schemars_build.specs.Left.{left_of_members, left_of_content, left_of_asked}
 use Rattle.schemars_build.proofs.Counting.{failing-fewer, failing-less}
-
-abbrev pub width : List Row → ℕ
-width rows = 8 * length rows + 12
-
--- the definitions that may still be made, and then the rows that may still be entered
-abbrev pub places : Plan → Work → List ℕ → ℕ
-places p w pending = missing p.rows p.contract w * suc (length p.rows) + fresh p.rows pending
-
-abbrev pub left_of_define : Plan → Work → ℕ
-left_of_define p w = places p w w.pending * width p.rows
-
-abbrev pub left_of_subschema : Plan → Work → ℕ → ℕ
-left_of_subschema p w n = places p w w.pending * width p.rows + (8 * depth_in_place p.rows n + 1)
-
-abbrev pub left_of_own_document : Plan → Work → ℕ → ℕ
-left_of_own_document p w n = places p w (pending_in p.inlines w.pending n) * width p.rows + (8 * height p.rows n + 8)
-
-abbrev pub left_of_filled : Plan → Work → ℕ → ℕ
-left_of_filled p w n = places p w w.pending * width p.rows + (8 * height p.rows n + 7)
-
-abbrev pub left_of_answers : Plan → Work → ℕ → ℕ
-left_of_answers p w n = places p w w.pending * width p.rows + (8 * height p.rows n + 6)
-
-abbrev pub left_of_members : Plan → Work → ℕ → ℕ
-left_of_members p w n = places p w w.pending * width p.rows + (8 * height p.rows (without_options p.rows n) + 10)
-
-abbrev pub left_of_content : Plan → Work → ℕ → ℕ
-left_of_content p w n = places p w w.pending * width p.rows + (8 * height p.rows n + 11)
-
-abbrev pub left_of_asked : Plan → Work → Ask → ℕ
-left_of_asked p w (part n) = left_of_subschema p w n
-left_of_asked p w (members_of n required) = left_of_members p w n
-left_of_asked p w (content n) = left_of_content p w n
-
-abbrev pub left_of_answer : Plan → Work → Ask → ℕ
-left_of_answer p w a = suc (left_of_asked p w a)
 
 -- ---- what is asked in a document
 
@@ -144,49 +110,34 @@ places-fewer p w v fewer same =
     let f : fresh p.rows v.pending ≡ fresh p.rows w.pending = ap (fresh p.rows) same in
     omega (arith, e, f)
 
--- from one function to the next, on the same row or a lower one
+-- on the same row or a lower one
 down_less : (a b w r s : ℕ) → a ≤ b → r < s → a * w + r < b * w + s
 down_less a b w r s fewer less = let e : a * w ≤ b * w = mul-le-mul_right w fewer in omega arith
 
-suc_less : (a b w r s : ℕ) → a ≤ b → suc r < s → suc (a * w + r) < b * w + s
-suc_less a b w r s fewer less = let e : a * w ≤ b * w = mul-le-mul_right w fewer in omega arith
-
-part_fits : (d h : ℕ) → d ≤ h → suc (8 * d + 1) < 8 * h + 6
+part_fits : (d h : ℕ) → d ≤ h → 8 * d + 1 < 8 * h + 7
 part_fits d h lower = omega arith
 
--- from a document to its answers, and to each of them
-pub to_answers : (p : Plan) (w : Work) (n : ℕ) → left_of_answers p w n < left_of_filled p w n
-to_answers p w n = omega arith
-
-pub to_answer : (p : Plan) (w v : Work) (n : ℕ) (a : Ask) → IsLower p.rows n a → missing p.rows p.contract v ≤ missing p.rows p.contract w
-    → v.pending ≡ w.pending → left_of_answer p v a < left_of_answers p w n
-to_answer p w v n (part m) lower fewer same =
-    suc_less (places p v v.pending) (places p w w.pending) (width p.rows) (8 * depth_in_place p.rows m + 1)
-    (8 * height p.rows n + 6) (places-fewer p w v fewer same) (part_fits (depth_in_place p.rows m) (height p.rows n) lower)
-to_answer p w v n (members_of m required) lower fewer same =
+-- from a document to what is asked in it
+pub to_asked : (p : Plan) (w v : Work) (n : ℕ) (a : Ask) → IsLower p.rows n a → missing p.rows p.contract v ≤ missing p.rows p.contract w
+    → v.pending ≡ w.pending → left_of_asked p v a < left_of_filled p w n
+to_asked p w v n (part m) lower fewer same =
+    down_less (places p v v.pending) (places p w w.pending) (width p.rows) (8 * depth_in_place p.rows m + 1)
+    (8 * height p.rows n + 7) (places-fewer p w v fewer same) (part_fits (depth_in_place p.rows m) (height p.rows n) lower)
+to_asked p w v n (members_of m required) lower fewer same =
     let less : height p.rows (without_options p.rows m) < height p.rows n = lower in
-    suc_less (places p v v.pending) (places p w w.pending) (width p.rows) (8 * height p.rows (without_options p.rows m) + 10)
-    (8 * height p.rows n + 6) (places-fewer p w v fewer same) (omega (arith, less))
-to_answer p w v n (content m) lower fewer same =
+    down_less (places p v v.pending) (places p w w.pending) (width p.rows) (8 * height p.rows (without_options p.rows m) + 10)
+    (8 * height p.rows n + 7) (places-fewer p w v fewer same) (omega (arith, less))
+to_asked p w v n (content m) lower fewer same =
     let less : height p.rows m < height p.rows n = lower in
-    suc_less (places p v v.pending) (places p w w.pending) (width p.rows) (8 * height p.rows m + 11)
-    (8 * height p.rows n + 6) (places-fewer p w v fewer same) (omega (arith, less))
-
-next : (k : ℕ) → k < suc k
-next k = omega arith
-
-pub to_asked : (p : Plan) (w : Work) (a : Ask) → left_of_asked p w a < left_of_answer p w a
-to_asked p w a = next (left_of_asked p w a)
+    down_less (places p v v.pending) (places p w w.pending) (width p.rows) (8 * height p.rows m + 11)
+    (8 * height p.rows n + 7) (places-fewer p w v fewer same) (omega (arith, less))
 
 -- to the documents that these are made of
 pub members_to_filled : (p : Plan) (w : Work) (n : ℕ) → left_of_filled p w (without_options p.rows n) < left_of_members p w n
 members_to_filled p w n = omega arith
 
-pub content_to_filled : (p : Plan) (w : Work) (n : ℕ) → left_of_filled p w n < left_of_content p w n
-content_to_filled p w n = omega arith
-
 pub content_to_part : (p : Plan) (w v : Work) (n : ℕ) → missing p.rows p.contract v ≤ missing p.rows p.contract w
-    → v.pending ≡ w.pending → left_of_subschema p v n < left_of_content p w n
+    → v.pending ≡ w.pending → left_of_part p v n < left_of_content p w n
 content_to_part p w v n fewer same = down_less (places p v v.pending) (places p w w.pending) (width p.rows)
     (8 * depth_in_place p.rows n + 1) (8 * height p.rows n + 11) (places-fewer p w v fewer same) (by (is_inline_at p.rows n))
   where
@@ -196,7 +147,7 @@ content_to_part p w v n fewer same = down_less (places p v v.pending) (places p 
 
 -- to a part in place
 pub to_own : (p : Plan) (w : Work) (n : ℕ) → IsChecked p.rows → n < length p.rows
-    → is_in_place p.rows p.inlines w.pending n ≡ true → left_of_own_document p w n < left_of_subschema p w n
+    → is_in_place p.rows p.inlines w.pending n ≡ true → left_of_own_document p w n < left_of_part p w n
 to_own p w n checked less placed = by (is_inline_at p.rows n) refl
   where
     inner : ℕ
@@ -217,7 +168,7 @@ to_own p w n checked less placed = by (is_inline_at p.rows n) refl
     entered true true inlines none h = cc
     entered false c inlines none h = cc
 
-    by : (b : Bool) → is_inline_at p.rows n ≡ b → left_of_own_document p w n < left_of_subschema p w n
+    by : (b : Bool) → is_inline_at p.rows n ≡ b → left_of_own_document p w n < left_of_part p w n
     by true inline =
         let deep : depth_in_place p.rows n ≡ suc (height p.rows n) = ap (λ b. if b then suc (height p.rows n) else 0) inline in
         subst goal_at (sym deep) (own_less inner (places p w w.pending) (width p.rows) (height p.rows n) fewer)
@@ -230,13 +181,13 @@ to_own p w n checked less placed = by (is_inline_at p.rows n) refl
 
 -- to a part by reference
 pub to_define : (p : Plan) (w v : Work) (n : ℕ) → missing p.rows p.contract v ≤ missing p.rows p.contract w → v.pending ≡ w.pending
-    → left_of_define p v < left_of_subschema p w n
+    → left_of_definition p v < left_of_part p w n
 to_define p w v n fewer same = same_less (places p v v.pending) (places p w w.pending) (width p.rows)
     (8 * depth_in_place p.rows n + 1) (places-fewer p w v fewer same) (omega arith)
 
 -- to a new definition
 pub to_definition : (p : Plan) (w v : Work) (n : ℕ) → IsChecked p.rows → missing p.rows p.contract v < missing p.rows p.contract w
-    → left_of_own_document p v n < left_of_define p w
+    → left_of_own_document p v n < left_of_definition p w
 to_definition p w v n h fewer =
     let bound = h.height_bound n in
     let inner = pending_in p.inlines v.pending n in

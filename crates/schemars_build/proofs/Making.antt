@@ -1,0 +1,441 @@
+-- What documents that are being made come to.
+use Rattle.std.proofs.Common.{◌≡◌, ◌≢◌, inl, inr, ◌<◌, ◌≤◌, ◌+◌, ℕ, List, [], ◌∷◌, ◌++◌, length, map, take, Bool, true, false, not}
+use Rattle.std.proofs.Common.{Some, None, refl, ap, sym, ◌∙◌, subst, arith, string_bytes, All}
+use Rattle.std.specs.Prelude.{◌&&◌, ◌||◌, if◌then◌else◌, String}
+use Rattle.std.specs.declared.alloc.Global.{Global}
+use Rattle.std.specs.Str.{IsUtf8}
+use Rattle.std.proofs.Common.{get_or}
+use Rattle.std.proofs.lemmas.List.{take_all, length-append, length-map, get_or-map}
+use Rattle.schemars_templates.specs.declared.template.Ask as src-ask
+use Rattle.schemars_build.specs.Missing.{IsAskedIn, row_asked}
+use Rattle.schemars_build.proofs.Asked.{asks_in_order}
+use Rattle.schemars_types.specs.Rows.{entry_at}
+use Rattle.serde_json.specs.Data.{Data, string, boolean}
+use Rattle.serde_json.specs.Find.{get_member}
+use Rattle.serde_json.proofs.Views.{get_member-put}
+use Rattle.schemars_json.specs.Json.{Text}
+use Rattle.schemars_schema.specs.References.{references}
+use Rattle.schemars_schema.specs.SchemaData.{IsSchema}
+use Rattle.schemars_types.specs.Edges.{is_inline_at}
+use Rattle.schemars_types.specs.Faults.{IsChecked}
+use Rattle.schemars_parts.specs.Opening.{opened_inside, stands_in_place}
+use Rattle.schemars_parts.specs.Parts.{flattened_part}
+use Rattle.schemars_documents.specs.Documents.{reference}
+use Rattle.schemars_documents.specs.declared.contract.Contract.{Contract}
+use Rattle.schemars_templates.specs.Template.{Template, Ask, part, members_of, content, asks_of, filled}
+use Rattle.schemars_templates.specs.View.{ask_of, template_view}
+use Rattle.schemars_templates.specs.Describes.{without_options, are_optional}
+use Rattle.schemars_templates.specs.OfShape.{entry_template}
+use Rattle.schemars_naming.specs.Naming.{name_of}
+use Rattle.schemars_naming.specs.Placed.{is_pending, pending_in, is_in_place}
+use Rattle.schemars_naming.specs.Work.{Plan, Work, Step, GivesNames, undone, reference_to, basis_of, without_last}
+use Rattle.schemars_naming.proofs.Given.{gives-keeps}
+use Rattle.schemars_build.specs.Reached.{AreReached}
+use Rattle.schemars_build.specs.Parts.{IsOwn, IsMade, IsPart, IsFilledIn, IsAnswer, AreAnswers}
+use Rattle.schemars_build.specs.Making.{Wanted, own, defined, flattened, asked, wanted_for, IsReply, IsBegun, IsTemplate, IsOpened, Leads}
+use Rattle.schemars_build.specs.Making.{IsInMaking, HasAnswered, IsNext, AreWaiting, IsRepliedBy, GoesOn, IsTaken}
+use Rattle.schemars_build.specs.Left.{left_going, left_of_reply}
+use Rattle.schemars_build.proofs.Ending.{answered_same}
+use Rattle.schemars_build.specs.declared.build.Document.{Document}
+use Rattle.schemars_build.specs.declared.build.Purpose.{Purpose}
+use Rattle.schemars_build.specs.declared.build.Purpose.TheVariants as purpose
+use Rattle.schemars_build.specs.declared.build.Reply.{Reply}
+use Rattle.schemars_build.specs.declared.build.Reply.TheVariants as reply
+use Rattle.schemars_build.proofs.Building.{answers_more, own_of_filled, in_place, part_answer, content_answer, content_referred, no_answers}
+use Rattle.schemars_build.proofs.Filling.{filled_by_answers, filled_in, members_answer}
+use Rattle.schemars_build.proofs.Placing.{left_pending, pending_grows}
+use Rattle.schemars_build.proofs.Reaching.{reached_defines, reached_by_name}
+use Rattle.schemars_build.proofs.Steps.{begun_with, finished_with, undone-begun, undone-finished, begun-contains, finished-found, step_refl}
+use Rattle.schemars_build.proofs.Steps.{step_trans, step_names, step_defines, step_entered}
+
+-- ---- what leads where
+
+pub leads_at_once : (plan : Plan) (inside : Bool) (w : Work) (want : Wanted) → Leads plan inside w want w want
+leads_at_once plan inside w want = record { step = step_refl plan w; undone = refl; gives = λ new s step is. is }
+
+pub leads_trans : (plan : Plan) (inside : Bool) (a : Work) (p : Wanted) (b : Work) (q : Wanted) (c : Work) (r : Wanted)
+    → Leads plan inside a p b q → Leads plan inside b q c r → Leads plan inside a p c r
+leads_trans plan inside a p b q c r h g = record {
+  step = step_trans plan a b c h.step g.step;
+  undone = g.undone ∙ h.undone;
+  gives = λ new s step is. h.gives new s (step_trans plan b c new g.step step) (g.gives new s step is);
+}
+
+pub replied_from : (plan : Plan) (inside : Bool) (old : Work) (want : Wanted) (mid : Work) (got : Wanted) (now : Work) (r : Reply)
+    → Leads plan inside old want mid got → IsRepliedBy plan inside mid got now r → IsRepliedBy plan inside old want now r
+replied_from plan inside old want mid got now (reply.Answer s) h is =
+    (step_trans plan old mid now h.step is.0, is.1 ∙ h.undone, h.gives now s is.0 is.2)
+replied_from plan inside old want mid got now (reply.Document d) h is = record {
+  template = is.template;
+  mid = is.mid;
+  start = is.start;
+  leads = leads_trans plan inside old want mid got is.mid (wanted_for d.row d.purpose) h is.leads;
+  begun = is.begun;
+  step = is.step;
+  undone = is.undone;
+  answers = is.answers;
+}
+
+-- a row in place
+pub leads_in_place : (plan : Plan) (inside : Bool) (old : Work) (n : ℕ) → is_in_place plan.rows plan.inlines old.pending n ≡ true
+    → Leads plan inside old (asked (part n)) old (own n)
+leads_in_place plan inside old n placed = record {
+  step = step_refl plan old;
+  undone = refl;
+  gives = λ new s step is. part_answer plan inside old new n s (in_place plan inside old new n s step placed is);
+}
+
+-- a row by its name
+pub leads_defined : (plan : Plan) (inside : Bool) (old mid : Work) (n : ℕ) (k : Text) → mid ≡ record old { names = mid.names }
+    → GivesNames plan.rows old.names mid.names
+    → ((m : ℕ) (c : Contract) (q : Text) → name_of m c old.names ≡ None → name_of m c mid.names ≡ Some q → (m ≡ n) × (c ≡ plan.contract))
+    → name_of n plan.contract mid.names ≡ Some k → is_in_place plan.rows plan.inlines old.pending n ≡ false
+    → is_inline_at plan.rows n ≡ false → plan.root ≢ Some n → n < length plan.rows → undone mid ≡ undone old
+    → Leads plan inside old (asked (part n)) mid (defined k)
+leads_defined plan inside old mid n k given names alone named placed apart other known un = record {
+  step = step;
+  undone = un;
+  gives = λ new s next is. part_answer plan inside old new n s (whole new s next is.0 is.1);
+}
+  where
+    step : Step plan old mid
+    step = subst (λ w. Step plan old w) (sym given) (step_names plan old mid.names names)
+
+    whole : (new : Work) (s : Data) → Step plan mid new → IsMade plan mid new k → s ≡ reference (reference_to plan.path k)
+        → IsPart plan inside old new n s
+    whole new s next made same =
+        let now_named : name_of n plan.contract new.names ≡ Some k =
+        gives-keeps plan.rows mid.names new.names n plan.contract k next.names named in
+        let kept : is_in_place plan.rows plan.inlines new.pending n ≡ false =
+        ap (λ p. is_in_place plan.rows plan.inlines p n) (next.still_pending ∙ ap (λ w. w.pending) given) ∙ placed in
+        let P : Work → Type 0 = λ w. AreReached plan false w new (string (reference_to plan.path k) ∷ []) in
+        let Q : Data → Type 0 = λ t. AreReached plan inside old new (references t) in
+        record {
+          written = inl (reference_to plan.path k, (inr (k, now_named, made.defined, refl, (known, apart), other), kept), same);
+          reached = λ plain. subst Q (sym same) (reached_by_name plan inside old mid.names new n k alone now_named made.defined
+              (subst P given (made.reached plain)));
+        }
+
+-- the members of a row
+pub leads_members : (plan : Plan) (inside : Bool) (old : Work) (n : ℕ) (required : Bool)
+    → Leads plan inside old (asked (members_of n required)) old
+    (flattened (without_options plan.rows n) (are_optional plan.rows n required))
+leads_members plan inside old n required = record {
+  step = step_refl plan old;
+  undone = refl;
+  gives = λ new s step is. members_answer plan inside old new n required is.0 s is.1 is.2;
+}
+
+-- ---- a document that was just opened
+
+fresh : (plan : Plan) (outside : Bool) (old : Work) (want : Wanted) (mid start : Work) (d : Document) → IsTemplate plan d
+    → d.answers.items ≡ [] → Leads plan outside old want mid (wanted_for d.row d.purpose)
+    → IsBegun plan outside mid start d.row d.in_definition d.purpose → IsInMaking plan outside old want start d
+fresh plan outside old want mid start d template none leads begun =
+    let P : List Data → Type 0 = λ ts. AreAnswers plan d.in_definition start start (map ask_of (take (length ts) d.asks.items)) ts in
+    record {
+      template = template;
+      mid = mid;
+      start = start;
+      leads = leads;
+      begun = begun;
+      step = step_refl plan start;
+      undone = refl;
+      answers = subst P (sym none) (no_answers plan d.in_definition start);
+    }
+
+pub opened_reply : (plan : Plan) (outside inside : Bool) (old : Work) (want : Wanted) (mid start : Work) (n : ℕ) (p : Purpose) (r : Reply)
+    → IsOpened plan inside n p r → Leads plan outside old want mid (wanted_for n p) → IsBegun plan outside mid start n inside p
+    → IsRepliedBy plan outside old want start r
+opened_reply plan outside inside old want mid start n p (reply.Answer s) is leads begun = absurd is
+opened_reply plan outside inside old want mid start n p (reply.Document d) is leads begun =
+    let L : ℕ → Purpose → Type 0 = λ m q. Leads plan outside old want mid (wanted_for m q) in
+    let B : ℕ → Bool → Purpose → Type 0 = λ m b q. IsBegun plan outside mid start m b q in
+    let leads_here : L d.row d.purpose = subst (λ m. L m d.purpose) (sym is.0) (subst (λ q. L n q) (sym is.1) leads) in
+    let begun_here : B d.row d.in_definition d.purpose = subst (λ m. B m d.in_definition d.purpose) (sym is.0)
+    (subst (λ b. B n b d.purpose) (sym is.2) (subst (λ q. B n inside q) (sym is.1) begun)) in
+    fresh plan outside old want mid start d is.4 is.3 leads_here begun_here
+
+-- ---- one answer more
+
+pub answered_making : (plan : Plan) (around : Bool) (before : Work) (more : Wanted) (old now : Work) (outside : Bool) (want : Wanted)
+    (d e : Document) (s : Data) → IsInMaking plan around before more old d → IsNext d outside want
+    → IsRepliedBy plan outside old want now (reply.Answer s) → HasAnswered d s e → IsInMaking plan around before more now e
+answered_making plan around before more old now outside want d e s h next is has = record {
+  template = record {
+    known = subst (λ m. m < length plan.rows) (sym has.row) h.template.known;
+    entry = h.template.entry;
+    at = ap (λ m. entry_at plan.rows m) has.row ∙ h.template.at;
+    template = ap template_view has.template ∙ h.template.template;
+    asks = ap (λ v. map ask_of v.items) has.asks ∙ h.template.asks;
+  };
+  mid = h.mid;
+  start = h.start;
+  leads = subst (λ q. Leads plan around before more h.mid (wanted_for e.row q)) (sym has.purpose)
+      (subst (λ m. Leads plan around before more h.mid (wanted_for m d.purpose)) (sym has.row) h.leads);
+  begun = subst (λ q. IsBegun plan around h.mid h.start e.row e.in_definition q) (sym has.purpose)
+      (subst (λ b. IsBegun plan around h.mid h.start e.row b d.purpose) (sym has.in_definition)
+      (subst (λ m. IsBegun plan around h.mid h.start m d.in_definition d.purpose) (sym has.row) h.begun));
+  step = step_trans plan h.start old now h.step is.0;
+  undone = is.1 ∙ h.undone;
+  answers = answers;
+}
+  where
+    P : Bool → List Ask → List Data → Type 0
+    P b asks ts = AreAnswers plan b h.start now asks ts
+
+    reply_is : IsAnswer plan d.in_definition old now next.ask s
+    reply_is = subst (λ b. IsAnswer plan b old now next.ask s) (sym next.inside)
+        (subst (λ x. IsReply plan outside old now x s) next.is is.2)
+
+    joined : P d.in_definition (map ask_of (take (length d.answers.items) d.asks.items) ++ next.ask ∷ []) (d.answers.items ++ s ∷ [])
+    joined = answers_more plan d.in_definition h.start old now (map ask_of (take (length d.answers.items) d.asks.items)) d.answers.items
+        next.ask s h.step is.0 h.answers reply_is
+
+    counted : length e.answers.items ≡ length d.answers.items + 1
+    counted = ap length has.answers ∙ length-append d.answers.items (s ∷ [])
+
+    asks_are : map ask_of (take (length e.answers.items) e.asks.items)
+        ≡ map ask_of (take (length d.answers.items) d.asks.items) ++ next.ask ∷ []
+    asks_are = ap (λ k. map ask_of (take k e.asks.items)) counted
+        ∙ (ap (λ v. map ask_of (take (length d.answers.items + 1) v.items)) has.asks ∙ next.next)
+
+    answers : P e.in_definition (map ask_of (take (length e.answers.items) e.asks.items)) e.answers.items
+    answers = subst (λ b. P b (map ask_of (take (length e.answers.items) e.asks.items)) e.answers.items) (sym has.in_definition)
+        (subst (λ xs. P d.in_definition xs e.answers.items) (sym asks_are)
+        (subst (λ ts. P d.in_definition (map ask_of (take (length d.answers.items) d.asks.items) ++ next.ask ∷ []) ts)
+        (sym has.answers) joined))
+
+-- each of its rows is known
+pub asks_known : (plan : Plan) (d : Document) → IsChecked plan.rows → IsTemplate plan d → (i : ℕ) (a : src-ask.Ask)
+    → i < length d.asks.items → row_asked (ask_of (get_or d.asks.items i a)) < length plan.rows
+asks_known plan d checked t i a less =
+    let P : List Ask → Type 0 = λ asks. All (IsAskedIn plan.rows d.row) asks in
+    let every : P (map ask_of d.asks.items) = subst P (sym t.asks) (asks_in_order (basis_of plan) d.row t.entry checked t.at) in
+    let counted : length (map ask_of d.asks.items) ≡ length d.asks.items = length-map d.asks.items ask_of in
+    let one = every i (ask_of a) (omega (arith, counted, less)) in
+    subst (λ x. row_asked x < length plan.rows) (get_or-map ask_of d.asks.items i a (ask_of a) less) one.0
+
+-- ---- a document whose rows have all answered
+
+module _ (plan : Plan) (outside : Bool) (old : Work) (want : Wanted) (now : Work) (d : Document)
+    (h : IsInMaking plan outside old want now d) (all : length d.asks.items ≤ length d.answers.items) where
+  whole : AreAnswers plan d.in_definition h.start now (asks_of (entry_template (basis_of plan) h.template.entry)) d.answers.items
+  whole = subst (λ asks. AreAnswers plan d.in_definition h.start now asks d.answers.items)
+      (ap (map ask_of) (take_all (length d.answers.items) d.asks.items all) ∙ h.template.asks) h.answers
+
+  pub filled_made : (s : Data) → IsChecked plan.rows
+      → (IsSchema (filled (template_view d.template) d.answers.items) → s ≡ filled (template_view d.template) d.answers.items)
+      → IsFilledIn plan d.in_definition h.start now d.row s
+  filled_made s checked is =
+      let schema = filled_by_answers plan d.in_definition h.start now h.template.entry d.answers.items whole in
+      let Q : Template → Type 0 = λ u. IsSchema (filled u d.answers.items) → s ≡ filled u d.answers.items in
+      filled_in plan d.in_definition h.start now h.template.entry d.answers.items whole d.row s checked h.template.at
+      (subst Q h.template.template is schema)
+
+-- ---- what is made of it
+
+module _ (plan : Plan) (inside : Bool) (mid start now : Work) (n : ℕ) (entered : Bool)
+    (is_new : entered ≡ plan.inlines && not (is_pending mid.pending n))
+    (begun : start ≡ record mid { pending = pending_in plan.inlines mid.pending n }) (step : Step plan start now) where
+  entered_step : Step plan (record mid { pending = pending_in plan.inlines mid.pending n }) now
+  entered_step = subst (λ w. Step plan w now) begun step
+
+  pub left : (new : Work) → new ≡ record now { pending = if entered then without_last now.pending else now.pending }
+      → new ≡ record now { pending = mid.pending }
+  left new is =
+      let inner : now.pending ≡ pending_in plan.inlines mid.pending n = entered_step.still_pending in
+      let back : (if entered then without_last now.pending else now.pending) ≡ mid.pending =
+      ap (λ p. if entered then without_last p else p) inner ∙ left_pending plan.inlines mid.pending n entered is_new in
+      is ∙ ap (λ p. record now { pending = p }) back
+
+  pub left_step : Step plan mid (record now { pending = mid.pending })
+  left_step =
+      let inner = pending_grows plan.inlines mid.pending n in
+      step_entered plan mid now inner.0 (subst (λ p. Step plan (record mid { pending = p }) now) inner.1 entered_step)
+
+  pub left_own : (s : Data) → IsFilledIn plan inside start now n s → IsOwn plan inside mid (record now { pending = mid.pending }) n s
+  left_own s filled = own_of_filled plan inside mid now (pending_in plan.inlines mid.pending n) n s refl entered_step
+      (subst (λ w. IsFilledIn plan inside w now n s) begun filled)
+
+module _ (plan : Plan) (mid : Work) (n : ℕ) (k : Text) (none : get_member k mid.definitions ≡ None) (text : IsUtf8 k)
+    (named : name_of n plan.contract mid.names ≡ Some k) (now : Work) (s : Data) (step : Step plan (begun_with mid k) now)
+    (own : IsOwn plan true (begun_with mid k) now n s) where
+  pub defined_step : Step plan mid (finished_with now k s)
+  defined_step = step_defines plan mid now n k s none text step
+      (gives-keeps plan.rows mid.names now.names n plan.contract k step.names named) own.document
+
+  pub defined_undone : undone now ≡ undone (begun_with mid k) → undone (finished_with now k s) ≡ undone mid
+  defined_undone un = undone-finished now k s (begun-contains plan mid k now step) ∙ (un ∙ undone-begun mid k none)
+
+  pub defined_made : IsMade plan mid (finished_with now k s) k
+  defined_made = record {
+    defined = (s, finished-found plan mid now k s step);
+    reached = λ plain.
+        let begins = step.stays k (boolean false) (get_member-put k (boolean false) mid.definitions) in
+        reached_defines plan mid now k s none begins (own.reached plain);
+  }
+
+begun_undone : (plan : Plan) (outside : Bool) (mid start : Work) (n : ℕ) (inside : Bool) (p : Purpose)
+    → IsBegun plan outside mid start n inside p → undone start ≡ undone mid
+begun_undone plan outside mid start n inside (purpose.Own entered) is = ap undone is.2
+begun_undone plan outside mid start n inside (purpose.Definition name entered) is =
+    ap undone is.4 ∙ undone-begun mid (string_bytes name) is.2
+begun_undone plan outside mid start n inside (purpose.Members optional) is = ap undone is.1
+begun_undone plan outside mid start n inside purpose.Content is = ap undone is.1
+
+pub making_undone : (plan : Plan) (outside : Bool) (old : Work) (want : Wanted) (now : Work) (d : Document)
+    → IsInMaking plan outside old want now d → undone now ≡ undone old
+making_undone plan outside old want now d h =
+    h.undone ∙ (begun_undone plan outside h.mid h.start d.row d.in_definition d.purpose h.begun ∙ h.leads.undone)
+
+-- ---- a document that is done
+
+module _ (plan : Plan) (outside : Bool) (old : Work) (want : Wanted) (now : Work) (d : Document) (h : IsInMaking plan outside old want now d)
+    (s : Data) (filled : IsFilledIn plan d.in_definition h.start now d.row s) where
+  leads_for : (p : Purpose) → d.purpose ≡ p → Leads plan outside old want h.mid (wanted_for d.row p)
+  leads_for p is = subst (λ q. Leads plan outside old want h.mid (wanted_for d.row q)) is h.leads
+
+  pub begun_for : (p : Purpose) → d.purpose ≡ p → IsBegun plan outside h.mid h.start d.row d.in_definition p
+  begun_for p is = subst (λ q. IsBegun plan outside h.mid h.start d.row d.in_definition q) is h.begun
+
+  un : undone now ≡ undone h.mid
+  un = h.undone ∙ begun_undone plan outside h.mid h.start d.row d.in_definition d.purpose h.begun
+
+  pub closes_own : (entered : Bool) (new : Work) → d.purpose ≡ purpose.Own entered
+      → new ≡ record now { pending = if entered then without_last now.pending else now.pending }
+      → IsRepliedBy plan outside old want new (reply.Answer s)
+  closes_own entered new is left_is =
+      let b = begun_for (purpose.Own entered) is in
+      let after : Work = record now { pending = h.mid.pending } in
+      let same : new ≡ after = left plan outside h.mid h.start now d.row entered b.1 b.2 h.step new left_is in
+      let here : IsFilledIn plan outside h.start now d.row s = subst (λ x. IsFilledIn plan x h.start now d.row s) b.0 filled in
+      let made : IsRepliedBy plan outside h.mid (own d.row) after (reply.Answer s) = (
+        left_step plan outside h.mid h.start now d.row entered b.1 b.2 h.step,
+        un,
+        left_own plan outside h.mid h.start now d.row entered b.1 b.2 h.step s here,
+      ) in
+      subst (λ w. IsRepliedBy plan outside old want w (reply.Answer s)) (sym same)
+      (replied_from plan outside old want h.mid (own d.row) after (reply.Answer s) (leads_for (purpose.Own entered) is) made)
+
+  pub closes_members : (optional : Bool) (t : Data) → d.purpose ≡ purpose.Members optional → t ≡ flattened_part optional s
+      → IsRepliedBy plan outside old want now (reply.Answer t)
+  closes_members optional t is same =
+      let b = begun_for (purpose.Members optional) is in
+      let here : IsFilledIn plan outside h.mid now d.row s = subst (λ w. IsFilledIn plan outside w now d.row s) b.1
+      (subst (λ x. IsFilledIn plan x h.start now d.row s) b.0 filled) in
+      let step : Step plan h.mid now = subst (λ w. Step plan w now) b.1 h.step in
+      replied_from plan outside old want h.mid (flattened d.row optional) now (reply.Answer t) (leads_for (purpose.Members optional) is)
+      (step, un, (s, here, same))
+
+  pub closes_content : (b : Bool) (t : Data) → d.purpose ≡ purpose.Content → b ≡ (is_inline_at plan.rows d.row || plan.inlines)
+      → stands_in_place b s ≡ true → t ≡ opened_inside s → IsRepliedBy plan outside old want now (reply.Answer t)
+  closes_content b t is place stands same =
+      let begun = begun_for purpose.Content is in
+      let here : IsFilledIn plan outside h.mid now d.row s = subst (λ w. IsFilledIn plan outside w now d.row s) begun.1
+      (subst (λ x. IsFilledIn plan x h.start now d.row s) begun.0 filled) in
+      let step : Step plan h.mid now = subst (λ w. Step plan w now) begun.1 h.step in
+      replied_from plan outside old want h.mid (asked (content d.row)) now (reply.Answer t) (leads_for purpose.Content is)
+      (step, un, content_answer plan outside h.mid now d.row b s t place here stands same)
+
+  -- the row is asked once more, as a part
+  pub closes_referred : (b : Bool) (new : Work) (r : Reply) → d.purpose ≡ purpose.Content
+      → b ≡ (is_inline_at plan.rows d.row || plan.inlines) → stands_in_place b s ≡ false
+      → IsRepliedBy plan d.in_definition now (asked (part d.row)) new r → IsRepliedBy plan outside old want new r
+  closes_referred b new r is place stands again =
+      let begun = begun_for purpose.Content is in
+      let here : IsFilledIn plan outside h.mid now d.row s = subst (λ w. IsFilledIn plan outside w now d.row s) begun.1
+      (subst (λ x. IsFilledIn plan x h.start now d.row s) begun.0 filled) in
+      let step : Step plan h.mid now = subst (λ w. Step plan w now) begun.1 h.step in
+      let referred : Leads plan outside h.mid (asked (content d.row)) now (asked (part d.row)) = record {
+        step = step;
+        undone = un;
+        gives = λ later t next one. content_referred plan outside h.mid now later d.row b s t place step next here stands
+            (record { written = one.said; reached = one.needed });
+      } in
+      let around : IsRepliedBy plan outside now (asked (part d.row)) new r =
+      subst (λ x. IsRepliedBy plan x now (asked (part d.row)) new r) begun.0 again in
+      replied_from plan outside old want h.mid (asked (content d.row)) new r (leads_for purpose.Content is)
+      (replied_from plan outside h.mid (asked (content d.row)) now (asked (part d.row)) new r referred around)
+
+  pub closes_definition : (name : String Global) (entered : Bool) (mid new : Work) (t : Data) → d.purpose ≡ purpose.Definition name entered
+      → IsUtf8 (string_bytes name)
+      → mid ≡ record now { pending = if entered then without_last now.pending else now.pending }
+      → new ≡ finished_with mid (string_bytes name) s → t ≡ reference (reference_to plan.path (string_bytes name))
+      → IsRepliedBy plan outside old want new (reply.Answer t)
+  closes_definition name entered mid new t is text left_is finished same =
+      let b = begun_for (purpose.Definition name entered) is in
+      let k = string_bytes name in
+      let start : Work = begun_with h.mid k in
+      let after : Work = record now { pending = h.mid.pending } in
+      let back : mid ≡ after = left plan true start h.start now d.row entered b.1 b.4 h.step mid left_is in
+      let here : IsFilledIn plan true h.start now d.row s = subst (λ x. IsFilledIn plan x h.start now d.row s) b.0 filled in
+      let step : Step plan start after = left_step plan true start h.start now d.row entered b.1 b.4 h.step in
+      let own_is : IsOwn plan true start after d.row s = left_own plan true start h.start now d.row entered b.1 b.4 h.step s here in
+      let undone_after : undone after ≡ undone start = un ∙ sym (undone-begun h.mid k b.2) in
+      let made : IsRepliedBy plan outside h.mid (defined k) (finished_with after k s) (reply.Answer t) = (
+        defined_step plan h.mid d.row k b.2 text b.3 after s step own_is,
+        defined_undone plan h.mid d.row k b.2 text b.3 after s step own_is undone_after,
+        (defined_made plan h.mid d.row k b.2 text b.3 after s step own_is, same),
+      ) in
+      subst (λ w. IsRepliedBy plan outside old want w (reply.Answer t)) (sym (finished ∙ ap (λ w. finished_with w k s) back))
+      (replied_from plan outside old want h.mid (defined k) (finished_with after k s) (reply.Answer t)
+      (leads_for (purpose.Definition name entered) is) made)
+
+-- ---- what waits
+
+waiting_undone : (plan : Plan) (first : Bool) (start : Work) (all : Wanted) (outside : Bool) (old : Work) (want : Wanted)
+    (ds : List Document) → AreWaiting plan first start all outside old want ds → undone old ≡ undone start
+waiting_undone plan first start all outside old want [] h = ap undone h.1
+waiting_undone plan first start all outside old want (d ∷ ds) h =
+    making_undone plan h.0 h.1 h.2 old d h.3 ∙ waiting_undone plan first start all h.0 h.1 h.2 ds h.5
+
+replied_undone : (plan : Plan) (outside : Bool) (old : Work) (want : Wanted) (now : Work) (r : Reply)
+    → IsRepliedBy plan outside old want now r → undone now ≡ undone old
+replied_undone plan outside old want now (reply.Answer s) h = h.1
+replied_undone plan outside old want now (reply.Document d) h = making_undone plan outside old want now d h
+
+pub goes_on_undone : (plan : Plan) (first : Bool) (start : Work) (all : Wanted) (now : Work) (ds : List Document) (r : Reply)
+    → GoesOn plan first start all now ds r → undone now ≡ undone start
+goes_on_undone plan first start all now ds r h = replied_undone plan h.outside h.old h.want now r h.replied
+    ∙ waiting_undone plan first start all h.outside h.old h.want ds h.waiting
+
+-- where nothing waits
+goes_home : (plan : Plan) (first : Bool) (start : Work) (all : Wanted) (now : Work) (s : Data)
+    → GoesOn plan first start all now [] (reply.Answer s) → Step plan start now × IsReply plan first start now all s
+goes_home plan first start all now s h =
+    let P : Bool → Work → Wanted → Type 0 = λ b w x. IsRepliedBy plan b w x now (reply.Answer s) in
+    let is : P first start all = subst (λ x. P first start x) h.waiting.2 (subst (λ w. P first w h.want) h.waiting.1
+    (subst (λ b. P b h.old h.want) h.waiting.0 h.replied)) in
+    (is.0, is.2)
+
+-- what is taken
+abbrev pub Goes : Plan → Bool → Work → Wanted → Work → List Document → Reply → Type 0
+Goes plan first start all now ds (reply.Answer s) = Step plan start now × IsReply plan first start now all s
+Goes plan first start all now ds (reply.Document d) = (around : Bool) × (before : Work) × (more : Wanted)
+    × IsInMaking plan around before more now d × AreWaiting plan first start all around before more ds
+
+pub taken_goes : (plan : Plan) (first : Bool) (start : Work) (all : Wanted) (now : Work) (ds : List Document) (q : Reply)
+    (es : List Document) (r : Reply) → IsTaken ds q es r → GoesOn plan first start all now ds q → Goes plan first start all now es r
+taken_goes plan first start all now ds (reply.Document d) es r is h =
+    let P : List Document → Reply → Type 0 = λ xs x. Goes plan first start all now xs x in
+    subst (λ x. P es x) (sym is.0) (subst (λ xs. P xs (reply.Document d)) (sym is.1) (h.outside, h.old, h.want, h.replied, h.waiting))
+taken_goes plan first start all now [] (reply.Answer s) es r is h =
+    let P : List Document → Reply → Type 0 = λ xs x. Goes plan first start all now xs x in
+    subst (λ x. P es x) (sym is.0) (goes_home plan first start all now s h)
+taken_goes plan first start all now (d ∷ ds) (reply.Answer s) es r is h =
+    let P : List Document → Reply → Type 0 = λ xs x. Goes plan first start all now xs x in
+    let at = h.waiting in
+    let made = answered_making plan at.0 at.1 at.2 h.old now h.outside h.want d is.0 s at.3 at.4 h.replied is.3 in
+    subst (λ x. P es x) (sym is.1) (subst (λ xs. P xs (reply.Document is.0)) (sym is.2) (at.0, at.1, at.2, made, at.5))
+
+-- and has as much to go
+pub taken_left : (plan : Plan) (first : Bool) (start : Work) (all : Wanted) (now : Work) (ds : List Document) (q : Reply)
+    (es : List Document) (d : Document) → IsTaken ds q es (reply.Document d) → GoesOn plan first start all now ds q
+    → left_going plan now d es ≡ left_of_reply plan now q ds
+taken_left plan first start all now ds (reply.Document x) es d is h =
+    ap (λ xs. left_of_reply plan now (reply.Document d) xs) is.1 ∙ ap (λ y. left_of_reply plan now y ds) is.0
+taken_left plan first start all now [] (reply.Answer s) es d is h = cc
+taken_left plan first start all now (x ∷ ds) (reply.Answer s) es d is h =
+    ap (λ xs. left_of_reply plan now (reply.Document d) xs) is.2
+    ∙ (ap (λ y. left_of_reply plan now y ds) is.1 ∙ answered_same plan now x is.0 s ds h.waiting.4.less is.3)

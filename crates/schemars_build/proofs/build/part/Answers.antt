@@ -1,0 +1,176 @@
+use Rattle.std.proofs.Common.{◌≡◌, ◌≢◌, ℕ, Option, Bool, false, true, inl}
+use Rattle.std.proofs.Common.{Some, None, refl, ap, sym, ◌∙◌, subst, arith, rules, string_bytes, not, is_some, eqb}
+use Rattle.std.proofs.Common.{true≢false}
+use Rattle.std.specs.Prelude.{◌||◌, ◌&&◌, codes}
+use Rattle.serde_json.specs.Data.{Data}
+use Rattle.serde_json.specs.Find.{get_member}
+use Rattle.schemars_documents.specs.Documents.{reference}
+use Rattle.schemars_schema.specs.References.{references}
+use Rattle.schemars_types.specs.Edges.{is_inline_at}
+use Rattle.schemars_templates.specs.Template.{part}
+use Rattle.schemars_naming.specs.Placed.{is_in_place, pending_in, is_pending}
+use Rattle.schemars_naming.specs.Work.{Work, Step, undone, reference_to}
+use Rattle.schemars_build.specs.Parts.{IsPart, IsMade}
+use Rattle.schemars_build.specs.Plans.{plan_of}
+use Rattle.schemars_build.specs.Reached.{AreReached}
+use Rattle.schemars_build.specs.Making.{own, defined, asked}
+use Rattle.schemars_build.specs.Making.{IsRepliedBy}
+use Rattle.schemars_build.specs.declared.build.Purpose.TheVariants as purpose
+use Rattle.schemars_build.specs.declared.build.Reply.TheVariants as reply
+use Rattle.std.specs.Option.{option_eq}
+use Rattle.std.proofs.lemmas.Bool.{eqb-true}
+use Rattle.std.proofs.lemmas.Bool.Decides.{nat_tests}
+use Rattle.schemars_build.proofs.Building.{part_answer}
+use Rattle.schemars_build.proofs.Reaching.{reached_root, nothing_added}
+use Rattle.schemars_build.proofs.Steps.{begun_with, undone-begun, key-found, step_refl, step_meet, step_names}
+use Rattle.schemars_build.proofs.Making.{leads_in_place, leads_defined, opened_reply, replied_from}
+use Rattle.schemars_build.specs.Left.{left_of_own_document, left_of_part}
+use Rattle.schemars_build.proofs.Descending.{to_own}
+use Rattle.schemars_build.proofs.Ending.{opened_within, within_more, definition_within}
+use Rattle.schemars_build.proofs.build.part.Goals as goal
+
+other_row : (o : Option ℕ) (n : ℕ) → false ≡ option_eq eqb o (Some n) → o ≢ Some n
+other_row None n h is = cc
+other_row (Some m) n h is =
+    let same : m ≡ n = cc in
+    let P : ℕ → Type 0 = λ k. false ≡ eqb k n in
+    let equal : false ≡ eqb n n = subst P same h in
+    let itself : eqb n n ≡ true = grind (arith, nat_tests) in
+    absurd (true≢false (sym itself ∙ sym equal))
+
+root_row : (o : Option ℕ) (n : ℕ) → true ≡ option_eq eqb o (Some n) → o ≡ Some n
+root_row None n h = cc
+root_row (Some m) n h = ap Some (eqb-true m n (sym h))
+
+not_inline : (a b : Bool) → a || b ≡ false → a ≡ false
+not_inline true b h = h
+not_inline false b h = refl
+
+free_or_met : (inside met : Bool) → not inside || (met || inside) ≡ true
+free_or_met true true = refl
+free_or_met true false = refl
+free_or_met false met = refl
+
+pub returns-then-is_in_place-clause-replies : goal.returns-then-is_in_place-clause-replies
+returns-then-is_in_place-clause-replies c =
+    let plan = plan_of c.args.plan.now in
+    let inside = c.args.in_definition in
+    let old = c.args.work.now in
+    let n = c.args.n in
+    replied_from plan inside old (asked (part n)) old (own n) c.own.new.work c.in_ok-in_place.in_place
+    (leads_in_place plan inside old n (sym c.is_in_place.ensures ∙ c.if-is_in_place.true)) c.in_ok-in_place.ensures.replies
+
+pub returns-then-eq-clause-replies : goal.returns-then-eq-clause-replies
+returns-then-eq-clause-replies c =
+    let plan = plan_of c.args.plan.now in
+    let old = c.args.work.now in
+    let inside = c.args.in_definition in
+    let placed : is_in_place plan.rows plan.inlines old.pending c.args.n ≡ false =
+    sym c.is_in_place.ensures ∙ c.if-is_in_place.false in
+    let apart : is_inline_at plan.rows c.args.n ≡ false = not_inline (is_inline_at plan.rows c.args.n) _ placed in
+    let root : plan.root ≡ Some c.args.n = root_row plan.root c.args.n c.if-eq.ensures in
+    let met : Work = record old { meets_root = old.meets_root || inside } in
+    let Q : Data → Type 0 = λ s. AreReached plan inside old met (references s) in
+    let one : IsPart plan inside old met c.args.n c.in_ok-root.root = record {
+      written = inl (
+        codes "#",
+        (inl (root, free_or_met inside old.meets_root, refl, (c.requires.known, apart)), placed),
+        c.in_ok-root.ensures,
+      );
+      reached = λ plain. subst Q (sym c.in_ok-root.ensures) (reached_root plan inside old);
+    } in
+    subst (λ w. IsRepliedBy plan inside old (asked (part c.args.n)) w (reply.Answer c.in_ok-root.root)) (sym c.meet_root.ensures)
+    (step_meet plan old inside, refl, part_answer plan inside old met c.args.n c.in_ok-root.root one)
+
+pub returns-then-has_definition-clause-replies : goal.returns-then-has_definition-clause-replies
+returns-then-has_definition-clause-replies c =
+    let plan = plan_of c.args.plan.now in
+    let old = c.args.work.now in
+    let inside = c.args.in_definition in
+    let n = c.args.n in
+    let mid = c.name_for.new.self in
+    let k = string_bytes c.in_ok-name.name in
+    let placed : is_in_place plan.rows plan.inlines old.pending n ≡ false = sym c.is_in_place.ensures ∙ c.if-is_in_place.false in
+    let apart : is_inline_at plan.rows n ≡ false = not_inline (is_inline_at plan.rows n) _ placed in
+    let found : is_some (get_member k mid.definitions) ≡ true = search rules in
+    let made : IsMade plan mid mid k = record { defined = key-found k mid.definitions found; reached = λ plain. nothing_added plan false mid _ } in
+    let same : c.in_ok-reference.reference ≡ reference (reference_to plan.path k) =
+    c.in_ok-reference.ensures ∙ ap (λ x. reference (reference_to plan.path x)) c.as_str-then-has_definition.ensures.value in
+    replied_from plan inside old (asked (part n)) mid (defined k) mid (reply.Answer c.in_ok-reference.reference)
+    (leads_defined plan inside old mid n k c.in_ok-name.ensures.rest c.in_ok-name.ensures.given c.in_ok-name.ensures.no_other
+    c.in_ok-name.ensures.named placed apart (other_row plan.root n c.if-eq.ensures) c.requires.known c.in_ok-name.ensures.undone)
+    (step_refl plan mid, refl, (made, same))
+
+pub returns-in_err-definition-clause-undone : goal.returns-in_err-definition-clause-undone
+returns-in_err-definition-clause-undone c =
+    let mid = c.name_for.new.self in
+    let k = string_bytes c.in_ok-name.name in
+    let none : get_member k mid.definitions ≡ None = search rules in
+    let begun : c.begin.new.self ≡ begun_with mid k = c.in_ok-begin.ensures.ok ∙ ap (begun_with mid) c.as_str-2.ensures.value in
+    ap undone c.in_ok-entered.ensures.ok ∙ (ap undone begun ∙ (undone-begun mid k none ∙ c.in_ok-name.ensures.undone))
+
+pub returns-in_err-entered-clause-undone : goal.returns-in_err-entered-clause-undone
+returns-in_err-entered-clause-undone c =
+    let mid = c.name_for.new.self in
+    let k = string_bytes c.in_ok-name.name in
+    let none : get_member k mid.definitions ≡ None = search rules in
+    let begun : c.begin.new.self ≡ begun_with mid k = c.in_ok-begin.ensures.ok ∙ ap (begun_with mid) c.as_str-2.ensures.value in
+    ap undone c.in_err-entered.ensures.err ∙ (ap undone begun ∙ (undone-begun mid k none ∙ c.in_ok-name.ensures.undone))
+
+pub returns-clause-undone : goal.returns-clause-undone
+returns-clause-undone c =
+    let mid = c.name_for.new.self in
+    let k = string_bytes c.in_ok-name.name in
+    let none : get_member k mid.definitions ≡ None = search rules in
+    let begun : c.begin.new.self ≡ begun_with mid k = c.in_ok-begin.ensures.ok ∙ ap (begun_with mid) c.as_str-2.ensures.value in
+    ap undone c.in_ok-entered.ensures.ok ∙ (ap undone begun ∙ (undone-begun mid k none ∙ c.in_ok-name.ensures.undone))
+
+pub returns-clause-replies : goal.returns-clause-replies
+returns-clause-replies c =
+    let plan = plan_of c.args.plan.now in
+    let old = c.args.work.now in
+    let inside = c.args.in_definition in
+    let n = c.args.n in
+    let mid = c.name_for.new.self in
+    let k = string_bytes c.in_ok-name.name in
+    let placed : is_in_place plan.rows plan.inlines old.pending n ≡ false = sym c.is_in_place.ensures ∙ c.if-is_in_place.false in
+    let apart : is_inline_at plan.rows n ≡ false = not_inline (is_inline_at plan.rows n) _ placed in
+    let none : get_member k mid.definitions ≡ None = search rules in
+    let begun : c.begin.new.self ≡ begun_with mid k = c.in_ok-begin.ensures.ok ∙ ap (begun_with mid) c.as_str-2.ensures.value in
+    let is_new : c.in_ok-entered.entered ≡ plan.inlines && not (is_pending mid.pending n) =
+    c.in_ok-entered.ensures.is_new ∙ ap (λ w. plan.inlines && not (is_pending w.pending n)) begun in
+    let while_made : Work → Work = λ w. record w { pending = pending_in plan.inlines w.pending n } in
+    let entered : c.enter.new.self ≡ record (begun_with mid k) { pending = pending_in plan.inlines mid.pending n } =
+    c.in_ok-entered.ensures.ok ∙ ap while_made begun in
+    opened_reply plan inside true old (asked (part n)) mid c.enter.new.self n (purpose.Definition c.in_ok-name.name c.in_ok-entered.entered)
+    c.in_ok-definition.definition c.in_ok-definition.ensures
+    (leads_defined plan inside old mid n k c.in_ok-name.ensures.rest c.in_ok-name.ensures.given c.in_ok-name.ensures.no_other
+    c.in_ok-name.ensures.named placed apart (other_row plan.root n c.if-eq.ensures) c.requires.known c.in_ok-name.ensures.undone)
+    (refl, is_new, none, c.in_ok-name.ensures.named, entered)
+
+pub returns-then-is_in_place-clause-within : goal.returns-then-is_in_place-clause-within
+returns-then-is_in_place-clause-within c =
+    let plan = plan_of c.args.plan.now in
+    let old = c.args.work.now in
+    let n = c.args.n in
+    let less = to_own plan old n c.requires.checked c.requires.known (sym c.is_in_place.ensures ∙ c.if-is_in_place.true) in
+    within_more plan (left_of_own_document plan old n) (left_of_part plan old n) c.own.new.work c.in_ok-in_place.in_place
+    (omega (arith, less)) c.in_ok-in_place.ensures.within
+
+pub returns-clause-within : goal.returns-clause-within
+returns-clause-within c =
+    let plan = plan_of c.args.plan.now in
+    let old = c.args.work.now in
+    let n = c.args.n in
+    let mid = c.name_for.new.self in
+    let k = string_bytes c.in_ok-name.name in
+    let none : get_member k mid.definitions ≡ None = search rules in
+    let begun : c.begin.new.self ≡ begun_with mid k = c.in_ok-begin.ensures.ok ∙ ap (begun_with mid) c.as_str-2.ensures.value in
+    let while_made : Work → Work = λ w. record w { pending = pending_in plan.inlines w.pending n } in
+    let entered : c.enter.new.self ≡ record (begun_with mid k) { pending = pending_in plan.inlines mid.pending n } =
+    c.in_ok-entered.ensures.ok ∙ ap while_made begun in
+    let step : Step plan old mid = subst (λ w. Step plan old w) (sym c.in_ok-name.ensures.rest)
+    (step_names plan old mid.names c.in_ok-name.ensures.given) in
+    opened_within plan true n (purpose.Definition c.in_ok-name.name c.in_ok-entered.entered) c.in_ok-definition.definition
+    c.enter.new.self (left_of_part plan old n) c.in_ok-definition.ensures
+    (definition_within plan old mid c.enter.new.self n k c.requires.checked c.requires.known step c.in_ok-name.ensures.named none entered)

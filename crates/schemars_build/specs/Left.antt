@@ -1,0 +1,98 @@
+-- How far the making of documents still has to go.
+use Rattle.std.specs.Prelude.{◌≤◌, ◌+◌, ◌*◌, ◌-◌, ◌^◌, ℕ, zero, suc, List, [], ◌∷◌, length, if◌then◌else◌}
+use Rattle.std.specs.Option.{option_map_or}
+use Rattle.schemars_types.specs.Rows.{Row, entry_at}
+use Rattle.schemars_types.specs.Edges.{height}
+use Rattle.schemars_naming.specs.Placed.{pending_in}
+use Rattle.schemars_naming.specs.Work.{Plan, Work, basis_of, without_last}
+use Rattle.schemars_templates.specs.Template.{Ask, part, members_of, content, asks_of}
+use Rattle.schemars_templates.specs.OfShape.{entry_template}
+use Rattle.schemars_templates.specs.Describes.{without_options}
+use Rattle.schemars_build.specs.Missing.{missing, fresh, depth_in_place}
+use Rattle.schemars_build.specs.declared.build.Document.{Document}
+use Rattle.schemars_build.specs.declared.build.Purpose.{Purpose}
+use Rattle.schemars_build.specs.declared.build.Purpose.TheVariants as purpose
+use Rattle.schemars_build.specs.declared.build.Reply.{Reply}
+use Rattle.schemars_build.specs.declared.build.Reply.TheVariants as reply
+
+abbrev pub width : List Row → ℕ
+width rows = 8 * length rows + 12
+
+-- the definitions that may still be made, and then the rows that may still be entered
+abbrev pub places : Plan → Work → List ℕ → ℕ
+places p w pending = missing p.rows p.contract w * suc (length p.rows) + fresh p.rows pending
+
+abbrev pub left_of_definition : Plan → Work → ℕ
+left_of_definition p w = places p w w.pending * width p.rows
+
+abbrev pub left_of_part : Plan → Work → ℕ → ℕ
+left_of_part p w n = places p w w.pending * width p.rows + (8 * depth_in_place p.rows n + 1)
+
+abbrev pub left_of_own_document : Plan → Work → ℕ → ℕ
+left_of_own_document p w n = places p w (pending_in p.inlines w.pending n) * width p.rows + (8 * height p.rows n + 8)
+
+abbrev pub left_of_filled : Plan → Work → ℕ → ℕ
+left_of_filled p w n = places p w w.pending * width p.rows + (8 * height p.rows n + 7)
+
+abbrev pub left_of_members : Plan → Work → ℕ → ℕ
+left_of_members p w n = places p w w.pending * width p.rows + (8 * height p.rows (without_options p.rows n) + 10)
+
+abbrev pub left_of_content : Plan → Work → ℕ → ℕ
+left_of_content p w n = places p w w.pending * width p.rows + (8 * height p.rows n + 11)
+
+abbrev pub left_of_asked : Plan → Work → Ask → ℕ
+left_of_asked p w (part n) = left_of_part p w n
+left_of_asked p w (members_of n required) = left_of_members p w n
+left_of_asked p w (content n) = left_of_content p w n
+
+-- ---- a list of documents that wait
+
+-- how many rows the document of row n asks
+abbrev pub asks_at : Plan → ℕ → ℕ
+asks_at p n = option_map_or (λ e. length (asks_of (entry_template (basis_of p) e))) (entry_at p.rows n) 0
+
+abbrev pub sum_below : (ℕ → ℕ) → ℕ → ℕ
+sum_below f zero = 0
+sum_below f (suc n) = f n + sum_below f n
+
+-- more than any document asks
+unfoldable pub breadth : Plan → ℕ
+breadth p = sum_below (asks_at p) (length p.rows) + 2
+
+-- a document that is made while these rows are pending
+abbrev pub rank : Plan → Work → List ℕ → ℕ → Purpose → ℕ
+rank p w pending n (purpose.Own entered) = left_of_filled p (record w { pending = pending }) n
+rank p w pending n (purpose.Definition name entered) = left_of_filled p (record w { pending = pending }) n
+rank p w pending n (purpose.Members optional) = left_of_filled p (record w { pending = pending }) n
+rank p w pending n purpose.Content = left_of_content p (record w { pending = pending }) n
+
+abbrev pub weight : Plan → Work → List ℕ → Document → ℕ
+weight p w pending d = breadth p ^ rank p w pending d.row d.purpose
+
+-- the rows that have not answered in it
+abbrev pub unanswered : Document → ℕ
+unanswered d = length d.asks.items - length d.answers.items
+
+-- the rows that are pending around it
+abbrev pub pending_around : Purpose → List ℕ → List ℕ
+pending_around (purpose.Own entered) pending = if entered then without_last pending else pending
+pending_around (purpose.Definition name entered) pending = if entered then without_last pending else pending
+pending_around (purpose.Members optional) pending = pending
+pending_around purpose.Content pending = pending
+
+abbrev pub left_waiting : Plan → Work → List ℕ → List Document → ℕ
+left_waiting p w pending [] = 0
+left_waiting p w pending (d ∷ ds) = unanswered d * weight p w pending d + left_waiting p w (pending_around d.purpose pending) ds
+
+-- with a document that goes on
+abbrev pub left_going : Plan → Work → Document → List Document → ℕ
+left_going p w d ds = suc (unanswered d) * weight p w w.pending d + left_waiting p w (pending_around d.purpose w.pending) ds
+
+abbrev pub left_of_reply : Plan → Work → Reply → List Document → ℕ
+left_of_reply p w (reply.Answer s) ds = left_waiting p w w.pending ds
+left_of_reply p w (reply.Document d) ds = left_going p w d ds
+
+-- a reply that has less to go than this
+abbrev pub IsWithin : Plan → ℕ → Work → Reply → Type 0
+IsWithin p k w (reply.Answer s) = Unit {0}
+IsWithin p k w (reply.Document d) = rank p w w.pending d.row d.purpose ≤ k

@@ -1,0 +1,164 @@
+-- Documents that are being made: what is wanted, how far they have come, and what waits for them.
+use Rattle.std.specs.Prelude.{◌≡◌, ◌<◌, ◌&&◌, ◌++◌, ◌+◌, ℕ, List, [], ◌∷◌, Bool, true, false, not, Some, None, length, map, take}
+use Rattle.std.specs.Prelude.{string_bytes}
+use Rattle.serde_json.specs.Data.{Data, boolean, put}
+use Rattle.serde_json.specs.Find.{get_member}
+use Rattle.schemars_json.specs.Json.{Text}
+use Rattle.schemars_shapes.specs.Shape.{Entry}
+use Rattle.schemars_types.specs.Rows.{entry_at}
+use Rattle.schemars_parts.specs.Parts.{flattened_part}
+use Rattle.schemars_documents.specs.Documents.{reference}
+use Rattle.schemars_templates.specs.Template.{Ask, content, asks_of}
+use Rattle.schemars_templates.specs.View.{ask_of, template_view}
+use Rattle.schemars_templates.specs.OfShape.{entry_template}
+use Rattle.schemars_naming.specs.Naming.{name_of}
+use Rattle.schemars_naming.specs.Placed.{is_pending, pending_in}
+use Rattle.schemars_naming.specs.Work.{Plan, Work, Step, undone, reference_to, basis_of}
+use Rattle.schemars_build.specs.Missing.{row_asked}
+use Rattle.schemars_build.specs.Parts.{IsOwn, IsMade, IsFilledIn, IsAnswer, AreAnswers}
+use Rattle.schemars_build.specs.declared.build.Document.{Document}
+use Rattle.schemars_build.specs.declared.build.Purpose.{Purpose}
+use Rattle.schemars_build.specs.declared.build.Purpose.TheVariants as purpose
+use Rattle.schemars_build.specs.declared.build.Request.{Request}
+use Rattle.schemars_build.specs.declared.build.Request.TheVariants as request
+use Rattle.schemars_build.specs.declared.build.Reply.{Reply}
+use Rattle.schemars_build.specs.declared.build.Reply.TheVariants as reply
+
+-- ---- what is wanted
+
+-- a row's own document; a reference to the definition of a name, which is to be there; the document of a row as it is flattened,
+-- whose members may be missing or not; or an answer
+pub data Wanted : Type 0 where
+  own : ℕ → Wanted
+  defined : Text → Wanted
+  flattened : ℕ → Bool → Wanted
+  asked : Ask → Wanted
+
+abbrev pub wanted : Request → Wanted
+wanted (request.Own n) = own n
+wanted (request.Asked a) = asked (ask_of a)
+
+abbrev pub row_wanted : Wanted → ℕ
+row_wanted (own n) = n
+row_wanted (defined k) = 0
+row_wanted (flattened n optional) = n
+row_wanted (asked a) = row_asked a
+
+abbrev pub IsReply : Plan → Bool → Work → Work → Wanted → Data → Type 0
+IsReply plan inside old new (own n) s = IsOwn plan inside old new n s
+IsReply plan inside old new (defined k) s = IsMade plan old new k × (s ≡ reference (reference_to plan.path k))
+IsReply plan inside old new (flattened n optional) s = (d : Data) × IsFilledIn plan inside old new n d × (s ≡ flattened_part optional d)
+IsReply plan inside old new (asked a) s = IsAnswer plan inside old new a s
+
+-- ---- documents
+
+-- what a document is made for
+abbrev pub wanted_for : ℕ → Purpose → Wanted
+wanted_for n (purpose.Own entered) = own n
+wanted_for n (purpose.Definition name entered) = defined (string_bytes name)
+wanted_for n (purpose.Members optional) = flattened n optional
+wanted_for n purpose.Content = asked (content n)
+
+-- a document that is wanted at `mid` is begun at `start`: the row is entered, and a definition gets its dummy
+abbrev pub IsBegun : Plan → Bool → Work → Work → ℕ → Bool → Purpose → Type 0
+IsBegun plan outside mid start n inside (purpose.Own entered) =
+    (inside ≡ outside)
+    × (entered ≡ plan.inlines && not (is_pending mid.pending n))
+    × (start ≡ record mid { pending = pending_in plan.inlines mid.pending n })
+IsBegun plan outside mid start n inside (purpose.Definition name entered) =
+    (inside ≡ true)
+    × (entered ≡ plan.inlines && not (is_pending mid.pending n))
+    × (get_member (string_bytes name) mid.definitions ≡ None)
+    × (name_of n plan.contract mid.names ≡ Some (string_bytes name))
+    × (start ≡ record mid {
+      definitions = put (string_bytes name) (boolean false) mid.definitions;
+      begun = mid.begun ++ string_bytes name ∷ [];
+      pending = pending_in plan.inlines mid.pending n;
+    })
+IsBegun plan outside mid start n inside (purpose.Members optional) = (inside ≡ outside) × (start ≡ mid)
+IsBegun plan outside mid start n inside purpose.Content = (inside ≡ outside) × (start ≡ mid)
+
+-- the template of a row, and what is asked in it
+pub record IsTemplate (plan : Plan) (d : Document) : Type 0 where
+  pub known : d.row < length plan.rows
+  pub entry : Entry
+  pub at : entry_at plan.rows d.row ≡ Some entry
+  pub template : template_view d.template ≡ entry_template (basis_of plan) entry
+  pub asks : map ask_of d.asks.items ≡ asks_of (entry_template (basis_of plan) entry)
+
+-- a document of which nothing has been answered
+abbrev pub IsOpened : Plan → Bool → ℕ → Purpose → Reply → Type 0
+IsOpened plan inside n p (reply.Answer s) = ⊥
+IsOpened plan inside n p (reply.Document d) =
+    (d.row ≡ n) × (d.purpose ≡ p) × (d.in_definition ≡ inside) × (d.answers.items ≡ []) × IsTemplate plan d
+
+-- what is wanted at `old` is given by what is got, later on, of what is wanted at `mid`
+pub record Leads (plan : Plan) (inside : Bool) (old : Work) (want : Wanted) (mid : Work) (got : Wanted) : Type 0 where
+  pub step : Step plan old mid
+  pub undone : undone mid ≡ undone old
+  pub gives : (new : Work) (s : Data) → Step plan mid new → IsReply plan inside mid new got s → IsReply plan inside old new want s
+
+-- a document is being made for what is wanted at `old`; the first of the rows that it asks have answered by now
+pub record IsInMaking (plan : Plan) (outside : Bool) (old : Work) (want : Wanted) (now : Work) (d : Document) : Type 0 where
+  pub template : IsTemplate plan d
+  pub mid : Work
+  pub start : Work
+  pub leads : Leads plan outside old want mid (wanted_for d.row d.purpose)
+  pub begun : IsBegun plan outside mid start d.row d.in_definition d.purpose
+  pub step : Step plan start now
+  pub undone : undone now ≡ undone start
+  pub answers : AreAnswers plan d.in_definition start now (map ask_of (take (length d.answers.items) d.asks.items)) d.answers.items
+
+-- the same document, with one answer more
+pub record HasAnswered (old : Document) (s : Data) (new : Document) : Type 0 where
+  pub row : new.row ≡ old.row
+  pub purpose : new.purpose ≡ old.purpose
+  pub in_definition : new.in_definition ≡ old.in_definition
+  pub template : new.template ≡ old.template
+  pub asks : new.asks ≡ old.asks
+  pub answers : new.answers.items ≡ old.answers.items ++ s ∷ []
+
+-- ---- what waits
+
+-- d waits for an answer to what is wanted
+pub record IsNext (d : Document) (outside : Bool) (want : Wanted) : Type 0 where
+  pub ask : Ask
+  pub is : want ≡ asked ask
+  pub inside : d.in_definition ≡ outside
+  pub less : length d.answers.items < length d.asks.items
+  pub next : map ask_of (take (length d.answers.items + 1) d.asks.items)
+      ≡ map ask_of (take (length d.answers.items) d.asks.items) ++ ask ∷ []
+
+-- the first of these documents waits for what is wanted at `old`, and each other one for the one before it; the last is made for
+-- what was wanted first, at `start`
+abbrev pub AreWaiting : Plan → Bool → Work → Wanted → Bool → Work → Wanted → List Document → Type 0
+AreWaiting plan first start all outside old want [] = (outside ≡ first) × (old ≡ start) × (want ≡ all)
+AreWaiting plan first start all outside old want (d ∷ ds) =
+    (around : Bool)
+    × (before : Work)
+    × (more : Wanted)
+    × IsInMaking plan around before more old d
+    × IsNext d outside want
+    × AreWaiting plan first start all around before more ds
+
+-- a reply to what is wanted at `old`: what is wanted, or a document for it
+abbrev pub IsRepliedBy : Plan → Bool → Work → Wanted → Work → Reply → Type 0
+IsRepliedBy plan outside old want now (reply.Answer s) =
+    Step plan old now
+    × (undone now ≡ undone old)
+    × IsReply plan outside old now want s
+IsRepliedBy plan outside old want now (reply.Document d) = IsInMaking plan outside old want now d
+
+-- a reply to what is waited for
+pub record GoesOn (plan : Plan) (first : Bool) (start : Work) (all : Wanted) (now : Work) (ds : List Document) (r : Reply) : Type 0 where
+  pub outside : Bool
+  pub old : Work
+  pub want : Wanted
+  pub waiting : AreWaiting plan first start all outside old want ds
+  pub replied : IsRepliedBy plan outside old want now r
+
+-- what goes on after a reply: the document, or the one that waited for the answer; an answer for which none waits
+abbrev pub IsTaken : List Document → Reply → List Document → Reply → Type 0
+IsTaken ds (reply.Document d) es r = (r ≡ reply.Document d) × (es ≡ ds)
+IsTaken [] (reply.Answer s) es r = (r ≡ reply.Answer s) × (es ≡ [])
+IsTaken (d ∷ ds) (reply.Answer s) es r = (x : Document) × (r ≡ reply.Document x) × (es ≡ ds) × HasAnswered d s x
