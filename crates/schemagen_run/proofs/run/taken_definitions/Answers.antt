@@ -1,6 +1,8 @@
 -- The row is known, so that memory is all that a part may want.
 use Rattle.std.proofs.Common.{◌∙◌, ap, refl, length, Err}
 use Rattle.schemars_roots.specs.Settings.{state_with}
+use Rattle.serde_json.specs.View.{members_view}
+use Rattle.schemars_dialects.specs.Taken.{HasSameKeys, TakenHeadline}
 use Rattle.schemars_generate.specs.Settings.{settings_of, state}
 use Rattle.schemars_transforms.specs.Member.{some_own}
 use Rattle.schemars_transforms.specs.BuiltIn.{each_made_by}
@@ -28,7 +30,8 @@ returns c =
     let new = state c.subschema_for_type.new.self in
     record {
       ok = both_at_ok c.take_definitions.result (taken.built_in refl own)
-          (at_ok_under c.take_definitions.result
+          (at_ok_under (λ m. HasSameKeys (members_view m.entries) new.definitions × TakenHeadline new (members_view m.entries))
+          c.take_definitions.result
           (λ is. taken.openapi3 refl (ap (λ s. s.transforms.items) told.settings ∙ is)))
           (λ m made means. (
             new,
