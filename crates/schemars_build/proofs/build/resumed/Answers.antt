@@ -23,6 +23,10 @@ reply_to-requires-clause-known c =
     let here : get_or d.asks.items i a ≡ a = grind (arith, common_steps) in
     subst (λ x. row_asked (ask_of x) < length plan.rows) here (asks_known plan d c.requires.checked c.requires.template i a less)
 
+-- the rows have all answered
+pub closed-requires-clause-all_answered : goal.closed-requires-clause-all_answered
+closed-requires-clause-all_answered c = grind (arith, common_steps)
+
 pub returns-clause-goes_on : goal.returns-clause-goes_on
 returns-clause-goes_on c = λ first outside start old all want h waits.
     let plan = plan_of c.args.plan.now in
