@@ -94,10 +94,9 @@ impl Contents {
         ensures only_memory { IsAccepted types → IfErr result (λ e. e ≡ GenerateError.OutOfMemory) }
     {
         types.check(alloc)?;
-        Ok(Contents {
-            types,
-            work: Work::new(alloc),
-        })
+        let mut work = Work::new(alloc);
+        work.extend(types.len())?;
+        Ok(Contents { types, work })
     }
 
     /// Takes a table whose first rows are those of the present one in its place.
@@ -121,6 +120,7 @@ impl Contents {
             return Err(GenerateError::NotAnExtension);
         }
         types.check(alloc)?;
+        self.work.extend(types.len())?;
         self.types = types;
         Ok(())
     }
