@@ -1,19 +1,27 @@
-use Rattle.std.proofs.Common.{◌≡◌, length, take, sym, subst, ap, rules}
+use Rattle.std.proofs.Common.{◌≡◌, List, length, take, sym, subst, ap, rules}
+use Rattle.schemars_types.specs.Rows.{Row}
+use Rattle.schemars_naming.specs.Work.{Work}
 use Rattle.schemars_headline.specs.State.{HasOwnDefinitions}
 use Rattle.schemars_headline.proofs.Larger.{more_types_own}
 use Rattle.schemars_roots.specs.Settings.{Held, state_with}
 use Rattle.schemars_roots.proofs.contents.Contents.add_types.Goals as goal
 
+-- contents with these rows
+abbrev held : List Row → Work → Held
+held rows w = record { rows = rows; names = w.names; definitions = w.definitions }
+
+pub returns-in_err-extend-clause-own : goal.returns-in_err-extend-clause-own
+returns-in_err-extend-clause-own c =
+    λ settings own.
+    let P : Work → Type 0 = λ w. HasOwnDefinitions (state_with settings (held c.self.inside.types w)) in
+    subst P (sym c.extend.ensures) (subst HasOwnDefinitions (sym (ap (state_with settings) c.self.view_is)) own)
+
 pub returns-clause-own : goal.returns-clause-own
 returns-clause-own c =
     λ settings own.
-    let held : Held =
-    record {
-      rows = c.self.inside.types;
-      names = c.self.inside.work.names;
-      definitions = c.self.inside.work.definitions;
-    } in
-    let before : HasOwnDefinitions (state_with settings held) = subst HasOwnDefinitions (sym (ap (state_with settings) c.self.view_is))
+    let old : Held = held c.self.inside.types c.self.inside.work in
+    let P : Work → Type 0 = λ w. HasOwnDefinitions (state_with settings (held c.args.types w)) in
+    let before : HasOwnDefinitions (state_with settings old) = subst HasOwnDefinitions (sym (ap (state_with settings) c.self.view_is))
     own in
-    let same : take (length held.rows) c.args.types ≡ held.rows = search rules in
-    more_types_own (state_with settings held) c.args.types c.self.invariant.0 same before
+    let same : take (length old.rows) c.args.types ≡ old.rows = search rules in
+    subst P (sym c.extend.ensures) (more_types_own (state_with settings old) c.args.types c.self.invariant.0 same before)

@@ -1,4 +1,4 @@
-use Rattle.std.proofs.Common.{◌≡◌, sym, subst, refl}
+use Rattle.std.proofs.Common.{◌≡◌, ◌∙◌, sym, subst, refl}
 use Rattle.schemars_naming.specs.Naming.{IsOneToOne}
 use Rattle.schemars_naming.specs.Work.{Work}
 use Rattle.schemars_headline.proofs.Calls.{one_to_one-none}
@@ -9,12 +9,14 @@ pub invariant_of-result : goal.invariant_of-result
 invariant_of-result c =
     let P : Work → Type 0 = λ w. IsOneToOne w.names in
     let Q : Work → Type 0 = λ w. w ≡ held_work w.names w.definitions in
-    (c.in_ok-check.ensures.checked, subst P (sym c.new.ensures) one_to_one-none, subst Q (sym c.new.ensures) refl)
+    let none = c.extend.ensures ∙ c.new-work.ensures in
+    (c.in_ok-check.ensures.checked, subst P (sym none) one_to_one-none, subst Q (sym none) refl)
 
 pub returns-clause-made : goal.returns-clause-made
 returns-clause-made c =
+    let none = c.extend.ensures ∙ c.new-work.ensures in
     λ i. record {
       rows = c.args.types;
-      names = (c.new.ensures i).names;
-      definitions = (c.new.ensures i).definitions;
+      names = (none i).names;
+      definitions = (none i).definitions;
     }
