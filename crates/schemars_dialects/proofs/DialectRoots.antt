@@ -14,7 +14,7 @@ use Rattle.schemars_types.specs.Faults.{IsChecked}
 use Rattle.schemars_documents.specs.PlainTable.{IsPlainTable}
 use Rattle.schemars_naming.specs.Naming.{IsOneToOne}
 use Rattle.schemars_naming.specs.Work.{Plan, Work, Refers, reference_to, basis_of}
-use Rattle.schemars_meaning.proofs.Following.{described_schema}
+use Rattle.schemars_meaning.proofs.Schemas.{described}
 use Rattle.schemars_headline.specs.State.{State, path_of, plan_of, HasOwnDefinitions}
 use Rattle.schemars_headline.specs.Headline.{IsRootOf}
 use Rattle.schemars_headline.specs.Keys.{HasKeysOnce}
@@ -58,7 +58,7 @@ module _ (plan : Plan) (w : Work) (key : Text) (at : StandsAt plan.path key) (pl
           is.2.0,
           sym (name.there alone w.definitions (get_member-put key (object w.definitions) no_members))
               ∙ (holds_put plan.path key at w.definitions no_members).leads is.0 is.2.0 stands.is_text is.2.1,
-          described_schema (basis_of plan) (MayRefer plan w) plain stands.depth stands.row is.2.0 stands.describes,
+          described (basis_of plan) (MayRefer plan w) stands.depth stands.row is.2.0 stands.describes,
         ),
       )
 

@@ -25,7 +25,8 @@ use Rattle.schemars_templates.specs.OfShape.{pattern_properties_at, properties_a
 use Rattle.schemars_meaning.proofs.Parts.{first_all, left_all}
 use Rattle.schemars_meaning.proofs.Spread.{AnswersFields, field_keywords}
 use Rattle.schemars_meaning.proofs.Filling.{Fit, without_end, parted}
-use Rattle.schemars_meaning.proofs.Flattened.{struct_fills, parts_apart}
+use Rattle.schemars_documents.proofs.OpenStructs.{parts_apart}
+use Rattle.schemars_meaning.proofs.Flattened.{struct_fills}
 use Rattle.schemars_meaning.proofs.Flattening.{tagged-map, tagged-null}
 use Rattle.schemars_meaning.proofs.ByShape.{tuple_fills, tagged_document}
 use Rattle.schemars_meaning.proofs.Enums.{title_noted}
@@ -41,16 +42,16 @@ noted-append : (xs ys : List Field) → AreNoted xs → AreNoted ys → AreNoted
 noted-append [] ys a b = b
 noted-append (x ∷ xs) ys a b = (a.0, noted-append xs ys a.1 b)
 
-module _ (has : ℕ → List Field) (noted_rows : (n : ℕ) → AreNoted (has n)) where
+module _ (has : Flattened → List Field) (noted_rows : (p : Flattened) → AreNoted (has p)) where
   noted-flattened : (ps : List Flattened) → AreNoted (flattened_fields has ps)
   noted-flattened [] = tt
-  noted-flattened (p ∷ ps) = noted-append (has p.ty) (flattened_fields has ps) (noted_rows p.ty) (noted-flattened ps)
+  noted-flattened (p ∷ ps) = noted-append (has p) (flattened_fields has ps) (noted_rows p) (noted-flattened ps)
 
   pub noted-effective : (x : Fields) → AreNoted x.list → AreNoted (effective has x)
   noted-effective x own = noted-append x.list (flattened_fields has x.flatten) own (noted-flattened x.flatten)
 
-module _ (R : Text → Type 0) (A : Ask → Data → Type 0) (has : ℕ → List Field) (basis : Basis)
-    (fields : AnswersFields has basis.rows basis.contract A) (noted_rows : (n : ℕ) → AreNoted (has n))
+module _ (R : Text → Type 0) (A : Ask → Data → Type 0) (has : Flattened → List Field) (basis : Basis)
+    (fields : AnswersFields has basis.rows basis.contract A) (noted_rows : (p : Flattened) → AreNoted (has p))
     (parts : (j : ℕ) (t : Data) → A (part j) t → IsGood R t) where
   abbrev contract : Contract
   contract = basis.contract
@@ -168,8 +169,8 @@ module _ (R : Text → Type 0) (A : Ask → Data → Type 0) (has : ℕ → List
 
   -- ---- with a tag inside
 
-  module _ (others : ℕ → List Field) (tag : Text) (closed : Bool) where
-    tag-makes : (name : Text) (p : Payload) → IsTagged tag (spread_payload others p) → IsNotedPayload p
+  module _ (others : Flattened → List Field) (enums : Flattened → List ℕ) (tag : Text) (closed : Bool) where
+    tag-makes : (name : Text) (p : Payload) → IsTagged tag (spread_payload others enums p) → IsNotedPayload p
         → ArePlainParts basis.rows (payload_parts p) → Makes (tagged tag name closed (content_template contract p))
     tag-makes name no_payload is own flat us fit =
         subst (IsGood R) (sym (tagged-null tag name closed)) (tagged-good R W parts contract tag name [] [] closed tt refl)
@@ -188,7 +189,7 @@ module _ (R : Text → Type 0) (A : Ask → Data → Type 0) (has : ℕ → List
         (tagged-good R W parts contract tag name (effective has x) d.parts x.closed
         (noted-effective has noted_rows x own) d.written))
 
-    internals-make : (xs : List Variant) → AreTagged tag (map (spread_variant others) xs) → AreNotedVariants xs
+    internals-make : (xs : List Variant) → AreTagged tag (map (spread_variant others enums) xs) → AreNotedVariants xs
         → ArePlainParts basis.rows (variant_parts xs) → AllMake (map (internal_item contract tag closed) xs)
     internals-make [] are own flat = tt
     internals-make (x ∷ xs) are own flat =
@@ -198,7 +199,7 @@ module _ (R : Text → Type 0) (A : Ask → Data → Type 0) (has : ℕ → List
           internals-make xs are.1 own.2 flats.1,
         )
 
-    pub internal-makes : (xs : List Variant) → AreTagged tag (map (spread_variant others) xs) → AreNotedVariants xs
+    pub internal-makes : (xs : List Variant) → AreTagged tag (map (spread_variant others enums) xs) → AreNotedVariants xs
         → ArePlainParts basis.rows (variant_parts xs) → Makes (internal_template contract tag closed xs)
     internal-makes [] are own flat us fit = good_truth R false
     internal-makes (x ∷ xs) are own flat us fit =

@@ -1,2 +1,3 @@
 pub mod Annotating
 pub mod Texts
+pub mod OpenStructs

@@ -1,13 +1,18 @@
 -- Tables of plain parts.
-use Rattle.std.specs.Prelude.{◌≡◌, ℕ, List, [], ◌∷◌, ◌++◌, Option, Some, None, true, false, bytes_eq}
+use Rattle.std.specs.Prelude.{◌≡◌, ℕ, List, [], ◌∷◌, ◌++◌, map, Option, Some, None, Bool, true, false, not, is_some, ◌&&◌, bytes_eq}
 use Rattle.serde_json.specs.Written.{has_float, members_have_float}
 use Rattle.schemars_json.specs.Json.{Text}
+use Rattle.schemars_json.specs.OrderedText.{is_listed}
 use Rattle.schemars_schema.specs.Annotations.{AreNotes}
 use Rattle.schemars_schema.specs.Literal.{IsPlainLiteral}
 use Rattle.schemars_shapes.specs.Shape as shape
-use Rattle.schemars_shapes.specs.Shape.{Shape, Field, Flattened, Fields, Entry, Payload, Variant, no_payload, newtype_payload, tuple_payload, struct_payload}
+use Rattle.schemars_shapes.specs.Shape.{Shape, Field, Flattened, Fields, Entry, Payload, Variant, no_payload, newtype_payload}
+use Rattle.schemars_shapes.specs.Shape.{tuple_payload, struct_payload}
+use Rattle.schemars_shapes.specs.Units.{is_none}
 use Rattle.schemars_types.specs.Rows.{Row, entry_at}
-use Rattle.schemars_types.specs.Effective.{spread_in}
+use Rattle.schemars_types.specs.Edges.{option_at}
+use Rattle.schemars_types.specs.Effective.{without_options, flattened_enums, part_enums, spread_in}
+use Rattle.schemars_types.specs.Meaning.{Contract, is_required}
 
 -- no field has this name
 abbrev pub IsNoName : Text → List Field → Type 0
@@ -131,6 +136,126 @@ IsPlainEntry rows (Some e) = AreNotes e.notes × IsPlainShape (spread_in rows e.
 -- names; what is tagged inside its map is a unit or has fields, none of them named as the tag.
 abbrev pub IsPlainTable : List Row → Type 0
 IsPlainTable rows = (n : ℕ) → IsPlainEntry rows (entry_at rows n)
+
+-- ---- Options and enums among what is flattened
+
+-- the names that an enum puts into a map
+abbrev pub payload_names : Payload → List Text
+payload_names (struct_payload x) = map (λ f. f.name) x.list
+payload_names _ = []
+
+abbrev pub all_payload_names : List Variant → List Text
+all_payload_names [] = []
+all_payload_names (x ∷ xs) = payload_names x.payload ++ all_payload_names xs
+
+abbrev pub enum_names : Shape → List Text
+enum_names (shape.external xs) = map (λ x. x.name) xs
+enum_names (shape.internal tag closed xs) = tag ∷ all_payload_names xs
+enum_names _ = []
+
+abbrev pub enum_names_at : List Row → ℕ → List Text
+enum_names_at rows n = elim (entry_at rows n) [ None ↦ [] | Some e ↦ enum_names (spread_in rows e.shape) ]
+
+-- none of these names is a field's
+abbrev pub AreNoNames : List Field → List Text → Type 0
+AreNoNames list [] = Unit {0}
+AreNoNames list (k ∷ ks) = IsNoName k list × AreNoNames list ks
+
+-- none of the second is one of the first
+abbrev pub AreOthers : List Text → List Text → Type 0
+AreOthers ks [] = Unit {0}
+AreOthers ks (l ∷ ls) = (is_listed l ks ≡ false) × AreOthers ks ls
+
+abbrev pub AreApartFrom : List Text → List (List Text) → Type 0
+AreApartFrom ks [] = Unit {0}
+AreApartFrom ks (ls ∷ rest) = AreOthers ks ls × AreApartFrom ks rest
+
+-- the names of the fields and of each other part are all different
+abbrev pub AreApart : List Field → List (List Text) → Type 0
+AreApart list [] = Unit {0}
+AreApart list (ks ∷ rest) = AreNoNames list ks × AreApartFrom ks rest × AreApart list rest
+
+-- below, `names` says which names an enum has, and `tags` are the names beside the members of a struct
+
+abbrev pub HasNamesApart : (ℕ → List Text) → List (List Text) → Fields → Type 0
+HasNamesApart names tags x = AreApart x.list (tags ++ map (λ p. names p.ty) x.flatten)
+
+abbrev pub PayloadHasNamesApart : (ℕ → List Text) → List (List Text) → Payload → Type 0
+PayloadHasNamesApart names tags (struct_payload x) = HasNamesApart names tags x
+PayloadHasNamesApart names tags _ = Unit {0}
+
+abbrev pub VariantsHaveNamesApart : (ℕ → List Text) → List (List Text) → List Variant → Type 0
+VariantsHaveNamesApart names tags [] = Unit {0}
+VariantsHaveNamesApart names tags (x ∷ xs) = PayloadHasNamesApart names tags x.payload × VariantsHaveNamesApart names tags xs
+
+-- of a shape into which enums alone are flattened
+abbrev pub ShapeHasNamesApart : (ℕ → List Text) → Shape → Type 0
+ShapeHasNamesApart names (shape.struct x) = HasNamesApart names [] x
+ShapeHasNamesApart names (shape.external xs) = VariantsHaveNamesApart names [] xs
+ShapeHasNamesApart names (shape.untagged xs) = VariantsHaveNamesApart names [] xs
+ShapeHasNamesApart names (shape.internal tag closed xs) = VariantsHaveNamesApart names ((tag ∷ []) ∷ []) xs
+ShapeHasNamesApart names _ = Unit {0}
+
+-- a unit without notes
+abbrev pub IsBare : Variant → Type 0
+IsBare x = elim x.payload [
+  | no_payload ↦ is_none x.notes ≡ true
+  | newtype_payload n ↦ Unit {0}
+  | tuple_payload ns ↦ Unit {0}
+  | struct_payload y ↦ Unit {0}
+]
+
+abbrev pub HasBareUnits : List Variant → Type 0
+HasBareUnits [] = Unit {0}
+HasBareUnits (x ∷ xs) = IsBare x × HasBareUnits xs
+
+abbrev pub HasVariant : List Variant → Type 0
+HasVariant [] = ⊥
+HasVariant (x ∷ xs) = Unit {0}
+
+-- no enum anywhere in what is flattened
+abbrev pub HasNoEnums : List Row → List Flattened → Type 0
+HasNoEnums rows ps = flattened_enums (part_enums rows) ps ≡ []
+
+abbrev pub VariantsHaveNoEnums : List Row → List Variant → Type 0
+VariantsHaveNoEnums rows [] = Unit {0}
+VariantsHaveNoEnums rows (x ∷ xs) = HasNoEnums rows (payload_parts x.payload) × VariantsHaveNoEnums rows xs
+
+-- an open struct, or an enum that has to be there
+abbrev pub IsPartShape : List Row → Bool → Shape → Type 0
+IsPartShape rows optional (shape.struct x) = (x.closed ≡ false) × (optional ≡ true → HasNoEnums rows x.flatten)
+IsPartShape rows optional (shape.external xs) = (optional ≡ false) × HasVariant xs × HasBareUnits xs
+IsPartShape rows optional (shape.internal tag closed xs) =
+    (optional ≡ false) × HasVariant xs × HasBareUnits xs × VariantsHaveNoEnums rows xs
+IsPartShape rows optional _ = ⊥
+
+abbrev pub IsPartEntry : List Row → Bool → Option Entry → Type 0
+IsPartEntry rows optional None = ⊥
+IsPartEntry rows optional (Some e) = IsPartShape rows optional e.shape
+
+-- the members of an Option may be missing, unless they have to be there under the contract
+abbrev pub may_miss : List Row → Contract → Flattened → Bool
+may_miss rows contract p = is_some (option_at rows p.ty) && not (is_required contract p.required)
+
+abbrev pub IsPartUnder : Contract → List Row → Flattened → Type 0
+IsPartUnder contract rows p = IsPartEntry rows (may_miss rows contract p) (entry_at rows (without_options rows p.ty))
+
+abbrev pub ArePartsUnder : Contract → List Row → List Flattened → Type 0
+ArePartsUnder contract rows [] = Unit {0}
+ArePartsUnder contract rows (p ∷ ps) = IsPartUnder contract rows p × ArePartsUnder contract rows ps
+
+abbrev pub IsEntryUnder : Contract → List Row → Option Entry → Type 0
+IsEntryUnder contract rows None = Unit {0}
+IsEntryUnder contract rows (Some e) = AreNotes e.notes × IsPlainShape (spread_in rows e.shape)
+    × ShapeHasNamesApart (enum_names_at rows) (spread_in rows e.shape) × ArePartsUnder contract rows (parts_in e.shape)
+
+-- What is flattened is, its Options taken off, an open struct, or an enum that has to be there under the contract, is told by its names
+-- or by a tag, has a variant and no notes on units. No enum stands in a struct that may be missing, nor in a variant of a flattened enum
+-- that is tagged. The names of different parts are all different. All else is as in a plain table.
+abbrev pub IsPlainUnder : Contract → List Row → Type 0
+IsPlainUnder contract rows = (n : ℕ) → IsEntryUnder contract rows (entry_at rows n)
+
+-- ---- notes and literals
 
 abbrev pub HasPlainLiteral : Shape → Type 0
 HasPlainLiteral (shape.literal d) = IsPlainLiteral d

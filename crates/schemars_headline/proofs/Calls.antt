@@ -14,6 +14,7 @@ use Rattle.schemars_json.specs.Json.{Text}
 use Rattle.schemars_types.specs.Rows.{name_at}
 use Rattle.schemars_types.specs.Edges.{DirectEdge, height, rank}
 use Rattle.schemars_types.specs.Faults.{IsChecked}
+use Rattle.schemars_documents.proofs.OpenStructs.{plain_under}
 use Rattle.schemars_documents.specs.ContractOf.{contract_of}
 use Rattle.schemars_naming.specs.Naming.{name_of, IsOneToOne}
 use Rattle.schemars_documents.specs.Documents.{reference, root_document}
@@ -22,7 +23,7 @@ use Rattle.schemars_headline.specs.Keys.{HasKeysOnce}
 use Rattle.schemars_documents.specs.PlainTable.{HasPlainNotes, HasNoFloat}
 use Rattle.schemars_naming.specs.Work.{Plan, Work, IsKey, Refers, IsDefinition, Step, reference_to, basis_of}
 use Rattle.schemars_headline.specs.State.{State, plan_of, work_of, after_root, HasOwnDefinitions}
-use Rattle.schemars_headline.specs.Headline.{Headline, IsDraftPath, IsRootOf, IsTitledRoot, CannotPlace, with_definitions}
+use Rattle.schemars_headline.specs.Headline.{Headline, WideHeadline, IsDraftPath, IsRootOf, IsTitledRoot, CannotPlace, with_definitions}
 use Rattle.schemars_naming.specs.Placed.{is_in_place, IsPlaced, IsDocument}
 use Rattle.schemars_build.specs.Parts.{IsSubschema, IsDocumentOf}
 use Rattle.schemars_build.proofs.Placing.{placed_map, document-wider, document_describes}
@@ -128,11 +129,18 @@ part_own s new same step own =
 
 -- ---- root documents
 
+pub root_means_wide : (s : State) (n : ℕ) (w : Work) (d : Data) → IsChecked s.rows → IsRootOf s n w d → HasKeysOnce w.definitions
+    → IsOneToOne w.names → HasOwnDefinitions s → IsDraftPath (plan_of s None).path
+    → WideHeadline s.rows (contract_of s.settings.contract) (plan_of s None).path n d
+root_means_wide s n w d checked root once one own path = root_call_means s n w d root checked one once
+    (definitions_in s (Some n) w root.step own) path
+
+-- a plain table is plain under each contract
 pub root_means : (s : State) (n : ℕ) (w : Work) (d : Data) → IsChecked s.rows → IsRootOf s n w d → HasKeysOnce w.definitions
     → IsOneToOne w.names → HasOwnDefinitions s → IsDraftPath (plan_of s None).path
     → Headline s.rows (contract_of s.settings.contract) (plan_of s None).path n d
-root_means s n w d checked root once one own path = root_call_means s n w d root checked one once
-    (definitions_in s (Some n) w root.step own) path
+root_means s n w d checked root once one own path plain =
+    root_means_wide s n w d checked root once one own path (plain_under s.rows (contract_of s.settings.contract) plain)
 
 pub root_is_whole : (s : State) (n : ℕ) (w : Work) (d : Data) → IsRootOf s n w d → HasKeysOnce w.definitions → HasNoFloat s.rows
     → HasOwnDefinitions s → has_float d ≡ false

@@ -1,7 +1,8 @@
 -- Where the references of a table's documents lead: to the root, or to the definition of their row.
-use Rattle.std.proofs.Common.{◌≡◌, ◌⊎◌, inl, inr, ℕ, suc, ◌+◌, ◌*◌, ◌<◌, ◌≤◌, List, [], ◌∷◌, Option, Some, None}
+use Rattle.std.proofs.Common.{◌≡◌, ◌⊎◌, inl, inr, ℕ, suc, ◌+◌, ◌*◌, ◌<◌, ◌≤◌, List, [], ◌∷◌, ◌++◌, map, Option, Some, None}
 use Rattle.std.proofs.Common.{true, Contains, length, refl, sym, ap, ◌∙◌, arith, subst}
 use Rattle.std.specs.Prelude.{codes, is_some}
+use Rattle.std.specs.Option.{option_map_or}
 use Rattle.std.specs.Str.{IsUtf8}
 use Rattle.std.proofs.Math.Nat.{mul-le-mul_left}
 use Rattle.std.proofs.lemmas.List.Elements.{Contains-append_left, Contains-append_right}
@@ -16,13 +17,15 @@ use Rattle.schemars_schema.specs.Acceptance.{Patterns, Judge, judge, count_of_de
 use Rattle.schemars_json.proofs.Encodings.{lookup-encoded, lookup-ascii}
 use Rattle.schemars_rewrite.specs.NullLaw.{context2020_12}
 use Rattle.schemars_shapes.specs.Shape as shape
-use Rattle.schemars_shapes.specs.Shape.{Shape, Entry, Variant, payload_same, of_variants, same_value_numbers}
+use Rattle.schemars_shapes.specs.Shape.{Shape, Flattened, Entry, Payload, Variant, no_payload, newtype_payload, tuple_payload}
+use Rattle.schemars_shapes.specs.Shape.{struct_payload, payload_flattened, payload_same, of_variants, same_value_numbers}
 use Rattle.schemars_types.specs.Rows.{Row, entry_at}
 use Rattle.schemars_types.specs.Edges.{rank}
+use Rattle.schemars_types.specs.Effective.{flattened_in, shape_fields}
 use Rattle.schemars_types.specs.Faults.{IsChecked}
 use Rattle.schemars_keys.proofs.Asked.{asked, entry_low}
 use Rattle.schemars_templates.specs.Describes.{IsWritten, Describes}
-use Rattle.schemars_documents.specs.PlainTable.{IsPlainTable}
+use Rattle.schemars_documents.specs.PlainTable.{IsPlainUnder, parts_in, payload_parts, variant_parts}
 use Rattle.schemars_documents.specs.ContractOf.{contract_of}
 use Rattle.schemars_naming.specs.Naming.{Naming, IsOneToOne, name_of}
 use Rattle.schemars_naming.specs.Work.{Plan, Work, IsKey, reference_to, basis_of}
@@ -31,8 +34,9 @@ use Rattle.schemars_headline.proofs.Keys.{key_here, key_later, key_cases}
 use Rattle.schemars_meaning.proofs.Mapping.{describes-wider, written_map}
 use Rattle.schemars_meaning.proofs.Enums.{IsNewtypeIn}
 use Rattle.schemars_meaning.proofs.Meanings.{IsSame}
-use Rattle.schemars_meaning.proofs.Following.{References, InList, Setting, written_says, described_schema}
-use Rattle.schemars_build.proofs.Settled.{fields_settled}
+use Rattle.schemars_meaning.proofs.Following.{References, InList, Setting, written_says}
+use Rattle.schemars_meaning.proofs.Schemas.{described}
+use Rattle.schemars_build.proofs.Settled.{fields_settled, enums_settled}
 use Rattle.schemars_headline.proofs.Standing.{MayRefer, AllStand}
 
 -- ---- ranks
@@ -57,6 +61,50 @@ rank_below : (rows : List Row) → IsChecked rows → (n : ℕ) (e : Entry) (j :
     → rank rows j < rank rows n
 rank_below rows checked n e j at same =
     checked.rank_falls n j (asked rows checked.within n e at j (same_number e.shape j same))
+
+-- a part that is flattened is among them too
+flattened_case : (ps : List Flattened) → (ps ≡ []) ⊎ ((j : ℕ) × Contains (map (λ p. p.ty) ps) j)
+flattened_case [] = inl refl
+flattened_case (p ∷ ps) = inr (p.ty, (0, omega arith, refl))
+
+payload_case : (p : Payload) → (payload_parts p ≡ []) ⊎ ((j : ℕ) × Contains (payload_flattened p) j)
+payload_case no_payload = inl refl
+payload_case (newtype_payload n) = inl refl
+payload_case (tuple_payload ns) = inl refl
+payload_case (struct_payload x) = flattened_case x.flatten
+
+same_case : (p : Payload) → (payload_parts p ≡ []) ⊎ ((j : ℕ) × Contains (payload_same p) j)
+same_case no_payload = inl refl
+same_case (newtype_payload n) = inl refl
+same_case (tuple_payload ns) = inl refl
+same_case (struct_payload x) = flattened_case x.flatten
+
+variants_case : (rows_of : Payload → List ℕ) → ((p : Payload) → (payload_parts p ≡ []) ⊎ ((j : ℕ) × Contains (rows_of p) j))
+    → (xs : List Variant) → (variant_parts xs ≡ []) ⊎ ((j : ℕ) × Contains (of_variants rows_of xs) j)
+variants_case rows_of each [] = inl refl
+variants_case rows_of each (x ∷ xs) = go (each x.payload) (variants_case rows_of each xs)
+  where
+    go : (payload_parts x.payload ≡ []) ⊎ ((j : ℕ) × Contains (rows_of x.payload) j)
+        → (variant_parts xs ≡ []) ⊎ ((j : ℕ) × Contains (of_variants rows_of xs) j)
+        → (payload_parts x.payload ++ variant_parts xs ≡ []) ⊎ ((j : ℕ) × Contains (rows_of x.payload ++ of_variants rows_of xs) j)
+    go (inl none) (inl nothing) = inl (λ i. none i ++ nothing i)
+    go (inl none) (inr (j, later)) = inr (j, Contains-append_right (rows_of x.payload) (of_variants rows_of xs) j later)
+    go (inr (j, here)) rest = inr (j, Contains-append_left (rows_of x.payload) (of_variants rows_of xs) j here)
+
+shape_case : (kind : Shape) → (parts_in kind ≡ []) ⊎ ((j : ℕ) × Contains (same_value_numbers kind) j)
+shape_case (shape.struct x) = flattened_case x.flatten
+shape_case (shape.external xs) = variants_case payload_flattened payload_case xs
+shape_case (shape.untagged xs) = variants_case payload_same same_case xs
+shape_case (shape.internal tag closed xs) = variants_case payload_same same_case xs
+shape_case kind = inl refl
+
+ranks_above : (rows : List Row) → IsChecked rows → (n : ℕ) (e : Entry) → entry_at rows n ≡ Some e
+    → (parts_in e.shape ≡ []) ⊎ (0 < rank rows n)
+ranks_above rows checked n e at = go (shape_case e.shape)
+  where
+    go : (parts_in e.shape ≡ []) ⊎ ((j : ℕ) × Contains (same_value_numbers e.shape) j) → (parts_in e.shape ≡ []) ⊎ (0 < rank rows n)
+    go (inl none) = inl none
+    go (inr (j, among)) = inr (omega (arith, checked.rank_falls n j (asked rows checked.within n e at j among)))
 
 -- ---- what a reference leads to
 
@@ -171,7 +219,7 @@ IsItsRoot plan w document =
 bound_enough : (a len defs counted n : ℕ) → len ≤ defs + 1 → defs ≤ counted → (a + 1) * (counted + 2) ≤ n → (a + 1) * (len + 1) ≤ n
 bound_enough a len defs counted n few less h = grind (arith, mul-le-mul_left)
 
-module _ (plan : Plan) (w : Work) (document : Data) (checked : IsChecked plan.rows) (plain : IsPlainTable plan.rows)
+module _ (plan : Plan) (w : Work) (document : Data) (checked : IsChecked plan.rows) (plain : IsPlainUnder (contract_of plan.contract) plan.rows)
     (one : IsOneToOne w.names) (definitions : AllStand plan w)
     (holds : HoldsDefinitions plan.path w.definitions document) (is_root : IsItsRoot plan w document) where
   abbrev row_named : (k : Text) → IsKey k w.definitions → RowNamed plan w.names k
@@ -248,7 +296,7 @@ module _ (plan : Plan) (w : Work) (document : Data) (checked : IsChecked plan.ro
         d,
         definition.depth,
         resolved_found document (reference_to plan.path name) d (holds.leads name d definition.is_text found)
-            (described_schema (basis_of plan) (MayRefer plan w) plain definition.depth j d describes),
+            (described (basis_of plan) (MayRefer plan w) definition.depth j d describes),
         λ patterns f. refl,
         describes,
       )
@@ -277,11 +325,14 @@ module _ (plan : Plan) (w : Work) (document : Data) (checked : IsChecked plan.ro
               refers_listed to.2 to.2 (omega arith) j to.1 to.5,
         );
     plain = plain;
-    settled = fields_settled plan.rows checked;
+    fields_settled = λ n e at. fields_settled plan.rows checked n
+        ∙ ap (λ o. option_map_or (λ e. shape_fields (flattened_in plan.rows) e.shape) o []) at;
+    enums_settled = enums_settled plan.rows checked;
     rank = rank plan.rows;
     ranks = length plan.rows;
     low_rank = λ n e at. checked.rank_bound n (entry_low plan.rows n e at);
     ranked = rank_below plan.rows checked;
+    flattens = ranks_above plan.rows checked;
   }
 
   -- what is written for a row accepts just its values

@@ -12,19 +12,21 @@ use Rattle.schemars_schema.proofs.Objects.{IsSilent, judge-put}
 use Rattle.schemars_rewrite.specs.NullLaw.{context2020_12}
 use Rattle.schemars_shapes.specs.Shape.{Entry}
 use Rattle.schemars_types.specs.Rows.{Row, name_at, entry_at}
-use Rattle.schemars_types.specs.Effective.{spread, row_fields}
+use Rattle.schemars_types.specs.Effective.{spread, flattened_in, part_enums}
+use Rattle.schemars_types.specs.Meaning.{Contract}
 use Rattle.schemars_types.specs.Faults.{IsChecked}
 use Rattle.schemars_documents.specs.Documents.{root_document}
 use Rattle.schemars_templates.specs.Describes.{IsWritten, Describes}
 use Rattle.schemars_shapes.specs.Shape as shape
-use Rattle.schemars_shapes.specs.Shape.{Shape, Field}
-use Rattle.schemars_documents.specs.PlainTable.{IsPlainShape, HasPlainLiteral, IsPlainEntry, IsPlainTable}
+use Rattle.schemars_shapes.specs.Shape.{Shape, Field, Flattened}
+use Rattle.schemars_documents.specs.PlainTable.{IsPlainShape, HasPlainLiteral, IsEntryUnder, IsPlainUnder}
 use Rattle.schemars_documents.specs.PlainTable.{IsNotedEntry, HasPlainNotes}
 use Rattle.schemars_documents.specs.ContractOf.{contract_of}
+use Rattle.schemars_documents.proofs.OpenStructs.{plain_under}
 use Rattle.schemars_naming.specs.Naming.{IsOneToOne}
 use Rattle.schemars_naming.specs.Work.{Plan, Work, Refers, basis_of}
 use Rattle.schemars_headline.specs.State.{State, plan_of, work_of, HasOwnDefinitions}
-use Rattle.schemars_headline.specs.Headline.{IsRootOf, MeansItsTypeIn, Headline, SubschemaHeadline, IsDraftPath, with_definitions}
+use Rattle.schemars_headline.specs.Headline.{IsRootOf, MeansItsTypeIn, WideHeadline, SubschemaHeadline, IsDraftPath, with_definitions}
 use Rattle.schemars_meaning.proofs.Notes.{judge-root}
 use Rattle.schemars_headline.specs.Keys.{HasKeysOnce}
 use Rattle.schemars_headline.proofs.Keys.{all_members, IsDefinitionsKey}
@@ -32,8 +34,8 @@ use Rattle.schemars_headline.proofs.OwnKeys.{no_definitions_in}
 use Rattle.schemars_meaning.proofs.Mapping.{describes-wider, written_map}
 use Rattle.schemars_build.specs.Parts.{IsSubschema}
 use Rattle.schemars_build.proofs.Placing.{document_describes, placed_written}
-use Rattle.schemars_meaning.proofs.Following.{described_schema}
-use Rattle.schemars_meaning.proofs.Referring.{AreNotedRows, plain_rows}
+use Rattle.schemars_meaning.proofs.Schemas.{described}
+use Rattle.schemars_meaning.proofs.Referring.{AreNotedRows, under_rows}
 use Rattle.schemars_headline.proofs.Resolving.{all_pass-resolve, Resolve, AllResolve, described_resolved}
 use Rattle.schemars_headline.proofs.Resolving.{written_resolved, root_resolved, placed_resolved}
 use Rattle.schemars_headline.proofs.Standing.{MayRefer, AllStand, stands_now, refers_may}
@@ -46,14 +48,15 @@ key_silent key (inr is) = rw is refl
 
 -- ---- what holds of every document with the definitions
 
-module _ (plan : Plan) (w : Work) (document : Data) (checked : IsChecked plan.rows) (plain : IsPlainTable plan.rows)
+module _ (plan : Plan) (w : Work) (document : Data) (checked : IsChecked plan.rows)
+    (plain : IsPlainUnder (contract_of plan.contract) plan.rows)
     (one : IsOneToOne w.names) (definitions : AllStand plan w)
     (holds : HoldsDefinitions plan.path w.definitions document) (is_root : IsItsRoot plan w document) where
   leads : (j : ℕ) (r : Text) → MayRefer plan w j r → is_some (resolved document r) ≡ true
   leads = refers_resolve plan w document checked plain one definitions holds is_root
 
   noted : AreNotedRows plan.rows
-  noted = plain_rows plan.rows plain
+  noted = under_rows (contract_of plan.contract) plan.rows plain
 
   definition_resolved : (name : Text) (d : Data) → get_member name w.definitions ≡ Some d → Resolve (resolves document) (references d)
   definition_resolved name d found =
@@ -100,10 +103,10 @@ pub root_means : (plan : Plan) (w : Work) (n : ℕ) (name : Text) (uri : Option 
     → IsChecked plan.rows → IsOneToOne w.names → HasKeysOnce w.definitions → plan.root ≡ Some n
     → AllStand plan w → Describes (basis_of plan) (MayRefer plan w) depth n own
     → IsPlaced plan.path w.definitions (root_document name uri own) document
-    → Headline plan.rows (contract_of plan.contract) plan.path n document
+    → WideHeadline plan.rows (contract_of plan.contract) plan.path n document
 root_means plan w n name uri depth own document checked one once root definitions h placed plain =
     let members : Members = members_in (root_document name uri own) in
-    let is_schema : IsSchema own = described_schema (basis_of plan) (MayRefer plan w) plain depth n own h in
+    let is_schema : IsSchema own = described (basis_of plan) (MayRefer plan w) depth n own h in
     let same : (patterns : Patterns) (f : Text → Judge) → judge (context2020_12 patterns f) document
     ≡ judge (context2020_12 patterns f) own =
     λ patterns f. judge_placed plan.path w.definitions (root_document name uri own) document placed refl patterns f
@@ -114,7 +117,8 @@ root_means plan w n name uri depth own document checked one once root definition
     let holds : HoldsDefinitions plan.path w.definitions document = holds_placed plan.path w.definitions members document placed in
     let all : AllResolve (resolves document) w.definitions = all_members (λ d. Resolve (resolves document) (references d)) w.definitions
     once (definition_resolved plan w document checked plain one definitions holds is_root) in
-    let resolved_own = described_resolved (resolves document) (basis_of plan) (MayRefer plan w) (plain_rows plan.rows plain)
+    let resolved_own = described_resolved (resolves document) (basis_of plan) (MayRefer plan w)
+    (under_rows (contract_of plan.contract) plan.rows plain)
     (refers_resolve plan w document checked plain one definitions holds is_root) depth n own h in
     record {
       accepts_its_values = λ patterns v json followed bounded.
@@ -126,16 +130,16 @@ root_means plan w n name uri depth own document checked one once root definition
           (root_resolved (resolves document) name uri own resolved_own);
     }
 
-plain_literal : (has : ℕ → List Field) (s : Shape) → IsPlainShape (spread has s) → HasPlainLiteral s
-plain_literal has (shape.literal d) h = h
-plain_literal has s h = tt
+plain_literal : (has : Flattened → List Field) (enums : Flattened → List ℕ) (s : Shape) → IsPlainShape (spread has enums s) → HasPlainLiteral s
+plain_literal has enums (shape.literal d) h = h
+plain_literal has enums s h = tt
 
-plain_notes : (rows : List Row) → IsPlainTable rows → HasPlainNotes rows
-plain_notes rows plain n = by (entry_at rows n) (plain n)
+plain_notes : (contract : Contract) (rows : List Row) → IsPlainUnder contract rows → HasPlainNotes rows
+plain_notes contract rows plain n = by (entry_at rows n) (plain n)
   where
-    by : (o : Option Entry) → IsPlainEntry rows o → IsNotedEntry o
+    by : (o : Option Entry) → IsEntryUnder contract rows o → IsNotedEntry o
     by None h = tt
-    by (Some e) h = (h.0, plain_literal (row_fields rows) e.shape h.1)
+    by (Some e) h = (h.0, plain_literal (flattened_in rows) (part_enums rows) e.shape h.1)
 
 module _ (plan : Plan) (w : Work) (n : ℕ) (name : Text) (uri : Option Text) (depth : ℕ) (own : Data) (plain : HasPlainNotes plan.rows)
     (R : ℕ → Text → Type 0) (h : Describes (basis_of plan) R depth n own) where
@@ -152,16 +156,17 @@ pub root_headline : (plan : Plan) (w : Work) (n : ℕ) (name : Text) (uri : Opti
     → IsChecked plan.rows → IsOneToOne w.names → HasKeysOnce w.definitions → plan.root ≡ Some n
     → AllStand plan w → Describes (basis_of plan) (MayRefer plan w) depth n own → IsDraftPath plan.path
     → with_definitions plan.path w.definitions (root_document name uri own) ≡ Some document
-    → Headline plan.rows (contract_of plan.contract) plan.path n document
+    → WideHeadline plan.rows (contract_of plan.contract) plan.path n document
 root_headline plan w n name uri depth own document checked one once root definitions h draft made plain =
     let placed = placed_in plan.path w.definitions (members_in (root_document name uri own)) document draft
-    (room plan w n name uri depth own (plain_notes plan.rows plain) (MayRefer plan w) h) made in
+    (room plan w n name uri depth own (plain_notes (contract_of plan.contract) plan.rows plain) (MayRefer plan w) h) made in
     root_means plan w n name uri depth own document checked one once root definitions h placed plain
 
 -- so does what a root call makes
 pub root_call_means : (old : State) (n : ℕ) (w : Work) (document : Data) → IsRootOf old n w document → IsChecked old.rows
     → IsOneToOne w.names → HasKeysOnce w.definitions → AllStand (plan_of old (Some n)) w
-    → IsDraftPath (plan_of old (Some n)).path → Headline old.rows (contract_of old.settings.contract) (plan_of old (Some n)).path n document
+    → IsDraftPath (plan_of old (Some n)).path
+    → WideHeadline old.rows (contract_of old.settings.contract) (plan_of old (Some n)).path n document
 root_call_means old n w document h checked one once definitions draft =
     let plan = plan_of old (Some n) in
     let depth = h.is_document.0 in
@@ -176,7 +181,7 @@ root_call_means old n w document h checked one once definitions draft =
 pub subschema_means : (plan : Plan) (w : Work) (n : ℕ) (free : Bool) (depth : ℕ) (schema document : Data) → IsChecked plan.rows
     → IsOneToOne w.names → plan.root ≡ None → AllStand plan w
     → IsWritten (Refers plan free w) (Describes (basis_of plan) (Refers plan free w) depth) n schema
-    → IsPlainTable plan.rows → HoldsDefinitions plan.path w.definitions document
+    → IsPlainUnder (contract_of plan.contract) plan.rows → HoldsDefinitions plan.path w.definitions document
     → MeansItsTypeIn plan.rows (contract_of plan.contract) plan.path n w.definitions document schema
 subschema_means plan w n free depth schema document checked one none definitions h plain holds =
     let is_root : IsItsRoot plan w document = λ m is. absurd (let never : None ≡ Some m = sym none ∙ is in cc) in
@@ -199,5 +204,5 @@ subschema_headline s n free schema checked one definitions h plain known documen
     let plan = plan_of s None in
     let written = placed_written (basis_of plan) plan.inlines (Refers plan free (work_of s)) [] n schema h in
     subschema_means plan (work_of s) n free written.0 schema document checked one refl
-    (λ name d found. stands_now plan (work_of s) name d (definitions name d found)) written.1 plain
-    (held plan.path s.definitions document known holding)
+    (λ name d found. stands_now plan (work_of s) name d (definitions name d found)) written.1
+    (plain_under s.rows (contract_of s.settings.contract) plain) (held plan.path s.definitions document known holding)

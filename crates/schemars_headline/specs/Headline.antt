@@ -11,7 +11,7 @@ use Rattle.schemars_types.specs.Rows.{Row, name_at}
 use Rattle.schemars_types.specs.Edges.{numbers_at}
 use Rattle.schemars_cycles.specs.Walks.{OnCycle, IsFree}
 use Rattle.schemars_types.specs.Meaning.{Contract, belongs}
-use Rattle.schemars_documents.specs.PlainTable.{IsPlainTable}
+use Rattle.schemars_documents.specs.PlainTable.{IsPlainTable, IsPlainUnder}
 use Rattle.schemars_documents.specs.ContractOf.{contract_of}
 use Rattle.schemars_documents.specs.Documents.{root_document}
 use Rattle.schemars_naming.specs.Work.{Work, Step}
@@ -42,6 +42,10 @@ HaveSameAcceptance path document other_path other =
 abbrev pub Headline : List Row → Contract → Text → ℕ → Data → Type 0
 Headline rows contract path n document = IsPlainTable rows → MeansItsType rows contract path n document
 
+-- and over the wider tables that are plain under the contract, with enums and Options among what is flattened
+abbrev pub WideHeadline : List Row → Contract → Text → ℕ → Data → Type 0
+WideHeadline rows contract path n document = IsPlainUnder contract rows → MeansItsType rows contract path n document
+
 -- the paths of the drafts, and those of all dialects
 abbrev pub IsDraftPath : Text → Type 0
 IsDraftPath path = (path ≡ codes "/$defs") ⊎ (path ≡ codes "/definitions")
@@ -50,6 +54,10 @@ IsDraftPath path = (path ≡ codes "/$defs") ⊎ (path ≡ codes "/definitions")
 abbrev pub RootHeadline : State → ℕ → Data → Type 0
 RootHeadline s n document =
     HasOwnDefinitions s → IsDraftPath (path_of s) → Headline s.rows (contract_of s.settings.contract) (path_of s) n document
+
+abbrev pub RootWideHeadline : State → ℕ → Data → Type 0
+RootWideHeadline s n document =
+    HasOwnDefinitions s → IsDraftPath (path_of s) → WideHeadline s.rows (contract_of s.settings.contract) (path_of s) n document
 
 abbrev pub IsKnownPath : Text → Type 0
 IsKnownPath path = IsDraftPath path ⊎ (path ≡ codes "/components/schemas")

@@ -10,7 +10,7 @@ use Rattle.schemars_rewrite.specs.AllowNull.{allow_null}
 use Rattle.schemars_rewrite.specs.NullLaw.{text_items}
 use Rattle.schemars_rewrite.specs.Variants.{unit_variant}
 use Rattle.schemars_shapes.specs.Shape as shape
-use Rattle.schemars_shapes.specs.Shape.{Shape, Field, Entry}
+use Rattle.schemars_shapes.specs.Shape.{Shape, Field, Flattened, Entry}
 use Rattle.schemars_types.specs.Meaning.{Contract}
 use Rattle.schemars_types.specs.KeyOptions.{key_options}
 use Rattle.schemars_types.specs.Effective.{effective}
@@ -104,7 +104,7 @@ abbrev pub IsArrayDocument : (Data → Type 0) → ℕ → Data → Type 0
 IsArrayDocument IsItems zero s = s ≡ empty_list_document
 IsArrayDocument IsItems (suc n) s = (t : Data) × IsItems t × (s ≡ array_document (suc n) t)
 
-abbrev pub IsDocument : (Ask → Data → Type 0) → (ℕ → List Field) → Basis → Shape → Data → Type 0
+abbrev pub IsDocument : (Ask → Data → Type 0) → (Flattened → List Field) → Basis → Shape → Data → Type 0
 IsDocument A has basis shape.null s = s ≡ type_alone (codes "null")
 IsDocument A has basis shape.bool s = s ≡ type_alone (codes "boolean")
 IsDocument A has basis (shape.int kind) s = s ≡ int_document kind
@@ -167,54 +167,65 @@ module _ (A : Ask → Data → Type 0) where
 
   -- ---- by shape
 
-  module _ (has : ℕ → List Field) (basis : Basis) (fields : AnswersFields has basis.rows basis.contract A) where
+  module _ (has : Flattened → List Field) (basis : Basis) where
+    -- all but structs, whatever is flattened
+    abbrev IsNoStruct : Shape → Type 0
+    IsNoStruct (shape.struct x) = ⊥
+    IsNoStruct kind = Unit {0}
+
+    pub others_fill : (kind : Shape) (s : Data) (ts : List Data) → IsNoStruct kind
+        → Fit A (asks_of (template_of basis kind)) ts → s ≡ filled (template_of basis kind) ts → IsDocument A has basis kind s
+    others_fill shape.null s ts p h e = e
+    others_fill shape.bool s ts p h e = e
+    others_fill (shape.int kind) s ts p h e = e
+    others_fill (shape.non_zero kind) s ts p h e = e
+    others_fill shape.number s ts p h e = e
+    others_fill shape.text s ts p h e = e
+    others_fill shape.char s ts p h e = e
+    others_fill (shape.formatted format) s ts p h e = e
+    others_fill shape.any s ts p h e = e
+    others_fill shape.bytes s ts p h e = e
+    others_fill shape.schema_itself s ts p h e = e
+    others_fill (shape.option n) s [] p h e = absurd h
+    others_fill (shape.option n) s (t ∷ ts) p h e = (t, h.0, e)
+    others_fill (shape.seq n) s [] p h e = absurd h
+    others_fill (shape.seq n) s (t ∷ ts) p h e = (t, h.0, e)
+    others_fill (shape.set n) s [] p h e = absurd h
+    others_fill (shape.set n) s (t ∷ ts) p h e = (t, h.0, e)
+    others_fill (shape.array n zero) s ts p h e = e
+    others_fill (shape.array n (suc len)) s [] p h e = absurd h
+    others_fill (shape.array n (suc len)) s (t ∷ ts) p h e = (t, h.0, e)
+    others_fill (shape.up_to n cap) s [] p h e = absurd h
+    others_fill (shape.up_to n cap) s (t ∷ ts) p h e = (t, h.0, e)
+    others_fill (shape.tuple ns) s ts p h e = let all = tuple_fills ns ts h in (all.0, all.1, e ∙ all.2)
+    others_fill (shape.struct x) s ts p h e = absurd p
+    others_fill (shape.newtype n) s [] p h e = absurd h
+    others_fill (shape.newtype n) s (t ∷ ts) p h e = subst (A (part n)) (sym e) h.0
+    others_fill (shape.result a b) s [] p h e = absurd h
+    others_fill (shape.result a b) s (t ∷ []) p h e = absurd h.1
+    others_fill (shape.result a b) s (t ∷ u ∷ ts) p h e = (t, u, h.0, h.1.0, e)
+    others_fill (shape.bound n) s [] p h e = absurd h
+    others_fill (shape.bound n) s (t ∷ []) p h e = absurd h.1
+    others_fill (shape.bound n) s (t ∷ u ∷ ts) p h e = (t, u, h.0, h.1.0, e)
+    others_fill (shape.range n) s [] p h e = absurd h
+    others_fill (shape.range n) s (t ∷ []) p h e = absurd h.1
+    others_fill (shape.range n) s (t ∷ u ∷ ts) p h e = (t, u, h.0, h.1.0, e)
+    others_fill (shape.either a b) s [] p h e = absurd h
+    others_fill (shape.either a b) s (t ∷ []) p h e = absurd h.1
+    others_fill (shape.either a b) s (t ∷ u ∷ ts) p h e = (t, u, h.0, h.1.0, e)
+    others_fill (shape.map_from key value) s ts p h e = record { parts = ts; answered = h; is = e }
+    others_fill (shape.external xs) s ts p h e = record { parts = ts; answered = h; is = e }
+    others_fill (shape.untagged xs) s ts p h e = record { parts = ts; answered = h; is = e }
+    others_fill (shape.internal tag closed xs) s ts p h e = record { parts = ts; answered = h; is = e }
+    others_fill (shape.literal d) s ts p h e = e
+
+  module _ (has : Flattened → List Field) (basis : Basis) (fields : AnswersFields has basis.rows basis.contract A) where
     fills : (kind : Shape) (s : Data) (ts : List Data) → ArePlainParts basis.rows (parts_in kind)
         → Fit A (asks_of (template_of basis kind)) ts → s ≡ filled (template_of basis kind) ts → IsDocument A has basis kind s
-    fills shape.null s ts p h e = e
-    fills shape.bool s ts p h e = e
-    fills (shape.int kind) s ts p h e = e
-    fills (shape.non_zero kind) s ts p h e = e
-    fills shape.number s ts p h e = e
-    fills shape.text s ts p h e = e
-    fills shape.char s ts p h e = e
-    fills (shape.formatted format) s ts p h e = e
-    fills shape.any s ts p h e = e
-    fills shape.bytes s ts p h e = e
-    fills shape.schema_itself s ts p h e = e
-    fills (shape.option n) s [] p h e = absurd h
-    fills (shape.option n) s (t ∷ ts) p h e = (t, h.0, e)
-    fills (shape.seq n) s [] p h e = absurd h
-    fills (shape.seq n) s (t ∷ ts) p h e = (t, h.0, e)
-    fills (shape.set n) s [] p h e = absurd h
-    fills (shape.set n) s (t ∷ ts) p h e = (t, h.0, e)
-    fills (shape.array n zero) s ts p h e = e
-    fills (shape.array n (suc len)) s [] p h e = absurd h
-    fills (shape.array n (suc len)) s (t ∷ ts) p h e = (t, h.0, e)
-    fills (shape.up_to n cap) s [] p h e = absurd h
-    fills (shape.up_to n cap) s (t ∷ ts) p h e = (t, h.0, e)
-    fills (shape.tuple ns) s ts p h e = let all = tuple_fills ns ts h in (all.0, all.1, e ∙ all.2)
     fills (shape.struct x) s ts p h e =
         subst (λ d. IsFieldsDocument (λ j. A (part j)) basis.contract (effective has x) x.closed d) (sym e)
         (struct_fills A has basis.rows basis.contract fields x p ts h)
-    fills (shape.newtype n) s [] p h e = absurd h
-    fills (shape.newtype n) s (t ∷ ts) p h e = subst (A (part n)) (sym e) h.0
-    fills (shape.result a b) s [] p h e = absurd h
-    fills (shape.result a b) s (t ∷ []) p h e = absurd h.1
-    fills (shape.result a b) s (t ∷ u ∷ ts) p h e = (t, u, h.0, h.1.0, e)
-    fills (shape.bound n) s [] p h e = absurd h
-    fills (shape.bound n) s (t ∷ []) p h e = absurd h.1
-    fills (shape.bound n) s (t ∷ u ∷ ts) p h e = (t, u, h.0, h.1.0, e)
-    fills (shape.range n) s [] p h e = absurd h
-    fills (shape.range n) s (t ∷ []) p h e = absurd h.1
-    fills (shape.range n) s (t ∷ u ∷ ts) p h e = (t, u, h.0, h.1.0, e)
-    fills (shape.either a b) s [] p h e = absurd h
-    fills (shape.either a b) s (t ∷ []) p h e = absurd h.1
-    fills (shape.either a b) s (t ∷ u ∷ ts) p h e = (t, u, h.0, h.1.0, e)
-    fills (shape.map_from key value) s ts p h e = record { parts = ts; answered = h; is = e }
-    fills (shape.external xs) s ts p h e = record { parts = ts; answered = h; is = e }
-    fills (shape.untagged xs) s ts p h e = record { parts = ts; answered = h; is = e }
-    fills (shape.internal tag closed xs) s ts p h e = record { parts = ts; answered = h; is = e }
-    fills (shape.literal d) s ts p h e = e
+    fills kind s ts p h e = others_fill has basis kind s ts tt h e
 
     pub by_shape : (kind : Shape) (s : Data) → ArePlainParts basis.rows (parts_in kind) → Fills A (template_of basis kind) s
         → IsDocument A has basis kind s

@@ -1,8 +1,8 @@
 -- What a choice of documents says under 2020-12, and the documents of maps with members that have to be there.
 use Rattle.std.proofs.Common.{◌≡◌, ℕ, ◌<◌, List, [], ◌∷◌, map, Some, None, Bool, true, false, refl, ap, ◌∙◌}
-use Rattle.std.specs.Prelude.{codes, not, ◌&&◌, ◌||◌, bytes_eq}
+use Rattle.std.specs.Prelude.{codes, ◌||◌, bytes_eq}
 use Rattle.serde_json.specs.Data.{Data, null, boolean, number, string, array, object, depth}
-use Rattle.schemars_schema.specs.Verdict.{both, verdict, opposite, none_of, one_of}
+use Rattle.schemars_schema.specs.Verdict.{verdict, opposite, none_of, one_of}
 use Rattle.serde_json.specs.Find.{as_str}
 use Rattle.std.specs.List.{list_any}
 use Rattle.schemars_rewrite.specs.NullLaw.{text_items}
@@ -16,26 +16,14 @@ use Rattle.schemars_rewrite.specs.Variants.{unit_variant}
 use Rattle.schemars_shapes.specs.Shape as shape
 use Rattle.schemars_shapes.specs.Shape.{Shape, needed}
 use Rattle.schemars_types.specs.Meaning.{Contract, Deserialize, Serialize, has_shape, has_fields, exactly_one, none, is_text}
+use Rattle.schemars_types.specs.OpenStructs.{no_choices}
 use Rattle.serde_json.specs.View.{items_of}
 use Rattle.schemars_types.specs.KeyOptions.{key_options}
 use Rattle.schemars_templates.specs.Basis.{Basis}
 use Rattle.schemars_meaning.proofs.ByShape.{one_of_document, any_of_document, units_document, member_document, range_document}
 use Rattle.schemars_meaning.proofs.ByShape.{result_document, bound_document, either_document}
+use Rattle.schemars_meaning.proofs.Verdicts.{none_verdict, one_verdict}
 use Rattle.schemars_meaning.proofs.Structs.{struct_says}
-
-none_verdict : (bs : List Bool) → none_of (map verdict bs) ≡ verdict (none bs)
-none_verdict [] = refl
-none_verdict (b ∷ bs) = rw (none_verdict bs) (go b (none bs))
-  where
-    go : (a b : Bool) → both (opposite (verdict a)) (verdict b) ≡ verdict (not a && b)
-    go true true = refl
-    go true false = refl
-    go false b = refl
-
-one_verdict : (bs : List Bool) → one_of (map verdict bs) ≡ verdict (exactly_one bs)
-one_verdict [] = refl
-one_verdict (true ∷ bs) = none_verdict bs
-one_verdict (false ∷ bs) = one_verdict bs
 
 module _ (patterns : Patterns) (f : Text → Judge) (basis : Basis) (M : ℕ → Data → Bool) where
   abbrev contract : Contract
@@ -115,45 +103,49 @@ module _ (patterns : Patterns) (f : Text → Judge) (basis : Basis) (M : ℕ →
   module _ (W : ℕ → Data → Type 0) (schemas : (j : ℕ) (t : Data) → W j t → IsSchema t) (v : Data) (json : IsJson v)
       (agree : (j : ℕ) (t w : Data) → W j t → IsJson w → depth w < depth v → (judge c t).fits w ≡ verdict (M j w)) where
     abbrev has : Bool → Text → ℕ → Bool
-    has closed name n = has_fields contract M (needed name n ∷ []) closed v
+    has closed name n = has_fields contract M [] (needed name n ∷ []) closed v
 
     member_says : (closed : Bool) (name : Text) (n : ℕ) (t : Data) → W n t
-        → (judge c (member_document closed name t)).fits v ≡ verdict (has_fields contract M (needed name n ∷ []) closed v)
+        → (judge c (member_document closed name t)).fits v ≡ verdict (has_fields contract M [] (needed name n ∷ []) closed v)
     member_says closed name n t h = go contract
       where
-        go : (k : Contract) → (judge c (member_document closed name t)).fits v ≡ verdict (has_fields k M (needed name n ∷ []) closed v)
+        go : (k : Contract) → (judge c (member_document closed name t)).fits v ≡ verdict (has_fields k M [] (needed name n ∷ []) closed v)
         go Deserialize = struct_says patterns f Deserialize W M schemas (needed name n ∷ []) (t ∷ []) closed (tt, tt) (tt, tt) (h, refl) v
             json agree
         go Serialize = struct_says patterns f Serialize W M schemas (needed name n ∷ []) (t ∷ []) closed (tt, tt) (tt, tt) (h, refl) v
             json agree
 
     pub range_says : (n : ℕ) (s e : Data) → W n s → W n e
-        → (judge c (range_document s e)).fits v ≡ verdict (has_shape contract patterns (key_options basis.rows) M (shape.range n) v)
+        → (judge c (range_document s e)).fits v
+        ≡ verdict (has_shape contract patterns (key_options basis.rows) no_choices M (shape.range n) v)
     range_says n s e g h = go contract
       where
         go : (k : Contract) → (judge c (range_document s e)).fits v
-            ≡ verdict (has_shape k patterns (key_options basis.rows) M (shape.range n) v)
+            ≡ verdict (has_shape k patterns (key_options basis.rows) no_choices M (shape.range n) v)
         go Deserialize = struct_says patterns f Deserialize W M schemas (needed (codes "start") n ∷ needed (codes "end") n ∷ [])
             (s ∷ e ∷ []) false ((refl, tt), (tt, tt)) (tt, (tt, tt)) (g, (h, refl)) v json agree
         go Serialize = struct_says patterns f Serialize W M schemas (needed (codes "start") n ∷ needed (codes "end") n ∷ [])
             (s ∷ e ∷ []) false ((refl, tt), (tt, tt)) (tt, (tt, tt)) (g, (h, refl)) v json agree
 
     pub result_says : (a b : ℕ) (t e : Data) → W a t → W b e
-        → (judge c (result_document t e)).fits v ≡ verdict (has_shape contract patterns (key_options basis.rows) M (shape.result a b) v)
+        → (judge c (result_document t e)).fits v
+        ≡ verdict (has_shape contract patterns (key_options basis.rows) no_choices M (shape.result a b) v)
     result_says a b t e g h =
         one_of_says (member_document false (codes "Ok") t ∷ member_document false (codes "Err") e ∷ [])
         (has false (codes "Ok") a ∷ has false (codes "Err") b ∷ []) v
         (tt, member_says false (codes "Ok") a t g, (tt, member_says false (codes "Err") b e h, tt))
 
     pub either_says : (a b : ℕ) (t e : Data) → W a t → W b e
-        → (judge c (either_document t e)).fits v ≡ verdict (has_shape contract patterns (key_options basis.rows) M (shape.either a b) v)
+        → (judge c (either_document t e)).fits v
+        ≡ verdict (has_shape contract patterns (key_options basis.rows) no_choices M (shape.either a b) v)
     either_says a b t e g h =
         one_of_says (member_document true (codes "Left") t ∷ member_document true (codes "Right") e ∷ [])
         (has true (codes "Left") a ∷ has true (codes "Right") b ∷ []) v
         (tt, member_says true (codes "Left") a t g, (tt, member_says true (codes "Right") b e h, tt))
 
     pub bound_says : (n : ℕ) (t e : Data) → W n t → W n e
-        → (judge c (bound_document t e)).fits v ≡ verdict (has_shape contract patterns (key_options basis.rows) M (shape.bound n) v)
+        → (judge c (bound_document t e)).fits v
+        ≡ verdict (has_shape contract patterns (key_options basis.rows) no_choices M (shape.bound n) v)
     bound_says n t e g h =
         one_of_says (member_document false (codes "Included") t ∷ member_document false (codes "Excluded") e
         ∷ unit_variant (codes "Unbounded") ∷ [])

@@ -20,6 +20,7 @@ use Rattle.schemars_shapes.specs.declared.shape.IntKind.TheVariants.{I8, I16, I3
 use Rattle.schemars_shapes.specs.IntKind.{format_of}
 use Rattle.schemars_shapes.specs.Shape as shape
 use Rattle.schemars_types.specs.Meaning.{Contract, Deserialize, Serialize, is_byte, is_byte_text, has_shape, every_item}
+use Rattle.schemars_types.specs.OpenStructs.{no_choices}
 use Rattle.schemars_types.specs.Meaning.{each_of, holds, least_of, greatest_of, is_at_least, is_at_most, is_zero}
 use Rattle.schemars_types.specs.KeyOptions.{key_options}
 use Rattle.schemars_templates.specs.Basis.{Basis}
@@ -37,7 +38,7 @@ module _ (patterns : Patterns) (f : Text → Judge) (basis : Basis) (M : ℕ →
   c = context2020_12 patterns f
 
   abbrev Says : Data → shape.Shape → Data → Type 0
-  Says s kind v = (judge c s).fits v ≡ verdict (has_shape contract patterns (key_options basis.rows) M kind v)
+  Says s kind v = (judge c s).fits v ≡ verdict (has_shape contract patterns (key_options basis.rows) no_choices M kind v)
 
   pub null_says : (v : Data) → Says (type_alone (codes "null")) shape.null v
   unfolding read_data all_keywords

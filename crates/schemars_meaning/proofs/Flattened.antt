@@ -29,7 +29,7 @@ AllNotes-append : (ns ms : List Members) → AllNotes ns → AllNotes ms → All
 AllNotes-append [] ms a b = b
 AllNotes-append (n ∷ ns) ms a b = (a.0, AllNotes-append ns ms a.1 b)
 
-required_names-append : (contract : Contract) (xs ys : List Field)
+pub required_names-append : (contract : Contract) (xs ys : List Field)
     → required_names contract (xs ++ ys) ≡ required_names contract xs ++ required_names contract ys
 required_names-append contract [] ys = refl
 required_names-append contract (x ∷ xs) ys = go (is_required contract x.required) (required_names-append contract xs ys)
@@ -41,13 +41,13 @@ required_names-append contract (x ∷ xs) ys = go (is_required contract x.requir
     go false later = later
 
 module _ (W : ℕ → Data → Type 0) where
-  AreWritten-append : (xs ys : List Field) (ts us : List Data) → AreWritten W xs ts → AreWritten W ys us
+  pub AreWritten-append : (xs ys : List Field) (ts us : List Data) → AreWritten W xs ts → AreWritten W ys us
       → AreWritten W (xs ++ ys) (ts ++ us)
   AreWritten-append [] ys ts us a b = subst (λ ws. AreWritten W ys (ws ++ us)) (sym a) b
   AreWritten-append (x ∷ xs) ys [] us a b = absurd a
   AreWritten-append (x ∷ xs) ys (t ∷ ts) us a b = (a.0, AreWritten-append xs ys ts us a.1 b)
 
-  field_keywords-append : (xs ys : List Field) (ts us : List Data) → AreWritten W xs ts
+  pub field_keywords-append : (xs ys : List Field) (ts us : List Data) → AreWritten W xs ts
       → field_keywords (xs ++ ys) (ts ++ us) ≡ field_keywords xs ts ++ field_keywords ys us
   field_keywords-append [] ys ts us a = ap (λ ws. field_keywords ys (ws ++ us)) a
   field_keywords-append (x ∷ xs) ys [] us a = absurd a
@@ -69,11 +69,6 @@ module _ (W : ℕ → Data → Type 0) where
         (sym (required_names-append contract xs ys) i) closed)))
         ∙ sym (noted_by-append a.notes b.notes _)));
   }
-
-pub parts_apart : (rows : List Row) (ps qs : List Flattened) → ArePlainParts rows (ps ++ qs)
-    → ArePlainParts rows ps × ArePlainParts rows qs
-parts_apart rows [] qs h = (tt, h)
-parts_apart rows (p ∷ ps) qs h = let later = parts_apart rows ps qs h.1 in ((h.0, later.0), later.1)
 
 -- ---- what fills templates of fields
 
@@ -99,7 +94,7 @@ module _ (A : Ask → Data → Type 0) where
   MapFills xs ks closed ts = (us : List Data) × AreWritten W xs us
       × (filled (map_template (map property xs) (text_items ks) closed) ts ≡ map_document (field_keywords xs us) ks closed)
 
-  map_fills : (xs : List Field) (ks : List Text) (closed : Bool) (ts : List Data)
+  pub map_fills : (xs : List Field) (ks : List Text) (closed : Bool) (ts : List Data)
       → Fit A (asks_of (map_template (map property xs) (text_items ks) closed)) ts → MapFills xs ks closed ts
   map_fills [] [] false ts h = ([], refl, refl)
   map_fills [] [] true ts h = ([], refl, refl)
@@ -131,7 +126,7 @@ module _ (A : Ask → Data → Type 0) where
 
   -- ---- with flattened rows
 
-  module _ (has : ℕ → List Field) (rows : List Row) (contract : Contract) (fields : AnswersFields has rows contract A) where
+  module _ (has : Flattened → List Field) (rows : List Row) (contract : Contract) (fields : AnswersFields has rows contract A) where
     abbrev FieldsFill : Template → List Field → Bool → Type 0
     FieldsFill t xs closed = (us : List Data) → Fit A (asks_of t) us → IsFieldsDocument W contract xs closed (filled t us)
 
@@ -148,16 +143,16 @@ module _ (A : Ask → Data → Type 0) where
         go Serialize = plain.2
 
     part_fills : (p : Flattened) (t : Template) (xs : List Field) (closed : Bool) → IsPlainPart rows p → FieldsFill t xs closed
-        → FieldsFill (with_keywords t (asked (members_of p.ty (is_required contract p.required)))) (xs ++ has p.ty) closed
+        → FieldsFill (with_keywords t (asked (members_of p.ty (is_required contract p.required)))) (xs ++ has p) closed
     part_fills p t xs closed plain own us fit =
         let ask : Ask = members_of p.ty (is_required contract p.required) in
         let s = parted A t (ask ∷ []) us fit in
-        let P : Data → Type 0 = λ d. IsFieldsDocument W contract (xs ++ has p.ty) closed d in
+        let P : Data → Type 0 = λ d. IsFieldsDocument W contract (xs ++ has p) closed d in
         subst P (λ i. flattened (sym s.4 i) (first (sym s.5 i)))
-        (joined W contract xs (has p.ty) closed (filled t s.0) (first s.1) (own s.0 s.2) (answered s.1 s.3))
+        (joined W contract xs (has p) closed (filled t s.0) (first s.1) (own s.0 s.2) (answered s.1 s.3))
       where
         answered : (b : List Data) → Fit A (members_of p.ty (is_required contract p.required) ∷ []) b
-            → IsFieldsDocument W contract (has p.ty) false (first b)
+            → IsFieldsDocument W contract (has p) false (first b)
         answered [] h = absurd h
         answered (u ∷ b) h =
             let Q : Bool → Type 0 = λ r. A (members_of p.ty r) u in fields p u plain (subst Q (has_to_be_there p plain) h.0)
@@ -169,8 +164,8 @@ module _ (A : Ask → Data → Type 0) where
     parts_fill (p ∷ ps) t xs closed plain own us fit =
         let u : Template = with_keywords t (asked (members_of p.ty (is_required contract p.required))) in
         subst (λ ys. IsFieldsDocument W contract ys closed (filled (with_flattened contract ps u) us))
-        (append_assoc xs (has p.ty) (flattened_fields has ps))
-        (parts_fill ps u (xs ++ has p.ty) closed plain.1 (part_fills p t xs closed plain.0 own) us fit)
+        (append_assoc xs (has p) (flattened_fields has ps))
+        (parts_fill ps u (xs ++ has p) closed plain.1 (part_fills p t xs closed plain.0 own) us fit)
 
     -- a struct's own fields come first, and those of the rows that are flattened into it behind them
     pub struct_fills : (x : Fields) → ArePlainParts rows x.flatten → (us : List Data) → Fit A (asks_of (struct_template contract x)) us

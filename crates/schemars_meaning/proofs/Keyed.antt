@@ -35,9 +35,10 @@ use Rattle.schemars_templates.specs.Template.{filled_in, keyed}
 use Rattle.schemars_templates.specs.OfShape.{KeywordTemplate, templates_of, values_template, object_with, values_of, other_values}
 use Rattle.schemars_templates.specs.OfShape.{typed as typed_at, all_patterns, pattern_properties_at, properties_at}
 use Rattle.schemars_meaning.proofs.MapDocument.{properties_keyword}
-use Rattle.schemars_meaning.proofs.Maps.{AreEntries, judges_of, schema_named-judges_in, named_says, judges_in, all_named-schemas}
-use Rattle.schemars_meaning.proofs.Maps.{AreSchemas-put_all, properties_value, each_yes, each_agree, named_part, IsNoMap, silent}
-use Rattle.schemars_meaning.proofs.Structs.{both-middle}
+use Rattle.schemars_meaning.proofs.Named.{AreEntries, schema_named-judges_in, judges_in, all_named-schemas, AreSchemas-put_all}
+use Rattle.schemars_meaning.proofs.Named.{each_yes, each_agree, IsNoMap, silent}
+use Rattle.schemars_meaning.proofs.Maps.{judges_of, named_says, properties_value, named_part}
+use Rattle.schemars_meaning.proofs.Verdicts.{both-middle}
 use Rattle.schemars_meaning.proofs.Filling.{Fit, without_end, parted}
 
 -- a map with these keys, those that match one of the patterns, and others with this schema

@@ -262,7 +262,7 @@ unfoldable pub value_or : Data → Option Data → Data
 value_or d None = d
 value_or d (Some e) = e
 
-get_member-replaced : (k : Text) (d e : Data) (ms : Members) → get_member k ms ≡ Some e → get_member k (replaced k d ms) ≡ Some d
+pub get_member-replaced : (k : Text) (d e : Data) (ms : Members) → get_member k ms ≡ Some e → get_member k (replaced k d ms) ≡ Some d
 get_member-replaced k d e no_members h = cc
 get_member-replaced k d e (member l f ms) h = go (bytes_eq k l) refl (get_member-replaced k d e ms)
   where
@@ -271,7 +271,7 @@ get_member-replaced k d e (member l f ms) h = go (bytes_eq k l) refl (get_member
     go true is later = ap (λ x. get_member x (member l d ms)) ((bytes_eq-Decides k l).0 is) ∙ get_member-first l d ms
     go false is later = later_member k l f (replaced k d ms) is ∙ later (sym (later_member k l f ms is) ∙ h)
 
-get_member-replaced_other : (q k : Text) (d : Data) (ms : Members) → bytes_eq q k ≡ false
+pub get_member-replaced_other : (q k : Text) (d : Data) (ms : Members) → bytes_eq q k ≡ false
     → get_member q (replaced k d ms) ≡ get_member q ms
 get_member-replaced_other q k d no_members other = refl
 get_member-replaced_other q k d (member l f ms) other = go (bytes_eq k l) refl (get_member-replaced_other q k d ms other)
@@ -311,7 +311,7 @@ sorted-changed_at k f d ms h = go (get_member k ms)
 
 -- ---- look-ups after keywords are put in one after another
 
-flipped : (k q : Text) → bytes_eq k q ≡ false → bytes_eq q k ≡ false
+pub flipped : (k q : Text) → bytes_eq k q ≡ false → bytes_eq q k ≡ false
 flipped k q is = go (bytes_eq q k) refl
   where
     go : (b : Bool) → bytes_eq q k ≡ b → b ≡ false
@@ -336,7 +336,7 @@ pub united_none : (k : Text) (a : Option Data) → united_option k a None ≡ a
 united_none k None = refl
 united_none k (Some e) = refl
 
-united-here : (k : Text) (d : Data) (ms : Members)
+pub united-here : (k : Text) (d : Data) (ms : Members)
     → get_member k (with_united k d ms) ≡ united_option k (get_member k ms) (Some d)
 united-here k d ms = go (get_member k ms) refl
   where
@@ -345,7 +345,7 @@ united-here k d ms = go (get_member k ms) refl
     go None is = get_member-put k d ms
     go (Some e) is = get_member-replaced k (united k e d) e ms is
 
-united-beside : (q k : Text) (d : Data) (ms : Members) → bytes_eq q k ≡ false
+pub united-beside : (q k : Text) (d : Data) (ms : Members) → bytes_eq q k ≡ false
     → get_member q (with_united k d ms) ≡ get_member q ms
 united-beside q k d ms other = go (get_member k ms)
   where

@@ -1,5 +1,5 @@
--- In a table in order, a document of a row accepts just the values that belong to it.
-use Rattle.std.proofs.Common.{◌≡◌, ◌⊎◌, ℕ, zero, suc, ◌<◌, inl, inr, List, [], ◌∷◌, Bool, true, false, refl, ◌∙◌}
+-- The documents of shapes into which nothing is flattened say what the shapes mean, and null can be added to each document.
+use Rattle.std.proofs.Common.{◌≡◌, ◌⊎◌, ℕ, zero, suc, ◌<◌, inl, inr, List, [], ◌∷◌, ◌++◌, Bool, true, false, refl, ◌∙◌}
 use Rattle.serde_json.specs.Data.{Data, depth}
 use Rattle.schemars_schema.specs.Verdict.{verdict}
 use Rattle.schemars_json.specs.Json.{Text, IsJson}
@@ -9,23 +9,22 @@ use Rattle.schemars_rewrite.specs.NullLaw.{context2020_12}
 use Rattle.schemars_rewrite.proofs.Nulls.{IsReady, ready-schema, ready-law, ready-allow_null}
 use Rattle.schemars_types.specs.KeyOptions.{key_options}
 use Rattle.schemars_meaning.proofs.Ready.{int_ready, non_zero_ready, bytes_ready, map_ready, tuple_ready, one_of_ready, fields_ready}
-use Rattle.schemars_meaning.proofs.Enums.{IsNewtypeIn, external_ready, untagged_ready, external_says, untagged_says}
+use Rattle.schemars_meaning.proofs.Enums.{IsNewtypeIn, external_ready, untagged_ready, internal_ready}
 use Rattle.schemars_meaning.proofs.Keyed.{values_ready, values_say}
-use Rattle.schemars_meaning.proofs.Tagged.{internal_ready, internal_says}
 use Rattle.schemars_shapes.specs.Shape as shape
-use Rattle.schemars_shapes.specs.Shape.{Shape, Field}
-use Rattle.schemars_types.specs.Meaning.{Contract, has_shape}
+use Rattle.schemars_shapes.specs.Shape.{Shape, Field, Flattened, Fields}
+use Rattle.schemars_types.specs.Meaning.{Contract, Choice, has_shape}
 use Rattle.schemars_templates.specs.Basis.{Basis}
 use Rattle.schemars_rewrite.specs.Variants.{unit_variant}
 use Rattle.schemars_meaning.proofs.ByShape.{IsDocument, member_document}
-use Rattle.schemars_documents.specs.PlainTable.{IsPlainShape, parts_in, ArePlainParts}
+use Rattle.schemars_documents.specs.PlainTable.{IsPlainShape, parts_in}
 use Rattle.schemars_types.specs.Effective.{effective, spread}
-use Rattle.schemars_templates.specs.Template.{Ask, part}
-use Rattle.schemars_meaning.proofs.Spread.{AnswersFields}
+use Rattle.schemars_templates.specs.Template.{Ask, part, asks_of, filled}
+use Rattle.schemars_templates.specs.OfShape.{struct_template}
+use Rattle.schemars_meaning.proofs.Filling.{Fit}
 use Rattle.schemars_meaning.proofs.EachShape.{bytes_say, schema_says, null_says, bool_says, number_says, text_says}
 use Rattle.schemars_meaning.proofs.EachShape.{formatted_says, char_says, any_says, seq_says, set_says, array_says}
 use Rattle.schemars_meaning.proofs.EachShape.{up_to_says, tuple_says, int_says, non_zero_says}
-use Rattle.schemars_meaning.proofs.Structs.{fields_say}
 use Rattle.schemars_schema.proofs.Literals.{literal_is_schema, literal_judged}
 use Rattle.schemars_rewrite.proofs.LiteralNulls.{literal_ready}
 use Rattle.schemars_templates.proofs.Literals.{literal_document-schema}
@@ -34,62 +33,65 @@ use Rattle.std.specs.Prelude.{codes}
 
 -- ---- null can be added to each document
 
--- the names of fields are of no matter here
-module _ (A : Ask → Data → Type 0) (has : ℕ → List Field) (basis : Basis) (fields : AnswersFields has basis.rows basis.contract A)
-    (ready : (j : ℕ) (t : Data) → A (part j) t → IsReady t) where
-  pub shape_ready : (kind : Shape) (s : Data) (others : ℕ → List Field) → IsPlainShape (spread others kind)
-      → ArePlainParts basis.rows (parts_in kind) → IsDocument A has basis kind s → IsReady s
-  shape_ready shape.null s others p flat is =
+-- `Under` says what may be flattened, so that null can be added to the document of a struct; the names of fields are of no matter here
+module _ (A : Ask → Data → Type 0) (has : Flattened → List Field) (basis : Basis) (Under : List Flattened → Type 0)
+    (apart : (ps qs : List Flattened) → Under (ps ++ qs) → Under ps × Under qs)
+    (ready : (j : ℕ) (t : Data) → A (part j) t → IsReady t)
+    (structs : (y : Fields) → Under y.flatten → (us : List Data) → Fit A (asks_of (struct_template basis.contract y)) us
+    → IsReady (filled (struct_template basis.contract y) us)) where
+  pub shape_ready : (kind : Shape) (s : Data) (others : Flattened → List Field) (enums : Flattened → List ℕ)
+      → IsPlainShape (spread others enums kind) → Under (parts_in kind) → IsDocument A has basis kind s → IsReady s
+  shape_ready shape.null s others enums p flat is =
       rw is (inr (record { alone = refl; type_form = refl; values = inl refl; not_form = inl refl }))
-  shape_ready shape.bool s others p flat is =
+  shape_ready shape.bool s others enums p flat is =
       rw is (inr (record { alone = refl; type_form = refl; values = inl refl; not_form = inl refl }))
-  shape_ready (shape.int k) s others p flat is = rw is (int_ready k)
-  shape_ready (shape.non_zero k) s others p flat is = rw is (non_zero_ready k)
-  shape_ready shape.number s others p flat is =
+  shape_ready (shape.int k) s others enums p flat is = rw is (int_ready k)
+  shape_ready (shape.non_zero k) s others enums p flat is = rw is (non_zero_ready k)
+  shape_ready shape.number s others enums p flat is =
       rw is (inr (record { alone = refl; type_form = refl; values = inl refl; not_form = inl refl }))
-  shape_ready shape.text s others p flat is =
+  shape_ready shape.text s others enums p flat is =
       rw is (inr (record { alone = refl; type_form = refl; values = inl refl; not_form = inl refl }))
-  shape_ready shape.char s others p flat is =
+  shape_ready shape.char s others enums p flat is =
       rw is (inr (record { alone = refl; type_form = refl; values = inl refl; not_form = inl refl }))
-  shape_ready (shape.formatted f) s others p flat is =
+  shape_ready (shape.formatted f) s others enums p flat is =
       rw is (inr (record { alone = refl; type_form = refl; values = inl refl; not_form = inl refl }))
-  shape_ready shape.any s others p flat is = rw is tt
-  shape_ready shape.bytes s others p flat is = rw is (bytes_ready basis.contract)
-  shape_ready shape.schema_itself s others p flat is = rw is (inr (record {
+  shape_ready shape.any s others enums p flat is = rw is tt
+  shape_ready shape.bytes s others enums p flat is = rw is (bytes_ready basis.contract)
+  shape_ready shape.schema_itself s others enums p flat is = rw is (inr (record {
     alone = refl;
     type_form = (codes "object" ∷ codes "boolean" ∷ [], refl, refl);
     values = inl refl;
     not_form = inl refl;
   }))
-  shape_ready (shape.option n) s others p flat is = rw is.2 (ready-allow_null is.0 (ready n is.0 is.1))
-  shape_ready (shape.struct x) s others p flat is = fields_ready (λ j. A (part j)) basis.contract (effective has x) x.closed s is
-  shape_ready (shape.newtype n) s others p flat is = ready n s is
-  shape_ready (shape.seq n) s others p flat is =
+  shape_ready (shape.option n) s others enums p flat is = rw is.2 (ready-allow_null is.0 (ready n is.0 is.1))
+  shape_ready (shape.struct x) s others enums p flat is = fields_ready (λ j. A (part j)) basis.contract (effective has x) x.closed s is
+  shape_ready (shape.newtype n) s others enums p flat is = ready n s is
+  shape_ready (shape.seq n) s others enums p flat is =
       rw is.2 (inr (record { alone = refl; type_form = refl; values = inl refl; not_form = inl refl }))
-  shape_ready (shape.set n) s others p flat is =
+  shape_ready (shape.set n) s others enums p flat is =
       rw is.2 (inr (record { alone = refl; type_form = refl; values = inl refl; not_form = inl refl }))
-  shape_ready (shape.array n zero) s others p flat is =
+  shape_ready (shape.array n zero) s others enums p flat is =
       rw is (inr (record { alone = refl; type_form = refl; values = inl refl; not_form = inl refl }))
-  shape_ready (shape.array n (suc len)) s others p flat is = rw is.2 (inr (record
+  shape_ready (shape.array n (suc len)) s others enums p flat is = rw is.2 (inr (record
       { alone = refl; type_form = refl; values = inl refl; not_form = inl refl }))
-  shape_ready (shape.up_to n cap) s others p flat is =
+  shape_ready (shape.up_to n cap) s others enums p flat is =
       rw is.2 (inr (record { alone = refl; type_form = refl; values = inl refl; not_form = inl refl }))
-  shape_ready (shape.tuple ns) s others p flat is = rw is.2 (tuple_ready is.0)
-  shape_ready (shape.result a b) s others p flat is =
+  shape_ready (shape.tuple ns) s others enums p flat is = rw is.2 (tuple_ready is.0)
+  shape_ready (shape.result a b) s others enums p flat is =
       one_of_ready (member_document false (codes "Ok") is.0 ∷ member_document false (codes "Err") is.1 ∷ []) s is.4
-  shape_ready (shape.bound n) s others p flat is =
+  shape_ready (shape.bound n) s others enums p flat is =
       one_of_ready (member_document false (codes "Included") is.0 ∷ member_document false (codes "Excluded") is.1
       ∷ unit_variant (codes "Unbounded") ∷ []) s is.4
-  shape_ready (shape.range n) s others p flat is =
+  shape_ready (shape.range n) s others enums p flat is =
       rw is.4 (map_ready ((codes "start", is.0) ∷ (codes "end", is.1) ∷ []) (codes "start" ∷ codes "end" ∷ []) false)
-  shape_ready (shape.either a b) s others p flat is =
+  shape_ready (shape.either a b) s others enums p flat is =
       one_of_ready (member_document true (codes "Left") is.0 ∷ member_document true (codes "Right") is.1 ∷ []) s is.4
-  shape_ready (shape.map_from key value) s others p flat is = rw is.is (values_ready (key_options basis.rows key) value is.parts)
-  shape_ready (shape.external xs) s others p flat is = rw is.is (external_ready A has basis fields ready xs is.parts)
-  shape_ready (shape.untagged xs) s others p flat is =
-      rw is.is (untagged_ready A has basis fields ready xs others p flat is.parts is.answered)
-  shape_ready (shape.internal tag closed xs) s others p flat is = rw is.is (internal_ready basis.contract tag closed xs is.parts)
-  shape_ready (shape.literal d) s others p flat is =
+  shape_ready (shape.map_from key value) s others enums p flat is = rw is.is (values_ready (key_options basis.rows key) value is.parts)
+  shape_ready (shape.external xs) s others enums p flat is = rw is.is (external_ready basis.contract xs is.parts)
+  shape_ready (shape.untagged xs) s others enums p flat is =
+      rw is.is (untagged_ready A basis Under apart ready structs xs others enums p flat is.parts is.answered)
+  shape_ready (shape.internal tag closed xs) s others enums p flat is = rw is.is (internal_ready basis.contract tag closed xs is.parts)
+  shape_ready (shape.literal d) s others enums p flat is =
       rw (is ∙ literal_document-schema d (literal_is_schema d p)) (literal_ready d p)
 
 -- ---- one shape
@@ -129,8 +131,16 @@ IsSame (shape.literal d) j = ⊥
 abbrev pub Inside : Shape → Data → ℕ → Data → Type 0
 Inside kind v j w = (depth w < depth v) ⊎ (IsSame kind j × (w ≡ v))
 
+-- no struct, and no enum
+abbrev pub IsSimple : Shape → Type 0
+IsSimple (shape.struct x) = ⊥
+IsSimple (shape.external xs) = ⊥
+IsSimple (shape.untagged xs) = ⊥
+IsSimple (shape.internal tag closed xs) = ⊥
+IsSimple kind = Unit {0}
+
 module _ (patterns : Patterns) (f : Text → Judge) (basis : Basis) (A : Ask → Data → Type 0) (M : ℕ → Data → Bool)
-    (has : ℕ → List Field) (fields : AnswersFields has basis.rows basis.contract A)
+    (C : ℕ → Data → List Choice) (has : Flattened → List Field) (enums : Flattened → List ℕ)
     (ready : (j : ℕ) (t : Data) → A (part j) t → IsReady t) where
   abbrev W : ℕ → Data → Type 0
   W j = A (part j)
@@ -147,54 +157,49 @@ module _ (patterns : Patterns) (f : Text → Judge) (basis : Basis) (A : Ask →
   abbrev schemas : (j : ℕ) (t : Data) → W j t → IsSchema t
   schemas j t is = ready-schema t (ready j t is)
 
-  -- the document of a shape says what the shape means with the flattened fields among its own
-  pub shape_says : (kind : Shape) (s : Data) → IsPlainShape (spread has kind) → ArePlainParts basis.rows (parts_in kind)
-      → IsDocument A has basis kind s → (v : Data) → IsJson v → Agrees kind v
-      → (judge c s).fits v ≡ verdict (has_shape contract patterns (key_options basis.rows) M (spread has kind) v)
-  shape_says shape.null s p flat is v json agree = rw is (null_says patterns f basis M v)
-  shape_says shape.bool s p flat is v json agree = rw is (bool_says patterns f basis M v)
-  shape_says (shape.int k) s p flat is v json agree = rw is (int_says patterns f basis M k v)
-  shape_says (shape.non_zero k) s p flat is v json agree = rw is (non_zero_says patterns f basis M k v json)
-  shape_says shape.number s p flat is v json agree = rw is (number_says patterns f basis M v)
-  shape_says shape.text s p flat is v json agree = rw is (text_says patterns f basis M v)
-  shape_says shape.char s p flat is v json agree = rw is (char_says patterns f basis M v)
-  shape_says (shape.formatted g) s p flat is v json agree = rw is (formatted_says patterns f basis M g v)
-  shape_says shape.any s p flat is v json agree = rw is (any_says patterns f basis M v)
-  shape_says shape.bytes s p flat is v json agree = rw is (bytes_say patterns f basis M v)
-  shape_says shape.schema_itself s p flat is v json agree = rw is (schema_says patterns f basis M v)
-  shape_says (shape.option j) s p flat is v json agree =
+  pub simple_says : (kind : Shape) (s : Data) → IsSimple kind → IsPlainShape (spread has enums kind) → IsDocument A has basis kind s
+      → (v : Data) → IsJson v → Agrees kind v
+      → (judge c s).fits v ≡ verdict (has_shape contract patterns (key_options basis.rows) C M (spread has enums kind) v)
+  simple_says shape.null s simple p is v json agree = rw is (null_says patterns f basis M v)
+  simple_says shape.bool s simple p is v json agree = rw is (bool_says patterns f basis M v)
+  simple_says (shape.int k) s simple p is v json agree = rw is (int_says patterns f basis M k v)
+  simple_says (shape.non_zero k) s simple p is v json agree = rw is (non_zero_says patterns f basis M k v json)
+  simple_says shape.number s simple p is v json agree = rw is (number_says patterns f basis M v)
+  simple_says shape.text s simple p is v json agree = rw is (text_says patterns f basis M v)
+  simple_says shape.char s simple p is v json agree = rw is (char_says patterns f basis M v)
+  simple_says (shape.formatted g) s simple p is v json agree = rw is (formatted_says patterns f basis M g v)
+  simple_says shape.any s simple p is v json agree = rw is (any_says patterns f basis M v)
+  simple_says shape.bytes s simple p is v json agree = rw is (bytes_say patterns f basis M v)
+  simple_says shape.schema_itself s simple p is v json agree = rw is (schema_says patterns f basis M v)
+  simple_says (shape.option j) s simple p is v json agree =
       rw is.2 (ready-law draft2020_12 (inl refl) is.0 (ready j is.0 is.1) patterns f v (M j v)
       (agree j is.0 v is.1 json (inr (refl, refl))))
-  shape_says (shape.seq j) s p flat is v json agree = rw is.2 (seq_says patterns f basis M j is.0 (schemas j is.0 is.1) v json
+  simple_says (shape.seq j) s simple p is v json agree = rw is.2 (seq_says patterns f basis M j is.0 (schemas j is.0 is.1) v json
       (λ w js less. agree j is.0 w is.1 js (inl less)))
-  shape_says (shape.set j) s p flat is v json agree = rw is.2 (set_says patterns f basis M j is.0 (schemas j is.0 is.1) v json
+  simple_says (shape.set j) s simple p is v json agree = rw is.2 (set_says patterns f basis M j is.0 (schemas j is.0 is.1) v json
       (λ w js less. agree j is.0 w is.1 js (inl less)))
-  shape_says (shape.array j len) s p flat is v json agree = array_says patterns f basis M W schemas j len s is v json
+  simple_says (shape.array j len) s simple p is v json agree = array_says patterns f basis M W schemas j len s is v json
       (λ t w a js less. agree j t w a js (inl less))
-  shape_says (shape.up_to j cap) s p flat is v json agree = rw is.2 (up_to_says patterns f basis M j cap is.0 (schemas j is.0 is.1) v json
+  simple_says (shape.up_to j cap) s simple p is v json agree =
+      rw is.2 (up_to_says patterns f basis M j cap is.0 (schemas j is.0 is.1) v json
       (λ w js less. agree j is.0 w is.1 js (inl less)))
-  shape_says (shape.tuple ns) s p flat is v json agree = rw is.2 (tuple_says patterns f basis M W schemas ns is.0 is.1 v json
+  simple_says (shape.tuple ns) s simple p is v json agree = rw is.2 (tuple_says patterns f basis M W schemas ns is.0 is.1 v json
       (λ j t w a js less. agree j t w a js (inl less)))
-  shape_says (shape.struct x) s p flat is v json agree =
-      fields_say patterns f contract W M schemas (effective has x) x.closed s p.0 p.1 is v json
-      (λ j t w a js less. agree j t w a js (inl less))
-  shape_says (shape.newtype j) s p flat is v json agree = agree j s v is json (inr (refl, refl))
-  shape_says (shape.result a b) s p flat is v json agree = rw is.4 (result_says patterns f basis M W schemas v json
+  simple_says (shape.newtype j) s simple p is v json agree = agree j s v is json (inr (refl, refl))
+  simple_says (shape.result a b) s simple p is v json agree = rw is.4 (result_says patterns f basis M W schemas v json
       (λ j t w x js less. agree j t w x js (inl less)) a b is.0 is.1 is.2 is.3)
-  shape_says (shape.bound n) s p flat is v json agree = rw is.4 (bound_says patterns f basis M W schemas v json
+  simple_says (shape.bound n) s simple p is v json agree = rw is.4 (bound_says patterns f basis M W schemas v json
       (λ j t w x js less. agree j t w x js (inl less)) n is.0 is.1 is.2 is.3)
-  shape_says (shape.range n) s p flat is v json agree = rw is.4 (range_says patterns f basis M W schemas v json
+  simple_says (shape.range n) s simple p is v json agree = rw is.4 (range_says patterns f basis M W schemas v json
       (λ j t w x js less. agree j t w x js (inl less)) n is.0 is.1 is.2 is.3)
-  shape_says (shape.either a b) s p flat is v json agree = rw is.4 (either_says patterns f basis M W schemas v json
+  simple_says (shape.either a b) s simple p is v json agree = rw is.4 (either_says patterns f basis M W schemas v json
       (λ j t w x js less. agree j t w x js (inl less)) a b is.0 is.1 is.2 is.3)
-  shape_says (shape.map_from key value) s p flat is v json agree = rw is.is (values_say patterns f A (M value) value
+  simple_says (shape.map_from key value) s simple p is v json agree = rw is.is (values_say patterns f A (M value) value
       (λ t w. schemas value t w) (key_options basis.rows key) v json (λ t w is js less. agree value t w is js
       (inl less)) is.parts is.answered)
-  shape_says (shape.external xs) s p flat is v json agree = rw is.is (external_says patterns f basis A M has fields ready v json
-      (λ j t w x js less. agree j t w x js (inl less)) xs p.0 p.1 flat is.parts is.answered)
-  shape_says (shape.untagged xs) s p flat is v json agree = rw is.is (untagged_says patterns f basis A M has fields ready v json
-      (λ j t w x js less. agree j t w x js (inl less)) xs p flat (λ n t same x. agree n t v x json (inr (same, refl))) is.parts is.answered)
-  shape_says (shape.internal tag closed xs) s p flat is v json agree = rw is.is (internal_says patterns f basis A M has fields ready v json
-      (λ j t w x js less. agree j t w x js (inl less)) tag closed xs p.0 p.1 p.2 flat is.parts is.answered)
-  shape_says (shape.literal d) s p flat is v json agree =
+  simple_says (shape.literal d) s simple p is v json agree =
       rw (is ∙ literal_document-schema d (literal_is_schema d p)) (literal_judged c refl refl d v p)
+  simple_says (shape.struct x) s simple p is v json agree = absurd simple
+  simple_says (shape.external xs) s simple p is v json agree = absurd simple
+  simple_says (shape.untagged xs) s simple p is v json agree = absurd simple
+  simple_says (shape.internal tag closed xs) s simple p is v json agree = absurd simple

@@ -1,18 +1,20 @@
 -- Notes say nothing of a value, and leave a schema one to which null can be added.
 use Rattle.std.proofs.Common.{◌≡◌, inl, inr, List, [], ◌∷◌, Option, Some, None, Bool, true, false, refl, sym, ap, ◌∙◌, true≢false}
-use Rattle.std.specs.Prelude.{codes, is_some, bytes_eq, if◌then◌else◌}
+use Rattle.std.specs.Prelude.{codes, is_some, bytes_eq, option_and_then, if◌then◌else◌}
 use Rattle.std.proofs.lemmas.Slice.Eq.{bytes_eq-Decides}
 use Rattle.serde_json.specs.Data.{Data, null, boolean, number, string, array, object, Members, no_members, member, put}
-use Rattle.serde_json.specs.Find.{get_member}
+use Rattle.serde_json.specs.Find.{get_member, as_str}
 use Rattle.serde_json.proofs.Views.{get_member-put, get_member-put_other}
 use Rattle.schemars_json.specs.Json.{Text}
 use Rattle.schemars_schema.specs.SchemaData.{put_members, IsSchema, members_in}
-use Rattle.schemars_schema.specs.Acceptance.{Context, Patterns, Judge, judge, read_data, all_keywords}
+use Rattle.schemars_schema.specs.Acceptance.{Context, Patterns, Judge, judge, read_data, all_keywords, items_say, const_says}
+use Rattle.schemars_schema.specs.Acceptance.{unevaluated_properties_say}
+use Rattle.schemars_schema.specs.Verdict.{Yes, verdict}
 use Rattle.schemars_schema.specs.Annotations.{is_annotation, AreNotes}
 use Rattle.schemars_schema.proofs.Objects.{judge-put}
 use Rattle.schemars_schema.proofs.Literals.{judge-put_members}
 use Rattle.schemars_schema.specs.Edits.{without}
-use Rattle.schemars_rewrite.specs.AllowNull.{is_null_choice}
+use Rattle.schemars_rewrite.specs.AllowNull.{is_text, is_null_choice}
 use Rattle.schemars_rewrite.specs.NullLaw.{context2020_12, HasPlainValues}
 use Rattle.schemars_rewrite.proofs.Removals.{without-put}
 use Rattle.schemars_rewrite.proofs.NullMembers.{choice_key}
@@ -119,7 +121,7 @@ ready-agree ms ns noted e once (inl p) = inl (
     ) (p.0 dialect draft).combined;
     offers = λ stays. absurd (noted-not_choice ms noted stays);
   },
-  e (codes "type") refl ∙ p.1,
+  ap (λ o. is_text (codes "null") (option_and_then as_str o)) (e (codes "type") refl) ∙ p.1,
 )
 ready-agree ms ns noted e once (inr p) = inr (record {
   alone = rw (
@@ -158,3 +160,45 @@ ready-annotated (member k d notes) s h r =
 pub ready-noted_by : (notes : List Members) (s : Data) → AllNotes notes → IsReady s → IsReady (noted_by notes s)
 ready-noted_by [] s h r = r
 ready-noted_by (notes ∷ more) s h r = ready-annotated notes (noted_by more s) h.0 (ready-noted_by more s h.1 r)
+
+-- ---- in each dialect
+
+items_none : (reads : Bool) (v : Data) → items_say reads None None None v ≡ Yes
+items_none true v = refl
+items_none false v = refl
+
+const_none : (reads : Bool) (v : Data) → const_says reads None v ≡ Yes
+const_none true v = refl
+const_none false v = refl
+
+unevaluated_none : (reads : Bool) (judged : Text → Bool) (v : Data) → unevaluated_properties_say reads judged None v ≡ Yes
+unevaluated_none true judged v = refl
+unevaluated_none false judged v = refl
+
+truth_fits : (patterns : Patterns) (f : Text → Judge) (v : Data) (p q r t u b : Bool)
+    → (judge (record {
+      dialect = record { judges_siblings = p; reads_prefix_items = q; reads_nullable = r; reads_const = t; reads_unevaluated = u };
+      patterns = patterns;
+      follow = f;
+    }) (object (members_in (boolean b)))).fits v ≡ verdict b
+unfolding read_data all_keywords
+truth_fits patterns f v true q r t u true = rw (items_none q v, const_none t v, unevaluated_none u _ v)
+truth_fits patterns f v true q r t u false = rw (items_none q v, const_none t v, unevaluated_none u _ v)
+truth_fits patterns f v false q r t u true = rw (items_none q v, const_none t v, unevaluated_none u _ v)
+truth_fits patterns f v false q r t u false = rw (items_none q v, const_none t v, unevaluated_none u _ v)
+
+members_fit : (c : Context) (s v : Data) → IsSchema s → (judge c (object (members_in s))).fits v ≡ (judge c s).fits v
+unfolding read_data
+members_fit c (object ms) v is = refl
+members_fit c (boolean b) v is = truth_fits c.patterns c.follow v c.dialect.judges_siblings c.dialect.reads_prefix_items
+    c.dialect.reads_nullable c.dialect.reads_const c.dialect.reads_unevaluated b
+members_fit c null v is = absurd is
+members_fit c (number n) v is = absurd is
+members_fit c (string s) v is = absurd is
+members_fit c (array ds) v is = absurd is
+
+pub annotated_fits : (c : Context) (notes : Members) (s v : Data) → AreNotes notes → IsSchema s
+    → (judge c (annotated notes s)).fits v ≡ (judge c s).fits v
+annotated_fits c no_members s v h is = refl
+annotated_fits c (member k d notes) s v h is =
+    ap (λ (j : Judge). j.fits v) (judge-put_members c (member k d notes) (members_in s) h) ∙ members_fit c s v is

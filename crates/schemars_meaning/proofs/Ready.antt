@@ -7,7 +7,7 @@ use Rattle.schemars_rewrite.proofs.Nulls.{IsReady, AreReady, some_accepts_null}
 use Rattle.schemars_shapes.specs.declared.shape.IntKind.{IntKind}
 use Rattle.schemars_shapes.specs.declared.shape.IntKind.TheVariants.{I8, I16, I32, I64, I128, Isize, U8, U16, U32, U64, U128, Usize}
 use Rattle.schemars_types.specs.Meaning.{Contract, Deserialize, Serialize}
-use Rattle.schemars_documents.specs.Documents.{Keyword, int_document, non_zero_document, bytes_document, required_names}
+use Rattle.schemars_documents.specs.Documents.{Keyword, int_document, non_zero_document, bytes_document, required_names, reference}
 use Rattle.schemars_shapes.specs.Shape.{Field}
 use Rattle.schemars_meaning.proofs.Spread.{field_keywords, IsFieldsDocument}
 use Rattle.schemars_meaning.proofs.Notes.{ready-noted_by}
@@ -84,3 +84,7 @@ pub fields_ready : (W : ℕ → Data → Type 0) (contract : Contract) (list : L
     → IsFieldsDocument W contract list closed s → IsReady s
 fields_ready W contract list closed s d = subst IsReady (sym d.is) (ready-noted_by d.notes _ d.are_notes
     (map_ready (field_keywords list d.parts) (required_names contract list) closed))
+
+pub reference_ready : (r : Text) → IsReady (reference r)
+reference_ready r =
+    inl (λ dialect draft. record { combined = refl; offers = λ stays. absurd (true≢false (sym stays)) }, refl)

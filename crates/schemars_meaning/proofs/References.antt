@@ -22,7 +22,7 @@ use Rattle.schemars_shapes.specs.declared.shape.IntegerKeys.{IntegerKeys}
 use Rattle.schemars_shapes.specs.IntegerKeys.{pattern_of}
 use Rattle.schemars_types.specs.Rows.{Row}
 use Rattle.schemars_types.specs.Meaning.{Contract, Deserialize, Serialize, least_of, greatest_of, is_required}
-use Rattle.schemars_types.specs.Effective.{flattened_fields, effective, row_fields, spread_payload, spread_variant, spread_in}
+use Rattle.schemars_types.specs.Effective.{flattened_fields, effective, flattened_in, part_enums, spread_payload, spread_variant, spread_in}
 use Rattle.schemars_types.specs.KeyOptions.{KeyOptions, keys, or_any_text, all_options, key_options, each_once, once}
 use Rattle.schemars_documents.specs.Documents.{int_keywords, is_signed, required_names, bytes_document}
 use Rattle.schemars_documents.specs.PlainTable.{AreDistinct, AreNoted, IsPlainShape, IsPlainEntry, IsPlainPayload}
@@ -116,18 +116,18 @@ noted-first : (xs ys : List Field) → AreNoted (xs ++ ys) → AreNoted xs
 noted-first [] ys h = tt
 noted-first (x ∷ xs) ys h = (h.0, noted-first xs ys h.1)
 
-module _ (part : ℕ → List Field) where
-  plain-payload_noted : (p : Payload) → IsPlainPayload (spread_payload part p) → IsNotedPayload p
+module _ (part : Flattened → List Field) (enums : Flattened → List ℕ) where
+  plain-payload_noted : (p : Payload) → IsPlainPayload (spread_payload part enums p) → IsNotedPayload p
   plain-payload_noted no_payload h = tt
   plain-payload_noted (newtype_payload n) h = tt
   plain-payload_noted (tuple_payload ns) h = tt
   plain-payload_noted (struct_payload x) h = noted-first x.list (flattened_fields part x.flatten) h.1
 
-  plain-variants_noted : (xs : List Variant) → ArePlainVariants (map (spread_variant part) xs) → AreNotedVariants xs
+  plain-variants_noted : (xs : List Variant) → ArePlainVariants (map (spread_variant part enums) xs) → AreNotedVariants xs
   plain-variants_noted [] h = tt
   plain-variants_noted (x ∷ xs) h = (h.0, plain-payload_noted x.payload h.1, plain-variants_noted xs h.2)
 
-plain-shape_noted : (rows : List Row) (kind : Shape) → IsPlainShape (spread_in rows kind) → IsNotedShape kind
+pub plain-shape_noted : (rows : List Row) (kind : Shape) → IsPlainShape (spread_in rows kind) → IsNotedShape kind
 plain-shape_noted rows shape.null h = tt
 plain-shape_noted rows shape.bool h = tt
 plain-shape_noted rows (shape.int k) h = tt
@@ -145,16 +145,16 @@ plain-shape_noted rows (shape.set n) h = tt
 plain-shape_noted rows (shape.array n len) h = tt
 plain-shape_noted rows (shape.up_to n cap) h = tt
 plain-shape_noted rows (shape.tuple ns) h = tt
-plain-shape_noted rows (shape.struct x) h = noted-first x.list (flattened_fields (row_fields rows) x.flatten) h.1
+plain-shape_noted rows (shape.struct x) h = noted-first x.list (flattened_fields (flattened_in rows) x.flatten) h.1
 plain-shape_noted rows (shape.newtype n) h = tt
 plain-shape_noted rows (shape.result a b) h = tt
 plain-shape_noted rows (shape.bound n) h = tt
 plain-shape_noted rows (shape.range n) h = tt
 plain-shape_noted rows (shape.either a b) h = tt
 plain-shape_noted rows (shape.map_from key value) h = tt
-plain-shape_noted rows (shape.external xs) h = plain-variants_noted (row_fields rows) xs h.1
-plain-shape_noted rows (shape.untagged xs) h = plain-variants_noted (row_fields rows) xs h
-plain-shape_noted rows (shape.internal tag closed xs) h = plain-variants_noted (row_fields rows) xs h.1
+plain-shape_noted rows (shape.external xs) h = plain-variants_noted (flattened_in rows) (part_enums rows) xs h.1
+plain-shape_noted rows (shape.untagged xs) h = plain-variants_noted (flattened_in rows) (part_enums rows) xs h
+plain-shape_noted rows (shape.internal tag closed xs) h = plain-variants_noted (flattened_in rows) (part_enums rows) xs h.1
 plain-shape_noted rows (shape.literal d) h = h
 
 -- a plain entry has such notes
@@ -165,15 +165,18 @@ plain_noted rows e p = (p.0, plain-shape_noted rows e.shape p.1)
 
 -- where Q holds, the entry is plain, and the answers of flattened rows are maps with their fields
 module _ (Q : Type 0) (Answers : Ask → Data → Type 0) (basis : Basis)
-    (spread : Q → AnswersFields (row_fields basis.rows) basis.rows basis.contract Answers) where
+    (spread : Q → AnswersFields (flattened_in basis.rows) basis.rows basis.contract Answers) where
   abbrev Schema : Template → Type 0
   Schema = AsSchema Q Answers
 
   abbrev EachSchema : Templates → Type 0
   EachSchema = AreItems Q Answers
 
-  abbrev fields_at : ℕ → List Field
-  fields_at = row_fields basis.rows
+  abbrev fields_at : Flattened → List Field
+  fields_at = flattened_in basis.rows
+
+  abbrev enums_at : Flattened → List ℕ
+  enums_at = part_enums basis.rows
 
   abbrev PlainParts : List Flattened → Type 0
   PlainParts = ArePlainParts basis.rows
@@ -219,7 +222,7 @@ module _ (Q : Type 0) (Answers : Ask → Data → Type 0) (basis : Basis)
   flattened_as_schema [] t names h g = h
   flattened_as_schema (p ∷ ps) t names h g =
       let more = with_keywords t (asked (members_of p.ty (is_required basis.contract p.required))) in
-      let longer = names ++ names_in (fields_at p.ty) in
+      let longer = names ++ names_in (fields_at p) in
       let holds : Q → IsMapAt Answers more longer =
       λ q. part_holds Answers basis.rows basis.contract (spread q) p t names (g q).0 (g q).1.0 in
       let apart : Q → AreApart (longer ++ names_in (flattened_fields fields_at ps)) =
@@ -250,10 +253,10 @@ module _ (Q : Type 0) (Answers : Ask → Data → Type 0) (basis : Basis)
   -- ---- enums
 
   abbrev IsPlainContent : Payload → Type 0
-  IsPlainContent p = IsPlainPayload (spread_payload fields_at p) × PlainParts (payload_parts p)
+  IsPlainContent p = IsPlainPayload (spread_payload fields_at enums_at p) × PlainParts (payload_parts p)
 
   abbrev ArePlainContents : List Variant → Type 0
-  ArePlainContents xs = ArePlainVariants (map (spread_variant fields_at) xs) × PlainParts (variant_parts xs)
+  ArePlainContents xs = ArePlainVariants (map (spread_variant fields_at enums_at) xs) × PlainParts (variant_parts xs)
 
   parts-first : (ps rs : List Flattened) → PlainParts (ps ++ rs) → PlainParts ps
   parts-first [] rs h = tt
@@ -333,7 +336,7 @@ module _ (Q : Type 0) (Answers : Ask → Data → Type 0) (basis : Basis)
 
   -- beside the tag
   tagged_as_schema : (tag name : Text) (closed : Bool) (p : Payload) → IsNotedPayload p
-      → (Q → IsPlainContent p × IsTagged tag (spread_payload fields_at p))
+      → (Q → IsPlainContent p × IsTagged tag (spread_payload fields_at enums_at p))
       → Schema (tagged tag name closed (content_template basis.contract p))
   unfolding found_in
   tagged_as_schema tag name closed no_payload h g =
@@ -351,7 +354,7 @@ module _ (Q : Type 0) (Answers : Ask → Data → Type 0) (basis : Basis)
   )
 
   abbrev AreTaggedContents : Text → List Variant → Type 0
-  AreTaggedContents tag xs = ArePlainContents xs × AreTagged tag (map (spread_variant fields_at) xs)
+  AreTaggedContents tag xs = ArePlainContents xs × AreTagged tag (map (spread_variant fields_at enums_at) xs)
 
   internals_as_items : (tag : Text) (closed : Bool) (xs : List Variant) → AreNotedVariants xs → (Q → AreTaggedContents tag xs)
       → EachSchema (templates_of (map (internal_item basis.contract tag closed) xs))
@@ -492,7 +495,7 @@ among_parts basis e notes ts h x i =
 
 -- each reference of an answer stands in the document
 pub parts_among : (basis : Basis) (e : Entry) → IsPlainEntry basis.rows (Some e) → (Answers : Ask → Data → Type 0)
-    → AnswersFields (row_fields basis.rows) basis.rows basis.contract Answers → (ts : List Data)
+    → AnswersFields (flattened_in basis.rows) basis.rows basis.contract Answers → (ts : List Data)
     → AreAnswered Answers (asks_of (entry_template basis e)) ts
     → Among (references_of ts) (references (filled (entry_template basis e) ts))
 parts_among basis e plain Answers spread ts answers x i =

@@ -12,14 +12,15 @@ use Rattle.schemars_parts.proofs.Schemas.{flattened_part-schema, opened_inside-s
 use Rattle.schemars_shapes.specs.Shape.{Entry}
 use Rattle.schemars_types.specs.Rows.{Row, entry_at}
 use Rattle.schemars_documents.specs.Documents.{reference}
-use Rattle.schemars_documents.specs.PlainTable.{IsPlainEntry, IsPlainTable}
+use Rattle.schemars_types.specs.Meaning.{Contract}
+use Rattle.schemars_documents.specs.PlainTable.{IsPlainEntry, IsPlainTable, IsEntryUnder, IsPlainUnder}
 use Rattle.schemars_templates.specs.Basis.{Basis}
 use Rattle.schemars_templates.specs.Template.{Ask, filled}
 use Rattle.schemars_templates.specs.OfShape.{entry_template}
 use Rattle.schemars_templates.specs.Describes.{IsAnswered, IsWritten, Describes}
 use Rattle.schemars_meaning.proofs.Parts.{answer_holds, described_holds, written_holds}
 use Rattle.schemars_parts.proofs.References.{flattened_part-refers, opened_inside-refers}
-use Rattle.schemars_meaning.proofs.References.{IsNoted, plain_noted, all_refer}
+use Rattle.schemars_meaning.proofs.References.{IsNoted, plain_noted, plain-shape_noted, all_refer}
 use Rattle.schemars_meaning.proofs.Schemas.{AreSchemas, filled_schema}
 
 -- all notes of a row are annotations, and a literal is plain
@@ -36,6 +37,13 @@ plain_rows rows plain n = go (entry_at rows n) (plain n)
     go : (o : Option Entry) → IsPlainEntry rows o → IsNotedRow o
     go None h = tt
     go (Some e) h = plain_noted rows e h
+
+pub under_rows : (contract : Contract) (rows : List Row) → IsPlainUnder contract rows → AreNotedRows rows
+under_rows contract rows plain n = go (entry_at rows n) (plain n)
+  where
+    go : (o : Option Entry) → IsEntryUnder contract rows o → IsNotedRow o
+    go None h = tt
+    go (Some e) h = (h.0, plain-shape_noted rows e.shape h.1)
 
 module _ (P : Data → Type 0) where
   -- a schema whose references pass

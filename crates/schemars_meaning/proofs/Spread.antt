@@ -34,7 +34,7 @@ pub record IsFieldsDocument (Written : ℕ → Data → Type 0) (contract : Cont
   pub is : s ≡ noted_by notes (struct_document contract list parts closed)
 
 -- what an open struct answers where it is flattened and has to be there: the document of a map with the fields that it has
-abbrev pub AnswersFields : (ℕ → List Field) → List Row → Contract → (Ask → Data → Type 0) → Type 0
+abbrev pub AnswersFields : (Flattened → List Field) → List Row → Contract → (Ask → Data → Type 0) → Type 0
 AnswersFields has rows contract Answers =
     (p : Flattened) (t : Data) → IsPlainPart rows p → Answers (members_of p.ty true) t
-    → IsFieldsDocument (λ j. Answers (part j)) contract (has p.ty) false t
+    → IsFieldsDocument (λ j. Answers (part j)) contract (has p) false t

@@ -17,7 +17,7 @@ use Rattle.schemars_flatten.specs.Flatten.{flattened}
 use Rattle.schemars_shapes.specs.Shape.{Field, Flattened, Fields}
 use Rattle.schemars_types.specs.Rows.{Row}
 use Rattle.schemars_types.specs.Meaning.{Contract, Deserialize, Serialize, is_required}
-use Rattle.schemars_types.specs.Effective.{flattened_fields, effective, row_fields}
+use Rattle.schemars_types.specs.Effective.{flattened_fields, effective, flattened_in}
 use Rattle.schemars_documents.specs.Documents.{Keyword, required_names, annotated}
 use Rattle.schemars_documents.specs.PlainTable.{IsNoName, AreDistinct, AreNoted, IsPlainPart, ArePlainParts}
 use Rattle.schemars_templates.specs.Template.{Template, Ask, part, members_of, finished, asked, list, members, nullable, noted}
@@ -293,7 +293,7 @@ module _ (Answers : Ask → Data → Type 0) where
 
   -- ---- flattened rows
 
-  module _ (rows : List Row) (contract : Contract) (spread : AnswersFields (row_fields rows) rows contract Answers) where
+  module _ (rows : List Row) (contract : Contract) (spread : AnswersFields (flattened_in rows) rows contract Answers) where
     abbrev at : Flattened → Ask
     at p = members_of p.ty (is_required contract p.required)
 
@@ -320,7 +320,7 @@ module _ (Answers : Ask → Data → Type 0) where
 
     -- the fields of one row more
     pub part_holds : (p : Flattened) (t : Template) (names : List Text) → IsMapAt t names → IsPlainPart rows p
-        → IsMapAt (with_keywords t (asked (at p))) (names ++ names_in (row_fields rows p.ty))
+        → IsMapAt (with_keywords t (asked (at p))) (names ++ names_in (flattened_in rows p))
     part_holds p t names is plain rest ts h = go (left t ts) refl (answered_left Answers t (at p ∷ rest) ts answers)
       where
         answers : AreAnswered Answers (asks_of t ++ at p ∷ rest) ts
@@ -330,7 +330,7 @@ module _ (Answers : Ask → Data → Type 0) where
         m = is (at p ∷ rest) ts answers
 
         fields : List Field
-        fields = row_fields rows p.ty
+        fields = flattened_in rows p
 
         whole : (d : Data) (us : List Data) → left t ts ≡ d ∷ us → IsFieldsDocument (λ j. Answers (part j)) contract fields false d
             → HoldsMap (with_keywords t (asked (at p))) (names ++ names_in fields) ts
@@ -377,26 +377,26 @@ module _ (Answers : Ask → Data → Type 0) where
             whole d us same (spread p d plain (subst (λ b. Answers (members_of p.ty b) d) (plain_required p plain) answer.0))
 
     abbrev pub spread_names : List Flattened → List Text
-    spread_names ps = names_in (flattened_fields (row_fields rows) ps)
+    spread_names ps = names_in (flattened_fields (flattened_in rows) ps)
 
     pub more_names : (p : Flattened) (ps : List Flattened) (names : List Text)
-        → (names ++ names_in (row_fields rows p.ty)) ++ spread_names ps ≡ names ++ spread_names (p ∷ ps)
-    more_names p ps names = append_assoc names (names_in (row_fields rows p.ty)) (spread_names ps)
-        ∙ ap (λ ks. names ++ ks) (sym (map-append (λ x. x.name) (row_fields rows p.ty) (flattened_fields (row_fields rows) ps)))
+        → (names ++ names_in (flattened_in rows p)) ++ spread_names ps ≡ names ++ spread_names (p ∷ ps)
+    more_names p ps names = append_assoc names (names_in (flattened_in rows p)) (spread_names ps)
+        ∙ ap (λ ks. names ++ ks) (sym (map-append (λ x. x.name) (flattened_in rows p) (flattened_fields (flattened_in rows) ps)))
 
     parts_hold : (ps : List Flattened) (t : Template) (names : List Text) → IsMapAt t names → ArePlainParts rows ps
         → IsMapAt (with_flattened contract ps t) (names ++ spread_names ps)
     parts_hold [] t names is plain = subst (IsMapAt t) (sym (append-nil names)) is
     parts_hold (p ∷ ps) t names is plain =
         subst (IsMapAt (with_flattened contract (p ∷ ps) t)) (more_names p ps names)
-        (parts_hold ps (with_keywords t (asked (at p))) (names ++ names_in (row_fields rows p.ty))
+        (parts_hold ps (with_keywords t (asked (at p))) (names ++ names_in (flattened_in rows p))
         (part_holds p t names is plain.0) plain.1)
 
     -- the fields of flattened rows among its own
     pub struct_holds : (x : Fields) → AreNoted x.list → ArePlainParts rows x.flatten
-        → IsMapAt (struct_template contract x) (names_in (effective (row_fields rows) x))
+        → IsMapAt (struct_template contract x) (names_in (effective (flattened_in rows) x))
     struct_holds x notes plain =
         subst (IsMapAt (struct_template contract x))
-        (sym (map-append (λ y. y.name) x.list (flattened_fields (row_fields rows) x.flatten)))
+        (sym (map-append (λ y. y.name) x.list (flattened_fields (flattened_in rows) x.flatten)))
         (parts_hold x.flatten (fields_template contract x.list x.closed) (names_in x.list)
         (map_holds x.list (required_names contract x.list) x.closed notes) plain)

@@ -90,7 +90,7 @@ plain-with_null ms p =
       not_form = rw (at (codes "not") refl refl refl) p.not_form;
     }
 
--- a schema to which null can be added under each draft, that combines schemas without a type or is plain
+-- a schema to which null can be added under each draft: it combines schemas, and its type is not null, or it is plain
 abbrev pub IsReady : Data → Type 0
 IsReady null = ⊥
 IsReady (boolean b) = Unit {0}
@@ -98,7 +98,8 @@ IsReady (number n) = ⊥
 IsReady (string s) = ⊥
 IsReady (array ds) = ⊥
 IsReady (object ms) =
-    (((dialect : Dialect) → IsDraft dialect → IsChoice dialect ms) × (get_member (codes "type") ms ≡ None)) ⊎ IsPlain ms
+    (((dialect : Dialect) → IsDraft dialect → IsChoice dialect ms)
+    × (is_text (codes "null") (option_and_then as_str (get_member (codes "type") ms)) ≡ false)) ⊎ IsPlain ms
 
 ready_nullable : (dialect : Dialect) → IsDraft dialect → (t : Data) → IsReady t → IsNullable dialect t
 ready_nullable dialect draft (boolean b) r = tt
@@ -201,7 +202,7 @@ ready_null : (dialect : Dialect) → IsDraft dialect → (t : Data) → IsReady 
 ready_null dialect draft (boolean b) r is = absurd (true≢false (sym is))
 ready_null dialect draft (object ms) (inl choice) is =
     let typed : is_text (codes "null") (option_and_then as_str (get_member (codes "type") ms)) ≡ true = (and-parts _ _ is).0 in
-    absurd (true≢false (sym typed ∙ ap (λ o. is_text (codes "null") (option_and_then as_str o)) choice.1))
+    absurd (true≢false (sym typed ∙ choice.1))
 ready_null dialect draft (object ms) (inr p) is = plain_null ms p is dialect draft
 ready_null dialect draft null r is = absurd r
 ready_null dialect draft (number n) r is = absurd r

@@ -1,12 +1,13 @@
 -- Which documents belong to a row of a table.
-use Rattle.std.specs.Prelude.{◌≡◌, ◌⊎◌, ◌&&◌, ℕ, zero, suc, List, [], ◌∷◌, ◌++◌, length, Bool, true, false, not, Option, Some}
-use Rattle.std.specs.Prelude.{None, is_some}
+use Rattle.std.specs.Prelude.{◌≡◌, ◌⊎◌, ◌&&◌, ℕ, zero, suc, List, [], ◌∷◌, ◌++◌, Bool, true, false, not, Option, Some, None}
+use Rattle.std.specs.Prelude.{is_some}
 use Rattle.serde_json.specs.Data.{Data}
 use Rattle.schemars_json.specs.Json.{Text}
 use Rattle.schemars_schema.specs.References.{references}
 use Rattle.schemars_shapes.specs.Shape.{Entry}
 use Rattle.schemars_types.specs.Rows.{Row, entry_at}
 use Rattle.schemars_types.specs.Edges.{option_at}
+pub use Rattle.schemars_types.specs.Effective.{without_options_within, without_options}
 use Rattle.schemars_parts.specs.Opening.{opened_inside, stands_in_place}
 use Rattle.schemars_parts.specs.Parts.{flattened_part}
 use Rattle.schemars_documents.specs.Documents.{reference}
@@ -31,14 +32,6 @@ IsOwnDocument Answers basis None s = ⊥
 IsOwnDocument Answers basis (Some e) s = Fills Answers (entry_template basis e) s
 
 -- ---- what is answered
-
--- row n without the Options around it
-abbrev pub without_options_within : List Row → ℕ → ℕ → ℕ
-without_options_within rows zero n = n
-without_options_within rows (suc steps) n = elim (option_at rows n) [ None ↦ n | Some m ↦ without_options_within rows steps m ]
-
-abbrev pub without_options : List Row → ℕ → ℕ
-without_options rows n = without_options_within rows (length rows) n
 
 -- the members of an Option may be missing, unless they have to be there
 abbrev pub are_optional : List Row → ℕ → Bool → Bool

@@ -9,7 +9,7 @@ use Rattle.schemars_shapes.specs.declared.shape.IntKind.TheVariants.{I8, U8, U12
 use Rattle.schemars_shapes.specs.Shape as shape
 use Rattle.schemars_shapes.specs.Shape.{Shape, Field, Fields, Variant, no_payload, newtype_payload, struct_payload, in_place, bare_fields, needed}
 use Rattle.schemars_types.specs.Rows.{Row}
-use Rattle.schemars_types.specs.Effective.{fields_within}
+use Rattle.schemars_types.specs.Effective.{fields_within, enums_within}
 use Rattle.schemars_types.specs.Meaning.{Contract, Deserialize, Serialize, belongs, belongs_within}
 
 -- row 0 has the bytes, and row 1 this shape
@@ -295,45 +295,45 @@ TellsMapsApart s ms ns = (has_flat s ms ≡ true) × (has_flat s ns ≡ false)
 flattened_members : TellsMapsApart (shape.struct (flattening "z" 1 false))
     (member_of "a" (whole 1) ∷ member_of "q" null ∷ member_of "z" (whole 1) ∷ [])
     (member_of "b" (whole 1) ∷ member_of "z" (whole 1) ∷ [])
-unfolding TellsMapsApart has_flat flat_table flattening belongs_within fields_within whole fields member_of
+unfolding TellsMapsApart has_flat flat_table flattening belongs_within fields_within enums_within whole fields member_of
 flattened_members = (refl, refl)
 
 own_beside_flattened : TellsMapsApart (shape.struct (flattening "z" 1 false))
     (member_of "a" (whole 1) ∷ member_of "z" (whole 255) ∷ [])
     (member_of "a" (whole 1) ∷ [])
-unfolding TellsMapsApart has_flat flat_table flattening belongs_within fields_within whole fields member_of
+unfolding TellsMapsApart has_flat flat_table flattening belongs_within fields_within enums_within whole fields member_of
 own_beside_flattened = (refl, refl)
 
 flattened_types : TellsMapsApart (shape.struct (flattening "z" 1 false))
     (member_of "a" (whole 1) ∷ member_of "b" (whole 2) ∷ member_of "z" (whole 1) ∷ [])
     (member_of "a" (whole 1) ∷ member_of "b" null ∷ member_of "z" (whole 1) ∷ [])
-unfolding TellsMapsApart has_flat flat_table flattening belongs_within fields_within whole fields member_of
+unfolding TellsMapsApart has_flat flat_table flattening belongs_within fields_within enums_within whole fields member_of
 flattened_types = (refl, refl)
 
 -- the members of the flattened struct are no other keys
 closed_with_flattened : TellsMapsApart (shape.struct (flattening "z" 1 true))
     (member_of "a" (whole 1) ∷ member_of "b" (whole 2) ∷ member_of "z" (whole 1) ∷ [])
     (member_of "a" (whole 1) ∷ member_of "q" null ∷ member_of "z" (whole 1) ∷ [])
-unfolding TellsMapsApart has_flat flat_table flattening belongs_within fields_within whole fields member_of
+unfolding TellsMapsApart has_flat flat_table flattening belongs_within fields_within enums_within whole fields member_of
 closed_with_flattened = (refl, refl)
 
 -- members of a struct inside a flattened struct
 flattened_twice : TellsMapsApart (shape.struct (flattening "z" 2 false))
     (member_of "a" (whole 1) ∷ member_of "q" null ∷ member_of "y" (whole 1) ∷ member_of "z" (whole 1) ∷ [])
     (member_of "b" (whole 1) ∷ member_of "y" (whole 1) ∷ member_of "z" (whole 1) ∷ [])
-unfolding TellsMapsApart has_flat flat_table flattening belongs_within fields_within whole fields member_of
+unfolding TellsMapsApart has_flat flat_table flattening belongs_within fields_within enums_within whole fields member_of
 flattened_twice = (refl, refl)
 
 types_flattened_twice : TellsMapsApart (shape.struct (flattening "z" 2 false))
     (member_of "a" (whole 1) ∷ member_of "b" (whole 2) ∷ member_of "y" (whole 1) ∷ member_of "z" (whole 1) ∷ [])
     (member_of "a" (whole 1) ∷ member_of "b" null ∷ member_of "y" (whole 1) ∷ member_of "z" (whole 1) ∷ [])
-unfolding TellsMapsApart has_flat flat_table flattening belongs_within fields_within whole fields member_of
+unfolding TellsMapsApart has_flat flat_table flattening belongs_within fields_within enums_within whole fields member_of
 types_flattened_twice = (refl, refl)
 
 closed_with_flattened_twice : TellsMapsApart (shape.struct (flattening "z" 2 true))
     (member_of "a" (whole 1) ∷ member_of "b" (whole 2) ∷ member_of "y" (whole 1) ∷ member_of "z" (whole 1) ∷ [])
     (member_of "a" (whole 1) ∷ member_of "q" null ∷ member_of "y" (whole 1) ∷ member_of "z" (whole 1) ∷ [])
-unfolding TellsMapsApart has_flat flat_table flattening belongs_within fields_within whole fields member_of
+unfolding TellsMapsApart has_flat flat_table flattening belongs_within fields_within enums_within whole fields member_of
 closed_with_flattened_twice = (refl, refl)
 
 -- a tag beside the members of row 1
@@ -343,20 +343,20 @@ tagged_content =
 
 contents_need_tags : TellsMapsApart tagged_content (member_of "a" (whole 1) ∷ member_of "t" (text "C") ∷ [])
     (member_of "a" (whole 1) ∷ [])
-unfolding TellsMapsApart has_flat flat_table flattening belongs_within fields_within whole text fields member_of tagged_content
+unfolding TellsMapsApart has_flat flat_table flattening belongs_within fields_within enums_within whole text fields member_of tagged_content
 contents_need_tags = (refl, refl)
 
 -- another name under the tag
 contents_by_name : TellsMapsApart tagged_content
     (member_of "a" (whole 1) ∷ member_of "q" null ∷ member_of "t" (text "C") ∷ [])
     (member_of "a" (whole 1) ∷ member_of "t" (text "D") ∷ [])
-unfolding TellsMapsApart has_flat flat_table flattening belongs_within fields_within whole text fields member_of tagged_content
+unfolding TellsMapsApart has_flat flat_table flattening belongs_within fields_within enums_within whole text fields member_of tagged_content
 contents_by_name = (refl, refl)
 
 content_types : TellsMapsApart tagged_content
     (member_of "a" (whole 1) ∷ member_of "b" (whole 2) ∷ member_of "t" (text "C") ∷ [])
     (member_of "a" null ∷ member_of "t" (text "C") ∷ [])
-unfolding TellsMapsApart has_flat flat_table flattening belongs_within fields_within whole text fields member_of tagged_content
+unfolding TellsMapsApart has_flat flat_table flattening belongs_within fields_within enums_within whole text fields member_of tagged_content
 content_types = (refl, refl)
 
 -- ---- literals

@@ -1,55 +1,116 @@
--- The fields of a struct together with those of the structs that are flattened into it.
-use Rattle.std.specs.Prelude.{ℕ, zero, suc, List, [], ◌∷◌, ◌++◌, map, length}
+-- The fields of a struct together with those of the structs that are flattened into it, and the enums among its members.
+use Rattle.std.specs.Prelude.{ℕ, zero, suc, List, [], ◌∷◌, ◌++◌, map, length, true, Some, None, is_some, ◌&&◌, if◌then◌else◌}
 use Rattle.std.specs.Option.{option_map_or}
-use Rattle.schemars_shapes.specs.Shape.{Field, Flattened, Fields, Shape, struct, external, untagged, internal}
+use Rattle.schemars_shapes.specs.Shape.{Required, Field, Flattened, Fields, Shape, struct, external, untagged, internal}
 use Rattle.schemars_shapes.specs.Shape.{Payload, Variant, no_payload, newtype_payload, tuple_payload, struct_payload}
 use Rattle.schemars_types.specs.Rows.{Row, entry_at}
+use Rattle.schemars_types.specs.Edges.{option_at}
 
--- below, `part` says which fields the row of a number has
+-- row n without the Options around it
+abbrev pub without_options_within : List Row → ℕ → ℕ → ℕ
+without_options_within rows zero n = n
+without_options_within rows (suc steps) n = elim (option_at rows n) [ None ↦ n | Some m ↦ without_options_within rows steps m ]
 
-abbrev pub flattened_fields : (ℕ → List Field) → List Flattened → List Field
+abbrev pub without_options : List Row → ℕ → ℕ
+without_options rows n = without_options_within rows (length rows) n
+
+-- ---- fields
+
+-- below, `part` says which fields a flattened row has
+
+abbrev pub flattened_fields : (Flattened → List Field) → List Flattened → List Field
 flattened_fields part [] = []
-flattened_fields part (p ∷ ps) = part p.ty ++ flattened_fields part ps
+flattened_fields part (p ∷ ps) = part p ++ flattened_fields part ps
 
 -- its own fields, and those of each flattened row
-abbrev pub effective : (ℕ → List Field) → Fields → List Field
+abbrev pub effective : (Flattened → List Field) → Fields → List Field
 effective part x = x.list ++ flattened_fields part x.flatten
 
+-- a field that has to be there only where its row has to
+abbrev pub weakened : Required → Field → Field
+weakened r f = record {
+  name = f.name;
+  ty = f.ty;
+  required = record { deserialize = r.deserialize && f.required.deserialize; serialize = r.serialize && f.required.serialize };
+  notes = f.notes;
+}
+
+-- the fields of a flattened Option may all be missing, unless it has to be there
+abbrev pub part_fields : List Row → (ℕ → List Field) → Flattened → List Field
+part_fields rows own p =
+    if is_some (option_at rows p.ty) then map (weakened p.required) (own (without_options rows p.ty)) else own (without_options rows p.ty)
+
 -- a shape that is no struct has no fields to flatten
-abbrev pub shape_fields : (ℕ → List Field) → Shape → List Field
+abbrev pub shape_fields : (Flattened → List Field) → Shape → List Field
 shape_fields part (struct x) = effective part x
 shape_fields part _ = []
 
 -- row n is asked, and others at most `steps` deep
 unfoldable pub fields_within : List Row → ℕ → ℕ → List Field
 fields_within rows zero n = []
-fields_within rows (suc steps) n = option_map_or (λ e. shape_fields (fields_within rows steps) e.shape) (entry_at rows n) []
+fields_within rows (suc steps) n =
+    option_map_or (λ e. shape_fields (part_fields rows (fields_within rows steps)) e.shape) (entry_at rows n) []
 
 -- in a table without faults no row is asked twice on the way down
 abbrev pub row_fields : List Row → ℕ → List Field
 row_fields rows n = fields_within rows (length rows) n
 
--- ---- shapes with the flattened fields among their own
+abbrev pub flattened_in : List Row → Flattened → List Field
+flattened_in rows = part_fields rows (row_fields rows)
 
-abbrev pub spread_fields : (ℕ → List Field) → Fields → Fields
-spread_fields part x = record { list = effective part x; flatten = []; closed = x.closed }
+-- ---- enums
 
-abbrev pub spread_payload : (ℕ → List Field) → Payload → Payload
-spread_payload part no_payload = no_payload
-spread_payload part (newtype_payload n) = newtype_payload n
-spread_payload part (tuple_payload ns) = tuple_payload ns
-spread_payload part (struct_payload x) = struct_payload (spread_fields part x)
+-- below, `part` says which enums stand in a flattened row
 
-abbrev pub spread_variant : (ℕ → List Field) → Variant → Variant
-spread_variant part x = record { name = x.name; payload = spread_payload part x.payload; notes = x.notes }
+abbrev pub flattened_enums : (Flattened → List ℕ) → List Flattened → List ℕ
+flattened_enums part [] = []
+flattened_enums part (p ∷ ps) = part p ++ flattened_enums part ps
 
-abbrev pub spread : (ℕ → List Field) → Shape → Shape
-spread part (struct x) = struct (spread_fields part x)
-spread part (external xs) = external (map (spread_variant part) xs)
-spread part (untagged xs) = untagged (map (spread_variant part) xs)
-spread part (internal tag closed xs) = internal tag closed (map (spread_variant part) xs)
-spread part s = s
+-- those among the members of a struct; an enum that is told by its names or by a tag is one itself
+abbrev pub shape_enums : (Flattened → List ℕ) → ℕ → Shape → List ℕ
+shape_enums part n (struct x) = flattened_enums part x.flatten
+shape_enums part n (external xs) = n ∷ []
+shape_enums part n (internal tag closed xs) = n ∷ []
+shape_enums part n _ = []
+
+-- row n is asked, and others at most `steps` deep
+unfoldable pub enums_within : List Row → ℕ → ℕ → List ℕ
+enums_within rows zero n = []
+enums_within rows (suc steps) n =
+    option_map_or (λ e. shape_enums (λ p. enums_within rows steps (without_options rows p.ty)) n e.shape) (entry_at rows n) []
+
+-- in a table without faults no row is asked twice on the way down
+abbrev pub part_enums : List Row → Flattened → List ℕ
+part_enums rows p = enums_within rows (length rows) (without_options rows p.ty)
+
+-- ---- shapes with the flattened fields among their own, into which enums alone are flattened
+
+abbrev pub always : Required
+always = record { deserialize = true; serialize = true }
+
+abbrev pub enum_at : ℕ → Flattened
+enum_at n = record { ty = n; required = always }
+
+abbrev pub spread_fields : (Flattened → List Field) → (Flattened → List ℕ) → Fields → Fields
+spread_fields part enums x =
+    record { list = effective part x; flatten = map enum_at (flattened_enums enums x.flatten); closed = x.closed }
+
+abbrev pub spread_payload : (Flattened → List Field) → (Flattened → List ℕ) → Payload → Payload
+spread_payload part enums no_payload = no_payload
+spread_payload part enums (newtype_payload n) = newtype_payload n
+spread_payload part enums (tuple_payload ns) = tuple_payload ns
+spread_payload part enums (struct_payload x) = struct_payload (spread_fields part enums x)
+
+abbrev pub spread_variant : (Flattened → List Field) → (Flattened → List ℕ) → Variant → Variant
+spread_variant part enums x = record { name = x.name; payload = spread_payload part enums x.payload; notes = x.notes }
+
+abbrev pub spread : (Flattened → List Field) → (Flattened → List ℕ) → Shape → Shape
+spread part enums (struct x) = struct (spread_fields part enums x)
+spread part enums (external xs) = external (map (spread_variant part enums) xs)
+spread part enums (untagged xs) = untagged (map (spread_variant part enums) xs)
+spread part enums (internal tag closed xs) = internal tag closed (map (spread_variant part enums) xs)
+spread part enums s = s
 
 -- in a table
 abbrev pub spread_in : List Row → Shape → Shape
-spread_in rows s = spread (row_fields rows) s
+spread_in rows s = spread (flattened_in rows) (part_enums rows) s

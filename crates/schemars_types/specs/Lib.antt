@@ -6,6 +6,7 @@ pub mod Version
 pub mod KeyOptions
 pub mod Effective
 pub mod Meaning
+pub mod OpenStructs
 pub mod Edges
 pub mod Faults
 pub mod Extends

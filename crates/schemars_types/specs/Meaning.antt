@@ -1,5 +1,5 @@
 -- Which JSON values belong to a type of a table.
-use Rattle.std.specs.Prelude.{ℕ, zero, suc, ◌+◌, ◌*◌, ◌&&◌, ◌||◌, ◌==◌, ℤ, pos, negsuc, List, [], ◌∷◌, length, find}
+use Rattle.std.specs.Prelude.{ℕ, zero, suc, ◌+◌, ◌*◌, ◌&&◌, ◌||◌, ◌==◌, ℤ, pos, negsuc, List, [], ◌∷◌, length, map, find}
 use Rattle.std.specs.Prelude.{Bool, true, false, not, int_le, nat_le, Option, Some, None, is_some, bytes_eq, if◌then◌else◌, codes}
 use Rattle.std.specs.List.{list_all, list_any}
 use Rattle.std.specs.Option.{option_map_or}
@@ -11,7 +11,7 @@ use Rattle.schemars_schema.specs.SchemaData.{is_schema}
 use Rattle.schemars_schema.specs.Edits.{without}
 use Rattle.schemars_schema.specs.Acceptance.{Patterns, is_null, whole_number, code_points}
 use Rattle.schemars_schema.specs.Literal.{has_literal}
-use Rattle.schemars_shapes.specs.Shape.{Required, Field, Shape, null, bool, int, non_zero, number, text, char}
+use Rattle.schemars_shapes.specs.Shape.{Required, Field, Flattened, Shape, null, bool, int, non_zero, number, text, char}
 use Rattle.schemars_shapes.specs.Shape.{formatted, any, bytes, schema_itself, option, seq, set, array as array_shape}
 use Rattle.schemars_shapes.specs.Shape.{up_to, tuple, struct, newtype, result, bound}
 use Rattle.schemars_shapes.specs.Shape.{range, either, map_from, external, untagged, internal, literal, needed}
@@ -90,11 +90,6 @@ member_fits part list closed k v = option_map_or (λ f. part f.ty v) (field_name
 abbrev pub has_required : Contract → List Field → Members → Bool
 has_required contract list ms = list_all (λ f. not (is_required contract f.required) || is_some (get_member f.name ms)) list
 
--- a map with these fields
-abbrev pub has_fields : Contract → (ℕ → Data → Bool) → List Field → Bool → Data → Bool
-has_fields contract part list closed v =
-    holds (as_object v) (λ ms. every_member (member_fits part list closed) ms && has_required contract list ms)
-
 abbrev pub none : List Bool → Bool
 none [] = true
 none (b ∷ bs) = not b && none bs
@@ -103,110 +98,188 @@ abbrev pub exactly_one : List Bool → Bool
 exactly_one [] = false
 exactly_one (b ∷ bs) = if b then none bs else exactly_one bs
 
+-- ---- enums among the members of a map
+
+-- what a variant offers of a map: whether the variant fits it, and which keys belong to the variant
+pub record Choice : Type 0 where
+  pub fits : Bool
+  pub has_key : Text → Bool
+
+-- of each enum just one variant fits
+abbrev pub every_part : List (List Choice) → Bool
+every_part [] = true
+every_part (choices ∷ parts) = exactly_one (map (λ choice. choice.fits) choices) && every_part parts
+
+-- the key belongs to a variant that fits
+abbrev pub claimed_by : List Choice → Text → Bool
+claimed_by choices k = list_any (λ choice. choice.fits && choice.has_key k) choices
+
+abbrev pub claims : List (List Choice) → Text → Bool
+claims [] k = false
+claims (choices ∷ parts) k = claimed_by choices k || claims parts k
+
+-- a key is refused that is neither a field's nor a variant's
+abbrev pub shut : Bool → List (List Choice) → Text → Bool
+shut closed parts k = not (claims parts k) && closed
+
+-- what the enums flattened into a map offer of it, where `choices n` is what the variants of row n do
+abbrev pub offers : (ℕ → Data → List Choice) → List Flattened → Data → List (List Choice)
+offers choices flatten v = map (λ p. choices p.ty v) flatten
+
+-- ---- maps with fields
+
+-- a map with these fields, and with these enums among its members
+abbrev pub has_fields : Contract → (ℕ → Data → Bool) → List (List Choice) → List Field → Bool → Data → Bool
+has_fields contract part parts list closed v = holds (as_object v) (λ ms. every_part parts
+    && (every_member (λ k w. member_fits part list (shut closed parts k) k w) ms && has_required contract list ms))
+
 abbrev pub is_text : Text → Data → Bool
 is_text t v = holds (as_str v) (bytes_eq t)
 
 -- what a variant has beside its name; null where it has nothing
-abbrev pub has_payload : Contract → (ℕ → Data → Bool) → Payload → Data → Bool
-has_payload contract part no_payload v = is_null v
-has_payload contract part (newtype_payload n) v = part n v
-has_payload contract part (tuple_payload ns) v = holds (as_array v) (each_of part ns)
-has_payload contract part (struct_payload x) v = has_fields contract part x.list x.closed v
+abbrev pub has_payload : Contract → (ℕ → Data → Bool) → (ℕ → Data → List Choice) → Payload → Data → Bool
+has_payload contract part choices no_payload v = is_null v
+has_payload contract part choices (newtype_payload n) v = part n v
+has_payload contract part choices (tuple_payload ns) v = holds (as_array v) (each_of part ns)
+has_payload contract part choices (struct_payload x) v = has_fields contract part (offers choices x.flatten v) x.list x.closed v
 
 -- a map with this key alone, whose value passes
 abbrev pub is_map_of : Text → (Data → Bool) → Data → Bool
 is_map_of k p v = holds (as_object v) (λ ms. is_some (get_member k ms) && every_member (λ l w. bytes_eq k l && p w) ms)
 
 -- a unit is its name, and another variant a map with its name as key
-abbrev pub has_variant : Contract → (ℕ → Data → Bool) → Data → Variant → Bool
-has_variant contract part v x = elim x.payload [
+abbrev pub has_variant : Contract → (ℕ → Data → Bool) → (ℕ → Data → List Choice) → Data → Variant → Bool
+has_variant contract part choices v x = elim x.payload [
   | no_payload ↦ is_text x.name v
   | newtype_payload n ↦ is_map_of x.name (part n) v
-  | tuple_payload ns ↦ is_map_of x.name (has_payload contract part (tuple_payload ns)) v
-  | struct_payload y ↦ is_map_of x.name (has_payload contract part (struct_payload y)) v
+  | tuple_payload ns ↦ is_map_of x.name (has_payload contract part choices (tuple_payload ns)) v
+  | struct_payload y ↦ is_map_of x.name (has_payload contract part choices (struct_payload y)) v
 ]
 
 -- the tag has this name, and another member is a field's, or free where there is no end to the keys
 abbrev pub tagged_fits : (ℕ → Data → Bool) → List Field → Bool → Text → Text → Text → Data → Bool
 tagged_fits part list closed tag name k v = if bytes_eq tag k then is_text name v else member_fits part list closed k v
 
--- a map with this name under the tag, and with these fields beside it
-abbrev pub has_tagged : Contract → (ℕ → Data → Bool) → Text → List Field → Bool → Text → Data → Bool
-has_tagged contract part tag list closed name v = holds (as_object v) (λ ms.
-    is_some (get_member tag ms) && (every_member (tagged_fits part list closed tag name) ms && has_required contract list ms))
+-- a map with this name under the tag, and with these fields and enums beside it
+abbrev pub has_tagged : Contract → (ℕ → Data → Bool) → List (List Choice) → Text → List Field → Bool → Text → Data → Bool
+has_tagged contract part parts tag list closed name v = holds (as_object v) (λ ms. is_some (get_member tag ms) && (every_part parts
+    && (every_member (λ k w. tagged_fits part list (shut closed parts k) tag name k w) ms && has_required contract list ms)))
 
 -- the fields of a variant that is tagged inside its map; a unit has none
 abbrev pub tagged_fields : Payload → List Field
 tagged_fields (struct_payload x) = x.list
 tagged_fields _ = []
 
--- whether it excludes other keys: a struct says so itself
-abbrev pub tagged_closed : Bool → Payload → Bool
-tagged_closed closed (struct_payload x) = x.closed
-tagged_closed closed _ = closed
-
 -- a map with this name under the tag, whose other members pass as a map of their own
 abbrev pub has_content : (Data → Bool) → Text → Text → Data → Bool
 has_content p tag name v =
     holds (as_object v) (λ ms. holds (get_member tag ms) (is_text name) && p (object (without tag ms)))
 
-abbrev pub has_internal : Contract → (ℕ → Data → Bool) → Text → Bool → Data → Variant → Bool
-has_internal contract part tag closed v x = elim x.payload [
-  | no_payload ↦ has_tagged contract part tag [] closed x.name v
+abbrev pub has_internal : Contract → (ℕ → Data → Bool) → (ℕ → Data → List Choice) → Text → Bool → Data → Variant → Bool
+has_internal contract part choices tag closed v x = elim x.payload [
+  | no_payload ↦ has_tagged contract part [] tag [] closed x.name v
   | newtype_payload n ↦ has_content (part n) tag x.name v
   | tuple_payload ns ↦ false
-  | struct_payload y ↦ has_tagged contract part tag y.list y.closed x.name v
+  | struct_payload y ↦ has_tagged contract part (offers choices y.flatten v) tag y.list y.closed x.name v
 ]
+
+-- ---- the variants of a flattened enum
+
+-- a map with this member, whose value passes
+abbrev pub has_member : Text → (Data → Bool) → Data → Bool
+has_member k p v = holds (as_object v) (λ ms. is_some (get_member k ms) && every_member (λ l w. not (bytes_eq k l) || p w) ms)
+
+-- the name is there, with a value that passes
+abbrev pub member_choice : Text → (Data → Bool) → Data → Choice
+member_choice name p v = record { fits = has_member name p v; has_key = bytes_eq name }
+
+abbrev pub external_choice : Contract → (ℕ → Data → Bool) → (ℕ → Data → List Choice) → Data → Variant → Choice
+external_choice contract part choices v x = member_choice x.name (has_payload contract part choices x.payload) v
+
+abbrev pub is_tagged_map : Contract → (ℕ → Data → Bool) → Text → Data → Variant → Bool
+is_tagged_map contract part tag v x = elim x.payload [
+  | no_payload ↦ has_tagged contract part [] tag [] false x.name v
+  | newtype_payload n ↦ false
+  | tuple_payload ns ↦ false
+  | struct_payload y ↦ has_tagged contract part [] tag y.list false x.name v
+]
+
+-- the name is under the tag, and the variant's fields are there; other keys may stand beside them
+abbrev pub internal_choice : Contract → (ℕ → Data → Bool) → Text → Data → Variant → Choice
+internal_choice contract part tag v x = record {
+  fits = is_tagged_map contract part tag v x;
+  has_key = λ k. bytes_eq tag k || is_some (field_named (tagged_fields x.payload) k);
+}
+
+abbrev pub shape_choices : Contract → (ℕ → Data → Bool) → (ℕ → Data → List Choice) → Shape → Data → List Choice
+shape_choices contract part choices (external xs) v = map (external_choice contract part choices v) xs
+shape_choices contract part choices (internal tag closed xs) v = map (internal_choice contract part tag v) xs
+shape_choices contract part choices _ v = []
+
+-- ---- by shape
 
 -- a map with allowed keys, whose values pass
 abbrev pub has_keys : Patterns → KeyOptions → (Data → Bool) → Data → Bool
 has_keys patterns options p v = holds (as_object v) (every_member (λ k w. is_key_allowed patterns options k && p w))
 
--- the values of a shape without flattened rows, where `part` says which values the rows inside it have, and `keys` which keys
-abbrev pub has_shape : Contract → Patterns → (ℕ → KeyOptions) → (ℕ → Data → Bool) → Shape → Data → Bool
-has_shape contract patterns keys part null v = is_null v
-has_shape contract patterns keys part bool v = is_some (as_bool v)
-has_shape contract patterns keys part (int kind) v = holds (whole_number v) (is_of_kind kind)
-has_shape contract patterns keys part (non_zero kind) v = holds (whole_number v) (λ z. is_of_kind kind z && not (is_zero z))
-has_shape contract patterns keys part number v = is_some (as_number v)
-has_shape contract patterns keys part text v = is_some (as_str v)
-has_shape contract patterns keys part char v = holds (as_str v) (λ s. code_points s == 1)
-has_shape contract patterns keys part (formatted format) v = is_some (as_str v)
-has_shape contract patterns keys part any v = true
-has_shape contract patterns keys part bytes v = holds (as_array v) (every_item is_byte) || is_byte_text contract v
-has_shape contract patterns keys part schema_itself v = is_schema v
-has_shape contract patterns keys part (option n) v = is_null v || part n v
-has_shape contract patterns keys part (seq n) v = holds (as_array v) (every_item (part n))
-has_shape contract patterns keys part (set n) v = holds (as_array v) (λ vs. are_distinct vs && every_item (part n) vs)
-has_shape contract patterns keys part (array_shape n len) v = holds (as_array v) (λ vs. (items_len vs == len) && every_item (part n) vs)
-has_shape contract patterns keys part (up_to n cap) v = holds (as_array v) (λ vs. nat_le (items_len vs) cap && every_item (part n) vs)
-has_shape contract patterns keys part (tuple ns) v = holds (as_array v) (each_of part ns)
-has_shape contract patterns keys part (struct x) v = has_fields contract part x.list x.closed v
-has_shape contract patterns keys part (newtype n) v = part n v
-has_shape contract patterns keys part (result t e) v = exactly_one
-    (has_fields contract part (needed (codes "Ok") t ∷ []) false v ∷ has_fields contract part (needed (codes "Err") e ∷ []) false v ∷ [])
-has_shape contract patterns keys part (bound n) v = exactly_one
-    (has_fields contract part (needed (codes "Included") n ∷ []) false v ∷
-    has_fields contract part (needed (codes "Excluded") n ∷ []) false v ∷ is_text (codes "Unbounded") v ∷ [])
-has_shape contract patterns keys part (range n) v =
-    has_fields contract part (needed (codes "start") n ∷ needed (codes "end") n ∷ []) false v
-has_shape contract patterns keys part (either l r) v = exactly_one
-    (has_fields contract part (needed (codes "Left") l ∷ []) true v ∷ has_fields contract part (needed (codes "Right") r ∷ []) true v ∷ [])
-has_shape contract patterns keys part (map_from key value) v = has_keys patterns (keys key) (part value) v
-has_shape contract patterns keys part (external xs) v = list_any (has_variant contract part v) xs
-has_shape contract patterns keys part (untagged xs) v = list_any (λ x. has_payload contract part x.payload v) xs
-has_shape contract patterns keys part (internal tag closed xs) v = list_any (has_internal contract part tag closed v) xs
-has_shape contract patterns keys part (literal d) v = has_literal patterns d v
+-- the values of a shape into which enums alone are flattened, where `part` says which values the rows inside it have, `choices` what
+-- the variants of an enum offer of a map, and `keys` which keys
+abbrev pub has_shape : Contract → Patterns → (ℕ → KeyOptions) → (ℕ → Data → List Choice) → (ℕ → Data → Bool) → Shape → Data → Bool
+has_shape contract patterns keys choices part null v = is_null v
+has_shape contract patterns keys choices part bool v = is_some (as_bool v)
+has_shape contract patterns keys choices part (int kind) v = holds (whole_number v) (is_of_kind kind)
+has_shape contract patterns keys choices part (non_zero kind) v = holds (whole_number v) (λ z. is_of_kind kind z && not (is_zero z))
+has_shape contract patterns keys choices part number v = is_some (as_number v)
+has_shape contract patterns keys choices part text v = is_some (as_str v)
+has_shape contract patterns keys choices part char v = holds (as_str v) (λ s. code_points s == 1)
+has_shape contract patterns keys choices part (formatted format) v = is_some (as_str v)
+has_shape contract patterns keys choices part any v = true
+has_shape contract patterns keys choices part bytes v = holds (as_array v) (every_item is_byte) || is_byte_text contract v
+has_shape contract patterns keys choices part schema_itself v = is_schema v
+has_shape contract patterns keys choices part (option n) v = is_null v || part n v
+has_shape contract patterns keys choices part (seq n) v = holds (as_array v) (every_item (part n))
+has_shape contract patterns keys choices part (set n) v = holds (as_array v) (λ vs. are_distinct vs && every_item (part n) vs)
+has_shape contract patterns keys choices part (array_shape n len) v =
+    holds (as_array v) (λ vs. (items_len vs == len) && every_item (part n) vs)
+has_shape contract patterns keys choices part (up_to n cap) v = holds (as_array v) (λ vs. nat_le (items_len vs) cap && every_item (part n) vs)
+has_shape contract patterns keys choices part (tuple ns) v = holds (as_array v) (each_of part ns)
+has_shape contract patterns keys choices part (struct x) v = has_fields contract part (offers choices x.flatten v) x.list x.closed v
+has_shape contract patterns keys choices part (newtype n) v = part n v
+has_shape contract patterns keys choices part (result t e) v = exactly_one
+    (has_fields contract part [] (needed (codes "Ok") t ∷ []) false v ∷ has_fields contract part [] (needed (codes "Err") e ∷ []) false v ∷ [])
+has_shape contract patterns keys choices part (bound n) v = exactly_one
+    (has_fields contract part [] (needed (codes "Included") n ∷ []) false v ∷
+    has_fields contract part [] (needed (codes "Excluded") n ∷ []) false v ∷ is_text (codes "Unbounded") v ∷ [])
+has_shape contract patterns keys choices part (range n) v =
+    has_fields contract part [] (needed (codes "start") n ∷ needed (codes "end") n ∷ []) false v
+has_shape contract patterns keys choices part (either l r) v = exactly_one
+    (has_fields contract part [] (needed (codes "Left") l ∷ []) true v ∷ has_fields contract part [] (needed (codes "Right") r ∷ []) true v ∷ [])
+has_shape contract patterns keys choices part (map_from key value) v = has_keys patterns (keys key) (part value) v
+has_shape contract patterns keys choices part (external xs) v = list_any (has_variant contract part choices v) xs
+has_shape contract patterns keys choices part (untagged xs) v = list_any (λ x. has_payload contract part choices x.payload v) xs
+has_shape contract patterns keys choices part (internal tag closed xs) v = list_any (has_internal contract part choices tag closed v) xs
+has_shape contract patterns keys choices part (literal d) v = has_literal patterns d v
 
--- row n has the value; a row is asked at most `steps` deep
-unfoldable pub belongs_within : List Row → Contract → Patterns → ℕ → ℕ → Data → Bool
-belongs_within rows contract patterns zero n v = false
-belongs_within rows contract patterns (suc steps) n v =
-    elim (entry_at rows n) [
-      | None ↦ false
-      | Some entry ↦
-          has_shape contract patterns (key_options rows) (belongs_within rows contract patterns steps) (spread_in rows entry.shape) v
-    ]
+unfoldable mutual
+  -- row n has the value; a row is asked at most `steps` deep
+  pub belongs_within : List Row → Contract → Patterns → ℕ → ℕ → Data → Bool
+  belongs_within rows contract patterns zero n v = false
+  belongs_within rows contract patterns (suc steps) n v =
+      elim (entry_at rows n) [
+        | None ↦ false
+        | Some entry ↦ has_shape contract patterns (key_options rows) (choices_within rows contract patterns steps)
+            (belongs_within rows contract patterns steps) (spread_in rows entry.shape) v
+      ]
+
+  -- what the variants of row n, an enum, offer of the value
+  pub choices_within : List Row → Contract → Patterns → ℕ → ℕ → Data → List Choice
+  choices_within rows contract patterns zero n v = []
+  choices_within rows contract patterns (suc steps) n v =
+      elim (entry_at rows n) [
+        | None ↦ []
+        | Some entry ↦ shape_choices contract (belongs_within rows contract patterns steps) (choices_within rows contract patterns steps)
+            (spread_in rows entry.shape) v
+      ]
 
 -- the meaning of row n: at each depth of the value every row is asked once at most
 abbrev pub belongs : List Row → Contract → Patterns → ℕ → Data → Bool

@@ -1,0 +1,96 @@
+-- An enum that is tagged inside its maps, where it is flattened.
+use Rattle.std.proofs.Common.{◌≡◌, ℕ, ◌<◌, List, [], ◌∷◌, ◌++◌, Bool, true, false, map, refl, sym, ap, ◌∙◌, subst}
+use Rattle.std.specs.Prelude.{bytes_eq, is_some, ◌||◌, codes}
+use Rattle.serde_json.specs.Data.{Data, Members, no_members, depth}
+use Rattle.schemars_json.specs.Json.{Text, IsJson}
+use Rattle.schemars_schema.specs.SchemaData.{IsSchema}
+use Rattle.schemars_schema.specs.Annotations.{AreNotes}
+use Rattle.schemars_schema.specs.Verdict.{verdict}
+use Rattle.schemars_schema.specs.Acceptance.{Context, Judge, judge}
+use Rattle.schemars_rewrite.specs.Variants.{unit_variant}
+use Rattle.schemars_rewrite.specs.Properties.{internally_tagged_variant}
+use Rattle.schemars_shapes.specs.Shape.{Field, Fields, Payload, Variant, no_payload, newtype_payload, tuple_payload, struct_payload}
+use Rattle.schemars_types.specs.Meaning.{Contract, is_text, field_named}
+use Rattle.schemars_documents.specs.PlainTable.{AreDistinct, AreNoted}
+use Rattle.schemars_documents.specs.Documents.{annotated}
+use Rattle.schemars_templates.specs.Template.{Ask, part, Template, noted, tagged, asks_of, asks_in, filled, filled_in}
+use Rattle.schemars_templates.specs.OfShape.{templates_of, struct_template, content_template, internal_item, internal_template}
+use Rattle.schemars_types.specs.Meaning.{Choice}
+use Rattle.schemars_types.specs.Meaning.{internal_choice, is_tagged_map}
+use Rattle.schemars_types.specs.Effective.{spread_fields, spread_payload, spread_variant}
+use Rattle.schemars_meaning.proofs.Filling.{Fit, without_end, parted}
+use Rattle.schemars_meaning.proofs.Offers.{one_object}
+use Rattle.schemars_meaning.proofs.Items.{IsItem, AnyItems}
+use Rattle.schemars_meaning.proofs.StructDocuments.{IsStruct}
+use Rattle.schemars_meaning.proofs.Tags.{tagged_item, tagged_unit}
+
+module _ (c : Context) (on : c.dialect.reads_unevaluated ≡ true) (contract : Contract) (A : Ask → Data → Type 0) (M : ℕ → Data → Bool)
+    (schemas : (j : ℕ) (t : Data) → A (part j) t → IsSchema t) (v : Data) (json : IsJson v)
+    (agree : (j : ℕ) (t w : Data) → A (part j) t → IsJson w → depth w < depth v → (judge c t).fits w ≡ verdict (M j w))
+    (tells : (name : Text) (w : Data) → (judge c (unit_variant name)).fits w ≡ verdict (is_text name w))
+    (fields : Fields → List Field) (Told : Fields → Type 0)
+    (fills : (y : Fields) → Told y → (us : List Data) → Fit A (asks_of (struct_template contract y)) us
+    → IsStruct c on contract (λ j. A (part j)) v (fields y) [] y.closed (filled (struct_template contract y) us)) where
+  -- the variants are units or structs, with plain fields
+  abbrev IsInside : Payload → Type 0
+  IsInside no_payload = Unit {0}
+  IsInside (newtype_payload n) = ⊥
+  IsInside (tuple_payload ns) = ⊥
+  IsInside (struct_payload y) = Told y × AreDistinct (fields y) × AreNoted (fields y)
+
+  abbrev pub AreInside : List Variant → Type 0
+  AreInside [] = Unit {0}
+  AreInside (x ∷ xs) = IsInside x.payload × AreNotes x.notes × AreInside xs
+
+  -- a variant with the fields of flattened rows among its own
+  abbrev with_fields : Variant → Variant
+  with_fields x = record {
+    name = x.name;
+    payload = elim x.payload [
+      | no_payload ↦ no_payload
+      | newtype_payload n ↦ newtype_payload n
+      | tuple_payload ns ↦ tuple_payload ns
+      | struct_payload y ↦ struct_payload (record { list = fields y; flatten = []; closed = y.closed })
+    ];
+    notes = x.notes;
+  }
+
+  abbrev pub offer : Text → Variant → Choice
+  offer tag x = internal_choice contract M tag v (with_fields x)
+
+  item_filled : (tag : Text) (closed : Bool) (name : Text) (p : Payload) (notes : Members) → IsInside p → AreNotes notes → (us : List Data)
+      → Fit A (asks_of (content_template contract p)) us
+      → (b : Bool) × IsItem c on b (annotated notes (filled (tagged tag name closed (content_template contract p)) us))
+      (offer tag (record { name = name; payload = p; notes = notes })) v
+  item_filled tag closed name no_payload notes h plain us fit =
+      (closed, tagged_unit c on contract (λ j. A (part j)) M schemas v json agree tells tag name closed notes plain)
+  item_filled tag closed name (newtype_payload n) notes h plain us fit = absurd h
+  item_filled tag closed name (tuple_payload ns) notes h plain us fit = absurd h
+  item_filled tag closed name (struct_payload y) notes h plain us fit = (
+    y.closed,
+    tagged_item c on contract (λ j. A (part j)) M schemas v json agree tells tag name closed notes (fields y) y.closed
+        (filled (struct_template contract y) us) plain h.1 h.2 (fills y h.0 us fit),
+  )
+
+  items_filled : (tag : Text) (closed : Bool) (xs : List Variant) → AreInside xs → (us : List Data)
+      → Fit A (asks_in (templates_of (map (internal_item contract tag closed) xs))) us
+      → AnyItems c on (filled_in (templates_of (map (internal_item contract tag closed) xs)) us) (map (offer tag) xs) v
+  items_filled tag closed [] h us fit = tt
+  items_filled tag closed (x ∷ xs) h us fit =
+      let s = parted A (internal_item contract tag closed x)
+      (asks_in (templates_of (map (internal_item contract tag closed) xs))) us fit in (
+        subst (λ t. (b : Bool) × IsItem c on b t (offer tag x) v) (sym s.4)
+            (item_filled tag closed x.name x.payload x.notes h.0 h.1 s.0 s.2),
+        subst (λ ws. AnyItems c on (filled_in (templates_of (map (internal_item contract tag closed) xs)) ws) (map (offer tag) xs) v)
+            (sym s.5)
+            (items_filled tag closed xs h.2 s.1 s.3),
+      )
+
+  -- the enum, which has a variant at least
+  pub internal_filled : (tag : Text) (closed : Bool) (x : Variant) (xs : List Variant) → AreInside (x ∷ xs) → (us : List Data)
+      → Fit A (asks_of (internal_template contract tag closed (x ∷ xs))) us
+      → (ts : List Data) × (filled (internal_template contract tag closed (x ∷ xs)) us ≡ one_object ts)
+      × AnyItems c on ts (map (offer tag) (x ∷ xs)) v
+  internal_filled tag closed x xs h us fit =
+      let ts = templates_of (map (internal_item contract tag closed) (x ∷ xs)) in
+      (filled_in ts us, refl, items_filled tag closed (x ∷ xs) h us (without_end A (asks_in ts) us fit))

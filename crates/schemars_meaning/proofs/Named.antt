@@ -1,0 +1,103 @@
+-- Schemas under names, and the judges that they make.
+use Rattle.std.proofs.Common.{◌≡◌, List, [], ◌∷◌, Option, Some, None, Bool, true, false, Ordering, Less, Equal, Greater}
+use Rattle.std.proofs.Common.{nat_cmp, is_eq, refl, sym, ap, ◌∙◌, option_map}
+use Rattle.std.specs.Prelude.{codes, bytes_eq, if◌then◌else◌, is_some}
+use Rattle.std.specs.Ordering.{match_ordering}
+use Rattle.std.specs.Cmp.Lexicographic.{slice_cmp}
+use Rattle.std.proofs.lemmas.Map.Text.{is_eq-slice_cmp}
+use Rattle.serde_json.specs.Data.{Data, null, boolean, number, string, array, object, Members, no_members, member, put}
+use Rattle.serde_json.specs.Find.{get_member}
+use Rattle.schemars_schema.specs.Verdict.{Verdict, Yes, No, both, verdict}
+use Rattle.schemars_json.specs.Json.{Text}
+use Rattle.schemars_schema.specs.SchemaData.{IsSchema, object_of, put_all}
+use Rattle.schemars_schema.specs.Acceptance.{Patterns, Judge, Context, Reading, judge, read_data, read_members}
+use Rattle.schemars_schema.specs.Acceptance.{all_keywords, all_named, schema_named, each_member, where_some, have_all}
+use Rattle.schemars_schema.specs.Acceptance.{texts_in, type_says, required_says, properties_say}
+use Rattle.schemars_schema.specs.Acceptance.{additional_properties_say, is_covered}
+use Rattle.schemars_schema.proofs.Verdicts.{both-yes}
+use Rattle.schemars_schema.proofs.Objects.{schema-judge}
+use Rattle.schemars_rewrite.specs.NullLaw.{text_items}
+use Rattle.std.proofs.Math.Bool.{or-false}
+use Rattle.schemars_documents.specs.Documents.{Keyword}
+
+-- ---- the judges under names
+
+unfoldable pub judges_in : Context → Members → List (Text × Judge)
+judges_in c no_members = []
+judges_in c (member k d ms) = (k, judge c d) ∷ judges_in c ms
+
+abbrev pub AreSchemas : Members → Type 0
+AreSchemas no_members = Unit {0}
+AreSchemas (member k d ms) = IsSchema d × AreSchemas ms
+
+pub all_named-schemas : (c : Context) (ms : Members) → AreSchemas ms → all_named (read_members c ms) ≡ Some (judges_in c ms)
+unfolding read_data judges_in
+all_named-schemas c no_members h = refl
+all_named-schemas c (member k d ms) h = rw (schema-judge c d h.0, all_named-schemas c ms h.1)
+
+judge_found : (o : Ordering) (b : Bool) (p : Judge) (rest : Option Judge) → is_eq o ≡ b
+    → (if b then Some p else rest) ≡ match_ordering o rest (Some p) rest
+judge_found Less b p rest is = rw (← is)
+judge_found Equal b p rest is = rw (← is)
+judge_found Greater b p rest is = rw (← is)
+
+mapped : (o : Ordering) (f : Data → Judge) (a b c : Option Data) → match_ordering o (option_map f a) (option_map f b) (option_map f c)
+    ≡ option_map f (match_ordering o a b c)
+mapped Less f a b c = refl
+mapped Equal f a b c = refl
+mapped Greater f a b c = refl
+
+pub schema_named-judges_in : (c : Context) (ms : Members) (k : Text)
+    → schema_named k (judges_in c ms) ≡ option_map (judge c) (get_member k ms)
+unfolding judges_in
+schema_named-judges_in c no_members k = refl
+schema_named-judges_in c (member l d ms) k =
+    judge_found (slice_cmp nat_cmp k l) (bytes_eq k l) (judge c d) _ (is_eq-slice_cmp k l)
+    ∙ rw (schema_named-judges_in c ms k) (mapped (slice_cmp nat_cmp k l) (judge c) (get_member k ms) (Some d) (get_member k ms))
+
+AreSchemas-match : (o : Ordering) (a b c : Members) → AreSchemas a → AreSchemas b → AreSchemas c → AreSchemas (match_ordering o a b c)
+AreSchemas-match Less a b c x y z = x
+AreSchemas-match Equal a b c x y z = y
+AreSchemas-match Greater a b c x y z = z
+
+AreSchemas-put : (k : Text) (d : Data) (ms : Members) → IsSchema d → AreSchemas ms → AreSchemas (put k d ms)
+AreSchemas-put k d no_members i h = (i, tt)
+AreSchemas-put k d (member l e ms) i h = AreSchemas-match (slice_cmp nat_cmp k l) _ _ _ (i, h) (i, h.1) (h.0, AreSchemas-put k d ms i h.1)
+
+-- schemas under names
+abbrev pub AreEntries : List Keyword → Type 0
+AreEntries [] = Unit {0}
+AreEntries (e ∷ es) = IsSchema e.1 × AreEntries es
+
+pub AreSchemas-put_all : (es : List Keyword) (ms : Members) → AreEntries es → AreSchemas ms → AreSchemas (put_all es ms)
+AreSchemas-put_all [] ms h i = i
+AreSchemas-put_all (e ∷ es) ms h i = AreSchemas-put_all es (put e.0 e.1 ms) h.1 (AreSchemas-put e.0 e.1 ms h.0 i)
+
+-- ---- texts
+
+pub texts_in-text_items : (ns : List Text) → texts_in (text_items ns) ≡ Some ns
+texts_in-text_items [] = refl
+texts_in-text_items (n ∷ ns) = rw (texts_in-text_items ns)
+
+pub each_yes : (ms : Members) → each_member (λ k w. Yes) ms ≡ Yes
+each_yes no_members = refl
+each_yes (member k w ms) = each_yes ms
+
+pub each_agree : (p q : Text → Data → Verdict) → ((k : Text) (w : Data) → p k w ≡ q k w) → (ms : Members)
+    → each_member p ms ≡ each_member q ms
+each_agree p q same no_members = refl
+each_agree p q same (member k w ms) = rw (same k w, each_agree p q same ms)
+
+-- ---- what it says
+
+abbrev pub IsNoMap : Data → Type 0
+IsNoMap null = Unit {0}
+IsNoMap (boolean b) = Unit {0}
+IsNoMap (number n) = Unit {0}
+IsNoMap (string s) = Unit {0}
+IsNoMap (array ds) = Unit {0}
+IsNoMap (object ms) = ⊥
+
+pub silent : {A : Type 0} (o : Option A) → where_some o (λ x. Yes) ≡ Yes
+silent None = refl
+silent (Some x) = refl

@@ -1,0 +1,84 @@
+-- Null can be added to each document of a table that is plain under its contract.
+use Rattle.std.proofs.Common.{◌≡◌, ◌⊎◌, inl, inr, ℕ, zero, suc, ◌+◌, ◌*◌, ◌<◌, ◌≤◌, List, [], Option, Some, None, Bool, true, false, refl}
+use Rattle.std.proofs.Common.{sym}
+use Rattle.std.proofs.Common.{ap, ◌∙◌, subst, length, arith}
+use Rattle.serde_json.specs.Data.{Data, null, depth}
+use Rattle.schemars_json.specs.Json.{Text}
+use Rattle.schemars_schema.specs.Acceptance.{Patterns, Judge}
+use Rattle.schemars_rewrite.specs.NullLaw.{context2020_12}
+use Rattle.schemars_rewrite.proofs.Nulls.{IsReady}
+use Rattle.schemars_shapes.specs.Shape as shape
+use Rattle.schemars_shapes.specs.Shape.{Fields, Shape, Entry}
+use Rattle.schemars_types.specs.Rows.{Row, entry_at}
+use Rattle.schemars_types.specs.Effective.{effective, row_fields, flattened_in, shape_fields, flattened_enums, part_enums, enums_within}
+use Rattle.schemars_types.specs.Effective.{shape_enums, enum_at, spread_in}
+use Rattle.schemars_types.specs.Meaning.{Contract}
+use Rattle.schemars_documents.specs.PlainTable.{IsPlainShape, ArePartsUnder, IsEntryUnder, IsPlainUnder, parts_in}
+use Rattle.schemars_templates.specs.Basis.{Basis}
+use Rattle.schemars_templates.specs.Template.{Ask, asks_of, filled}
+use Rattle.schemars_templates.specs.OfShape.{struct_template, template_of}
+use Rattle.schemars_templates.specs.Describes.{Fills, IsOwnDocument, IsAnswered, IsWritten, Describes}
+use Rattle.schemars_meaning.proofs.Filling.{Fit}
+use Rattle.schemars_meaning.proofs.Notes.{ready-annotated}
+use Rattle.schemars_meaning.proofs.ByShape.{others_fill}
+use Rattle.schemars_meaning.proofs.Meanings.{shape_ready}
+use Rattle.schemars_meaning.proofs.Ready.{reference_ready}
+use Rattle.schemars_meaning.proofs.StructReady.{map_with_parts_ready}
+use Rattle.schemars_meaning.proofs.PartsDescribed.{under_apart}
+use Rattle.schemars_meaning.proofs.StructsCounted.{struct_stands, tell_inside}
+
+module _ (patterns : Patterns) (f : Text → Judge) (basis : Basis) (Refers : ℕ → Text → Type 0)
+    (plain : IsPlainUnder basis.contract basis.rows)
+    (fields_settled : (n : ℕ) (e : Entry) → entry_at basis.rows n ≡ Some e
+    → row_fields basis.rows n ≡ shape_fields (flattened_in basis.rows) e.shape)
+    (enums_settled : (n : ℕ) (e : Entry) → entry_at basis.rows n ≡ Some e
+    → enums_within basis.rows (length basis.rows) n ≡ shape_enums (part_enums basis.rows) n e.shape)
+    (ranks : ℕ) (some : 0 < ranks) where
+  abbrev rows : List Row
+  rows = basis.rows
+
+  abbrev contract : Contract
+  contract = basis.contract
+
+  abbrev In : ℕ → ℕ → Data → Type 0
+  In d = IsWritten Refers (Describes basis Refers d)
+
+  abbrev Answer : ℕ → Ask → Data → Type 0
+  Answer d = IsAnswered rows (λ m b. Unit {0}) (In d) (Describes basis Refers d)
+
+  -- its form is the same whatever value is looked at
+  structs : (d : ℕ) (y : Fields) → ArePartsUnder contract rows y.flatten → (us : List Data)
+      → Fit (Answer d) (asks_of (struct_template contract y)) us → IsReady (filled (struct_template contract y) us)
+  structs d y under us fit =
+      map_with_parts_ready (context2020_12 patterns f) refl contract (In d) null _ _ y.closed _
+      (struct_stands patterns f basis Refers plain fields_settled enums_settled ranks some zero
+      (λ d j t w is js less. absurd (omega arith)) null tt (omega arith) 1 (omega arith) d y (inr (omega arith)) under
+      (tell_inside patterns f basis Refers plain fields_settled enums_settled ranks some zero
+      (λ d j t w is js less. absurd (omega arith)) null (omega arith)) us fit)
+
+  pub bare_ready : (d : ℕ) → ((j : ℕ) (t : Data) → In d j t → IsReady t) → (kind : Shape) (s : Data) → IsPlainShape (spread_in rows kind)
+      → ArePartsUnder contract rows (parts_in kind) → Fills (Answer d) (template_of basis kind) s → IsReady s
+  bare_ready d ready (shape.struct x) s fine under h = subst IsReady (sym h.is) (structs d x under h.parts h.answered)
+  bare_ready d ready kind s fine under h =
+      shape_ready (Answer d) (flattened_in rows) basis (ArePartsUnder contract rows) (under_apart contract rows) ready (structs d) kind s
+      (flattened_in rows) (part_enums rows) fine under (others_fill (Answer d) (flattened_in rows) basis kind s h.parts tt h.answered h.is)
+
+  own_ready : (d : ℕ) → ((j : ℕ) (t : Data) → In d j t → IsReady t) → (o : Option Entry) → IsEntryUnder contract rows o
+      → (t : Data) → IsOwnDocument (Answer d) basis o t → IsReady t
+  own_ready d ready None under t is = absurd is
+  own_ready d ready (Some e) under t is =
+      subst IsReady (sym is.is) (ready-annotated e.notes (filled (template_of basis e.shape) is.parts) under.0
+      (bare_ready d ready e.shape (filled (template_of basis e.shape) is.parts) under.1 under.3
+      (record { parts = is.parts; answered = is.answered; is = refl })))
+
+  written_by : (d : ℕ) → ((j : ℕ) (t : Data) → Describes basis Refers d j t → IsReady t) → (j : ℕ) (t : Data) → In d j t → IsReady t
+  written_by d own j t (inl h) = subst IsReady (sym h.2) (reference_ready h.0)
+  written_by d own j t (inr h) = own j t h
+
+  described_ready : (d n : ℕ) (t : Data) → Describes basis Refers d n t → IsReady t
+  unfolding Describes
+  described_ready zero n t h = absurd h
+  described_ready (suc d) n t h = own_ready d (written_by d (described_ready d)) (entry_at rows n) (plain n) t h
+
+  pub written_ready : (d n : ℕ) (t : Data) → In d n t → IsReady t
+  written_ready d n t h = written_by d (described_ready d) n t h
