@@ -29,7 +29,7 @@ use Rattle.schemars_headline.specs.State.{Settings, State, stripped, path_of, Ha
 use Rattle.schemars_laws.specs.Paths.{components}
 use Rattle.schemars_generate.specs.Settings.{transforms_openapi3}
 use Rattle.schemagen_input.specs.Input.{is_complete, is_table, table_in, input_of}
-use Rattle.schemagen_run.specs.Run.{settings_for, transforms_of_dialect, fresh, Means, IsDocumentOf, IsUnplaced, IsRefusal}
+use Rattle.schemagen_run.specs.Run.{settings_for, transforms_of_dialect, fresh, Means, MeansWide, IsDocumentOf, IsUnplaced, IsRefusal}
 use Rattle.schemagen_run.specs.Run.{settings_of_dialect, AreTakenAt, AreTaken, AreDefinitionsOf}
 
 pub both : (a b : Bool) → a && b ≡ true → (a ≡ true) × (b ≡ true)
@@ -106,6 +106,16 @@ means Draft07 c inlines rows root d document told same plain =
     (told.draft07 (has_own_definitions (asks Draft07 c inlines) rows) refl plain)
 means OpenApi3 c inlines rows root d document told same plain = tt
 
+means_wide : (dialect : Dialect) (c : Contract) (inlines : Bool) (rows : List Row) (root : ℕ) (d document : Data)
+    → IsUntransformed (fresh (asks dialect c inlines) rows) root d → document ≡ made_by (transforms_of_dialect dialect) d
+    → MeansWide dialect rows (contract_of c) root document
+means_wide Draft2020_12 c inlines rows root d document told same = λ plain.
+    subst (MeansItsType rows (contract_of c) (codes "/$defs") root) (sym same)
+    (told.wide (has_own_definitions (asks Draft2020_12 c inlines) rows) (inl refl) plain)
+means_wide Draft2019_09 c inlines rows root d document told same = tt
+means_wide Draft07 c inlines rows root d document told same = tt
+means_wide OpenApi3 c inlines rows root d document told same = tt
+
 -- what the generator answers is the root document of the row
 pub is_document : {E : Type 0} (r : Result Data E) (s : State) (asked : Asked) (rows : List Row) (root : ℕ)
     (ts : List (GenTransform NoTransform)) → s ≡ fresh asked rows → ts ≡ transforms_of_dialect asked.dialect
@@ -117,6 +127,7 @@ is_document (Ok document) s asked rows root ts same is made =
     let by : document ≡ made_by (transforms_of_dialect asked.dialect) d = of ∙ ap (λ (xs : List (GenTransform NoTransform)). made_by xs d) is in (
       (d, here.last, by),
       means asked.dialect asked.contract asked.inlines rows root d document here by,
+      means_wide asked.dialect asked.contract asked.inlines rows root d document here by,
       λ empty none. ap has_float (by ∙ ap (λ (xs : List (GenTransform NoTransform)). made_by xs d) empty)
           ∙ here.whole none (has_own_definitions asked rows),
     )

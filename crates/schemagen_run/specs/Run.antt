@@ -16,7 +16,7 @@ use Rattle.schemars_sample.specs.SampleJson.{sample_json}
 use Rattle.schemars_sample.specs.SampleSchema.{sample_root}
 use Rattle.schemars_types.specs.Rows.{Row}
 use Rattle.schemars_types.specs.Faults.{IsAccepted}
-use Rattle.schemars_documents.specs.PlainTable.{IsPlainTable, HasPlainNotes, HasNoFloat}
+use Rattle.schemars_documents.specs.PlainTable.{IsPlainTable, IsPlainUnder, HasPlainNotes, HasNoFloat}
 use Rattle.schemars_error.specs.declared.error.GenerateError.{GenerateError}
 use Rattle.schemars_error.specs.declared.error.GenerateError.TheVariants.{OutOfMemory, DefinitionsPath}
 use Rattle.schemars_headline.specs.Headline.{MeansItsType, CannotPlace}
@@ -108,12 +108,21 @@ Means Draft2019_09 rows contract root document = MeansItsTypeUnder draft2019_09 
 Means Draft07 rows contract root document = MeansItsTypeUnder draft07 rows contract (codes "/definitions") root document
 Means OpenApi3 rows contract root document = Unit {0}
 
+-- so it does under 2020-12 over the wider tables that are plain under the contract; of the others nothing more is told
+abbrev pub MeansWide : Dialect → List Row → Contract → ℕ → Data → Type 0
+MeansWide Draft2020_12 rows contract root document =
+    IsPlainUnder contract rows → MeansItsType rows contract (codes "/$defs") root document
+MeansWide Draft2019_09 rows contract root document = Unit {0}
+MeansWide Draft07 rows contract root document = Unit {0}
+MeansWide OpenApi3 rows contract root document = Unit {0}
+
 -- the root document of this row: the transforms of the dialect make it of the one that is made by the rules, and where the
 -- table is plain it accepts just the values of the type; without transforms the numbers in it are whole, where those in notes are
 abbrev pub IsDocumentOf : Asked → List Row → ℕ → Data → Type 0
 IsDocumentOf asked rows root document =
     IsMadeBy (transforms_of_dialect asked.dialect) (IsLastRootCall (fresh asked rows) root) document
     × (IsPlainTable rows → Means asked.dialect rows (contract_of asked.contract) root document)
+    × MeansWide asked.dialect rows (contract_of asked.contract) root document
     × (transforms_of_dialect asked.dialect ≡ [] → HasNoFloat rows → has_float document ≡ false)
 
 -- what a generator holds after it has made a part for this row, and its definitions, through these transforms

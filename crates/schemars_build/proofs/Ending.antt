@@ -208,7 +208,8 @@ module _ (p : Plan) where
       omega (arith, a, b, c)
 
   -- where only what is pending changes
-  pub left_fewer : (now new : Work) (ps : List ℕ) → new ≡ record now { pending = ps } → missing p.rows p.contract new ≤ missing p.rows p.contract now
+  pub left_fewer : (now new : Work) (ps : List ℕ) → new ≡ record now { pending = ps }
+      → missing p.rows p.contract new ≤ missing p.rows p.contract now
   left_fewer now new ps is = let e = ap (missing p.rows p.contract) is ∙ missing_pending now ps in omega (arith, e)
 
   -- where a definition is finished

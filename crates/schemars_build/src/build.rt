@@ -116,8 +116,7 @@ pub fn answer(
     requires known { row_asked (ask_of ask) < length (plan_of plan.now).rows }
     ensures undone { undone work.new ≡ undone work.old }
     ensures step { OnOk result (Step (plan_of plan.now) work.old work.new) }
-    ensures is { IfOk result
-        (IsAnswer (plan_of plan.now) in_definition work.old work.new (ask_of ask)) }
+    ensures is { IfOk result (IsAnswer (plan_of plan.now) in_definition work.old work.new (ask_of ask)) }
 {
     let answer = made(alloc, plan, work, in_definition, Request::Asked(ask))?;
     Ok(answer)
@@ -150,8 +149,8 @@ fn made(
     }
 }
 
-// What goes on after a reply: the document that has to be made, or the one that waited for the answer. Where
-// none waits, the answer is what was asked first.
+// What goes on after a reply: the document that has to be made, or the one that waited for the answer.
+// Where none waits, the answer is what was asked first.
 fn taken<'t>(
     waiting: &mut VecDeque<Document<'t>>,
     reply: Reply<'t>,
@@ -284,8 +283,8 @@ fn own<'t>(
     Ok(document)
 }
 
-// Row `n` as a part: a reference to its definition or to the root, or the document that is to stand in its place
-// or in its definition.
+// Row `n` as a part: a reference to its definition or to the root, or the document that is to stand in
+// its place or in its definition.
 fn part<'t>(
     alloc: Global,
     plan: &Plan<'t>,

@@ -17,7 +17,8 @@ use Rattle.schemars_documents.specs.PlainTable.{IsPlainTable}
 use Rattle.schemars_documents.specs.ContractOf.{contract_of}
 use Rattle.schemars_naming.specs.Naming.{IsOneToOne}
 use Rattle.schemars_naming.specs.Work.{Plan, Work, basis_of, Refers}
-use Rattle.schemars_meaning.proofs.Following.{described_schema}
+use Rattle.schemars_documents.proofs.OpenStructs.{plain_under}
+use Rattle.schemars_meaning.proofs.Schemas.{described}
 use Rattle.schemars_headline.specs.State.{State, path_of, plan_of, work_of, HasOwnDefinitions}
 use Rattle.schemars_headline.specs.Headline.{AcceptsItsValues}
 use Rattle.schemars_headline.proofs.Standing.{MayRefer, AllStand, stands_now}
@@ -72,7 +73,7 @@ module _ (s : State) (own : HasOwnDefinitions s) (at : path_of s ≡ components)
     (
       is.2.0,
       is.2.1,
-      described_schema (basis_of (plan_of s None)) (MayRefer (plan_of s None) (work_of s)) plain (standing is.0 is.2.0 is.2.1).depth
+      described (basis_of (plan_of s None)) (MayRefer (plan_of s None) (work_of s)) (standing is.0 is.2.0 is.2.1).depth
           (standing is.0 is.2.0 is.2.1).row is.2.0 (standing is.0 is.2.0 is.2.1).describes,
     ),
   )
@@ -111,7 +112,7 @@ module _ (s : State) (checked : IsChecked s.rows) (one : IsOneToOne s.names) (ow
   accepts-before : (name : Text) (d : Data) (found : get_member name es ≡ Some d)
       → AcceptsItsValues s.rows (contract_of s.settings.contract) (path_of s) (stand name d found).row (components_of es) d
   accepts-before name d found =
-      written_accepts plan w (components_of es) checked plain one stand holds rootless (stand name d found).depth (stand name d found).row d
+      written_accepts plan w (components_of es) checked (plain_under s.rows (contract_of s.settings.contract) plain) one stand holds rootless (stand name d found).depth (stand name d found).row d
       (inr (stand name d found).describes)
 
   count-same : count_of_definitions components (components_of (all_seven es)) ≡ count_of_definitions components (components_of es)

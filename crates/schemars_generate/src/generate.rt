@@ -8,7 +8,8 @@ ghost use Rattle.schemars_schema.specs.Acceptance.{draft07, draft2019_09};
 ghost use Rattle.schemars_schema.specs.References.{references};
 ghost use Rattle.schemars_types.specs.Extends.{begins_with};
 ghost use Rattle.schemars_types.specs.Faults.{IsAccepted, IsChecked};
-ghost use Rattle.schemars_headline.specs.Headline.{RootHeadline, SubschemaHeadline, IsDraftPath, IsInlined};
+ghost use Rattle.schemars_headline.specs.Headline.{RootHeadline, RootWideHeadline, SubschemaHeadline};
+ghost use Rattle.schemars_headline.specs.Headline.{IsDraftPath, IsInlined};
 ghost use Rattle.schemars_headline.specs.Calls.{IsPartOf, IsReferenceOf, Adds, IsNeeded};
 ghost use Rattle.schemars_headline.specs.State.{path_of, settings2020_12, HasOwnDefinitions, ReferencesNameKeys};
 ghost use Rattle.schemars_naming.specs.Naming.{IsOneToOne};
@@ -270,6 +271,7 @@ impl<O: Transform + Drop> SchemaGenerator<O> {
         n: TypeNo,
     ) -> Result<Schema, GenerateError>
         ensures headline { self.old.settings.transforms.items ≡ [] → IfOk result (RootHeadline (state self.old) n) }
+        ensures wide { self.old.settings.transforms.items ≡ [] → IfOk result (RootWideHeadline (state self.old) n) }
         ensures draft07 { self.old.settings.transforms.items ≡ transforms07
             → IfOk result (RootHeadlineUnder draft07 (codes "/definitions") (state self.old) n) }
         ensures draft2019_09 { self.old.settings.transforms.items ≡ transforms2019_09
@@ -308,6 +310,7 @@ impl<O: Transform + Drop> SchemaGenerator<O> {
         n: TypeNo,
     ) -> Result<Schema, GenerateError>
         ensures headline { self.settings.transforms.items ≡ [] → IfOk result (RootHeadline (state self) n) }
+        ensures wide { self.settings.transforms.items ≡ [] → IfOk result (RootWideHeadline (state self) n) }
         ensures draft07 { self.settings.transforms.items ≡ transforms07
             → IfOk result (RootHeadlineUnder draft07 (codes "/definitions") (state self) n) }
         ensures draft2019_09 { self.settings.transforms.items ≡ transforms2019_09

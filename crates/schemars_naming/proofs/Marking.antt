@@ -1,12 +1,12 @@
 -- Whether a row is pending, by its mark.
 use Rattle.std.proofs.Common.{◌≡◌, ◌++◌, ◌∷◌, [], ◌∙◌, ℕ, List, Bool, true, false, Some, None, inl, inr, refl, sym, ap, subst}
-use Rattle.std.proofs.Common.{arith, length, take, slice_get, true≢false}
+use Rattle.std.proofs.Common.{arith, length, slice_get, true≢false}
 use Rattle.std.specs.Prelude.{◌⊎◌, nat_eq}
 use Rattle.std.proofs.lemmas.Bool.Decides.{nat_tests}
 use Rattle.std.proofs.lemmas.Option.{same_Some}
 use Rattle.schemars_naming.specs.Placed.{is_pending}
 use Rattle.schemars_naming.specs.Marks.{AreMarked}
-use Rattle.schemars_naming.proofs.Elements.{at_in_take, last_or_before, never_among, place_of_any}
+use Rattle.schemars_naming.proofs.Elements.{last_or_before, never_among, place_of_any}
 
 equal_numbers : (m n : ℕ) → nat_eq m n ≡ true → m ≡ n
 equal_numbers m n is = grind (arith, nat_tests)
@@ -62,10 +62,7 @@ module _ (rows marks : List ℕ) (n : ℕ) (h : AreMarked rows marks) where
             let same : m ≡ n = same_Some m n (sym at ∙ stands there) in
             true≢false (sym (itself n) ∙ (ap (λ k. nat_eq k n) (sym same) ∙ is))))
 
--- ---- as rows are entered and left
-
-pub marked_take : (k : ℕ) (rows marks : List ℕ) → AreMarked rows marks → AreMarked (take k rows) marks
-marked_take k rows marks h i n at = h i n (at_in_take k rows i n at)
+-- ---- as a row is entered
 
 pub marked_push : (rows old new : List ℕ) (n : ℕ) → AreMarked rows old → is_pending rows n ≡ false
     → slice_get new n ≡ Some (length rows)

@@ -159,11 +159,11 @@ impl Names {
     }
 
     // Notes that this many of the first candidates of `base` are used, where there is memory for it.
-    fn note(&mut self, base: String, count: usize)
-        requires { AreUsed self.old (string_bytes base) count }
+    fn note(&mut self, alloc: Global, base: &str, count: usize)
+        requires { AreUsed self.old base.now count }
         ensures { self.new ≡ self.old }
     {
-        note(&mut self.tried, base, count);
+        note(&mut self.tried, alloc, base, count);
     }
 
     fn push(&mut self, n: TypeNo, contract: Contract, name: String) -> Result<(), AllocError>
@@ -195,10 +195,9 @@ impl Names {
             × (self.new ≡ self.old ++ (record { row = n; contract = contract; name = string_bytes s }) ∷ [])) }
         ensures err { OnErr result (self.new ≡ self.old) }
     {
-        let key = String::from_str(alloc, base)?;
         let (tries, name) = self.first_unused(alloc, base)?;
         self.push(n, contract, name.clone()?)?;
-        self.note(key, tries + 1);
+        self.note(alloc, base, tries + 1);
         Ok(name)
     }
 
@@ -214,11 +213,16 @@ impl Names {
     }
 }
 
-// Notes a count, where there is memory for it.
-fn note(tried: &mut HashMap<String, usize>, base: String, count: usize)
-    ensures { IsNoted tried.old (string_bytes base) count tried.new }
+// Notes a count, where there is memory for it. That of a base with one name is left out: it would spare
+// one look-up for the second, and most bases have one.
+fn note(tried: &mut HashMap<String, usize>, alloc: Global, base: &str, count: usize)
+    ensures { IsNoted tried.old base.now count tried.new }
 {
-    let _ = tried.insert(base, count);
+    if count > 1 {
+        if let Ok(key) = String::from_str(alloc, base) {
+            let _ = tried.insert(key, count);
+        }
+    }
 }
 
 // The place that is noted for row `n` under this contract.

@@ -9,7 +9,7 @@ use Rattle.schemars_headline.specs.Calls.{IsLastRootCall}
 use Rattle.schemars_headline.specs.Headline.{IsRootOf, IsDraftPath}
 use Rattle.schemars_headline.specs.Keys.{HasKeysOnce}
 use Rattle.schemars_headline.specs.State.{State, path_of}
-use Rattle.schemars_headline.proofs.Calls.{root_means, root_is_whole, always_placed}
+use Rattle.schemars_headline.proofs.Calls.{root_means, root_means_wide, root_is_whole, always_placed}
 use Rattle.schemars_headline.proofs.Inlined.{root_inlined}
 use Rattle.schemars_dialects.proofs.DialectRoots.{draft07_means, draft2019_09_means}
 use Rattle.schemars_walk.specs.Walk.{Step}
@@ -22,6 +22,7 @@ pub untransformed : (s : State) (n : ℕ) (w : Work) (d : Data) → IsChecked s.
 untransformed s n w d checked root once one = record {
   last = (w, root);
   headline = λ own path. root_means s n w d checked root once one own path;
+  wide = λ own path. root_means_wide s n w d checked root once one own path;
   draft07 = draft07_means s n w d checked root once one;
   draft2019_09 = draft2019_09_means s n w d checked root once one;
   inlined = root_inlined s n w d root;

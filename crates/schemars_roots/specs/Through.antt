@@ -6,7 +6,7 @@ use Rattle.schemars_documents.specs.PlainTable.{HasNoFloat}
 use Rattle.schemars_headline.specs.State.{State, HasOwnDefinitions, work_of, after_root}
 use Rattle.schemars_headline.specs.Keys.{HasKeysOnce}
 use Rattle.schemars_naming.specs.Naming.{IsOneToOne}
-use Rattle.schemars_headline.specs.Headline.{RootHeadline, IsRootOf, CannotPlace, IsInlined}
+use Rattle.schemars_headline.specs.Headline.{RootHeadline, RootWideHeadline, IsRootOf, CannotPlace, IsInlined}
 use Rattle.schemars_headline.specs.Calls.{IsRootCall, IsLastRootCall}
 use Rattle.schemars_dialects.specs.Dialects.{Draft07Headline, Draft2019_09Headline}
 use Rattle.schemars_naming.specs.Work.{Work}
@@ -40,6 +40,7 @@ AreTurnedDown Q t u definitions e =
 pub record IsUntransformed (old : State) (n : ℕ) (d : Data) : Type 0 where
   pub last : IsLastRootCall old n d
   pub headline : RootHeadline old n d
+  pub wide : RootWideHeadline old n d
   pub draft07 : Draft07Headline old n d
   pub draft2019_09 : Draft2019_09Headline old n d
   pub inlined : old.definitions ≡ no_members → IsInlined old d

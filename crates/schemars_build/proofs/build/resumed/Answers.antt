@@ -60,8 +60,9 @@ returns-clause-less c = λ outside old want h.
     let low : left_of_asked plan now (ask_of a) < rank plan now now.pending d.row d.purpose =
     subst (λ x. left_of_asked plan now (ask_of x) < rank plan now now.pending d.row d.purpose) here
     (asks_lower plan now d c.requires.checked c.requires.template i a less) in
-    let P : List Document → Type 0 = λ ds. left_of_reply plan new c.in_ok-reply-2.reply ds < left_going plan now d c.args.waiting.now.items in
-    subst P (sym {A = List Document} c.in_ok-push_front.ensures.items) (asking_less plan d.in_definition (asked (ask_of a)) now new d c.args.waiting.now.items
+    let ds = c.args.waiting.now.items in
+    let P : List Document → Type 0 = λ es. left_of_reply plan new c.in_ok-reply-2.reply es < left_going plan now d ds in
+    subst P (sym {A = List Document} c.in_ok-push_front.ensures.items) (asking_less plan d.in_definition (asked (ask_of a)) now new d ds
     c.in_ok-reply-2.reply (left_of_asked plan now (ask_of a)) c.in_ok-reply-2.ensures.replies c.in_ok-reply-2.ensures.within low)
 
 pub returns-in_default-clause-less : goal.returns-in_default-clause-less

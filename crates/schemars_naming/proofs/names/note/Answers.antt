@@ -1,5 +1,7 @@
-use Rattle.std.proofs.Common.{string_bytes, Result, Ok, Err}
+use Rattle.std.proofs.Common.{string_bytes, Result, Ok, Err, subst}
 use Rattle.std.specs.Result.{OnOk, OnErr}
+use Rattle.schemars_json.specs.Json.{Text}
+use Rattle.schemars_naming.specs.Owners.{IsNoted}
 use Rattle.schemars_naming.proofs.TriedLemmas.{noted_unchanged, noted_updates}
 use Rattle.schemars_naming.proofs.names.note.Goals as goal
 
@@ -7,7 +9,10 @@ either : {A B : Type 0} {X Y P : Type 0} (r : Result A B) → OnOk r X → OnErr
 either (Ok x) p q f g = f p
 either (Err x) p q f g = g q
 
-pub returns : goal.returns
-returns c = either c.insert.result c.insert.ensures.updates c.insert.ensures.err
-    (λ u. noted_updates c.args.tried.now c.insert.new.self (string_bytes c.args.base) c.args.count u)
-    (λ u. noted_unchanged c.args.tried.now c.insert.new.self (string_bytes c.args.base) c.args.count u)
+pub returns-in-Ok : goal.returns-in-Ok
+returns-in-Ok c =
+    let key = string_bytes c.in-Ok.key in
+    let P : Text → Type 0 = λ base. IsNoted c.args.tried.now base c.args.count c.insert.new.self in
+    subst P c.in-Ok.ensures.ok (either c.insert.result c.insert.ensures.updates c.insert.ensures.err
+    (λ u. noted_updates c.args.tried.now c.insert.new.self key c.args.count u)
+    (λ u. noted_unchanged c.args.tried.now c.insert.new.self key c.args.count u))

@@ -3,7 +3,7 @@ use Rattle.schemars_schema.specs.Acceptance.{draft07, draft2019_09}
 use Rattle.schemars_documents.specs.PlainTable.{HasPlainNotes}
 use Rattle.schemars_dialects.specs.Dialects.{RootHeadlineUnder}
 use Rattle.schemars_headline.specs.Calls.{IsLastRootCall}
-use Rattle.schemars_headline.specs.Headline.{RootHeadline, IsDraftPath}
+use Rattle.schemars_headline.specs.Headline.{RootHeadline, RootWideHeadline, IsDraftPath}
 use Rattle.schemars_headline.specs.State.{Settings, path_of}
 use Rattle.schemars_transforms.specs.Member.{some_own}
 use Rattle.schemars_transforms.specs.declared.gen_transform.GenTransform.{GenTransform}
@@ -60,6 +60,15 @@ returns-clause-headline g c =
     let s = state_with (settings_of c.args.self.settings) c.args.self.contents in
     λ is.
     IfOk-weaker r _ _ (λ d h. made_by_these ts [] _ (RootHeadline s c.args.n) d is (λ e i. i.headline) h)
+    (returns-clause-built_in g c (ap some_own is))
+
+pub returns-clause-wide : goal.returns-clause-wide
+returns-clause-wide g c =
+    let r = c.into_root_schema.result in
+    let ts = c.args.self.settings.transforms.items in
+    let s = state_with (settings_of c.args.self.settings) c.args.self.contents in
+    λ is.
+    IfOk-weaker r _ _ (λ d h. made_by_these ts [] _ (RootWideHeadline s c.args.n) d is (λ e i. i.wide) h)
     (returns-clause-built_in g c (ap some_own is))
 
 pub returns-clause-draft07 : goal.returns-clause-draft07

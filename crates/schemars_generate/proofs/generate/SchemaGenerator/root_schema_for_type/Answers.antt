@@ -3,7 +3,7 @@ use Rattle.schemars_schema.specs.Acceptance.{draft07, draft2019_09}
 use Rattle.schemars_documents.specs.PlainTable.{HasPlainNotes}
 use Rattle.schemars_dialects.specs.Dialects.{RootHeadlineUnder}
 use Rattle.schemars_headline.specs.Calls.{IsLastRootCall}
-use Rattle.schemars_headline.specs.Headline.{RootHeadline, IsDraftPath}
+use Rattle.schemars_headline.specs.Headline.{RootHeadline, RootWideHeadline, IsDraftPath}
 use Rattle.schemars_headline.specs.State.{Settings, path_of, HasOwnDefinitions}
 use Rattle.schemars_headline.proofs.NamedKeys.{references_name_keys}
 use Rattle.schemars_transforms.specs.Member.{some_own}
@@ -77,6 +77,15 @@ returns-clause-headline g c =
     let s = state_with (settings_of c.args.self.now.settings) c.args.self.now.contents in
     λ is.
     IfOk-weaker r _ _ (λ d h. made_by_these ts [] _ (RootHeadline s c.args.n) d is (λ e i. i.0.headline) h)
+    (returns-clause-built_in g c (ap some_own is))
+
+pub returns-clause-wide : goal.returns-clause-wide
+returns-clause-wide g c =
+    let r = c.root_schema-answer.result in
+    let ts = c.args.self.now.settings.transforms.items in
+    let s = state_with (settings_of c.args.self.now.settings) c.args.self.now.contents in
+    λ is.
+    IfOk-weaker r _ _ (λ d h. made_by_these ts [] _ (RootWideHeadline s c.args.n) d is (λ e i. i.0.wide) h)
     (returns-clause-built_in g c (ap some_own is))
 
 pub returns-clause-draft07 : goal.returns-clause-draft07

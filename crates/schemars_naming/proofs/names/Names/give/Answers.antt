@@ -1,4 +1,4 @@
-use Rattle.std.proofs.Common.{◌++◌, ◌∷◌, [], ◌<◌, ◌+◌, ◌^◌, sym, subst, arith, string_bytes}
+use Rattle.std.proofs.Common.{◌<◌, ◌+◌, ◌^◌, sym, subst, arith, string_bytes}
 use Rattle.schemars_naming.specs.Naming.{Named, Naming}
 use Rattle.schemars_naming.specs.Owners.{AreUsed}
 use Rattle.schemars_naming.proofs.TriedLemmas.{used_with}
@@ -10,8 +10,7 @@ overflow_add-tries c = let h : c.in_ok-tries.tries < 2 ^ 63 = c.in_ok-tries.ensu
 pub note-requires : goal.note-requires
 note-requires c =
     let x : Named = record { row = c.args.n; contract = c.args.contract; name = string_bytes c.in_ok-clone.field-0 } in
-    let P : Naming → Type 0 = λ names. AreUsed names (string_bytes c.in_ok-key.key) (c.in_ok-tries.tries + 1) in
+    let P : Naming → Type 0 = λ names. AreUsed names c.args.base.now (c.in_ok-tries.tries + 1) in
     subst P (sym c.in_ok-push.ensures.ok)
-    (subst (λ b. AreUsed (c.args.self.now ++ x ∷ []) b (c.in_ok-tries.tries + 1)) (sym c.in_ok-key.ensures.ok)
     (used_with c.args.self.now c.args.base.now c.in_ok-tries.tries (string_bytes c.in_ok-tries.name) x c.in_ok-tries.ensures
-    c.in_ok-clone.ensures.cases))
+    c.in_ok-clone.ensures.cases)

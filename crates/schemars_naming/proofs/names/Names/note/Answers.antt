@@ -1,4 +1,4 @@
-use Rattle.std.proofs.Common.{◌≡◌, ◌⊎◌, sym, subst, Some, inl, inr, ℕ, string_bytes}
+use Rattle.std.proofs.Common.{◌≡◌, ◌⊎◌, sym, subst, Some, inl, inr, ℕ}
 use Rattle.std.specs.HashMap.{get_by_text}
 use Rattle.schemars_json.specs.Json.{Text}
 use Rattle.schemars_naming.specs.Naming.{Naming}
@@ -15,12 +15,12 @@ invariant_of-self c = record {
     names : Naming
     names = naming_of c.self.inside.owners.items c.self.inside.given.keys
 
-    given : AreUsed names (string_bytes c.args.base) c.args.count
-    given = subst (λ (ns : Naming). AreUsed ns (string_bytes c.args.base) c.args.count) (sym c.self.view_is) c.requires
+    given : AreUsed names c.args.base.now c.args.count
+    given = subst (λ (ns : Naming). AreUsed ns c.args.base.now c.args.count) (sym c.self.view_is) c.requires
 
     by : (base : Text) (count : ℕ)
-        → (get_by_text c.self.inside.tried base ≡ Some count) ⊎ ((base ≡ string_bytes c.args.base) × (count ≡ c.args.count))
+        → (get_by_text c.self.inside.tried base ≡ Some count) ⊎ ((base ≡ c.args.base.now) × (count ≡ c.args.count))
         → AreUsed names base count
     by base count (inl h) = c.self.invariant.used base count h
     by base count (inr h) = subst (λ b. AreUsed names b count) (sym h.0)
-        (subst (λ k. AreUsed names (string_bytes c.args.base) k) (sym h.1) given)
+        (subst (λ k. AreUsed names c.args.base.now k) (sym h.1) given)
