@@ -1,6 +1,15 @@
 //! What calls of the libraries answer, as text.
+mod builders;
+mod edits;
+mod error;
+mod schemas;
+mod transforms;
+pub(crate) mod values;
+
+use crate::calls::builders::answer_about_text;
+use crate::calls::error::NoAnswer;
+use crate::calls::values::{pair_in, text_of_bool};
 use crate::samples;
-use schemagen_calls::{NoAnswer, answer_about_text, pair_in, text_of_bool};
 use schemagen_run::fault::Fault;
 use schemars_schema::encoding::{encode_ref_name, percent_decode};
 use schemars_schema::{NotASchema, Schema, json_eq, json_eq_members};
@@ -48,7 +57,7 @@ fn answer_about(
         "into_root_schema_for_value" | "root_schema_for_value" | "schema_for_value" => {
             samples::answer(alloc, call, argument, value)
         }
-        _ => schemagen_calls::answer(alloc, call, argument, value),
+        _ => crate::calls::schemas::answer(alloc, call, argument, value),
     }
 }
 

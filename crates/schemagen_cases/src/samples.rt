@@ -2,7 +2,7 @@
 //!
 //! An example is an object of one member: its key is the kind, and behind a space the name, if the kind
 //! has one; its value is the content, and null where there is none. Entries are a list of objects.
-use schemagen_calls::NoAnswer;
+use crate::calls::error::NoAnswer;
 use schemars::sample::Sample;
 use schemars::{GenerateError, Schema, SchemaGenerator, SchemaSettings, schema_for_value};
 use serde_json::{Map, Value};

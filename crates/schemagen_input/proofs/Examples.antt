@@ -2,7 +2,7 @@
 use Rattle.std.proofs.Common.{◌≡◌, ℕ, List, [], ◌∷◌, true, false, Option, Some, None, option_and_then, codes, refl}
 use Rattle.serde_json.specs.Read.{read}
 use Rattle.serde_json.proofs.OnLiterals.{serde_json_on_literals}
-use Rattle.schemars_json.specs.Json.{Text}
+use Rattle.schemars_schema.specs.Json.{Text}
 use Rattle.serde_json.specs.Data.{null, boolean, number, unsigned, string, array, no_items, item}
 use Rattle.serde_json.specs.Data.{Members, no_members, member}
 use Rattle.schemars_shapes.specs.declared.shape.IntKind.TheVariants.{U8, I32, I128}
@@ -11,7 +11,7 @@ use Rattle.schemars_shapes.specs.Shape.{formatted, char, any}
 use Rattle.schemars_shapes.specs.Shape.{option, seq, struct, external, untagged, internal, Payload, Variant, no_payload, newtype_payload}
 use Rattle.schemars_shapes.specs.Shape.{tuple_payload, struct_payload}
 use Rattle.schemars_types.specs.Rows.{Row}
-use Rattle.schemagen_forms.specs.Forms.{required}
+use Rattle.schemagen_input.specs.Forms.{required}
 use Rattle.schemagen_input.specs.Input.{input_of}
 
 row : Text → Text → Shape → Row

@@ -5,11 +5,11 @@ use Rattle.std.specs.List.{list_all}
 use Rattle.std.specs.Option.{option_map_or}
 use Rattle.serde_json.specs.Data.{Data, null, boolean, number, string, array, object, Items, no_items, item, Members}
 use Rattle.serde_json.specs.Find.{as_array, get}
-use Rattle.schemars_json.specs.Json.{Text}
+use Rattle.schemars_schema.specs.Json.{Text}
 use Rattle.schemars_shapes.specs.Shape.{Payload, no_payload, newtype_payload, tuple_payload, struct_payload, Variant, Entry, internal}
 use Rattle.schemars_types.specs.Rows.{Row, with_entry}
-use Rattle.schemagen_forms.specs.Forms.{variant_in, variant_inside, payload_inside, internals_in, internals_said, internal_in, lone_in}
-use Rattle.schemagen_forms.specs.Forms.{needed}
+use Rattle.schemagen_input.specs.Forms.{variant_in, variant_inside, payload_inside, internals_in, internals_said, internal_in, lone_in}
+use Rattle.schemagen_input.specs.Forms.{needed}
 use Rattle.schemagen_input.specs.Input.{shape_named, shape_under, plain_under, list_under, fixed_under, literal_in, shape_in}
 use Rattle.schemagen_input.specs.Input.{entry_in, heading_in, row_in, rows_in}
 use Rattle.schemagen_input.specs.Written.{is_library_shape, has_library_shape}

@@ -15,13 +15,13 @@ use Rattle.serde_json.specs.Data.{Data, Items, no_items, item}
 use Rattle.serde_json.specs.Find.{as_str, as_array, get}
 use Rattle.serde_json.specs.View.{view, items_view}
 use Rattle.serde_json.specs.declared.value.Value.{Value}
-use Rattle.schemars_json.specs.Json.{Text}
+use Rattle.schemars_schema.specs.Json.{Text}
 use Rattle.schemars_shapes.specs.Shape.{Entry, numbers_of}
 use Rattle.schemars_types.specs.Rows.{Row, place_of, with_entry, defined, reserved, unknown_in, holds_another}
 use Rattle.schemars_types.specs.Refusals.{refusal_of}
 use Rattle.schemars_types.specs.declared.error.TypesError.{TypesError}
 use Rattle.schemars_types.specs.declared.error.TypesError.TheVariants.{UnknownType, AlreadyDefined}
-use Rattle.schemagen_forms.specs.Forms.{number_in, has_only, needed}
+use Rattle.schemagen_input.specs.Forms.{number_in, has_only, needed}
 use Rattle.schemagen_input.specs.Input.{table_in, unentered, row_names, heading_in}
 use Rattle.schemagen_input.specs.Input.{entry_in, row_in, rows_in, all_differ, ids_of, refers_within}
 use Rattle.schemagen_input.specs.Input.{all_fit, is_complete}

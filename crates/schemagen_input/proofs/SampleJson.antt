@@ -8,7 +8,7 @@ use Rattle.std.specs.Cmp.Lexicographic.{slice_cmp}
 use Rattle.serde_json.specs.Data.{Data, null, boolean, number, unsigned, negative, float, string, array, object}
 use Rattle.serde_json.specs.Data.{Items, no_items, item, Members, no_members, member, put}
 use Rattle.serde_json.specs.View.{items_of}
-use Rattle.schemars_json.specs.Json.{Text, IsJson, AreJson, AreJsonMembers, IsAbove}
+use Rattle.schemars_schema.specs.Json.{Text, IsJson, AreJson, AreJsonMembers, IsAbove}
 use Rattle.schemars_schema.specs.SchemaData.{put_members}
 use Rattle.schemars_sample.specs.Example.{Example, truth, whole, text, no_value, seq, struct}
 use Rattle.schemars_sample.specs.Example.{Examples, no_examples, example, Entries, no_entries, entry}

@@ -14,8 +14,8 @@ use Rattle.schemars_shapes.specs.Shape.{null as null_shape, bool, int, non_zero,
 use Rattle.schemars_shapes.specs.Shape.{schema_itself, option, seq, set, array as array_shape, up_to, tuple, struct, newtype}
 use Rattle.schemars_shapes.specs.Shape.{result, bound, range, either, map_from, external, untagged, internal, literal}
 use Rattle.schemars_types.specs.Rows.{Row}
-use Rattle.schemagen_forms.specs.Forms.{kind_in, fields_in, all_flattened_in, numbers_in, payload_in}
-use Rattle.schemagen_forms.specs.Forms.{variants_in, payload_inside, internals_in}
+use Rattle.schemagen_input.specs.Forms.{kind_in, fields_in, all_flattened_in, numbers_in, payload_in}
+use Rattle.schemagen_input.specs.Forms.{variants_in, payload_inside, internals_in}
 use Rattle.schemagen_input.specs.Input.{shape_in, row_in, rows_in, refers_within, all_fit, all_differ, ids_of}
 use Rattle.schemagen_input.specs.Input.{table_in, input_of}
 use Rattle.schemagen_input.specs.Written.{whole, field_json, flattened_json, payload_json, variant_json, kind_json}

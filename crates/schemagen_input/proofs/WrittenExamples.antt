@@ -2,12 +2,12 @@
 use Rattle.std.proofs.Common.{◌≡◌, [], ◌∷◌, true, false, Some, codes, refl}
 use Rattle.serde_json.specs.Read.{read}
 use Rattle.serde_json.proofs.OnLiterals.{serde_json_on_literals}
-use Rattle.schemars_json.specs.Json.{Text}
+use Rattle.schemars_schema.specs.Json.{Text}
 use Rattle.serde_json.specs.Data.{boolean, string, no_members, member}
 use Rattle.schemars_shapes.specs.declared.shape.IntKind.TheVariants.{U8}
 use Rattle.schemars_shapes.specs.Shape.{Shape, Field, Fields, Variant, without_notes, int, array, struct, internal, literal, newtype_payload}
 use Rattle.schemars_types.specs.Rows.{Row}
-use Rattle.schemagen_forms.specs.Forms.{required}
+use Rattle.schemagen_input.specs.Forms.{required}
 use Rattle.schemagen_input.specs.Written.{json_of}
 
 -- a row that has its name for an id

@@ -5,7 +5,7 @@ use Rattle.std.specs.List.{list_all, list_any}
 use Rattle.std.specs.Option.{option_map_or}
 use Rattle.serde_json.specs.Data.{Data, null, boolean, number, string, array, object, Items, no_items, item}
 use Rattle.serde_json.specs.Find.{as_bool, as_str, as_array}
-use Rattle.schemars_json.specs.Json.{Text}
+use Rattle.schemars_schema.specs.Json.{Text}
 use Rattle.schemars_shapes.specs.Shape.{Shape, Entry, numbers_of, either, map_from}
 use Rattle.schemars_shapes.specs.Shape.{null as null_shape, bool, int, non_zero}
 use Rattle.schemars_shapes.specs.Shape.{number as number_shape, text, char, formatted, any, bytes, schema_itself}
@@ -13,8 +13,8 @@ use Rattle.schemars_shapes.specs.Shape.{option, seq, set, array as array_shape, 
 use Rattle.schemars_shapes.specs.Shape.{result, bound, range, literal}
 use Rattle.schemars_schema.specs.Lookup.{schema_only}
 use Rattle.schemars_types.specs.Rows.{Row, with_entry}
-use Rattle.schemagen_forms.specs.Forms.{has_only, needed, optional, lone_in, number_in, notes_in, kind_in, struct_in, parts_in}
-use Rattle.schemagen_forms.specs.Forms.{external_in, untagged_in, internal_in}
+use Rattle.schemagen_input.specs.Forms.{has_only, needed, optional, lone_in, number_in, notes_in, kind_in, struct_in, parts_in}
+use Rattle.schemagen_input.specs.Forms.{external_in, untagged_in, internal_in}
 
 -- ---- shapes
 

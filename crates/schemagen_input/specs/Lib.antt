@@ -1,4 +1,6 @@
 -- The definitions that contracts cite.
+pub mod Forms
+pub mod Errors
 pub mod Input
 pub mod Written
 pub mod Reading

@@ -5,7 +5,7 @@ use Rattle.std.specs.List.{list_all}
 use Rattle.std.specs.Option.{option_map_or}
 use Rattle.serde_json.specs.Data.{Data, boolean, number, unsigned, string, array, object, no_members, member}
 use Rattle.serde_json.specs.View.{items_of}
-use Rattle.schemars_json.specs.Json.{Text}
+use Rattle.schemars_schema.specs.Json.{Text}
 use Rattle.schemars_schema.specs.SchemaData.{object_of, is_schema}
 use Rattle.schemars_shapes.specs.declared.shape.IntKind.{IntKind}
 use Rattle.schemars_shapes.specs.declared.shape.IntKind.TheVariants.{I8, I16, I32, I64, I128, Isize, U8, U16, U32, U64, U128, Usize}
@@ -15,7 +15,7 @@ use Rattle.schemars_shapes.specs.Shape.{null, bool, int, non_zero, number as num
 use Rattle.schemars_shapes.specs.Shape.{schema_itself, option, seq, set, array as array_shape, up_to, tuple, struct, newtype}
 use Rattle.schemars_shapes.specs.Shape.{result, bound, range, either, map_from, external, untagged, internal, literal}
 use Rattle.schemars_types.specs.Rows.{Row}
-use Rattle.schemagen_forms.specs.Forms.{payload_inside}
+use Rattle.schemagen_input.specs.Forms.{payload_inside}
 use Rattle.schemagen_input.specs.Input.{is_complete}
 
 -- ---- forms

@@ -1,16 +1,16 @@
 //! The table that a JSON value says.
 ghost use Rattle.std.specs.Prelude.{◌≡◌, ◌≢◌, ◌<◌, ℕ, List, [], true, None, Some, IfOk, IfErr, option_map, length};
 ghost use Rattle.serde_json.specs.View.{view, items_view};
-ghost use Rattle.schemagen_forms.specs.Forms.{needed};
+ghost use Rattle.schemagen_input.specs.Forms.{needed};
 ghost use Rattle.schemagen_input.specs.Input.{heading_in, unentered, is_complete, table_in, input_of};
 ghost use Rattle.schemagen_input.specs.Written.{json_of, CanBeWritten};
 ghost use Rattle.schemars_types.specs.Rows.{Row};
 ghost use Rattle.schemagen_input.specs.Reading.{headings_in, reserved_after, fitting_after};
 ghost use Rattle.serde_json.specs.Find.{as_array};
 
+use crate::error::InputError;
+use crate::members::{has_only, number_of, text_in};
 use crate::shapes::entry_in;
-use schemagen_forms::InputError;
-use schemagen_forms::members::{has_only, number_of, text_in};
 use schemars_types::{TypeNo, Types};
 use serde_json::Value;
 use std::alloc::Global;

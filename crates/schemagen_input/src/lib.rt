@@ -1,10 +1,14 @@
 //! Reads tables of types, and example values, from JSON values.
 #![tactic(auto)]
 
+mod error;
+mod fields;
 mod input;
+mod members;
 mod sample;
 mod shapes;
+mod variants;
 
+pub use error::InputError;
 pub use input::read_input;
 pub use sample::{SampleError, read_sample};
-pub use schemagen_forms::InputError;

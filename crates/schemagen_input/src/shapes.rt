@@ -7,12 +7,12 @@ ghost use Rattle.schemagen_input.specs.Input.{plain_under, literal_in, two_in, r
 ghost use Rattle.schemagen_input.specs.Input.{shape_named, shape_under, shape_in, entry_in};
 ghost use Rattle.serde_json.specs.Find.{as_str};
 
-use schemagen_forms::InputError;
-use schemagen_forms::fields::struct_in;
-use schemagen_forms::members::{
+use crate::error::InputError;
+use crate::fields::struct_in;
+use crate::members::{
     flag_in, has_only, kind_in, lone_member, notes_in, number_in, number_of, parts_in,
 };
-use schemagen_forms::variants::{external_in, internal_in, untagged_in};
+use crate::variants::{external_in, internal_in, untagged_in};
 use schemars_schema::Schema;
 use schemars_types::{Shape, TypeEntry, TypeNo};
 use serde_json::{Map, Value};

@@ -10,9 +10,9 @@ use Rattle.schemars_types.specs.Faults.{IsAccepted, Refusal}
 use Rattle.schemars_documents.specs.PlainTable.{HasPlainNotes}
 use Rattle.schemars_types.specs.declared.error.TypesError as types
 use Rattle.schemars_types.specs.declared.error.TypesError.TheVariants as of_types
-use Rattle.schemars_error.specs.declared.error.GenerateError.{GenerateError}
-use Rattle.schemars_error.specs.declared.error.GenerateError.TheVariants.{OutOfMemory, DefinitionsPath}
-use Rattle.schemars_error.specs.Refusals.{code_of, error_of, HasFault}
+use Rattle.schemars_generate.specs.declared.error.GenerateError.{GenerateError}
+use Rattle.schemars_generate.specs.declared.error.GenerateError.TheVariants.{OutOfMemory, DefinitionsPath}
+use Rattle.schemars_generate.specs.Refusals.{code_of, error_of, HasFault}
 use Rattle.schemagen_run.specs.declared.fault.Fault.{Fault}
 use Rattle.schemagen_run.specs.declared.fault.Fault.TheVariants.{Refused}
 use Rattle.schemagen_run.specs.declared.fault.TheConstants.{OUT_OF_MEMORY, DEFINITIONS_PATH, NOT_JSON, BAD_TABLE, WRITE}

@@ -4,15 +4,15 @@ use Rattle.serde_json.specs.Data.{Data, Members, no_members}
 use Rattle.schemars_schema.specs.Acceptance.{draft07, draft2019_09}
 use Rattle.schemars_sample.specs.Accepted.{AcceptsExample}
 use Rattle.schemars_sample.specs.Example.{Example}
-use Rattle.schemars_dialects.specs.Dialects.{AcceptsExampleUnder}
+use Rattle.schemars_headline.specs.Dialects.{AcceptsExampleUnder}
 use Rattle.schemars_headline.specs.State.{Settings}
-use Rattle.schemars_error.specs.declared.error.GenerateError.{GenerateError}
-use Rattle.schemars_error.specs.declared.error.GenerateError.TheVariants.{OutOfMemory}
-use Rattle.schemars_roots.specs.Samples.{IsSampleRoot, IsSampleRefused}
-use Rattle.schemars_transforms.specs.declared.gen_transform.GenTransform.{GenTransform}
-use Rattle.schemars_transforms.specs.declared.no_transform.NoTransform.{NoTransform}
-use Rattle.schemars_transforms.specs.Member.{some_own}
-use Rattle.schemars_transforms.specs.BuiltIn.{made_by, IsMadeBy}
+use Rattle.schemars_generate.specs.declared.error.GenerateError.{GenerateError}
+use Rattle.schemars_generate.specs.declared.error.GenerateError.TheVariants.{OutOfMemory}
+use Rattle.schemars_generate.specs.Samples.{IsSampleRoot, IsSampleRefused}
+use Rattle.schemars_transform.specs.declared.gen_transform.GenTransform.{GenTransform}
+use Rattle.schemars_transform.specs.declared.no_transform.NoTransform.{NoTransform}
+use Rattle.schemars_transform.specs.Member.{some_own}
+use Rattle.schemars_transform.specs.BuiltIn.{made_by, IsMadeBy}
 use Rattle.schemagen_run.specs.declared.words.Dialect.{Dialect}
 use Rattle.schemagen_run.specs.declared.words.Dialect.TheVariants.{Draft2020_12, Draft2019_09, Draft07, OpenApi3}
 use Rattle.schemagen_run.specs.Run.{settings_of_dialect, transforms_of_dialect, AcceptsIn, AcceptsUnder, IsUntransformedExample}

@@ -10,21 +10,21 @@ use Rattle.schemars_types.specs.Faults.{IsAccepted}
 use Rattle.schemars_schema.specs.Acceptance.{draft07, draft2019_09}
 use Rattle.schemars_documents.specs.declared.contract.Contract.{Contract}
 use Rattle.schemars_documents.specs.ContractOf.{contract_of}
-use Rattle.schemars_dialects.specs.Dialects.{MeansItsTypeUnder}
-use Rattle.schemars_transforms.specs.declared.gen_transform.GenTransform.{GenTransform}
-use Rattle.schemars_transforms.specs.declared.no_transform.NoTransform.{NoTransform}
-use Rattle.schemars_transforms.specs.Member.{some_own}
-use Rattle.schemars_transforms.specs.BuiltIn.{made_by, IsMadeBy}
+use Rattle.schemars_headline.specs.Dialects.{MeansItsTypeUnder}
+use Rattle.schemars_transform.specs.declared.gen_transform.GenTransform.{GenTransform}
+use Rattle.schemars_transform.specs.declared.no_transform.NoTransform.{NoTransform}
+use Rattle.schemars_transform.specs.Member.{some_own}
+use Rattle.schemars_transform.specs.BuiltIn.{made_by, IsMadeBy}
 use Rattle.schemagen_run.specs.declared.words.Asked.{Asked}
 use Rattle.schemagen_run.specs.declared.words.Dialect.{Dialect}
 use Rattle.schemagen_run.specs.declared.words.Dialect.TheVariants.{Draft2020_12, Draft2019_09, Draft07, OpenApi3}
-use Rattle.schemars_error.specs.declared.error.GenerateError.{GenerateError}
-use Rattle.schemars_error.specs.declared.error.GenerateError.TheVariants.{OutOfMemory, UnknownType, DefinitionsPath}
-use Rattle.schemars_error.specs.Refusals.{HasFault}
+use Rattle.schemars_generate.specs.declared.error.GenerateError.{GenerateError}
+use Rattle.schemars_generate.specs.declared.error.GenerateError.TheVariants.{OutOfMemory, UnknownType, DefinitionsPath}
+use Rattle.schemars_generate.specs.Refusals.{HasFault}
 use Rattle.schemars_headline.specs.Headline.{MeansItsType, IsDraftPath, CannotPlace}
 use Rattle.schemars_documents.specs.PlainTable.{IsPlainTable, HasPlainNotes}
-use Rattle.schemars_roots.specs.Settings.{Held, state_with}
-use Rattle.schemars_roots.specs.Through.{IsUntransformed, IsRefused}
+use Rattle.schemars_generate.specs.DocumentSettings.{Held, state_with}
+use Rattle.schemars_generate.specs.Through.{IsUntransformed, IsRefused}
 use Rattle.schemars_headline.specs.State.{Settings, State, stripped, path_of, HasOwnDefinitions}
 use Rattle.schemars_laws.specs.Paths.{components}
 use Rattle.schemars_generate.specs.Settings.{transforms_openapi3}

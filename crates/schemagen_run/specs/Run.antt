@@ -6,8 +6,8 @@ use Rattle.std.specs.Io.KnownBytes.{Consumes, IsAtEnd}
 use Rattle.serde_json.specs.Data.{Data, Members, no_members}
 use Rattle.serde_json.specs.Read.{read}
 use Rattle.serde_json.specs.Written.{has_float, members_have_float}
-use Rattle.schemars_json.specs.Json.{Text, IsJson}
-use Rattle.schemars_json.specs.OrderedText.{ordered_text, definitions_text}
+use Rattle.schemars_schema.specs.Json.{Text, IsJson}
+use Rattle.schemars_schema.specs.OrderedText.{ordered_text, definitions_text}
 use Rattle.schemars_schema.specs.Acceptance.{draft07, draft2019_09}
 use Rattle.schemars_schema.specs.References.{references}
 use Rattle.schemars_sample.specs.Accepted.{AcceptsExample}
@@ -17,19 +17,19 @@ use Rattle.schemars_sample.specs.SampleSchema.{sample_root}
 use Rattle.schemars_types.specs.Rows.{Row}
 use Rattle.schemars_types.specs.Faults.{IsAccepted}
 use Rattle.schemars_documents.specs.PlainTable.{IsPlainTable, IsPlainUnder, HasPlainNotes, HasNoFloat}
-use Rattle.schemars_error.specs.declared.error.GenerateError.{GenerateError}
-use Rattle.schemars_error.specs.declared.error.GenerateError.TheVariants.{OutOfMemory, DefinitionsPath}
+use Rattle.schemars_generate.specs.declared.error.GenerateError.{GenerateError}
+use Rattle.schemars_generate.specs.declared.error.GenerateError.TheVariants.{OutOfMemory, DefinitionsPath}
 use Rattle.schemars_headline.specs.Headline.{MeansItsType, CannotPlace}
 use Rattle.schemars_headline.specs.Calls.{IsLastRootCall, IsPartOf, Adds, IsNeeded}
-use Rattle.schemars_dialects.specs.Dialects.{MeansItsTypeUnder, AcceptsExampleUnder}
-use Rattle.schemars_dialects.specs.Taken.{TakenHeadline, MeanTheirRows}
+use Rattle.schemars_headline.specs.Dialects.{MeansItsTypeUnder, AcceptsExampleUnder}
+use Rattle.schemars_headline.specs.Taken.{TakenHeadline, MeanTheirRows}
 use Rattle.schemars_documents.specs.ContractOf.{contract_of}
-use Rattle.schemars_error.specs.Refusals.{code_of, HasFault}
+use Rattle.schemars_generate.specs.Refusals.{code_of, HasFault}
 use Rattle.schemars_headline.specs.State.{Settings, State, settings2020_12, HasOwnDefinitions}
 use Rattle.schemars_types.specs.Meaning.{Contract}
-use Rattle.schemars_transforms.specs.declared.gen_transform.GenTransform.{GenTransform}
-use Rattle.schemars_transforms.specs.declared.no_transform.NoTransform.{NoTransform}
-use Rattle.schemars_transforms.specs.BuiltIn.{IsMadeBy, each_made_by}
+use Rattle.schemars_transform.specs.declared.gen_transform.GenTransform.{GenTransform}
+use Rattle.schemars_transform.specs.declared.no_transform.NoTransform.{NoTransform}
+use Rattle.schemars_transform.specs.BuiltIn.{IsMadeBy, each_made_by}
 use Rattle.schemars_generate.specs.Settings.{settings07, settings2019_09, settings_openapi3}
 use Rattle.schemars_generate.specs.Settings.{transforms07, transforms2019_09, transforms_openapi3}
 use Rattle.schemagen_run.specs.declared.words.Asked.{Asked}

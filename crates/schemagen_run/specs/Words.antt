@@ -1,7 +1,7 @@
 -- What the words of a run ask for.
 use Rattle.std.specs.Prelude.{◌≡◌, ◌⊎◌, List, [], ◌∷◌, Bool, true, false, codes, map, string_bytes, String}
 use Rattle.std.specs.declared.alloc.Global.{Global}
-use Rattle.schemars_json.specs.Json.{Text}
+use Rattle.schemars_schema.specs.Json.{Text}
 use Rattle.schemars_documents.specs.declared.contract.Contract.{Contract}
 use Rattle.schemars_documents.specs.declared.contract.Contract.TheVariants.{Deserialize, Serialize}
 use Rattle.schemagen_run.specs.declared.words.Asked.{Asked}

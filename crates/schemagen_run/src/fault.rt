@@ -83,7 +83,7 @@ impl From<AllocError> for Fault {
 impl From<GenerateError> for Fault {
     ghost use Rattle.std.specs.Prelude.{◌≡◌};
     ghost use Rattle.schemagen_run.specs.declared.fault.Fault.TheVariants.{Refused};
-    ghost use Rattle.schemars_error.specs.Refusals.{code_of};
+    ghost use Rattle.schemars_generate.specs.Refusals.{code_of};
 
     ghost from_gives = { λ e f. f ≡ Refused (code_of e) };
 

@@ -4,11 +4,11 @@ ghost use Rattle.std.specs.Prelude.{string_bytes, [], ◌∷◌, ◌++◌, ◌<�
 ghost use Rattle.std.specs.Io.KnownBytes.{Appends};
 ghost use Rattle.serde_json.specs.View.{view, members_view};
 ghost use Rattle.schemars_types.specs.Faults.{IsAccepted};
-ghost use Rattle.schemars_error.specs.Refusals.{HasFault};
+ghost use Rattle.schemars_generate.specs.Refusals.{HasFault};
 ghost use Rattle.schemars_generate.specs.Settings.{settings_of, state};
-ghost use Rattle.schemars_transforms.specs.Member.{some_own};
+ghost use Rattle.schemars_transform.specs.Member.{some_own};
 ghost use Rattle.schemagen_run.specs.Streams.{AppendsBeginning};
-ghost use Rattle.schemars_json.specs.Json.{IsJson};
+ghost use Rattle.schemars_schema.specs.Json.{IsJson};
 ghost use Rattle.schemars_sample.specs.Example.{example_of};
 ghost use Rattle.schemars_sample.specs.SampleJson.{sample_json};
 ghost use Rattle.schemagen_input.specs.Input.{is_table, input_of};

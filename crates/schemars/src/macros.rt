@@ -6,6 +6,6 @@
 macro_rules! schema_for_value {
     (in $alloc:expr; $value:expr) => {{
         let alloc = $alloc;
-        $crate::SchemaGenerator::default(alloc).into_root_schema_for_value(alloc, &$value)
+        $schemars_generate::SchemaGenerator(alloc).into_root_schema_for_value(alloc, &$value)
     }};
 }

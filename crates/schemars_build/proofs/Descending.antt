@@ -11,10 +11,10 @@ use Rattle.schemars_shapes.specs.Shape.{Entry, numbers_of}
 use Rattle.schemars_types.specs.Rows.{Row, entry_at}
 use Rattle.schemars_types.specs.Edges.{numbers_at, is_inline_at, asked_in, asked_at, height}
 use Rattle.schemars_types.specs.Faults.{IsChecked}
-use Rattle.schemars_naming.specs.Placed.{is_pending, pending_in, is_in_place}
-use Rattle.schemars_naming.specs.Work.{Plan, Work}
-use Rattle.schemars_templates.specs.Template.{Ask, part, members_of, content}
-use Rattle.schemars_templates.specs.Describes.{without_options}
+use Rattle.schemars_build.specs.Placed.{is_pending, pending_in, is_in_place}
+use Rattle.schemars_build.specs.Work.{Plan, Work}
+use Rattle.schemars_documents.specs.Template.{Ask, part, members_of, content}
+use Rattle.schemars_documents.specs.Describes.{without_options}
 use Rattle.schemars_build.specs.Missing.{failing_below, missing, fresh, depth_in_place, IsLower, IsAskedIn}
 use Rattle.schemars_build.specs.Left.{width, places, left_of_definition, left_of_part, left_of_own_document, left_of_filled}
 use Rattle.schemars_build.specs.Left.{left_of_members, left_of_content, left_of_asked}

@@ -8,15 +8,15 @@ use Rattle.std.proofs.Math.Nat.{mul-le-mul_right, mul-le-mul_left, pow-le-pow_ri
 use Rattle.std.proofs.lemmas.List.{length-append, length-map, get_or-map}
 use Rattle.serde_json.specs.Data.{Data}
 use Rattle.serde_json.specs.Find.{get_member}
-use Rattle.schemars_json.specs.Json.{Text}
+use Rattle.schemars_schema.specs.Json.{Text}
 use Rattle.schemars_types.specs.Faults.{IsChecked}
-use Rattle.schemars_naming.specs.Naming.{name_of}
-use Rattle.schemars_naming.specs.Placed.{pending_in}
-use Rattle.schemars_naming.specs.Work.{Plan, Work, Step, basis_of, without_last}
-use Rattle.schemars_templates.specs.Template.{Ask, asks_of}
-use Rattle.schemars_templates.specs.View.{ask_of}
-use Rattle.schemars_templates.specs.OfShape.{entry_template}
-use Rattle.schemars_templates.specs.declared.template.Ask as src-ask
+use Rattle.schemars_build.specs.Naming.{name_of}
+use Rattle.schemars_build.specs.Placed.{pending_in}
+use Rattle.schemars_build.specs.Work.{Plan, Work, Step, basis_of, without_last}
+use Rattle.schemars_documents.specs.Template.{Ask, asks_of}
+use Rattle.schemars_documents.specs.View.{ask_of}
+use Rattle.schemars_documents.specs.OfShape.{entry_template}
+use Rattle.schemars_documents.specs.declared.template.Ask as src-ask
 use Rattle.schemars_build.specs.Missing.{missing, IsAskedIn}
 use Rattle.schemars_build.specs.Left.{left_of_own_document, left_of_part}
 use Rattle.schemars_build.specs.Left.{width, places, left_of_filled, left_of_asked}
@@ -31,7 +31,7 @@ use Rattle.schemars_build.specs.declared.build.Reply.{Reply}
 use Rattle.schemars_build.specs.declared.build.Reply.TheVariants as reply
 use Rattle.schemars_build.proofs.Asked.{asks_in_order}
 use Rattle.schemars_build.proofs.Placing.{left_pending}
-use Rattle.schemars_naming.proofs.Members.{get_member-replaced, get_member-replaced_other}
+use Rattle.schemars_build.proofs.Members.{get_member-replaced, get_member-replaced_other}
 use Rattle.schemars_build.proofs.Steps.{begun_with, finished_with, begun-fewer, missing-wider, step_wider, same_key}
 use Rattle.schemars_build.proofs.Descending.{to_asked, to_filled, to_define, to_definition}
 

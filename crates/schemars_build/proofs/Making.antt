@@ -6,30 +6,30 @@ use Rattle.std.specs.declared.alloc.Global.{Global}
 use Rattle.std.specs.Str.{IsUtf8}
 use Rattle.std.proofs.Common.{get_or}
 use Rattle.std.proofs.lemmas.List.{take_all, length-append, length-map, get_or-map}
-use Rattle.schemars_templates.specs.declared.template.Ask as src-ask
+use Rattle.schemars_documents.specs.declared.template.Ask as src-ask
 use Rattle.schemars_build.specs.Missing.{IsAskedIn, row_asked}
 use Rattle.schemars_build.proofs.Asked.{asks_in_order}
 use Rattle.schemars_types.specs.Rows.{entry_at}
 use Rattle.serde_json.specs.Data.{Data, string, boolean}
 use Rattle.serde_json.specs.Find.{get_member}
 use Rattle.serde_json.proofs.Views.{get_member-put}
-use Rattle.schemars_json.specs.Json.{Text}
+use Rattle.schemars_schema.specs.Json.{Text}
 use Rattle.schemars_schema.specs.References.{references}
 use Rattle.schemars_schema.specs.SchemaData.{IsSchema}
 use Rattle.schemars_types.specs.Edges.{is_inline_at}
 use Rattle.schemars_types.specs.Faults.{IsChecked}
-use Rattle.schemars_parts.specs.Opening.{opened_inside, stands_in_place}
-use Rattle.schemars_parts.specs.Parts.{flattened_part}
+use Rattle.schemars_flatten.specs.Opening.{opened_inside, stands_in_place}
+use Rattle.schemars_flatten.specs.Parts.{flattened_part}
 use Rattle.schemars_documents.specs.Documents.{reference}
 use Rattle.schemars_documents.specs.declared.contract.Contract.{Contract}
-use Rattle.schemars_templates.specs.Template.{Template, Ask, part, members_of, content, asks_of, filled}
-use Rattle.schemars_templates.specs.View.{ask_of, template_view}
-use Rattle.schemars_templates.specs.Describes.{without_options, are_optional}
-use Rattle.schemars_templates.specs.OfShape.{entry_template}
-use Rattle.schemars_naming.specs.Naming.{name_of}
-use Rattle.schemars_naming.specs.Placed.{is_pending, pending_in, is_in_place}
-use Rattle.schemars_naming.specs.Work.{Plan, Work, Step, GivesNames, undone, reference_to, basis_of, without_last}
-use Rattle.schemars_naming.proofs.Given.{gives-keeps}
+use Rattle.schemars_documents.specs.Template.{Template, Ask, part, members_of, content, asks_of, filled}
+use Rattle.schemars_documents.specs.View.{ask_of, template_view}
+use Rattle.schemars_documents.specs.Describes.{without_options, are_optional}
+use Rattle.schemars_documents.specs.OfShape.{entry_template}
+use Rattle.schemars_build.specs.Naming.{name_of}
+use Rattle.schemars_build.specs.Placed.{is_pending, pending_in, is_in_place}
+use Rattle.schemars_build.specs.Work.{Plan, Work, Step, GivesNames, undone, reference_to, basis_of, without_last}
+use Rattle.schemars_build.proofs.Given.{gives-keeps}
 use Rattle.schemars_build.specs.Reached.{AreReached}
 use Rattle.schemars_build.specs.Parts.{IsOwn, IsMade, IsPart, IsFilledIn, IsAnswer, AreAnswers}
 use Rattle.schemars_build.specs.Making.{Wanted, own, defined, flattened, asked, wanted_for, IsReply, IsBegun, IsTemplate, IsOpened, Leads}

@@ -3,11 +3,11 @@ use Rattle.std.specs.Prelude.{◌≤◌, ◌+◌, ◌*◌, ◌-◌, ◌^◌, ℕ
 use Rattle.std.specs.Option.{option_map_or}
 use Rattle.schemars_types.specs.Rows.{Row, entry_at}
 use Rattle.schemars_types.specs.Edges.{height}
-use Rattle.schemars_naming.specs.Placed.{pending_in}
-use Rattle.schemars_naming.specs.Work.{Plan, Work, basis_of, without_last}
-use Rattle.schemars_templates.specs.Template.{Ask, part, members_of, content, asks_of}
-use Rattle.schemars_templates.specs.OfShape.{entry_template}
-use Rattle.schemars_templates.specs.Describes.{without_options}
+use Rattle.schemars_build.specs.Placed.{pending_in}
+use Rattle.schemars_build.specs.Work.{Plan, Work, basis_of, without_last}
+use Rattle.schemars_documents.specs.Template.{Ask, part, members_of, content, asks_of}
+use Rattle.schemars_documents.specs.OfShape.{entry_template}
+use Rattle.schemars_documents.specs.Describes.{without_options}
 use Rattle.schemars_build.specs.Missing.{missing, fresh, depth_in_place}
 use Rattle.schemars_build.specs.declared.build.Document.{Document}
 use Rattle.schemars_build.specs.declared.build.Purpose.{Purpose}

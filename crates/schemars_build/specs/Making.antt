@@ -3,17 +3,17 @@ use Rattle.std.specs.Prelude.{◌≡◌, ◌<◌, ◌&&◌, ◌++◌, ◌+◌, �
 use Rattle.std.specs.Prelude.{string_bytes}
 use Rattle.serde_json.specs.Data.{Data, boolean, put}
 use Rattle.serde_json.specs.Find.{get_member}
-use Rattle.schemars_json.specs.Json.{Text}
+use Rattle.schemars_schema.specs.Json.{Text}
 use Rattle.schemars_shapes.specs.Shape.{Entry}
 use Rattle.schemars_types.specs.Rows.{entry_at}
-use Rattle.schemars_parts.specs.Parts.{flattened_part}
+use Rattle.schemars_flatten.specs.Parts.{flattened_part}
 use Rattle.schemars_documents.specs.Documents.{reference}
-use Rattle.schemars_templates.specs.Template.{Ask, content, asks_of}
-use Rattle.schemars_templates.specs.View.{ask_of, template_view}
-use Rattle.schemars_templates.specs.OfShape.{entry_template}
-use Rattle.schemars_naming.specs.Naming.{name_of}
-use Rattle.schemars_naming.specs.Placed.{is_pending, pending_in}
-use Rattle.schemars_naming.specs.Work.{Plan, Work, Step, undone, reference_to, basis_of}
+use Rattle.schemars_documents.specs.Template.{Ask, content, asks_of}
+use Rattle.schemars_documents.specs.View.{ask_of, template_view}
+use Rattle.schemars_documents.specs.OfShape.{entry_template}
+use Rattle.schemars_build.specs.Naming.{name_of}
+use Rattle.schemars_build.specs.Placed.{is_pending, pending_in}
+use Rattle.schemars_build.specs.Work.{Plan, Work, Step, undone, reference_to, basis_of}
 use Rattle.schemars_build.specs.Missing.{row_asked}
 use Rattle.schemars_build.specs.Parts.{IsOwn, IsMade, IsFilledIn, IsAnswer, AreAnswers}
 use Rattle.schemars_build.specs.declared.build.Document.{Document}

@@ -8,8 +8,8 @@ use Rattle.std.proofs.lemmas.Bool.{and_parts, cases_lt}
 use Rattle.std.proofs.lemmas.Bool.Decides.{nat_tests}
 use Rattle.std.proofs.lemmas.Str.{inside_one, encode_ascii}
 use borrow.Author.Tests.{ltb-true}
-use Rattle.schemars_json.specs.Json.{Text}
-use Rattle.schemars_json.proofs.Encodings.{are_ascii}
+use Rattle.schemars_schema.specs.Json.{Text}
+use Rattle.schemars_schema.proofs.Encodings.{are_ascii}
 use Rattle.schemars_builders.specs.Pattern.{is_special, escaped_byte, escaped, unescaped}
 
 pub escaped-append : (xs ys : Text) → escaped (xs ++ ys) ≡ escaped xs ++ escaped ys

@@ -9,7 +9,7 @@ use Rattle.std.specs.Prelude.{◌==◌, Option, Some, None, IfSome, slice_index}
 use Rattle.std.specs.List.{prefix_len, position_or_len, before_first, after_first}
 use Rattle.std.specs.Str.{IsTrimAscii}
 use Rattle.std.specs.Str.Pattern.{FindsCharPrefix, CutsPrefixes, IsTrimStartMatches}
-use Rattle.schemars_json.specs.Json.{Text}
+use Rattle.schemars_schema.specs.Json.{Text}
 use Rattle.schemars_builders.specs.Documentation.{trimmed_start, trimmed, is_mark, ends_line, is_headed, without_marks}
 use Rattle.schemars_builders.specs.Documentation.{title_of, description_of, title_in, description_in}
 

@@ -2,9 +2,9 @@
 use Rattle.std.specs.Prelude.{◌&&◌, ◌||◌, Bool, false, Option, Some, None, [], ◌∷◌, if◌then◌else◌, bytes_eq, codes}
 use Rattle.serde_json.specs.Data.{Data, null, boolean, number, string, array, object}
 use Rattle.serde_json.specs.Find.{get}
-use Rattle.schemars_json.specs.Json.{Text}
+use Rattle.schemars_schema.specs.Json.{Text}
 use Rattle.schemars_schema.specs.SchemaData.{inserted}
-use Rattle.schemars_rewrite.specs.AllowNull.{holds_text}
+use Rattle.schemars_builders.specs.AllowNull.{holds_text}
 
 -- with this text at k, unless it is empty
 abbrev pub with_metadata : Text → Text → Data → Data

@@ -1,7 +1,7 @@
 -- Texts in regular expressions.
 use Rattle.std.specs.Prelude.{ℕ, ◌==◌, Bool, [], ◌∷◌, ◌++◌, if◌then◌else◌, codes}
 use Rattle.std.specs.List.{list_any}
-use Rattle.schemars_json.specs.Json.{Text}
+use Rattle.schemars_schema.specs.Json.{Text}
 
 -- these stand for something else than themselves
 abbrev pub is_special : ℕ → Bool

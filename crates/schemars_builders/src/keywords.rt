@@ -3,7 +3,7 @@ ghost use Rattle.std.specs.Prelude.{◌≡◌, Some, OnOk, OnErr, codes};
 ghost use Rattle.serde_json.specs.Data.{string};
 ghost use Rattle.serde_json.specs.Find.{as_str};
 ghost use Rattle.serde_json.specs.View.{view, items_view};
-ghost use Rattle.schemars_rewrite.specs.AllowNull.{is_text, holds_text};
+ghost use Rattle.schemars_builders.specs.AllowNull.{is_text, holds_text};
 ghost use Rattle.schemars_schema.specs.SchemaData.{inserted};
 ghost use Rattle.schemars_builders.specs.Keywords.{with_metadata, with_validation};
 ghost use Rattle.schemars_builders.specs.Keywords.{names_type, has_type, validates};

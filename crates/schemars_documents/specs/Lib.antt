@@ -1,3 +1,8 @@
 pub mod ContractOf
 pub mod Documents
 pub mod PlainTable
+pub mod Basis
+pub mod Template
+pub mod OfShape
+pub mod View
+pub mod Describes

@@ -3,7 +3,7 @@ ghost use Rattle.std.specs.Prelude.{◌≡◌, ◌∷◌, [], None, Some, IfOk, 
 ghost use Rattle.serde_json.specs.Data.{string, array, object, no_items, item, no_members, put};
 ghost use Rattle.std.specs.Prelude.{map};
 ghost use Rattle.serde_json.specs.View.{items_view};
-ghost use Rattle.schemars_rewrite.specs.NullLaw.{text_items};
+ghost use Rattle.schemars_builders.specs.NullLaw.{text_items};
 ghost use Rattle.schemars_shapes.specs.Shape.{shape_of, field_of, required_of};
 ghost use Rattle.schemars_types.specs.Meaning.{is_required};
 ghost use Rattle.schemars_documents.specs.ContractOf.{contract_of};

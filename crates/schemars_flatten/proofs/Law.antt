@@ -4,14 +4,14 @@ use Rattle.std.proofs.lemmas.Slice.Eq.{bytes_eq-Decides}
 use Rattle.std.specs.Prelude.{◌&&◌, bytes_eq, codes, if◌then◌else◌, not}
 use Rattle.serde_json.specs.Data.{Data, null, boolean, number, string, array, object, Members}
 use Rattle.serde_json.specs.Find.{get_member, as_str}
-use Rattle.schemars_json.specs.Json.{Text}
+use Rattle.schemars_schema.specs.Json.{Text}
 use Rattle.schemars_schema.specs.Verdict.{Verdict, Yes, both}
 use Rattle.schemars_schema.specs.Acceptance.{Context, Raw, judge, read_data, all_keywords, items_say, const_says}
 use Rattle.schemars_schema.specs.Acceptance.{unevaluated_properties_say, type_says, required_says, properties_say}
 use Rattle.schemars_schema.proofs.Verdicts.{both-yes}
 use Rattle.schemars_schema.proofs.Objects.{IsKeyword, says, says-agree, judge-object, keyword-plain}
-use Rattle.schemars_rewrite.specs.AllowNull.{is_text}
-use Rattle.schemars_rewrite.proofs.NullMembers.{and-parts}
+use Rattle.schemars_builders.specs.AllowNull.{is_text}
+use Rattle.schemars_builders.proofs.NullMembers.{and-parts}
 use Rattle.schemars_flatten.specs.Flatten.{with_keywords, flattened}
 use Rattle.schemars_flatten.specs.FlattenLaw.{has_keys_once, is_object_keyword, are_object_keywords}
 use Rattle.schemars_flatten.specs.FlattenLaw.{are_schemas_by_name, are_texts, are_apart, AreJoinable, AcceptsBoth}

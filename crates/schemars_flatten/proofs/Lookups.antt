@@ -10,10 +10,10 @@ use Rattle.std.specs.Cmp.Lexicographic.{slice_cmp}
 use Rattle.serde_json.specs.Data.{Data, Members, no_members, member, put}
 use Rattle.serde_json.specs.Find.{get_member}
 use Rattle.serde_json.proofs.Views.{get_member-put, get_member-put_other}
-use Rattle.schemars_json.specs.Json.{Text}
+use Rattle.schemars_schema.specs.Json.{Text}
 use Rattle.schemars_schema.specs.SchemaData.{put_members}
 use Rattle.schemars_schema.specs.Edits.{replaced}
-use Rattle.schemars_rewrite.proofs.NullMembers.{and-parts}
+use Rattle.schemars_builders.proofs.NullMembers.{and-parts}
 use Rattle.schemars_flatten.specs.Flatten.{stands, is_choice, united, with_united, with_keyword, with_keywords}
 use Rattle.schemars_flatten.specs.Flatten.{moved_beside, united_all}
 use Rattle.schemars_flatten.specs.FlattenLaw.{has_keys_once, is_object_keyword, are_object_keywords, are_apart}

@@ -14,12 +14,12 @@ use Rattle.serde_json.specs.Find.{get_member, as_array, as_object}
 use Rattle.serde_json.specs.View.{view, items_view, members_view}
 use Rattle.serde_json.specs.declared.value.Value.{Value}
 use Rattle.serde_json.proofs.Views.{Entry}
-use Rattle.schemars_json.specs.Json.{Text}
+use Rattle.schemars_schema.specs.Json.{Text}
 use Rattle.schemars_schema.specs.SchemaData.{members_in, put_members}
 use Rattle.schemars_schema.specs.Edits.{replaced, without}
 use Rattle.schemars_schema.specs.Acceptance.{both_some}
 use Rattle.schemars_schema.proofs.MapEdits.{members_view-set_value}
-use Rattle.schemars_rewrite.proofs.NullKeywords.{or-false}
+use Rattle.schemars_builders.proofs.NullKeywords.{or-false}
 use Rattle.schemars_flatten.specs.Flatten.{moved, appended, is_joined, joined, is_merged, merged, united, with_united}
 use Rattle.schemars_flatten.specs.Flatten.{both_choices, with_choice}
 use Rattle.schemars_flatten.specs.Flatten.{opened, opened_schema, united_all, flattened}

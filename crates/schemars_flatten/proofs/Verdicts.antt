@@ -10,7 +10,7 @@ use Rattle.std.specs.Cmp.Lexicographic.{slice_cmp}
 use Rattle.serde_json.specs.Data.{Data, null, boolean, number, string, array, object, Items, no_items, item, Members}
 use Rattle.serde_json.specs.Data.{no_members, member, put}
 use Rattle.serde_json.specs.Find.{get_member, as_object, as_str}
-use Rattle.schemars_json.specs.Json.{Text}
+use Rattle.schemars_schema.specs.Json.{Text}
 use Rattle.schemars_schema.specs.SchemaData.{IsSchema, is_schema, put_members}
 use Rattle.schemars_schema.specs.Verdict.{Verdict, Yes, No, Open, both, verdict}
 use Rattle.schemars_schema.specs.Acceptance.{Context, Judge, judge, read_data, read_members, all_named, where_some}
@@ -18,8 +18,8 @@ use Rattle.schemars_schema.specs.Acceptance.{schema_named, each_member, texts_in
 use Rattle.schemars_schema.specs.Acceptance.{properties_say}
 use Rattle.schemars_schema.proofs.Verdicts.{both-yes, both-verdict}
 use Rattle.schemars_schema.proofs.Objects.{schema-judge}
-use Rattle.schemars_rewrite.specs.AllowNull.{is_text}
-use Rattle.schemars_rewrite.proofs.NullMembers.{and-parts}
+use Rattle.schemars_builders.specs.AllowNull.{is_text}
+use Rattle.schemars_builders.proofs.NullMembers.{and-parts}
 use Rattle.schemars_flatten.specs.Flatten.{appended}
 use Rattle.schemars_flatten.specs.FlattenLaw.{has_keys_once, are_schemas, are_schemas_by_name, are_texts, are_apart}
 use Rattle.schemars_flatten.proofs.Lookups.{united_option, either_option, properties_at, apart_at}

@@ -3,12 +3,12 @@ use Rattle.std.specs.Prelude.{◌≡◌, ◌&&◌, Bool, true, false, not, if◌
 use Rattle.std.specs.Prelude.{codes, bytes_eq}
 use Rattle.serde_json.specs.Data.{Data, Members, no_members, member}
 use Rattle.serde_json.specs.Find.{get, as_str, as_array, as_object}
-use Rattle.schemars_json.specs.Json.{Text}
+use Rattle.schemars_schema.specs.Json.{Text}
 use Rattle.schemars_schema.specs.SchemaData.{is_schema}
 use Rattle.schemars_schema.specs.Annotations.{is_annotation}
 use Rattle.schemars_schema.specs.Verdict.{both}
 use Rattle.schemars_schema.specs.Acceptance.{Context, judge, texts_in}
-use Rattle.schemars_rewrite.specs.AllowNull.{is_text}
+use Rattle.schemars_builders.specs.AllowNull.{is_text}
 use Rattle.schemars_flatten.specs.Flatten.{stands}
 
 -- each key once, as in a map

@@ -1,2 +1,4 @@
 pub mod Flatten
 pub mod FlattenLaw
+pub mod Opening
+pub mod Parts

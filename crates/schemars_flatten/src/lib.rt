@@ -1,8 +1,11 @@
-//! Schemas put into one another.
+//! Schemas merged into others, and finished documents as parts of other objects.
 #![tactic(auto)]
 
-mod flattening;
+mod merging;
+mod part;
 mod union;
 
-pub use flattening::flatten;
-pub use union::push_all;
+pub use merging::flatten;
+pub use part::closing::stands_in_place;
+pub use part::opening::open_inside;
+pub use part::optional::as_flattened;

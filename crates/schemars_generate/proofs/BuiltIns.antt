@@ -6,24 +6,24 @@ use Rattle.std.specs.Cmp.Lexicographic.{slice_cmp}
 use Rattle.std.specs.Ordering.{match_ordering}
 use Rattle.serde_json.specs.Data.{Data, null, boolean, number, string, array, object, Members, no_members, member}
 use Rattle.serde_json.specs.Find.{get_member}
-use Rattle.schemars_json.specs.Json.{Text}
+use Rattle.schemars_schema.specs.Json.{Text}
 use Rattle.schemars_headline.specs.Headline.{IsDraftPath}
 use Rattle.schemars_headline.specs.State.{State, Settings, stripped}
 use Rattle.schemars_walk.specs.Walk.{Step}
 use Rattle.schemars_walk.specs.Rewritten.{forms}
 use Rattle.schemars_laws.specs.Paths.{each_changed}
 use Rattle.schemars_laws.specs.Laws.{for_openapi3}
-use Rattle.schemars_dialects.specs.Taken.{TakenHeadline, OpenApiHeadline, HasSameKeys}
-use Rattle.schemars_transforms.specs.Member.{some_own}
-use Rattle.schemars_transforms.specs.BuiltIn.{made_by, IsMadeBy, value_made_by, each_made_by}
-use Rattle.schemars_transforms.specs.declared.gen_transform.GenTransform.{GenTransform}
-use Rattle.schemars_transforms.proofs.Laws.{built_ins_make, each_wants_memory}
+use Rattle.schemars_headline.specs.Taken.{TakenHeadline, OpenApiHeadline, HasSameKeys}
+use Rattle.schemars_transform.specs.Member.{some_own}
+use Rattle.schemars_transform.specs.BuiltIn.{made_by, IsMadeBy, value_made_by, each_made_by}
+use Rattle.schemars_transform.specs.declared.gen_transform.GenTransform.{GenTransform}
+use Rattle.schemars_transform.proofs.Laws.{built_ins_make, each_wants_memory}
 use Rattle.schemars_sample.specs.Example.{Example}
-use Rattle.schemars_roots.specs.Samples.{IsSampleRefused, IsSampleRefusedThrough}
-use Rattle.schemars_roots.specs.Through.{IsThrough, IsTurnedDown, AreTurnedDown, IsRefused, IsRootRefused}
-use Rattle.schemars_error.specs.Refusals.{told}
-use Rattle.schemars_error.specs.declared.error.GenerateError.{GenerateError}
-use Rattle.schemars_error.specs.declared.error.GenerateError.TheVariants.{OutOfMemory, UnknownType}
+use Rattle.schemars_generate.specs.Samples.{IsSampleRefused, IsSampleRefusedThrough}
+use Rattle.schemars_generate.specs.Through.{IsThrough, IsTurnedDown, AreTurnedDown, IsRefused, IsRootRefused}
+use Rattle.schemars_generate.specs.Refusals.{told}
+use Rattle.schemars_generate.specs.declared.error.GenerateError.{GenerateError}
+use Rattle.schemars_generate.specs.declared.error.GenerateError.TheVariants.{OutOfMemory, UnknownType}
 use Rattle.schemars_generate.specs.Settings.{ApplyInOrder, transforms_openapi3}
 
 -- what holds of what these transforms make of each such document holds of theirs

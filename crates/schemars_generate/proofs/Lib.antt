@@ -1,1 +1,5 @@
+pub mod Answered
+pub mod Untransformed
+mod Samples
+mod SampleWhole
 pub mod BuiltIns

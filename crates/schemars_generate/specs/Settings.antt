@@ -5,13 +5,13 @@ use Rattle.std.specs.declared.alloc.Global.{Global}
 use Rattle.schemars_headline.specs.State.{State, Settings, settings2020_12}
 use Rattle.schemars_walk.specs.Walk.{Step}
 use Rattle.schemars_walk.specs.Order.{InOrder}
-use Rattle.schemars_transforms.specs.Member.{OfMember, AreCopies}
-use Rattle.schemars_transforms.specs.declared.gen_transform.GenTransform.{GenTransform}
-use Rattle.schemars_transforms.specs.declared.gen_transform.GenTransform.TheVariants.{ReplaceBoolSchemas, RemoveRefSiblings}
-use Rattle.schemars_transforms.specs.declared.gen_transform.GenTransform.TheVariants.{SetSingleExample, ReplaceConstValue}
-use Rattle.schemars_transforms.specs.declared.gen_transform.GenTransform.TheVariants.{ReplacePrefixItems, AddNullable}
-use Rattle.schemars_transforms.specs.declared.gen_transform.GenTransform.TheVariants.{ReplaceUnevaluatedProperties}
-use Rattle.schemars_roots.specs.Settings.{state_with}
+use Rattle.schemars_transform.specs.Member.{OfMember, AreCopies}
+use Rattle.schemars_transform.specs.declared.gen_transform.GenTransform.{GenTransform}
+use Rattle.schemars_transform.specs.declared.gen_transform.GenTransform.TheVariants.{ReplaceBoolSchemas, RemoveRefSiblings}
+use Rattle.schemars_transform.specs.declared.gen_transform.GenTransform.TheVariants.{SetSingleExample, ReplaceConstValue}
+use Rattle.schemars_transform.specs.declared.gen_transform.GenTransform.TheVariants.{ReplacePrefixItems, AddNullable}
+use Rattle.schemars_transform.specs.declared.gen_transform.GenTransform.TheVariants.{ReplaceUnevaluatedProperties}
+use Rattle.schemars_generate.specs.DocumentSettings.{state_with}
 use Rattle.schemars_generate.specs.declared.settings.SchemaSettings as src
 use Rattle.schemars_generate.specs.declared.generate.SchemaGenerator as generator
 

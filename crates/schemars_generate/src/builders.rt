@@ -3,14 +3,14 @@ ghost use Rattle.std.specs.Prelude.{◌≡◌, ◌≤◌, ◌⊎◌, ◌↔◌, 
 ghost use Rattle.schemars_schema.specs.References.{references};
 ghost use Rattle.schemars_types.specs.Rows.{entry_at};
 ghost use Rattle.schemars_documents.specs.PlainTable.{IsPlainTable, IsOpenStruct};
-ghost use Rattle.schemars_templates.specs.Template.{members_of, content};
+ghost use Rattle.schemars_documents.specs.Template.{members_of, content};
 ghost use Rattle.schemars_headline.specs.Calls.{Adds, IsNeeded};
 ghost use Rattle.schemars_headline.specs.State.{HasOwnDefinitions, ReferencesNameKeys};
-ghost use Rattle.schemars_roots.specs.Answers.{IsAnswerOf, IsNeededFor};
+ghost use Rattle.schemars_generate.specs.Answers.{IsAnswerOf, IsNeededFor};
 ghost use Rattle.schemars_generate.specs.Settings.{state};
 
+use crate::error::GenerateError;
 use crate::generate::SchemaGenerator;
-use schemars_error::GenerateError;
 use schemars_schema::Schema;
 use schemars_types::TypeNo;
 use std::alloc::Global;

@@ -1,10 +1,15 @@
-//! The generator: from a table of types to the documents of its rows.
+//! The generator: from a table of types, or an example value, to a JSON Schema document.
 #![tactic(auto)]
 
 pub mod builders;
+mod contents;
+mod document;
+mod document_settings;
+mod error;
 pub mod generate;
+mod path;
 mod samples;
 mod settings;
 
+pub use error::GenerateError;
 pub use generate::{SchemaGenerator, SchemaSettings};
-pub use schemars_error::GenerateError;

@@ -1,20 +1,20 @@
 //! Root documents from example values.
 ghost use Rattle.std.specs.Prelude.{[], ◌≡◌, false, codes, IfOk, IfErr};
 ghost use Rattle.schemars_schema.specs.Acceptance.{draft07, draft2019_09};
-ghost use Rattle.schemars_dialects.specs.Dialects.{SampleHeadlineUnder};
+ghost use Rattle.schemars_headline.specs.Dialects.{SampleHeadlineUnder};
 ghost use Rattle.schemars_headline.specs.Headline.{IsDraftPath};
 ghost use Rattle.schemars_headline.specs.State.{path_of};
-ghost use Rattle.schemars_roots.specs.Samples.{IsSampleRoot, IsSampleRefused, IsSampleRefusedThrough};
-ghost use Rattle.schemars_roots.specs.Through.{IsThrough};
+ghost use Rattle.schemars_generate.specs.Samples.{IsSampleRoot, IsSampleRefused, IsSampleRefusedThrough};
+ghost use Rattle.schemars_generate.specs.Through.{IsThrough};
 ghost use Rattle.schemars_sample.specs.Accepted.{AcceptsExample};
 ghost use Rattle.schemars_sample.specs.Example.{example_of};
-ghost use Rattle.schemars_transforms.specs.BuiltIn.{IsMadeBy};
-ghost use Rattle.schemars_transforms.specs.Member.{some_own};
+ghost use Rattle.schemars_transform.specs.BuiltIn.{IsMadeBy};
+ghost use Rattle.schemars_transform.specs.Member.{some_own};
 ghost use Rattle.schemars_generate.specs.Settings.{settings_of, state, ApplyInOrder};
 ghost use Rattle.schemars_generate.specs.Settings.{transforms07, transforms2019_09};
 
+use crate::error::GenerateError;
 use crate::generate::SchemaGenerator;
-use schemars_error::GenerateError;
 use schemars_sample::Sample;
 use schemars_schema::Schema;
 use schemars_walk::Transform;

@@ -3,23 +3,22 @@ ghost use Rattle.std.specs.Prelude.{◌≡◌, ◌∷◌, ◌++◌, ◌↔◌, [
 ghost use Rattle.serde_json.specs.Data.{no_members};
 ghost use Rattle.schemars_documents.specs.declared.contract.Contract.TheVariants as contracts;
 ghost use Rattle.schemars_headline.specs.State.{settings2020_12};
-ghost use Rattle.schemars_roots.specs.Settings as roots;
-ghost use Rattle.schemars_transforms.specs.Member.{some_own};
+ghost use Rattle.schemars_generate.specs.DocumentSettings as roots;
+ghost use Rattle.schemars_transform.specs.Member.{some_own};
 ghost use Rattle.schemars_generate.specs.Settings.{settings_of, AreSettingsCopied, settings07, settings2019_09};
 ghost use Rattle.schemars_generate.specs.Settings.{settings_openapi3};
 ghost use Rattle.schemars_generate.specs.Settings.{transforms07, transforms2019_09, transforms_openapi3};
 
+use crate::document_settings::DocumentSettings;
+use crate::error::GenerateError;
 use crate::generate::SchemaGenerator;
 use schemars_documents::Contract;
-use schemars_error::GenerateError;
-use schemars_gen_transform::ReplaceUnevaluatedProperties;
-use schemars_roots::DocumentSettings;
 use schemars_schema::consts::meta_schemas;
 use schemars_transform::{
-    AddNullable, RemoveRefSiblings, ReplaceBoolSchemas, ReplaceConstValue, ReplacePrefixItems,
-    SetSingleExample,
+    AddNullable, GenTransform, NoTransform, RemoveRefSiblings, ReplaceBoolSchemas,
+    ReplaceConstValue, ReplacePrefixItems, ReplaceUnevaluatedProperties, SetSingleExample,
+    try_clone_all,
 };
-use schemars_transforms::{GenTransform, NoTransform, try_clone_all};
 use std::alloc::{AllocError, Global};
 use std::borrow::CowStr;
 

@@ -2,10 +2,10 @@
 use Rattle.std.proofs.Common.{suc, List, [], ◌∷◌, Some, Contains, All, refl, subst, arith}
 use Rattle.serde_json.specs.Data.{Data}
 use Rattle.schemars_shapes.specs.Shape.{Entry, numbers_of}
-use Rattle.schemars_templates.specs.Basis.{Basis}
-use Rattle.schemars_templates.specs.Template.{Ask, asks_of}
-use Rattle.schemars_templates.specs.OfShape.{entry_template}
-use Rattle.schemars_templates.specs.Describes.{AreAnswered, IsOwnDocument}
+use Rattle.schemars_documents.specs.Basis.{Basis}
+use Rattle.schemars_documents.specs.Template.{Ask, asks_of}
+use Rattle.schemars_documents.specs.OfShape.{entry_template}
+use Rattle.schemars_documents.specs.Describes.{AreAnswered, IsOwnDocument}
 use Rattle.schemars_meaning.proofs.Rows.{all_asks}
 use Rattle.schemars_build.specs.Missing.{row_asked}
 use Rattle.schemars_build.proofs.Asked.{flattened_number, content_number}

@@ -10,21 +10,21 @@ use Rattle.serde_json.specs.Written.{has_float}
 use Rattle.serde_json.specs.View.{members_view}
 use Rattle.serde_json.proofs.Views.{Entry as Entries}
 use Rattle.schemars_schema.specs.Placing.{placed_at}
-use Rattle.schemars_json.specs.Json.{Text}
+use Rattle.schemars_schema.specs.Json.{Text}
 use Rattle.schemars_types.specs.Rows.{name_at}
 use Rattle.schemars_types.specs.Edges.{DirectEdge, height, rank}
 use Rattle.schemars_types.specs.Faults.{IsChecked}
 use Rattle.schemars_documents.proofs.OpenStructs.{plain_under}
 use Rattle.schemars_documents.specs.ContractOf.{contract_of}
-use Rattle.schemars_naming.specs.Naming.{name_of, IsOneToOne}
+use Rattle.schemars_build.specs.Naming.{name_of, IsOneToOne}
 use Rattle.schemars_documents.specs.Documents.{reference, root_document}
-use Rattle.schemars_templates.specs.Basis.{Basis}
+use Rattle.schemars_documents.specs.Basis.{Basis}
 use Rattle.schemars_headline.specs.Keys.{HasKeysOnce}
 use Rattle.schemars_documents.specs.PlainTable.{HasPlainNotes, HasNoFloat}
-use Rattle.schemars_naming.specs.Work.{Plan, Work, IsKey, Refers, IsDefinition, Step, reference_to, basis_of}
+use Rattle.schemars_build.specs.Work.{Plan, Work, IsKey, Refers, IsDefinition, Step, reference_to, basis_of}
 use Rattle.schemars_headline.specs.State.{State, plan_of, work_of, after_root, HasOwnDefinitions}
 use Rattle.schemars_headline.specs.Headline.{Headline, WideHeadline, IsDraftPath, IsRootOf, IsTitledRoot, CannotPlace, with_definitions}
-use Rattle.schemars_naming.specs.Placed.{is_in_place, IsPlaced, IsDocument}
+use Rattle.schemars_build.specs.Placed.{is_in_place, IsPlaced, IsDocument}
 use Rattle.schemars_build.specs.Parts.{IsSubschema, IsDocumentOf}
 use Rattle.schemars_build.proofs.Placing.{placed_map, document-wider, document_describes}
 use Rattle.schemars_schema.specs.References.{references}

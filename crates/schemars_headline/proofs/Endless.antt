@@ -11,11 +11,11 @@ use Rattle.std.proofs.lemmas.Option.{slice_get_past}
 use Rattle.serde_json.specs.Data.{Data, null, boolean, number, string, array, object, Members, no_members, member}
 use Rattle.serde_json.specs.Find.{get_member}
 use Rattle.schemars_schema.specs.Verdict.{No}
-use Rattle.schemars_json.specs.Json.{Text, IsJson}
+use Rattle.schemars_schema.specs.Json.{Text, IsJson}
 use Rattle.schemars_schema.specs.Acceptance.{Patterns, draft2020_12, accepts, bound}
 use Rattle.schemars_shapes.specs.Shape.{Field, bare_fields, struct}
 use Rattle.schemars_types.specs.Rows.{Row, entry_at}
-use Rattle.schemars_cycles.specs.Walks.{Walk, one, then}
+use Rattle.schemars_types.specs.Walks.{Walk, one, then}
 use Rattle.schemars_types.specs.Edges.{is_inline_at, DirectEdge, SameValueEdge, names_at}
 use Rattle.schemars_types.specs.Faults.{IsUndefined, HasRepeated, IsAccepted}
 use Rattle.schemars_types.specs.Meaning.{Contract, Deserialize, Serialize, belongs_within, every_member, member_fits, is_required}

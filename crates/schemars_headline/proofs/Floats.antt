@@ -10,18 +10,18 @@ use Rattle.serde_json.specs.Data.{no_members, member, put}
 use Rattle.serde_json.specs.Find.{get_member, of_integer, is_float}
 use Rattle.serde_json.specs.View.{items_of}
 use Rattle.serde_json.specs.Written.{has_float, items_have_float, members_have_float}
-use Rattle.schemars_json.specs.Json.{Text}
+use Rattle.schemars_schema.specs.Json.{Text}
 use Rattle.schemars_schema.specs.SchemaData.{put_members, members_in, put_all, object_of}
 use Rattle.schemars_schema.proofs.Contents.{members_have_float-put}
-use Rattle.schemars_rewrite.specs.AllowNull.{is_null_choice, is_combined, or_null, allow_null, type_with_null}
-use Rattle.schemars_rewrite.specs.AllowNull.{null_in_type, with_item, holds_text, holds_null, enum_with_null}
-use Rattle.schemars_rewrite.specs.AllowNull.{null_in_enum, const_or_null, null_in_const, null_in_values}
+use Rattle.schemars_builders.specs.AllowNull.{is_null_choice, is_combined, or_null, allow_null, type_with_null}
+use Rattle.schemars_builders.specs.AllowNull.{null_in_type, with_item, holds_text, holds_null, enum_with_null}
+use Rattle.schemars_builders.specs.AllowNull.{null_in_enum, const_or_null, null_in_const, null_in_values}
 use Rattle.schemars_schema.specs.Acceptance.{is_null}
-use Rattle.schemars_rewrite.specs.NullLaw.{zero_schema, text_items}
-use Rattle.schemars_rewrite.specs.Properties as properties
-use Rattle.schemars_rewrite.specs.Properties.{with_member, with_first, changed_at, put_missing, closed_where}
-use Rattle.schemars_rewrite.specs.Properties.{has_null_type, internally_tagged_variant}
-use Rattle.schemars_rewrite.specs.Variants.{unit_variant}
+use Rattle.schemars_builders.specs.NullLaw.{zero_schema, text_items}
+use Rattle.schemars_builders.specs.Properties as properties
+use Rattle.schemars_builders.specs.Properties.{with_member, with_first, changed_at, put_missing, closed_where}
+use Rattle.schemars_builders.specs.Properties.{has_null_type, internally_tagged_variant}
+use Rattle.schemars_builders.specs.Variants.{unit_variant}
 use Rattle.schemars_shapes.specs.IntKind.{format_of}
 use Rattle.schemars_shapes.specs.Shape as shape
 use Rattle.schemars_shapes.specs.Shape.{Shape, Entry, Field, Flattened, Fields, Payload, Variant, no_payload, newtype_payload}
@@ -31,25 +31,25 @@ use Rattle.schemars_types.specs.Meaning.{Contract, Deserialize, Serialize, least
 use Rattle.schemars_types.specs.KeyOptions.{KeyOptions, keys, key_options}
 use Rattle.schemars_documents.specs.Documents.{annotated, with_title, with_meta_schema, root_document, int_keywords}
 use Rattle.schemars_documents.specs.Documents.{is_signed, bytes_document, required_names}
-use Rattle.schemars_templates.specs.Basis.{Basis}
-use Rattle.schemars_templates.specs.Template.{Template, finished, asked, row, list, members, nullable, noted, with_keywords, tagged}
-use Rattle.schemars_templates.specs.Template.{Templates, no_templates, template, left, keyed, filled, filled_in}
-use Rattle.schemars_templates.specs.OfShape.{object_with, typed, values_of, all_patterns, pattern_properties_at, other_values}
-use Rattle.schemars_templates.specs.OfShape.{properties_at}
+use Rattle.schemars_documents.specs.Basis.{Basis}
+use Rattle.schemars_documents.specs.Template.{Template, finished, asked, row, list, members, nullable, noted, with_keywords, tagged}
+use Rattle.schemars_documents.specs.Template.{Templates, no_templates, template, left, keyed, filled, filled_in}
+use Rattle.schemars_documents.specs.OfShape.{object_with, typed, values_of, all_patterns, pattern_properties_at, other_values}
+use Rattle.schemars_documents.specs.OfShape.{properties_at}
 use Rattle.schemars_schema.specs.SchemaData.{is_schema}
-use Rattle.schemars_templates.specs.OfShape.{KeywordTemplate, templates_of, property, map_template, tuple_template}
-use Rattle.schemars_templates.specs.OfShape.{with_flattened, struct_template, content_template}
-use Rattle.schemars_templates.specs.OfShape.{payload_template, named_template, bare_units, other_items, choice_of}
-use Rattle.schemars_templates.specs.OfShape.{values_template, payload_item, titled, untagged_template, template_of}
-use Rattle.schemars_templates.specs.OfShape.{entry_template, internal_item, internal_template}
-use Rattle.schemars_templates.specs.Describes.{IsWritten, Describes}
-use Rattle.schemars_parts.proofs.Floats.{flattened-whole, flattened_part-whole, opened_inside-whole}
+use Rattle.schemars_documents.specs.OfShape.{KeywordTemplate, templates_of, property, map_template, tuple_template}
+use Rattle.schemars_documents.specs.OfShape.{with_flattened, struct_template, content_template}
+use Rattle.schemars_documents.specs.OfShape.{payload_template, named_template, bare_units, other_items, choice_of}
+use Rattle.schemars_documents.specs.OfShape.{values_template, payload_item, titled, untagged_template, template_of}
+use Rattle.schemars_documents.specs.OfShape.{entry_template, internal_item, internal_template}
+use Rattle.schemars_documents.specs.Describes.{IsWritten, Describes}
+use Rattle.schemars_flatten.proofs.Floats.{flattened-whole, flattened_part-whole, opened_inside-whole}
 use Rattle.schemars_documents.specs.PlainTable.{FieldsHaveNoFloat, PayloadHasNoFloat, VariantsHaveNoFloat, ShapeHasNoFloat}
 use Rattle.schemars_documents.specs.PlainTable.{EntryHasNoFloat, HasNoFloat}
 use Rattle.schemars_schema.specs.Edits.{without, replaced}
 use Rattle.schemars_schema.specs.Placing.{placed, placed_at, tokens_of}
 use Rattle.schemars_shapes.specs.Units.{is_bare_unit}
-use Rattle.schemars_naming.specs.Work.{Plan, Work, basis_of}
+use Rattle.schemars_build.specs.Work.{Plan, Work, basis_of}
 use Rattle.schemars_headline.proofs.Standing.{MayRefer, AllStand}
 use Rattle.schemars_headline.specs.Headline.{with_definitions}
 use Rattle.schemars_headline.specs.Keys.{HasKeysOnce}

@@ -11,25 +11,25 @@ use Rattle.std.proofs.lemmas.List.Folds.{list_any-append}
 use Rattle.serde_json.specs.Data.{Data, Members, no_members, member}
 use Rattle.serde_json.specs.Find.{get_member}
 use Rattle.indexmap.specs.IndexSet.{insert_key}
-use Rattle.schemars_json.specs.Json.{Text}
+use Rattle.schemars_schema.specs.Json.{Text}
 use Rattle.schemars_schema.specs.References.{references}
-use Rattle.schemars_cycles.specs.Walks.{Walk, one, then}
+use Rattle.schemars_types.specs.Walks.{Walk, one, then}
 use Rattle.schemars_shapes.specs.Shape.{Entry, numbers_of}
 use Rattle.schemars_types.specs.Rows.{Row, entry_at, name_at}
 use Rattle.schemars_types.specs.Edges.{numbers_at, is_inline_at, option_at}
 use Rattle.schemars_documents.specs.PlainTable.{IsPlainTable}
 use Rattle.schemars_documents.specs.Documents.{root_document}
-use Rattle.schemars_templates.specs.Basis.{Basis}
-use Rattle.schemars_templates.specs.Template.{Ask, part, members_of, content}
-use Rattle.schemars_templates.specs.Describes.{IsOwnDocument, IsAnswered, IsContent, IsWritten, Describes, without_options_within}
-use Rattle.schemars_templates.specs.Describes.{without_options}
+use Rattle.schemars_documents.specs.Basis.{Basis}
+use Rattle.schemars_documents.specs.Template.{Ask, part, members_of, content}
+use Rattle.schemars_documents.specs.Describes.{IsOwnDocument, IsAnswered, IsContent, IsWritten, Describes, without_options_within}
+use Rattle.schemars_documents.specs.Describes.{without_options}
 use Rattle.schemars_meaning.proofs.Referring.{plain_rows}
-use Rattle.schemars_naming.specs.Placed.{is_pending, pending_in, is_in_place, IsPlaced, IsFilledWithin, IsDocument}
+use Rattle.schemars_build.specs.Placed.{is_pending, pending_in, is_in_place, IsPlaced, IsFilledWithin, IsDocument}
 use Rattle.schemars_build.proofs.Placing.{Answers}
 use Rattle.schemars_build.specs.Missing.{row_asked}
 use Rattle.schemars_build.proofs.Asked.{option_edges}
 use Rattle.schemars_headline.proofs.AskedRows.{own_asked}
-use Rattle.schemars_naming.specs.Work.{Work, Refers, basis_of}
+use Rattle.schemars_build.specs.Work.{Work, Refers, basis_of}
 use Rattle.schemars_build.specs.Parts.{IsSubschema}
 use Rattle.schemars_build.specs.Reached.{IsReached, by_reference, by_definition}
 use Rattle.schemars_meaning.proofs.ReferencesKept.{references-root}

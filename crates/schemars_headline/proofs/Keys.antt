@@ -14,12 +14,12 @@ use Rattle.serde_json.specs.Data.{Data, Members, no_members, member}
 use Rattle.serde_json.specs.Find.{get_member}
 use Rattle.serde_json.specs.View.{members_view}
 use Rattle.serde_json.proofs.Views.{Entry}
-use Rattle.schemars_json.specs.Json.{Text}
-use Rattle.schemars_json.specs.OrderedText.{is_listed}
+use Rattle.schemars_schema.specs.Json.{Text}
+use Rattle.schemars_schema.specs.OrderedText.{is_listed}
 use Rattle.schemars_schema.specs.Annotations.{is_annotation}
 use Rattle.schemars_schema.proofs.Objects.{annotation-not_listed}
 use Rattle.schemars_headline.specs.Keys.{HasKeysOnce}
-use Rattle.schemars_naming.specs.Work.{IsKey}
+use Rattle.schemars_build.specs.Work.{IsKey}
 
 -- ---- which keys there are
 

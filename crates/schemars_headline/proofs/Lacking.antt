@@ -10,20 +10,20 @@ use Rattle.serde_json.specs.Data.{Data, null, boolean, number, string, array, ob
 use Rattle.serde_json.specs.Data.{member, put}
 use Rattle.serde_json.specs.Find.{get, get_member}
 use Rattle.serde_json.proofs.Views.{get_member-put_other}
-use Rattle.schemars_json.specs.Json.{Text}
+use Rattle.schemars_schema.specs.Json.{Text}
 use Rattle.schemars_schema.specs.Edits.{without, replaced, removed}
 use Rattle.schemars_schema.specs.SchemaData.{members_in}
-use Rattle.schemars_rewrite.specs.Variants.{unit_variant}
-use Rattle.schemars_rewrite.specs.Properties.{with_member, with_first, changed_at, tagged, closed_where, has_null_type}
-use Rattle.schemars_rewrite.specs.Properties.{internally_tagged_variant}
+use Rattle.schemars_builders.specs.Variants.{unit_variant}
+use Rattle.schemars_builders.specs.Properties.{with_member, with_first, changed_at, tagged, closed_where, has_null_type}
+use Rattle.schemars_builders.specs.Properties.{internally_tagged_variant}
 use Rattle.schemars_flatten.specs.Flatten as flatten
 use Rattle.schemars_flatten.specs.Flatten.{stands, has_subschema, moved, moved_beside, opened_schema, united, with_united}
 use Rattle.schemars_flatten.specs.Flatten.{both_choices, with_choice, is_choice, with_keyword, with_keywords, flattened}
 use Rattle.schemars_walk.specs.Rewritten.{form_at, forms, in_keywords}
-use Rattle.schemars_parts.specs.Opening.{closes_by, opened_at, opened_here, same_object_place, opening, opened, opened_inside}
-use Rattle.schemars_parts.specs.Parts.{units_of, with_items, with_units, first_as_objects, items_changed, list_changed_at}
-use Rattle.schemars_parts.specs.Parts.{units_as_objects, with_empty_object, one_or_anything, choice_or_anything, optional_where}
-use Rattle.schemars_parts.specs.Parts.{flattened_part}
+use Rattle.schemars_flatten.specs.Opening.{closes_by, opened_at, opened_here, same_object_place, opening, opened, opened_inside}
+use Rattle.schemars_flatten.specs.Parts.{units_of, with_items, with_units, first_as_objects, items_changed, list_changed_at}
+use Rattle.schemars_flatten.specs.Parts.{units_as_objects, with_empty_object, one_or_anything, choice_or_anything, optional_where}
+use Rattle.schemars_flatten.specs.Parts.{flattened_part}
 use Rattle.schemars_headline.proofs.Keys.{IsDefinitionsKey, IsOther, other_apart}
 
 abbrev pub HasNeither : Data → Type 0

@@ -4,21 +4,21 @@ use Rattle.std.proofs.Common.{Some, None, IsSome, refl, sym, ap, ◌∙◌, arit
 use Rattle.std.specs.Prelude.{◌||◌, ◌&&◌, not, is_some, option_and_then}
 use Rattle.std.specs.Option.{option_map_or}
 use Rattle.serde_json.specs.Data.{Data}
-use Rattle.schemars_json.specs.Json.{Text}
+use Rattle.schemars_schema.specs.Json.{Text}
 use Rattle.schemars_shapes.specs.Shape as shape
 use Rattle.schemars_shapes.specs.Shape.{Entry, Shape, numbers_of, option_of}
 use Rattle.schemars_types.specs.Rows.{Row, entry_at}
 use Rattle.schemars_types.specs.Edges.{is_inline_at, option_at, rank}
 use Rattle.schemars_types.specs.Faults.{IsChecked}
 use Rattle.schemars_types.specs.KeyOptions.{key_options}
-use Rattle.schemars_keys.proofs.Settling.{further_rows}
-use Rattle.schemars_parts.specs.Parts.{flattened_part}
-use Rattle.schemars_templates.specs.Basis.{Basis}
-use Rattle.schemars_templates.specs.Template.{Template, Ask, part, members_of, content, noted}
-use Rattle.schemars_templates.specs.OfShape.{values_template, template_of}
-use Rattle.schemars_templates.specs.Describes.{IsOwnDocument, IsContent, Fills, without_options_within, without_options}
-use Rattle.schemars_naming.specs.Placed.{is_pending, pending_in, IsPlaced, IsFilledWithin}
-use Rattle.schemars_naming.specs.Work.{StandsApart, Refers, basis_of}
+use Rattle.schemars_types.proofs.Settling.{further_rows}
+use Rattle.schemars_flatten.specs.Parts.{flattened_part}
+use Rattle.schemars_documents.specs.Basis.{Basis}
+use Rattle.schemars_documents.specs.Template.{Template, Ask, part, members_of, content, noted}
+use Rattle.schemars_documents.specs.OfShape.{values_template, template_of}
+use Rattle.schemars_documents.specs.Describes.{IsOwnDocument, IsContent, Fills, without_options_within, without_options}
+use Rattle.schemars_build.specs.Placed.{is_pending, pending_in, IsPlaced, IsFilledWithin}
+use Rattle.schemars_build.specs.Work.{StandsApart, Refers, basis_of}
 use Rattle.schemars_build.proofs.Placing.{Answers, document-wider}
 use Rattle.schemars_headline.specs.State.{State, plan_of, work_of, HasOwnDefinitions}
 use Rattle.schemars_build.specs.Missing.{row_asked}

@@ -9,13 +9,13 @@ use Rattle.std.proofs.lemmas.List.Elements.{Contains-append_left, Contains-appen
 use Rattle.serde_json.specs.Data.{Data, null, boolean, number, string, array, object, Members, no_members, member, depth}
 use Rattle.serde_json.specs.Find.{get_member}
 use Rattle.serde_json.specs.Events.{members_len}
-use Rattle.schemars_json.specs.Json.{Text}
+use Rattle.schemars_schema.specs.Json.{Text}
 use Rattle.schemars_schema.specs.SchemaData.{IsSchema, is_schema}
-use Rattle.schemars_json.specs.Encoding.{lookup}
+use Rattle.schemars_schema.specs.Encoding.{lookup}
 use Rattle.schemars_schema.specs.Lookup.{resolved}
 use Rattle.schemars_schema.specs.Acceptance.{Patterns, Judge, judge, count_of_definitions}
-use Rattle.schemars_json.proofs.Encodings.{lookup-encoded, lookup-ascii}
-use Rattle.schemars_rewrite.specs.NullLaw.{context2020_12}
+use Rattle.schemars_schema.proofs.Encodings.{lookup-encoded, lookup-ascii}
+use Rattle.schemars_builders.specs.NullLaw.{context2020_12}
 use Rattle.schemars_shapes.specs.Shape as shape
 use Rattle.schemars_shapes.specs.Shape.{Shape, Flattened, Entry, Payload, Variant, no_payload, newtype_payload, tuple_payload}
 use Rattle.schemars_shapes.specs.Shape.{struct_payload, payload_flattened, payload_same, of_variants, same_value_numbers}
@@ -23,12 +23,12 @@ use Rattle.schemars_types.specs.Rows.{Row, entry_at}
 use Rattle.schemars_types.specs.Edges.{rank}
 use Rattle.schemars_types.specs.Effective.{flattened_in, shape_fields}
 use Rattle.schemars_types.specs.Faults.{IsChecked}
-use Rattle.schemars_keys.proofs.Asked.{asked, entry_low}
-use Rattle.schemars_templates.specs.Describes.{IsWritten, Describes}
+use Rattle.schemars_types.proofs.Asked.{asked, entry_low}
+use Rattle.schemars_documents.specs.Describes.{IsWritten, Describes}
 use Rattle.schemars_documents.specs.PlainTable.{IsPlainUnder, parts_in, payload_parts, variant_parts}
 use Rattle.schemars_documents.specs.ContractOf.{contract_of}
-use Rattle.schemars_naming.specs.Naming.{Naming, IsOneToOne, name_of}
-use Rattle.schemars_naming.specs.Work.{Plan, Work, IsKey, reference_to, basis_of}
+use Rattle.schemars_build.specs.Naming.{Naming, IsOneToOne, name_of}
+use Rattle.schemars_build.specs.Work.{Plan, Work, IsKey, reference_to, basis_of}
 use Rattle.schemars_headline.specs.Headline.{AcceptsItsValues}
 use Rattle.schemars_headline.proofs.Keys.{key_here, key_later, key_cases}
 use Rattle.schemars_meaning.proofs.Mapping.{describes-wider, written_map}

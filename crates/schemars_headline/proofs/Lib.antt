@@ -15,3 +15,15 @@ pub mod Inlined
 pub mod Same
 pub mod Endless
 pub mod Paths
+pub mod Changes
+pub mod Documents
+pub mod Filled
+pub mod Classes
+pub mod RootClass
+pub mod Definitions
+pub mod Accepting
+pub mod ReferencesKept
+pub mod DialectsResolving
+pub mod DialectRoots
+pub mod Samples
+pub mod Taken

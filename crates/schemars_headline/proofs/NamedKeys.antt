@@ -6,10 +6,10 @@ use Rattle.std.specs.Option.{option_map_or}
 use Rattle.std.proofs.lemmas.Slice.Eq.{bytes_eq-Decides}
 use Rattle.serde_json.specs.Data.{Data, null, boolean, number, string, array, object, Members, no_members, member}
 use Rattle.serde_json.specs.Find.{as_str}
-use Rattle.schemars_json.specs.Json.{Text}
+use Rattle.schemars_schema.specs.Json.{Text}
 use Rattle.schemars_schema.specs.References.{references}
 use Rattle.schemars_documents.specs.PlainTable.{IsPlainTable}
-use Rattle.schemars_naming.specs.Work.{IsKey, Refers, reference_to, basis_of}
+use Rattle.schemars_build.specs.Work.{IsKey, Refers, reference_to, basis_of}
 use Rattle.schemars_headline.specs.State.{State, plan_of, work_of, HasOwnDefinitions, ReferencesNameKeys}
 use Rattle.schemars_headline.proofs.Keys.{key_here, key_later, key_cases}
 use Rattle.schemars_build.proofs.Placing.{document_describes}

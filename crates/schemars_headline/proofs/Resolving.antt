@@ -8,13 +8,13 @@ use Rattle.std.proofs.lemmas.Map.Lookups.{exact_bytes}
 use Rattle.std.specs.List.{All}
 use Rattle.std.proofs.lemmas.List.Elements.{All-head, All-tail}
 use Rattle.serde_json.specs.Data.{Data, string, object, Members, no_members, member, put}
-use Rattle.schemars_json.specs.Json.{Text}
+use Rattle.schemars_schema.specs.Json.{Text}
 use Rattle.schemars_schema.specs.SchemaData.{IsSchema}
 use Rattle.schemars_schema.specs.References.{found_in, found_in_members, found_in_keywords, references, resolves, all_resolve}
 use Rattle.schemars_schema.proofs.Contents.{found_under}
 use Rattle.schemars_documents.specs.Documents.{root_document}
-use Rattle.schemars_templates.specs.Basis.{Basis}
-use Rattle.schemars_templates.specs.Describes.{IsWritten, Describes}
+use Rattle.schemars_documents.specs.Basis.{Basis}
+use Rattle.schemars_documents.specs.Describes.{IsWritten, Describes}
 use Rattle.schemars_meaning.proofs.ReferencesKept.{references-root}
 use Rattle.schemars_meaning.proofs.Referring.{IsReferring, AreNotedRows, described_refers, written_refers}
 use Rattle.schemars_headline.proofs.Keys.{AllMembers, IsDefinitionsKey}

@@ -3,28 +3,28 @@ use Rattle.std.proofs.Common.{[], ◌≡◌, inl, inr, ℕ, List, Option, Some, 
 use Rattle.std.specs.Prelude.{is_some}
 use Rattle.serde_json.specs.Data.{Data, object, Members}
 use Rattle.serde_json.specs.Find.{get_member}
-use Rattle.schemars_json.specs.Json.{Text}
+use Rattle.schemars_schema.specs.Json.{Text}
 use Rattle.schemars_schema.specs.SchemaData.{IsSchema, members_in}
 use Rattle.schemars_schema.specs.Lookup.{resolved}
 use Rattle.schemars_schema.specs.References.{references, resolves}
 use Rattle.schemars_schema.specs.Acceptance.{Patterns, Judge, judge, draft2020_12, follow}
 use Rattle.schemars_schema.proofs.Objects.{IsSilent, judge-put}
-use Rattle.schemars_rewrite.specs.NullLaw.{context2020_12}
+use Rattle.schemars_builders.specs.NullLaw.{context2020_12}
 use Rattle.schemars_shapes.specs.Shape.{Entry}
 use Rattle.schemars_types.specs.Rows.{Row, name_at, entry_at}
 use Rattle.schemars_types.specs.Effective.{spread, flattened_in, part_enums}
 use Rattle.schemars_types.specs.Meaning.{Contract}
 use Rattle.schemars_types.specs.Faults.{IsChecked}
 use Rattle.schemars_documents.specs.Documents.{root_document}
-use Rattle.schemars_templates.specs.Describes.{IsWritten, Describes}
+use Rattle.schemars_documents.specs.Describes.{IsWritten, Describes}
 use Rattle.schemars_shapes.specs.Shape as shape
 use Rattle.schemars_shapes.specs.Shape.{Shape, Field, Flattened}
 use Rattle.schemars_documents.specs.PlainTable.{IsPlainShape, HasPlainLiteral, IsEntryUnder, IsPlainUnder}
 use Rattle.schemars_documents.specs.PlainTable.{IsNotedEntry, HasPlainNotes}
 use Rattle.schemars_documents.specs.ContractOf.{contract_of}
 use Rattle.schemars_documents.proofs.OpenStructs.{plain_under}
-use Rattle.schemars_naming.specs.Naming.{IsOneToOne}
-use Rattle.schemars_naming.specs.Work.{Plan, Work, Refers, basis_of}
+use Rattle.schemars_build.specs.Naming.{IsOneToOne}
+use Rattle.schemars_build.specs.Work.{Plan, Work, Refers, basis_of}
 use Rattle.schemars_headline.specs.State.{State, plan_of, work_of, HasOwnDefinitions}
 use Rattle.schemars_headline.specs.Headline.{IsRootOf, MeansItsTypeIn, WideHeadline, SubschemaHeadline, IsDraftPath, with_definitions}
 use Rattle.schemars_meaning.proofs.Notes.{judge-root}

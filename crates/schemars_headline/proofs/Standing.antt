@@ -3,10 +3,10 @@ use Rattle.std.proofs.Common.{◌≡◌, ◌⊎◌, inl, inr, ℕ, Some, None, B
 use Rattle.std.specs.Str.{IsUtf8}
 use Rattle.serde_json.specs.Data.{Data}
 use Rattle.serde_json.specs.Find.{get_member}
-use Rattle.schemars_json.specs.Json.{Text}
-use Rattle.schemars_templates.specs.Describes.{Describes}
-use Rattle.schemars_naming.specs.Naming.{name_of}
-use Rattle.schemars_naming.specs.Work.{Plan, Work, Refers, IsDefinition, basis_of}
+use Rattle.schemars_schema.specs.Json.{Text}
+use Rattle.schemars_documents.specs.Describes.{Describes}
+use Rattle.schemars_build.specs.Naming.{name_of}
+use Rattle.schemars_build.specs.Work.{Plan, Work, Refers, IsDefinition, basis_of}
 use Rattle.schemars_meaning.proofs.Mapping.{describes-wider}
 use Rattle.schemars_build.proofs.Placing.{document_describes}
 

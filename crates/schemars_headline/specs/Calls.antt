@@ -1,12 +1,12 @@
 -- What the calls of a generator answer and add, by what it holds before and after.
 use Rattle.std.specs.Prelude.{◌≡◌, ℕ, List, [], true, false, Some, None}
 use Rattle.serde_json.specs.Data.{Data}
-use Rattle.schemars_json.specs.Json.{Text}
+use Rattle.schemars_schema.specs.Json.{Text}
 use Rattle.schemars_documents.specs.Documents.{reference}
 use Rattle.schemars_documents.specs.PlainTable.{IsPlainTable}
-use Rattle.schemars_naming.specs.Naming.{name_of}
-use Rattle.schemars_naming.specs.Placed.{is_in_place}
-use Rattle.schemars_naming.specs.Work.{Work, Step, IsKey, reference_to}
+use Rattle.schemars_build.specs.Naming.{name_of}
+use Rattle.schemars_build.specs.Placed.{is_in_place}
+use Rattle.schemars_build.specs.Work.{Work, Step, IsKey, reference_to}
 use Rattle.schemars_build.specs.Parts.{IsSubschema}
 use Rattle.schemars_build.specs.Reached.{AreReached}
 use Rattle.schemars_headline.specs.Headline.{IsRootOf}

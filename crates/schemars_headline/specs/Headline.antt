@@ -3,18 +3,18 @@ use Rattle.std.specs.Prelude.{◌≡◌, ◌≤◌, ◌⊎◌, ℕ, List, [], Co
 use Rattle.serde_json.specs.Data.{Data, object, Members, no_members, member}
 use Rattle.serde_json.specs.Find.{get_member, pointer}
 use Rattle.schemars_schema.specs.Verdict.{verdict}
-use Rattle.schemars_json.specs.Json.{Text, IsJson}
+use Rattle.schemars_schema.specs.Json.{Text, IsJson}
 use Rattle.schemars_schema.specs.Acceptance.{Patterns, draft2020_12, accepts, bound}
 use Rattle.schemars_schema.specs.References.{ReferencesResolve, all_resolve, references}
 use Rattle.schemars_schema.specs.Placing.{placed_at}
 use Rattle.schemars_types.specs.Rows.{Row, name_at}
 use Rattle.schemars_types.specs.Edges.{numbers_at}
-use Rattle.schemars_cycles.specs.Walks.{OnCycle, IsFree}
+use Rattle.schemars_types.specs.Walks.{OnCycle, IsFree}
 use Rattle.schemars_types.specs.Meaning.{Contract, belongs}
 use Rattle.schemars_documents.specs.PlainTable.{IsPlainTable, IsPlainUnder}
 use Rattle.schemars_documents.specs.ContractOf.{contract_of}
 use Rattle.schemars_documents.specs.Documents.{root_document}
-use Rattle.schemars_naming.specs.Work.{Work, Step}
+use Rattle.schemars_build.specs.Work.{Work, Step}
 use Rattle.schemars_build.specs.Parts.{IsDocumentOf}
 use Rattle.schemars_build.specs.Reached.{AreReached}
 use Rattle.schemars_headline.specs.State.{State, path_of, plan_of, work_of, HasOwnDefinitions}

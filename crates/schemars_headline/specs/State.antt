@@ -3,12 +3,12 @@ use Rattle.std.specs.Prelude.{◌≡◌, Contains, ℕ, ◌==◌, List, [], ◌�
 use Rattle.serde_json.specs.Data.{Data, string, Members}
 use Rattle.serde_json.specs.Find.{get_member}
 use Rattle.schemars_schema.specs.References.{references}
-use Rattle.schemars_json.specs.Json.{Text}
+use Rattle.schemars_schema.specs.Json.{Text}
 use Rattle.schemars_types.specs.Rows.{Row}
 use Rattle.schemars_documents.specs.declared.contract.Contract.{Contract}
 use Rattle.schemars_documents.specs.declared.contract.Contract.TheVariants.{Deserialize}
-use Rattle.schemars_naming.specs.Naming.{Naming}
-use Rattle.schemars_naming.specs.Work.{Plan, Work, IsKey, AreDefinitions, reference_to}
+use Rattle.schemars_build.specs.Naming.{Naming}
+use Rattle.schemars_build.specs.Work.{Plan, Work, IsKey, AreDefinitions, reference_to}
 
 pub record Settings : Type 0 where
   pub definitions_path : Text

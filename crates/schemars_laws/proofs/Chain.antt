@@ -3,14 +3,14 @@ use Rattle.std.proofs.Common.{◌≡◌, ℕ, suc, Option, Some, None, true, cod
 use Rattle.serde_json.specs.Data.{Data, null, boolean, number, string, array, object, no_items, item, Members, no_members, member}
 use Rattle.serde_json.specs.Find.{get_member, pointer}
 use Rattle.serde_json.specs.Events.{members_len}
-use Rattle.schemars_json.specs.Json.{Text}
+use Rattle.schemars_schema.specs.Json.{Text}
 use Rattle.schemars_schema.specs.SchemaData.{IsSchema}
 use Rattle.schemars_schema.specs.Acceptance.{Dialect, Patterns, draft2020_12, openapi3, accepts}
 use Rattle.schemars_schema.proofs.Placings.{plain-components, pointer-components}
 use Rattle.schemars_walk.specs.Rewritten.{Rules, forms, in_names, in_keywords, rewritten}
 use Rattle.schemars_transform.specs.Built.{bool_rules, without_siblings, with_single_example, const_as_enum, prefix_as_items}
-use Rattle.schemars_transform.specs.declared.bool_schemas.ReplaceBoolSchemas.{ReplaceBoolSchemas}
-use Rattle.schemars_gen_transform.specs.Unevaluated.{unevaluated_as_additional}
+use Rattle.schemars_transform.specs.declared.built_in.bool_schemas.ReplaceBoolSchemas.{ReplaceBoolSchemas}
+use Rattle.schemars_transform.specs.Unevaluated.{unevaluated_as_additional}
 use Rattle.schemars_laws.specs.Everywhere.{Everywhere}
 use Rattle.schemars_laws.specs.Classes.{HasPlainItems, HasPlainReference, HasPlainType, HasNoUnevaluated, IsTypes, IsConstAlone}
 use Rattle.schemars_laws.specs.Classes.{without_unevaluated, with_nullable_read, alone_by, without_const}

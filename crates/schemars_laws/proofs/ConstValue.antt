@@ -4,13 +4,13 @@ use Rattle.std.specs.Prelude.{bytes_eq}
 use Rattle.serde_json.specs.Data.{Data, null, boolean, number, string, array, object, no_items, item, Members, put}
 use Rattle.serde_json.specs.Find.{get_member}
 use Rattle.serde_json.proofs.Views.{get_member-put, get_member-put_other}
-use Rattle.schemars_json.specs.Json.{Text, json_eq}
+use Rattle.schemars_schema.specs.Json.{Text, json_eq}
 use Rattle.schemars_schema.specs.SchemaData.{IsSchema}
 use Rattle.schemars_schema.specs.Edits.{without}
 use Rattle.schemars_schema.specs.Verdict.{Verdict}
 use Rattle.schemars_schema.specs.Acceptance.{Dialect, Context, judge, keywords, truth_value, read_data, read_members, reading_at}
 use Rattle.schemars_transform.specs.Built.{const_as_enum, value_as_enum}
-use Rattle.schemars_rewrite.proofs.NullKeywords.{or-false}
+use Rattle.schemars_builders.proofs.NullKeywords.{or-false}
 use Rattle.schemars_laws.specs.Classes.{IsOnce, IsConstAlone, without_const, with_const}
 use Rattle.schemars_laws.proofs.Looked.{without-other, walked, raw-walked, once-walked, Change}
 use Rattle.schemars_laws.proofs.Apart.{four_of, four_by, look_up, says-moved, differ, outside}

@@ -4,12 +4,12 @@ use Rattle.std.specs.Prelude.{if◌then◌else◌, option_and_then, ◌==◌}
 use Rattle.serde_json.specs.Data.{Data, object, Members, no_members, member}
 use Rattle.serde_json.specs.Find.{get_member, as_str}
 use Rattle.serde_json.specs.Events.{members_len}
-use Rattle.schemars_json.specs.Json.{Text}
+use Rattle.schemars_schema.specs.Json.{Text}
 use Rattle.schemars_schema.specs.Edits.{without}
 use Rattle.schemars_schema.specs.References.{NoSchemas, OneSchema, SchemaList, SchemasByName, place_under}
 use Rattle.schemars_schema.specs.Acceptance.{Dialect, Patterns, accepts, draft2020_12, draft2019_09, draft07}
 use Rattle.schemars_transform.specs.Built.{reference_moved, without_siblings, remove_ref_siblings, replace_prefix_items}
-use Rattle.schemars_gen_transform.specs.Unevaluated.{unevaluated_as_additional, closed_by, replace_unevaluated_properties}
+use Rattle.schemars_transform.specs.Unevaluated.{unevaluated_as_additional, closed_by, replace_unevaluated_properties}
 use Rattle.schemars_laws.specs.Everywhere.{Everywhere, asked, asked_of_keywords}
 use Rattle.schemars_laws.specs.Names.{IsName, IsNamedBy, HasNameOf, IsNoObject, Named, IsMap}
 use Rattle.schemars_laws.specs.Classes.{IsOnce, HasPlainItems, HasPlainReference, HasNoUnevaluated, IsDraft07}

@@ -9,10 +9,10 @@ use Rattle.std.proofs.lemmas.Slice.Eq.{bytes_eq-Decides}
 use Rattle.serde_json.specs.Data.{Data, null, boolean, number, string, array, object, Items, no_items, item, Members, no_members, member, put}
 use Rattle.serde_json.specs.Find.{get_member}
 use Rattle.serde_json.proofs.Views.{get_member-put_other}
-use Rattle.schemars_json.specs.Json.{Text}
+use Rattle.schemars_schema.specs.Json.{Text}
 use Rattle.schemars_schema.specs.Edits.{without, replaced}
-use Rattle.schemars_rewrite.specs.AllowNull.{with_item}
-use Rattle.schemars_rewrite.specs.Properties.{with_last}
+use Rattle.schemars_builders.specs.AllowNull.{with_item}
+use Rattle.schemars_builders.specs.Properties.{with_last}
 use Rattle.schemars_transform.specs.Built.{reference}
 use Rattle.schemars_laws.specs.Everywhere.{asked, asked_of_items, asked_of_keywords}
 use Rattle.schemars_laws.specs.Names.{IsNoObject}

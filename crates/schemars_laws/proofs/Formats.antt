@@ -4,13 +4,13 @@ use Rattle.std.specs.Prelude.{if◌then◌else◌, option_and_then}
 use Rattle.std.specs.BTreeSet.{BTreeSet}
 use Rattle.serde_json.specs.Data.{Data, null, boolean, number, string, array, object, Members}
 use Rattle.serde_json.specs.Find.{get_member, as_str}
-use Rattle.schemars_json.specs.Json.{Text}
+use Rattle.schemars_schema.specs.Json.{Text}
 use Rattle.schemars_schema.specs.SchemaData.{IsSchema}
 use Rattle.schemars_schema.specs.Edits.{without, removed}
 use Rattle.schemars_schema.specs.Acceptance.{Dialect, Context, judge, truth_value, read_data}
 use Rattle.schemars_schema.proofs.Objects.{judge-agree, apart}
 use Rattle.schemars_walk.specs.Rewritten.{in_keywords}
-use Rattle.schemars_gen_transform.specs.Formats.{format_rules, stays}
+use Rattle.schemars_transform.specs.Formats.{format_rules, stays}
 use Rattle.schemars_laws.proofs.Moved.{Moves}
 use Rattle.schemars_laws.proofs.Looked.{without-other}
 use Rattle.schemars_laws.proofs.Examples.{same-dialect}

@@ -1,17 +1,17 @@
 -- The laws of transforms over whole documents, whose definitions stand at one key or under components.
 use Rattle.std.proofs.Common.{◌≡◌, ◌≢◌, codes, refl, sym, ap, ◌∙◌}
 use Rattle.serde_json.specs.Data.{object, Members}
-use Rattle.schemars_json.specs.Json.{Text}
+use Rattle.schemars_schema.specs.Json.{Text}
 use Rattle.schemars_schema.specs.References.{Place, NoSchemas, OneSchema, SchemaList, SchemaOrList, SchemasByName, place_under}
 use Rattle.schemars_schema.specs.Acceptance.{Dialect}
 use Rattle.schemars_walk.specs.Rewritten.{Rules, in_keywords, forms, rewritten}
 use Rattle.schemars_transform.specs.Built.{replace_bool_schemas, remove_ref_siblings, set_single_example, replace_const_value, replace_prefix_items}
 use Rattle.schemars_transform.specs.Built.{bool_rules, without_siblings, with_single_example, const_as_enum, prefix_as_items}
 use Rattle.schemars_transform.specs.Nullable.{add_nullable}
-use Rattle.schemars_transform.specs.declared.bool_schemas.ReplaceBoolSchemas.{ReplaceBoolSchemas}
-use Rattle.schemars_gen_transform.specs.Formats.{format_rules, restrict_formats}
-use Rattle.schemars_gen_transform.specs.declared.formats.RestrictFormats.{RestrictFormats}
-use Rattle.schemars_gen_transform.specs.Unevaluated.{unevaluated_as_additional, replace_unevaluated_properties}
+use Rattle.schemars_transform.specs.declared.built_in.bool_schemas.ReplaceBoolSchemas.{ReplaceBoolSchemas}
+use Rattle.schemars_transform.specs.Formats.{format_rules, restrict_formats}
+use Rattle.schemars_transform.specs.declared.built_in.formats.RestrictFormats.{RestrictFormats}
+use Rattle.schemars_transform.specs.Unevaluated.{unevaluated_as_additional, replace_unevaluated_properties}
 use Rattle.schemars_laws.specs.Classes.{IsConstAlone, HasPlainItems, HasPlainReference, HasPlainType, HasNoUnevaluated, plain_nullable}
 use Rattle.schemars_laws.specs.Classes.{without_const, with_const, by_items, by_prefix_items, alone_by, beside_by}
 use Rattle.schemars_laws.specs.Classes.{with_nullable_read, without_nullable_read, with_unevaluated, without_unevaluated}

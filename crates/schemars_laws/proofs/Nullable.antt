@@ -4,13 +4,13 @@ use Rattle.std.specs.Prelude.{option_map, bytes_eq, if◌then◌else◌, ◌&&�
 use Rattle.serde_json.specs.Data.{Data, null, boolean, number, string, array, object, Items, no_items, item, Members, put}
 use Rattle.serde_json.specs.Find.{get_member}
 use Rattle.serde_json.proofs.Views.{get_member-put, get_member-put_other}
-use Rattle.schemars_json.specs.Json.{Text, json_eq}
-use Rattle.schemars_json.specs.OrderedText.{is_listed}
+use Rattle.schemars_schema.specs.Json.{Text, json_eq}
+use Rattle.schemars_schema.specs.OrderedText.{is_listed}
 use Rattle.schemars_schema.specs.SchemaData.{IsSchema}
 use Rattle.schemars_schema.specs.Edits.{without, replaced}
 use Rattle.schemars_schema.specs.Verdict.{Verdict, Yes, No, Open, both, verdict}
 use Rattle.schemars_schema.specs.Acceptance.{Dialect, Context, judge, keywords, truth_value, read_data, read_members, reading_at, is_null, type_says, type_fits, types_in, is_of_some_type, where_some, items_say, enum_says}
-use Rattle.schemars_rewrite.specs.AllowNull.{holds_text}
+use Rattle.schemars_builders.specs.AllowNull.{holds_text}
 use Rattle.schemars_transform.specs.Nullable.{all_null, nulls_in, type_without_null, null_taken_out, nullable_by, with_nullable}
 use Rattle.schemars_laws.specs.Classes.{IsTypes, is_null_alone, HasPlainType, plain_nullable, with_nullable_read, without_nullable_read}
 use Rattle.schemars_laws.proofs.Looked.{without-other, walked, raw-walked, Change}

@@ -7,8 +7,8 @@ use Rattle.std.specs.Ordering.{match_ordering}
 use Rattle.serde_json.specs.Data.{Data, null, boolean, number, string, array, object, Members, no_members, member, put}
 use Rattle.serde_json.specs.Find.{get_member, pointer}
 use Rattle.serde_json.proofs.Views.{get_member-put}
-use Rattle.schemars_json.specs.Json.{Text}
-use Rattle.schemars_json.specs.Encoding.{lookup}
+use Rattle.schemars_schema.specs.Json.{Text}
+use Rattle.schemars_schema.specs.Encoding.{lookup}
 use Rattle.schemars_schema.specs.SchemaData.{IsSchema, is_schema, members_in}
 use Rattle.schemars_schema.specs.Lookup.{resolved, schema_only}
 use Rattle.schemars_schema.specs.Acceptance.{Dialect, judge}

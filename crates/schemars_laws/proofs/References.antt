@@ -4,8 +4,8 @@ use Rattle.std.specs.Prelude.{IsUtf8, ◌++◌, option_and_then, if◌then◌els
 use Rattle.serde_json.specs.Data.{Data, object, Members}
 use Rattle.serde_json.specs.Find.{get_member, pointer}
 use Rattle.serde_json.proofs.OnLiterals.{serde_json_on_literals}
-use Rattle.schemars_json.specs.Json.{Text}
-use Rattle.schemars_json.specs.Encoding.{lookup, encoded, percent_decoded, percent_decoded_bytes, text_of_bytes}
+use Rattle.schemars_schema.specs.Json.{Text}
+use Rattle.schemars_schema.specs.Encoding.{lookup, encoded, percent_decoded, percent_decoded_bytes, text_of_bytes}
 use Rattle.schemars_schema.proofs.Placings.{pointer-defs, pointer-definitions, plain-defs, plain-definitions, lookup-definition}
 use Rattle.schemars_laws.specs.Names.{IsName}
 

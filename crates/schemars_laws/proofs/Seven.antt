@@ -4,17 +4,17 @@ use Rattle.std.specs.Prelude.{bytes_eq, if◌then◌else◌, ◌==◌}
 use Rattle.serde_json.specs.Data.{Data, null, boolean, number, string, array, object, no_items, item, Members, no_members, member, put}
 use Rattle.serde_json.specs.Find.{get_member}
 use Rattle.serde_json.specs.Events.{members_len}
-use Rattle.schemars_json.specs.Json.{Text}
+use Rattle.schemars_schema.specs.Json.{Text}
 use Rattle.schemars_schema.specs.SchemaData.{IsSchema, members_in}
 use Rattle.schemars_schema.specs.Edits.{without, replaced}
 use Rattle.schemars_schema.specs.References.{SchemaOrList}
 use Rattle.schemars_schema.specs.Acceptance.{draft2020_12}
-use Rattle.schemars_rewrite.specs.AllowNull.{holds_text}
+use Rattle.schemars_builders.specs.AllowNull.{holds_text}
 use Rattle.schemars_walk.specs.Rewritten.{in_keywords}
 use Rattle.schemars_transform.specs.Built.{bool_rules, reference_moved, without_siblings, first_as_example, with_single_example}
 use Rattle.schemars_transform.specs.Built.{value_as_enum, const_as_enum, prefix_as_items, prefix_moved, old_items_moved}
 use Rattle.schemars_transform.specs.Nullable.{all_null, nulls_in, nullable_by, null_taken_out, type_without_null}
-use Rattle.schemars_gen_transform.specs.Unevaluated.{unevaluated_as_additional, closed_by}
+use Rattle.schemars_transform.specs.Unevaluated.{unevaluated_as_additional, closed_by}
 use Rattle.schemars_laws.specs.Everywhere.{asked, asked_at, asked_of_keywords}
 use Rattle.schemars_laws.specs.Names.{IsNoObject}
 use Rattle.schemars_laws.specs.Classes.{IsSchemaList, is_null_alone, IsConstAlone, HasPlainItems, plain_nullable}

@@ -8,8 +8,8 @@ use Rattle.serde_json.specs.Data.{Data, null, boolean, number, string, array, ob
 use Rattle.serde_json.specs.Find.{get_member}
 use Rattle.serde_json.specs.Events.{members_len}
 use Rattle.serde_json.proofs.Views.{get_member-put, get_member-put_other}
-use Rattle.schemars_json.specs.Json.{Text}
-use Rattle.schemars_json.specs.OrderedText.{is_listed}
+use Rattle.schemars_schema.specs.Json.{Text}
+use Rattle.schemars_schema.specs.OrderedText.{is_listed}
 use Rattle.schemars_schema.specs.SchemaData.{IsSchema}
 use Rattle.schemars_schema.specs.Edits.{without, replaced}
 use Rattle.schemars_schema.specs.Verdict.{Verdict, Yes, No, Open, both, all_of, is_yes}
@@ -20,8 +20,8 @@ use Rattle.schemars_schema.specs.Acceptance.{reference_says, type_says, const_sa
 use Rattle.schemars_schema.specs.Acceptance.{stands_schema, is_covered}
 use Rattle.schemars_schema.specs.Acceptance.{each_says, unevaluated_properties_say}
 use Rattle.schemars_schema.proofs.Objects.{schema-judge, reading_at-members, judge-agree}
-use Rattle.schemars_rewrite.specs.AllowNull.{with_item}
-use Rattle.schemars_rewrite.specs.Properties.{with_last, changed_at}
+use Rattle.schemars_builders.specs.AllowNull.{with_item}
+use Rattle.schemars_builders.specs.Properties.{with_last, changed_at}
 use Rattle.schemars_transform.specs.Built.{reference, reference_moved, without_siblings}
 use Rattle.schemars_laws.proofs.Keywords.{counts_say, members_say, last_say, fits-all, left_out, AgreeOutside, left_out-agree}
 use Rattle.schemars_laws.proofs.Seen.{judge_ext}
@@ -29,7 +29,7 @@ use Rattle.schemars_laws.specs.Classes.{IsOnce, IsText, IsSchemaList, HasPlainRe
 use Rattle.schemars_laws.proofs.Looked.{get_member-first, unequal, without-other, walked, raw-walked, once-walked, list-walked, Change}
 use Rattle.schemars_laws.proofs.Apart.{pulled, look_up, differ}
 use Rattle.schemars_schema.proofs.Verdicts.{both-yes}
-use Rattle.schemars_rewrite.proofs.NullKeywords.{or-false}
+use Rattle.schemars_builders.proofs.NullKeywords.{or-false}
 use Rattle.schemars_laws.proofs.PrefixItems.{some-list}
 
 -- ---- `$ref` and `allOf` apart from the other keywords

@@ -3,12 +3,12 @@ use Rattle.std.proofs.Common.{◌≡◌, Option, Some, None, Bool, true, false, 
 use Rattle.std.specs.Prelude.{bytes_eq, if◌then◌else◌, ◌&&◌, is_some, option_and_then}
 use Rattle.serde_json.specs.Data.{Data, null, boolean, number, string, array, object, Members}
 use Rattle.serde_json.specs.Find.{as_bool, as_str}
-use Rattle.schemars_json.specs.Json.{Text}
+use Rattle.schemars_schema.specs.Json.{Text}
 use Rattle.schemars_schema.specs.SchemaData.{IsSchema}
 use Rattle.schemars_schema.specs.References.{NoSchemas, place_under}
 use Rattle.schemars_walk.specs.Rewritten.{Rules, in_keywords}
 use Rattle.schemars_transform.specs.Built.{bool_rules}
-use Rattle.schemars_transform.specs.declared.bool_schemas.ReplaceBoolSchemas.{ReplaceBoolSchemas}
+use Rattle.schemars_transform.specs.declared.built_in.bool_schemas.ReplaceBoolSchemas.{ReplaceBoolSchemas}
 use Rattle.schemars_laws.specs.Everywhere.{asked, asked_of_keywords}
 use Rattle.schemars_laws.proofs.Walking.{list-walked, items-walked}
 use Rattle.schemars_laws.proofs.Looked.{change_rules, walked}

@@ -3,15 +3,15 @@ use Rattle.std.proofs.Common.{◌≡◌, List, [], ◌∷◌, Option, Some, None
 use Rattle.std.specs.Prelude.{bytes_eq, if◌then◌else◌, ◌||◌, ◌&&◌}
 use Rattle.std.proofs.lemmas.Slice.Eq.{bytes_eq-Decides}
 use Rattle.serde_json.specs.Data.{Data, null, boolean, number, string, array, object, Items, no_items, item}
-use Rattle.schemars_json.specs.Json.{Text}
-use Rattle.schemars_json.specs.OrderedText.{is_listed}
+use Rattle.schemars_schema.specs.Json.{Text}
+use Rattle.schemars_schema.specs.OrderedText.{is_listed}
 use Rattle.schemars_schema.specs.Verdict.{Verdict, verdict}
 use Rattle.schemars_schema.specs.Acceptance.{type_names, is_of_type, is_of_some_type, texts_in, are_type_names, when, types_in, is_null}
 use Rattle.schemars_schema.specs.Acceptance.{type_fits, type_says, where_some}
-use Rattle.schemars_rewrite.specs.AllowNull.{holds_text}
+use Rattle.schemars_builders.specs.AllowNull.{holds_text}
 use Rattle.schemars_transform.specs.Nullable.{all_null, without_null, one_or_list, type_without_null}
-use Rattle.schemars_rewrite.proofs.NullKeywords.{or-false}
-use Rattle.schemars_rewrite.proofs.NullMembers.{and-parts}
+use Rattle.schemars_builders.proofs.NullKeywords.{or-false}
+use Rattle.schemars_builders.proofs.NullMembers.{and-parts}
 use Rattle.schemars_laws.specs.Classes.{AreTexts}
 
 bytes_eq-sym : (k l : Text) → bytes_eq k l ≡ bytes_eq l k

@@ -5,14 +5,14 @@ use Rattle.std.specs.Prelude.{bytes_eq, if◌then◌else◌, ◌||◌, ◌&&◌,
 use Rattle.serde_json.specs.Data.{Data, null, boolean, number, string, array, object, Members, no_members, member, put}
 use Rattle.serde_json.specs.Find.{get_member}
 use Rattle.serde_json.proofs.Views.{get_member-put_other}
-use Rattle.schemars_json.specs.Json.{Text}
+use Rattle.schemars_schema.specs.Json.{Text}
 use Rattle.schemars_schema.specs.SchemaData.{IsSchema}
 use Rattle.schemars_schema.specs.Edits.{without}
 use Rattle.schemars_schema.specs.Verdict.{Yes}
 use Rattle.schemars_schema.specs.Acceptance.{Dialect, Context, Raw, Readings, judge, keywords, all_keywords, reference_alone, is_reference}
 use Rattle.schemars_schema.specs.Acceptance.{read_data, read_members, reading_at, unevaluated_properties_say, judged_beside, stands_schema}
 use Rattle.schemars_schema.proofs.Objects.{judge-agree, reading_at-members}
-use Rattle.schemars_gen_transform.specs.Unevaluated.{unevaluated_as_additional, closed_by, property_names, properties_made, properties_named, named_in, with_names}
+use Rattle.schemars_transform.specs.Unevaluated.{unevaluated_as_additional, closed_by, property_names, properties_made, properties_named, named_in, with_names}
 use Rattle.schemars_laws.specs.Classes.{HasNoUnevaluated, with_unevaluated, without_unevaluated}
 use Rattle.schemars_laws.proofs.Seen.{judge_ext}
 use Rattle.schemars_laws.proofs.Formats.{truth-judge}

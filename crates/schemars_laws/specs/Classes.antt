@@ -3,13 +3,13 @@ use Rattle.std.specs.Prelude.{◌≡◌, ◌⊎◌, ◌&&◌, Option, Some, None
 use Rattle.serde_json.specs.Data.{Data, null, boolean, number, string, array, object, Items, no_items, item, Members}
 use Rattle.serde_json.specs.Events.{members_len}
 use Rattle.serde_json.specs.Find.{get_member}
-use Rattle.schemars_json.specs.Json.{Text}
+use Rattle.schemars_schema.specs.Json.{Text}
 use Rattle.schemars_schema.specs.SchemaData.{IsSchema}
 use Rattle.schemars_schema.specs.Edits.{without}
 use Rattle.schemars_schema.specs.Acceptance.{Dialect}
-use Rattle.schemars_rewrite.specs.AllowNull.{holds_text}
+use Rattle.schemars_builders.specs.AllowNull.{holds_text}
 use Rattle.schemars_transform.specs.Nullable.{all_null}
-use Rattle.schemars_transform.specs.declared.nullable.AddNullable.{AddNullable}
+use Rattle.schemars_transform.specs.declared.built_in.nullable.AddNullable.{AddNullable}
 
 -- ---- what stands under a keyword
 

@@ -2,8 +2,8 @@
 use Rattle.std.specs.Prelude.{◌≡◌, ◌⊎◌, Option, Some, None, option_and_then, codes}
 use Rattle.serde_json.specs.Data.{Data, null, boolean, number, string, array, object, Members}
 use Rattle.serde_json.specs.Find.{get_member, as_str}
-use Rattle.schemars_json.specs.Json.{Text}
-use Rattle.schemars_json.specs.Encoding.{lookup}
+use Rattle.schemars_schema.specs.Json.{Text}
+use Rattle.schemars_schema.specs.Encoding.{lookup}
 
 -- where a map stands at key in a document, the reference leads to its member k, and to nothing where nothing stands there
 pub record IsNameOf (key k reference : Text) : Type 0 where

@@ -2,7 +2,7 @@
 use Rattle.std.specs.Prelude.{◌≡◌, ◌⊎◌, Option, Some, None, false, codes}
 use Rattle.serde_json.specs.Data.{Data, null, boolean, number, string, array, object, no_items, item, Members}
 use Rattle.serde_json.specs.Find.{get_member}
-use Rattle.schemars_json.specs.Json.{Text}
+use Rattle.schemars_schema.specs.Json.{Text}
 use Rattle.schemars_laws.specs.Names.{IsNoObject}
 use Rattle.schemars_laws.specs.Classes.{IsOnce, IsSchemaList, is_null_alone, IsConstAlone, HasPlainItems, HasNoUnevaluated, AreTexts}
 

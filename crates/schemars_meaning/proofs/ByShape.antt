@@ -4,11 +4,11 @@ use Rattle.std.proofs.Common.{subst, append-nil}
 use Rattle.std.specs.Prelude.{codes}
 use Rattle.serde_json.specs.Data.{Data, boolean, array, Items, no_items, item}
 use Rattle.serde_json.specs.View.{items_of}
-use Rattle.schemars_json.specs.Json.{Text}
+use Rattle.schemars_schema.specs.Json.{Text}
 use Rattle.schemars_schema.specs.SchemaData.{object_of}
-use Rattle.schemars_rewrite.specs.AllowNull.{allow_null}
-use Rattle.schemars_rewrite.specs.NullLaw.{text_items}
-use Rattle.schemars_rewrite.specs.Variants.{unit_variant}
+use Rattle.schemars_builders.specs.AllowNull.{allow_null}
+use Rattle.schemars_builders.specs.NullLaw.{text_items}
+use Rattle.schemars_builders.specs.Variants.{unit_variant}
 use Rattle.schemars_shapes.specs.Shape as shape
 use Rattle.schemars_shapes.specs.Shape.{Shape, Field, Flattened, Entry}
 use Rattle.schemars_types.specs.Meaning.{Contract}
@@ -18,11 +18,11 @@ use Rattle.schemars_documents.specs.Documents.{Keyword, typed, type_alone, int_d
 use Rattle.schemars_documents.specs.Documents.{formatted_document, count_at, empty_list_document, bytes_document}
 use Rattle.schemars_documents.specs.Documents.{schema_document, required_names, annotated}
 use Rattle.schemars_documents.specs.PlainTable.{parts_in, ArePlainParts}
-use Rattle.schemars_templates.specs.Basis.{Basis}
-use Rattle.schemars_templates.specs.Template.{Ask, part, row, asks_of, asks_in, filled, filled_in}
-use Rattle.schemars_templates.specs.OfShape.{templates_of, tuple_template, template_of, entry_template, literal_document}
-use Rattle.schemars_templates.specs.OfShape.{values_template, external_template, untagged_template, internal_template}
-use Rattle.schemars_templates.specs.Describes.{Fills}
+use Rattle.schemars_documents.specs.Basis.{Basis}
+use Rattle.schemars_documents.specs.Template.{Ask, part, row, asks_of, asks_in, filled, filled_in}
+use Rattle.schemars_documents.specs.OfShape.{templates_of, tuple_template, template_of, entry_template, literal_document}
+use Rattle.schemars_documents.specs.OfShape.{values_template, external_template, untagged_template, internal_template}
+use Rattle.schemars_documents.specs.Describes.{Fills}
 use Rattle.schemars_meaning.proofs.MapDocument.{map_document}
 use Rattle.schemars_meaning.proofs.Spread.{field_keywords, IsFieldsDocument, AnswersFields}
 use Rattle.schemars_meaning.proofs.Filling.{ArePartsWritten, Fit, rows_asked, parts_answered}

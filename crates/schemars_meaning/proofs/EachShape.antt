@@ -8,13 +8,13 @@ use Rattle.serde_json.specs.Data.{no_items, item, depth, items_depth}
 use Rattle.serde_json.specs.Find.{as_integer, of_integer, as_array}
 use Rattle.serde_json.specs.Events.{items_len}
 use Rattle.schemars_schema.specs.Verdict.{Verdict, Yes, No, Open, both, verdict, opposite}
-use Rattle.schemars_json.specs.Json.{Text, IsJson, AreJson, json_eq, are_distinct}
+use Rattle.schemars_schema.specs.Json.{Text, IsJson, AreJson, json_eq, are_distinct}
 use Rattle.schemars_schema.specs.SchemaData.{IsSchema, object_of}
 use Rattle.schemars_schema.specs.Acceptance.{Patterns, Judge, Context, judge, read_data, read_items, by_position}
 use Rattle.schemars_schema.specs.Acceptance.{all_keywords, each_past, where_some, code_points, whole_number}
 use Rattle.schemars_schema.proofs.Verdicts.{both-yes, both-verdict}
 use Rattle.schemars_schema.proofs.Objects.{schema-judge}
-use Rattle.schemars_rewrite.specs.NullLaw.{context2020_12, zero_schema}
+use Rattle.schemars_builders.specs.NullLaw.{context2020_12, zero_schema}
 use Rattle.schemars_shapes.specs.declared.shape.IntKind.{IntKind}
 use Rattle.schemars_shapes.specs.declared.shape.IntKind.TheVariants.{I8, I16, I32, I64, I128, Isize, U8, U16, U32, U64, U128, Usize}
 use Rattle.schemars_shapes.specs.IntKind.{format_of}
@@ -23,7 +23,7 @@ use Rattle.schemars_types.specs.Meaning.{Contract, Deserialize, Serialize, is_by
 use Rattle.schemars_types.specs.OpenStructs.{no_choices}
 use Rattle.schemars_types.specs.Meaning.{each_of, holds, least_of, greatest_of, is_at_least, is_at_most, is_zero}
 use Rattle.schemars_types.specs.KeyOptions.{key_options}
-use Rattle.schemars_templates.specs.Basis.{Basis}
+use Rattle.schemars_documents.specs.Basis.{Basis}
 use Rattle.schemars_documents.specs.Documents.{type_alone, int_keywords, int_document, non_zero_document, char_document}
 use Rattle.schemars_documents.specs.Documents.{formatted_document, empty_list_document, bytes_document, schema_document}
 use Rattle.schemars_meaning.proofs.Filling.{ArePartsWritten}

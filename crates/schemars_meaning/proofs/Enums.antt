@@ -3,22 +3,22 @@ use Rattle.std.proofs.Common.{◌≡◌, ◌⊎◌, inl, inr, ℕ, List, [], ◌
 use Rattle.std.specs.List.{list_any}
 use Rattle.serde_json.specs.Data.{Data, Members}
 use Rattle.schemars_schema.specs.Verdict.{verdict}
-use Rattle.schemars_json.specs.Json.{Text}
+use Rattle.schemars_schema.specs.Json.{Text}
 use Rattle.schemars_schema.specs.SchemaData.{IsSchema}
 use Rattle.schemars_schema.specs.Acceptance.{Patterns, Judge, Context, judge, read_data}
 use Rattle.schemars_schema.specs.Annotations.{AreNotes}
-use Rattle.schemars_rewrite.specs.NullLaw.{context2020_12}
-use Rattle.schemars_rewrite.proofs.Nulls.{IsReady, AreReady}
+use Rattle.schemars_builders.specs.NullLaw.{context2020_12}
+use Rattle.schemars_builders.proofs.Nulls.{IsReady, AreReady}
 use Rattle.schemars_shapes.specs.Shape.{Field, Flattened, Fields, Payload, Variant, no_payload, newtype_payload, tuple_payload}
 use Rattle.schemars_shapes.specs.Shape.{struct_payload}
 use Rattle.schemars_types.specs.Effective.{spread_variant}
 use Rattle.schemars_types.specs.Meaning.{Contract}
 use Rattle.schemars_documents.specs.PlainTable.{ArePlainVariants, payload_parts, variant_parts}
-use Rattle.schemars_templates.specs.Basis.{Basis}
-use Rattle.schemars_templates.specs.Template.{Ask, part, Template, noted, Templates, asks_of, asks_in, filled, filled_in}
-use Rattle.schemars_templates.specs.OfShape.{templates_of, any_of, payload_template, bare_units, other_items, units_template, choice_of}
-use Rattle.schemars_templates.specs.OfShape.{external_template, payload_item, untagged_template, titled, title_alone, struct_template}
-use Rattle.schemars_templates.specs.OfShape.{internal_item, internal_template}
+use Rattle.schemars_documents.specs.Basis.{Basis}
+use Rattle.schemars_documents.specs.Template.{Ask, part, Template, noted, Templates, asks_of, asks_in, filled, filled_in}
+use Rattle.schemars_documents.specs.OfShape.{templates_of, any_of, payload_template, bare_units, other_items, units_template, choice_of}
+use Rattle.schemars_documents.specs.OfShape.{external_template, payload_item, untagged_template, titled, title_alone, struct_template}
+use Rattle.schemars_documents.specs.OfShape.{internal_item, internal_template}
 use Rattle.schemars_meaning.proofs.Filling.{Fit, without_end, parted}
 use Rattle.schemars_meaning.proofs.ByShape.{tuple_fills}
 use Rattle.schemars_meaning.proofs.Ready.{tuple_ready, one_of_ready, any_of_ready, units_ready}

@@ -2,20 +2,20 @@
 use Rattle.std.proofs.Common.{◌≡◌, ℕ, ◌<◌, List, [], ◌∷◌, ◌++◌, Bool, true, false, map, refl, sym, ap, ◌∙◌, subst, append-nil}
 use Rattle.std.specs.Prelude.{if◌then◌else◌}
 use Rattle.serde_json.specs.Data.{Data, Members, no_members, depth}
-use Rattle.schemars_json.specs.Json.{Text, IsJson}
+use Rattle.schemars_schema.specs.Json.{Text, IsJson}
 use Rattle.schemars_schema.specs.SchemaData.{IsSchema}
 use Rattle.schemars_schema.specs.Annotations.{AreNotes}
 use Rattle.schemars_schema.specs.Verdict.{verdict}
 use Rattle.schemars_schema.specs.Acceptance.{Context, Judge, judge, is_null}
-use Rattle.schemars_rewrite.specs.AllowNull.{null_schema}
-use Rattle.schemars_parts.specs.Parts.{flattened_part}
+use Rattle.schemars_builders.specs.AllowNull.{null_schema}
+use Rattle.schemars_flatten.specs.Parts.{flattened_part}
 use Rattle.schemars_shapes.specs.Shape.{Field, Payload, Variant, no_payload, newtype_payload, tuple_payload, struct_payload}
 use Rattle.schemars_shapes.specs.Units.{is_bare_unit}
 use Rattle.schemars_types.specs.Meaning.{Contract}
 use Rattle.schemars_documents.specs.Documents.{annotated}
-use Rattle.schemars_templates.specs.Template.{Ask, part, Template, noted, asks_of, asks_in, filled, filled_in}
-use Rattle.schemars_templates.specs.OfShape.{templates_of, member_template, payload_template, named_template, bare_units, other_items}
-use Rattle.schemars_templates.specs.OfShape.{choice_of, external_template}
+use Rattle.schemars_documents.specs.Template.{Ask, part, Template, noted, asks_of, asks_in, filled, filled_in}
+use Rattle.schemars_documents.specs.OfShape.{templates_of, member_template, payload_template, named_template, bare_units, other_items}
+use Rattle.schemars_documents.specs.OfShape.{choice_of, external_template}
 use Rattle.schemars_types.specs.Meaning.{Choice, member_choice}
 use Rattle.schemars_meaning.proofs.Filling.{Fit, without_end, parted}
 use Rattle.schemars_meaning.proofs.Items.{IsItem, AnyItems, member_item}

@@ -11,12 +11,12 @@ use Rattle.serde_json.specs.Data.{Data, null, boolean, number, string, array, ob
 use Rattle.serde_json.specs.Data.{member, depth}
 use Rattle.serde_json.specs.Find.{get_member}
 use Rattle.serde_json.specs.View.{items_of}
-use Rattle.schemars_json.specs.Json.{Text, IsJson}
+use Rattle.schemars_schema.specs.Json.{Text, IsJson}
 use Rattle.schemars_schema.specs.SchemaData.{IsSchema}
 use Rattle.schemars_schema.specs.Annotations.{AreNotes}
 use Rattle.schemars_schema.specs.Verdict.{verdict}
 use Rattle.schemars_schema.specs.Acceptance.{Context, Judge, judge, read_data}
-use Rattle.schemars_rewrite.specs.Variants.{unit_variant}
+use Rattle.schemars_builders.specs.Variants.{unit_variant}
 use Rattle.schemars_shapes.specs.Shape.{Field, Flattened, Payload, Variant, no_payload, newtype_payload, tuple_payload, struct_payload}
 use Rattle.schemars_shapes.specs.Shape.{needed}
 use Rattle.schemars_shapes.specs.Units.{is_bare_unit}
@@ -24,9 +24,9 @@ use Rattle.schemars_types.specs.Meaning.{Contract, Deserialize, Serialize, is_ma
 use Rattle.schemars_types.specs.Meaning.{none, exactly_one}
 use Rattle.schemars_documents.specs.PlainTable.{IsNoVariant, AreDistinctVariants}
 use Rattle.schemars_documents.specs.Documents.{annotated}
-use Rattle.schemars_templates.specs.Template.{Ask, part, Template, noted, asks_of, asks_in, filled, filled_in}
-use Rattle.schemars_templates.specs.OfShape.{templates_of, one_of, member_template, payload_template, named_template, bare_units}
-use Rattle.schemars_templates.specs.OfShape.{other_items, units_template, choice_of, external_template}
+use Rattle.schemars_documents.specs.Template.{Ask, part, Template, noted, asks_of, asks_in, filled, filled_in}
+use Rattle.schemars_documents.specs.OfShape.{templates_of, one_of, member_template, payload_template, named_template, bare_units}
+use Rattle.schemars_documents.specs.OfShape.{other_items, units_template, choice_of, external_template}
 use Rattle.schemars_types.specs.Meaning.{Choice, has_fields}
 use Rattle.schemars_types.specs.Meaning.{has_payload, has_variant}
 use Rattle.schemars_types.specs.Effective.{spread_payload, spread_variant}

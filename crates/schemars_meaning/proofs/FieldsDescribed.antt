@@ -4,23 +4,23 @@ use Rattle.std.proofs.Common.{◌∙◌, subst, arith, true≢false}
 use Rattle.std.specs.Prelude.{is_some, ◌&&◌}
 use Rattle.std.specs.Option.{option_map_or}
 use Rattle.serde_json.specs.Data.{Data}
-use Rattle.schemars_json.specs.Json.{Text}
+use Rattle.schemars_schema.specs.Json.{Text}
 use Rattle.schemars_schema.specs.Acceptance.{Dialect}
-use Rattle.schemars_rewrite.specs.AllowNull.{allow_null}
-use Rattle.schemars_rewrite.specs.NullLaw.{IsDraft, AcceptsNullToo}
-use Rattle.schemars_rewrite.proofs.Nulls.{IsReady, ready-law}
+use Rattle.schemars_builders.specs.AllowNull.{allow_null}
+use Rattle.schemars_builders.specs.NullLaw.{IsDraft, AcceptsNullToo}
+use Rattle.schemars_builders.proofs.Nulls.{IsReady, ready-law}
 use Rattle.schemars_shapes.specs.Shape.{Field, Flattened, Fields, Shape, Entry}
 use Rattle.schemars_types.specs.Rows.{Row, entry_at}
 use Rattle.schemars_types.specs.Edges.{option_at}
 use Rattle.schemars_types.specs.Effective.{effective, part_fields, flattened_in, part_enums, shape_fields, fields_within}
-use Rattle.schemars_parts.specs.Parts.{flattened_part}
+use Rattle.schemars_flatten.specs.Parts.{flattened_part}
 use Rattle.schemars_documents.specs.Documents.{annotated, required_names}
 use Rattle.schemars_documents.specs.PlainTable.{IsOpenStruct, ArePlainParts, IsPlainEntry, IsPlainTable}
 use Rattle.schemars_documents.proofs.OpenStructs.{bare, part_same, parts_apart}
-use Rattle.schemars_templates.specs.Basis.{Basis}
-use Rattle.schemars_templates.specs.Template.{Ask, asks_of, filled}
-use Rattle.schemars_templates.specs.OfShape.{struct_template}
-use Rattle.schemars_templates.specs.Describes.{IsOwnDocument, IsAnswered, IsWritten, Describes}
+use Rattle.schemars_documents.specs.Basis.{Basis}
+use Rattle.schemars_documents.specs.Template.{Ask, asks_of, filled}
+use Rattle.schemars_documents.specs.OfShape.{struct_template}
+use Rattle.schemars_documents.specs.Describes.{IsOwnDocument, IsAnswered, IsWritten, Describes}
 use Rattle.schemars_meaning.proofs.Spread.{field_keywords, IsFieldsDocument, AnswersFields}
 use Rattle.schemars_meaning.proofs.Flattening.{part-stays}
 use Rattle.schemars_meaning.proofs.Filling.{Fit}

@@ -5,23 +5,23 @@ use Rattle.std.specs.Prelude.{◌&&◌, bytes_eq, codes, if◌then◌else◌, op
 use Rattle.serde_json.specs.Data.{Data, string, array, object, no_items, item, Members, no_members, member, put}
 use Rattle.serde_json.specs.Find.{get, get_member, as_str, as_array}
 use Rattle.serde_json.proofs.Views.{get_member-put, get_member-put_other}
-use Rattle.schemars_json.specs.Json.{Text}
+use Rattle.schemars_schema.specs.Json.{Text}
 use Rattle.schemars_schema.specs.SchemaData.{put_all}
 use Rattle.schemars_schema.specs.Edits.{replaced, removed}
 use Rattle.schemars_schema.specs.Annotations.{is_annotation}
 use Rattle.schemars_schema.specs.References.{NoSchemas}
 use Rattle.schemars_walk.specs.Rewritten.{forms, in_keywords}
-use Rattle.schemars_rewrite.specs.NullLaw.{text_items}
-use Rattle.schemars_rewrite.specs.Properties.{with_property, tagged, has_null_type, closed_where}
-use Rattle.schemars_rewrite.specs.Properties.{with_member, with_first, internally_tagged_variant}
-use Rattle.schemars_rewrite.specs.Variants.{unit_variant}
-use Rattle.schemars_rewrite.specs.AllowNull.{is_text}
+use Rattle.schemars_builders.specs.NullLaw.{text_items}
+use Rattle.schemars_builders.specs.Properties.{with_property, tagged, has_null_type, closed_where}
+use Rattle.schemars_builders.specs.Properties.{with_member, with_first, internally_tagged_variant}
+use Rattle.schemars_builders.specs.Variants.{unit_variant}
+use Rattle.schemars_builders.specs.AllowNull.{is_text}
 use Rattle.schemars_flatten.specs.Flatten.{is_joined, is_merged}
 use Rattle.schemars_flatten.specs.Flatten.{with_keywords, moved_beside, united_all, appended, flattened}
 use Rattle.schemars_flatten.proofs.Lookups.{united_option}
-use Rattle.schemars_parts.specs.Opening.{same_object_place, opening, opened_here, opened, has_type}
-use Rattle.schemars_parts.specs.Parts.{unit_objects, with_units, first_as_objects, items_changed, list_changed_at}
-use Rattle.schemars_parts.specs.Parts.{units_as_objects, flattened_part}
+use Rattle.schemars_flatten.specs.Opening.{same_object_place, opening, opened_here, opened, has_type}
+use Rattle.schemars_flatten.specs.Parts.{unit_objects, with_units, first_as_objects, items_changed, list_changed_at}
+use Rattle.schemars_flatten.specs.Parts.{units_as_objects, flattened_part}
 use Rattle.schemars_documents.specs.Documents.{Keyword, type_alone}
 use Rattle.schemars_meaning.proofs.MapDocument.{map_document}
 use Rattle.schemars_meaning.proofs.MapDocument.{noted_by, AllNotes}

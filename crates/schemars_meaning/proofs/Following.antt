@@ -7,12 +7,12 @@ use Rattle.std.proofs.Math.Nat.{mul-le-mul_right}
 use Rattle.std.proofs.lemmas.Bool.Decides.{nat_tests}
 use Rattle.serde_json.specs.Data.{Data, null, depth}
 use Rattle.schemars_schema.specs.Verdict.{verdict}
-use Rattle.schemars_json.specs.Json.{Text, IsJson}
+use Rattle.schemars_schema.specs.Json.{Text, IsJson}
 use Rattle.schemars_schema.specs.Lookup.{resolved}
 use Rattle.schemars_schema.specs.Acceptance.{Patterns, Judge, draft2020_12, judge, read_data, all_keywords, follow}
 use Rattle.schemars_schema.proofs.Verdicts.{both-yes}
-use Rattle.schemars_rewrite.specs.NullLaw.{context2020_12}
-use Rattle.schemars_rewrite.proofs.Nulls.{IsReady, ready-schema}
+use Rattle.schemars_builders.specs.NullLaw.{context2020_12}
+use Rattle.schemars_builders.proofs.Nulls.{IsReady, ready-schema}
 use Rattle.schemars_shapes.specs.Shape as shape
 use Rattle.schemars_shapes.specs.Shape.{Flattened, Fields, Shape, Entry, Payload, Variant, no_payload, newtype_payload, tuple_payload}
 use Rattle.schemars_shapes.specs.Shape.{struct_payload}
@@ -22,10 +22,10 @@ use Rattle.schemars_types.specs.Effective.{row_fields, flattened_in, shape_field
 use Rattle.schemars_types.specs.Meaning.{Contract, Choice, has_shape, belongs_within, choices_within}
 use Rattle.schemars_documents.specs.Documents.{reference, annotated}
 use Rattle.schemars_documents.specs.PlainTable.{IsPlainShape, IsEntryUnder, IsPlainUnder, ArePartsUnder, parts_in}
-use Rattle.schemars_templates.specs.Basis.{Basis}
-use Rattle.schemars_templates.specs.Template.{Ask, asks_of, filled}
-use Rattle.schemars_templates.specs.OfShape.{template_of, struct_template}
-use Rattle.schemars_templates.specs.Describes.{Fills, IsOwnDocument, IsAnswered, IsWritten, Describes}
+use Rattle.schemars_documents.specs.Basis.{Basis}
+use Rattle.schemars_documents.specs.Template.{Ask, asks_of, filled}
+use Rattle.schemars_documents.specs.OfShape.{template_of, struct_template}
+use Rattle.schemars_documents.specs.Describes.{Fills, IsOwnDocument, IsAnswered, IsWritten, Describes}
 use Rattle.schemars_meaning.proofs.Filling.{Fit}
 use Rattle.schemars_meaning.proofs.Notes.{judge-annotated}
 use Rattle.schemars_meaning.proofs.Schemas.{written_schema, filled_schema}

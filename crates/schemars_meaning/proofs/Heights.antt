@@ -1,11 +1,11 @@
 -- Smaller values first, for documents of every depth; then references; then the depth of the document.
 use Rattle.std.proofs.Common.{◌≡◌, ◌⊎◌, inl, inr, ℕ, zero, suc, ◌+◌, ◌*◌, ◌<◌, ◌≤◌, Some, Bool, refl, sym, ap, ◌∙◌, subst, arith}
 use Rattle.serde_json.specs.Data.{Data, depth}
-use Rattle.schemars_json.specs.Json.{Text, IsJson}
+use Rattle.schemars_schema.specs.Json.{Text, IsJson}
 use Rattle.schemars_schema.specs.Verdict.{verdict}
 use Rattle.schemars_schema.specs.Lookup.{resolved}
 use Rattle.schemars_schema.specs.Acceptance.{Dialect, Patterns, Judge, judge, follow}
-use Rattle.schemars_rewrite.specs.NullLaw.{context_of}
+use Rattle.schemars_builders.specs.NullLaw.{context_of}
 
 module _ (dialect : Dialect) (patterns : Patterns) (document : Data) (Refers : ℕ → Text → Type 0) (D : ℕ → ℕ → Data → Type 0)
     (B : ℕ → ℕ → Data → Bool) (hops rank : ℕ → ℕ) (most ranks : ℕ)

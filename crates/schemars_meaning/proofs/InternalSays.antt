@@ -11,22 +11,22 @@ use Rattle.std.proofs.lemmas.Slice.Eq.{bytes_eq-Decides}
 use Rattle.std.proofs.lemmas.Map.Text.{is_eq-slice_cmp}
 use Rattle.serde_json.specs.Data.{Data, null, boolean, number, string, array, object, Members, no_members, member, depth}
 use Rattle.serde_json.specs.Find.{get_member, as_object, as_str}
-use Rattle.schemars_json.specs.Json.{Text, IsJson}
+use Rattle.schemars_schema.specs.Json.{Text, IsJson}
 use Rattle.schemars_schema.specs.SchemaData.{IsSchema}
 use Rattle.schemars_schema.specs.Annotations.{AreNotes}
 use Rattle.schemars_schema.specs.Edits.{without}
 use Rattle.schemars_schema.specs.Verdict.{verdict}
 use Rattle.schemars_schema.specs.Acceptance.{Context, Judge, judge, read_data}
-use Rattle.schemars_rewrite.specs.Variants.{unit_variant}
-use Rattle.schemars_rewrite.specs.Properties.{internally_tagged_variant}
+use Rattle.schemars_builders.specs.Variants.{unit_variant}
+use Rattle.schemars_builders.specs.Properties.{internally_tagged_variant}
 use Rattle.schemars_shapes.specs.Shape.{Field, Fields, Flattened, Payload, Variant, no_payload, newtype_payload, tuple_payload}
 use Rattle.schemars_shapes.specs.Shape.{struct_payload}
 use Rattle.schemars_types.specs.Meaning.{Contract, holds, is_text, every_member, member_fits, tagged_fits, has_required, has_content}
 use Rattle.schemars_types.specs.Meaning.{none, exactly_one}
 use Rattle.schemars_documents.specs.PlainTable.{IsNoVariant, AreDistinctVariants, AreDistinct, AreNoted}
 use Rattle.schemars_documents.specs.Documents.{annotated, type_alone}
-use Rattle.schemars_templates.specs.Template.{Ask, part, Template, noted, tagged, asks_of, asks_in, filled, filled_in}
-use Rattle.schemars_templates.specs.OfShape.{templates_of, struct_template, content_template, internal_item, internal_template}
+use Rattle.schemars_documents.specs.Template.{Ask, part, Template, noted, tagged, asks_of, asks_in, filled, filled_in}
+use Rattle.schemars_documents.specs.OfShape.{templates_of, struct_template, content_template, internal_item, internal_template}
 use Rattle.schemars_types.specs.Meaning.{Choice, every_part, shut}
 use Rattle.schemars_types.specs.Meaning.{offers, has_tagged, has_internal}
 use Rattle.schemars_types.specs.Effective.{spread_fields, spread_variant, effective, flattened_enums, enum_at}

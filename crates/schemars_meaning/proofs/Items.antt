@@ -8,12 +8,12 @@ use Rattle.std.specs.Option.{option_map_or}
 use Rattle.serde_json.specs.Data.{Data, null, array, object, number, boolean, string, Members, no_members, member, put, depth}
 use Rattle.serde_json.specs.Find.{get_member, as_object}
 use Rattle.serde_json.proofs.Views.{get_member-put, get_member-put_other}
-use Rattle.schemars_json.specs.Json.{Text, IsJson}
+use Rattle.schemars_schema.specs.Json.{Text, IsJson}
 use Rattle.schemars_schema.specs.SchemaData.{IsSchema, put_all}
 use Rattle.schemars_schema.specs.Annotations.{AreNotes}
 use Rattle.schemars_schema.specs.Verdict.{verdict}
 use Rattle.schemars_schema.specs.Acceptance.{Context, Judge, judge}
-use Rattle.schemars_parts.specs.Opening.{opened}
+use Rattle.schemars_flatten.specs.Opening.{opened}
 use Rattle.schemars_shapes.specs.Shape.{Field, needed}
 use Rattle.schemars_types.specs.Meaning.{Contract, Deserialize, Serialize, every_member, member_fits, has_required}
 use Rattle.schemars_documents.specs.Documents.{Keyword, annotated}

@@ -8,11 +8,11 @@ use Rattle.serde_json.specs.Data.{Data, array, object, boolean, string, Items, n
 use Rattle.serde_json.specs.Find.{get_member}
 use Rattle.serde_json.specs.View.{items_of}
 use Rattle.serde_json.proofs.Views.{get_member-put, get_member-put_other}
-use Rattle.schemars_json.specs.Json.{Text}
+use Rattle.schemars_schema.specs.Json.{Text}
 use Rattle.schemars_schema.specs.Edits.{replaced, without}
 use Rattle.schemars_schema.specs.SchemaData.{put_all}
-use Rattle.schemars_rewrite.proofs.Removals.{later_member}
-use Rattle.schemars_rewrite.specs.NullLaw.{text_items}
+use Rattle.schemars_builders.proofs.Removals.{later_member}
+use Rattle.schemars_builders.specs.NullLaw.{text_items}
 use Rattle.schemars_flatten.specs.Flatten.{is_choice, is_joined, is_merged, united, with_united, with_choice, both_choices, with_keyword}
 use Rattle.schemars_flatten.specs.Flatten.{with_keywords}
 use Rattle.schemars_flatten.specs.Flatten.{moved, moved_beside, united_all, stands, has_subschema, appended, alone}

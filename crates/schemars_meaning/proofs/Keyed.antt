@@ -15,25 +15,25 @@ use Rattle.std.specs.List.{list_any}
 use Rattle.std.specs.Option.{option_map_or}
 use Rattle.serde_json.proofs.Views.{get_member-put, get_member-put_other}
 use Rattle.schemars_schema.specs.Verdict.{Verdict, Yes, No, both, verdict}
-use Rattle.schemars_json.specs.Json.{Text, IsJson, AreJsonMembers}
-use Rattle.schemars_json.specs.OrderedText.{is_listed}
+use Rattle.schemars_schema.specs.Json.{Text, IsJson, AreJsonMembers}
+use Rattle.schemars_schema.specs.OrderedText.{is_listed}
 use Rattle.schemars_schema.specs.SchemaData.{IsSchema, object_of, put_all}
 use Rattle.schemars_schema.specs.Acceptance.{Patterns, Judge, Context, judge, read_data, all_keywords, matches, matches_some}
 use Rattle.schemars_schema.specs.Acceptance.{by_patterns, each_member, schema_named, where_some, Reading, type_says, properties_say}
 use Rattle.schemars_schema.specs.Acceptance.{pattern_properties_say, additional_properties_say, is_covered}
 use Rattle.schemars_schema.proofs.Verdicts.{both-yes, both-verdict}
 use Rattle.schemars_schema.proofs.Objects.{schema-judge}
-use Rattle.schemars_rewrite.specs.NullLaw.{context2020_12}
-use Rattle.schemars_rewrite.proofs.Nulls.{IsReady}
+use Rattle.schemars_builders.specs.NullLaw.{context2020_12}
+use Rattle.schemars_builders.proofs.Nulls.{IsReady}
 use Rattle.schemars_shapes.specs.declared.shape.IntegerKeys.{IntegerKeys}
 use Rattle.schemars_shapes.specs.IntegerKeys.{pattern_of}
 use Rattle.schemars_types.specs.KeyOptions.{KeyOptions, keys, is_key_allowed}
 use Rattle.schemars_types.specs.Meaning.{every_member, has_keys, holds}
 use Rattle.schemars_documents.specs.Documents.{Keyword, typed}
-use Rattle.schemars_templates.specs.Template.{Ask, part, Template, no_templates, template, finished, row, asks_of, asks_in, filled}
-use Rattle.schemars_templates.specs.Template.{filled_in, keyed}
-use Rattle.schemars_templates.specs.OfShape.{KeywordTemplate, templates_of, values_template, object_with, values_of, other_values}
-use Rattle.schemars_templates.specs.OfShape.{typed as typed_at, all_patterns, pattern_properties_at, properties_at}
+use Rattle.schemars_documents.specs.Template.{Ask, part, Template, no_templates, template, finished, row, asks_of, asks_in, filled}
+use Rattle.schemars_documents.specs.Template.{filled_in, keyed}
+use Rattle.schemars_documents.specs.OfShape.{KeywordTemplate, templates_of, values_template, object_with, values_of, other_values}
+use Rattle.schemars_documents.specs.OfShape.{typed as typed_at, all_patterns, pattern_properties_at, properties_at}
 use Rattle.schemars_meaning.proofs.MapDocument.{properties_keyword}
 use Rattle.schemars_meaning.proofs.Named.{AreEntries, schema_named-judges_in, judges_in, all_named-schemas, AreSchemas-put_all}
 use Rattle.schemars_meaning.proofs.Named.{each_yes, each_agree, IsNoMap, silent}

@@ -5,7 +5,7 @@ use Rattle.std.proofs.Math.Bool.{or-false}
 use Rattle.std.specs.Prelude.{codes, bytes_eq, if◌then◌else◌, is_some, ◌&&◌, ◌||◌, not}
 use Rattle.serde_json.specs.Data.{Data, null, boolean, number, string, array, object, Members}
 use Rattle.serde_json.specs.Find.{get_member}
-use Rattle.schemars_json.specs.Json.{Text}
+use Rattle.schemars_schema.specs.Json.{Text}
 use Rattle.schemars_schema.specs.Verdict.{Verdict, Yes, No, both, verdict, all_of, one_of}
 use Rattle.schemars_schema.specs.Acceptance.{Context, Judge, Raw, Reading, judge, read_data, all_keywords, keywords, is_covered}
 use Rattle.schemars_schema.specs.Acceptance.{type_says, const_says, items_say, required_says, properties_say, additional_properties_say}

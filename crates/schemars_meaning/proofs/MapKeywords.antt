@@ -6,13 +6,13 @@ use Rattle.std.specs.Prelude.{bytes_eq, codes, if◌then◌else◌}
 use Rattle.serde_json.specs.Data.{Data, boolean, string, array, object, Members, no_members, member, put}
 use Rattle.serde_json.specs.Find.{get_member}
 use Rattle.serde_json.proofs.Views.{get_member-put, get_member-put_other}
-use Rattle.schemars_json.specs.Json.{Text}
+use Rattle.schemars_schema.specs.Json.{Text}
 use Rattle.schemars_schema.specs.SchemaData.{put_all, put_members, object_of}
 use Rattle.schemars_schema.specs.Edits.{replaced, without}
 use Rattle.schemars_schema.specs.Annotations.{is_annotation, AreNotes}
-use Rattle.schemars_rewrite.specs.NullLaw.{text_items}
-use Rattle.schemars_rewrite.specs.Properties.{changed_at}
-use Rattle.schemars_rewrite.proofs.Removals.{later_member}
+use Rattle.schemars_builders.specs.NullLaw.{text_items}
+use Rattle.schemars_builders.specs.Properties.{changed_at}
+use Rattle.schemars_builders.proofs.Removals.{later_member}
 use Rattle.schemars_flatten.specs.Flatten.{is_choice, united, with_united, with_choice, both_choices}
 use Rattle.schemars_flatten.specs.Flatten.{with_keyword, with_keywords}
 use Rattle.schemars_flatten.proofs.Lookups.{united_option}

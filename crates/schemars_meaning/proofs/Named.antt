@@ -8,7 +8,7 @@ use Rattle.std.proofs.lemmas.Map.Text.{is_eq-slice_cmp}
 use Rattle.serde_json.specs.Data.{Data, null, boolean, number, string, array, object, Members, no_members, member, put}
 use Rattle.serde_json.specs.Find.{get_member}
 use Rattle.schemars_schema.specs.Verdict.{Verdict, Yes, No, both, verdict}
-use Rattle.schemars_json.specs.Json.{Text}
+use Rattle.schemars_schema.specs.Json.{Text}
 use Rattle.schemars_schema.specs.SchemaData.{IsSchema, object_of, put_all}
 use Rattle.schemars_schema.specs.Acceptance.{Patterns, Judge, Context, Reading, judge, read_data, read_members}
 use Rattle.schemars_schema.specs.Acceptance.{all_keywords, all_named, schema_named, each_member, where_some, have_all}
@@ -16,7 +16,7 @@ use Rattle.schemars_schema.specs.Acceptance.{texts_in, type_says, required_says,
 use Rattle.schemars_schema.specs.Acceptance.{additional_properties_say, is_covered}
 use Rattle.schemars_schema.proofs.Verdicts.{both-yes}
 use Rattle.schemars_schema.proofs.Objects.{schema-judge}
-use Rattle.schemars_rewrite.specs.NullLaw.{text_items}
+use Rattle.schemars_builders.specs.NullLaw.{text_items}
 use Rattle.std.proofs.Math.Bool.{or-false}
 use Rattle.schemars_documents.specs.Documents.{Keyword}
 

@@ -5,7 +5,7 @@ use Rattle.std.proofs.lemmas.Slice.Eq.{bytes_eq-Decides}
 use Rattle.serde_json.specs.Data.{Data, null, boolean, number, string, array, object, Members, no_members, member, put}
 use Rattle.serde_json.specs.Find.{get_member, as_str}
 use Rattle.serde_json.proofs.Views.{get_member-put, get_member-put_other}
-use Rattle.schemars_json.specs.Json.{Text}
+use Rattle.schemars_schema.specs.Json.{Text}
 use Rattle.schemars_schema.specs.SchemaData.{put_members, IsSchema, members_in}
 use Rattle.schemars_schema.specs.Acceptance.{Context, Patterns, Judge, judge, read_data, all_keywords, items_say, const_says}
 use Rattle.schemars_schema.specs.Acceptance.{unevaluated_properties_say}
@@ -14,11 +14,11 @@ use Rattle.schemars_schema.specs.Annotations.{is_annotation, AreNotes}
 use Rattle.schemars_schema.proofs.Objects.{judge-put}
 use Rattle.schemars_schema.proofs.Literals.{judge-put_members}
 use Rattle.schemars_schema.specs.Edits.{without}
-use Rattle.schemars_rewrite.specs.AllowNull.{is_text, is_null_choice}
-use Rattle.schemars_rewrite.specs.NullLaw.{context2020_12, HasPlainValues}
-use Rattle.schemars_rewrite.proofs.Removals.{without-put}
-use Rattle.schemars_rewrite.proofs.NullMembers.{choice_key}
-use Rattle.schemars_rewrite.proofs.Nulls.{IsReady}
+use Rattle.schemars_builders.specs.AllowNull.{is_text, is_null_choice}
+use Rattle.schemars_builders.specs.NullLaw.{context2020_12, HasPlainValues}
+use Rattle.schemars_builders.proofs.Removals.{without-put}
+use Rattle.schemars_builders.proofs.NullMembers.{choice_key}
+use Rattle.schemars_builders.proofs.Nulls.{IsReady}
 use Rattle.schemars_documents.specs.Documents.{annotated, with_title, with_meta_schema, root_document}
 use Rattle.schemars_meaning.proofs.MapDocument.{noted_by, AllNotes}
 

@@ -8,14 +8,14 @@ use Rattle.std.specs.List.{list_any}
 use Rattle.serde_json.specs.Data.{Data, array, object, Members, no_members, member}
 use Rattle.serde_json.specs.Find.{get_member}
 use Rattle.serde_json.specs.View.{items_of}
-use Rattle.schemars_json.specs.Json.{Text}
+use Rattle.schemars_schema.specs.Json.{Text}
 use Rattle.schemars_schema.specs.SchemaData.{IsSchema}
 use Rattle.schemars_schema.specs.Verdict.{Verdict, Yes, No, both, verdict, opposite, none_of, all_of, one_of, is_yes}
 use Rattle.schemars_schema.specs.Acceptance.{Context, Judge, Reading, judge, read_data, read_items, judged_by, judged_by_some}
 use Rattle.schemars_schema.specs.Acceptance.{judged_by_list, each_says}
 use Rattle.schemars_schema.proofs.Verdicts.{both-yes, both-verdict}
 use Rattle.schemars_schema.proofs.Objects.{schema-judge, says, IsKeyword}
-use Rattle.schemars_rewrite.proofs.Removals.{later_member}
+use Rattle.schemars_builders.proofs.Removals.{later_member}
 use Rattle.schemars_flatten.specs.Flatten.{alone}
 use Rattle.schemars_types.specs.Meaning.{exactly_one}
 use Rattle.schemars_types.specs.Meaning.{Choice, every_part, claimed_by, claims}

@@ -7,13 +7,13 @@ use Rattle.serde_json.specs.Data.{Data, null, array, object, number, boolean, st
 use Rattle.serde_json.specs.Data.{put}
 use Rattle.serde_json.specs.Find.{get_member}
 use Rattle.serde_json.specs.View.{items_of}
-use Rattle.schemars_json.specs.Json.{Text}
+use Rattle.schemars_schema.specs.Json.{Text}
 use Rattle.schemars_schema.specs.Edits.{without}
 use Rattle.schemars_schema.specs.Annotations.{is_annotation, AreNotes}
 use Rattle.schemars_schema.specs.References.{Place, NoSchemas, SchemaList}
-use Rattle.schemars_rewrite.proofs.Removals.{later_member}
+use Rattle.schemars_builders.proofs.Removals.{later_member}
 use Rattle.schemars_walk.specs.Rewritten.{Forms, form_at, forms, in_items, in_keywords}
-use Rattle.schemars_parts.specs.Opening.{opening, opened, opened_here, opened_at, closes_by, same_object_place}
+use Rattle.schemars_flatten.specs.Opening.{opening, opened, opened_here, opened_at, closes_by, same_object_place}
 use Rattle.schemars_documents.specs.Documents.{Keyword, annotated}
 use Rattle.schemars_meaning.proofs.MapDocument.{map_document, noted_by, AllNotes}
 use Rattle.schemars_meaning.proofs.SortedMembers.{IsSorted, IsBefore, sorted-without, get_member-first}

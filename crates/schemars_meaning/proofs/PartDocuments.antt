@@ -6,13 +6,13 @@ use Rattle.serde_json.specs.Data.{Data, null, array, object, number, boolean, st
 use Rattle.serde_json.specs.Data.{put, depth}
 use Rattle.serde_json.specs.Find.{get, get_member, as_object, as_str, as_array}
 use Rattle.serde_json.specs.View.{items_of}
-use Rattle.schemars_json.specs.Json.{Text, IsJson}
+use Rattle.schemars_schema.specs.Json.{Text, IsJson}
 use Rattle.schemars_schema.specs.Annotations.{is_annotation, AreNotes}
 use Rattle.schemars_schema.specs.Acceptance.{Context, Judge, judge}
-use Rattle.schemars_rewrite.specs.AllowNull.{is_text}
-use Rattle.schemars_rewrite.proofs.Removals.{later_member}
-use Rattle.schemars_parts.specs.Opening.{opened, has_type}
-use Rattle.schemars_parts.specs.Parts.{flattened_part, units_of, unit_objects, first_units}
+use Rattle.schemars_builders.specs.AllowNull.{is_text}
+use Rattle.schemars_builders.proofs.Removals.{later_member}
+use Rattle.schemars_flatten.specs.Opening.{opened, has_type}
+use Rattle.schemars_flatten.specs.Parts.{flattened_part, units_of, unit_objects, first_units}
 use Rattle.schemars_shapes.specs.Shape.{Field}
 use Rattle.schemars_types.specs.Meaning.{Contract}
 use Rattle.schemars_documents.specs.Documents.{Keyword, annotated, required_names}
@@ -33,7 +33,7 @@ use Rattle.schemars_meaning.proofs.Spread.{field_keywords, AreWritten}
 use Rattle.schemars_meaning.proofs.StructDocuments.{IsStruct, IsPart, HasNoUnits, IsNoText, part_form, units_missing}
 use Rattle.schemars_meaning.proofs.Joining.{without-beside, without-here}
 use Rattle.schemars_schema.specs.Edits.{without}
-use Rattle.schemars_parts.specs.Parts.{optional, choice_or_anything, with_empty_object, one_or_anything, list_changed_at, items_changed}
+use Rattle.schemars_flatten.specs.Parts.{optional, choice_or_anything, with_empty_object, one_or_anything, list_changed_at, items_changed}
 use Rattle.schemars_schema.specs.Edits.{removed, replaced}
 use Rattle.schemars_flatten.specs.Flatten.{flattened}
 

@@ -3,18 +3,18 @@ use Rattle.std.proofs.Common.{◌≡◌, ◌⊎◌, inl, inr, ℕ, zero, suc, Li
 use Rattle.std.specs.Prelude.{Bool, true, false, if◌then◌else◌}
 use Rattle.std.specs.List.{AllByRecursion}
 use Rattle.serde_json.specs.Data.{Data, boolean}
-use Rattle.schemars_json.specs.Json.{Text}
-use Rattle.schemars_parts.specs.Opening.{opened_inside, stands_in_place}
-use Rattle.schemars_parts.specs.Parts.{flattened_part}
+use Rattle.schemars_schema.specs.Json.{Text}
+use Rattle.schemars_flatten.specs.Opening.{opened_inside, stands_in_place}
+use Rattle.schemars_flatten.specs.Parts.{flattened_part}
 use Rattle.schemars_shapes.specs.Shape.{Entry}
 use Rattle.schemars_types.specs.Rows.{Row, entry_at}
 use Rattle.schemars_documents.specs.Documents.{reference}
-use Rattle.schemars_templates.specs.Basis.{Basis}
-use Rattle.schemars_templates.specs.Template.{Template, Ask, part, members_of, content, finished, asked, list, members, nullable, noted}
-use Rattle.schemars_templates.specs.Template.{with_keywords, tagged, Templates, no_templates, template, first, behind, left, left_in}
-use Rattle.schemars_templates.specs.Template.{filled}
-use Rattle.schemars_templates.specs.OfShape.{entry_template}
-use Rattle.schemars_templates.specs.Describes.{AreAnswered, IsOwnDocument, IsContent, IsAnswered, IsWritten, Describes}
+use Rattle.schemars_documents.specs.Basis.{Basis}
+use Rattle.schemars_documents.specs.Template.{Template, Ask, part, members_of, content, finished, asked, list, members, nullable, noted}
+use Rattle.schemars_documents.specs.Template.{with_keywords, tagged, Templates, no_templates, template, first, behind, left, left_in}
+use Rattle.schemars_documents.specs.Template.{filled}
+use Rattle.schemars_documents.specs.OfShape.{entry_template}
+use Rattle.schemars_documents.specs.Describes.{AreAnswered, IsOwnDocument, IsContent, IsAnswered, IsWritten, Describes}
 
 module _ (P : Data → Type 0) where
   pub either : (b : Bool) (d e : Data) → P d → P e → P (if b then d else e)

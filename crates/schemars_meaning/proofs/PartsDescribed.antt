@@ -4,13 +4,13 @@ use Rattle.std.proofs.Common.{◌∙◌, subst, length, arith, true≢false}
 use Rattle.std.specs.Prelude.{is_some, ◌&&◌, not, option_and_then, if◌then◌else◌, codes, bytes_eq, ◌||◌}
 use Rattle.std.proofs.lemmas.List.{map-append}
 use Rattle.serde_json.specs.Data.{Data, Members, no_members, depth}
-use Rattle.schemars_json.specs.Json.{Text, IsJson}
+use Rattle.schemars_schema.specs.Json.{Text, IsJson}
 use Rattle.schemars_schema.specs.SchemaData.{IsSchema}
 use Rattle.schemars_schema.specs.Annotations.{AreNotes}
 use Rattle.schemars_schema.specs.Verdict.{verdict}
 use Rattle.schemars_schema.specs.Acceptance.{Context, Judge, judge, is_null}
-use Rattle.schemars_rewrite.specs.AllowNull.{null_schema}
-use Rattle.schemars_rewrite.specs.Variants.{unit_variant}
+use Rattle.schemars_builders.specs.AllowNull.{null_schema}
+use Rattle.schemars_builders.specs.Variants.{unit_variant}
 use Rattle.schemars_shapes.specs.Shape as shape
 use Rattle.schemars_shapes.specs.Shape.{Field, Flattened, Required, Fields, Shape, Entry, Payload, Variant, no_payload, newtype_payload}
 use Rattle.schemars_shapes.specs.Shape.{tuple_payload, struct_payload}
@@ -20,11 +20,11 @@ use Rattle.schemars_types.specs.Edges.{option_at}
 use Rattle.schemars_types.specs.Meaning.{Contract, Deserialize, Serialize, is_required, is_text}
 use Rattle.schemars_documents.specs.PlainTable.{AreDistinct, AreNoted, parts_in, payload_parts, variant_parts}
 use Rattle.schemars_documents.specs.Documents.{annotated, required_names}
-use Rattle.schemars_parts.specs.Parts.{flattened_part}
-use Rattle.schemars_templates.specs.Basis.{Basis}
-use Rattle.schemars_templates.specs.Template.{Ask, part, members_of, noted, asks_of, filled}
-use Rattle.schemars_templates.specs.OfShape.{struct_template, external_template, internal_template, payload_template, template_of}
-use Rattle.schemars_templates.specs.Describes.{Fills, IsOwnDocument, IsAnswered, IsWritten, Describes, without_options, are_optional}
+use Rattle.schemars_flatten.specs.Parts.{flattened_part}
+use Rattle.schemars_documents.specs.Basis.{Basis}
+use Rattle.schemars_documents.specs.Template.{Ask, part, members_of, noted, asks_of, filled}
+use Rattle.schemars_documents.specs.OfShape.{struct_template, external_template, internal_template, payload_template, template_of}
+use Rattle.schemars_documents.specs.Describes.{Fills, IsOwnDocument, IsAnswered, IsWritten, Describes, without_options, are_optional}
 use Rattle.schemars_types.specs.Meaning.{Choice, has_fields, member_choice}
 use Rattle.schemars_types.specs.Effective.{effective, weakened, row_fields, flattened_in, shape_fields, flattened_enums, part_enums}
 use Rattle.schemars_types.specs.Effective.{enums_within, shape_enums, enum_at}

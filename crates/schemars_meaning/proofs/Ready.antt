@@ -2,8 +2,8 @@
 use Rattle.std.proofs.Common.{◌≡◌, inl, inr, ℕ, List, [], ◌∷◌, Bool, true, false, refl, sym, subst, true≢false}
 use Rattle.std.specs.Prelude.{codes}
 use Rattle.serde_json.specs.Data.{Data}
-use Rattle.schemars_json.specs.Json.{Text}
-use Rattle.schemars_rewrite.proofs.Nulls.{IsReady, AreReady, some_accepts_null}
+use Rattle.schemars_schema.specs.Json.{Text}
+use Rattle.schemars_builders.proofs.Nulls.{IsReady, AreReady, some_accepts_null}
 use Rattle.schemars_shapes.specs.declared.shape.IntKind.{IntKind}
 use Rattle.schemars_shapes.specs.declared.shape.IntKind.TheVariants.{I8, I16, I32, I64, I128, Isize, U8, U16, U32, U64, U128, Usize}
 use Rattle.schemars_types.specs.Meaning.{Contract, Deserialize, Serialize}

@@ -3,10 +3,10 @@ use Rattle.std.proofs.Common.{◌≡◌, ◌⊎◌, inl, inr, ℕ, zero, suc, �
 use Rattle.std.proofs.Common.{sym}
 use Rattle.std.proofs.Common.{ap, ◌∙◌, subst, length, arith}
 use Rattle.serde_json.specs.Data.{Data, null, depth}
-use Rattle.schemars_json.specs.Json.{Text}
+use Rattle.schemars_schema.specs.Json.{Text}
 use Rattle.schemars_schema.specs.Acceptance.{Patterns, Judge}
-use Rattle.schemars_rewrite.specs.NullLaw.{context2020_12}
-use Rattle.schemars_rewrite.proofs.Nulls.{IsReady}
+use Rattle.schemars_builders.specs.NullLaw.{context2020_12}
+use Rattle.schemars_builders.proofs.Nulls.{IsReady}
 use Rattle.schemars_shapes.specs.Shape as shape
 use Rattle.schemars_shapes.specs.Shape.{Fields, Shape, Entry}
 use Rattle.schemars_types.specs.Rows.{Row, entry_at}
@@ -14,10 +14,10 @@ use Rattle.schemars_types.specs.Effective.{effective, row_fields, flattened_in, 
 use Rattle.schemars_types.specs.Effective.{shape_enums, enum_at, spread_in}
 use Rattle.schemars_types.specs.Meaning.{Contract}
 use Rattle.schemars_documents.specs.PlainTable.{IsPlainShape, ArePartsUnder, IsEntryUnder, IsPlainUnder, parts_in}
-use Rattle.schemars_templates.specs.Basis.{Basis}
-use Rattle.schemars_templates.specs.Template.{Ask, asks_of, filled}
-use Rattle.schemars_templates.specs.OfShape.{struct_template, template_of}
-use Rattle.schemars_templates.specs.Describes.{Fills, IsOwnDocument, IsAnswered, IsWritten, Describes}
+use Rattle.schemars_documents.specs.Basis.{Basis}
+use Rattle.schemars_documents.specs.Template.{Ask, asks_of, filled}
+use Rattle.schemars_documents.specs.OfShape.{struct_template, template_of}
+use Rattle.schemars_documents.specs.Describes.{Fills, IsOwnDocument, IsAnswered, IsWritten, Describes}
 use Rattle.schemars_meaning.proofs.Filling.{Fit}
 use Rattle.schemars_meaning.proofs.Notes.{ready-annotated}
 use Rattle.schemars_meaning.proofs.ByShape.{others_fill}

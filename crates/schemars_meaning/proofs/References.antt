@@ -6,13 +6,13 @@ use Rattle.std.specs.Prelude.{codes, bytes_eq, not, if◌then◌else◌}
 use Rattle.std.proofs.lemmas.List.{map-append}
 use Rattle.std.proofs.lemmas.List.Elements.{All-contains, All-contains_itself}
 use Rattle.serde_json.specs.Data.{Data, Items, no_items, item}
-use Rattle.schemars_json.specs.Json.{Text}
+use Rattle.schemars_schema.specs.Json.{Text}
 use Rattle.schemars_schema.specs.SchemaData.{IsSchema, object_of}
 use Rattle.schemars_schema.specs.Annotations.{AreNotes}
 use Rattle.schemars_schema.specs.Literal.{IsPlainLiteral}
 use Rattle.schemars_schema.specs.References.{found_in, references}
 use Rattle.schemars_schema.proofs.Literals.{literal_is_schema, literal_refers_nowhere}
-use Rattle.schemars_rewrite.specs.NullLaw.{zero_schema, text_items}
+use Rattle.schemars_builders.specs.NullLaw.{zero_schema, text_items}
 use Rattle.schemars_shapes.specs.Shape as shape
 use Rattle.schemars_shapes.specs.Shape.{Shape, Field, Flattened, Fields, Entry, Payload, Variant, no_payload, newtype_payload}
 use Rattle.schemars_shapes.specs.Shape.{tuple_payload, struct_payload}
@@ -28,18 +28,18 @@ use Rattle.schemars_documents.specs.Documents.{int_keywords, is_signed, required
 use Rattle.schemars_documents.specs.PlainTable.{AreDistinct, AreNoted, IsPlainShape, IsPlainEntry, IsPlainPayload}
 use Rattle.schemars_documents.specs.PlainTable.{ArePlainVariants, AreTagged, IsTagged, payload_parts, variant_parts, parts_in}
 use Rattle.schemars_documents.specs.PlainTable.{ArePlainParts}
-use Rattle.schemars_templates.specs.Basis.{Basis}
-use Rattle.schemars_templates.specs.Template.{Template, Ask, members_of, asked, row}
-use Rattle.schemars_templates.specs.Template.{noted, with_keywords, tagged, Templates}
-use Rattle.schemars_templates.specs.Template.{asks_of, filled}
-use Rattle.schemars_templates.specs.OfShape.{KeywordTemplate, templates_of, object_with, property, map_template, template_of}
-use Rattle.schemars_templates.specs.OfShape.{entry_template, member_template, payload_template, named_template, bare_units}
-use Rattle.schemars_templates.specs.OfShape.{other_items, choice_of, payload_item, titled, fields_template, with_flattened}
-use Rattle.schemars_templates.specs.OfShape.{struct_template, content_template, typed, values_of, all_patterns}
-use Rattle.schemars_templates.specs.OfShape.{tuple_template, pattern_properties_at, properties_at, other_values, values_template}
-use Rattle.schemars_templates.specs.OfShape.{untagged_template, internal_item, internal_template}
-use Rattle.schemars_templates.specs.Describes.{AreAnswered, references_of}
-use Rattle.schemars_templates.proofs.Literals.{literal_document-schema}
+use Rattle.schemars_documents.specs.Basis.{Basis}
+use Rattle.schemars_documents.specs.Template.{Template, Ask, members_of, asked, row}
+use Rattle.schemars_documents.specs.Template.{noted, with_keywords, tagged, Templates}
+use Rattle.schemars_documents.specs.Template.{asks_of, filled}
+use Rattle.schemars_documents.specs.OfShape.{KeywordTemplate, templates_of, object_with, property, map_template, template_of}
+use Rattle.schemars_documents.specs.OfShape.{entry_template, member_template, payload_template, named_template, bare_units}
+use Rattle.schemars_documents.specs.OfShape.{other_items, choice_of, payload_item, titled, fields_template, with_flattened}
+use Rattle.schemars_documents.specs.OfShape.{struct_template, content_template, typed, values_of, all_patterns}
+use Rattle.schemars_documents.specs.OfShape.{tuple_template, pattern_properties_at, properties_at, other_values, values_template}
+use Rattle.schemars_documents.specs.OfShape.{untagged_template, internal_item, internal_template}
+use Rattle.schemars_documents.specs.Describes.{AreAnswered, references_of}
+use Rattle.schemars_documents.proofs.Literals.{literal_document-schema}
 use Rattle.schemars_meaning.proofs.Spread.{AnswersFields}
 use Rattle.schemars_meaning.proofs.ReferencesKept.{Among, among_left, among_right}
 use Rattle.schemars_meaning.proofs.ReferencesKept.{IsNoKey, AreApart, apart-filter, others_apart}

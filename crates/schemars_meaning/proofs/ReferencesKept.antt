@@ -12,16 +12,16 @@ use Rattle.serde_json.specs.Data.{Data, null, boolean, number, string, array, ob
 use Rattle.serde_json.specs.Data.{no_members, member, put}
 use Rattle.serde_json.specs.Find.{get_member}
 use Rattle.serde_json.proofs.Views.{get_member-put_other}
-use Rattle.schemars_json.specs.Json.{Text}
+use Rattle.schemars_schema.specs.Json.{Text}
 use Rattle.schemars_schema.specs.SchemaData.{IsSchema, put_members, members_in}
 use Rattle.schemars_schema.specs.Annotations.{AreNotes}
 use Rattle.schemars_schema.specs.Edits.{without}
 use Rattle.schemars_schema.specs.Acceptance.{is_null}
 use Rattle.schemars_schema.specs.References.{found_in, found_in_members, found_in_keywords, references}
 use Rattle.schemars_schema.proofs.Contents.{found_under, found_under-annotation}
-use Rattle.schemars_rewrite.specs.AllowNull.{is_null_choice, is_combined, or_null, allow_null, type_with_null}
-use Rattle.schemars_rewrite.specs.AllowNull.{null_in_type, enum_with_null, null_in_enum, const_or_null, null_in_const}
-use Rattle.schemars_rewrite.specs.AllowNull.{null_in_values}
+use Rattle.schemars_builders.specs.AllowNull.{is_null_choice, is_combined, or_null, allow_null, type_with_null}
+use Rattle.schemars_builders.specs.AllowNull.{null_in_type, enum_with_null, null_in_enum, const_or_null, null_in_const}
+use Rattle.schemars_builders.specs.AllowNull.{null_in_values}
 use Rattle.schemars_documents.specs.Documents.{annotated, with_title, with_meta_schema, root_document}
 
 -- ---- references among others

@@ -3,23 +3,23 @@ use Rattle.std.proofs.Common.{◌≡◌, ℕ, List, [], ◌∷◌, Bool, Option,
 use Rattle.std.specs.List.{All, AllByRecursion}
 use Rattle.std.proofs.lemmas.List.Elements.{All-nil, All-cons}
 use Rattle.serde_json.specs.Data.{Data, string}
-use Rattle.schemars_json.specs.Json.{Text}
+use Rattle.schemars_schema.specs.Json.{Text}
 use Rattle.schemars_schema.specs.SchemaData.{IsSchema}
 use Rattle.schemars_schema.specs.References.{found_in, references}
-use Rattle.schemars_parts.specs.Opening.{opened_inside}
-use Rattle.schemars_parts.specs.Parts.{flattened_part}
-use Rattle.schemars_parts.proofs.Schemas.{flattened_part-schema, opened_inside-schema}
+use Rattle.schemars_flatten.specs.Opening.{opened_inside}
+use Rattle.schemars_flatten.specs.Parts.{flattened_part}
+use Rattle.schemars_flatten.proofs.Schemas.{flattened_part-schema, opened_inside-schema}
 use Rattle.schemars_shapes.specs.Shape.{Entry}
 use Rattle.schemars_types.specs.Rows.{Row, entry_at}
 use Rattle.schemars_documents.specs.Documents.{reference}
 use Rattle.schemars_types.specs.Meaning.{Contract}
 use Rattle.schemars_documents.specs.PlainTable.{IsPlainEntry, IsPlainTable, IsEntryUnder, IsPlainUnder}
-use Rattle.schemars_templates.specs.Basis.{Basis}
-use Rattle.schemars_templates.specs.Template.{Ask, filled}
-use Rattle.schemars_templates.specs.OfShape.{entry_template}
-use Rattle.schemars_templates.specs.Describes.{IsAnswered, IsWritten, Describes}
+use Rattle.schemars_documents.specs.Basis.{Basis}
+use Rattle.schemars_documents.specs.Template.{Ask, filled}
+use Rattle.schemars_documents.specs.OfShape.{entry_template}
+use Rattle.schemars_documents.specs.Describes.{IsAnswered, IsWritten, Describes}
 use Rattle.schemars_meaning.proofs.Parts.{answer_holds, described_holds, written_holds}
-use Rattle.schemars_parts.proofs.References.{flattened_part-refers, opened_inside-refers}
+use Rattle.schemars_flatten.proofs.References.{flattened_part-refers, opened_inside-refers}
 use Rattle.schemars_meaning.proofs.References.{IsNoted, plain_noted, plain-shape_noted, all_refer}
 use Rattle.schemars_meaning.proofs.Schemas.{AreSchemas, filled_schema}
 

@@ -10,14 +10,14 @@ use Rattle.std.proofs.lemmas.Map.Lookups.{exact_bytes}
 use Rattle.std.proofs.lemmas.Slice.Eq.{bytes_eq-Decides}
 use Rattle.serde_json.specs.Data.{Data, null, boolean, number, string, array, object, no_items, Members, no_members, member, put}
 use Rattle.serde_json.specs.Find.{get_member}
-use Rattle.schemars_json.specs.Json.{Text}
+use Rattle.schemars_schema.specs.Json.{Text}
 use Rattle.schemars_schema.specs.SchemaData.{members_in}
 use Rattle.schemars_schema.specs.Edits.{replaced}
 use Rattle.schemars_schema.specs.References.{found_in, found_in_members, found_in_keywords, references}
 use Rattle.schemars_schema.proofs.Contents.{found_under}
-use Rattle.schemars_rewrite.specs.Variants.{unit_variant}
-use Rattle.schemars_rewrite.specs.Properties.{with_member, with_first, changed_at, with_property, has_null_type}
-use Rattle.schemars_rewrite.specs.Properties.{put_missing, tagged, internally_tagged_variant}
+use Rattle.schemars_builders.specs.Variants.{unit_variant}
+use Rattle.schemars_builders.specs.Properties.{with_member, with_first, changed_at, with_property, has_null_type}
+use Rattle.schemars_builders.specs.Properties.{put_missing, tagged, internally_tagged_variant}
 use Rattle.schemars_meaning.proofs.ReferencesKept.{references-members_in}
 
 module _ (P : Data → Type 0) where

@@ -3,8 +3,8 @@ use Rattle.std.proofs.Common.{◌≡◌, ℕ, zero, suc, List, [], ◌∷◌, Bo
 use Rattle.std.proofs.Common.{All, Contains, ◌++◌}
 use Rattle.std.specs.Prelude.{if◌then◌else◌}
 use Rattle.std.proofs.lemmas.List.Elements.{All-nil, All-cons, All-append, Contains-append_left, Contains-append_right}
-use Rattle.schemars_json.specs.Json.{Text}
-use Rattle.schemars_rewrite.specs.NullLaw.{text_items}
+use Rattle.schemars_schema.specs.Json.{Text}
+use Rattle.schemars_builders.specs.NullLaw.{text_items}
 use Rattle.schemars_shapes.specs.Shape as shape
 use Rattle.schemars_shapes.specs.Shape.{Shape, Field, Flattened, Fields, Payload, Variant, no_payload, newtype_payload, tuple_payload}
 use Rattle.schemars_shapes.specs.Shape.{struct_payload, internal, numbers_of, flattened_numbers, flattened_rows, fields_numbers}
@@ -13,13 +13,13 @@ use Rattle.schemars_shapes.specs.Units.{is_bare_unit}
 use Rattle.schemars_types.specs.Meaning.{Contract, is_required}
 use Rattle.schemars_types.specs.KeyOptions.{KeyOptions, keys, key_options}
 use Rattle.schemars_documents.specs.Documents.{required_names}
-use Rattle.schemars_templates.specs.Basis.{Basis}
-use Rattle.schemars_templates.specs.Template.{Template, Ask, part, members_of, content, asked, row, noted, with_keywords, asks_of, asks_in}
-use Rattle.schemars_templates.specs.OfShape.{templates_of, property, map_template, fields_template, with_flattened, tuple_template}
-use Rattle.schemars_templates.specs.OfShape.{struct_template, template_of, payload_template, content_template, named_template}
-use Rattle.schemars_templates.specs.OfShape.{bare_units, other_items, choice_of, KeywordTemplate, values_template, values_of, all_patterns}
-use Rattle.schemars_templates.specs.OfShape.{pattern_properties_at, properties_at, payload_item, titled}
-use Rattle.schemars_templates.specs.OfShape.{untagged_template, internal_item, internal_template}
+use Rattle.schemars_documents.specs.Basis.{Basis}
+use Rattle.schemars_documents.specs.Template.{Template, Ask, part, members_of, content, asked, row, noted, with_keywords, asks_of, asks_in}
+use Rattle.schemars_documents.specs.OfShape.{templates_of, property, map_template, fields_template, with_flattened, tuple_template}
+use Rattle.schemars_documents.specs.OfShape.{struct_template, template_of, payload_template, content_template, named_template}
+use Rattle.schemars_documents.specs.OfShape.{bare_units, other_items, choice_of, KeywordTemplate, values_template, values_of, all_patterns}
+use Rattle.schemars_documents.specs.OfShape.{pattern_properties_at, properties_at, payload_item, titled}
+use Rattle.schemars_documents.specs.OfShape.{untagged_template, internal_item, internal_template}
 
 pub rows_same : (ns : List ℕ) → asks_in (templates_of (map row ns)) ≡ map part ns
 rows_same [] = refl

@@ -3,21 +3,21 @@ use Rattle.std.proofs.Common.{ℕ, zero, suc, List, [], ◌∷◌, Bool, true, f
 use Rattle.std.specs.List.{AllByRecursion}
 use Rattle.std.specs.Prelude.{if◌then◌else◌}
 use Rattle.serde_json.specs.Data.{Data, null, boolean, number, string, array, object}
-use Rattle.schemars_json.specs.Json.{Text}
+use Rattle.schemars_schema.specs.Json.{Text}
 use Rattle.schemars_schema.specs.SchemaData.{IsSchema}
-use Rattle.schemars_parts.proofs.Schemas.{flattened-schema, flattened_part-schema, opened_inside-schema}
+use Rattle.schemars_flatten.proofs.Schemas.{flattened-schema, flattened_part-schema, opened_inside-schema}
 use Rattle.schemars_shapes.specs.Shape as shape
 use Rattle.schemars_shapes.specs.Shape.{Shape, Flattened, Entry, Variant}
 use Rattle.schemars_types.specs.Rows.{Row}
 use Rattle.schemars_types.specs.Meaning.{Contract, is_required}
 use Rattle.schemars_types.specs.KeyOptions.{KeyOptions, keys, key_options}
 use Rattle.schemars_documents.specs.Documents.{is_signed}
-use Rattle.schemars_templates.specs.Basis.{Basis}
-use Rattle.schemars_templates.specs.Template.{Template, Ask, members_of, finished, asked, list, members, nullable}
-use Rattle.schemars_templates.specs.Template.{noted, with_keywords, tagged, left, filled}
-use Rattle.schemars_templates.specs.OfShape.{template_of, entry_template, values_template, with_flattened, fields_template, bare_units}
-use Rattle.schemars_templates.specs.OfShape.{other_items, choice_of, untagged_template, internal_template, literal_document}
-use Rattle.schemars_templates.specs.Describes.{AreAnswered, IsAnswered, IsWritten, Describes}
+use Rattle.schemars_documents.specs.Basis.{Basis}
+use Rattle.schemars_documents.specs.Template.{Template, Ask, members_of, finished, asked, list, members, nullable}
+use Rattle.schemars_documents.specs.Template.{noted, with_keywords, tagged, left, filled}
+use Rattle.schemars_documents.specs.OfShape.{template_of, entry_template, values_template, with_flattened, fields_template, bare_units}
+use Rattle.schemars_documents.specs.OfShape.{other_items, choice_of, untagged_template, internal_template, literal_document}
+use Rattle.schemars_documents.specs.Describes.{AreAnswered, IsAnswered, IsWritten, Describes}
 use Rattle.schemars_meaning.proofs.Notes.{annotated-schema}
 use Rattle.schemars_meaning.proofs.Parts.{answers_all, first_all, answer_holds, described_holds, written_holds}
 use Rattle.schemars_meaning.proofs.ReferencesKept.{allow_null-schema}

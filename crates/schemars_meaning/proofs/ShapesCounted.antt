@@ -5,13 +5,13 @@ use Rattle.std.proofs.Common.{◌∙◌, subst, length}
 use Rattle.std.specs.Prelude.{◌||◌}
 use Rattle.std.specs.List.{list_any}
 use Rattle.serde_json.specs.Data.{Data, Members, depth}
-use Rattle.schemars_json.specs.Json.{Text, IsJson}
+use Rattle.schemars_schema.specs.Json.{Text, IsJson}
 use Rattle.schemars_schema.specs.SchemaData.{IsSchema}
 use Rattle.schemars_schema.specs.Annotations.{AreNotes}
 use Rattle.schemars_schema.specs.Verdict.{verdict}
 use Rattle.schemars_schema.specs.Acceptance.{Context, Judge, Patterns, judge}
-use Rattle.schemars_rewrite.specs.NullLaw.{context2020_12}
-use Rattle.schemars_rewrite.proofs.Nulls.{IsReady}
+use Rattle.schemars_builders.specs.NullLaw.{context2020_12}
+use Rattle.schemars_builders.proofs.Nulls.{IsReady}
 use Rattle.schemars_shapes.specs.Shape as shape
 use Rattle.schemars_shapes.specs.Shape.{Fields, Flattened, Shape, Entry, Payload, Variant, no_payload, newtype_payload, tuple_payload}
 use Rattle.schemars_shapes.specs.Shape.{struct_payload}
@@ -22,10 +22,10 @@ use Rattle.schemars_types.specs.Effective.{spread_payload, spread_variant, sprea
 use Rattle.schemars_types.specs.Meaning.{Contract, Choice, has_payload, has_shape, belongs_within, choices_within}
 use Rattle.schemars_documents.specs.PlainTable.{IsPlainPayload, ArePlainVariants, IsTagged, AreTagged, IsPlainShape, IsPlainUnder}
 use Rattle.schemars_documents.specs.PlainTable.{ArePartsUnder, parts_in, payload_parts, variant_parts}
-use Rattle.schemars_templates.specs.Basis.{Basis}
-use Rattle.schemars_templates.specs.Template.{Ask, asks_of, filled}
-use Rattle.schemars_templates.specs.OfShape.{template_of, payload_template}
-use Rattle.schemars_templates.specs.Describes.{Fills, IsAnswered, IsWritten, Describes}
+use Rattle.schemars_documents.specs.Basis.{Basis}
+use Rattle.schemars_documents.specs.Template.{Ask, asks_of, filled}
+use Rattle.schemars_documents.specs.OfShape.{template_of, payload_template}
+use Rattle.schemars_documents.specs.Describes.{Fills, IsAnswered, IsWritten, Describes}
 use Rattle.schemars_meaning.proofs.Filling.{Fit}
 use Rattle.schemars_meaning.proofs.ByShape.{others_fill}
 use Rattle.schemars_meaning.proofs.EachShape.{null_says}

@@ -6,7 +6,7 @@ use Rattle.schemars_types.specs.Rows.{Row}
 use Rattle.schemars_types.specs.Meaning.{Contract}
 use Rattle.schemars_documents.specs.Documents.{Keyword, required_names, annotated}
 use Rattle.schemars_documents.specs.PlainTable.{IsPlainPart}
-use Rattle.schemars_templates.specs.Template.{Ask, part, members_of}
+use Rattle.schemars_documents.specs.Template.{Ask, part, members_of}
 use Rattle.schemars_meaning.proofs.MapDocument.{map_document, noted_by, AllNotes}
 
 -- the fields' schemas under their names, each with its notes

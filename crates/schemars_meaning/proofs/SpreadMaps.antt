@@ -7,12 +7,12 @@ use Rattle.std.proofs.lemmas.List.{map-append}
 use Rattle.std.proofs.lemmas.Slice.Eq.{bytes_eq-Decides}
 use Rattle.std.proofs.lemmas.List.Elements.{All-nil, All-contains, All-contains_itself}
 use Rattle.serde_json.specs.Data.{Data, Members, no_members, put}
-use Rattle.schemars_json.specs.Json.{Text}
+use Rattle.schemars_schema.specs.Json.{Text}
 use Rattle.schemars_schema.specs.SchemaData.{put_all}
 use Rattle.schemars_schema.specs.References.{found_in, found_in_members, references}
-use Rattle.schemars_rewrite.specs.NullLaw.{text_items}
-use Rattle.schemars_rewrite.specs.Variants.{unit_variant}
-use Rattle.schemars_rewrite.specs.Properties.{internally_tagged_variant}
+use Rattle.schemars_builders.specs.NullLaw.{text_items}
+use Rattle.schemars_builders.specs.Variants.{unit_variant}
+use Rattle.schemars_builders.specs.Properties.{internally_tagged_variant}
 use Rattle.schemars_flatten.specs.Flatten.{flattened}
 use Rattle.schemars_shapes.specs.Shape.{Field, Flattened, Fields}
 use Rattle.schemars_types.specs.Rows.{Row}
@@ -20,11 +20,11 @@ use Rattle.schemars_types.specs.Meaning.{Contract, Deserialize, Serialize, is_re
 use Rattle.schemars_types.specs.Effective.{flattened_fields, effective, flattened_in}
 use Rattle.schemars_documents.specs.Documents.{Keyword, required_names, annotated}
 use Rattle.schemars_documents.specs.PlainTable.{IsNoName, AreDistinct, AreNoted, IsPlainPart, ArePlainParts}
-use Rattle.schemars_templates.specs.Template.{Template, Ask, part, members_of, finished, asked, list, members, nullable, noted}
-use Rattle.schemars_templates.specs.Template.{with_keywords, tagged, Templates, no_templates, template, asks_of, asks_in, first, behind}
-use Rattle.schemars_templates.specs.Template.{left, left_in, keyed, filled, filled_in}
-use Rattle.schemars_templates.specs.OfShape.{templates_of, property, map_template, fields_template, with_flattened, struct_template}
-use Rattle.schemars_templates.specs.Describes.{AreAnswered, references_of}
+use Rattle.schemars_documents.specs.Template.{Template, Ask, part, members_of, finished, asked, list, members, nullable, noted}
+use Rattle.schemars_documents.specs.Template.{with_keywords, tagged, Templates, no_templates, template, asks_of, asks_in, first, behind}
+use Rattle.schemars_documents.specs.Template.{left, left_in, keyed, filled, filled_in}
+use Rattle.schemars_documents.specs.OfShape.{templates_of, property, map_template, fields_template, with_flattened, struct_template}
+use Rattle.schemars_documents.specs.Describes.{AreAnswered, references_of}
 use Rattle.schemars_meaning.proofs.Rows.{asks_at}
 use Rattle.schemars_meaning.proofs.MapDocument.{map_document, noted_by, AllNotes}
 use Rattle.schemars_meaning.proofs.Flattening.{flattened-maps, tagged-map}

@@ -6,20 +6,20 @@ use Rattle.serde_json.specs.Data.{Data, null, array, object, number, boolean, st
 use Rattle.serde_json.specs.Data.{put, depth}
 use Rattle.serde_json.specs.Find.{get, get_member, as_object, as_str, as_array}
 use Rattle.serde_json.specs.View.{items_of}
-use Rattle.schemars_json.specs.Json.{Text, IsJson}
+use Rattle.schemars_schema.specs.Json.{Text, IsJson}
 use Rattle.schemars_schema.specs.SchemaData.{IsSchema, put_all}
 use Rattle.schemars_schema.specs.Edits.{replaced, without, removed}
 use Rattle.schemars_schema.specs.Annotations.{is_annotation, AreNotes}
 use Rattle.schemars_schema.specs.Verdict.{verdict}
 use Rattle.schemars_schema.specs.Acceptance.{Context, Judge, judge, have_all}
-use Rattle.schemars_rewrite.proofs.Removals.{later_member}
-use Rattle.schemars_rewrite.specs.AllowNull.{is_text}
+use Rattle.schemars_builders.proofs.Removals.{later_member}
+use Rattle.schemars_builders.specs.AllowNull.{is_text}
 use Rattle.std.proofs.lemmas.Slice.Eq.{bytes_eq-Decides}
 use Rattle.schemars_flatten.specs.Flatten.{flattened, united_all, appended}
-use Rattle.schemars_parts.specs.Opening.{opened, has_type}
-use Rattle.schemars_parts.specs.Parts.{flattened_part, units_of, unit_objects, first_units, behind_first, first_as_objects, items_changed}
-use Rattle.schemars_parts.specs.Parts.{list_changed_at, units_as_objects}
-use Rattle.schemars_parts.specs.Parts.{with_units, with_empty_object, choice_or_anything, optional, one_or_anything}
+use Rattle.schemars_flatten.specs.Opening.{opened, has_type}
+use Rattle.schemars_flatten.specs.Parts.{flattened_part, units_of, unit_objects, first_units, behind_first, first_as_objects, items_changed}
+use Rattle.schemars_flatten.specs.Parts.{list_changed_at, units_as_objects}
+use Rattle.schemars_flatten.specs.Parts.{with_units, with_empty_object, choice_or_anything, optional, one_or_anything}
 use Rattle.schemars_shapes.specs.Shape.{Field}
 use Rattle.schemars_types.specs.Meaning.{Contract, every_member, member_fits, has_required, holds, is_required}
 use Rattle.schemars_documents.specs.PlainTable.{AreDistinct, AreNoted}

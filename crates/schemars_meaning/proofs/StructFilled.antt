@@ -3,16 +3,16 @@
 use Rattle.std.proofs.Common.{◌≡◌, ℕ, ◌<◌, List, [], ◌∷◌, ◌++◌, Bool, true, false, map, refl, sym, ap, ◌∙◌, subst, append_assoc, append-nil}
 use Rattle.std.specs.Prelude.{if◌then◌else◌}
 use Rattle.serde_json.specs.Data.{Data, Members, no_members, depth}
-use Rattle.schemars_json.specs.Json.{Text, IsJson}
+use Rattle.schemars_schema.specs.Json.{Text, IsJson}
 use Rattle.schemars_schema.specs.Acceptance.{Context, Judge, judge}
-use Rattle.schemars_rewrite.specs.NullLaw.{text_items}
+use Rattle.schemars_builders.specs.NullLaw.{text_items}
 use Rattle.schemars_flatten.specs.Flatten.{flattened}
 use Rattle.schemars_shapes.specs.Shape.{Field, Flattened, Fields}
 use Rattle.schemars_types.specs.Meaning.{Contract, is_required}
 use Rattle.schemars_documents.specs.Documents.{Keyword, annotated, required_names}
-use Rattle.schemars_templates.specs.Template.{Ask, part, members_of, Template, asked, with_keywords, asks_of, asks_in, filled, filled_in}
-use Rattle.schemars_templates.specs.Template.{first, keyed}
-use Rattle.schemars_templates.specs.OfShape.{templates_of, property, map_template, with_flattened, struct_template, fields_template}
+use Rattle.schemars_documents.specs.Template.{Ask, part, members_of, Template, asked, with_keywords, asks_of, asks_in, filled, filled_in}
+use Rattle.schemars_documents.specs.Template.{first, keyed}
+use Rattle.schemars_documents.specs.OfShape.{templates_of, property, map_template, with_flattened, struct_template, fields_template}
 use Rattle.schemars_types.specs.Meaning.{Choice, every_part, claims}
 use Rattle.schemars_types.specs.Effective.{flattened_fields}
 use Rattle.schemars_meaning.proofs.MapDocument.{map_document}

@@ -8,7 +8,7 @@ use Rattle.std.specs.Prelude.{codes, bytes_eq, if◌then◌else◌, is_some, ◌
 use Rattle.serde_json.specs.Data.{Data, null, boolean, number, string, array, object, Members, no_members, member, depth, members_depth}
 use Rattle.serde_json.specs.Find.{get_member, as_object}
 use Rattle.serde_json.specs.View.{items_of}
-use Rattle.schemars_json.specs.Json.{Text, IsJson, AreJsonMembers}
+use Rattle.schemars_schema.specs.Json.{Text, IsJson, AreJsonMembers}
 use Rattle.schemars_schema.specs.SchemaData.{IsSchema, put_all}
 use Rattle.schemars_schema.specs.Verdict.{Verdict, Yes, No, Open, both, verdict, all_of, one_of, is_yes}
 use Rattle.schemars_schema.specs.Acceptance.{Context, Judge, Reading, judge, read_data, read_items, judged_by_some, judged_by_list}

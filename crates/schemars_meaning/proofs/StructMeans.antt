@@ -6,7 +6,7 @@ use Rattle.std.specs.Prelude.{codes, bytes_eq, if◌then◌else◌, is_some, ◌
 use Rattle.std.specs.Option.{option_map_or}
 use Rattle.serde_json.specs.Data.{Data, null, boolean, number, string, array, object, Members, no_members, member, depth, members_depth}
 use Rattle.serde_json.specs.Find.{get_member, as_object}
-use Rattle.schemars_json.specs.Json.{Text, IsJson, AreJsonMembers}
+use Rattle.schemars_schema.specs.Json.{Text, IsJson, AreJsonMembers}
 use Rattle.schemars_schema.specs.SchemaData.{IsSchema, put_all, put_members, members_in}
 use Rattle.schemars_schema.specs.Annotations.{AreNotes}
 use Rattle.schemars_schema.specs.Verdict.{Verdict, Yes, No, Open, both, verdict, all_of, one_of}

@@ -5,11 +5,11 @@ use Rattle.std.specs.Prelude.{codes, is_some, ◌&&◌, ◌||◌, option_and_the
 use Rattle.std.proofs.Math.Bool.{and-false}
 use Rattle.serde_json.specs.Data.{Data, object, Members, string}
 use Rattle.serde_json.specs.Find.{get_member, as_str}
-use Rattle.schemars_json.specs.Json.{Text}
+use Rattle.schemars_schema.specs.Json.{Text}
 use Rattle.schemars_schema.specs.Acceptance.{Context, Dialect}
-use Rattle.schemars_rewrite.specs.AllowNull.{is_text, is_combined, is_null_choice, has_one_member, offers_null}
-use Rattle.schemars_rewrite.specs.NullLaw.{IsChoice, HasTypeForm, IsPlain}
-use Rattle.schemars_rewrite.proofs.Nulls.{IsReady}
+use Rattle.schemars_builders.specs.AllowNull.{is_text, is_combined, is_null_choice, has_one_member, offers_null}
+use Rattle.schemars_builders.specs.NullLaw.{IsChoice, HasTypeForm, IsPlain}
+use Rattle.schemars_builders.proofs.Nulls.{IsReady}
 use Rattle.schemars_shapes.specs.Shape.{Field}
 use Rattle.schemars_types.specs.Meaning.{Contract, Choice}
 use Rattle.schemars_documents.specs.Documents.{Keyword, required_names}

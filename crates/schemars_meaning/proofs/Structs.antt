@@ -2,10 +2,10 @@
 use Rattle.std.proofs.Common.{◌≡◌, ℕ, ◌<◌, List, [], Bool, refl}
 use Rattle.serde_json.specs.Data.{Data, no_members, depth}
 use Rattle.schemars_schema.specs.Verdict.{verdict}
-use Rattle.schemars_json.specs.Json.{Text, IsJson}
+use Rattle.schemars_schema.specs.Json.{Text, IsJson}
 use Rattle.schemars_schema.specs.SchemaData.{IsSchema}
 use Rattle.schemars_schema.specs.Acceptance.{Patterns, Judge, Context, judge}
-use Rattle.schemars_rewrite.specs.NullLaw.{context2020_12}
+use Rattle.schemars_builders.specs.NullLaw.{context2020_12}
 use Rattle.schemars_shapes.specs.Shape.{Field}
 use Rattle.schemars_types.specs.Meaning.{Contract, has_fields}
 use Rattle.schemars_documents.specs.PlainTable.{AreDistinct, AreNoted}

@@ -8,16 +8,16 @@ use Rattle.serde_json.specs.Data.{Data, null, boolean, number, string, array, ob
 use Rattle.serde_json.specs.Data.{depth}
 use Rattle.serde_json.specs.Find.{get_member, as_object, as_str}
 use Rattle.serde_json.proofs.Views.{get_member-put, get_member-put_other}
-use Rattle.schemars_json.specs.Json.{Text, IsJson}
+use Rattle.schemars_schema.specs.Json.{Text, IsJson}
 use Rattle.schemars_schema.specs.SchemaData.{IsSchema, put_all}
 use Rattle.schemars_schema.specs.Annotations.{is_annotation, AreNotes}
 use Rattle.schemars_schema.specs.Verdict.{verdict}
 use Rattle.schemars_schema.specs.Acceptance.{Context, Judge, judge, have_all}
-use Rattle.schemars_rewrite.specs.AllowNull.{is_text as is_name}
-use Rattle.schemars_rewrite.specs.NullLaw.{text_items}
-use Rattle.schemars_rewrite.specs.Variants.{unit_variant}
-use Rattle.schemars_rewrite.specs.Properties.{with_property, required_first, tagged, has_null_type, closed_where, with_member, with_first}
-use Rattle.schemars_rewrite.specs.Properties.{internally_tagged_variant}
+use Rattle.schemars_builders.specs.AllowNull.{is_text as is_name}
+use Rattle.schemars_builders.specs.NullLaw.{text_items}
+use Rattle.schemars_builders.specs.Variants.{unit_variant}
+use Rattle.schemars_builders.specs.Properties.{with_property, required_first, tagged, has_null_type, closed_where, with_member, with_first}
+use Rattle.schemars_builders.specs.Properties.{internally_tagged_variant}
 use Rattle.schemars_shapes.specs.Shape.{Field, needed}
 use Rattle.schemars_types.specs.Meaning.{Contract, Deserialize, Serialize, is_text, holds, every_member, member_fits, tagged_fits}
 use Rattle.schemars_types.specs.Meaning.{has_required, is_required, field_named}

@@ -9,20 +9,20 @@ use Rattle.serde_json.specs.Data.{put, depth}
 use Rattle.serde_json.specs.Find.{get, get_member, as_str, as_array}
 use Rattle.serde_json.specs.View.{items_of}
 use Rattle.serde_json.proofs.Views.{get_member-put, get_member-put_other}
-use Rattle.schemars_json.specs.Json.{Text, IsJson}
+use Rattle.schemars_schema.specs.Json.{Text, IsJson}
 use Rattle.schemars_schema.specs.SchemaData.{IsSchema}
 use Rattle.schemars_schema.specs.Edits.{without, removed, replaced}
 use Rattle.schemars_schema.specs.Annotations.{is_annotation, AreNotes}
 use Rattle.schemars_schema.specs.Verdict.{verdict}
 use Rattle.schemars_schema.specs.Acceptance.{Context, Judge, judge, is_null}
-use Rattle.schemars_rewrite.specs.AllowNull.{is_text, null_schema}
-use Rattle.schemars_rewrite.specs.NullLaw.{text_items}
-use Rattle.schemars_rewrite.specs.Properties.{changed_at}
-use Rattle.schemars_rewrite.proofs.Removals.{later_member}
+use Rattle.schemars_builders.specs.AllowNull.{is_text, null_schema}
+use Rattle.schemars_builders.specs.NullLaw.{text_items}
+use Rattle.schemars_builders.specs.Properties.{changed_at}
+use Rattle.schemars_builders.proofs.Removals.{later_member}
 use Rattle.schemars_flatten.specs.Flatten.{appended}
-use Rattle.schemars_parts.specs.Opening.{opened, has_type}
-use Rattle.schemars_parts.specs.Parts.{unit_object, unit_object_first, unit_objects, units_of, items_changed, with_items, with_units}
-use Rattle.schemars_parts.specs.Parts.{first_as_objects, list_changed_at, units_as_objects, flattened_part}
+use Rattle.schemars_flatten.specs.Opening.{opened, has_type}
+use Rattle.schemars_flatten.specs.Parts.{unit_object, unit_object_first, unit_objects, units_of, items_changed, with_items, with_units}
+use Rattle.schemars_flatten.specs.Parts.{first_as_objects, list_changed_at, units_as_objects, flattened_part}
 use Rattle.schemars_shapes.specs.Shape.{Field, Payload, Variant, no_payload}
 use Rattle.schemars_types.specs.Meaning.{Contract, exactly_one, none}
 use Rattle.schemars_documents.specs.Documents.{Keyword, annotated, typed}

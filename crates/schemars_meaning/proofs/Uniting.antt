@@ -10,12 +10,12 @@ use Rattle.serde_json.specs.Data.{Data, array, object, boolean, string, Items, n
 use Rattle.serde_json.specs.Find.{get_member}
 use Rattle.serde_json.specs.View.{items_of}
 use Rattle.serde_json.proofs.Views.{get_member-put, get_member-put_other}
-use Rattle.schemars_json.specs.Json.{Text}
+use Rattle.schemars_schema.specs.Json.{Text}
 use Rattle.schemars_schema.specs.Edits.{replaced, without}
 use Rattle.schemars_schema.specs.Annotations.{is_annotation}
 use Rattle.schemars_schema.specs.SchemaData.{put_all}
 use Rattle.schemars_schema.proofs.Objects.{IsKeyword, keyword-plain}
-use Rattle.schemars_rewrite.specs.NullLaw.{text_items}
+use Rattle.schemars_builders.specs.NullLaw.{text_items}
 use Rattle.schemars_flatten.specs.Flatten.{united, both_choices, with_keywords, moved, moved_beside, united_all, stands, has_subschema}
 use Rattle.schemars_flatten.specs.Flatten.{appended}
 use Rattle.schemars_flatten.proofs.Lookups.{united_option}

@@ -4,7 +4,7 @@ use Rattle.std.specs.Prelude.{codes}
 use Prim.Native.String.{String}
 use Rattle.serde_json.specs.Data.{Data, null, boolean, number, unsigned, string, array, object, item, no_items, Members, no_members, member}
 use Rattle.serde_json.specs.View.{items_of}
-use Rattle.schemars_json.specs.Json.{Text}
+use Rattle.schemars_schema.specs.Json.{Text}
 use Rattle.schemars_schema.specs.SchemaData.{object_of}
 use Rattle.schemars_schema.specs.Verdict.{Yes, No}
 use Rattle.schemars_schema.specs.Acceptance.{Dialect, draft2020_12, draft2019_09, accepts, read_data, all_keywords, follow}
@@ -15,9 +15,9 @@ use Rattle.schemars_types.specs.Rows.{Row}
 use Rattle.schemars_types.specs.Meaning.{Contract, Deserialize, Serialize}
 use Rattle.schemars_documents.specs.Documents.{type_alone}
 use Rattle.schemars_walk.specs.Rewritten.{forms}
-use Rattle.schemars_parts.specs.Parts.{flattened_part}
-use Rattle.schemars_templates.specs.Template.{filled}
-use Rattle.schemars_templates.specs.OfShape.{struct_template, external_template}
+use Rattle.schemars_flatten.specs.Parts.{flattened_part}
+use Rattle.schemars_documents.specs.Template.{filled}
+use Rattle.schemars_documents.specs.OfShape.{struct_template, external_template}
 use Rattle.schemars_types.specs.Effective.{fields_within, enums_within, always}
 use Rattle.schemars_types.specs.Meaning.{belongs, belongs_within, choices_within}
 use Rattle.schemars_documents.specs.PlainTable.{IsPlainUnder}

@@ -11,15 +11,15 @@ use Rattle.serde_json.specs.Events.{items_len}
 use Rattle.serde_json.specs.Find.{get_member, of_integer}
 use Rattle.serde_json.specs.View.{items_of}
 use Rattle.serde_json.proofs.Views.{get_member-put, get_member-put_other}
-use Rattle.schemars_json.specs.Json.{Text}
+use Rattle.schemars_schema.specs.Json.{Text}
 use Rattle.schemars_schema.specs.Verdict.{Yes, verdict}
 use Rattle.schemars_schema.specs.SchemaData.{IsSchema, members_in}
 use Rattle.schemars_schema.specs.Acceptance.{Patterns, Judge, judge, read_data, all_keywords, by_position, each_past}
 use Rattle.schemars_schema.specs.Acceptance.{draft2020_12, each_member, is_null}
 use Rattle.schemars_schema.proofs.Objects.{IsSilent, judge-put}
-use Rattle.schemars_rewrite.specs.AllowNull.{allow_null}
-use Rattle.schemars_rewrite.specs.NullLaw.{context2020_12}
-use Rattle.schemars_rewrite.proofs.Nulls.{IsReady, ready-law, ready-allow_null, ready-schema}
+use Rattle.schemars_builders.specs.AllowNull.{allow_null}
+use Rattle.schemars_builders.specs.NullLaw.{context2020_12}
+use Rattle.schemars_builders.proofs.Nulls.{IsReady, ready-law, ready-allow_null, ready-schema}
 use Rattle.schemars_documents.specs.Documents.{type_alone, byte_document, with_meta_schema}
 use Rattle.schemars_sample.specs.Accepted.{AcceptsExample}
 use Rattle.schemars_sample.specs.Example.{Example, truth, whole, character, text, bytes, no_value, some_value}

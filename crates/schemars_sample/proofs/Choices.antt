@@ -4,7 +4,7 @@ use Rattle.std.specs.Prelude.{if◌then◌else◌}
 use Rattle.std.specs.List.{AllByRecursion}
 use Rattle.serde_json.specs.Data.{Data, boolean}
 use Rattle.serde_json.specs.View.{items_of}
-use Rattle.schemars_json.specs.Json.{is_among}
+use Rattle.schemars_schema.specs.Json.{is_among}
 use Rattle.schemars_sample.specs.SampleSchema.{holds_everything, each_once, choice_of, one_beside, are_all, shared_by}
 
 module _ (P : Data → Type 0) (of_truth : P (boolean true)) where

@@ -5,7 +5,7 @@ use Rattle.std.proofs.Common.{◌<◌, arith, sym}
 use Rattle.std.proofs.lemmas.Bool.{le-leb}
 use Rattle.std.proofs.lemmas.Option.{same_Some}
 use Rattle.std.proofs.lemmas.Slice.Eq.{bytes_eq-Decides}
-use Rattle.schemars_rewrite.proofs.Removals.{later_member}
+use Rattle.schemars_builders.proofs.Removals.{later_member}
 use Rattle.schemars_sample.proofs.Members.{first-found}
 use Rattle.std.specs.Prelude.{pos, int_le, nat_le, bytes_eq, ◌&&◌, ◌||◌, not, if◌then◌else◌, ⊤}
 use Rattle.std.specs.Ordering.{match_ordering}
@@ -15,8 +15,8 @@ use Rattle.serde_json.specs.Data.{item, Members, no_members, member, put}
 use Rattle.serde_json.specs.Events.{items_len}
 use Rattle.serde_json.specs.Find.{get_member}
 use Rattle.serde_json.specs.View.{items_of}
-use Rattle.schemars_json.specs.Json.{Text}
-use Rattle.schemars_json.specs.OrderedText.{is_listed}
+use Rattle.schemars_schema.specs.Json.{Text}
+use Rattle.schemars_schema.specs.OrderedText.{is_listed}
 use Rattle.schemars_schema.specs.Verdict.{Verdict, Yes, No, both, verdict, opposite, none_of}
 use Rattle.schemars_schema.specs.SchemaData.{IsSchema}
 use Rattle.schemars_schema.specs.Acceptance.{Patterns, Judge, Context, judge, read_data, read_items, read_members, all_named}
@@ -24,7 +24,7 @@ use Rattle.schemars_schema.specs.Acceptance.{all_keywords, by_position, each_pas
 use Rattle.schemars_schema.specs.Acceptance.{code_points, is_of_type, is_of_some_type, type_names}
 use Rattle.schemars_schema.proofs.Verdicts.{both-yes, both-verdict, opposite-verdict}
 use Rattle.schemars_schema.proofs.Objects.{schema-judge}
-use Rattle.schemars_rewrite.specs.NullLaw.{context2020_12}
+use Rattle.schemars_builders.specs.NullLaw.{context2020_12}
 use Rattle.schemars_documents.specs.Documents.{type_alone, char_document, byte_document}
 use Rattle.schemars_sample.specs.SampleSchema.{list_schema, tuple_schema, struct_schema, map_schema, choice_of}
 

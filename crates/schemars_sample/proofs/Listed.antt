@@ -4,8 +4,8 @@ use Rattle.std.specs.Prelude.{◌||◌, if◌then◌else◌}
 use Rattle.std.proofs.lemmas.Bool.{and_parts}
 use Rattle.serde_json.specs.Data.{Data, boolean}
 use Rattle.serde_json.specs.View.{items_of}
-use Rattle.schemars_json.specs.Json.{Text, json_eq, is_among}
-use Rattle.schemars_json.proofs.Equalities.{json_eq-same}
+use Rattle.schemars_schema.specs.Json.{Text, json_eq, is_among}
+use Rattle.schemars_schema.proofs.Equalities.{json_eq-same}
 use Rattle.schemars_schema.specs.Verdict.{Yes}
 use Rattle.schemars_schema.specs.Acceptance.{Patterns, Judge, read_data}
 use Rattle.schemars_sample.specs.SampleSchema.{holds_everything, each_once, choice_of, one_beside, are_all, shared_by}

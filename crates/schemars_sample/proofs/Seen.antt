@@ -5,7 +5,7 @@ use Rattle.serde_json.specs.Data.{Data, boolean}
 use Rattle.serde_json.specs.View.{view, items_of}
 use Rattle.serde_json.specs.declared.value.Value as Value
 use Rattle.serde_json.specs.declared.value.Value.{the_lemmas}
-use Rattle.schemars_json.specs.Json.{json_eq, is_among}
+use Rattle.schemars_schema.specs.Json.{json_eq, is_among}
 use Rattle.schemars_sample.specs.SampleSchema.{is_everything, holds_everything, each_once, choice_of, one_beside, are_all, shared_by}
 
 pub seen_true : view (Value.Bool true) ≡ boolean true

@@ -4,13 +4,13 @@ use Rattle.std.specs.Prelude.{codes, bytes_eq, if◌then◌else◌}
 use Rattle.serde_json.specs.Data.{Data, null, boolean, number, string, array, object, Members, put}
 use Rattle.serde_json.specs.Find.{get_member}
 use Rattle.serde_json.proofs.Views.{get_member-put_other}
-use Rattle.schemars_json.specs.Json.{Text}
+use Rattle.schemars_schema.specs.Json.{Text}
 use Rattle.schemars_schema.specs.SchemaData.{members_in}
 use Rattle.schemars_schema.specs.Edits.{without}
 use Rattle.schemars_schema.specs.Acceptance.{is_null}
-use Rattle.schemars_rewrite.specs.AllowNull.{allow_null, is_null_choice, is_combined, or_null, null_in_values, null_in_const}
-use Rattle.schemars_rewrite.specs.AllowNull.{null_in_enum, null_in_type, const_or_null, enum_with_null, type_with_null}
-use Rattle.schemars_rewrite.proofs.Removals.{without-other}
+use Rattle.schemars_builders.specs.AllowNull.{allow_null, is_null_choice, is_combined, or_null, null_in_values, null_in_const}
+use Rattle.schemars_builders.specs.AllowNull.{null_in_enum, null_in_type, const_or_null, enum_with_null, type_with_null}
+use Rattle.schemars_builders.proofs.Removals.{without-other}
 use Rattle.schemars_documents.specs.Documents.{with_meta_schema}
 use Rattle.schemars_sample.specs.Example.{Example, truth, whole, character, text, bytes, no_value, some_value}
 use Rattle.schemars_sample.specs.Example.{unit_struct, unit_variant, newtype_struct, newtype_variant, seq, tuple}

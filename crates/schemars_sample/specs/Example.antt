@@ -1,7 +1,7 @@
 -- What an example value says.
 use Rattle.std.specs.Prelude.{ℕ, ℤ, pos, List, [], ◌∷◌, map, Bool, String, string_bytes}
 use Rattle.std.specs.declared.alloc.Global.{Global}
-use Rattle.schemars_json.specs.Json.{Text}
+use Rattle.schemars_schema.specs.Json.{Text}
 use Rattle.schemars_sample.specs.declared.sample.Sample.{Sample, fold-Sample}
 use Rattle.schemars_sample.specs.declared.sample.Sample.TheOpen.{Sample-F}
 

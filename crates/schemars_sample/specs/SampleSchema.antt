@@ -3,9 +3,9 @@ use Rattle.std.specs.Prelude.{◌&&◌, ◌||◌, ◌++◌, if◌then◌else◌,
 use Rattle.serde_json.specs.Data.{Data, null, boolean, number, string, array, object, no_items, item}
 use Rattle.serde_json.specs.Data.{Members, no_members, put}
 use Rattle.serde_json.specs.View.{items_of}
-use Rattle.schemars_json.specs.Json.{Text, json_eq, is_among}
+use Rattle.schemars_schema.specs.Json.{Text, json_eq, is_among}
 use Rattle.schemars_schema.specs.SchemaData.{members_in, inserted, object_of}
-use Rattle.schemars_rewrite.specs.AllowNull.{allow_null}
+use Rattle.schemars_builders.specs.AllowNull.{allow_null}
 use Rattle.schemars_types.specs.Meaning.{Serialize}
 use Rattle.schemars_documents.specs.Documents.{type_alone, char_document, bytes_document, typed, count_at, with_meta_schema}
 use Rattle.schemars_sample.specs.Example.{Example, truth, whole, character, text, bytes, no_value, some_value}

@@ -2,9 +2,9 @@
 ghost use Rattle.std.specs.Prelude.{◌≡◌, ◌∷◌, IfOk, OnOk, [], map, option_map, unwrap_or, Some, true};
 ghost use Rattle.serde_json.specs.Data.{object, no_members};
 ghost use Rattle.serde_json.specs.View.{view, items_view};
-ghost use Rattle.schemars_json.specs.Json.{is_among, json_eq};
+ghost use Rattle.schemars_schema.specs.Json.{is_among, json_eq};
 ghost use Rattle.schemars_schema.specs.SchemaData.{inserted};
-ghost use Rattle.schemars_rewrite.specs.AllowNull.{allow_null};
+ghost use Rattle.schemars_builders.specs.AllowNull.{allow_null};
 ghost use Rattle.schemars_types.specs.Meaning.{Serialize};
 ghost use Rattle.schemars_documents.specs.Documents.{type_alone, bytes_document};
 ghost use Rattle.schemars_sample.specs.Accepted.{AcceptsExample};
@@ -15,10 +15,10 @@ ghost use Rattle.schemars_sample.specs.SampleSchema.{one_beside, is_everything, 
 
 use crate::json::json_of;
 use crate::sample::Sample;
+use schemars_builders::allow_null;
 use schemars_documents::Contract;
 use schemars_documents::documents::{bytes_document, char_document, type_alone};
 use schemars_documents::integers::int_document;
-use schemars_rewrite::builders::allow_null;
 use schemars_schema::{Schema, json_eq};
 use schemars_types::IntKind;
 use serde_json::{Map, Value};

@@ -6,13 +6,13 @@ use Rattle.std.proofs.lemmas.Slice.Eq.{bytes_eq-Decides}
 use Prim.Native.String.{String}
 use Rattle.serde_json.specs.Data.{Data, null, boolean, number, unsigned, negative, string, array, Items, no_items, item}
 use Rattle.serde_json.specs.Find.{unescape, index_of, walk, pointer}
-use Rattle.schemars_json.specs.Json.{Text, json_eq}
+use Rattle.schemars_schema.specs.Json.{Text, json_eq}
 use Rattle.schemars_schema.specs.SchemaData.{object_of}
 use Rattle.schemars_schema.specs.Verdict.{Verdict, Yes, No, Open}
 use Rattle.schemars_schema.specs.Lookup.{schema_only, resolved}
 use Rattle.serde_json.proofs.OnLiterals.{serde_json_on_literals}
-use Rattle.schemars_json.specs.OrderedText.{ordered_text, text_in}
-use Rattle.schemars_json.proofs.Encodings.{lookup-ascii}
+use Rattle.schemars_schema.specs.OrderedText.{ordered_text, text_in}
+use Rattle.schemars_schema.proofs.Encodings.{lookup-ascii}
 use Rattle.schemars_schema.specs.Acceptance.{Dialect, draft2020_12, draft07, openapi3, Patterns, accepts, context}
 use Rattle.schemars_schema.specs.Acceptance.{judge, follow, read_data, all_keywords, Judge, Context}
 use Rattle.schemars_schema.specs.Acceptance.{unanswered as no_answer}

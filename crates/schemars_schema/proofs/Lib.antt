@@ -1,4 +1,8 @@
 -- Lemmas that several proofs share.
+pub mod Outputs
+pub mod OrderedTexts
+pub mod Encodings
+pub mod Equalities
 pub mod Verdicts
 pub mod Objects
 pub mod MapEdits

@@ -3,7 +3,7 @@ use Rattle.std.proofs.Common.{◌≡◌, ℕ, List, [], ◌∷◌, Bool, true, f
 use Rattle.std.specs.Prelude.{codes, negsuc}
 use Prim.Native.String.{String}
 use Rattle.serde_json.specs.Data.{Data, null, boolean, number, unsigned, negative, string, array, Items, no_items, item}
-use Rattle.schemars_json.specs.Json.{Text, json_eq}
+use Rattle.schemars_schema.specs.Json.{Text, json_eq}
 use Rattle.schemars_schema.specs.SchemaData.{object_of}
 use Rattle.schemars_schema.specs.Acceptance.{Patterns}
 use Rattle.schemars_schema.specs.Literal.{IsPlainLiteral, is_plain_member, has_literal}

@@ -11,9 +11,9 @@ use Rattle.std.proofs.Common.{nat_cmp}
 use Rattle.serde_json.specs.Data.{Data, null, boolean, number, string, array, object, Members, no_members, member, put}
 use Rattle.serde_json.specs.Find.{get_member}
 use Rattle.serde_json.proofs.Views.{get_member-put_other}
-use Rattle.schemars_json.specs.Json.{Text}
+use Rattle.schemars_schema.specs.Json.{Text}
 use Rattle.schemars_schema.specs.SchemaData.{IsSchema}
-use Rattle.schemars_json.specs.OrderedText.{is_listed}
+use Rattle.schemars_schema.specs.OrderedText.{is_listed}
 use Rattle.schemars_schema.specs.Acceptance.{Context, Judge, Reading, Raw, judge, read_data, read_members, reading_at}
 use Rattle.schemars_schema.specs.Acceptance.{keywords, all_keywords}
 use Rattle.schemars_schema.specs.Annotations.{is_annotation, keyword_names}

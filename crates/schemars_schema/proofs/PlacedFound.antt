@@ -13,7 +13,7 @@ use Rattle.std.specs.declared.alloc.AllocError.{AllocError}
 use Rattle.serde_json.specs.Data.{Data, null, boolean, number, string, array, object, Members, no_members, member, put}
 use Rattle.serde_json.specs.Find.{unescape, get_member, as_object, step, walk, pointer}
 use Rattle.serde_json.proofs.Views.{get_member-put}
-use Rattle.schemars_json.specs.Json.{Text}
+use Rattle.schemars_schema.specs.Json.{Text}
 use Rattle.schemars_schema.specs.SchemaData.{put_members}
 use Rattle.schemars_schema.specs.Edits.{replaced}
 use Rattle.schemars_schema.specs.Lookup.{pointed_in}

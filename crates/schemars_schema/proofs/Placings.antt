@@ -10,14 +10,14 @@ use Rattle.serde_json.specs.Data.{Data, null, boolean, number, string, array, ob
 use Rattle.serde_json.specs.Events.{members_len}
 use Rattle.serde_json.specs.Find.{unescape, get_member, as_object, pointer}
 use Rattle.serde_json.proofs.OnLiterals.{serde_json_on_literals}
-use Rattle.schemars_json.specs.Json.{Text}
+use Rattle.schemars_schema.specs.Json.{Text}
 use Rattle.schemars_schema.specs.Edits.{replaced}
 use Rattle.schemars_schema.specs.SchemaData.{IsSchema}
 use Rattle.schemars_schema.specs.Acceptance.{count_of_definitions}
-use Rattle.schemars_json.specs.Encoding.{has_escape, encoded}
+use Rattle.schemars_schema.specs.Encoding.{has_escape, encoded}
 use Rattle.schemars_schema.specs.Lookup.{IsFirstToken, schema_only, resolved}
-use Rattle.schemars_json.specs.Encoding.{lookup}
-use Rattle.schemars_json.proofs.Encodings.{are_ascii, lookup-ascii, lookup-encoded}
+use Rattle.schemars_schema.specs.Encoding.{lookup}
+use Rattle.schemars_schema.proofs.Encodings.{are_ascii, lookup-ascii, lookup-encoded}
 use Rattle.schemars_schema.specs.Placing.{tokens_in, tokens_of, tokens_below, placed, placed_at}
 
 -- ---- the tokens

@@ -10,9 +10,9 @@ use Rattle.std.proofs.Math.Seq.{drop-append_seam}
 use Rattle.serde_json.specs.Data.{Data, null, boolean, number, string, array, object, Members}
 use Rattle.serde_json.specs.Find.{unescape, as_object, get, get_member, walk, pointer}
 use Rattle.serde_json.proofs.Paths.{Lacks, walk_last, walk_part}
-use Rattle.schemars_json.specs.Json.{Text}
-use Rattle.schemars_json.specs.Encoding.{percent_decoded_bytes, text_of_bytes, percent_decoded, is_hex_digit, hex_value}
-use Rattle.schemars_json.proofs.Encodings.{text_is_utf8, text_of_utf8}
+use Rattle.schemars_schema.specs.Json.{Text}
+use Rattle.schemars_schema.specs.Encoding.{percent_decoded_bytes, text_of_bytes, percent_decoded, is_hex_digit, hex_value}
+use Rattle.schemars_schema.proofs.Encodings.{text_is_utf8, text_of_utf8}
 use Rattle.schemars_schema.specs.Lookup.{pointed, pointed_in, is_whole, pointed_inside, pointer_text, IsFirstToken}
 
 pub plain_text : (p : Text) → ((rest : Text) → p ≢ 35 ∷ rest) → Some p ≡ pointer_text p

@@ -5,7 +5,7 @@ use Rattle.schemars_schema.specs.SchemaData.{IsSchema, members_in}
 use Rattle.schemars_schema.specs.Verdict.{Yes}
 use Rattle.schemars_schema.specs.Acceptance.{Dialect, Patterns, accepts, read_data, all_keywords, items_say, const_says}
 use Rattle.schemars_schema.specs.Acceptance.{unevaluated_properties_say}
-use Rattle.schemars_json.specs.Json.{Text}
+use Rattle.schemars_schema.specs.Json.{Text}
 
 items_none : (reads : Bool) (v : Data) → items_say reads None None None v ≡ Yes
 items_none true v = refl

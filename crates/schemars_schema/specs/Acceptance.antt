@@ -9,8 +9,8 @@ use Rattle.serde_json.specs.Data.{Members, no_members, member, depth}
 use Rattle.serde_json.specs.Find.{get_member, as_integer, as_str, as_bool, as_number, as_array, as_object, pointer}
 use Rattle.serde_json.specs.Events.{items_len, members_len}
 use Rattle.schemars_schema.specs.Verdict.{Verdict, Yes, No, Open, verdict, both, opposite, all_of, any_of, one_of, is_yes}
-use Rattle.schemars_json.specs.Json.{Text, json_eq, is_among, are_distinct}
-use Rattle.schemars_json.specs.OrderedText.{is_listed}
+use Rattle.schemars_schema.specs.Json.{Text, json_eq, is_among, are_distinct}
+use Rattle.schemars_schema.specs.OrderedText.{is_listed}
 use Rattle.schemars_schema.specs.Lookup.{resolved}
 
 -- ---- parameters

@@ -2,8 +2,8 @@
 use Rattle.std.specs.Prelude.{◌≡◌, ◌||◌, List, [], ◌∷◌, Bool, true, codes, nat_eq}
 use Rattle.std.specs.List.{starts_with}
 use Rattle.serde_json.specs.Data.{Members, no_members, member}
-use Rattle.schemars_json.specs.Json.{Text}
-use Rattle.schemars_json.specs.OrderedText.{is_listed}
+use Rattle.schemars_schema.specs.Json.{Text}
+use Rattle.schemars_schema.specs.OrderedText.{is_listed}
 
 abbrev pub is_annotation : Text → Bool
 is_annotation k =

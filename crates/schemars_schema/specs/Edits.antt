@@ -1,7 +1,7 @@
 -- A schema's members with one of them taken out, or with another value at one.
 use Rattle.std.specs.Prelude.{bytes_eq, if◌then◌else◌}
 use Rattle.serde_json.specs.Data.{Data, null, boolean, number, string, array, object, Members, no_members, member}
-use Rattle.schemars_json.specs.Json.{Text}
+use Rattle.schemars_schema.specs.Json.{Text}
 
 -- the members without the one at k, if there is one
 abbrev pub without : Text → Members → Members

@@ -1,4 +1,8 @@
 -- The definitions that contracts cite.
+pub mod Json
+pub mod OrderedText
+pub mod Encoding
+pub mod Output
 pub mod Verdict
 pub mod DataCode
 pub mod SchemaData

@@ -6,8 +6,8 @@ use Rattle.std.specs.Option.{option_map_or}
 use Rattle.serde_json.specs.Data.{Data, null, boolean, number, string, array, object, Members, no_members, member}
 use Rattle.serde_json.specs.Find.{get_member, as_str, as_array}
 use Rattle.serde_json.specs.Events.{items_len}
-use Rattle.schemars_json.specs.Json.{Text, json_eq, is_among, are_distinct}
-use Rattle.schemars_json.specs.OrderedText.{is_listed}
+use Rattle.schemars_schema.specs.Json.{Text, json_eq, is_among, are_distinct}
+use Rattle.schemars_schema.specs.OrderedText.{is_listed}
 use Rattle.schemars_schema.specs.Acceptance.{Patterns, matches, is_of_some_type, types_in, whole_number}
 use Rattle.schemars_schema.specs.Acceptance.{count_of_number, code_points}
 use Rattle.schemars_schema.specs.Annotations.{is_annotation}

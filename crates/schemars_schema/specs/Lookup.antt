@@ -3,9 +3,9 @@ use Rattle.std.specs.Prelude.{◌≡◌, ◌≢◌, ◌⊎◌, ◌++◌, All, �
 use Rattle.std.specs.Prelude.{None, option_and_then}
 use Rattle.serde_json.specs.Data.{Data, null, boolean, number, string, array, object}
 use Rattle.serde_json.specs.Find.{pointer}
-use Rattle.schemars_json.specs.Json.{Text}
+use Rattle.schemars_schema.specs.Json.{Text}
 use Rattle.schemars_schema.specs.SchemaData.{is_schema}
-use Rattle.schemars_json.specs.Encoding.{percent_decoded, lookup}
+use Rattle.schemars_schema.specs.Encoding.{percent_decoded, lookup}
 
 abbrev pub schema_only : Data → Option Data
 schema_only d = if is_schema d then Some d else None

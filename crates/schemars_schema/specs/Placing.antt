@@ -3,7 +3,7 @@ use Rattle.std.specs.Prelude.{◌==◌, List, [], ◌∷◌, map, if◌then◌el
 use Rattle.std.specs.List.{slice_split}
 use Rattle.serde_json.specs.Data.{Data, null, boolean, number, string, array, object, Members, no_members, put}
 use Rattle.serde_json.specs.Find.{unescape, get_member}
-use Rattle.schemars_json.specs.Json.{Text}
+use Rattle.schemars_schema.specs.Json.{Text}
 use Rattle.schemars_schema.specs.SchemaData.{put_members}
 use Rattle.schemars_schema.specs.Edits.{replaced}
 

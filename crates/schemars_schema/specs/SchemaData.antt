@@ -1,7 +1,7 @@
 -- What a schema is among JSON data (JSON Schema core, section 4.3), and its edits.
 use Rattle.std.specs.Prelude.{Bool, true, false, List, [], ◌∷◌, codes}
 use Rattle.serde_json.specs.Data.{Data, null, boolean, number, string, array, object, Members, no_members, member, put}
-use Rattle.schemars_json.specs.Json.{Text}
+use Rattle.schemars_schema.specs.Json.{Text}
 
 -- an object or a truth value
 abbrev pub IsSchema : Data → Type 0

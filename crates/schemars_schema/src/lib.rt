@@ -1,14 +1,13 @@
-//! Schemas as JSON values, and the definitions on which every other crate rests.
+//! Schemas as JSON values: their members, JSON Pointers into them, their equality and their text.
 #![tactic(auto)]
 
 pub mod consts;
+pub mod encoding;
+mod equality;
 mod error;
-mod ordered;
-mod placing;
-mod pointer;
 pub mod schema;
-mod serialized;
+mod text;
 
+pub use equality::{json_eq, json_eq_members};
 pub use error::NotASchema;
 pub use schema::Schema;
-pub use schemars_json::{encoding, json_eq, json_eq_members};

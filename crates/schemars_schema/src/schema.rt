@@ -10,8 +10,13 @@ ghost use Rattle.serde_json.specs.contracts.value.Value.{the_row as value_row};
 ghost use Rattle.schemars_schema.specs.Acceptance.{Dialect, Patterns, accepts};
 ghost use Rattle.schemars_schema.specs.Edits.{removed, replaced, without};
 
+mod ordered;
+mod placing;
+mod pointer;
+mod serialized;
+
 use crate::error::NotASchema;
-pub use schemars_json::definitions_to_ordered_string;
+pub use crate::text::ordered::definitions_to_ordered_string;
 use serde_json::{Map, Value};
 use std::alloc::{AllocError, Global};
 use std::marker::Model;

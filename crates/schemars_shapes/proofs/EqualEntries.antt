@@ -7,7 +7,7 @@ use Rattle.std.proofs.lemmas.Bool.Decides.{Decides-eqb}
 use Rattle.std.proofs.lemmas.Slice.Eq.{bytes_eq-Decides}
 use Rattle.serde_json.specs.Data.{Num, unsigned, negative, Data, null, boolean, number, string, array, object, Items}
 use Rattle.serde_json.specs.Data.{no_items, item, Members, no_members, member}
-use Rattle.schemars_json.specs.Json.{num_eq, json_eq, items_eq, members_eq}
+use Rattle.schemars_schema.specs.Json.{num_eq, json_eq, items_eq, members_eq}
 use Rattle.schemars_shapes.specs.contracts.shape.IntKind.{the_type}
 use Rattle.schemars_shapes.specs.declared.shape.IntKind.{IntKind}
 use Rattle.schemars_shapes.specs.IntKind.{kind_eq}

@@ -4,7 +4,7 @@ use Rattle.std.specs.List.{list_any}
 use Rattle.std.specs.Str.{bytes_eq}
 use Rattle.std.proofs.lemmas.Cmp.{nat_list_eq_equiv}
 use Rattle.std.proofs.lemmas.Slice.Eq.{bytes_eq-Decides}
-use Rattle.schemars_json.specs.Json.{Text}
+use Rattle.schemars_schema.specs.Json.{Text}
 
 pub Contains-from_any : (q : Text) (xs : List Text) → list_any (bytes_eq q) xs ≡ true → Contains xs q
 Contains-from_any q [] h = absurd (true≢false (sym h))

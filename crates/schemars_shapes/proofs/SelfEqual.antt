@@ -8,7 +8,7 @@ use Rattle.serde_json.specs.Data.{Num, unsigned, negative, float, Data, null, bo
 use Rattle.serde_json.specs.Data.{Items, no_items, item, Members, no_members, member}
 use Rattle.serde_json.specs.Find.{is_float}
 use Rattle.serde_json.specs.Written.{has_float, items_have_float, members_have_float}
-use Rattle.schemars_json.specs.Json.{num_eq, json_eq, items_eq, members_eq}
+use Rattle.schemars_schema.specs.Json.{num_eq, json_eq, items_eq, members_eq}
 use Rattle.schemars_shapes.specs.contracts.shape.IntKind.{the_type}
 use Rattle.schemars_shapes.specs.declared.shape.IntKind.{IntKind}
 use Rattle.schemars_shapes.specs.IntKind.{kind_eq}

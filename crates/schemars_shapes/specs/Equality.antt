@@ -1,7 +1,7 @@
 -- When two shapes are equal, and two entries.
 use Rattle.std.specs.Prelude.{◌==◌, ◌&&◌, List, Bool, true, false, not, if◌then◌else◌, nat_eq, bytes_eq}
 use Rattle.std.specs.Cmp.Lexicographic.{pointwise}
-use Rattle.schemars_json.specs.Json.{json_eq, members_eq}
+use Rattle.schemars_schema.specs.Json.{json_eq, members_eq}
 use Rattle.schemars_shapes.specs.IntKind.{kind_eq}
 use Rattle.schemars_shapes.specs.Shape.{Required, Field, Flattened, Fields, Shape, Entry, null, bool, int, non_zero, number, text, char}
 use Rattle.schemars_shapes.specs.Shape.{formatted, any, bytes, schema_itself, option, seq, set, array, up_to, tuple}

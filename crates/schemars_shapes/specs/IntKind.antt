@@ -1,7 +1,7 @@
 -- The kinds of integers: when two are the same, and what is known of each.
 use Rattle.std.specs.Prelude.{ℤ, pos, negsuc, Bool, Option, Some, None, codes}
 use denote.Enum.Bare.{sameb}
-use Rattle.schemars_json.specs.Json.{Text}
+use Rattle.schemars_schema.specs.Json.{Text}
 use Rattle.schemars_shapes.specs.contracts.shape.IntKind.{the_type}
 use Rattle.schemars_shapes.specs.declared.shape.IntKind.{IntKind}
 use Rattle.schemars_shapes.specs.declared.shape.IntKind.TheVariants.{I8, I16, I32, I64, I128, Isize, U8, U16, U32, U64, U128, Usize}

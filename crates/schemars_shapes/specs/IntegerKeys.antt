@@ -1,6 +1,6 @@
 -- Keys of maps that are whole numbers.
 use Rattle.std.specs.Prelude.{codes}
-use Rattle.schemars_json.specs.Json.{Text}
+use Rattle.schemars_schema.specs.Json.{Text}
 use Rattle.schemars_shapes.specs.declared.shape.IntKind.{IntKind}
 use Rattle.schemars_shapes.specs.declared.shape.IntKind.TheVariants.{I8, I16, I32, I64, I128, Isize, U8, U16, U32, U64, U128, Usize}
 use Rattle.schemars_shapes.specs.declared.shape.IntegerKeys.{IntegerKeys}

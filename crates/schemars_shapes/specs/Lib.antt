@@ -5,3 +5,4 @@ pub mod Equality
 pub mod Repeated
 pub mod Decimals
 pub mod Units
+pub mod Rows

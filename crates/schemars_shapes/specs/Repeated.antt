@@ -1,7 +1,7 @@
 -- Lists in which a name stands twice.
 use Rattle.std.specs.Prelude.{◌≡◌, ◌⊎◌, ℕ, List, [], ◌∷◌, take, Contains, slice_get, Some, bytes_eq}
 use Rattle.std.specs.List.{IsDistinct}
-use Rattle.schemars_json.specs.Json.{Text}
+use Rattle.schemars_schema.specs.Json.{Text}
 
 -- the name is the first that is met a second time
 pub record IsRepeated (names : List Text) (name : Text) : Type 0 where

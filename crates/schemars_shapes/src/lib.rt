@@ -1,10 +1,15 @@
-//! The shapes of values: what a row of a table of types says, and when two rows say the same.
+//! The shapes of types, when two are equal, and which rows of a table a shape refers to.
 #![tactic(auto)]
 
 mod clone;
+mod edges;
 mod shape;
 mod variant;
 
+pub use edges::shape::{
+    asked_numbers, first_unknown, flattened_numbers, numbers, repeated_name, same_value_numbers,
+};
+pub use edges::unknown::first_unknown_among;
 pub use shape::{
     Field, Fields, Flattened, IntKind, IntegerKeys, Required, Shape, TypeEntry, TypeNo,
 };

@@ -1,6 +1,6 @@
 //! Tests of the libraries below, in a crate of their own, so that none of those is proved twice.
 //!
-//! What a run or a call answers to an input stands as cases in the files of `schemagen_cases`.
+//! What a run or a call answers to an input is a case in one of the files of `schemagen_cases`.
 #![tactic(auto)]
 
 #[cfg(test)]
@@ -21,5 +21,7 @@ mod names;
 mod registered;
 #[cfg(test)]
 mod schema;
+#[cfg(test)]
+mod settings;
 #[cfg(test)]
 mod streams;

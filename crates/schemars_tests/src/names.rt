@@ -1,7 +1,7 @@
 use crate::expect::expect;
 use schemars::Contract;
 use schemars::types::TypeNo;
-use schemars_naming::names::Names;
+use schemars_build::names::Names;
 use std::alloc::Global;
 use std::test::Fail;
 

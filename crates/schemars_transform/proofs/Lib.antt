@@ -1,4 +1,11 @@
 -- Lemmas that several proofs share.
-mod Examples
+mod BuiltInExamples
 pub mod Moves
 pub mod Names
+mod UnevaluatedExamples
+pub mod Gathering
+pub mod Through
+pub mod Items
+pub mod Texts
+pub mod Lists
+pub mod Laws

@@ -5,12 +5,12 @@ use Rattle.serde_json.specs.Find.{get, as_bool}
 use Rattle.schemars_schema.specs.SchemaData.{members_in, inserted}
 use Rattle.schemars_schema.specs.Edits.{removed}
 use Rattle.schemars_schema.specs.References.{NoSchemas, place_under}
-use Rattle.schemars_rewrite.specs.AllowNull.{has_one_member}
-use Rattle.schemars_rewrite.specs.Properties.{with_last, changed_at}
+use Rattle.schemars_builders.specs.AllowNull.{has_one_member}
+use Rattle.schemars_builders.specs.Properties.{with_last, changed_at}
 use Rattle.schemars_walk.specs.Walk.{Answer}
 use Rattle.schemars_walk.specs.Rewritten.{Rules, rewritten, all_changed}
 use Rattle.schemars_walk.specs.declared.transform.TransformError.TheVariants.{Memory}
-use Rattle.schemars_transform.specs.declared.bool_schemas.ReplaceBoolSchemas.{ReplaceBoolSchemas}
+use Rattle.schemars_transform.specs.declared.built_in.bool_schemas.ReplaceBoolSchemas.{ReplaceBoolSchemas}
 
 -- a transform that changes a schema by a function: its own state stays, and it refuses for want of memory alone
 abbrev pub Changes : {T : Type 0} → (Data → Data) → T → Data → Answer → T → Data → Type 0

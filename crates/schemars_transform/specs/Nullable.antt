@@ -4,11 +4,11 @@ use Rattle.serde_json.specs.Data.{Data, null, boolean, number, string, array, ob
 use Rattle.serde_json.specs.Find.{get, as_str}
 use Rattle.schemars_schema.specs.SchemaData.{members_in, inserted}
 use Rattle.schemars_schema.specs.Edits.{removed, replaced}
-use Rattle.schemars_rewrite.specs.AllowNull.{is_text, holds_text}
+use Rattle.schemars_builders.specs.AllowNull.{is_text, holds_text}
 use Rattle.schemars_walk.specs.Rewritten.{all_changed}
-use Rattle.schemars_transform.specs.declared.nullable.AddNullable.{AddNullable}
-use Rattle.schemars_transform.specs.declared.nullable.Nulls.{Nulls}
-use Rattle.schemars_transform.specs.declared.nullable.Nulls.TheVariants.{Missing, Alone, Among}
+use Rattle.schemars_transform.specs.declared.built_in.nullable.AddNullable.{AddNullable}
+use Rattle.schemars_transform.specs.declared.built_in.nullable.Nulls.{Nulls}
+use Rattle.schemars_transform.specs.declared.built_in.nullable.Nulls.TheVariants.{Missing, Alone, Among}
 
 abbrev pub is_null_name : Data → Bool
 is_null_name d = is_text (codes "null") (as_str d)

@@ -1,17 +1,22 @@
-//! Transforms that do the same at every schema, and what changes one schema in each.
+//! The built-in transforms, and the list of transforms that settings hold.
 #![tactic(auto)]
 
-mod bool_schemas;
-mod const_value;
-pub mod keywords;
-mod nullable;
-mod prefix_items;
-mod ref_siblings;
-mod single_example;
+mod built_in;
+mod copies;
+mod error;
+mod gen_transform;
+mod no_transform;
 
-pub use bool_schemas::ReplaceBoolSchemas;
-pub use const_value::ReplaceConstValue;
-pub use nullable::AddNullable;
-pub use prefix_items::ReplacePrefixItems;
-pub use ref_siblings::RemoveRefSiblings;
-pub use single_example::SetSingleExample;
+pub use built_in::bool_schemas::ReplaceBoolSchemas;
+pub use built_in::const_value::ReplaceConstValue;
+pub use built_in::formats::RestrictFormats;
+pub use built_in::inner::apply_inner_validation;
+pub use built_in::nullable::AddNullable;
+pub use built_in::prefix_items::ReplacePrefixItems;
+pub use built_in::ref_siblings::RemoveRefSiblings;
+pub use built_in::single_example::SetSingleExample;
+pub use built_in::unevaluated::ReplaceUnevaluatedProperties;
+pub use copies::try_clone_all;
+pub use error::CloneError;
+pub use gen_transform::GenTransform;
+pub use no_transform::NoTransform;

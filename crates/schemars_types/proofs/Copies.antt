@@ -2,8 +2,8 @@
 use Rattle.std.proofs.Common.{◌≡◌, List, [], ◌∷◌, map, String, string_bytes, refl}
 use Rattle.std.specs.List.{AllZip}
 use Rattle.std.specs.declared.alloc.Global.{Global}
-use Rattle.schemars_rows.specs.declared.slots.Slot.{Slot}
-use Rattle.schemars_rows.specs.Slots.{row_of, SameSlot}
+use Rattle.schemars_types.specs.declared.table.slots.Slot.{Slot}
+use Rattle.schemars_types.specs.Slots.{row_of, SameSlot}
 
 pub map-row_of-copied : (es fs : List (String Global × Slot)) → AllZip (λ p q. (string_bytes q.0 ≡ string_bytes p.0) × SameSlot p.1 q.1)
     es fs → map row_of fs ≡ map row_of es

@@ -1,3 +1,9 @@
+pub mod GraphLemmas
+pub mod Reaching
+pub mod Heights
+pub mod EdgeLemmas
+pub mod Names
+pub mod Joined
 pub mod TableLemmas
 pub mod Extensions
 pub mod Registered
@@ -6,3 +12,9 @@ pub mod Accepted
 pub mod Copies
 pub mod Within
 mod MeaningExamples
+pub mod Texts
+pub mod Adding
+pub mod Asked
+pub mod Settling
+pub mod Shapes
+mod Examples

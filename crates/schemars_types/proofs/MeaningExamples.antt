@@ -3,7 +3,7 @@ use Rattle.std.proofs.Common.{◌≡◌, ℕ, List, [], ◌∷◌, Some, Bool, t
 use Rattle.std.specs.Prelude.{codes, negsuc}
 use Prim.Native.String.{String}
 use Rattle.serde_json.specs.Data.{Data, null, boolean, number, unsigned, negative, string, array, object, item, no_items, no_members}
-use Rattle.schemars_json.specs.Json.{Text, json_eq}
+use Rattle.schemars_schema.specs.Json.{Text, json_eq}
 use Rattle.schemars_schema.specs.SchemaData.{object_of}
 use Rattle.schemars_shapes.specs.declared.shape.IntKind.TheVariants.{I8, U8, U128, I64}
 use Rattle.schemars_shapes.specs.Shape as shape

@@ -4,7 +4,7 @@ use Rattle.std.proofs.Common.{Option, Some, None, cond, if◌then◌else◌, ref
 use Rattle.std.proofs.lemmas.Bool.Decides.{nat_tests}
 use Rattle.std.specs.List.{position_from}
 use Rattle.std.specs.Str.{bytes_eq}
-use Rattle.schemars_json.specs.Json.{Text}
+use Rattle.schemars_schema.specs.Json.{Text}
 use Rattle.schemars_types.specs.declared.error.TypesError.{TypesError}
 use Rattle.schemars_types.specs.declared.error.TypesError.TheVariants.{AlreadyDefined}
 use Rattle.schemars_shapes.specs.Shape.{Shape, Entry, numbers_of}

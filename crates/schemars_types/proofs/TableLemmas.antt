@@ -9,13 +9,13 @@ use Rattle.std.specs.String.{string_eq}
 use Rattle.std.proofs.lemmas.Iterator.Adapters.{position_from-zero}
 use Rattle.std.proofs.lemmas.Slice.Eq.{bytes_eq-Decides}
 use Rattle.indexmap.specs.IndexMap.{insert_entry, set_value_at}
-use Rattle.schemars_json.specs.Json.{Text}
+use Rattle.schemars_schema.specs.Json.{Text}
 use Rattle.schemars_shapes.proofs.FieldLemmas.{bytes_eq_comm}
-use Rattle.schemars_rows.specs.declared.slots.Slot.{Slot}
+use Rattle.schemars_types.specs.declared.table.slots.Slot.{Slot}
 use Rattle.schemars_shapes.specs.declared.shape.TypeEntry.{TypeEntry}
 use Rattle.schemars_shapes.specs.Shape.{Entry, entry_of}
 use Rattle.schemars_types.specs.Rows.{Row, place_of, entry_at, reserved, defined}
-use Rattle.schemars_rows.specs.Slots.{row_of}
+use Rattle.schemars_types.specs.Slots.{row_of}
 
 place_from : (id : Text) (slots : List (String Global × Slot)) (i : ℕ)
     → position_from (λ k. bytes_eq id (string_bytes k)) i (keys_of slots) ≡ position_from (λ r. bytes_eq r.id id) i (map row_of slots)

@@ -2,8 +2,8 @@
 use Rattle.std.proofs.Common.{◌≡◌, ◌<◌, ◌≤◌, ◌⊎◌, inl, inr, ℕ, zero, suc, List, [], ◌∷◌, ◌++◌, Bool, true, false, Some}
 use Rattle.std.proofs.Common.{None, cond, length, find, nat_le, is_some, Contains, refl, ap, arith, if◌then◌else◌}
 use Rattle.std.proofs.lemmas.Bool.{leb-false}
-use Rattle.schemars_json.specs.Json.{Text}
-use Rattle.schemars_cycles.proofs.GraphLemmas.{nothing_among}
+use Rattle.schemars_schema.specs.Json.{Text}
+use Rattle.schemars_types.proofs.GraphLemmas.{nothing_among}
 use Rattle.schemars_shapes.specs.Shape.{Entry, numbers_of}
 use Rattle.schemars_types.specs.Rows.{Row, place_of, unknown_in, reserved, defined}
 use Rattle.schemars_types.specs.Edges.{numbers_at, RefersWithin}

@@ -1,4 +1,11 @@
+pub mod Walks
+pub mod Search
 pub mod Rows
+pub mod Slots
+pub mod Extends
+pub mod Edges
+pub mod EdgeKind
+pub mod Undefined
 pub mod Refusals
 pub mod Names
 pub mod Times
@@ -7,6 +14,5 @@ pub mod KeyOptions
 pub mod Effective
 pub mod Meaning
 pub mod OpenStructs
-pub mod Edges
 pub mod Faults
-pub mod Extends
+pub mod Found

@@ -6,7 +6,7 @@ use Rattle.std.specs.Option.{option_map_or}
 use Rattle.serde_json.specs.Data.{Data, object, Items, no_items, item, Members, no_members, member, depth}
 use Rattle.serde_json.specs.Find.{as_bool, as_number, as_str, as_array, as_object, get_member}
 use Rattle.serde_json.specs.Events.{items_len}
-use Rattle.schemars_json.specs.Json.{Text, are_distinct}
+use Rattle.schemars_schema.specs.Json.{Text, are_distinct}
 use Rattle.schemars_schema.specs.SchemaData.{is_schema}
 use Rattle.schemars_schema.specs.Edits.{without}
 use Rattle.schemars_schema.specs.Acceptance.{Patterns, is_null, whole_number, code_points}

@@ -1,7 +1,7 @@
 -- What a table refuses, and why.
 use Rattle.std.specs.Prelude.{◌≡◌, ℕ, true, false, nat_le, length, List, Option, Some, None, if◌then◌else◌}
 use Rattle.std.specs.Option.{option_map_or}
-use Rattle.schemars_json.specs.Json.{Text}
+use Rattle.schemars_schema.specs.Json.{Text}
 use Rattle.schemars_shapes.specs.Shape.{Shape, Entry}
 use Rattle.schemars_types.specs.Rows.{Row, place_of, reserved, defined, unknown_in, holds_another}
 use Rattle.schemars_types.specs.declared.error.TypesError.{TypesError}

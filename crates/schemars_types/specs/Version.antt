@@ -1,7 +1,7 @@
 -- Versions as texts (https://semver.org).
 use Rattle.std.specs.Prelude.{[], ◌∷◌, ◌++◌, codes}
 use Rattle.serde_json.specs.Data.{Data, string}
-use Rattle.schemars_json.specs.Json.{Text}
+use Rattle.schemars_schema.specs.Json.{Text}
 use Rattle.schemars_schema.specs.SchemaData.{object_of}
 
 -- three numbers, behind a `-` parts of a pre-release, and behind a `+` parts of a build

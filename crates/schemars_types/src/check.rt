@@ -2,9 +2,13 @@
 ghost use Rattle.std.specs.Prelude.{◌≡◌, ◌⊎◌, OnOk, IfErr};
 ghost use Rattle.schemars_types.specs.Faults.{IsAccepted, IsChecked, Refusal};
 
+pub(crate) mod cycles;
+pub(crate) mod faults;
+pub(crate) mod fields;
+
+use crate::check::faults::{EdgeKind, first_on_cycle, first_repeated, first_undefined};
 use crate::error::TypesError;
 use crate::table::Types;
-use schemars_rows::{EdgeKind, first_on_cycle, first_repeated, first_undefined};
 use std::alloc::Global;
 
 impl Types {

@@ -6,14 +6,16 @@ ghost use Rattle.schemars_types.specs.Rows.{place_of, entry_at, unknown_in, rese
 ghost use Rattle.schemars_types.specs.Edges.{RefersWithin};
 ghost use Rattle.schemars_types.specs.Refusals.{first_unknown, refusal_of};
 ghost use Rattle.schemars_types.specs.Extends.{begins_with, rows_have_float};
-ghost use Rattle.schemars_rows.specs.Slots.{row_of};
+ghost use Rattle.schemars_types.specs.Slots.{row_of};
 ghost use Rattle.std.specs.Result.{result_err};
 
+pub(crate) mod slots;
+pub(crate) mod texts;
+
 use crate::error::TypesError;
+use crate::table::slots::{Slot, entry, slots_begin_with};
 use indexmap::IndexMap;
-use schemars_edges::first_unknown;
-use schemars_rows::{Slot, entry, slots_begin_with};
-use schemars_shapes::{Shape, TypeEntry, TypeNo};
+use schemars_shapes::{Shape, TypeEntry, TypeNo, first_unknown};
 use std::alloc::{AllocError, Global};
 use std::marker::Model;
 
@@ -37,7 +39,7 @@ impl Model for Types {
 
     ghost coded = { Prim.hlevel (codes, data_code, members_code) };
 
-    ghost use Rattle.schemars_rows.specs.Slots.{row_of};
+    ghost use Rattle.schemars_types.specs.Slots.{row_of};
     ghost use Rattle.schemars_types.specs.Edges.{RefersWithin};
 
     ghost view = { λ t. map row_of t.slots.entries };

@@ -6,7 +6,7 @@ use Rattle.std.specs.Cmp.Lexicographic.{slice_cmp}
 use Rattle.std.specs.Ordering.{match_ordering}
 use Rattle.serde_json.specs.Data.{Data, Members, no_members, member, put}
 use Rattle.serde_json.specs.Find.{get_member}
-use Rattle.schemars_json.specs.Json.{Text}
+use Rattle.schemars_schema.specs.Json.{Text}
 use Rattle.schemars_schema.specs.References.{NoSchemas}
 use Rattle.schemars_walk.specs.Rewritten.{Rules, form_at, forms, in_keywords, read_at}
 use Rattle.schemars_walk.proofs.Rewrites.{keywords_more, keywords_none}

@@ -1,6 +1,6 @@
 -- A rewrite of every schema inside a schema, as a function on trees: each after those inside it.
 use Rattle.serde_json.specs.Data.{Data, null, boolean, number, string, array, object, Items, no_items, item, Members, no_members, member}
-use Rattle.schemars_json.specs.Json.{Text}
+use Rattle.schemars_schema.specs.Json.{Text}
 use Rattle.schemars_schema.specs.References.{Place, NoSchemas, OneSchema, SchemaList, SchemaOrList, SchemasByName, place_under}
 
 -- the rule inside a schema, where schemas stand under a keyword, and what becomes of a schema whose subschemas are done

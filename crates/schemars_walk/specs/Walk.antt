@@ -1,14 +1,14 @@
 -- What a walk over subschemas does, for every transform: which schemas it reaches, in which order, and what it makes of them.
 use Rattle.std.specs.Prelude.{◌≡◌, ℕ, zero, suc, ◌⊎◌, Bool, true, false, Result, Ok, Err, OnOk}
 use Rattle.serde_json.specs.Data.{Data, null, boolean, number, string, array, object, Items, no_items, item, Members, no_members, member}
-use Rattle.schemars_json.specs.Json.{Text}
+use Rattle.schemars_schema.specs.Json.{Text}
 use Rattle.schemars_schema.specs.References.{NoSchemas, OneSchema, SchemaList, SchemaOrList, SchemasByName, place_under}
 use Rattle.schemars_schema.specs.References as references
 use Rattle.schemars_walk.specs.declared.transform.TransformError.{TransformError}
 use Rattle.schemars_walk.specs.declared.transform.TransformError.TheVariants.{Memory, TooDeep}
 use Rattle.schemars_walk.specs.declared.walk.Reach.{Reach}
 use Rattle.schemars_walk.specs.declared.walk.Reach.TheVariants.{Once, Levels}
-use Rattle.schemars_walk.specs.declared.place.Place as place
+use Rattle.schemars_walk.specs.declared.rewrite.place.Place as place
 
 abbrev pub Answer : Type 0
 Answer = Result (Unit {0}) TransformError

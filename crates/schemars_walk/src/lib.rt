@@ -1,10 +1,8 @@
-//! What a transform of schemas is, and the walk over the schemas inside a schema.
+//! Transforms, and the walks that apply one to every schema of a document.
 #![tactic(auto)]
 
-pub mod change;
 mod closure;
 mod list;
-pub mod place;
 mod recursive;
 pub mod rewrite;
 mod transform;

@@ -2,12 +2,15 @@
 ghost use Rattle.std.specs.Prelude.{◌≡◌, OnOk};
 ghost use Rattle.serde_json.specs.Data.{Data};
 ghost use Rattle.serde_json.specs.View.{view, items_view, members_view};
-ghost use Rattle.schemars_json.specs.Json.{Text};
+ghost use Rattle.schemars_schema.specs.Json.{Text};
 ghost use Rattle.schemars_schema.specs.References.{Place};
 ghost use Rattle.schemars_walk.specs.Walk.{meant};
 ghost use Rattle.schemars_walk.specs.Rewritten.{Rules, rewritten, with_subschemas, read_at, as_schema_in, in_items, in_names, in_keywords};
 
-use crate::place::Place;
+pub mod change;
+pub mod place;
+
+use crate::rewrite::place::Place;
 use crate::walk::put_member;
 use schemars_schema::{NotASchema, Schema};
 use serde_json::{Map, Value};

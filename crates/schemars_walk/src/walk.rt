@@ -8,7 +8,7 @@ ghost use Rattle.schemars_walk.specs.Walk.{EachItem, EachMember, AtSchema, AtPla
 ghost use Rattle.schemars_walk.specs.declared.transform.TransformError.TheVariants.{Memory};
 ghost use Rattle.schemars_walk.specs.declared.walk.Reach.TheVariants.{Once};
 
-use crate::place::{Place, place_under};
+use crate::rewrite::place::{Place, place_under};
 use crate::transform::{Transform, TransformError};
 use schemars_schema::{NotASchema, Schema};
 use serde_json::{Map, Value};

@@ -2,8 +2,8 @@
 use Rattle.std.proofs.Common.{◌≡◌, true, None, sym, ◌∙◌, codes, ◌∷◌, []}
 use Rattle.std.proofs.lemmas.Result.{err_from_is_err_and, IfErr-weaker}
 use Rattle.serde_json.specs.View.{view, items_view}
-use Rattle.schemagen_forms.specs.declared.error.InputError.TheVariants.{BadTable}
-use Rattle.schemagen_forms.specs.Forms.{has_only}
+use Rattle.schemagen_input.specs.declared.error.InputError.TheVariants.{BadTable}
+use Rattle.schemagen_input.specs.Forms.{has_only}
 use Rattle.schemagen_input.specs.Input.{table_in}
 use Rattle.schemagen_input.proofs.Reading.{table_in-parts, tabled-not_reserved, tabled-not_fitting, tabled-done, rows_done}
 use Rattle.schemagen_input.proofs.Written.{input_back, is_read, is_not_refused}

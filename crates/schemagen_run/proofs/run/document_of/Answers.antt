@@ -1,7 +1,7 @@
 -- The table suits the generator.
 use Rattle.std.proofs.Common.{◌∙◌, ap}
 use Rattle.schemars_generate.specs.Settings.{state}
-use Rattle.schemars_transforms.specs.Member.{some_own}
+use Rattle.schemars_transform.specs.Member.{some_own}
 use Rattle.schemagen_run.proofs.Results.{ok_at_err, err_passed, so_at_ok}
 use Rattle.schemagen_run.proofs.Tables.{none_own, is_document, is_refusal, faulty_refusal}
 use Rattle.schemagen_run.proofs.run.document_of.Goals as goal

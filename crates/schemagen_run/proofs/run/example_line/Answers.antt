@@ -1,6 +1,6 @@
 -- Memory is all that the document and its line may want.
 use Rattle.std.proofs.Common.{ap, ◌∙◌}
-use Rattle.schemars_error.specs.Refusals.{code_of}
+use Rattle.schemars_generate.specs.Refusals.{code_of}
 use Rattle.schemagen_run.specs.declared.fault.Fault.TheVariants.{Refused}
 use Rattle.schemagen_run.proofs.Results.{ok_at_err, err_passed}
 use Rattle.schemagen_run.proofs.run.example_line.Goals as goal

@@ -2,7 +2,7 @@
 use Rattle.std.proofs.Common.{◌∙◌, ap}
 use Rattle.schemars_generate.specs.Settings.{settings_of}
 use Rattle.schemars_sample.specs.Example.{example_of}
-use Rattle.schemars_transforms.specs.Member.{some_own}
+use Rattle.schemars_transform.specs.Member.{some_own}
 use Rattle.schemagen_run.proofs.Tables.{none_own}
 use Rattle.schemagen_run.proofs.Samples.{sample_made, sample_wants_memory}
 use Rattle.schemagen_run.proofs.run.sample_document.Goals as goal

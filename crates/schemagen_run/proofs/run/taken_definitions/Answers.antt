@@ -1,11 +1,11 @@
 -- The row is known, so that memory is all that a part may want.
 use Rattle.std.proofs.Common.{◌∙◌, ap, refl, length, Err}
-use Rattle.schemars_roots.specs.Settings.{state_with}
+use Rattle.schemars_generate.specs.DocumentSettings.{state_with}
 use Rattle.serde_json.specs.View.{members_view}
-use Rattle.schemars_dialects.specs.Taken.{HasSameKeys, TakenHeadline}
+use Rattle.schemars_headline.specs.Taken.{HasSameKeys, TakenHeadline}
 use Rattle.schemars_generate.specs.Settings.{settings_of, state}
-use Rattle.schemars_transforms.specs.Member.{some_own}
-use Rattle.schemars_transforms.specs.BuiltIn.{each_made_by}
+use Rattle.schemars_transform.specs.Member.{some_own}
+use Rattle.schemars_transform.specs.BuiltIn.{each_made_by}
 use Rattle.schemagen_run.proofs.Results.{ok_at_err, err_passed, both_at_ok, at_ok_under}
 use Rattle.schemagen_run.proofs.Tables.{known_refusal}
 use Rattle.schemagen_run.proofs.run.taken_definitions.Goals as goal

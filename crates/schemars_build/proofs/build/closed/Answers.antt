@@ -5,8 +5,8 @@ use Rattle.serde_json.specs.Data.{boolean}
 use Rattle.serde_json.specs.Find.{get_member}
 use Rattle.schemars_documents.specs.Documents.{reference}
 use Rattle.schemars_types.specs.Edges.{is_inline_at}
-use Rattle.schemars_templates.specs.Template.{part}
-use Rattle.schemars_naming.specs.Work.{reference_to}
+use Rattle.schemars_documents.specs.Template.{part}
+use Rattle.schemars_build.specs.Work.{reference_to}
 use Rattle.schemars_build.specs.Plans.{plan_of}
 use Rattle.schemars_build.specs.Making.{asked, IsBegun}
 use Rattle.schemars_build.specs.declared.build.Purpose.TheVariants as purpose

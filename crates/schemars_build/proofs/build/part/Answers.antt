@@ -7,9 +7,9 @@ use Rattle.serde_json.specs.Find.{get_member}
 use Rattle.schemars_documents.specs.Documents.{reference}
 use Rattle.schemars_schema.specs.References.{references}
 use Rattle.schemars_types.specs.Edges.{is_inline_at}
-use Rattle.schemars_templates.specs.Template.{part}
-use Rattle.schemars_naming.specs.Placed.{is_in_place, pending_in, is_pending}
-use Rattle.schemars_naming.specs.Work.{Work, Step, undone, reference_to}
+use Rattle.schemars_documents.specs.Template.{part}
+use Rattle.schemars_build.specs.Placed.{is_in_place, pending_in, is_pending}
+use Rattle.schemars_build.specs.Work.{Work, Step, undone, reference_to}
 use Rattle.schemars_build.specs.Parts.{IsPart, IsMade}
 use Rattle.schemars_build.specs.Plans.{plan_of}
 use Rattle.schemars_build.specs.Reached.{AreReached}

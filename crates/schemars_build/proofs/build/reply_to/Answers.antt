@@ -1,8 +1,8 @@
 use Rattle.std.proofs.Common.{◌≡◌, ◌<◌, ◌≤◌, ℕ, Bool, length}
 use Rattle.std.proofs.Common.{refl, sym, subst, arith, rules}
-use Rattle.schemars_templates.specs.Template.{members_of, content}
-use Rattle.schemars_templates.specs.View.{ask_of}
-use Rattle.schemars_templates.specs.Describes.{without_options, are_optional}
+use Rattle.schemars_documents.specs.Template.{members_of, content}
+use Rattle.schemars_documents.specs.View.{ask_of}
+use Rattle.schemars_documents.specs.Describes.{without_options, are_optional}
 use Rattle.schemars_build.specs.Plans.{plan_of}
 use Rattle.schemars_build.specs.Making.{flattened, asked, Leads}
 use Rattle.schemars_build.specs.Making.{IsRepliedBy}

@@ -1,6 +1,6 @@
 use Rattle.std.proofs.Common.{◌≡◌, ◌<◌, ◌+◌, ◌++◌, ◌∷◌, [], map, List, length, take}
 use Rattle.std.proofs.Common.{refl, ap, sym, ◌∙◌, subst, arith, get_or}
-use Rattle.schemars_templates.specs.View.{ask_of}
+use Rattle.schemars_documents.specs.View.{ask_of}
 use Rattle.schemars_build.specs.Plans.{plan_of}
 use Rattle.schemars_build.specs.Making.{asked}
 use Rattle.schemars_build.specs.Making.{IsNext, AreWaiting}

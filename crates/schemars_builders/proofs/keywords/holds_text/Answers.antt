@@ -7,8 +7,8 @@ use Rattle.std.proofs.lemmas.Iterator.Search.{any_from_yields_List}
 use Rattle.serde_json.specs.Find.{as_str}
 use Rattle.serde_json.specs.View.{view, items_view}
 use Rattle.serde_json.specs.declared.value.Value.{Value}
-use Rattle.schemars_json.specs.Json.{Text}
-use Rattle.schemars_rewrite.specs.AllowNull.{is_text, holds_text}
+use Rattle.schemars_schema.specs.Json.{Text}
+use Rattle.schemars_builders.specs.AllowNull.{is_text, holds_text}
 use Rattle.schemars_builders.proofs.keywords.holds_text.Goals as goal
 
 holds_text-values : (t : Text) (vs : List Value)

@@ -4,7 +4,7 @@ use Rattle.std.specs.Prelude.{IsUtf8, map}
 use Rattle.std.proofs.lemmas.Iterator.{YieldsList-from_chars}
 use Rattle.std.proofs.lemmas.Iterator.Consumers.{YieldsList-end}
 use Rattle.std.proofs.lemmas.Str.{encodes-append, encodes-chars}
-use Rattle.schemars_json.specs.Json.{Text}
+use Rattle.schemars_schema.specs.Json.{Text}
 use Rattle.schemars_builders.specs.Pattern.{escaped, unescaped}
 use Rattle.schemars_builders.proofs.Escapes.{escaped-append, unescaped-escaped}
 use Rattle.schemars_builders.proofs.pattern.escape.Goals as goal

@@ -2,12 +2,12 @@ use Rattle.std.proofs.Common.{IfOk, OnOk, subst}
 use Rattle.schemars_schema.specs.References.{references}
 use Rattle.schemars_types.specs.Rows.{entry_at}
 use Rattle.schemars_documents.specs.PlainTable.{IsOpenStruct}
-use Rattle.schemars_templates.specs.Template.{members_of}
+use Rattle.schemars_documents.specs.Template.{members_of}
 use Rattle.schemars_headline.specs.Calls.{Adds, IsNeeded}
 use Rattle.schemars_headline.specs.State.{Settings, HasOwnDefinitions}
 use Rattle.schemars_headline.proofs.NamedKeys.{references_name_keys}
-use Rattle.schemars_roots.specs.Answers.{IsAnswerOf, IsNeededFor}
-use Rattle.schemars_roots.specs.Settings.{state_with}
+use Rattle.schemars_generate.specs.Answers.{IsAnswerOf, IsNeededFor}
+use Rattle.schemars_generate.specs.DocumentSettings.{state_with}
 use Rattle.schemars_generate.specs.Settings.{settings_of}
 use Rattle.schemars_generate.proofs.builders.json_schema_for_flatten.Goals as goal
 

@@ -1,10 +1,10 @@
 use Rattle.std.proofs.Common.{IfOk, OnOk, subst}
-use Rattle.schemars_templates.specs.Template.{content}
+use Rattle.schemars_documents.specs.Template.{content}
 use Rattle.schemars_headline.specs.Calls.{Adds}
 use Rattle.schemars_headline.specs.State.{Settings, HasOwnDefinitions}
 use Rattle.schemars_headline.proofs.NamedKeys.{references_name_keys}
-use Rattle.schemars_roots.specs.Answers.{IsAnswerOf, IsNeededFor}
-use Rattle.schemars_roots.specs.Settings.{state_with}
+use Rattle.schemars_generate.specs.Answers.{IsAnswerOf, IsNeededFor}
+use Rattle.schemars_generate.specs.DocumentSettings.{state_with}
 use Rattle.schemars_generate.specs.Settings.{settings_of}
 use Rattle.schemars_generate.proofs.builders.json_schema_for_internally_tagged_enum_newtype_variant.Goals as goal
 

@@ -1,5 +1,5 @@
 use Rattle.schemars_headline.proofs.NamedKeys.{references_name_keys}
-use Rattle.schemars_roots.specs.Settings.{state_with}
+use Rattle.schemars_generate.specs.DocumentSettings.{state_with}
 use Rattle.schemars_generate.specs.Settings.{settings_of}
 use Rattle.schemars_generate.proofs.generate.SchemaGenerator.add_types.Goals as goal
 

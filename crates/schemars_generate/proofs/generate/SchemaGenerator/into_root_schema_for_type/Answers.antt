@@ -1,15 +1,15 @@
 use Rattle.std.proofs.Common.{◌≡◌, ◌<◌, ◌⊎◌, [], length, codes, Vec, Global, IfOk, IfErr, ap, subst}
 use Rattle.schemars_schema.specs.Acceptance.{draft07, draft2019_09}
 use Rattle.schemars_documents.specs.PlainTable.{HasPlainNotes}
-use Rattle.schemars_dialects.specs.Dialects.{RootHeadlineUnder}
+use Rattle.schemars_headline.specs.Dialects.{RootHeadlineUnder}
 use Rattle.schemars_headline.specs.Calls.{IsLastRootCall}
 use Rattle.schemars_headline.specs.Headline.{RootHeadline, RootWideHeadline, IsDraftPath}
 use Rattle.schemars_headline.specs.State.{Settings, path_of}
-use Rattle.schemars_transforms.specs.Member.{some_own}
-use Rattle.schemars_transforms.specs.declared.gen_transform.GenTransform.{GenTransform}
-use Rattle.schemars_roots.specs.Settings.{state_with}
-use Rattle.schemars_roots.specs.Through.{IsThrough, IsTurnedDown, IsRootRefused, IsUntransformed}
-use Rattle.schemars_error.specs.declared.error.GenerateError.TheVariants.{OutOfMemory}
+use Rattle.schemars_transform.specs.Member.{some_own}
+use Rattle.schemars_transform.specs.declared.gen_transform.GenTransform.{GenTransform}
+use Rattle.schemars_generate.specs.DocumentSettings.{state_with}
+use Rattle.schemars_generate.specs.Through.{IsThrough, IsTurnedDown, IsRootRefused, IsUntransformed}
+use Rattle.schemars_generate.specs.declared.error.GenerateError.TheVariants.{OutOfMemory}
 use Rattle.std.proofs.lemmas.Result.{IfOk-weaker, IfErr-weaker}
 use Rattle.schemars_generate.specs.Settings.{settings_of, ApplyInOrder}
 use Rattle.schemars_generate.specs.Settings.{transforms07, transforms2019_09}

@@ -1,15 +1,15 @@
 use Rattle.std.proofs.Common.{◌≡◌, [], codes, Vec, Global, IfOk, IfErr, ap, subst}
 use Rattle.schemars_schema.specs.Acceptance.{draft07, draft2019_09}
-use Rattle.schemars_dialects.specs.Dialects.{SampleHeadlineUnder}
+use Rattle.schemars_headline.specs.Dialects.{SampleHeadlineUnder}
 use Rattle.schemars_headline.specs.Headline.{IsDraftPath}
 use Rattle.schemars_headline.specs.State.{Settings}
 use Rattle.schemars_sample.specs.Accepted.{AcceptsExample}
 use Rattle.schemars_sample.specs.Example.{example_of}
-use Rattle.schemars_transforms.specs.Member.{some_own}
-use Rattle.schemars_transforms.specs.declared.gen_transform.GenTransform.{GenTransform}
-use Rattle.schemars_roots.specs.Settings.{state_with}
-use Rattle.schemars_roots.specs.Samples.{IsSampleRoot, IsSampleRefusedThrough}
-use Rattle.schemars_roots.specs.Through.{IsThrough}
+use Rattle.schemars_transform.specs.Member.{some_own}
+use Rattle.schemars_transform.specs.declared.gen_transform.GenTransform.{GenTransform}
+use Rattle.schemars_generate.specs.DocumentSettings.{state_with}
+use Rattle.schemars_generate.specs.Samples.{IsSampleRoot, IsSampleRefusedThrough}
+use Rattle.schemars_generate.specs.Through.{IsThrough}
 use Rattle.std.proofs.lemmas.Result.{IfOk-weaker, IfErr-weaker}
 use Rattle.schemars_generate.specs.Settings.{settings_of, ApplyInOrder, transforms07, transforms2019_09}
 use Rattle.schemars_generate.proofs.BuiltIns.{built_in, made_by_these, sample_built_in, sample_memory}

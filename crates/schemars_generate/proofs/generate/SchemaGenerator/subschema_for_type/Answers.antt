@@ -4,7 +4,7 @@ use Rattle.schemars_headline.specs.Calls.{IsPartOf, IsReferenceOf, Adds, IsNeede
 use Rattle.schemars_headline.specs.Headline.{SubschemaHeadline, IsInlined}
 use Rattle.schemars_headline.specs.State.{Settings, HasOwnDefinitions}
 use Rattle.schemars_headline.proofs.NamedKeys.{references_name_keys}
-use Rattle.schemars_roots.specs.Settings.{state_with}
+use Rattle.schemars_generate.specs.DocumentSettings.{state_with}
 use Rattle.schemars_generate.specs.Settings.{settings_of}
 use Rattle.schemars_generate.proofs.generate.SchemaGenerator.subschema_for_type.Goals as goal
 

@@ -1,9 +1,9 @@
 use Rattle.std.proofs.Common.{Result, Ok, Err, IfOk, OnOk, ap, rules}
 use Rattle.std.proofs.lemmas.Result.{IfOk-weaker, IfErr-weaker}
 use Rattle.serde_json.specs.View.{members_view}
-use Rattle.schemars_transforms.proofs.Laws.{each_made}
-use Rattle.schemars_transforms.specs.Member.{some_own}
-use Rattle.schemars_roots.specs.Settings.{state_with}
+use Rattle.schemars_transform.proofs.Laws.{each_made}
+use Rattle.schemars_transform.specs.Member.{some_own}
+use Rattle.schemars_generate.specs.DocumentSettings.{state_with}
 use Rattle.schemars_generate.specs.Settings.{settings_of}
 use Rattle.schemars_generate.proofs.BuiltIns.{taken_built_in, taken-openapi3}
 use Rattle.schemars_generate.proofs.generate.SchemaGenerator.take_definitions.Goals as goal

@@ -2,12 +2,12 @@
 use Rattle.std.proofs.Common.{◌≡◌, ◌↔◌, ◌∙◌, Result, Err, IsTrue, ap, subst, rules}
 use Rattle.std.proofs.lemmas.Result.{err_from_is_err_and}
 use Rattle.std.specs.Result.{result_from_control_flow}
-use Rattle.schemars_transforms.specs.declared.error.CloneError.{CloneError}
-use Rattle.schemars_transforms.specs.declared.error.CloneError.TheVariants as clone
-use Rattle.schemars_transforms.specs.Member.{some_own}
-use Rattle.schemars_error.specs.declared.error.GenerateError.{GenerateError}
-use Rattle.schemars_error.specs.declared.error.GenerateError.TheVariants as refusal
-use Rattle.schemars_error.specs.Refusals.{copy_error}
+use Rattle.schemars_transform.specs.declared.error.CloneError.{CloneError}
+use Rattle.schemars_transform.specs.declared.error.CloneError.TheVariants as clone
+use Rattle.schemars_transform.specs.Member.{some_own}
+use Rattle.schemars_generate.specs.declared.error.GenerateError.{GenerateError}
+use Rattle.schemars_generate.specs.declared.error.GenerateError.TheVariants as refusal
+use Rattle.schemars_generate.specs.Refusals.{copy_error}
 use Rattle.schemars_generate.proofs.settings.SchemaSettings.for_own.Goals as goal
 
 passed_on : {A B S : Type 0} (r : Result A GenerateError) (q : Result B CloneError) (e : CloneError) → q ≡ Err e → r ≡ Err (copy_error e)

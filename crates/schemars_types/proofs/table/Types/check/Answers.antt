@@ -1,8 +1,8 @@
 use Rattle.std.proofs.Common.{inr, map, string_bytes, subst}
 use Rattle.std.proofs.lemmas.Option.{MatchOption-at_some, MatchOption-at_none}
-use Rattle.schemars_cycles.specs.Walks.{IsFree, IsLeast}
+use Rattle.schemars_types.specs.Walks.{IsFree, IsLeast}
 use Rattle.schemars_shapes.specs.Repeated.{IsFirstRepeated}
-use Rattle.schemars_rows.specs.Slots.{row_of}
+use Rattle.schemars_types.specs.Slots.{row_of}
 use Rattle.schemars_types.specs.Edges.{RefersWithin, names_at}
 use Rattle.schemars_types.specs.Faults.{IsUndefined, HasRepeated, OnDirectCycle, OnEmptyCycle, IsAccepted}
 use Rattle.schemars_types.proofs.Accepted.{none_repeated, least_repeated, direct_cycles, empty_cycles, checked}

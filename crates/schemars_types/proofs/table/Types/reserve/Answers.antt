@@ -1,7 +1,7 @@
 use Rattle.std.proofs.Common.{◌≡◌, None, Some, map, string_bytes, ap, ◌∙◌, sym, subst, rules}
 use Rattle.schemars_types.specs.Rows.{place_of, reserved}
 use Rattle.schemars_types.specs.Edges.{RefersWithin}
-use Rattle.schemars_rows.specs.Slots.{row_of}
+use Rattle.schemars_types.specs.Slots.{row_of}
 use Rattle.schemars_types.proofs.TableLemmas.{insert_entry-reserved, place_of-reserved}
 use Rattle.schemars_types.proofs.Within.{within_reserved}
 use Rattle.schemars_types.proofs.table.Types.reserve.Goals as goal

@@ -4,7 +4,7 @@ use Rattle.indexmap.specs.IndexMap.{set_value_at}
 use Rattle.schemars_shapes.specs.Shape.{entry_of}
 use Rattle.schemars_types.specs.Rows.{defined}
 use Rattle.schemars_types.specs.Edges.{RefersWithin}
-use Rattle.schemars_rows.specs.Slots.{row_of}
+use Rattle.schemars_types.specs.Slots.{row_of}
 use Rattle.schemars_types.proofs.TableLemmas.{map-set_value_at}
 use Rattle.schemars_types.proofs.Within.{within_defined}
 use Rattle.schemars_types.proofs.table.Types.set_entry.Goals as goal

@@ -8,7 +8,7 @@ use Rattle.schemars_shapes.specs.Shape.{tuple}
 use Rattle.schemars_types.specs.Names.{tuple_id, tuple_name}
 use Rattle.schemars_types.specs.Rows.{Row, id_at, name_at, unknown_in}
 use Rattle.schemars_types.proofs.Registered.{unknown_among}
-use Rattle.schemars_json.specs.Json.{Text}
+use Rattle.schemars_schema.specs.Json.{Text}
 use Rattle.schemars_types.proofs.table.Types.tuple.Goals as goal
 
 no_parts : (ns : List ℕ) → (length ns == 0) ≡ true → ns ≡ []

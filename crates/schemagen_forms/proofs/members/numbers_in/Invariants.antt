@@ -1,9 +1,0 @@
--- The numbers so far, and then those that the rest says.
-use Rattle.std.proofs.Common.{◌≡◌, ◌++◌, drop, option_map}
-use Rattle.serde_json.specs.View.{items_view}
-use Rattle.schemagen_forms.specs.Forms.{numbers_in}
-use Rattle.schemagen_forms.proofs.members.numbers_in.Given as goal
-
-abbrev pub invariant-loop-value : goal.invariant-loop-value
-invariant-loop-value l = numbers_in (items_view l.values) ≡ option_map (λ ns. l.numbers.items ++ ns)
-    (numbers_in (items_view (drop l.value-index l.values)))

@@ -1,0 +1,46 @@
+//! Why a value is no input.
+ghost use Rattle.std.specs.Prelude.{◌≡◌};
+ghost use Rattle.schemagen_input.specs.Errors.{as_input};
+
+use schemars_types::TypesError;
+use std::alloc::{AllocError, AllocFailed};
+
+/// Why a value is no input.
+#[derive(Clone, Copy, Debug, PartialEq, Eq)]
+pub enum InputError {
+    /// Memory ran out.
+    OutOfMemory,
+    /// The value is no table with a number for its root.
+    BadTable,
+}
+
+impl From<AllocError> for InputError {
+    ghost use Rattle.schemagen_input.specs.declared.error.InputError.TheVariants.{OutOfMemory};
+
+    ghost from_gives = { λ _ e. e ≡ OutOfMemory };
+
+    fn from(_e: AllocError) -> InputError {
+        InputError::OutOfMemory
+    }
+}
+
+impl<T: Drop> From<AllocFailed<T>> for InputError {
+    ghost use Rattle.schemagen_input.specs.declared.error.InputError.TheVariants.{OutOfMemory};
+
+    ghost from_gives = { λ _ e. e ≡ OutOfMemory };
+
+    fn from(_e: AllocFailed<T>) -> InputError {
+        InputError::OutOfMemory
+    }
+}
+
+impl From<TypesError> for InputError {
+    ghost from_gives = { λ e r. r ≡ as_input e };
+
+    fn from(e: TypesError) -> InputError {
+        match e {
+            TypesError::OutOfMemory => InputError::OutOfMemory,
+            _ => InputError::BadTable,
+        }
+    }
+}

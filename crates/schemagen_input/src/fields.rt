@@ -1,0 +1,175 @@
+//! Fields of structs.
+ghost use Rattle.std.specs.Prelude.{◌≡◌, true, None, Some, IfOk, IfErr, option_map, map, codes};
+ghost use Rattle.serde_json.specs.View.{view, items_view};
+ghost use Rattle.schemars_shapes.specs.Shape.{shape_of, field_of, flattened_of, fields_of, required_of};
+ghost use Rattle.schemagen_input.specs.Forms.{required, required_each, required_in, field_in, fields_in, list_in, fields_said, struct_in};
+ghost use Rattle.schemagen_input.specs.Forms.{optional, flattened_in, all_flattened_in, flatten_in};
+
+use crate::error::InputError;
+use crate::members::{flag_in, has_only, notes_in, number_of, text_in};
+use schemars_types::{Field, Fields, Flattened, Required, Shape};
+use serde_json::Value;
+use std::alloc::Global;
+
+// Whether a member has to be there, said for values that are read and for those that are written.
+fn required_each(value: &Value) -> Option<Required>
+    ensures { option_map required_of result ≡ required_each (view value.now) }
+{
+    if !has_only(value, &["deserialize", "serialize"]) {
+        return None;
+    }
+    let deserialize = value.get("deserialize")?.as_bool()?;
+    let serialize = value.get("serialize")?.as_bool()?;
+    Some(Required {
+        deserialize,
+        serialize,
+    })
+}
+
+fn required_in(value: &Value) -> Option<Required>
+    ensures { option_map required_of result ≡ required_in (view value.now) }
+{
+    match value.as_bool() {
+        Some(both) => Some(Required {
+            deserialize: both,
+            serialize: both,
+        }),
+        None => required_each(value),
+    }
+}
+
+// What a field says under `required`; where that is missing, it has to be there.
+fn need_in(value: &Value) -> Option<Required>
+    ensures { option_map required_of result
+        ≡ optional (required true true) required_in (codes "required") (view value.now) }
+{
+    match value.get("required") {
+        None => Some(Required {
+            deserialize: true,
+            serialize: true,
+        }),
+        Some(need) => required_in(need),
+    }
+}
+
+const FIELD_NAMES: [&str; 4] = ["name", "type", "required", "notes"];
+
+fn field_in(alloc: Global, value: &Value) -> Result<Field, InputError>
+    ensures ok { IfOk result (λ f. field_in (view value.now) ≡ Some (field_of f)) }
+    ensures bad { IfErr result (λ e. e ≡ InputError.BadTable → field_in (view value.now) ≡ None) }
+{
+    if !has_only(value, &FIELD_NAMES) {
+        return Err(InputError::BadTable);
+    }
+    let (Some(name), Some(ty), Some(required)) = (
+        text_in(value, "name"),
+        number_of(value, "type"),
+        need_in(value),
+    ) else {
+        return Err(InputError::BadTable);
+    };
+    let notes = notes_in(alloc, value)?;
+    let name = String::from_str(alloc, name)?;
+    Ok(Field {
+        name,
+        ty,
+        required,
+        notes,
+    })
+}
+
+fn fields_in(alloc: Global, values: &[Value]) -> Result<Vec<Field>, InputError>
+    ensures ok { IfOk result (λ v. fields_in (items_view values.now) ≡ Some (map field_of v.items)) }
+    ensures bad { IfErr result
+        (λ e. e ≡ InputError.BadTable → fields_in (items_view values.now) ≡ None) }
+{
+    let mut fields = Vec::new(alloc);
+    for value in values {
+        let field = field_in(alloc, value)?;
+        fields.push(field)?;
+    }
+    Ok(fields)
+}
+
+// The fields of a struct; there are none where they are missing.
+fn list_in(alloc: Global, value: &Value) -> Result<Vec<Field>, InputError>
+    ensures ok { IfOk result (λ v. list_in (view value.now) ≡ Some (map field_of v.items)) }
+    ensures bad { IfErr result (λ e. e ≡ InputError.BadTable → list_in (view value.now) ≡ None) }
+{
+    let Some(list) = value.get("fields") else {
+        return Ok(Vec::new(alloc));
+    };
+    match list.as_array() {
+        Some(values) => fields_in(alloc, values),
+        None => Err(InputError::BadTable),
+    }
+}
+
+fn flattened_in(value: &Value) -> Option<Flattened>
+    ensures { option_map flattened_of result ≡ flattened_in (view value.now) }
+{
+    if !has_only(value, &["type", "required"]) {
+        return None;
+    }
+    let ty = number_of(value, "type")?;
+    let required = need_in(value)?;
+    Some(Flattened { ty, required })
+}
+
+fn all_flattened_in(alloc: Global, values: &[Value]) -> Result<Vec<Flattened>, InputError>
+    ensures ok { IfOk result (λ v. all_flattened_in (items_view values.now) ≡ Some (map flattened_of v.items)) }
+    ensures bad { IfErr result
+        (λ e. e ≡ InputError.BadTable → all_flattened_in (items_view values.now) ≡ None) }
+{
+    let mut rows = Vec::new(alloc);
+    for value in values {
+        let Some(row) = flattened_in(value) else {
+            return Err(InputError::BadTable);
+        };
+        rows.push(row)?;
+    }
+    Ok(rows)
+}
+
+// The rows flattened into a struct; there are none where they are missing.
+fn flatten_in(alloc: Global, value: &Value) -> Result<Vec<Flattened>, InputError>
+    ensures ok { IfOk result (λ v. flatten_in (view value.now) ≡ Some (map flattened_of v.items)) }
+    ensures bad { IfErr result (λ e. e ≡ InputError.BadTable → flatten_in (view value.now) ≡ None) }
+{
+    let Some(rows) = value.get("flatten") else {
+        return Ok(Vec::new(alloc));
+    };
+    match rows.as_array() {
+        Some(values) => all_flattened_in(alloc, values),
+        None => Err(InputError::BadTable),
+    }
+}
+
+/// The fields of a struct, the rows flattened into it, and whether other keys are excluded.
+pub fn fields_said(alloc: Global, value: &Value) -> Result<Fields, InputError>
+    ensures ok { IfOk result (λ f. fields_said (view value.now) ≡ Some (fields_of f)) }
+    ensures bad { IfErr result (λ e. e ≡ InputError.BadTable → fields_said (view value.now) ≡ None) }
+{
+    if !has_only(value, &["fields", "flatten", "closed"]) {
+        return Err(InputError::BadTable);
+    }
+    let Some(closed) = flag_in(value, "closed") else {
+        return Err(InputError::BadTable);
+    };
+    let list = list_in(alloc, value)?;
+    let flatten = flatten_in(alloc, value)?;
+    Ok(Fields {
+        list,
+        flatten,
+        closed,
+    })
+}
+
+/// A struct.
+pub fn struct_in(alloc: Global, value: &Value) -> Result<Shape, InputError>
+    ensures ok { IfOk result (λ s. struct_in (view value.now) ≡ Some (shape_of s)) }
+    ensures bad { IfErr result (λ e. e ≡ InputError.BadTable → struct_in (view value.now) ≡ None) }
+{
+    let fields = fields_said(alloc, value)?;
+    Ok(Shape::Struct(fields))
+}

@@ -1,0 +1,146 @@
+//! The members of objects, and what single values say.
+ghost use Rattle.std.specs.Prelude.{◌≡◌, false, None, Some, IfOk, IfErr, option_map, string_bytes, map};
+ghost use Rattle.serde_json.specs.View.{view, items_view, members_view};
+ghost use Rattle.schemars_schema.specs.OrderedText.{is_listed};
+ghost use Rattle.schemagen_input.specs.Forms.{has_only, lone_in, number_in, notes_in, kind_named, kind_in, parts_in, numbers_in};
+ghost use Rattle.schemagen_input.specs.Forms.{optional, needed};
+ghost use Rattle.serde_json.specs.Find.{as_bool, as_str};
+
+use crate::error::InputError;
+use schemars_types::{IntKind, TypeNo};
+use serde_json::{Map, Value};
+use std::alloc::{AllocError, Global};
+
+fn is_listed(name: &str, names: &[&str]) -> bool
+    ensures { result ≡ is_listed name.now (map (λ n. n.now) names.now) }
+{
+    for listed in names {
+        if name == *listed {
+            return true;
+        }
+    }
+    false
+}
+
+/// Whether the value is an object whose members all have one of these names.
+pub fn has_only(value: &Value, names: &[&str]) -> bool
+    ensures { result ≡ has_only (map (λ n. n.now) names.now) (view value.now) }
+{
+    let Some(members) = value.as_object() else {
+        return false;
+    };
+    for (name, _) in members.iter() {
+        if !is_listed(name.as_str(), names) {
+            return false;
+        }
+    }
+    true
+}
+
+/// The member of an object that has no other.
+pub fn lone_member(members: &Map<String, Value>) -> Option<(&String, &Value)>
+    ensures { option_map (λ m. (string_bytes m.0.now, view m.1.now)) result
+        ≡ lone_in (members_view members.now.entries) }
+{
+    let mut entries = members.iter();
+    match (entries.next(), entries.next()) {
+        (Some(member), None) => Some(member),
+        _ => None,
+    }
+}
+
+/// A number of a row.
+pub fn number_in(value: &Value) -> Option<TypeNo>
+    ensures { result ≡ number_in (view value.now) }
+{
+    let number = value.as_u64()?;
+    Some(number as usize)
+}
+
+fn numbers_in(alloc: Global, values: &[Value]) -> Result<Option<Vec<TypeNo>>, AllocError>
+    ensures { IfOk result (λ r. option_map (λ v. v.items) r ≡ numbers_in (items_view values.now)) }
+{
+    let mut numbers = Vec::new(alloc);
+    for value in values {
+        let Some(n) = number_in(value) else {
+            return Ok(None);
+        };
+        numbers.push(n)?;
+    }
+    Ok(Some(numbers))
+}
+
+/// The rows that a list says.
+pub fn parts_in(alloc: Global, value: &Value) -> Result<Option<Vec<TypeNo>>, AllocError>
+    ensures { IfOk result (λ r. option_map (λ v. v.items) r ≡ parts_in (view value.now)) }
+{
+    match value.as_array() {
+        Some(values) => numbers_in(alloc, values),
+        None => Ok(None),
+    }
+}
+
+fn kind_named(name: &str) -> Option<IntKind>
+    ensures { result ≡ kind_named name.now }
+{
+    match name {
+        "i8" => Some(IntKind::I8),
+        "i16" => Some(IntKind::I16),
+        "i32" => Some(IntKind::I32),
+        "i64" => Some(IntKind::I64),
+        "i128" => Some(IntKind::I128),
+        "isize" => Some(IntKind::Isize),
+        "u8" => Some(IntKind::U8),
+        "u16" => Some(IntKind::U16),
+        "u32" => Some(IntKind::U32),
+        "u64" => Some(IntKind::U64),
+        "u128" => Some(IntKind::U128),
+        "usize" => Some(IntKind::Usize),
+        _ => None,
+    }
+}
+
+/// A kind of whole number.
+pub fn kind_in(value: &Value) -> Option<IntKind>
+    ensures { result ≡ kind_in (view value.now) }
+{
+    kind_named(value.as_str()?)
+}
+
+/// The text of a member that has to be there.
+pub fn text_in<'v>(value: &'v Value, name: &str) -> Option<&'v str>
+    ensures { option_map (λ t. t.now) result ≡ needed as_str name.now (view value.now) }
+{
+    value.get(name)?.as_str()
+}
+
+/// The number of a member that has to be there.
+pub fn number_of(value: &Value, name: &str) -> Option<TypeNo>
+    ensures { result ≡ needed number_in name.now (view value.now) }
+{
+    number_in(value.get(name)?)
+}
+
+/// The truth value of a member; one that is missing is false.
+pub fn flag_in(value: &Value, name: &str) -> Option<bool>
+    ensures { result ≡ optional false as_bool name.now (view value.now) }
+{
+    match value.get(name) {
+        None => Some(false),
+        Some(flag) => flag.as_bool(),
+    }
+}
+
+/// The notes of a row, a field or a variant: none where they are missing.
+pub fn notes_in(alloc: Global, value: &Value) -> Result<Map<String, Value>, InputError>
+    ensures ok { IfOk result (λ m. notes_in (view value.now) ≡ Some (members_view m.entries)) }
+    ensures bad { IfErr result (λ e. e ≡ InputError.BadTable → notes_in (view value.now) ≡ None) }
+{
+    let Some(notes) = value.get("notes") else {
+        return Ok(Map::new(alloc));
+    };
+    match notes.clone()? {
+        Value::Object(members) => Ok(members),
+        _ => Err(InputError::BadTable),
+    }
+}

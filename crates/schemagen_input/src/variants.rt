@@ -1,0 +1,229 @@
+//! Variants of enums.
+ghost use Rattle.std.specs.Prelude.{◌≡◌, None, Some, IfOk, IfErr, option_map, option_and_then, map, codes};
+ghost use Rattle.serde_json.specs.View.{view, items_view};
+ghost use Rattle.schemars_shapes.specs.Shape.{shape_of, no_payload, payload_of, variant_of, internal_payload_of, internal_variant_of};
+ghost use Rattle.schemagen_input.specs.Forms.{payload_named, payload_under, payload_in, variant_in, variants_in};
+ghost use Rattle.schemagen_input.specs.Forms.{enum_in, external_in, untagged_in};
+ghost use Rattle.schemagen_input.specs.Forms.{payload_inside, variant_inside, internals_in, internals_said, internal_in, optional};
+
+use crate::error::InputError;
+use crate::fields::fields_said;
+use crate::members::{flag_in, has_only, lone_member, notes_in, number_in, parts_in, text_in};
+use schemars_types::{Internal, InternalPayload, InternalVariant, Payload, Shape, Variant};
+use serde_json::Value;
+use std::alloc::Global;
+
+fn payload_named(name: &str) -> Option<Payload>
+    ensures { option_map payload_of result ≡ payload_named name.now }
+{
+    match name {
+        "unit" => Some(Payload::Unit),
+        _ => None,
+    }
+}
+
+// What an object with this one member says that a variant has beside its name.
+fn payload_under(alloc: Global, name: &str, value: &Value) -> Result<Payload, InputError>
+    ensures ok { IfOk result (λ p. payload_under name.now (view value.now) ≡ Some (payload_of p)) }
+    ensures bad { IfErr result
+        (λ e. e ≡ InputError.BadTable → payload_under name.now (view value.now) ≡ None) }
+{
+    match name {
+        "newtype" => match number_in(value) {
+            Some(n) => Ok(Payload::Newtype(n)),
+            None => Err(InputError::BadTable),
+        },
+        "tuple" => match parts_in(alloc, value)? {
+            Some(parts) => Ok(Payload::Tuple(parts)),
+            None => Err(InputError::BadTable),
+        },
+        "struct" => {
+            let fields = fields_said(alloc, value)?;
+            Ok(Payload::Struct(fields))
+        }
+        _ => Err(InputError::BadTable),
+    }
+}
+
+fn payload_in(alloc: Global, value: &Value) -> Result<Payload, InputError>
+    ensures ok { IfOk result (λ p. payload_in (view value.now) ≡ Some (payload_of p)) }
+    ensures bad { IfErr result (λ e. e ≡ InputError.BadTable → payload_in (view value.now) ≡ None) }
+{
+    match value {
+        Value::String(name) => payload_named(name.as_str()).ok_or(InputError::BadTable),
+        Value::Object(members) => {
+            let Some((name, part)) = lone_member(members) else {
+                return Err(InputError::BadTable);
+            };
+            payload_under(alloc, name.as_str(), part)
+        }
+        _ => Err(InputError::BadTable),
+    }
+}
+
+// What a variant says under `payload`; where that is missing, it is a unit.
+fn payload_said(alloc: Global, value: &Value) -> Result<Payload, InputError>
+    ensures ok { IfOk result (λ p. optional no_payload payload_in (codes "payload") (view value.now)
+        ≡ Some (payload_of p)) }
+    ensures bad { IfErr result (λ e. e ≡ InputError.BadTable
+        → optional no_payload payload_in (codes "payload") (view value.now) ≡ None) }
+{
+    match value.get("payload") {
+        None => Ok(Payload::Unit),
+        Some(payload) => payload_in(alloc, payload),
+    }
+}
+
+const VARIANT_KEYS: [&str; 3] = ["name", "notes", "payload"];
+
+fn variant_in(alloc: Global, value: &Value) -> Result<Variant, InputError>
+    ensures ok { IfOk result (λ x. variant_in (view value.now) ≡ Some (variant_of x)) }
+    ensures bad { IfErr result (λ e. e ≡ InputError.BadTable → variant_in (view value.now) ≡ None) }
+{
+    if !has_only(value, &VARIANT_KEYS) {
+        return Err(InputError::BadTable);
+    }
+    let Some(name) = text_in(value, "name") else {
+        return Err(InputError::BadTable);
+    };
+    let notes = notes_in(alloc, value)?;
+    let payload = payload_said(alloc, value)?;
+    let name = String::from_str(alloc, name)?;
+    Ok(Variant {
+        name,
+        notes,
+        payload,
+    })
+}
+
+fn variants_in(alloc: Global, values: &[Value]) -> Result<Vec<Variant>, InputError>
+    ensures ok { IfOk result (λ v. variants_in (items_view values.now) ≡ Some (map variant_of v.items)) }
+    ensures bad { IfErr result
+        (λ e. e ≡ InputError.BadTable → variants_in (items_view values.now) ≡ None) }
+{
+    let mut variants = Vec::new(alloc);
+    for value in values {
+        let variant = variant_in(alloc, value)?;
+        variants.push(variant)?;
+    }
+    Ok(variants)
+}
+
+// The variants of an enum; there are none where they are missing.
+fn enum_in(alloc: Global, value: &Value) -> Result<Vec<Variant>, InputError>
+    ensures ok { IfOk result (λ v. enum_in (view value.now) ≡ Some (map variant_of v.items)) }
+    ensures bad { IfErr result (λ e. e ≡ InputError.BadTable → enum_in (view value.now) ≡ None) }
+{
+    if !has_only(value, &["variants"]) {
+        return Err(InputError::BadTable);
+    }
+    let Some(variants) = value.get("variants") else {
+        return Ok(Vec::new(alloc));
+    };
+    match variants.as_array() {
+        Some(values) => variants_in(alloc, values),
+        None => Err(InputError::BadTable),
+    }
+}
+
+/// An enum whose variants are tagged by their names.
+pub fn external_in(alloc: Global, value: &Value) -> Result<Shape, InputError>
+    ensures ok { IfOk result (λ s. external_in (view value.now) ≡ Some (shape_of s)) }
+    ensures bad { IfErr result (λ e. e ≡ InputError.BadTable → external_in (view value.now) ≡ None) }
+{
+    let variants = enum_in(alloc, value)?;
+    Ok(Shape::External(variants))
+}
+
+/// An enum whose variants are tagged by nothing.
+pub fn untagged_in(alloc: Global, value: &Value) -> Result<Shape, InputError>
+    ensures ok { IfOk result (λ s. untagged_in (view value.now) ≡ Some (shape_of s)) }
+    ensures bad { IfErr result (λ e. e ≡ InputError.BadTable → untagged_in (view value.now) ≡ None) }
+{
+    let variants = enum_in(alloc, value)?;
+    Ok(Shape::Untagged(variants))
+}
+
+fn payload_inside(payload: Payload) -> Option<InternalPayload>
+    ensures { option_map internal_payload_of result ≡ payload_inside (payload_of payload) }
+{
+    match payload {
+        Payload::Unit => Some(InternalPayload::Unit),
+        Payload::Newtype(n) => Some(InternalPayload::Newtype(n)),
+        Payload::Tuple(_) => None,
+        Payload::Struct(fields) => Some(InternalPayload::Struct(fields)),
+    }
+}
+
+// A variant that has fields, the members of a row, or nothing beside its tag.
+fn variant_inside(variant: Variant) -> Option<InternalVariant>
+    ensures { option_map internal_variant_of result ≡ variant_inside (variant_of variant) }
+{
+    let Variant {
+        name,
+        notes,
+        payload,
+    } = variant;
+    let payload = payload_inside(payload)?;
+    Some(InternalVariant {
+        name,
+        notes,
+        payload,
+    })
+}
+
+fn internals_in(alloc: Global, values: &[Value]) -> Result<Vec<InternalVariant>, InputError>
+    ensures ok { IfOk result (λ v. internals_in (items_view values.now) ≡ Some (map internal_variant_of v.items)) }
+    ensures bad { IfErr result
+        (λ e. e ≡ InputError.BadTable → internals_in (items_view values.now) ≡ None) }
+{
+    let mut variants = Vec::new(alloc);
+    for value in values {
+        let variant = internal_variant_in(alloc, value)?;
+        variants.push(variant)?;
+    }
+    Ok(variants)
+}
+
+fn internal_variant_in(alloc: Global, value: &Value) -> Result<InternalVariant, InputError>
+    ensures ok { IfOk result (λ x. option_and_then variant_inside (variant_in (view value.now)) ≡ Some (internal_variant_of x)) }
+    ensures bad { IfErr result
+        (λ e. e ≡ InputError.BadTable → option_and_then variant_inside (variant_in (view value.now)) ≡ None) }
+{
+    let variant = variant_in(alloc, value)?;
+    variant_inside(variant).ok_or(InputError::BadTable)
+}
+
+// The variants beside a tag; there are none where they are missing.
+fn internals_said(alloc: Global, value: &Value) -> Result<Vec<InternalVariant>, InputError>
+    ensures ok { IfOk result (λ v. internals_said (view value.now) ≡ Some (map internal_variant_of v.items)) }
+    ensures bad { IfErr result (λ e. e ≡ InputError.BadTable → internals_said (view value.now) ≡ None) }
+{
+    let Some(variants) = value.get("variants") else {
+        return Ok(Vec::new(alloc));
+    };
+    match variants.as_array() {
+        Some(values) => internals_in(alloc, values),
+        None => Err(InputError::BadTable),
+    }
+}
+
+/// An enum whose variants are named by a member of their own maps.
+pub fn internal_in(alloc: Global, value: &Value) -> Result<Shape, InputError>
+    ensures ok { IfOk result (λ s. internal_in (view value.now) ≡ Some (shape_of s)) }
+    ensures bad { IfErr result (λ e. e ≡ InputError.BadTable → internal_in (view value.now) ≡ None) }
+{
+    if !has_only(value, &["tag", "closed", "variants"]) {
+        return Err(InputError::BadTable);
+    }
+    let (Some(tag), Some(closed)) = (text_in(value, "tag"), flag_in(value, "closed")) else {
+        return Err(InputError::BadTable);
+    };
+    let variants = internals_said(alloc, value)?;
+    let tag = String::from_str(alloc, tag)?;
+    Ok(Shape::Internal(Internal {
+        tag,
+        closed,
+        variants,
+    }))
+}

@@ -1,0 +1,36 @@
+use Rattle.std.proofs.Common.{◌≡◌, None, Option, MutBor, ap, sym, ◌∙◌, subst, is_some, option_map}
+use Rattle.std.specs.Option.{OnSome}
+use Rattle.serde_json.specs.Data.{object}
+use Rattle.serde_json.specs.Find.{as_object, get_member}
+use Rattle.serde_json.specs.View.{view}
+use Rattle.serde_json.specs.declared.value.Value.{Value}
+use Rattle.schemars_schema.specs.SchemaData.{members_in}
+use Rattle.schemars_schema.specs.Edits.{replaced}
+use Rattle.schemars_build.proofs.Members.{replaced-absent, get-object}
+use Rattle.schemars_build.proofs.work.set_member.Goals as goal
+
+pub returns-in-Some-clause-members : goal.returns-in-Some-clause-members
+returns-in-Some-clause-members c =
+    let now = c.get_mut.follows.lender c.to_value.result in
+    let P : Option (MutBor Value) → Type 0 = λ r. OnSome r (now ≡ object
+    (replaced c.args.key.now (view c.to_value.result) (members_in c.args.object.now))) in
+    let e : now ≡ object (replaced c.args.key.now (view c.to_value.result) (members_in c.args.object.now)) =
+    subst P c.in-Some.is (c.get_mut.follows.holds c.to_value.result) in
+    ap members_in e ∙ ap (λ d. replaced c.args.key.now d (members_in c.args.object.now)) c.to_value.ensures.value
+
+pub returns-in-Some-clause-object : goal.returns-in-Some-clause-object
+returns-in-Some-clause-object c =
+    let now = c.get_mut.follows.lender c.to_value.result in
+    let P : Option (MutBor Value) → Type 0 = λ r. OnSome r (now ≡ object
+    (replaced c.args.key.now (view c.to_value.result) (members_in c.args.object.now))) in
+    let e : now ≡ object (replaced c.args.key.now (view c.to_value.result) (members_in c.args.object.now)) =
+    subst P c.in-Some.is (c.get_mut.follows.holds c.to_value.result) in
+    ap (λ d. is_some (as_object d)) e
+
+pub returns-in_default-clause-members : goal.returns-in_default-clause-members
+returns-in_default-clause-members c =
+    let same = c.get_mut.follows.holds-at-none in
+    let absent : get_member c.args.key.now (members_in c.args.object.now) ≡ None =
+    sym (get-object c.args.key.now c.args.object.now c.requires) ∙ (sym c.get_mut.ensures.value
+    ∙ ap (option_map (λ v. view v.now)) c.in_default.is) in
+    ap members_in same ∙ sym (replaced-absent c.args.key.now c.args.schema (members_in c.args.object.now) absent)

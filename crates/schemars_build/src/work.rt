@@ -1,0 +1,309 @@
+//! What documents are made into.
+ghost use Rattle.std.specs.Prelude.{ℕ, List, true, false, map, ◌≡◌, ◌∷◌, ◌++◌, ◌||◌, [], None, Some, length};
+ghost use Rattle.std.specs.Prelude.{IfOk, OnOk, OnErr, is_some, string_bytes, not, ◌&&◌, if◌then◌else◌};
+ghost use Rattle.serde_json.specs.Data.{boolean, put, no_members};
+ghost use Rattle.serde_json.specs.Find.{get_member, as_object};
+ghost use Rattle.schemars_schema.specs.SchemaData.{members_in};
+ghost use Rattle.serde_json.specs.View.{members_view};
+ghost use Rattle.schemars_schema.specs.Edits.{replaced};
+ghost use Rattle.schemars_build.specs.Naming.{name_of, IsOneToOne};
+ghost use Rattle.schemars_documents.specs.declared.contract.Contract.{Contract};
+ghost use Rattle.schemars_build.specs.Placed.{is_pending, pending_in};
+ghost use Rattle.schemars_build.specs.Work.{GivesNames, undone, without_all, without_last};
+ghost use Rattle.std.specs.Borrow.{Lends, sem};
+ghost use Rattle.serde_json.specs.Rows.{map_row};
+
+use crate::names::Names;
+use crate::pending::Pending;
+use schemars_documents::Contract;
+use schemars_schema::Schema;
+use schemars_types::{TypeNo, Types};
+use serde_json::{Map, Value};
+use std::alloc::{AllocError, Global};
+use std::marker::Model;
+
+/// The names and definitions that documents are made into, and what a call has added to them.
+#[derive(Drop)]
+pub struct Work {
+    names: Names,
+    // an object, kept as a schema for its exact edits
+    definitions: Schema,
+    begun: Vec<String>,
+    kept: usize,
+    meets_root: bool,
+    pending: Pending,
+}
+
+impl Model for Work {
+    ghost use Rattle.std.specs.Prelude.{◌≡◌, ◌≤◌, true, map, length, is_some, string_bytes};
+    ghost use Rattle.std.specs.Coded.{codes};
+    ghost use Rattle.serde_json.specs.Find.{as_object};
+    ghost use Rattle.schemars_schema.specs.SchemaData.{members_in};
+    ghost use Rattle.schemars_schema.specs.DataCode.{members_code};
+    ghost use Rattle.schemars_build.specs.Work as specs;
+
+    ghost Value = { specs.Work };
+
+    ghost coded = { Prim.hlevel (codes, members_code) };
+
+    ghost view = { λ w. record {
+      names = w.names;
+      definitions = members_in w.definitions;
+      begun = map string_bytes w.begun.items;
+      kept = w.kept;
+      meets_root = w.meets_root;
+      pending = w.pending;
+    } };
+
+    ghost invariant = { λ w. (is_some (as_object w.definitions) ≡ true) × (w.kept ≤ length w.names) };
+}
+
+impl Clone for Work {
+    ghost use Rattle.std.specs.Prelude.{◌≡◌};
+
+    ghost is_clone = { λ v w. w ≡ v };
+
+    fn clone(&self) -> Result<Work, AllocError> {
+        Ok(Work {
+            names: self.names.clone()?,
+            definitions: self.definitions.clone()?,
+            begun: self.begun.clone()?,
+            kept: self.kept,
+            meets_root: self.meets_root,
+            pending: self.pending.clone()?,
+        })
+    }
+}
+
+impl Work {
+    ghost use Rattle.schemars_build.specs.contracts.work.Work.{the_row};
+
+    /// No names and no definitions.
+    pub fn new(alloc: Global) -> Work
+        ensures { result ≡ record {
+          names = [];
+          definitions = no_members;
+          begun = [];
+          kept = 0;
+          meets_root = false;
+          pending = [];
+        } }
+    {
+        Work {
+            names: Names::new(alloc),
+            definitions: Schema::default(alloc),
+            begun: Vec::new(alloc),
+            kept: 0,
+            meets_root: false,
+            pending: Pending::new(alloc),
+        }
+    }
+
+    /// Makes room for what is noted of this many rows.
+    pub fn extend(&mut self, rows: usize) -> Result<(), AllocError>
+        ensures { self.new ≡ self.old }
+    {
+        self.names.extend(rows)?;
+        self.pending.extend(rows)
+    }
+
+    /// Whether there is a definition of this name.
+    pub fn has_definition(&self, name: &str) -> bool
+        ensures { result ≡ is_some (get_member name.now self.now.definitions) }
+    {
+        self.definitions.get(name).is_some()
+    }
+
+    /// The name of row `n`, which is given one if it has none.
+    pub fn name_for(
+        &mut self,
+        alloc: Global,
+        types: &Types,
+        contract: Contract,
+        n: TypeNo,
+    ) -> Result<String, AllocError>
+        ensures named { IfOk result (λ s. name_of n contract self.new.names ≡ Some (string_bytes s)) }
+        ensures given { OnOk result (GivesNames types.now self.old.names self.new.names) }
+        ensures no_other { OnOk result ((m : ℕ) (c : Contract) (name : List ℕ) → name_of m c self.old.names ≡ None
+            → name_of m c self.new.names ≡ Some name → (m ≡ n) × (c ≡ contract)) }
+        ensures rest { self.new ≡ record self.old { names = self.new.names } }
+        ensures undone { undone self.new ≡ undone self.old }
+    {
+        if let Some(name) = self.names.get(n, contract) {
+            let name = String::from_str(alloc, name)?;
+            return Ok(name);
+        }
+        let base = types.name(n).unwrap_or("");
+        let name = self.names.give(alloc, n, contract, base)?;
+        Ok(name)
+    }
+
+    /// Begins a definition, which is `false` until it is finished.
+    pub fn begin(&mut self, alloc: Global, name: &str) -> Result<(), AllocError>
+        ensures ok { OnOk result (self.new ≡ record self.old {
+          definitions = put name.now (boolean false) self.old.definitions;
+          begun = self.old.begun ++ name.now ∷ [];
+        }) }
+        ensures err { OnErr result (self.new ≡ self.old) }
+    {
+        let key = String::from_str(alloc, name)?;
+        self.begun.push(String::from_str(alloc, name)?)?;
+        if let Err(e) = self.definitions.insert(alloc, key, Value::Bool(false)) {
+            let _ = self.begun.pop();
+            return Err(e);
+        }
+        Ok(())
+    }
+
+    /// Puts a definition that was begun in its place.
+    pub fn finish(&mut self, name: &str, schema: Schema)
+        ensures { self.new ≡ record self.old { definitions = replaced name.now schema self.old.definitions } }
+    {
+        set_member(&mut self.definitions, name, schema);
+    }
+
+    /// Notes that the root was referred to, where a definition does so.
+    pub fn meet_root(&mut self, in_definition: bool)
+        ensures { self.new ≡ record self.old { meets_root = self.old.meets_root || in_definition } }
+    {
+        self.meets_root = self.meets_root || in_definition;
+    }
+
+    /// Whether a definition that was added refers to the root.
+    pub fn meets_root(&self) -> bool
+        ensures { result ≡ self.now.meets_root }
+    {
+        self.meets_root
+    }
+
+    /// Whether the document of row `n` is being made.
+    pub fn is_pending(&self, n: TypeNo) -> bool
+        ensures { result ≡ is_pending self.now.pending n }
+    {
+        self.pending.contains(n)
+    }
+
+    /// Notes, where rows are inlined, that the document of row `n` is being made. The answer is whether
+    /// it was not noted before.
+    pub fn enter(&mut self, inlines: bool, n: TypeNo) -> Result<bool, AllocError>
+        ensures is_new { IfOk result (λ b. b ≡ inlines && not (is_pending self.old.pending n)) }
+        ensures ok { OnOk result (self.new ≡ record self.old { pending = pending_in inlines self.old.pending n }) }
+        ensures err { OnErr result (self.new ≡ self.old) }
+    {
+        if !inlines {
+            return Ok(false);
+        }
+        let is_new = self.pending.enter(n)?;
+        Ok(is_new)
+    }
+
+    /// Notes that the document of the row that was entered last is made, where one was.
+    pub fn leave(&mut self, entered: bool)
+        ensures { self.new
+            ≡ record self.old { pending = if entered then without_last self.old.pending else self.old.pending } }
+    {
+        if entered {
+            self.pending.leave();
+        }
+    }
+
+    /// The definitions.
+    pub fn definitions(&self) -> &Map<String, Value>
+        ensures { members_view result.now.entries ≡ self.now.definitions }
+    {
+        match self.definitions.as_object() {
+            Some(definitions) => definitions,
+            None => unreachable!(),
+        }
+    }
+
+    /// The definitions, for writing.
+    pub fn definitions_mut(&mut self) -> &mut Map<String, Value>
+        ensures* writes_back { sem 𝓛 (Lends the_row map_row self.entry result
+            (λ m. record self.old { definitions = members_view m.entries })) }
+        ensures value { members_view result.now.entries ≡ self.old.definitions }
+    {
+        match self.definitions.as_object_mut() {
+            Some(definitions) => definitions,
+            None => unreachable!(),
+        }
+    }
+
+    /// A copy of the definitions.
+    pub fn copy_definitions(&self) -> Result<Map<String, Value>, AllocError>
+        ensures { IfOk result (λ m. members_view m.entries ≡ self.now.definitions) }
+    {
+        match self.definitions.clone()?.to_value() {
+            Value::Object(definitions) => Ok(definitions),
+            _ => unreachable!(),
+        }
+    }
+
+    /// Takes the definitions.
+    pub fn take_definitions(&mut self, alloc: Global) -> Map<String, Value>
+        ensures taken { members_view result.entries ≡ self.old.definitions }
+        ensures rest { self.new ≡ record self.old { definitions = no_members } }
+    {
+        let definitions = std::mem::replace(&mut self.definitions, Schema::default(alloc));
+        match definitions.to_value() {
+            Value::Object(members) => members,
+            _ => unreachable!(),
+        }
+    }
+
+    /// Keeps what was added.
+    pub fn keep(&mut self)
+        ensures one_to_one { IsOneToOne self.old.names }
+        ensures kept { self.new ≡ record self.old { begun = []; kept = length self.old.names; meets_root = false } }
+    {
+        self.begun.clear();
+        self.kept = self.names.len();
+        self.meets_root = false;
+    }
+
+    /// Keeps the names that were added, and takes the definitions back.
+    pub fn forget(&mut self)
+        ensures one_to_one { IsOneToOne self.old.names }
+        ensures kept { self.new ≡ record self.old {
+          definitions = without_all self.old.begun self.old.definitions;
+          begun = [];
+          kept = length self.old.names;
+          meets_root = false;
+        } }
+    {
+        take_out(&mut self.definitions, &mut self.begun);
+        self.keep();
+    }
+
+    /// Takes back what was added.
+    pub fn undo(&mut self)
+        ensures { self.new ≡ undone self.old }
+    {
+        self.names.truncate(self.kept);
+        self.pending.clear();
+        self.forget();
+    }
+}
+
+fn set_member(object: &mut Schema, key: &str, schema: Schema)
+    requires { is_some (as_object object.old) ≡ true }
+    ensures members { members_in object.new ≡ replaced key.now schema (members_in object.old) }
+    ensures object { is_some (as_object object.new) ≡ true }
+{
+    if let Some(member) = object.get_mut(key) {
+        *member = schema.to_value();
+    }
+}
+
+// Removes the members of these keys, the last first.
+fn take_out(object: &mut Schema, keys: &mut Vec<String>)
+    requires { is_some (as_object object.old) ≡ true }
+    ensures members { members_in object.new
+        ≡ without_all (map string_bytes keys.old.items) (members_in object.old) }
+    ensures object { is_some (as_object object.new) ≡ true }
+    ensures keys { keys.new.items ≡ [] }
+{
+    while let Some(key) = keys.pop() {
+        let _ = object.remove(key.as_str());
+    }
+}

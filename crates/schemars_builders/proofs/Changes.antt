@@ -1,0 +1,51 @@
+-- A member that is changed where it stands, and one that joins.
+use Rattle.std.proofs.Common.{◌≡◌, ℕ, List, Option, Some, None, option_map, is_some, nat_cmp, string_bytes, refl, ap, ◌∙◌}
+use Rattle.std.specs.Cmp.Lexicographic.{slice_cmp}
+use Rattle.std.specs.Map.{lookup, set_value}
+use Rattle.std.specs.BTreeMap.{is_at}
+use Rattle.serde_json.specs.Data.{Data, null, boolean, number, string, array, object, Items, Members, put}
+use Rattle.serde_json.specs.Find.{get_member, as_array}
+use Rattle.serde_json.specs.View.{view, members_view}
+use Rattle.serde_json.specs.declared.value.Value.{Value}
+use Rattle.serde_json.proofs.Views.{Entry, view-lookup}
+use Rattle.schemars_schema.specs.Edits.{replaced}
+use Rattle.schemars_schema.proofs.MapEdits.{members_view-set_value}
+use Rattle.schemars_builders.specs.Properties.{changed_at}
+
+pub changed_there : (k : List ℕ) (es : List Entry) (old new : Value) (change : Data → Data) (d : Data)
+    → Some (view old) ≡ get_member k (members_view es) → view new ≡ change (view old)
+    → members_view (set_value (is_at (λ l. slice_cmp nat_cmp k (string_bytes l))) es new) ≡ changed_at k change d (members_view es)
+changed_there k es old new change d found is =
+    members_view-set_value k es new
+    ∙ (ap (λ e. replaced k e (members_view es)) is ∙ there (get_member k (members_view es)) found)
+  where
+    there : (o : Option Data) → Some (view old) ≡ o → replaced k (change (view old)) (members_view es)
+        ≡ elim o [ None ↦ put k (change d) (members_view es) | Some e ↦ replaced k (change e) (members_view es) ]
+    there (Some e) same = let is : view old ≡ e = cc in ap (λ f. replaced k (change f) (members_view es)) is
+    there None same = cc
+
+pub changed_missing : (k : List ℕ) (old ms : Members) (change : Data → Data) (d e : Data)
+    → None ≡ get_member k ms → e ≡ change d → old ≡ ms → put k e old ≡ changed_at k change d ms
+changed_missing k old ms change d e missing made same =
+    ap (λ f. put k f old) made ∙ (ap (put k (change d)) same ∙ absent (get_member k ms) missing)
+  where
+    absent : (o : Option Data) → None ≡ o → put k (change d) ms
+        ≡ elim o [ None ↦ put k (change d) ms | Some f ↦ replaced k (change f) ms ]
+    absent None same = refl
+    absent (Some f) same = cc
+
+some_seen : (o : Option Value) → is_some o ≡ is_some (option_map view o)
+some_seen None = refl
+some_seen (Some v) = refl
+
+pub is_there : (k : List ℕ) (es : List Entry)
+    → is_some (lookup (is_at (λ l. slice_cmp nat_cmp k (string_bytes l))) es) ≡ is_some (get_member k (members_view es))
+is_there k es = some_seen (lookup (is_at (λ l. slice_cmp nat_cmp k (string_bytes l))) es) ∙ ap is_some (view-lookup k es)
+
+pub array-as_array : (d : Data) (ds : Items) → Some ds ≡ as_array d → d ≡ array ds
+array-as_array (array es) ds e = cc
+array-as_array null ds e = cc
+array-as_array (boolean b) ds e = cc
+array-as_array (number n) ds e = cc
+array-as_array (string s) ds e = cc
+array-as_array (object ms) ds e = cc

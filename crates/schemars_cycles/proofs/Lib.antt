@@ -1,3 +1,0 @@
-pub mod GraphLemmas
-pub mod Reaching
-pub mod Heights

@@ -1,2 +1,0 @@
-pub mod Dialects
-pub mod Taken

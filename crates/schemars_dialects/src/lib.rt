@@ -1,2 +1,0 @@
-//! That generators' documents mean their types in the older drafts too.
-#![tactic(auto)]

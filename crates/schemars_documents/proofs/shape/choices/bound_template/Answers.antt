@@ -1,0 +1,5 @@
+use Rattle.std.proofs.Common.{rules}
+use Rattle.schemars_documents.proofs.shape.choices.bound_template.Goals as goal
+
+pub returns : goal.returns
+returns c = search rules

@@ -1,0 +1,9 @@
+use Rattle.std.proofs.Common.{◌≡◌, ◌++◌, map, drop}
+use Rattle.schemars_shapes.specs.Shape.{field_of}
+use Rattle.schemars_documents.specs.View.{keyword_view}
+use Rattle.schemars_documents.specs.OfShape.{property}
+use Rattle.schemars_documents.proofs.shape.maps.properties.Given as goal
+
+abbrev pub invariant-loop-field : goal.invariant-loop-field
+invariant-loop-field l =
+    map keyword_view l.properties.items ++ map property (map field_of (drop l.field-index l.fields)) ≡ map property (map field_of l.fields)

@@ -1,0 +1,265 @@
+-- The document of each shape, as a template.
+use Rattle.std.specs.Prelude.{ℕ, zero, suc, List, [], ◌∷◌, ◌++◌, length, map, filter, Bool, true, false, not, Option}
+use Rattle.std.specs.Prelude.{Some, None}
+use Rattle.std.specs.Prelude.{if◌then◌else◌, codes, bytes_eq}
+use Rattle.serde_json.specs.Data.{Data, boolean, number, unsigned, string, array, Items, item, no_items, Members, no_members, member}
+use Rattle.schemars_schema.specs.Json.{Text}
+use Rattle.schemars_schema.specs.SchemaData.{is_schema}
+use Rattle.schemars_builders.specs.NullLaw.{text_items}
+use Rattle.schemars_builders.specs.Variants.{unit_variant}
+use Rattle.schemars_shapes.specs.Shape as shape
+use Rattle.schemars_shapes.specs.Shape.{Shape, Field, Flattened, Fields, Entry, Variant}
+use Rattle.schemars_shapes.specs.Shape.{Payload, no_payload, newtype_payload, tuple_payload, struct_payload}
+use Rattle.schemars_types.specs.Meaning.{Contract, is_required}
+use Rattle.schemars_types.specs.KeyOptions.{KeyOptions, keys, key_options}
+use Rattle.schemars_shapes.specs.declared.shape.IntegerKeys.{IntegerKeys}
+use Rattle.schemars_shapes.specs.IntegerKeys.{pattern_of}
+use Rattle.schemars_shapes.specs.Units.{is_bare_unit}
+use Rattle.schemars_documents.specs.Documents.{type_alone, int_document, non_zero_document, char_document}
+use Rattle.schemars_documents.specs.Documents.{formatted_document, empty_list_document, bytes_document, schema_document}
+use Rattle.schemars_documents.specs.Documents.{required_names}
+use Rattle.schemars_documents.specs.Template.{Template, finished, asked, row, list, members, nullable, noted, with_keywords}
+use Rattle.schemars_documents.specs.Template.{tagged, members_of, content, Templates}
+use Rattle.schemars_documents.specs.Template.{no_templates, template}
+use Rattle.schemars_documents.specs.Basis.{Basis}
+
+abbrev pub templates_of : List Template → Templates
+templates_of [] = no_templates
+templates_of (t ∷ ts) = template t (templates_of ts)
+
+abbrev pub KeywordTemplate : Type 0
+KeywordTemplate = Text × Template
+
+-- an object with these keywords
+abbrev pub object_with : List KeywordTemplate → Template
+object_with es = members (map (λ e. e.0) es) (templates_of (map (λ e. e.1) es))
+
+abbrev pub said : Text → Data → KeywordTemplate
+said key d = (key, finished d)
+
+abbrev pub typed : Text → KeywordTemplate
+typed name = said (codes "type") (string name)
+
+abbrev pub count_at : Text → ℕ → KeywordTemplate
+count_at key n = said key (number (unsigned n))
+
+-- ---- lists
+
+-- a list with these items, and what else is said of it
+abbrev pub list_template : ℕ → List KeywordTemplate → Template
+list_template n rest = object_with (typed (codes "array") ∷ (codes "items", row n) ∷ rest)
+
+abbrev pub set_template : ℕ → Template
+set_template n = list_template n (said (codes "uniqueItems") (boolean true) ∷ [])
+
+abbrev pub up_to_template : ℕ → ℕ → Template
+up_to_template n cap = list_template n (count_at (codes "maxItems") cap ∷ [])
+
+abbrev pub exactly : ℕ → List KeywordTemplate
+exactly n = count_at (codes "minItems") n ∷ count_at (codes "maxItems") n ∷ []
+
+-- a list of no items is so whatever they would be
+abbrev pub array_template : ℕ → ℕ → Template
+array_template n zero = finished empty_list_document
+array_template n (suc len) = list_template n (exactly (suc len))
+
+-- a list of one item for each part
+abbrev pub tuple_template : List ℕ → Template
+tuple_template [] = finished empty_list_document
+tuple_template (n ∷ ns) =
+    object_with (typed (codes "array") ∷ (codes "prefixItems", list (templates_of (map row (n ∷ ns)))) ∷ exactly (length (n ∷ ns)))
+
+-- ---- structs
+
+abbrev pub property : Field → KeywordTemplate
+property x = (x.name, noted x.notes (row x.ty))
+
+abbrev pub properties_at : List KeywordTemplate → List KeywordTemplate
+properties_at [] = []
+properties_at (e ∷ es) = (codes "properties", object_with (e ∷ es)) ∷ []
+
+abbrev pub required_at : Items → List KeywordTemplate
+required_at no_items = []
+required_at (item d ds) = said (codes "required") (array (item d ds)) ∷ []
+
+abbrev pub closed_at : Bool → List KeywordTemplate
+closed_at false = []
+closed_at true = said (codes "additionalProperties") (boolean false) ∷ []
+
+-- a map with these properties
+abbrev pub map_template : List KeywordTemplate → Items → Bool → Template
+map_template properties required closed =
+    object_with (typed (codes "object") ∷ (properties_at properties ++ (required_at required ++ closed_at closed)))
+
+-- a map with these fields
+abbrev pub fields_template : Contract → List Field → Bool → Template
+fields_template contract xs closed = map_template (map property xs) (text_items (required_names contract xs)) closed
+
+-- the members of flattened rows join one after another
+abbrev pub with_flattened : Contract → List Flattened → Template → Template
+with_flattened contract [] t = t
+with_flattened contract (p ∷ ps) t =
+    with_flattened contract ps (with_keywords t (asked (members_of p.ty (is_required contract p.required))))
+
+abbrev pub struct_template : Contract → Fields → Template
+struct_template contract x = with_flattened contract x.flatten (fields_template contract x.list x.closed)
+
+-- ---- choices
+
+-- just one of these
+abbrev pub one_of : List Template → Template
+one_of ts = object_with ((codes "oneOf", list (templates_of ts)) ∷ [])
+
+-- one of these at least
+abbrev pub any_of : List Template → Template
+any_of ts = object_with ((codes "anyOf", list (templates_of ts)) ∷ [])
+
+-- a map with this member, which has to be there
+abbrev pub member_template : Bool → Text → Template → Template
+member_template closed name t = map_template ((name, t) ∷ []) (text_items (name ∷ [])) closed
+
+abbrev pub result_template : ℕ → ℕ → Template
+result_template t e = one_of (member_template false (codes "Ok") (row t) ∷ member_template false (codes "Err") (row e) ∷ [])
+
+abbrev pub bound_template : ℕ → Template
+bound_template n = one_of (member_template false (codes "Included") (row n) ∷ member_template false (codes "Excluded") (row n)
+    ∷ finished (unit_variant (codes "Unbounded")) ∷ [])
+
+abbrev pub range_template : ℕ → Template
+range_template n = map_template ((codes "start", row n) ∷ (codes "end", row n) ∷ []) (text_items (codes "start" ∷ codes "end" ∷ [])) false
+
+abbrev pub either_template : ℕ → ℕ → Template
+either_template l r = one_of (member_template true (codes "Left") (row l) ∷ member_template true (codes "Right") (row r) ∷ [])
+
+-- ---- enums
+
+abbrev pub payload_template : Contract → Payload → Template
+payload_template contract no_payload = finished (type_alone (codes "null"))
+payload_template contract (newtype_payload n) = row n
+payload_template contract (tuple_payload ns) = tuple_template ns
+payload_template contract (struct_payload x) = struct_template contract x
+
+-- a unit by its name, and another payload under that name alone
+abbrev pub named_template : Contract → Text → Payload → Template
+named_template contract name no_payload = finished (unit_variant name)
+named_template contract name (newtype_payload n) = member_template true name (payload_template contract (newtype_payload n))
+named_template contract name (tuple_payload ns) = member_template true name (payload_template contract (tuple_payload ns))
+named_template contract name (struct_payload x) = member_template true name (payload_template contract (struct_payload x))
+
+-- units without notes share one item
+abbrev pub bare_units : List Variant → List Text
+bare_units [] = []
+bare_units (x ∷ xs) = if is_bare_unit x then x.name ∷ bare_units xs else bare_units xs
+
+abbrev pub other_items : Contract → List Variant → List Template
+other_items contract [] = []
+other_items contract (x ∷ xs) =
+    if is_bare_unit x then other_items contract xs else noted x.notes (named_template contract x.name x.payload) ∷ other_items contract xs
+
+abbrev pub units_template : List Text → Template
+units_template ks = object_with (typed (codes "string") ∷ said (codes "enum") (array (text_items ks)) ∷ [])
+
+-- the shared item stands first, and alone where there is no other
+abbrev pub choice_of : List Text → List Template → Template
+choice_of [] [] = finished (boolean false)
+choice_of [] (t ∷ ts) = one_of (t ∷ ts)
+choice_of (k ∷ ks) [] = units_template (k ∷ ks)
+choice_of (k ∷ ks) (t ∷ ts) = one_of (units_template (k ∷ ks) ∷ t ∷ ts)
+
+abbrev pub external_template : Contract → List Variant → Template
+external_template contract xs = choice_of (bare_units xs) (other_items contract xs)
+
+abbrev pub title_alone : Text → Members
+title_alone name = member (codes "title") (string name) no_members
+
+abbrev pub titled : Bool → Text → Template → Template
+titled false name t = t
+titled true name t = noted (title_alone name) t
+
+abbrev pub payload_item : Contract → Bool → Variant → Template
+payload_item contract titles x = noted x.notes (titled titles x.name (payload_template contract x.payload))
+
+-- a variant may have its name as title; its notes come after that
+abbrev pub untagged_template : Contract → Bool → List Variant → Template
+untagged_template contract titles [] = finished (boolean false)
+untagged_template contract titles (x ∷ xs) = any_of (map (payload_item contract titles) (x ∷ xs))
+
+-- what stands beside a tag; null where there is nothing
+abbrev pub content_template : Contract → Payload → Template
+content_template contract no_payload = finished (type_alone (codes "null"))
+content_template contract (newtype_payload n) = asked (content n)
+content_template contract (tuple_payload ns) = tuple_template ns
+content_template contract (struct_payload x) = struct_template contract x
+
+abbrev pub internal_item : Contract → Text → Bool → Variant → Template
+internal_item contract tag closed x = noted x.notes (tagged tag x.name closed (content_template contract x.payload))
+
+abbrev pub internal_template : Contract → Text → Bool → List Variant → Template
+internal_template contract tag closed [] = finished (boolean false)
+internal_template contract tag closed (x ∷ xs) = one_of (map (internal_item contract tag closed) (x ∷ xs))
+
+-- ---- maps
+
+-- that of whole numbers first, and once
+abbrev pub all_patterns : Option IntegerKeys → List Text → List Text
+all_patterns None ps = ps
+all_patterns (Some kind) ps = pattern_of kind ∷ filter (λ p. not (bytes_eq p (pattern_of kind))) ps
+
+abbrev pub values_of : ℕ → List Text → List KeywordTemplate
+values_of value ks = map (λ k. (k, row value)) ks
+
+abbrev pub pattern_properties_at : List KeywordTemplate → List KeywordTemplate
+pattern_properties_at [] = []
+pattern_properties_at (e ∷ es) = (codes "patternProperties", object_with (e ∷ es)) ∷ []
+
+-- of a key that is not listed and matches no pattern
+abbrev pub other_values : Bool → ℕ → Template
+other_values true value = row value
+other_values false value = finished (boolean false)
+
+-- a map with the keys that are allowed, and values of this row
+abbrev pub values_template : KeyOptions → ℕ → Template
+values_template (keys others texts integers patterns) value =
+    object_with (typed (codes "object") ∷ (codes "additionalProperties", other_values others value)
+    ∷ (pattern_properties_at (values_of value (all_patterns integers patterns))
+    ++ properties_at (values_of value texts)))
+
+-- a literal is its own document; each is a schema
+abbrev pub literal_document : Data → Data
+literal_document d = if is_schema d then d else boolean true
+
+-- ---- by shape
+
+abbrev pub template_of : Basis → Shape → Template
+template_of basis shape.null = finished (type_alone (codes "null"))
+template_of basis shape.bool = finished (type_alone (codes "boolean"))
+template_of basis (shape.int kind) = finished (int_document kind)
+template_of basis (shape.non_zero kind) = finished (non_zero_document kind)
+template_of basis shape.number = finished (type_alone (codes "number"))
+template_of basis shape.text = finished (type_alone (codes "string"))
+template_of basis shape.char = finished char_document
+template_of basis (shape.formatted format) = finished (formatted_document format)
+template_of basis shape.any = finished (boolean true)
+template_of basis shape.bytes = finished (bytes_document basis.contract)
+template_of basis shape.schema_itself = finished schema_document
+template_of basis (shape.option n) = nullable (row n)
+template_of basis (shape.seq n) = list_template n []
+template_of basis (shape.set n) = set_template n
+template_of basis (shape.array n len) = array_template n len
+template_of basis (shape.up_to n cap) = up_to_template n cap
+template_of basis (shape.tuple ns) = tuple_template ns
+template_of basis (shape.struct x) = struct_template basis.contract x
+template_of basis (shape.newtype n) = row n
+template_of basis (shape.result t e) = result_template t e
+template_of basis (shape.bound n) = bound_template n
+template_of basis (shape.range n) = range_template n
+template_of basis (shape.either l r) = either_template l r
+template_of basis (shape.map_from key value) = values_template (key_options basis.rows key) value
+template_of basis (shape.external xs) = external_template basis.contract xs
+template_of basis (shape.untagged xs) = untagged_template basis.contract basis.titles xs
+template_of basis (shape.internal tag closed xs) = internal_template basis.contract tag closed xs
+template_of basis (shape.literal d) = finished (literal_document d)
+
+-- a row's document, with its notes
+abbrev pub entry_template : Basis → Entry → Template
+entry_template basis e = noted e.notes (template_of basis e.shape)

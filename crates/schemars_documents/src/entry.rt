@@ -1,0 +1,111 @@
+//! The template of each shape's document.
+#![tactic(auto)]
+
+ghost use Rattle.std.specs.Prelude.{◌≡◌, IfOk};
+ghost use Rattle.schemars_shapes.specs.Shape.{shape_of, entry_of};
+ghost use Rattle.schemars_types.specs.Faults.{IsChecked};
+ghost use Rattle.schemars_documents.specs.ContractOf.{contract_of};
+ghost use Rattle.schemars_documents.specs.Documents.{bytes_document};
+ghost use Rattle.schemars_documents.specs.Basis.{basis_of};
+ghost use Rattle.schemars_documents.specs.Template.{row, finished, nullable};
+ghost use Rattle.schemars_documents.specs.View.{template_view};
+ghost use Rattle.schemars_documents.specs.OfShape.{template_of, entry_template, literal_document};
+
+use crate::contract::Contract;
+use crate::documents::{
+    bytes_document, char_document, formatted_document, schema_document, type_alone,
+};
+use crate::integers::{int_document, non_zero_document};
+use crate::shape::choices::{bound_template, either_template, result_template};
+use crate::shape::enums::{external_template, untagged_template};
+use crate::shape::keyed::values_template;
+use crate::shape::lists::{
+    array_template, seq_template, set_template, tuple_template, up_to_template,
+};
+use crate::shape::maps::{range_template, struct_template};
+use crate::shape::tagged::internal_template;
+use crate::template::Template;
+use crate::template::basis::Basis;
+use crate::template::nodes::{finished, row};
+use schemars_schema::Schema;
+use schemars_types::{IntKind, Shape, TypeEntry, TypeNo};
+use std::alloc::{AllocError, Global};
+
+/// The template of a row's document, with its notes.
+pub fn entry_template<'t>(
+    alloc: Global,
+    basis: &Basis<'t>,
+    entry: &'t TypeEntry,
+) -> Result<Template<'t>, AllocError>
+    requires { IsChecked (basis_of basis.now).rows }
+    ensures { IfOk result (λ t. template_view t ≡ entry_template (basis_of basis.now) (entry_of entry.now)) }
+{
+    let bare = template_of(alloc, basis, &entry.shape)?;
+    Ok(Template::Noted(&entry.notes, Box::new(alloc, bare)?))
+}
+
+// The template of a shape's document.
+fn template_of<'t>(
+    alloc: Global,
+    basis: &Basis<'t>,
+    shape: &'t Shape,
+) -> Result<Template<'t>, AllocError>
+    requires { IsChecked (basis_of basis.now).rows }
+    ensures { IfOk result (λ t. template_view t ≡ template_of (basis_of basis.now) (shape_of shape.now)) }
+{
+    match shape {
+        Shape::Null => finished(type_alone(alloc, "null")?),
+        Shape::Bool => finished(type_alone(alloc, "boolean")?),
+        Shape::Int(kind) => finished(int_document(alloc, *kind)?),
+        Shape::NonZero(kind) => finished(non_zero_document(alloc, *kind)?),
+        Shape::Number => finished(type_alone(alloc, "number")?),
+        Shape::Text => finished(type_alone(alloc, "string")?),
+        Shape::Char => finished(char_document(alloc)?),
+        Shape::Formatted(format) => finished(formatted_document(alloc, format)?),
+        Shape::Any => finished(Schema::from(true)),
+        Shape::Bytes => bytes_template(alloc, basis.contract),
+        Shape::SchemaItself => finished(schema_document(alloc)?),
+        Shape::Option(some) => option_template(alloc, *some),
+        Shape::Seq(item) => seq_template(alloc, *item),
+        Shape::Set(item) => set_template(alloc, *item),
+        Shape::Array(item, len) => array_template(alloc, *item, *len),
+        Shape::UpTo(item, cap) => up_to_template(alloc, *item, *cap),
+        Shape::Tuple(parts) => tuple_template(alloc, parts),
+        Shape::Struct(fields) => struct_template(alloc, basis.contract, fields),
+        Shape::Newtype(inner) => Ok(row(*inner)),
+        Shape::Result(ok, err) => result_template(alloc, *ok, *err),
+        Shape::Bound(n) => bound_template(alloc, *n),
+        Shape::Range(n) => range_template(alloc, *n),
+        Shape::Either(left, right) => either_template(alloc, *left, *right),
+        Shape::Map(key, value) => values_template(alloc, basis.types, *key, *value),
+        Shape::External(variants) => external_template(alloc, basis.contract, variants),
+        Shape::Untagged(variants) => untagged_template(
+            alloc,
+            basis.contract,
+            basis.titles,
+            variants,
+        ),
+        Shape::Internal(internal) => internal_template(alloc, basis.contract, internal),
+        Shape::Literal(schema) => literal_template(schema),
+    }
+}
+
+fn bytes_template<'t>(alloc: Global, contract: Contract) -> Result<Template<'t>, AllocError>
+    ensures { IfOk result (λ t. template_view t ≡ finished (bytes_document (contract_of contract))) }
+{
+    let byte = int_document(alloc, IntKind::U8)?;
+    finished(bytes_document(alloc, contract, byte)?)
+}
+
+fn literal_template<'t>(schema: &Schema) -> Result<Template<'t>, AllocError>
+    ensures { IfOk result (λ t. template_view t ≡ finished (literal_document schema.now)) }
+{
+    let _ = schema.as_value();
+    finished(schema.clone()?)
+}
+
+fn option_template<'t>(alloc: Global, some: TypeNo) -> Result<Template<'t>, AllocError>
+    ensures { IfOk result (λ t. template_view t ≡ nullable (row some)) }
+{
+    Ok(Template::Nullable(Box::new(alloc, row(some))?))
+}

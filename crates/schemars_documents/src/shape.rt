@@ -1,0 +1,7 @@
+//! The templates of shapes.
+pub(crate) mod choices;
+pub(crate) mod enums;
+pub(crate) mod keyed;
+pub(crate) mod lists;
+pub(crate) mod maps;
+pub(crate) mod tagged;

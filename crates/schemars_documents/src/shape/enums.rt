@@ -1,0 +1,222 @@
+//! The templates of enums whose variants are tagged by their names, or by nothing.
+ghost use Rattle.std.specs.Prelude.{◌≡◌, ◌∷◌, [], codes, map, IfOk};
+ghost use Rattle.serde_json.specs.Data.{array};
+ghost use Rattle.serde_json.specs.View.{items_view};
+ghost use Rattle.schemars_shapes.specs.Shape.{payload_of, variant_of};
+ghost use Rattle.schemars_builders.specs.NullLaw.{text_items};
+ghost use Rattle.schemars_documents.specs.ContractOf.{contract_of};
+ghost use Rattle.schemars_documents.specs.Template.{noted};
+ghost use Rattle.schemars_documents.specs.View.{template_view};
+ghost use Rattle.schemars_documents.specs.OfShape.{object_with, typed, said, payload_template, named_template};
+ghost use Rattle.schemars_documents.specs.OfShape.{bare_units, other_items, external_template};
+ghost use Rattle.schemars_documents.specs.OfShape.{payload_item, untagged_template, titled};
+
+use crate::contract::Contract;
+use crate::documents::type_alone;
+use crate::shape::lists::tuple_template;
+use crate::shape::maps::{member_template, struct_template, typed};
+use crate::template::Template;
+use crate::template::nodes::{any_of, finished, object_with, one_of, row};
+use schemars_builders::new_unit_enum_variant;
+use schemars_schema::Schema;
+use schemars_shapes::is_bare_unit;
+use schemars_types::{Payload, Variant};
+use serde_json::Value;
+use std::alloc::{AllocError, Global};
+
+/// The item of the units without notes, if there is one, and the others; it stands alone where there is no other.
+pub fn external_template<'t>(
+    alloc: Global,
+    contract: Contract,
+    variants: &'t [Variant],
+) -> Result<Template<'t>, AllocError>
+    ensures { IfOk result (λ t. template_view t
+        ≡ external_template (contract_of contract) (map variant_of variants.now)) }
+{
+    let names = bare_units(alloc, variants)?;
+    let others = other_items(alloc, contract, variants)?;
+    if names.is_empty() {
+        if others.is_empty() {
+            return finished(Schema::from(false));
+        }
+        return one_of(alloc, others);
+    }
+    let units = units_template(alloc, names)?;
+    if others.is_empty() {
+        return Ok(units);
+    }
+    let items = led_by(alloc, units, others)?;
+    one_of(alloc, items)
+}
+
+/// One item at least, of those of the variants' payloads.
+pub fn untagged_template<'t>(
+    alloc: Global,
+    contract: Contract,
+    titles: bool,
+    variants: &'t [Variant],
+) -> Result<Template<'t>, AllocError>
+    ensures { IfOk result (λ t. template_view t
+        ≡ untagged_template (contract_of contract) titles (map variant_of variants.now)) }
+{
+    if variants.is_empty() {
+        return finished(Schema::from(false));
+    }
+    let items = payload_items(alloc, contract, titles, variants)?;
+    any_of(alloc, items)
+}
+
+fn bare_units(alloc: Global, variants: &[Variant]) -> Result<Vec<Value>, AllocError>
+    ensures { IfOk result (λ v. items_view v.items ≡ text_items (bare_units (map variant_of variants.now))) }
+{
+    let mut names = Vec::new(alloc);
+    for variant in variants {
+        if is_bare_unit(variant) {
+            let name = Value::try_from_str(alloc, variant.name.as_str())?;
+            serde_json::push(&mut names, name)?;
+        }
+    }
+    Ok(names)
+}
+
+// The items of the other variants, each with its notes.
+fn other_items<'t>(
+    alloc: Global,
+    contract: Contract,
+    variants: &'t [Variant],
+) -> Result<Vec<Template<'t>>, AllocError>
+    ensures { IfOk result (λ v. map template_view v.items
+        ≡ other_items (contract_of contract) (map variant_of variants.now)) }
+{
+    let mut items = Vec::new(alloc);
+    for variant in variants {
+        if !is_bare_unit(variant) {
+            let item = other_item(alloc, contract, variant)?;
+            items.push(item)?;
+        }
+    }
+    Ok(items)
+}
+
+fn other_item<'t>(
+    alloc: Global,
+    contract: Contract,
+    variant: &'t Variant,
+) -> Result<Template<'t>, AllocError>
+    ensures { IfOk result (λ t. template_view t ≡ noted (variant_of variant.now).notes
+        (named_template (contract_of contract) (variant_of variant.now).name (variant_of variant.now).payload)) }
+{
+    let item = named_template(alloc, contract, variant.name.as_str(), &variant.payload)?;
+    noted(alloc, variant, item)
+}
+
+// The template with the variant's notes.
+fn noted<'t>(
+    alloc: Global,
+    variant: &'t Variant,
+    template: Template<'t>,
+) -> Result<Template<'t>, AllocError>
+    ensures { IfOk result (λ t. template_view t ≡ noted (variant_of variant.now).notes (template_view template.entry)) }
+{
+    Ok(Template::Noted(&variant.notes, Box::new(alloc, template)?))
+}
+
+fn units_template<'t>(alloc: Global, names: Vec<Value>) -> Result<Template<'t>, AllocError>
+    ensures { IfOk result (λ t. template_view t
+        ≡ object_with (typed (codes "string") ∷ said (codes "enum") (array (items_view names.items)) ∷ [])) }
+{
+    let mut keywords: Vec<(&'t str, Template<'t>)> = typed(alloc, "string")?;
+    keywords.push(("enum", Template::Value(Value::Array(names))))?;
+    object_with(alloc, keywords)
+}
+
+fn led_by<'t>(
+    alloc: Global,
+    first: Template<'t>,
+    mut rest: Vec<Template<'t>>,
+) -> Result<Vec<Template<'t>>, AllocError>
+    ensures { IfOk result (λ v. map template_view v.items
+        ≡ template_view first.entry ∷ map template_view rest.entry.items) }
+{
+    rest.insert(0, first)?;
+    Ok(rest)
+}
+
+// A unit by its name, and another payload under that name alone.
+fn named_template<'t>(
+    alloc: Global,
+    contract: Contract,
+    name: &'t str,
+    payload: &'t Payload,
+) -> Result<Template<'t>, AllocError>
+    ensures { IfOk result (λ t. template_view t ≡ named_template (contract_of contract) name.now (payload_of payload.now)) }
+{
+    if let Payload::Unit = payload {
+        return finished(new_unit_enum_variant(alloc, name)?);
+    }
+    let part = payload_template(alloc, contract, payload)?;
+    member_template(alloc, name, part, true)
+}
+
+// The payload of each variant, with the variant's notes.
+fn payload_items<'t>(
+    alloc: Global,
+    contract: Contract,
+    titles: bool,
+    variants: &'t [Variant],
+) -> Result<Vec<Template<'t>>, AllocError>
+    ensures { IfOk result (λ v. map template_view v.items
+        ≡ map (payload_item (contract_of contract) titles) (map variant_of variants.now)) }
+{
+    let mut items = Vec::new(alloc);
+    for variant in variants {
+        let item = payload_item(alloc, contract, titles, variant)?;
+        items.push(item)?;
+    }
+    Ok(items)
+}
+
+fn payload_item<'t>(
+    alloc: Global,
+    contract: Contract,
+    titles: bool,
+    variant: &'t Variant,
+) -> Result<Template<'t>, AllocError>
+    ensures { IfOk result (λ t. template_view t
+        ≡ payload_item (contract_of contract) titles (variant_of variant.now)) }
+{
+    let payload = payload_template(alloc, contract, &variant.payload)?;
+    let item = titled(alloc, titles, variant.name.as_str(), payload)?;
+    noted(alloc, variant, item)
+}
+
+// The template under this title, where there are titles.
+fn titled<'t>(
+    alloc: Global,
+    titles: bool,
+    name: &'t str,
+    template: Template<'t>,
+) -> Result<Template<'t>, AllocError>
+    ensures { IfOk result (λ t. template_view t ≡ titled titles name.now (template_view template.entry)) }
+{
+    if titles {
+        return Ok(Template::Titled(name, Box::new(alloc, template)?));
+    }
+    Ok(template)
+}
+
+// What a variant has beside its name.
+fn payload_template<'t>(
+    alloc: Global,
+    contract: Contract,
+    payload: &'t Payload,
+) -> Result<Template<'t>, AllocError>
+    ensures { IfOk result (λ t. template_view t ≡ payload_template (contract_of contract) (payload_of payload.now)) }
+{
+    match payload {
+        Payload::Unit => finished(type_alone(alloc, "null")?),
+        Payload::Newtype(n) => Ok(row(*n)),
+        Payload::Tuple(parts) => tuple_template(alloc, parts),
+        Payload::Struct(fields) => struct_template(alloc, contract, fields),
+    }
+}

@@ -1,0 +1,178 @@
+//! The templates of maps by their members, as those of structs.
+ghost use Rattle.std.specs.Prelude.{◌≡◌, ◌∷◌, ◌++◌, [], map, IfOk, OnOk};
+ghost use Rattle.serde_json.specs.View.{items_view};
+ghost use Rattle.schemars_shapes.specs.Shape.{field_of, flattened_of, fields_of};
+ghost use Rattle.schemars_documents.specs.ContractOf.{contract_of};
+ghost use Rattle.schemars_documents.specs.View.{template_view, keyword_view};
+ghost use Rattle.schemars_documents.specs.OfShape.{typed, property, properties_at, required_at, closed_at};
+ghost use Rattle.schemars_documents.specs.OfShape.{map_template, fields_template, with_flattened, struct_template};
+ghost use Rattle.schemars_documents.specs.OfShape.{member_template, range_template};
+
+use crate::contract::Contract;
+use crate::documents::{is_required, required_names};
+use crate::template::nodes::{object_with, row, text};
+use crate::template::{Ask, Template};
+use schemars_types::{Field, Fields, Flattened, TypeNo};
+use serde_json::Value;
+use std::alloc::{AllocError, Global};
+
+/// A map with these properties.
+pub fn map_template<'t>(
+    alloc: Global,
+    properties: Vec<(&'t str, Template<'t>)>,
+    required: Vec<Value>,
+    closed: bool,
+) -> Result<Template<'t>, AllocError>
+    ensures { IfOk result (λ t. template_view t
+        ≡ map_template (map keyword_view properties.entry.items) (items_view required.items) closed) }
+{
+    let mut keywords: Vec<(&'t str, Template<'t>)> = typed(alloc, "object")?;
+    add_properties(alloc, &mut keywords, properties)?;
+    add_required(&mut keywords, required)?;
+    add_closed(&mut keywords, closed)?;
+    object_with(alloc, keywords)
+}
+
+/// The keyword `type` with this name.
+pub fn typed<'t>(alloc: Global, name: &str) -> Result<Vec<(&'t str, Template<'t>)>, AllocError>
+    ensures { IfOk result (λ v. map keyword_view v.items ≡ typed name.now ∷ []) }
+{
+    let name = text(alloc, name)?;
+    let mut keywords: Vec<(&'t str, Template<'t>)> = Vec::new(alloc);
+    keywords.push(("type", name))?;
+    Ok(keywords)
+}
+
+/// Adds these properties, if there are any.
+pub fn add_properties<'t>(
+    alloc: Global,
+    keywords: &mut Vec<(&'t str, Template<'t>)>,
+    properties: Vec<(&'t str, Template<'t>)>,
+) -> Result<(), AllocError>
+    ensures { OnOk result (map keyword_view keywords.new.items
+        ≡ map keyword_view keywords.old.items ++ properties_at (map keyword_view properties.entry.items)) }
+{
+    if properties.is_empty() {
+        return Ok(());
+    }
+    let properties = object_with(alloc, properties)?;
+    keywords.push(("properties", properties))?;
+    Ok(())
+}
+
+fn add_required<'t>(
+    keywords: &mut Vec<(&'t str, Template<'t>)>,
+    required: Vec<Value>,
+) -> Result<(), AllocError>
+    ensures { OnOk result (map keyword_view keywords.new.items
+        ≡ map keyword_view keywords.old.items ++ required_at (items_view required.items)) }
+{
+    if required.is_empty() {
+        return Ok(());
+    }
+    keywords.push(("required", Template::Value(Value::Array(required))))?;
+    Ok(())
+}
+
+/// Excludes other keys, if `closed`.
+pub fn add_closed<'t>(
+    keywords: &mut Vec<(&'t str, Template<'t>)>,
+    closed: bool,
+) -> Result<(), AllocError>
+    ensures { OnOk result (map keyword_view keywords.new.items
+        ≡ map keyword_view keywords.old.items ++ closed_at closed) }
+{
+    if closed {
+        keywords.push(("additionalProperties", Template::Value(Value::Bool(false))))?;
+    }
+    Ok(())
+}
+
+/// A map with these fields, and with the members of the flattened rows.
+pub fn struct_template<'t>(
+    alloc: Global,
+    contract: Contract,
+    fields: &'t Fields,
+) -> Result<Template<'t>, AllocError>
+    ensures { IfOk result (λ t. template_view t
+        ≡ struct_template (contract_of contract) (fields_of fields.now)) }
+{
+    let own = fields_template(alloc, contract, &fields.list, fields.closed)?;
+    with_flattened(alloc, contract, own, &fields.flatten)
+}
+
+fn fields_template<'t>(
+    alloc: Global,
+    contract: Contract,
+    list: &'t [Field],
+    closed: bool,
+) -> Result<Template<'t>, AllocError>
+    ensures { IfOk result (λ t. template_view t
+        ≡ fields_template (contract_of contract) (map field_of list.now) closed) }
+{
+    let properties = properties(alloc, list)?;
+    let required = required_names(alloc, contract, list)?;
+    map_template(alloc, properties, required, closed)
+}
+
+// The members of these rows join, one row after another.
+fn with_flattened<'t>(
+    alloc: Global,
+    contract: Contract,
+    own: Template<'t>,
+    flatten: &[Flattened],
+) -> Result<Template<'t>, AllocError>
+    ensures { IfOk result (λ t. template_view t
+        ≡ with_flattened (contract_of contract) (map flattened_of flatten.now) (template_view own.entry)) }
+{
+    let mut template = own;
+    for part in flatten {
+        let required = is_required(contract, part.required);
+        let members = Template::Asked(Ask::MembersOf(part.ty, required));
+        template = Template::WithKeywords(Box::new(alloc, template)?, Box::new(alloc, members)?);
+    }
+    Ok(template)
+}
+
+/// The fields' schemas under their names, each with its notes.
+fn properties<'t>(
+    alloc: Global,
+    fields: &'t [Field],
+) -> Result<Vec<(&'t str, Template<'t>)>, AllocError>
+    ensures { IfOk result (λ v. map keyword_view v.items ≡ map property (map field_of fields.now)) }
+{
+    let mut properties = Vec::new(alloc);
+    for field in fields {
+        let part = Box::new(alloc, row(field.ty))?;
+        properties.push((field.name.as_str(), Template::Noted(&field.notes, part)))?;
+    }
+    Ok(properties)
+}
+
+/// A map with this member, which has to be there.
+pub fn member_template<'t>(
+    alloc: Global,
+    name: &'t str,
+    part: Template<'t>,
+    closed: bool,
+) -> Result<Template<'t>, AllocError>
+    ensures { IfOk result (λ t. template_view t ≡ member_template closed name.now (template_view part.entry)) }
+{
+    let properties: Vec<(&'t str, Template<'t>)> = vec![in alloc; (name, part)]?;
+    let required = vec![in alloc; Value::try_from_str(alloc, name)?]?;
+    map_template(alloc, properties, required, closed)
+}
+
+/// A map with a start and an end of this row.
+pub fn range_template<'t>(alloc: Global, n: TypeNo) -> Result<Template<'t>, AllocError>
+    ensures { IfOk result (λ t. template_view t ≡ range_template n) }
+{
+    let properties: Vec<(&'t str, Template<'t>)> = vec![in alloc;
+        ("start", row(n)),
+        ("end", row(n)),
+    ]?;
+    let start = Value::try_from_str(alloc, "start")?;
+    let end = Value::try_from_str(alloc, "end")?;
+    let required = vec![in alloc; start, end]?;
+    map_template(alloc, properties, required, false)
+}

@@ -1,0 +1,83 @@
+//! The templates of enums whose variants are named by a member of their own maps.
+ghost use Rattle.std.specs.Prelude.{◌≡◌, map, IfOk};
+ghost use Rattle.schemars_shapes.specs.Shape.{internal_payload_of, internal_variant_of, internal_view};
+ghost use Rattle.schemars_documents.specs.ContractOf.{contract_of};
+ghost use Rattle.schemars_documents.specs.View.{template_view};
+ghost use Rattle.schemars_documents.specs.OfShape.{content_template, internal_item, internal_template};
+
+use crate::contract::Contract;
+use crate::documents::type_alone;
+use crate::shape::maps::struct_template;
+use crate::template::nodes::{finished, one_of};
+use crate::template::{Ask, Template};
+use schemars_schema::Schema;
+use schemars_types::{Internal, InternalPayload, InternalVariant};
+use std::alloc::{AllocError, Global};
+
+/// Just one of the variants' maps.
+pub fn internal_template<'t>(
+    alloc: Global,
+    contract: Contract,
+    internal: &'t Internal,
+) -> Result<Template<'t>, AllocError>
+    ensures { IfOk result (λ t. template_view t ≡ internal_template (contract_of contract)
+        (internal_view internal.now).0 (internal_view internal.now).1 (internal_view internal.now).2) }
+{
+    if internal.variants.is_empty() {
+        return finished(Schema::from(false));
+    }
+    let tag = internal.tag.as_str();
+    let items = internal_items(alloc, contract, tag, internal.closed, &internal.variants)?;
+    one_of(alloc, items)
+}
+
+// The map of each variant, with the variant's notes.
+fn internal_items<'t>(
+    alloc: Global,
+    contract: Contract,
+    tag: &'t str,
+    closed: bool,
+    variants: &'t [InternalVariant],
+) -> Result<Vec<Template<'t>>, AllocError>
+    ensures { IfOk result (λ v. map template_view v.items
+        ≡ map (internal_item (contract_of contract) tag.now closed) (map internal_variant_of variants.now)) }
+{
+    let mut items = Vec::new(alloc);
+    for variant in variants {
+        let item = internal_item(alloc, contract, tag, closed, variant)?;
+        items.push(item)?;
+    }
+    Ok(items)
+}
+
+fn internal_item<'t>(
+    alloc: Global,
+    contract: Contract,
+    tag: &'t str,
+    closed: bool,
+    variant: &'t InternalVariant,
+) -> Result<Template<'t>, AllocError>
+    ensures { IfOk result (λ t. template_view t
+        ≡ internal_item (contract_of contract) tag.now closed (internal_variant_of variant.now)) }
+{
+    let content = content_template(alloc, contract, &variant.payload)?;
+    let name = variant.name.as_str();
+    let tagged = Template::Tagged(tag, name, closed, Box::new(alloc, content)?);
+    Ok(Template::Noted(&variant.notes, Box::new(alloc, tagged)?))
+}
+
+// What stands beside the tag.
+fn content_template<'t>(
+    alloc: Global,
+    contract: Contract,
+    payload: &'t InternalPayload,
+) -> Result<Template<'t>, AllocError>
+    ensures { IfOk result (λ t. template_view t
+        ≡ content_template (contract_of contract) (internal_payload_of payload.now)) }
+{
+    match payload {
+        InternalPayload::Unit => finished(type_alone(alloc, "null")?),
+        InternalPayload::Newtype(n) => Ok(Template::Asked(Ask::Content(*n))),
+        InternalPayload::Struct(fields) => struct_template(alloc, contract, fields),
+    }
+}

@@ -1,0 +1,13 @@
+//! What documents are made from.
+
+use crate::contract::Contract;
+use schemars_types::Types;
+
+/// A table, and how the documents of its rows are made.
+#[derive(Clone, Copy)]
+pub struct Basis<'t> {
+    pub types: &'t Types,
+    pub contract: Contract,
+    /// whether the variants of an untagged enum have their names as titles
+    pub titles: bool,
+}

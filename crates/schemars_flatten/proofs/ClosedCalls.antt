@@ -1,0 +1,109 @@
+-- Whether a schema and those inside it let further members in, call by call.
+use Rattle.std.proofs.Common.{◌≡◌, ℕ, ◌+◌, ◌<◌, ◌≤◌, List, Some, None, Bool, true, false, length, get_or, drop}
+use Rattle.std.proofs.Common.{refl, sym, ap, ◌∙◌}
+use Rattle.std.specs.Prelude.{◌||◌}
+use Rattle.serde_json.specs.Data.{Data, null, boolean, number, string, array, object, Items, no_items, item, Members}
+use Rattle.serde_json.specs.Data.{no_members, member}
+use Rattle.serde_json.specs.Find.{as_array, as_object}
+use Rattle.serde_json.specs.View.{view, items_view}
+use Rattle.serde_json.specs.declared.value.Value.{Value}
+use Rattle.schemars_schema.specs.Json.{Text}
+use Rattle.schemars_flatten.specs.Opening.{closes, closed_at, closed_in, closed_in_items, closed_in_keywords}
+use Rattle.schemars_flatten.proofs.Lists.{from_here, nothing_at}
+
+pub closed_object : (d : Data) (ms : Members) → Some ms ≡ as_object d
+    → closes d || closed_in_keywords ms ≡ (closed_in d).in_schema
+unfolding closed_in
+closed_object (object ns) ms e = let same : ms ≡ ns = cc in ap (λ x. closes (object ns) || closed_in_keywords x) same
+closed_object null ms e = cc
+closed_object (boolean b) ms e = cc
+closed_object (number n) ms e = cc
+closed_object (string s) ms e = cc
+closed_object (array ds) ms e = cc
+
+pub closed_other : (d : Data) → None ≡ as_object d → false ≡ (closed_in d).in_schema
+unfolding closed_in
+closed_other (object ns) e = cc
+closed_other null e = refl
+closed_other (boolean b) e = refl
+closed_other (number n) e = refl
+closed_other (string s) e = refl
+closed_other (array ds) e = refl
+
+pub closed_array : (d : Data) (ds : Items) → Some ds ≡ as_array d → closed_in_items ds ≡ (closed_in d).in_list
+unfolding closed_in
+closed_array (array es) ds e = let same : ds ≡ es = cc in ap closed_in_items same
+closed_array null ds e = cc
+closed_array (boolean b) ds e = cc
+closed_array (number n) ds e = cc
+closed_array (string s) ds e = cc
+closed_array (object ms) ds e = cc
+
+pub closed_no_array : (d : Data) → None ≡ as_array d → false ≡ (closed_in d).in_list
+unfolding closed_in
+closed_no_array (array es) e = cc
+closed_no_array null e = refl
+closed_no_array (boolean b) e = refl
+closed_no_array (number n) e = refl
+closed_no_array (string s) e = refl
+closed_no_array (object ms) e = refl
+
+either_way : (a b : Bool) → (a ≡ true → true ≡ a || b) × (a ≡ false → b ≡ a || b)
+either_way a b = (λ is. rw is refl, λ is. rw is refl)
+
+-- the first that closes is enough
+pub keyword_closes : (k : Text) (d : Data) (ms : Members) → closed_at k (closed_in d) ≡ true
+    → true ≡ closed_in_keywords (member k d ms)
+unfolding closed_in_keywords
+keyword_closes k d ms h = (either_way (closed_at k (closed_in d)) (closed_in_keywords ms)).0 h
+
+pub keyword_passes : (k : Text) (d : Data) (ms : Members) → closed_at k (closed_in d) ≡ false
+    → closed_in_keywords ms ≡ closed_in_keywords (member k d ms)
+unfolding closed_in_keywords
+keyword_passes k d ms h = (either_way (closed_at k (closed_in d)) (closed_in_keywords ms)).1 h
+
+pub closed_first : (d : Data) (ms : Members) (b : Bool) → Some ms ≡ as_object d → b ≡ closes d → b ≡ true
+    → b ≡ (closed_in d).in_schema
+closed_first d ms b is same met =
+    met ∙ ((either_way (closes d) (closed_in_keywords ms)).0 (sym same ∙ met) ∙ closed_object d ms is)
+
+pub closed_rest : (d : Data) (ms : Members) (b c : Bool) → Some ms ≡ as_object d → b ≡ closes d → b ≡ false
+    → c ≡ closed_in_keywords ms → c ≡ (closed_in d).in_schema
+closed_rest d ms b c is same missed rest =
+    rest ∙ ((either_way (closes d) (closed_in_keywords ms)).1 (sym same ∙ missed) ∙ closed_object d ms is)
+
+item_closes : (d : Data) (ds : Items) → (closed_in d).in_schema ≡ true → true ≡ closed_in_items (item d ds)
+unfolding closed_in_items
+item_closes d ds h = (either_way (closed_in d).in_schema (closed_in_items ds)).0 h
+
+item_passes : (d : Data) (ds : Items) → (closed_in d).in_schema ≡ false
+    → closed_in_items ds ≡ closed_in_items (item d ds)
+unfolding closed_in_items
+item_passes d ds h = (either_way (closed_in d).in_schema (closed_in_items ds)).1 h
+
+pub no_keyword_closes : false ≡ closed_in_keywords no_members
+unfolding closed_in_keywords
+no_keyword_closes = refl
+
+pub ruleset keywords = (keyword_closes, keyword_passes, no_keyword_closes)
+
+no_item_closes : false ≡ closed_in_items no_items
+unfolding closed_in_items
+no_item_closes = refl
+
+pub item_found : (xs : List Value) (i : ℕ) (x : Value) (all : Bool) → i < length xs → x ≡ get_or xs i x
+    → (closed_in (view x)).in_schema ≡ true → closed_in_items (items_view (drop i xs)) ≡ all → true ≡ all
+item_found xs i x all within is closed before =
+    item_closes (view x) (items_view (drop (i + 1) xs)) closed
+    ∙ (ap closed_in_items (sym (from_here xs i x within is)) ∙ before)
+
+pub item_passed : (xs : List Value) (i : ℕ) (x : Value) (all : Bool) → i < length xs → x ≡ get_or xs i x
+    → (closed_in (view x)).in_schema ≡ false → closed_in_items (items_view (drop i xs)) ≡ all
+    → closed_in_items (items_view (drop (i + 1) xs)) ≡ all
+item_passed xs i x all within is passes before =
+    item_passes (view x) (items_view (drop (i + 1) xs)) passes
+    ∙ (ap closed_in_items (sym (from_here xs i x within is)) ∙ before)
+
+pub all_passed : (xs : List Value) (i : ℕ) (all : Bool) → length xs ≤ i
+    → closed_in_items (items_view (drop i xs)) ≡ all → false ≡ all
+all_passed xs i all end before = no_item_closes ∙ (ap closed_in_items (sym (nothing_at xs i end)) ∙ before)

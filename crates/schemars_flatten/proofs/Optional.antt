@@ -1,0 +1,51 @@
+-- What is made of parts that may be missing, in the words of what is meant.
+use Rattle.std.proofs.Common.{◌≡◌, Option, Some, None, Bool, true, false, List, [], ◌∷◌, ◌++◌, length, IsTrue, codes}
+use Rattle.std.proofs.Common.{refl}
+use Rattle.std.proofs.Common.{sym, ap, ◌∙◌, arith}
+use Rattle.std.specs.Prelude.{if◌then◌else◌}
+use Rattle.serde_json.specs.Data.{Data, null, boolean, number, string, array, object, no_members}
+use Rattle.serde_json.specs.Find.{get}
+use Rattle.serde_json.specs.View.{view, items_view, members_view}
+use Rattle.serde_json.specs.declared.value.Value.{Value}
+use Rattle.serde_json.proofs.Views.{Entry}
+use Rattle.schemars_schema.specs.Json.{Text}
+use Rattle.schemars_schema.specs.Edits.{removed}
+use Rattle.schemars_builders.specs.AllowNull.{with_item}
+use Rattle.schemars_builders.proofs.Nulls.{items_view-push}
+use Rattle.schemars_flatten.specs.Flatten.{flattened}
+use Rattle.schemars_flatten.proofs.Parts.{without_missing}
+use Rattle.schemars_flatten.specs.Parts.{is_empty_object, holds_empty_object, with_empty_object, one_or_anything}
+use Rattle.schemars_flatten.specs.Parts.{choice_or_anything}
+
+pub empty_object : (b : Bool) (es : List Entry) → (IsTrue b → length es ≡ 0) → (length es ≡ 0 → IsTrue b)
+    → b ≡ is_empty_object (object (members_view es))
+empty_object b [] none all = all refl
+empty_object true (e ∷ es) none all = absurd (omega (arith, none refl))
+empty_object false (e ∷ es) none all = refl
+
+pub empty_pushed : (xs : List Value) (x : Value) → holds_empty_object (items_view xs) ≡ false
+    → view x ≡ object no_members
+    → items_view (xs ++ x ∷ []) ≡ with_empty_object (items_view xs)
+empty_pushed xs x absent is =
+    let ds = items_view xs in
+    items_view-push xs x
+    ∙ (ap (with_item ds) is ∙ ap (λ b. if b then ds else with_item ds (object no_members)) (sym absent))
+
+removed_missing : (k : Text) (s : Data) → None ≡ get k s → removed k s ≡ s
+removed_missing k null h = refl
+removed_missing k (boolean b) h = refl
+removed_missing k (number n) h = refl
+removed_missing k (string t) h = refl
+removed_missing k (array ds) h = refl
+removed_missing k (object ms) h = ap object (without_missing k ms h)
+
+pub no_choice : (s new : Data) → None ≡ get (codes "oneOf") s → new ≡ removed (codes "oneOf") s
+    → new ≡ choice_or_anything s
+no_choice s new missing made = made ∙ (removed_missing (codes "oneOf") s missing ∙ go (get (codes "oneOf") s) missing)
+  where
+    go : (o : Option Data) → None ≡ o → s ≡ elim o [
+      | None ↦ s
+      | Some choice ↦ flattened (removed (codes "oneOf") s) (one_or_anything choice)
+    ]
+    go None h = refl
+    go (Some choice) h = cc

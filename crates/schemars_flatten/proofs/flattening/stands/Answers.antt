@@ -1,7 +1,0 @@
--- Whether a map has a key, in the words of members.
-use Rattle.std.proofs.Common.{◌∙◌}
-use Rattle.schemars_rewrite.proofs.Changes.{is_there}
-use Rattle.schemars_flatten.proofs.flattening.stands.Goals as goal
-
-pub returns : goal.returns
-returns c = c.contains_key.ensures ∙ is_there c.args.key.now c.args.members.now.entries

@@ -1,5 +1,0 @@
-use Rattle.std.proofs.Common.{rules}
-use Rattle.schemars_gen_transform.proofs.formats.is_defined.Goals as goal
-
-pub returns-in-Missing : goal.returns-in-Missing
-returns-in-Missing c = search rules

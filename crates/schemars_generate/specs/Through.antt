@@ -1,0 +1,68 @@
+-- What transforms make of root documents and of definitions.
+use Rattle.std.specs.Prelude.{◌≡◌, ◌⊎◌, ℕ, false, Ok, Err}
+use Rattle.serde_json.specs.Data.{Data, Members, no_members}
+use Rattle.serde_json.specs.Written.{has_float}
+use Rattle.schemars_documents.specs.PlainTable.{HasNoFloat}
+use Rattle.schemars_headline.specs.State.{State, HasOwnDefinitions, work_of, after_root}
+use Rattle.schemars_headline.specs.Keys.{HasKeysOnce}
+use Rattle.schemars_build.specs.Naming.{IsOneToOne}
+use Rattle.schemars_headline.specs.Headline.{RootHeadline, RootWideHeadline, IsRootOf, CannotPlace, IsInlined}
+use Rattle.schemars_headline.specs.Calls.{IsRootCall, IsLastRootCall}
+use Rattle.schemars_headline.specs.Dialects.{Draft07Headline, Draft2019_09Headline}
+use Rattle.schemars_build.specs.Work.{Work}
+use Rattle.schemars_walk.specs.Walk.{Step, EachMember, AtSchema}
+use Rattle.schemars_walk.specs.declared.transform.TransformError.{TransformError}
+use Rattle.schemars_generate.specs.Refusals.{told}
+use Rattle.schemars_generate.specs.declared.error.GenerateError.{GenerateError}
+use Rattle.schemars_generate.specs.declared.error.GenerateError.TheVariants.{OutOfMemory, UnknownType, DefinitionsPath}
+
+-- the transforms, from their old state to their new one, made this document of one of which R holds
+abbrev pub IsThrough : {T : Type 0} → Step T → T → T → (Data → Type 0) → Data → Type 0
+IsThrough Q t u R document = (d : Data) × R d × Q t d (Ok tt) u document
+
+-- the transforms refused a document of which R holds, and the refusal is told
+abbrev pub IsTurnedDown : {T : Type 0} → Step T → T → T → (Data → Type 0) → GenerateError → Type 0
+IsTurnedDown Q t u R e = (a : TransformError) × (d : Data) × (v : Data) × R d × Q t d (Err a) u v × (e ≡ told a)
+
+-- the transforms, from their old state to their new one, made this of each definition, in map order; what is no schema
+-- stays
+abbrev pub AreThrough : {T : Type 0} → Step T → T → T → Members → Members → Type 0
+AreThrough Q t u definitions taken = EachMember (λ k. AtSchema Q) t definitions (Ok tt) u taken
+
+-- the transforms refused a definition, or memory ran out on the way, and the refusal is told
+abbrev pub AreTurnedDown : {T : Type 0} → Step T → T → T → Members → GenerateError → Type 0
+AreTurnedDown Q t u definitions e =
+    (a : TransformError) × (taken : Members) × EachMember (λ k. AtSchema Q) t definitions (Err a) u taken × (e ≡ told a)
+
+-- ---- root documents before transforms
+
+-- what is told of the root document of row n
+pub record IsUntransformed (old : State) (n : ℕ) (d : Data) : Type 0 where
+  pub last : IsLastRootCall old n d
+  pub headline : RootHeadline old n d
+  pub wide : RootWideHeadline old n d
+  pub draft07 : Draft07Headline old n d
+  pub draft2019_09 : Draft2019_09Headline old n d
+  pub inlined : old.definitions ≡ no_members → IsInlined old d
+  pub whole : HasNoFloat old.rows → HasOwnDefinitions old → has_float d ≡ false
+
+-- and of what the generator holds after the call
+abbrev pub IsUntransformedCall : State → ℕ → State → Data → Type 0
+IsUntransformedCall old n new d = IsUntransformed old n d × IsRootCall old n new d
+
+-- the document of a row of the table is refused before transforms
+abbrev pub IsRefused : State → ℕ → GenerateError → Type 0
+IsRefused s n e = (e ≡ OutOfMemory) ⊎ ((e ≡ DefinitionsPath) × CannotPlace s n)
+
+-- before transforms, which then stay as they are, or by them
+abbrev pub IsRefusedThrough : {T : Type 0} → Step T → T → T → State → ℕ → GenerateError → Type 0
+IsRefusedThrough Q t u s n e = (IsRefused s n e × (u ≡ t)) ⊎ IsTurnedDown Q t u (IsLastRootCall s n) e
+
+-- there is no such row, or its root document is refused
+abbrev pub IsRootRefused : {T : Type 0} → Step T → T → T → State → ℕ → GenerateError → Type 0
+IsRootRefused Q t u s n e = ((e ≡ UnknownType n) × (u ≡ t)) ⊎ IsRefusedThrough Q t u s n e
+
+-- the root document of row n, and what stands after the call that made it
+abbrev pub IsMade : State → ℕ → Work → Data → Type 0
+IsMade s n new d =
+    (w : Work) × IsRootOf s n w d × HasKeysOnce w.definitions × IsOneToOne w.names × (new ≡ work_of (after_root s w))

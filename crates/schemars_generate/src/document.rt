@@ -1,0 +1,269 @@
+//! Documents of rows as parts and as roots.
+ghost use Rattle.std.specs.Prelude.{List, ℕ, true, false, ◌≡◌, ◌<◌, ◌⊎◌, length, IfOk, IfErr, OnOk, OnErr, None, Some};
+ghost use Rattle.serde_json.specs.View.{members_view};
+ghost use Rattle.schemars_schema.specs.References.{references};
+ghost use Rattle.schemars_types.specs.Faults.{IsChecked};
+ghost use Rattle.schemars_headline.specs.Headline.{IsRootOf, IsTitledRoot, CannotPlace, with_definitions};
+ghost use Rattle.schemars_build.specs.Missing.{row_asked};
+ghost use Rattle.schemars_build.specs.Parts.{IsPlainAsk, IsSaid, AreNeededFor};
+ghost use Rattle.schemars_build.specs.Naming.{IsOneToOne};
+ghost use Rattle.schemars_documents.specs.PlainTable.{IsPlainTable};
+ghost use Rattle.schemars_build.specs.Reached.{AreReached};
+ghost use Rattle.schemars_headline.specs.Keys.{HasKeysOnce};
+ghost use Rattle.schemars_generate.specs.DocumentSettings.{settings_of, state_of};
+ghost use Rattle.schemars_generate.specs.Samples.{IsSampleRoot, IsSampleRefused};
+ghost use Rattle.schemars_sample.specs.Example.{example_of};
+ghost use Rattle.schemars_generate.specs.Through.{IsThrough, IsRefusedThrough, IsMade};
+ghost use Rattle.schemars_headline.specs.State.{plan_of as state_plan, work_of};
+ghost use Rattle.schemars_documents.specs.View.{ask_of};
+ghost use Rattle.schemars_build.specs.Work as specs;
+ghost use Rattle.schemars_build.specs.Work.{Step, undone};
+
+use crate::document_settings::DocumentSettings;
+use crate::error::GenerateError;
+use crate::path::stripped;
+use schemars_build::build::{Plan, answer, own_document};
+use schemars_build::work::Work;
+use schemars_documents::documents::make_root;
+use schemars_documents::template::Ask;
+use schemars_sample::Sample;
+use schemars_schema::Schema;
+use schemars_types::{TypeNo, Types};
+use schemars_walk::Transform;
+use serde_json::{Map, Value};
+use std::alloc::{AllocError, Global};
+
+// The row that is asked.
+pub(crate) fn row_asked(ask: Ask) -> TypeNo
+    ensures { result ≡ row_asked (ask_of ask) }
+{
+    match ask {
+        Ask::Part(n) => n,
+        Ask::MembersOf(n, _) => n,
+        Ask::Content(n) => n,
+    }
+}
+
+// What a row answers outside of root documents; where it is refused, the work is as before.
+pub(crate) fn answer_of(
+    alloc: Global,
+    settings: &DocumentSettings<'_>,
+    types: &Types,
+    work: &mut Work,
+    ask: Ask,
+) -> Result<Schema, AllocError>
+    requires checked { IsChecked types.now }
+    requires known { row_asked (ask_of ask) < length types.now }
+    requires between { work.old ≡ work_of (state_of settings.now types.now work.old) }
+    ensures between { work.new ≡ work_of (state_of settings.now types.now work.new) }
+    ensures step { OnOk result (Step (state_plan (state_of settings.now types.now work.old) None) work.old work.new) }
+    ensures said { IfOk result
+        (IsSaid (state_plan (state_of settings.now types.now work.old) None) false work.new (ask_of ask)) }
+    ensures needed { IfOk result (AreNeededFor (state_plan (state_of settings.now types.now work.old) None) true
+        work.old work.new (ask_of ask)) }
+    ensures reached { IfOk result (λ s. IsPlainAsk types.now (ask_of ask) → IsPlainTable types.now
+        → AreReached (state_plan (state_of settings.now types.now work.old) None) true work.old work.new
+        (references s)) }
+    ensures one_to_one { OnOk result (IsOneToOne work.new.names) }
+    ensures err { OnErr result (work.new ≡ work.old) }
+{
+    let plan = Plan {
+        types,
+        contract: settings.contract,
+        titles: settings.untagged_enum_variant_titles,
+        inlines: settings.inline_subschemas,
+        path: stripped(settings.definitions_path),
+        root: None,
+    };
+    match answer(alloc, &plan, work, true, ask) {
+        Ok(schema) => {
+            work.keep();
+            Ok(schema)
+        }
+        Err(e) => {
+            work.undo();
+            Err(e)
+        }
+    }
+}
+
+// The root document of row `n`; where it is refused, the work is as before.
+pub(crate) fn root_document<T: Transform>(
+    alloc: Global,
+    settings: &DocumentSettings<'_>,
+    transforms: &mut T,
+    types: &Types,
+    work: &mut Work,
+    n: TypeNo,
+) -> Result<Schema, GenerateError>
+    requires checked { IsChecked types.now }
+    requires known { n < length types.now }
+    requires between { work.old ≡ work_of (state_of settings.now types.now work.old) }
+    ensures root { IfOk result (IsThrough T.makes transforms.old transforms.new
+        (IsMade (state_of settings.now types.now work.old) n work.new)) }
+    ensures refused { IfErr result
+        (IsRefusedThrough T.makes transforms.old transforms.new (state_of settings.now types.now work.old) n) }
+    ensures err { OnErr result (work.new ≡ work.old) }
+{
+    match whole_document(alloc, settings, transforms, types, work, n) {
+        Ok(document) => {
+            if work.meets_root() {
+                work.forget();
+            } else {
+                work.keep();
+            }
+            Ok(document)
+        }
+        Err(e) => {
+            work.undo();
+            Err(e)
+        }
+    }
+}
+
+// The root document of row `n`, through the transforms.
+fn whole_document<T: Transform>(
+    alloc: Global,
+    settings: &DocumentSettings<'_>,
+    transforms: &mut T,
+    types: &Types,
+    work: &mut Work,
+    n: TypeNo,
+) -> Result<Schema, GenerateError>
+    requires checked { IsChecked types.now }
+    requires known { n < length types.now }
+    requires between { work.old ≡ work_of (state_of settings.now types.now work.old) }
+    ensures root { IfOk result (IsThrough T.makes transforms.old transforms.new
+        (IsRootOf (state_of settings.now types.now work.old) n work.new)) }
+    ensures once { OnOk result (HasKeysOnce work.new.definitions) }
+    ensures refused { IfErr result
+        (IsRefusedThrough T.makes transforms.old transforms.new (state_of settings.now types.now work.old) n) }
+    ensures undone { undone work.new ≡ undone work.old }
+{
+    let mut document = untransformed_document(alloc, settings, types, work, n)?;
+    transforms.transform(alloc, &mut document)?;
+    Ok(document)
+}
+
+// The root document of row `n` before transforms, with a copy of the definitions.
+fn untransformed_document(
+    alloc: Global,
+    settings: &DocumentSettings<'_>,
+    types: &Types,
+    work: &mut Work,
+    n: TypeNo,
+) -> Result<Schema, GenerateError>
+    requires checked { IsChecked types.now }
+    requires known { n < length types.now }
+    requires between { work.old ≡ work_of (state_of settings.now types.now work.old) }
+    ensures root { IfOk result (IsRootOf (state_of settings.now types.now work.old) n work.new) }
+    ensures once { OnOk result (HasKeysOnce work.new.definitions) }
+    ensures refused { IfErr result (λ e. (e ≡ GenerateError.OutOfMemory)
+        ⊎ ((e ≡ GenerateError.DefinitionsPath) × CannotPlace (state_of settings.now types.now work.old) n)) }
+    ensures undone { undone work.new ≡ undone work.old }
+{
+    let own = titled_document(alloc, settings, types, work, n)?;
+    let definitions = work.copy_definitions()?;
+    let path = stripped(settings.definitions_path);
+    let document = place(alloc, path, own, definitions)?;
+    Ok(document)
+}
+
+// The root document of row `n` before transforms, with the definitions themselves.
+pub(crate) fn last_document(
+    alloc: Global,
+    settings: &DocumentSettings<'_>,
+    types: &Types,
+    work: Work,
+    n: TypeNo,
+) -> Result<Schema, GenerateError>
+    requires checked { IsChecked types.now }
+    requires known { n < length types.now }
+    requires between { work ≡ work_of (state_of settings.now types.now work) }
+    ensures root { IfOk result (λ d. (w : specs.Work) × IsRootOf (state_of settings.now types.now work) n w d
+        × HasKeysOnce w.definitions × IsOneToOne w.names) }
+    ensures refused { IfErr result (λ e. (e ≡ GenerateError.OutOfMemory)
+        ⊎ ((e ≡ GenerateError.DefinitionsPath) × CannotPlace (state_of settings.now types.now work) n)) }
+{
+    let mut work = work;
+    let own = titled_document(alloc, settings, types, &mut work, n)?;
+    work.keep();
+    let definitions = work.take_definitions(alloc);
+    let path = stripped(settings.definitions_path);
+    let document = place(alloc, path, own, definitions)?;
+    Ok(document)
+}
+
+// The document of row `n` as a root document, without the definitions.
+fn titled_document(
+    alloc: Global,
+    settings: &DocumentSettings<'_>,
+    types: &Types,
+    work: &mut Work,
+    n: TypeNo,
+) -> Result<Schema, AllocError>
+    requires checked { IsChecked types.now }
+    requires known { n < length types.now }
+    ensures undone { undone work.new ≡ undone work.old }
+    ensures step { OnOk result
+        (Step (state_plan (state_of settings.now types.now work.old) (Some n)) work.old work.new) }
+    ensures titled { IfOk result (IsTitledRoot (state_of settings.now types.now work.old) work.old n work.new) }
+{
+    let plan = Plan {
+        types,
+        contract: settings.contract,
+        titles: settings.untagged_enum_variant_titles,
+        inlines: settings.inline_subschemas,
+        path: stripped(settings.definitions_path),
+        root: Some(n),
+    };
+    let mut schema = own_document(alloc, &plan, work, false, n)?;
+    make_root(
+        alloc,
+        &mut schema,
+        types.name(n).unwrap_or(""),
+        settings.meta_schema,
+    )?;
+    Ok(schema)
+}
+
+// The root document of an example before transforms, with these definitions.
+pub(crate) fn sample_document(
+    alloc: Global,
+    settings: &DocumentSettings<'_>,
+    sample: &Sample,
+    definitions: Map<String, Value>,
+) -> Result<Schema, GenerateError>
+    ensures root { IfOk result
+        (IsSampleRoot (settings_of settings.now) (members_view definitions.entries) (example_of sample.now)) }
+    ensures refused { IfErr result
+        (IsSampleRefused (settings_of settings.now) (members_view definitions.entries) (example_of sample.now)) }
+{
+    let own = schemars_sample::root_document(alloc, sample, settings.meta_schema)?;
+    let path = stripped(settings.definitions_path);
+    let document = place(alloc, path, own, definitions)?;
+    Ok(document)
+}
+
+// The document with the definitions at the path, if there are any.
+fn place(
+    alloc: Global,
+    path: &str,
+    document: Schema,
+    definitions: Map<String, Value>,
+) -> Result<Schema, GenerateError>
+    ensures ok { IfOk result (λ d. with_definitions path.now (members_view definitions.entries) document ≡ Some d) }
+    ensures once { HasKeysOnce (members_view definitions.entries) }
+    ensures refused { IfErr result (λ e. (e ≡ GenerateError.OutOfMemory) ⊎ ((e ≡ GenerateError.DefinitionsPath)
+        × (with_definitions path.now (members_view definitions.entries) document ≡ None))) }
+{
+    let mut document = document;
+    if definitions.len() == 0 {
+        return Ok(document);
+    }
+    if document.merge_at(alloc, path, definitions)? {
+        Ok(document)
+    } else {
+        Err(GenerateError::DefinitionsPath)
+    }
+}

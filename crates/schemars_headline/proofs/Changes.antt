@@ -1,0 +1,385 @@
+-- Which changes leave a schema object one that the laws of the drafts speak of.
+use Rattle.std.proofs.Common.{◌≡◌, ◌≢◌, ◌⊎◌, inl, inr, List, [], ◌∷◌, Option, Some, None, Bool, true, false, codes, refl, sym, ap, ◌∙◌, subst}
+use Rattle.std.proofs.Common.{true≢false}
+use Rattle.std.specs.Prelude.{bytes_eq, if◌then◌else◌, ◌||◌, ◌&&◌}
+use Rattle.serde_json.specs.Data.{Data, null, boolean, number, string, array, object, Items, no_items, item, Members, no_members, member}
+use Rattle.serde_json.specs.Data.{put}
+use Rattle.serde_json.specs.Find.{get_member}
+use Rattle.serde_json.proofs.Views.{get_member-put, get_member-put_other}
+use Rattle.schemars_schema.specs.Json.{Text}
+use Rattle.schemars_schema.specs.OrderedText.{is_listed}
+use Rattle.schemars_schema.specs.SchemaData.{IsSchema, members_in, put_members}
+use Rattle.schemars_schema.specs.Annotations.{is_annotation, AreNotes}
+use Rattle.schemars_schema.specs.Edits.{without}
+use Rattle.schemars_schema.specs.References.{NoSchemas, place_under, with_schema, with_list, with_names}
+use Rattle.schemars_schema.specs.Acceptance.{is_null}
+use Rattle.schemars_schema.proofs.Objects.{annotation-not_listed}
+use Rattle.schemars_builders.specs.AllowNull.{is_null_choice, is_combined, or_null, allow_null, type_with_null, null_in_type, holds_text, with_item}
+use Rattle.schemars_builders.specs.AllowNull.{enum_with_null, null_in_enum, const_or_null, null_in_const, null_in_values}
+use Rattle.schemars_documents.specs.Documents.{annotated}
+use Rattle.schemars_meaning.proofs.MapDocument.{noted_by, AllNotes}
+use Rattle.schemars_laws.specs.Everywhere.{Everywhere, asked, asked_at, asked_of_keywords}
+use Rattle.schemars_laws.specs.Classes.{IsSchemaList, AreTexts, is_null_alone, IsConstAlone}
+use Rattle.schemars_laws.proofs.Apart.{differ}
+use Rattle.schemars_laws.specs.Stages.{Stands, IsForOpenApi, AreSomeTypes}
+use Rattle.schemars_laws.proofs.Editing.{without-put, alike-put, once-put, absent-once, type-alike, values-alike, const-alike, stands-alike}
+use Rattle.schemars_laws.proofs.Looked.{without-other}
+use Rattle.schemars_laws.proofs.Plain.{Alike, items-alike, without-swap}
+use Rattle.schemars_laws.proofs.Preserved.{asked-without, asked-put}
+
+-- ---- keywords
+
+-- those that the laws of the drafts ask about
+abbrev pub watched : List Text
+watched = codes "$ref" ∷ codes "allOf" ∷ codes "prefixItems" ∷ codes "items" ∷ codes "additionalItems"
+    ∷ codes "unevaluatedProperties" ∷ codes "type" ∷ codes "nullable" ∷ codes "const" ∷ codes "enum" ∷ []
+
+abbrev pub IsWatched : Text → Type 0
+IsWatched k = is_listed k watched ≡ true
+
+abbrev pub IsUnwatched : Text → Type 0
+IsUnwatched k = is_listed k watched ≡ false
+
+watched-apart : (k l : Text) → is_listed k watched ≡ true → IsUnwatched l → k ≢ l
+watched-apart k l at out = λ same. true≢false (sym at ∙ (ap (λ x. is_listed x watched) same ∙ out))
+
+either_false : (b : Bool) → b || false ≡ false → b ≡ false
+either_false true h = h
+either_false false h = h
+
+-- no schema stands under a keyword of no list
+pub place-none : (k : Text) → is_listed k with_schema ≡ false → is_listed k with_list ≡ false
+    → is_listed k (codes "items" ∷ []) ≡ false → is_listed k with_names ≡ false → place_under k ≡ NoSchemas
+place-none k one list items names = rw (one, list, either_false (bytes_eq k (codes "items")) items, names) refl
+
+note-unwatched : (k : Text) → is_annotation k ≡ true → IsUnwatched k
+note-unwatched k note = annotation-not_listed k watched refl note
+
+note-place : (k : Text) → is_annotation k ≡ true → place_under k ≡ NoSchemas
+note-place k note =
+    place-none k (annotation-not_listed k with_schema refl note) (annotation-not_listed k with_list refl note)
+    (annotation-not_listed k (codes "items" ∷ []) refl note) (annotation-not_listed k with_names refl note)
+
+-- where no schema stands, nothing is asked
+pub asked-nothing : (P : Members → Type 0) (k : Text) (d : Data) → place_under k ≡ NoSchemas
+    → asked_at (place_under k) (asked P d)
+asked-nothing P k d is = subst (λ p. asked_at p (asked P d)) (sym is) tt
+
+-- ---- members put in, and taken out
+
+module _ (R : Text → Type 0) where
+  -- what the laws of OpenAPI's transforms, and those of Draft 7, ask for, where references are texts of which R holds
+  abbrev pub Class : Members → Type 0
+  Class = Stands R IsForOpenApi
+
+  class-alike : (ns ms : Members) → ((k : Text) → is_listed k watched ≡ true → Alike k ns ms) → Class ms → Class ns
+  class-alike ns ms a is =
+      stands-alike R IsForOpenApi IsForOpenApi ns ms (a (codes "$ref") refl) (a (codes "unevaluatedProperties") refl) (record {
+        unevaluated = (
+          (a (codes "unevaluatedProperties") refl).others ∙ is.own.unevaluated.0,
+          (a (codes "unevaluatedProperties") refl).first ∙ is.own.unevaluated.1,
+        );
+        type = type-alike ns ms (a (codes "type") refl) (a (codes "nullable") refl) (a (codes "const") refl) is.own.type;
+        values = values-alike ns ms (a (codes "type") refl) (a (codes "enum") refl) is.own.values;
+        all_of = subst IsSchemaList (sym (a (codes "allOf") refl).first) is.own.all_of;
+        const = const-alike ns ms (a (codes "const") refl) (a (codes "enum") refl) is.own.const;
+        items = items-alike ns ms (a (codes "prefixItems") refl) (a (codes "items") refl) (a (codes "additionalItems") refl) is.own.items;
+      }) is
+
+  class-put : (l : Text) (d : Data) (ms : Members) → IsUnwatched l → Class ms → Class (put l d ms)
+  class-put l d ms out is = class-alike (put l d ms) ms (λ k at. record {
+    first = get_member-put_other k l d ms (watched-apart k l at out);
+    others = without-put k l d ms (watched-apart k l at out);
+  }) is
+
+  -- members of the class, and schemas of it inside them
+  pub record AreGood (ms : Members) : Type 0 where
+    pub own : Class ms
+    pub inside : asked_of_keywords Class ms
+
+  pub are-put : (l : Text) (d : Data) (ms : Members) → IsUnwatched l → asked_at (place_under l) (asked Class d) → AreGood ms
+      → AreGood (put l d ms)
+  are-put l d ms out here is = record { own = class-put l d ms out is.own; inside = asked-put Class l d ms here is.inside }
+
+  -- `type`, `const` and `enum`, as they may stand beside one another
+  other : (l k : Text) (d : Data) (ms : Members) → bytes_eq k l ≡ false → Alike k (put l d ms) ms
+  other l k d ms out = alike-put k l d ms out
+
+  class-type : (t : Data) (ms : Members) → AreSomeTypes (Some t)
+      → (is_null_alone (Some t) ≡ false) ⊎ ((get_member (codes "const") ms ≡ None) × (get_member (codes "enum") ms ≡ None)) → Class ms
+      → Class (put (codes "type") t ms)
+  class-type t ms types alone is =
+      let ns = put (codes "type") t ms in
+      let here : get_member (codes "type") (put (codes "type") t ms) ≡ Some t = get_member-put (codes "type") t ms in
+      stands-alike R IsForOpenApi IsForOpenApi (put (codes "type") t ms) ms (other (codes "type") (codes "$ref") t ms refl) (other (codes "type") (codes "unevaluatedProperties") t ms refl)
+      (record {
+        unevaluated = (
+          (other (codes "type") (codes "unevaluatedProperties") t ms refl).others ∙ is.own.unevaluated.0,
+          (other (codes "type") (codes "unevaluatedProperties") t ms refl).first ∙ is.own.unevaluated.1,
+        );
+        type = (subst AreSomeTypes (sym here) types, (other (codes "type") (codes "nullable") t ms refl).first ∙ is.own.type.1, no_const here alone);
+        values = no_enum here alone;
+        all_of = subst IsSchemaList (sym (other (codes "type") (codes "allOf") t ms refl).first) is.own.all_of;
+        const = const-alike (put (codes "type") t ms) ms (other (codes "type") (codes "const") t ms refl) (other (codes "type") (codes "enum") t ms refl) is.own.const;
+        items = items-alike (put (codes "type") t ms) ms (other (codes "type") (codes "prefixItems") t ms refl) (other (codes "type") (codes "items") t ms refl)
+            (other (codes "type") (codes "additionalItems") t ms refl) is.own.items;
+      }) is
+    where
+      no_const : get_member (codes "type") (put (codes "type") t ms) ≡ Some t
+          → (is_null_alone (Some t) ≡ false) ⊎ ((get_member (codes "const") ms ≡ None) × (get_member (codes "enum") ms ≡ None))
+          → (is_null_alone (get_member (codes "type") (put (codes "type") t ms)) ≡ false) ⊎ (get_member (codes "const") (put (codes "type") t ms) ≡ None)
+      no_const here (inl out) = inl (ap is_null_alone here ∙ out)
+      no_const here (inr out) = inr ((other (codes "type") (codes "const") t ms refl).first ∙ out.0)
+
+      no_enum : get_member (codes "type") (put (codes "type") t ms) ≡ Some t
+          → (is_null_alone (Some t) ≡ false) ⊎ ((get_member (codes "const") ms ≡ None) × (get_member (codes "enum") ms ≡ None))
+          → (is_null_alone (get_member (codes "type") (put (codes "type") t ms)) ≡ false) ⊎ (get_member (codes "enum") (put (codes "type") t ms) ≡ None)
+      no_enum here (inl out) = inl (ap is_null_alone here ∙ out)
+      no_enum here (inr out) = inr ((other (codes "type") (codes "enum") t ms refl).first ∙ out.1)
+
+  -- a change of `const` and `enum` beside a type that is not null alone
+  class-values : (ns ms : Members) → ((k : Text) → is_listed k (codes "const" ∷ codes "enum" ∷ []) ≡ false → is_listed k watched ≡ true → Alike k ns ms)
+      → IsConstAlone ns → is_null_alone (get_member (codes "type") ms) ≡ false → Class ms → Class ns
+  class-values ns ms a const alone is =
+      stands-alike R IsForOpenApi IsForOpenApi ns ms (a (codes "$ref") refl refl) (a (codes "unevaluatedProperties") refl refl) (record {
+        unevaluated = (
+          (a (codes "unevaluatedProperties") refl refl).others ∙ is.own.unevaluated.0,
+          (a (codes "unevaluatedProperties") refl refl).first ∙ is.own.unevaluated.1,
+        );
+        type = (
+          subst AreSomeTypes (sym (a (codes "type") refl refl).first) is.own.type.0,
+          (a (codes "nullable") refl refl).first ∙ is.own.type.1,
+          inl (ap is_null_alone (a (codes "type") refl refl).first ∙ alone),
+        );
+        values = inl (ap is_null_alone (a (codes "type") refl refl).first ∙ alone);
+        all_of = subst IsSchemaList (sym (a (codes "allOf") refl refl).first) is.own.all_of;
+        const = const;
+        items = items-alike ns ms (a (codes "prefixItems") refl refl) (a (codes "items") refl refl) (a (codes "additionalItems") refl refl) is.own.items;
+      }) is
+
+  -- k is watched, and none of these two
+  apart-from : (k l : Text) → is_listed k (codes "const" ∷ codes "enum" ∷ []) ≡ false → is_listed l (codes "const" ∷ codes "enum" ∷ []) ≡ true → k ≢ l
+  apart-from k l out at same = true≢false (sym at ∙ (ap (λ x. is_listed x (codes "const" ∷ codes "enum" ∷ [])) (sym same) ∙ out))
+
+  alike-value : (l k : Text) (d : Data) (ms : Members) → is_listed l (codes "const" ∷ codes "enum" ∷ []) ≡ true
+      → is_listed k (codes "const" ∷ codes "enum" ∷ []) ≡ false → Alike k (put l d ms) ms
+  alike-value l k d ms at out = record {
+    first = get_member-put_other k l d ms (apart-from k l out at);
+    others = without-put k l d ms (apart-from k l out at);
+  }
+
+  pub are-types : (t : Data) (ms : Members) → AreSomeTypes (Some t)
+      → (is_null_alone (Some t) ≡ false) ⊎ ((get_member (codes "const") ms ≡ None) × (get_member (codes "enum") ms ≡ None)) → AreGood ms
+      → AreGood (put (codes "type") t ms)
+  are-types t ms types alone is = record { own = class-type t ms types alone is.own; inside = asked-put Class (codes "type") t ms tt is.inside }
+
+  pub are-const : (c : Data) (ms : Members) → get_member (codes "const") ms ≡ None → get_member (codes "enum") ms ≡ None
+      → is_null_alone (get_member (codes "type") ms) ≡ false → AreGood ms → AreGood (put (codes "const") c ms)
+  are-const c ms const enum alone is = record {
+    own = class-values (put (codes "const") c ms) ms (λ k out at. alike-value (codes "const") k c ms refl out)
+        (once-put (codes "const") c ms const, inr ((other (codes "const") (codes "enum") c ms refl).first ∙ enum)) alone is.own;
+    inside = asked-put Class (codes "const") c ms tt is.inside;
+  }
+
+  pub are-enum : (e : Data) (ms : Members) → get_member (codes "const") ms ≡ None
+      → is_null_alone (get_member (codes "type") ms) ≡ false → AreGood ms → AreGood (put (codes "enum") e ms)
+  are-enum e ms const alone is = record {
+    own = class-values (put (codes "enum") e ms) ms (λ k out at. alike-value (codes "enum") k e ms refl out)
+        ((other (codes "enum") (codes "const") e ms refl).others ∙ is.own.own.const.0, inl ((other (codes "enum") (codes "const") e ms refl).first ∙ const)) alone is.own;
+    inside = asked-put Class (codes "enum") e ms tt is.inside;
+  }
+
+  without-const : (ms : Members) → is_null_alone (get_member (codes "type") ms) ≡ false → AreGood ms → AreGood (without (codes "const") ms)
+  without-const ms alone is = record {
+    own = class-values (without (codes "const") ms) ms (λ k out at. record {
+      first = without-other (codes "const") k ms (apart-from k (codes "const") out refl);
+      others = without-swap k (codes "const") ms (apart-from k (codes "const") out refl);
+    }) (absent-once (codes "const") (without (codes "const") ms) is.own.own.const.0, inl is.own.own.const.0) alone is.own;
+    inside = asked-without Class (codes "const") ms is.inside;
+  }
+
+  pub nothing : AreGood no_members
+  unfolding asked_of_keywords
+  nothing = record {
+    own = record {
+      reference = tt;
+      once = refl;
+      closed = tt;
+      own = record {
+        unevaluated = (refl, refl);
+        type = (tt, refl, inl refl);
+        values = inl refl;
+        all_of = tt;
+        const = (refl, inl refl);
+        items = (refl, tt, tt, refl);
+      };
+    };
+    inside = tt;
+  }
+
+  -- ---- schemas
+
+  -- a schema that is of the class everywhere
+  pub record IsGood (s : Data) : Type 0 where
+    pub schema : IsSchema s
+    pub everywhere : Everywhere Class s
+
+  pub good : (ms : Members) → AreGood ms → IsGood (object ms)
+  unfolding asked
+  good ms is = record { schema = tt; everywhere = (is.own, is.inside) }
+
+  pub good_truth : (b : Bool) → IsGood (boolean b)
+  unfolding asked
+  good_truth b = record { schema = tt; everywhere = tt }
+
+  pub good-members : (s : Data) → IsGood s → AreGood (members_in s)
+  unfolding asked
+  good-members (boolean true) is = nothing
+  good-members (boolean false) is =
+      are-put (codes "not") (object no_members) no_members refl (good no_members nothing).everywhere nothing
+  good-members (object ms) is = record { own = is.everywhere.0; inside = is.everywhere.1 }
+  good-members null is = absurd is.schema
+  good-members (number n) is = absurd is.schema
+  good-members (string t) is = absurd is.schema
+  good-members (array ds) is = absurd is.schema
+
+  -- ---- notes
+
+  are-noted : (notes ms : Members) → AreNotes notes → AreGood ms → AreGood (put_members notes ms)
+  are-noted no_members ms noted is = is
+  are-noted (member k d notes) ms noted is =
+      are-noted notes (put k d ms) noted.1
+      (are-put k d ms (note-unwatched k noted.0) (asked-nothing Class k d (note-place k noted.0)) is)
+
+  pub good-annotated : (notes : Members) (s : Data) → AreNotes notes → IsGood s → IsGood (annotated notes s)
+  good-annotated no_members s noted is = is
+  good-annotated (member k d notes) s noted is =
+      good (put_members (member k d notes) (members_in s)) (are-noted (member k d notes) (members_in s) noted (good-members s is))
+
+  pub good-noted_by : (notes : List Members) (s : Data) → AllNotes notes → IsGood s → IsGood (noted_by notes s)
+  good-noted_by [] s noted is = is
+  good-noted_by (notes ∷ more) s noted is = good-annotated notes (noted_by more s) noted.0 (good-noted_by more s noted.1 is)
+
+  -- ---- null
+
+  -- what joins to other types leaves them others
+  types-with : (t : Data) → AreSomeTypes (Some t) → AreSomeTypes (Some (type_with_null t))
+  types-with null is = tt
+  types-with (boolean b) is = tt
+  types-with (number n) is = tt
+  types-with (object ms) is = tt
+  types-with (string s) is = go (bytes_eq s (codes "null"))
+    where
+      go : (b : Bool) → AreSomeTypes (Some (if b then string s else array (item (string s) (item (string (codes "null")) no_items))))
+      go true = tt
+      go false = (tt, (tt, tt))
+  types-with (array no_items) is = absurd is
+  types-with (array (item d ds)) is = go (holds_text (codes "null") (item d ds))
+    where
+      texts : (ds : Items) → AreTexts ds → AreTexts (with_item ds (string (codes "null")))
+      texts no_items are = (tt, tt)
+      texts (item e es) are = (are.0, texts es are.1)
+
+      go : (b : Bool) → AreSomeTypes (Some (if b then array (item d ds) else array (with_item (item d ds) (string (codes "null")))))
+      go true = is
+      go false = (is.0, texts ds is.1)
+
+  alone-with : (t : Data) → AreSomeTypes (Some t) → is_null_alone (Some t) ≡ false → is_null_alone (Some (type_with_null t)) ≡ false
+  alone-with null is out = refl
+  alone-with (boolean b) is out = refl
+  alone-with (number n) is out = refl
+  alone-with (object ms) is out = refl
+  alone-with (string s) is out = rw out (rw out refl)
+  alone-with (array no_items) is out = absurd is
+  alone-with (array (item (string s) ds)) is out = go (bytes_eq s (codes "null") || holds_text (codes "null") ds) refl
+    where
+      and-no : (b : Bool) → b && false ≡ false
+      and-no true = refl
+      and-no false = refl
+
+      left : (a b : Bool) → a || b ≡ false → a ≡ false
+      left true b is = is
+      left false b is = refl
+
+      first : (a : Bool) → a ≡ false → (b c : Bool) → (a || b) && (a && c) ≡ false
+      first true is b c = absurd (true≢false is)
+      first false is b c = and-no b
+
+      go : (b : Bool) → bytes_eq s (codes "null") || holds_text (codes "null") ds ≡ b
+          → is_null_alone (Some (if b then array (item (string s) ds) else array (item (string s) (with_item ds (string (codes "null")))))) ≡ false
+      go true held = out
+      go false held = first (bytes_eq s (codes "null")) (left (bytes_eq s (codes "null")) (holds_text (codes "null") ds) held) _ _
+  alone-with (array (item null ds)) is out = absurd is.0
+  alone-with (array (item (boolean b) ds)) is out = absurd is.0
+  alone-with (array (item (number n) ds)) is out = absurd is.0
+  alone-with (array (item (array es) ds)) is out = absurd is.0
+  alone-with (array (item (object ms) ds)) is out = absurd is.0
+
+  are-null_in_type : (o : Option Data) (ms : Members) → get_member (codes "type") ms ≡ o → AreGood ms → AreGood (null_in_type o ms)
+  are-null_in_type None ms here is = is
+  are-null_in_type (Some t) ms here is =
+      are-types (type_with_null t) ms (types-with t types) (go is.own.own.type.2 is.own.own.values) is
+    where
+      types : AreSomeTypes (Some t)
+      types = subst AreSomeTypes here is.own.own.type.0
+
+      go : (is_null_alone (get_member (codes "type") ms) ≡ false) ⊎ (get_member (codes "const") ms ≡ None)
+          → (is_null_alone (get_member (codes "type") ms) ≡ false) ⊎ (get_member (codes "enum") ms ≡ None)
+          → (is_null_alone (Some (type_with_null t)) ≡ false) ⊎ ((get_member (codes "const") ms ≡ None) × (get_member (codes "enum") ms ≡ None))
+      go (inl out) more = inl (alone-with t types (sym (ap is_null_alone here) ∙ out))
+      go (inr none) (inl out) = inl (alone-with t types (sym (ap is_null_alone here) ∙ out))
+      go (inr none) (inr no_enum) = inr (none, no_enum)
+
+  -- beside a value the type is not null alone
+  beside : (k : Text) (ms : Members) (d : Data) → get_member k ms ≡ Some d
+      → (is_null_alone (get_member (codes "type") ms) ≡ false) ⊎ (get_member k ms ≡ None) → is_null_alone (get_member (codes "type") ms) ≡ false
+  beside k ms d here (inl out) = out
+  beside k ms d here (inr none) = let never : Some d ≡ None = sym here ∙ none in cc
+
+  are-null_in_enum : (o : Option Data) (ms : Members) → get_member (codes "enum") ms ≡ o → get_member (codes "const") ms ≡ None → AreGood ms
+      → AreGood (null_in_enum o ms)
+  are-null_in_enum None ms here const is = is
+  are-null_in_enum (Some d) ms here const is = are-enum (enum_with_null d) ms const (beside (codes "enum") ms d here is.own.own.values) is
+
+  are-null_in_const : (o : Option Data) (ms : Members) → get_member (codes "const") ms ≡ o → AreGood ms → AreGood (null_in_const o ms)
+  are-null_in_const None ms here is = are-null_in_enum (get_member (codes "enum") ms) ms refl here is
+  are-null_in_const (Some c) ms here is = go (is_null c)
+    where
+      alone : is_null_alone (get_member (codes "type") ms) ≡ false
+      alone = beside (codes "const") ms c here is.own.own.type.2
+
+      go : (b : Bool) → AreGood (if b then ms else const_or_null c ms)
+      go true = is
+      go false =
+          are-enum (array (item c (item null no_items))) (without (codes "const") ms) is.own.own.const.0
+          (ap is_null_alone (without-other (codes "const") (codes "type") ms (differ (codes "type") (codes "const") refl)) ∙ alone)
+          (without-const ms alone is)
+
+  null_alone : IsGood (allow_null (boolean false))
+  null_alone = good _ (are-types (string (codes "null")) no_members tt (inr (refl, refl)) nothing)
+
+  or-null : (s : Data) → IsGood s → IsGood (or_null s)
+  unfolding asked
+  or-null s is =
+      good _ (are-put (codes "anyOf") (array (item s (item (allow_null (boolean false)) no_items))) no_members refl
+      (is.everywhere, (null_alone.everywhere, tt)) nothing)
+
+  pub good-allow_null : (s : Data) → IsGood s → IsGood (allow_null s)
+  good-allow_null (boolean true) is = is
+  good-allow_null (boolean false) is = null_alone
+  good-allow_null (object ms) is = go (is_null_choice (object ms)) (is_combined (object ms))
+    where
+      typed : Members
+      typed = null_in_type (get_member (codes "type") ms) ms
+
+      go : (stays b : Bool) → IsGood (if stays then object ms else if b then or_null (object ms) else
+          object (null_in_values (null_in_type (get_member (codes "type") ms) ms)))
+      go true b = is
+      go false true = or-null (object ms) is
+      go false false =
+          good _ (are-null_in_const (get_member (codes "const") typed) typed refl
+          (are-null_in_type (get_member (codes "type") ms) ms refl (good-members (object ms) is)))
+  good-allow_null null is = absurd is.schema
+  good-allow_null (number n) is = absurd is.schema
+  good-allow_null (string t) is = absurd is.schema
+  good-allow_null (array ds) is = absurd is.schema

@@ -1,0 +1,140 @@
+-- Root documents mean their types in Draft 7 and 2019-09 too, after the transforms of these drafts.
+use Rattle.std.proofs.Common.{◌≡◌, ◌⊎◌, ℕ, inl, inr, Option, Some, None, true, codes, refl, sym, ap, ◌∙◌, subst}
+use Rattle.std.specs.Prelude.{is_some, option_and_then}
+use Rattle.serde_json.specs.Data.{Data, null, boolean, number, string, array, object, Members, no_members, put}
+use Rattle.serde_json.specs.Find.{get_member}
+use Rattle.serde_json.proofs.Views.{get_member-put}
+use Rattle.schemars_schema.specs.Json.{Text}
+use Rattle.schemars_schema.specs.Encoding.{lookup}
+use Rattle.schemars_schema.specs.SchemaData.{IsSchema}
+use Rattle.schemars_schema.specs.Lookup.{schema_only, resolved}
+use Rattle.schemars_schema.specs.References.{ReferencesResolve, resolves}
+use Rattle.schemars_schema.proofs.Placings.{schema_only-schema, resolved-whole}
+use Rattle.schemars_types.specs.Faults.{IsChecked}
+use Rattle.schemars_documents.specs.PlainTable.{IsPlainTable}
+use Rattle.schemars_build.specs.Naming.{IsOneToOne}
+use Rattle.schemars_build.specs.Work.{Plan, Work, Refers, reference_to, basis_of}
+use Rattle.schemars_meaning.proofs.Schemas.{described}
+use Rattle.schemars_headline.specs.State.{State, path_of, plan_of, HasOwnDefinitions}
+use Rattle.schemars_headline.specs.Headline.{IsRootOf}
+use Rattle.schemars_headline.specs.Keys.{HasKeysOnce}
+use Rattle.schemars_headline.proofs.Standing.{MayRefer, Stands, AllStand}
+use Rattle.schemars_headline.proofs.Placed.{StandsAt, holds_put}
+use Rattle.schemars_headline.proofs.Calls.{definitions_in}
+use Rattle.schemars_laws.specs.Names.{IsNameOf, IsName, IsMap}
+use Rattle.schemars_laws.specs.Laws.{for_draft07, for_draft2019_09}
+use Rattle.schemars_headline.specs.Dialects.{Draft07Headline, Draft2019_09Headline}
+use Rattle.schemars_headline.proofs.RootClass.{IsReady, entries, root_call-ready, stands-place, to-name}
+use Rattle.schemars_headline.proofs.Definitions.{Has, prefix-has}
+use Rattle.schemars_headline.proofs.Accepting.{ready-has, draft07-has, draft07_accepts, draft2019_09_accepts}
+use Rattle.schemars_headline.proofs.ReferencesKept.{draft07-refers, draft2019_09-refers}
+use Rattle.schemars_headline.proofs.DialectsResolving.{each-resolves}
+
+-- a name of the whole, or of one of these definitions, which is a schema
+abbrev NamesOne : Text → Members → Text → Type 0
+NamesOne key definitions t =
+    (t ≡ codes "#") ⊎ ((k : Text) × IsNameOf key k t × ((d : Data) × (get_member k definitions ≡ Some d) × IsSchema d))
+
+module _ (plan : Plan) (w : Work) (key : Text) (at : StandsAt plan.path key) (plain : IsPlainTable plan.rows)
+    (definitions : AllStand plan w) where
+  -- the definitions by themselves
+  abbrev alone : Members
+  alone = put key (object w.definitions) no_members
+
+  refers-one : (root : Option ℕ) (j : ℕ) (r : Text) → Refers (record plan { root = root }) true w j r
+      → NamesOne key w.definitions r
+  refers-one root j r (inl is) = inl is.2
+  refers-one root j r (inr is) = go (to-name plan.path key is.0 at stands.is_text)
+    where
+      stands : Stands plan w is.0 is.2.0
+      stands = definitions is.0 is.2.0 is.2.1
+
+      go : IsName key (reference_to plan.path is.0) → NamesOne key w.definitions r
+      go (inl whole) = inl (is.3 ∙ whole)
+      go (inr (k, name)) = inr (
+        k,
+        subst (IsNameOf key k) (sym is.3) name,
+        (
+          is.2.0,
+          sym (name.there alone w.definitions (get_member-put key (object w.definitions) no_members))
+              ∙ (holds_put plan.path key at w.definitions no_members).leads is.0 is.2.0 stands.is_text is.2.1,
+          described (basis_of plan) (MayRefer plan w) stands.depth stands.row is.2.0 stands.describes,
+        ),
+      )
+
+  -- each reference is one, of a definition that stands or of a document beside it
+  may_refer-one : (j : ℕ) (r : Text) → MayRefer plan w j r → NamesOne key w.definitions r
+  may_refer-one j r (inl is) = refers-one plan.root j r is
+  may_refer-one j r (inr is) = refers-one None j r is
+
+-- it resolves where the definitions stay
+one-resolves : (key : Text) (definitions : Members) (document : Data) → Has key definitions document → (t : Text)
+    → NamesOne key definitions t → resolves document (string t) ≡ true
+unfolding resolved
+one-resolves key definitions document has t is = subst (λ d. is_some (resolved d t) ≡ true) (sym has.is_object) (go is)
+  where
+    found : (k : Text) → IsNameOf key k t → (d : Data) → get_member k (entries (get_member key has.inside)) ≡ Some d
+        → lookup t (object has.inside) ≡ Some d
+    found k name d here = by (get_member key has.inside) refl has.is_map here
+      where
+        by : (o : Option Data) → get_member key has.inside ≡ o → IsMap o → get_member k (entries o) ≡ Some d
+            → lookup t (object has.inside) ≡ Some d
+        by None there map here = cc
+        by (Some (object es)) there map here = name.there has.inside es there ∙ here
+        by (Some null) there map here = absurd map
+        by (Some (boolean b)) there map here = absurd map
+        by (Some (number n)) there map here = absurd map
+        by (Some (string s)) there map here = absurd map
+        by (Some (array ds)) there map here = absurd map
+
+    go : NamesOne key definitions t → is_some (resolved (object has.inside) t) ≡ true
+    go (inl whole) = ap (λ r. is_some (resolved (object has.inside) r)) whole ∙ ap is_some (resolved-whole has.inside)
+    go (inr (k, name, (d, here, schema))) =
+        let e = has.stay.keys k d here schema in
+        ap (λ o. is_some (option_and_then schema_only o)) (found k name e.0 e.1) ∙ ap is_some (schema_only-schema e.0 e.2)
+
+module _ (s : State) (n : ℕ) (w : Work) (document : Data) (root : IsRootOf s n w document) (once : HasKeysOnce w.definitions)
+    (own : HasOwnDefinitions s) (plain : IsPlainTable s.rows) (key : Text) (at : StandsAt (path_of s) key) where
+  abbrev One : Text → Type 0
+  One = NamesOne key w.definitions
+
+  ready : IsReady One key w.definitions document
+  ready =
+      let standing = definitions_in s (Some n) w root.step own in
+      root_call-ready s n w document key root plain once standing at One
+      (may_refer-one (plan_of s (Some n)) w key at plain standing)
+
+  has : Has key w.definitions document
+  has = ready-has One key w.definitions document ready
+
+  draft07_resolve : ReferencesResolve (for_draft07 document)
+  draft07_resolve =
+      each-resolves One (for_draft07 document)
+      (one-resolves key w.definitions (for_draft07 document) (draft07-has (path_of s) key at w.definitions document has))
+      (for_draft07 document) (draft07-refers One document ready.everywhere)
+
+  draft2019_09_resolve : ReferencesResolve (for_draft2019_09 document)
+  draft2019_09_resolve =
+      each-resolves One (for_draft2019_09 document)
+      (one-resolves key w.definitions (for_draft2019_09 document)
+      (prefix-has key (stands-place (path_of s) key at) w.definitions document has))
+      (for_draft2019_09 document) (draft2019_09-refers One document ready.everywhere)
+
+-- what a root call makes means its type in each draft, at the draft's path
+pub draft07_means : (s : State) (n : ℕ) (w : Work) (d : Data) → IsChecked s.rows → IsRootOf s n w d → HasKeysOnce w.definitions
+    → IsOneToOne w.names → Draft07Headline s n d
+draft07_means s n w d checked root once one own path plain =
+    let at : StandsAt (path_of s) (codes "definitions") = inr (path, refl) in
+    record {
+      accepts_its_values = draft07_accepts s n w d checked root once one own plain (codes "definitions") at;
+      references_resolve = draft07_resolve s n w d root once own plain (codes "definitions") at;
+    }
+
+pub draft2019_09_means : (s : State) (n : ℕ) (w : Work) (d : Data) → IsChecked s.rows → IsRootOf s n w d
+    → HasKeysOnce w.definitions → IsOneToOne w.names → Draft2019_09Headline s n d
+draft2019_09_means s n w d checked root once one own path plain =
+    let at : StandsAt (path_of s) (codes "$defs") = inl (path, refl) in
+    record {
+      accepts_its_values = draft2019_09_accepts s n w d checked root once one own plain (codes "$defs") at;
+      references_resolve = draft2019_09_resolve s n w d root once own plain (codes "$defs") at;
+    }

@@ -1,0 +1,321 @@
+-- What fills the templates of enums and maps is what the laws of the drafts speak of, where the answers are.
+use Rattle.std.proofs.Common.{◌≡◌, ℕ, List, [], ◌∷◌, ◌++◌, map, Bool, true, false, codes, refl, sym, ap, ◌∙◌, subst}
+use Rattle.std.specs.Prelude.{if◌then◌else◌}
+use Rattle.serde_json.specs.Data.{Data, string, Members, no_members, put}
+use Rattle.schemars_schema.specs.Json.{Text}
+use Rattle.schemars_schema.specs.SchemaData.{put_all}
+use Rattle.schemars_schema.specs.Annotations.{AreNotes}
+use Rattle.schemars_builders.specs.Properties.{internally_tagged_variant}
+use Rattle.schemars_shapes.specs.Shape.{Field, Fields, Flattened, Payload, Variant, no_payload, newtype_payload, tuple_payload}
+use Rattle.schemars_shapes.specs.Shape.{struct_payload}
+use Rattle.schemars_shapes.specs.Units.{is_bare_unit}
+use Rattle.schemars_types.specs.Meaning.{Contract}
+use Rattle.schemars_types.specs.Effective.{flattened_fields, effective, spread_payload, spread_variant}
+use Rattle.schemars_types.specs.KeyOptions.{KeyOptions, keys}
+use Rattle.schemars_documents.specs.PlainTable.{AreNoted, IsTagged, AreTagged, ArePlainParts, payload_parts, variant_parts}
+use Rattle.schemars_documents.specs.Documents.{Keyword, required_names}
+use Rattle.schemars_documents.specs.Basis.{Basis}
+use Rattle.schemars_documents.specs.Template.{Ask, part, members_of, content, Template, noted, tagged, row, asks_of, asks_in}
+use Rattle.schemars_documents.specs.Template.{filled, filled_in, keyed, left, Templates}
+use Rattle.schemars_documents.specs.OfShape.{templates_of, one_of, any_of, payload_template, named_template, member_template}
+use Rattle.schemars_documents.specs.OfShape.{bare_units, other_items, units_template, choice_of, external_template, title_alone}
+use Rattle.schemars_documents.specs.OfShape.{titled, payload_item, untagged_template, content_template, internal_item}
+use Rattle.schemars_documents.specs.OfShape.{internal_template, KeywordTemplate, typed, object_with, values_of, all_patterns}
+use Rattle.schemars_documents.specs.OfShape.{pattern_properties_at, properties_at, other_values, values_template}
+use Rattle.schemars_meaning.proofs.Parts.{first_all, left_all}
+use Rattle.schemars_meaning.proofs.Spread.{AnswersFields, field_keywords}
+use Rattle.schemars_meaning.proofs.Filling.{Fit, without_end, parted}
+use Rattle.schemars_documents.proofs.OpenStructs.{parts_apart}
+use Rattle.schemars_meaning.proofs.Flattened.{struct_fills}
+use Rattle.schemars_meaning.proofs.Flattening.{tagged-map, tagged-null}
+use Rattle.schemars_meaning.proofs.ByShape.{tuple_fills, tagged_document}
+use Rattle.schemars_meaning.proofs.Enums.{title_noted}
+use Rattle.schemars_meaning.proofs.MapDocument.{noted_by}
+use Rattle.schemars_meaning.proofs.References.{IsNotedPayload, AreNotedVariants}
+use Rattle.schemars_laws.specs.Everywhere.{asked, asked_of_members}
+use Rattle.schemars_headline.proofs.Changes.{Class, AreGood, are-put, IsGood, good, good_truth, good-annotated}
+use Rattle.schemars_headline.proofs.Changes.{good-noted_by}
+use Rattle.schemars_headline.proofs.Documents.{AllGood, are-typed, type-good, tuple-good, parts-good, fields-good, tagged-good, unit-good}
+use Rattle.schemars_headline.proofs.Documents.{units-good, one_of-good, any_of-good, member-good, AllNamed, asked-all}
+
+noted-append : (xs ys : List Field) → AreNoted xs → AreNoted ys → AreNoted (xs ++ ys)
+noted-append [] ys a b = b
+noted-append (x ∷ xs) ys a b = (a.0, noted-append xs ys a.1 b)
+
+module _ (has : Flattened → List Field) (noted_rows : (p : Flattened) → AreNoted (has p)) where
+  noted-flattened : (ps : List Flattened) → AreNoted (flattened_fields has ps)
+  noted-flattened [] = tt
+  noted-flattened (p ∷ ps) = noted-append (has p) (flattened_fields has ps) (noted_rows p) (noted-flattened ps)
+
+  pub noted-effective : (x : Fields) → AreNoted x.list → AreNoted (effective has x)
+  noted-effective x own = noted-append x.list (flattened_fields has x.flatten) own (noted-flattened x.flatten)
+
+module _ (R : Text → Type 0) (A : Ask → Data → Type 0) (has : Flattened → List Field) (basis : Basis)
+    (fields : AnswersFields has basis.rows basis.contract A) (noted_rows : (p : Flattened) → AreNoted (has p))
+    (parts : (j : ℕ) (t : Data) → A (part j) t → IsGood R t) where
+  abbrev contract : Contract
+  contract = basis.contract
+
+  abbrev W : ℕ → Data → Type 0
+  W j = A (part j)
+
+  -- whatever fills it
+  abbrev Makes : Template → Type 0
+  Makes t = (us : List Data) → Fit A (asks_of t) us → IsGood R (filled t us)
+
+  abbrev AllMake : List Template → Type 0
+  AllMake [] = Unit {0}
+  AllMake (t ∷ ts) = Makes t × AllMake ts
+
+  all-filled : (ts : List Template) → AllMake ts → (us : List Data) → Fit A (asks_in (templates_of ts)) us
+      → AllGood R (filled_in (templates_of ts) us)
+  all-filled [] make us fit = tt
+  all-filled (t ∷ ts) make us fit =
+      let p = parted A t (asks_in (templates_of ts)) us fit in (
+        subst (IsGood R) (sym p.4) (make.0 p.0 p.2),
+        subst (λ ws. AllGood R (filled_in (templates_of ts) ws)) (sym p.5) (all-filled ts make.1 p.1 p.3),
+      )
+
+  one-makes : (ts : List Template) → AllMake ts → Makes (one_of ts)
+  one-makes ts make us fit =
+      one_of-good R (filled_in (templates_of ts) us) (all-filled ts make us (without_end A (asks_in (templates_of ts)) us fit))
+
+  any-makes : (ts : List Template) → AllMake ts → Makes (any_of ts)
+  any-makes ts make us fit =
+      any_of-good R (filled_in (templates_of ts) us) (all-filled ts make us (without_end A (asks_in (templates_of ts)) us fit))
+
+  noted-makes : (notes : Members) (t : Template) → AreNotes notes → Makes t → Makes (noted notes t)
+  noted-makes notes t plain make us fit = good-annotated R notes (filled t us) plain (make us fit)
+
+  payload-makes : (p : Payload) → IsNotedPayload p → ArePlainParts basis.rows (payload_parts p)
+      → Makes (payload_template contract p)
+  payload-makes no_payload own flat us fit = type-good R (codes "null")
+  payload-makes (newtype_payload n) own flat [] fit = absurd fit
+  payload-makes (newtype_payload n) own flat (t ∷ us) fit = parts n t fit.0
+  payload-makes (tuple_payload ns) own flat us fit =
+      let d = tuple_fills A ns us fit in subst (IsGood R) (sym d.2) (tuple-good R d.0 (parts-good R W parts ns d.0 d.1))
+  payload-makes (struct_payload x) own flat us fit =
+      fields-good R W parts contract (effective has x) x.closed _ (noted-effective has noted_rows x own)
+      (struct_fills A has basis.rows contract fields x flat us fit)
+
+  -- ---- by names outside
+
+  member-makes : (name : Text) (t : Template) → Makes t → Makes (member_template true name t)
+  member-makes name t make us fit =
+      member-good R true name (filled t us)
+      (make us (without_end A (asks_of t) us (without_end A (asks_of t ++ []) us fit)))
+
+  named-makes : (name : Text) (p : Payload) → IsNotedPayload p → ArePlainParts basis.rows (payload_parts p)
+      → Makes (named_template contract name p)
+  named-makes name no_payload own flat us fit = unit-good R name
+  named-makes name (newtype_payload n) own flat us fit =
+      member-makes name (payload_template contract (newtype_payload n)) (payload-makes (newtype_payload n) own flat) us fit
+  named-makes name (tuple_payload ns) own flat us fit =
+      member-makes name (payload_template contract (tuple_payload ns)) (payload-makes (tuple_payload ns) own flat) us fit
+  named-makes name (struct_payload x) own flat us fit =
+      member-makes name (payload_template contract (struct_payload x)) (payload-makes (struct_payload x) own flat) us fit
+
+  others-make : (xs : List Variant) → AreNotedVariants xs → ArePlainParts basis.rows (variant_parts xs)
+      → AllMake (other_items contract xs)
+  others-make [] own flat = tt
+  others-make (x ∷ xs) own flat = go (is_bare_unit x) (others-make xs own.2 flats.1)
+    where
+      flats : ArePlainParts basis.rows (payload_parts x.payload) × ArePlainParts basis.rows (variant_parts xs)
+      flats = parts_apart basis.rows (payload_parts x.payload) (variant_parts xs) flat
+
+      go : (b : Bool) → AllMake (other_items contract xs)
+          → AllMake (if b then other_items contract xs else noted x.notes (named_template contract x.name x.payload)
+          ∷ other_items contract xs)
+      go true later = later
+      go false later = (
+        noted-makes x.notes (named_template contract x.name x.payload) own.0
+            (named-makes x.name x.payload own.1 flats.0),
+        later,
+      )
+
+  choice-makes : (ks : List Text) (ts : List Template) → AllMake ts → Makes (choice_of ks ts)
+  choice-makes [] [] make us fit = good_truth R false
+  choice-makes [] (t ∷ ts) make us fit = one-makes (t ∷ ts) make us fit
+  choice-makes (k ∷ ks) [] make us fit = units-good R (k ∷ ks)
+  choice-makes (k ∷ ks) (t ∷ ts) make us fit =
+      one-makes (units_template (k ∷ ks) ∷ t ∷ ts) (λ us fit. units-good R (k ∷ ks), make) us fit
+
+  pub external-makes : (xs : List Variant) → AreNotedVariants xs → ArePlainParts basis.rows (variant_parts xs)
+      → Makes (external_template contract xs)
+  external-makes xs own flat us fit =
+      choice-makes (bare_units xs) (other_items contract xs) (others-make xs own flat) us fit
+
+  -- ---- without a tag
+
+  titled-makes : (titles : Bool) (name : Text) (t : Template) → Makes t → Makes (titled titles name t)
+  titled-makes false name t make us fit = make us fit
+  titled-makes true name t make us fit = noted-makes (title_alone name) t (title_noted name) make us fit
+
+  payloads-make : (xs : List Variant) → AreNotedVariants xs → ArePlainParts basis.rows (variant_parts xs)
+      → AllMake (map (payload_item contract basis.titles) xs)
+  payloads-make [] own flat = tt
+  payloads-make (x ∷ xs) own flat =
+      let flats = parts_apart basis.rows (payload_parts x.payload) (variant_parts xs) flat in (
+        noted-makes x.notes (titled basis.titles x.name (payload_template contract x.payload)) own.0
+            (titled-makes basis.titles x.name (payload_template contract x.payload) (payload-makes x.payload own.1 flats.0)),
+        payloads-make xs own.2 flats.1,
+      )
+
+  pub untagged-makes : (xs : List Variant) → AreNotedVariants xs → ArePlainParts basis.rows (variant_parts xs)
+      → Makes (untagged_template contract basis.titles xs)
+  untagged-makes [] own flat us fit = good_truth R false
+  untagged-makes (x ∷ xs) own flat us fit =
+      any-makes (map (payload_item contract basis.titles) (x ∷ xs)) (payloads-make (x ∷ xs) own flat) us fit
+
+  -- ---- with a tag inside
+
+  module _ (others : Flattened → List Field) (enums : Flattened → List ℕ) (tag : Text) (closed : Bool) where
+    tag-makes : (name : Text) (p : Payload) → IsTagged tag (spread_payload others enums p) → IsNotedPayload p
+        → ArePlainParts basis.rows (payload_parts p) → Makes (tagged tag name closed (content_template contract p))
+    tag-makes name no_payload is own flat us fit =
+        subst (IsGood R) (sym (tagged-null tag name closed)) (tagged-good R W parts contract tag name [] [] closed tt refl)
+    tag-makes name (newtype_payload n) is own flat us fit = absurd is
+    tag-makes name (tuple_payload ns) is own flat us fit = absurd is
+    tag-makes name (struct_payload x) is own flat us fit =
+        let d = struct_fills A has basis.rows contract fields x flat us fit in
+        let same : filled (tagged tag name closed (content_template contract (struct_payload x))) us
+        ≡ noted_by d.notes (tagged_document contract tag name (effective has x) d.parts x.closed) =
+        ap (internally_tagged_variant tag name closed) d.is
+        ∙ tagged-map d.notes tag name closed (field_keywords (effective has x) d.parts)
+        (required_names contract (effective has x))
+        x.closed d.are_notes in
+        subst (IsGood R) (sym same)
+        (good-noted_by R d.notes (tagged_document contract tag name (effective has x) d.parts x.closed) d.are_notes
+        (tagged-good R W parts contract tag name (effective has x) d.parts x.closed
+        (noted-effective has noted_rows x own) d.written))
+
+    internals-make : (xs : List Variant) → AreTagged tag (map (spread_variant others enums) xs) → AreNotedVariants xs
+        → ArePlainParts basis.rows (variant_parts xs) → AllMake (map (internal_item contract tag closed) xs)
+    internals-make [] are own flat = tt
+    internals-make (x ∷ xs) are own flat =
+        let flats = parts_apart basis.rows (payload_parts x.payload) (variant_parts xs) flat in (
+          noted-makes x.notes (tagged tag x.name closed (content_template contract x.payload)) own.0
+              (tag-makes x.name x.payload are.0 own.1 flats.0),
+          internals-make xs are.1 own.2 flats.1,
+        )
+
+    pub internal-makes : (xs : List Variant) → AreTagged tag (map (spread_variant others enums) xs) → AreNotedVariants xs
+        → ArePlainParts basis.rows (variant_parts xs) → Makes (internal_template contract tag closed xs)
+    internal-makes [] are own flat us fit = good_truth R false
+    internal-makes (x ∷ xs) are own flat us fit =
+        one-makes (map (internal_item contract tag closed) (x ∷ xs)) (internals-make (x ∷ xs) are own flat) us fit
+
+-- ---- maps
+
+module _ (R : Text → Type 0) where
+  abbrev rows_at : ℕ → List Text → Templates
+  rows_at value ks = templates_of (map (λ (e : KeywordTemplate). e.1) (values_of value ks))
+
+  abbrev keywords_at : ℕ → List Text → List Data → List Keyword
+  keywords_at value ks us = keyed (map (λ (e : KeywordTemplate). e.0) (values_of value ks)) (filled_in (rows_at value ks) us)
+
+  -- the values of these keys
+  rows-named : (value : ℕ) (ks : List Text) (us : List Data) → AllGood R us → AllNamed R (keywords_at value ks us)
+  rows-named value [] us all = tt
+  rows-named value (k ∷ ks) us all =
+      (first_all (IsGood R) (good_truth R true) us all, rows-named value ks _ (left_all (IsGood R) (row value) us all))
+
+  named-asked : (value : ℕ) (ks : List Text) (us : List Data) → AllGood R us
+      → asked_of_members (Class R) (put_all (keywords_at value ks us) no_members)
+  unfolding asked
+  named-asked value ks us all = asked-all R (keywords_at value ks us) no_members (rows-named value ks us all) tt
+
+  keyed-good : (other : Template) (value : ℕ) (texts qs : List Text) (us : List Data) → IsGood R (filled other us) → AllGood R us
+      → IsGood R (filled (object_with (typed (codes "object") ∷ (codes "additionalProperties", other)
+      ∷ (pattern_properties_at (values_of value qs) ++ properties_at (values_of value texts)))) us)
+  unfolding asked
+  keyed-good other value texts qs us is all = go texts qs
+    where
+      start : AreGood R (put (codes "additionalProperties") (filled other us)
+          (put (codes "type") (string (codes "object")) no_members))
+      start =
+          are-put R (codes "additionalProperties") (filled other us)
+          (put (codes "type") (string (codes "object")) no_members) refl is.everywhere
+          (are-typed R (codes "object"))
+
+      behind : AllGood R (left other us)
+      behind = left_all (IsGood R) other us all
+
+      go : (texts qs : List Text) → IsGood R (filled (object_with (typed (codes "object") ∷ (codes "additionalProperties", other)
+          ∷ (pattern_properties_at (values_of value qs) ++ properties_at (values_of value texts)))) us)
+      go [] [] = good R _ start
+      go (t ∷ texts) [] =
+          good R _ (are-put R (codes "properties") _ _ refl (named-asked value (t ∷ texts) (left other us) behind) start)
+      go [] (q ∷ qs) =
+          good R _ (are-put R (codes "patternProperties") _ _ refl (named-asked value (q ∷ qs) (left other us) behind) start)
+      go (t ∷ texts) (q ∷ qs) =
+          good R _ (are-put R (codes "properties") _ _ refl
+          (named-asked value (t ∷ texts) _ (left_all (IsGood R) (object_with (values_of value (q ∷ qs))) (left other us) behind))
+          (are-put R (codes "patternProperties") _ _ refl (named-asked value (q ∷ qs) (left other us) behind) start))
+
+  other-good : (others : Bool) (value : ℕ) (us : List Data) → AllGood R us → IsGood R (filled (other_values others value) us)
+  other-good true value us all = first_all (IsGood R) (good_truth R true) us all
+  other-good false value us all = good_truth R false
+
+  values-good : (options : KeyOptions) (value : ℕ) (us : List Data) → AllGood R us
+      → IsGood R (filled (values_template options value) us)
+  values-good (keys others texts integers ps) value us all =
+      keyed-good (other_values others value) value texts (all_patterns integers ps) us (other-good others value us all) all
+
+-- rows alone are asked for the values of a map
+abbrev AreParts : List Ask → Type 0
+AreParts [] = Unit {0}
+AreParts (part n ∷ asks) = AreParts asks
+AreParts (members_of n required ∷ asks) = ⊥
+AreParts (content n ∷ asks) = ⊥
+
+parts-append : (cs ds : List Ask) → AreParts cs → AreParts ds → AreParts (cs ++ ds)
+parts-append [] ds a b = b
+parts-append (part n ∷ cs) ds a b = parts-append cs ds a b
+parts-append (members_of n required ∷ cs) ds a b = absurd a
+parts-append (content n ∷ cs) ds a b = absurd a
+
+abbrev row_asks : ℕ → List Text → List Ask
+row_asks value ks = asks_in (templates_of (map (λ (e : KeywordTemplate). e.1) (values_of value ks)))
+
+parts-rows : (value : ℕ) (ks : List Text) → AreParts (row_asks value ks)
+parts-rows value [] = tt
+parts-rows value (k ∷ ks) = parts-rows value ks
+
+parts-last : (value : ℕ) (ks : List Text) → AreParts (row_asks value ks ++ [])
+parts-last value ks = parts-append (row_asks value ks) [] (parts-rows value ks) tt
+
+parts-keyed : (other : Template) (value : ℕ) (texts qs : List Text) → AreParts (asks_of other)
+    → AreParts (asks_of (object_with (typed (codes "object") ∷ (codes "additionalProperties", other)
+    ∷ (pattern_properties_at (values_of value qs) ++ properties_at (values_of value texts)))))
+parts-keyed other value [] [] are = parts-append (asks_of other) [] are tt
+parts-keyed other value (t ∷ texts) [] are =
+    parts-append (asks_of other) (row_asks value (t ∷ texts) ++ []) are (parts-last value (t ∷ texts))
+parts-keyed other value [] (q ∷ qs) are = parts-append (asks_of other) (row_asks value (q ∷ qs) ++ []) are
+    (parts-last value (q ∷ qs))
+parts-keyed other value (t ∷ texts) (q ∷ qs) are =
+    parts-append (asks_of other) (row_asks value (q ∷ qs) ++ (row_asks value (t ∷ texts) ++ [])) are
+    (parts-append (row_asks value (q ∷ qs)) (row_asks value (t ∷ texts) ++ []) (parts-rows value (q ∷ qs))
+    (parts-last value (t ∷ texts)))
+
+parts-other : (others : Bool) (value : ℕ) → AreParts (asks_of (other_values others value))
+parts-other true value = tt
+parts-other false value = tt
+
+parts-values : (options : KeyOptions) (value : ℕ) → AreParts (asks_of (values_template options value))
+parts-values (keys others texts integers ps) value =
+    parts-keyed (other_values others value) value texts (all_patterns integers ps) (parts-other others value)
+
+module _ (R : Text → Type 0) (A : Ask → Data → Type 0) (parts : (j : ℕ) (t : Data) → A (part j) t → IsGood R t) where
+  parts-answered : (asks : List Ask) (us : List Data) → AreParts asks → Fit A asks us → AllGood R us
+  parts-answered [] us are fit = subst (AllGood R) (sym fit) tt
+  parts-answered (part n ∷ asks) [] are fit = absurd fit
+  parts-answered (part n ∷ asks) (u ∷ us) are fit = (parts n u fit.0, parts-answered asks us are fit.1)
+  parts-answered (members_of n required ∷ asks) us are fit = absurd are
+  parts-answered (content n ∷ asks) us are fit = absurd are
+
+  pub values-make : (options : KeyOptions) (value : ℕ) (us : List Data) → Fit A (asks_of (values_template options value)) us
+      → IsGood R (filled (values_template options value) us)
+  values-make options value us fit =
+      values-good R options value us
+      (parts-answered (asks_of (values_template options value)) us (parts-values options value) fit)

@@ -1,0 +1,210 @@
+-- Root documents of plain tables are ones that the laws of the drafts speak of, with their definitions.
+use Rattle.std.proofs.Common.{◌≡◌, ℕ, List, [], inl, inr, Option, Some, None, Bool, true, false, codes, refl, sym, ap, ◌∙◌, subst}
+use Rattle.std.proofs.Common.{arith, true≢false}
+use Rattle.std.specs.Prelude.{is_some, if◌then◌else◌, bytes_eq}
+use Rattle.std.specs.Str.{IsUtf8}
+use Rattle.serde_json.specs.Data.{Data, null, boolean, number, string, array, object, Members, no_members, member, put}
+use Rattle.serde_json.specs.Find.{get_member}
+use Rattle.serde_json.proofs.Views.{get_member-put}
+use Rattle.schemars_schema.specs.Json.{Text}
+use Rattle.schemars_schema.specs.OrderedText.{is_listed}
+use Rattle.schemars_schema.specs.SchemaData.{members_in}
+use Rattle.schemars_schema.specs.References.{SchemasByName, place_under}
+use Rattle.schemars_shapes.specs.Shape as shape
+use Rattle.schemars_shapes.specs.Shape.{Shape, Entry}
+use Rattle.schemars_types.specs.Rows.{Row, name_at, entry_at}
+use Rattle.schemars_documents.specs.Documents.{with_title, with_meta_schema, root_document}
+use Rattle.schemars_documents.specs.PlainTable.{IsPlainTable, HasPlainLiteral, IsNotedEntry, HasPlainNotes}
+use Rattle.schemars_documents.specs.Describes.{Describes}
+use Rattle.schemars_build.specs.Work.{Plan, Work, Refers, reference_to, basis_of}
+use Rattle.schemars_meaning.proofs.Mapping.{describes-wider}
+use Rattle.schemars_meaning.proofs.References.{IsNotedShape}
+use Rattle.schemars_meaning.proofs.Referring.{IsNotedRow, plain_rows}
+use Rattle.schemars_build.proofs.Placing.{document_describes}
+use Rattle.schemars_headline.specs.State.{State, path_of, plan_of}
+use Rattle.schemars_headline.specs.Headline.{IsRootOf, IsDraftPath, with_definitions}
+use Rattle.schemars_headline.specs.Keys.{HasKeysOnce}
+use Rattle.schemars_headline.proofs.Keys.{AllMembers, all_members, IsDefinitionsKey}
+use Rattle.schemars_headline.proofs.OwnKeys.{no_definitions_in}
+use Rattle.schemars_headline.proofs.Standing.{MayRefer, AllStand, refers_may}
+use Rattle.schemars_headline.proofs.Placed.{StandsAt, IsPlaced, stands_key, placed_in}
+use Rattle.schemars_laws.specs.Everywhere.{Everywhere, asked, asked_at, asked_of_members}
+use Rattle.schemars_laws.specs.Names.{IsName, Named, IsMap}
+use Rattle.schemars_laws.specs.Classes.{IsDraft07}
+use Rattle.schemars_laws.proofs.References.{defs-name, definitions-name}
+use Rattle.schemars_headline.proofs.Changes.{IsUnwatched, Class, AreGood, are-put, IsGood, good, good-members, watched}
+use Rattle.schemars_headline.proofs.Classes.{described-good, good-named}
+
+-- ---- where definitions stand
+
+-- those of a map that stands there; none where none does
+abbrev pub entries : Option Data → Members
+entries None = no_members
+entries (Some null) = no_members
+entries (Some (boolean b)) = no_members
+entries (Some (number n)) = no_members
+entries (Some (string s)) = no_members
+entries (Some (array ds)) = no_members
+entries (Some (object es)) = es
+
+stands-unwatched : (path key : Text) → StandsAt path key → IsUnwatched key
+stands-unwatched path key (inl at) = ap (λ k. is_listed k watched) at.1
+stands-unwatched path key (inr at) = ap (λ k. is_listed k watched) at.1
+
+pub stands-place : (path key : Text) → StandsAt path key → place_under key ≡ SchemasByName
+stands-place path key (inl at) = ap place_under at.1
+stands-place path key (inr at) = ap place_under at.1
+
+pub stands-draft : (path key : Text) → StandsAt path key → IsDraftPath path
+stands-draft path key (inl at) = inl at.0
+stands-draft path key (inr at) = inr at.0
+
+-- a path leads to one key
+same_key : (path a b : Text) → StandsAt path a → StandsAt path b → a ≡ b
+same_key path a b (inl x) (inl y) = x.1 ∙ sym y.1
+same_key path a b (inl x) (inr y) =
+    absurd (true≢false (ap (λ p. bytes_eq p (codes "/$defs")) (sym x.0 ∙ y.0)))
+same_key path a b (inr x) (inl y) =
+    absurd (true≢false (ap (λ p. bytes_eq p (codes "/definitions")) (sym x.0 ∙ y.0)))
+same_key path a b (inr x) (inr y) = x.1 ∙ sym y.1
+
+-- ---- references
+
+pub to-name : (path key name : Text) → StandsAt path key → IsUtf8 name → IsName key (reference_to path name)
+to-name path key name (inl at) text =
+    subst (λ p. IsName key (reference_to p name)) (sym at.0)
+    (subst (λ k. IsName k (reference_to (codes "/$defs") name)) (sym at.1) (defs-name name text))
+to-name path key name (inr at) text =
+    subst (λ p. IsName key (reference_to p name)) (sym at.0)
+    (subst (λ k. IsName k (reference_to (codes "/definitions") name)) (sym at.1) (definitions-name name text))
+
+module _ (plan : Plan) (w : Work) (key : Text) (at : StandsAt plan.path key) (definitions : AllStand plan w) where
+  refers-name : (root : Option ℕ) (j : ℕ) (r : Text) → Refers (record plan { root = root }) true w j r → IsName key r
+  refers-name root j r (inl is) = inl is.2
+  refers-name root j r (inr is) =
+      subst (IsName key) (sym is.3) (to-name plan.path key is.0 at (definitions is.0 is.2.0 is.2.1).is_text)
+
+  -- a reference of a definition that stands, or of a document beside it
+  pub may_refer-name : (j : ℕ) (r : Text) → MayRefer plan w j r → IsName key r
+  may_refer-name j r (inl is) = refers-name plan.root j r is
+  may_refer-name j r (inr is) = refers-name None j r is
+
+-- ---- root documents
+
+module _ (R : Text → Type 0) where
+  are-titled : (name : Text) (ms : Members) → AreGood R ms → AreGood R (with_title name ms)
+  are-titled name ms is = go (is_some (get_member (codes "title") ms))
+    where
+      go : (b : Bool) → AreGood R (if b then ms else put (codes "title") (string name) ms)
+      go true = is
+      go false = are-put R (codes "title") (string name) ms refl tt is
+
+  pub are-with_meta_schema : (uri : Option Text) (ms : Members) → AreGood R ms → AreGood R (with_meta_schema uri ms)
+  are-with_meta_schema None ms is = is
+  are-with_meta_schema (Some uri) ms is = are-put R (codes "$schema") (string uri) ms refl tt is
+
+  root-are : (name : Text) (uri : Option Text) (s : Data) → IsGood R s → AreGood R (members_in (root_document name uri s))
+  root-are name uri s is =
+      are-with_meta_schema uri (with_title name (members_in s)) (are-titled name (members_in s) (good-members R s is))
+
+  definitions-asked : (ms : Members) → AllMembers (IsGood R) ms → asked_of_members (Class R) ms
+  unfolding asked
+  definitions-asked no_members all = tt
+  definitions-asked (member k d ms) all = (all.0.everywhere, definitions-asked ms all.1)
+
+  -- the members of the class with the definitions at their key
+  with-definitions : (path key : Text) → StandsAt path key → (definitions ms : Members) → AllMembers (IsGood R) definitions
+      → AreGood R ms → AreGood R (put key (object definitions) ms)
+  unfolding asked
+  with-definitions path key at definitions ms all is =
+      are-put R key (object definitions) ms (stands-unwatched path key at)
+      (subst (λ p. asked_at p (asked (Class R) (object definitions))) (sym (stands-place path key at))
+      (definitions-asked definitions all)) is
+
+-- an object of the class, with these definitions under a key, if there are any
+pub record IsReady (R : Text → Type 0) (key : Text) (definitions : Members) (document : Data) : Type 0 where
+  pub everywhere : Everywhere (Class R) document
+  pub inside : Members
+  pub is_object : document ≡ object inside
+  pub is_map : IsMap (get_member key inside)
+  pub stands : entries (get_member key inside) ≡ definitions
+
+pub placed-ready : (R : Text → Type 0) (path key : Text) (definitions ms : Members) (document : Data) → StandsAt path key
+    → AllMembers (IsGood R) definitions → AreGood R ms → get_member key ms ≡ None → IsPlaced path definitions (object ms) document
+    → IsReady R key definitions document
+placed-ready R path key definitions ms document at all is none (inl placed) =
+    subst (IsReady R key definitions) (sym placed.1) (record {
+      everywhere = (good R ms is).everywhere;
+      inside = ms;
+      is_object = refl;
+      is_map = subst IsMap (sym none) tt;
+      stands = ap entries none ∙ sym placed.0;
+    })
+placed-ready R path key definitions ms document at all is none (inr placed) =
+    let same : document ≡ object (put key (object definitions) ms) =
+    placed.2 ∙ ap (λ k. object (put k (object definitions) ms)) (same_key path placed.0 key placed.1 at) in
+    subst (IsReady R key definitions) (sym same) (record {
+      everywhere = (good R (put key (object definitions) ms) (with-definitions R path key at definitions ms all is)).everywhere;
+      inside = put key (object definitions) ms;
+      is_object = refl;
+      is_map = subst IsMap (sym (get_member-put key (object definitions) ms)) tt;
+      stands = ap entries (get_member-put key (object definitions) ms);
+    })
+
+noted-literal : (kind : Shape) → IsNotedShape kind → HasPlainLiteral kind
+noted-literal (shape.literal d) own = own
+noted-literal kind own = tt
+
+plain_notes : (rows : List Row) → IsPlainTable rows → HasPlainNotes rows
+plain_notes rows plain n = go (entry_at rows n) (plain_rows rows plain n)
+  where
+    go : (o : Option Entry) → IsNotedRow o → IsNotedEntry o
+    go None own = tt
+    go (Some e) own = (own.0, noted-literal e.shape own.1)
+
+-- a root document with its definitions
+root-ready : (plan : Plan) (w : Work) (n : ℕ) (name : Text) (uri : Option Text) (depth : ℕ) (own document : Data) (key : Text)
+    → StandsAt plan.path key → IsPlainTable plan.rows → HasKeysOnce w.definitions → AllStand plan w
+    → Describes (basis_of plan) (MayRefer plan w) depth n own
+    → with_definitions plan.path w.definitions (root_document name uri own) ≡ Some document
+    → (R : Text → Type 0) → ((j : ℕ) (r : Text) → MayRefer plan w j r → R r) → IsReady R key w.definitions document
+root-ready plan w n name uri depth own document key at plain once definitions h made R refer =
+    placed-ready R plan.path key w.definitions ms document at all (root-are R name uri own (each depth n own h))
+    (room key (stands_key plan.path key at))
+    (placed_in plan.path w.definitions ms document (stands-draft plan.path key at) room made)
+  where
+    ms : Members
+    ms = members_in (root_document name uri own)
+
+    each : (d n : ℕ) (t : Data) → Describes (basis_of plan) (MayRefer plan w) d n t → IsGood R t
+    each = described-good R (basis_of plan) (MayRefer plan w) plain refer
+
+    all : AllMembers (IsGood R) w.definitions
+    all = all_members (IsGood R) w.definitions once (λ k d found.
+        let definition = definitions k d found in each definition.depth definition.row d definition.describes)
+
+    room : (k : Text) → IsDefinitionsKey k → get_member k ms ≡ None
+    room k is = no_definitions_in k is (basis_of plan) (MayRefer plan w) (plain_notes plan.rows plain) name uri depth n own h
+
+-- what a root call makes, in a plain table, where its definitions stand at a draft's path
+pub root_call-ready : (old : State) (n : ℕ) (w : Work) (document : Data) (key : Text) → IsRootOf old n w document
+    → IsPlainTable old.rows → HasKeysOnce w.definitions → AllStand (plan_of old (Some n)) w → StandsAt (path_of old) key
+    → (R : Text → Type 0) → ((j : ℕ) (r : Text) → MayRefer (plan_of old (Some n)) w j r → R r)
+    → IsReady R key w.definitions document
+root_call-ready old n w document key h plain once definitions at R refer =
+    let plan = plan_of old (Some n) in
+    let depth = h.is_document.0 in
+    let described = describes-wider (basis_of plan) (Refers plan true w) (MayRefer plan w) (refers_may plan w true)
+    depth depth (omega arith) n h.own
+    (document_describes (basis_of plan) plan.inlines (Refers plan true w) [] n h.own h.is_document) in
+    root-ready plan w n (name_at old.rows n) old.settings.meta_schema depth h.own document key at plain once definitions described
+    h.is_root R refer
+
+-- so it is of the class that the laws ask for, and its definitions are a map
+pub root_call-class : (old : State) (n : ℕ) (w : Work) (document : Data) (key : Text) → IsRootOf old n w document
+    → IsPlainTable old.rows → HasKeysOnce w.definitions → AllStand (plan_of old (Some n)) w → StandsAt (path_of old) key
+    → Everywhere (Named key IsDraft07) document × ((ms : Members) × (document ≡ object ms) × IsMap (get_member key ms))
+root_call-class old n w document key h plain once definitions at =
+    let ready = root_call-ready old n w document key h plain once definitions at (IsName key)
+    (may_refer-name (plan_of old (Some n)) w key at definitions) in
+    (good-named key document ready.everywhere, (ready.inside, ready.is_object, ready.is_map))

@@ -1,0 +1,153 @@
+-- Definitions that are taken for OpenAPI mean the types of their names.
+use Rattle.std.proofs.Common.{◌≡◌, inl, inr, ◌+◌, ◌*◌, ◌≤◌, ◌∷◌, ◌++◌, ℕ, Option, Some, None, true, refl, sym, ap, ◌∙◌, subst}
+use Rattle.std.specs.Prelude.{is_some}
+use Rattle.std.specs.Str.{IsUtf8}
+use Rattle.serde_json.specs.Data.{Data, string, Members, depth}
+use Rattle.serde_json.specs.Find.{get_member, pointer}
+use Rattle.serde_json.specs.Events.{members_len}
+use Rattle.schemars_schema.specs.Json.{Text}
+use Rattle.schemars_schema.specs.Encoding.{encoded}
+use Rattle.schemars_schema.specs.SchemaData.{IsSchema}
+use Rattle.schemars_schema.specs.Lookup.{resolved}
+use Rattle.schemars_schema.specs.References.{references, resolves, all_resolve}
+use Rattle.schemars_schema.specs.Acceptance.{openapi3, accepts, count_of_definitions}
+use Rattle.schemars_schema.proofs.Placings.{plain-components, resolved-definition, count-place}
+use Rattle.schemars_types.specs.Faults.{IsChecked}
+use Rattle.schemars_documents.specs.PlainTable.{IsPlainTable}
+use Rattle.schemars_documents.specs.ContractOf.{contract_of}
+use Rattle.schemars_build.specs.Naming.{IsOneToOne}
+use Rattle.schemars_build.specs.Work.{Plan, Work, basis_of, Refers}
+use Rattle.schemars_documents.proofs.OpenStructs.{plain_under}
+use Rattle.schemars_meaning.proofs.Schemas.{described}
+use Rattle.schemars_headline.specs.State.{State, path_of, plan_of, work_of, HasOwnDefinitions}
+use Rattle.schemars_headline.specs.Headline.{AcceptsItsValues}
+use Rattle.schemars_headline.proofs.Standing.{MayRefer, AllStand, stands_now}
+use Rattle.schemars_headline.proofs.Placed.{held}
+use Rattle.schemars_headline.proofs.Leading.{HoldsDefinitions, IsItsRoot, written_accepts}
+use Rattle.schemars_laws.specs.Paths.{IsDefinitionAt, EachEverywhere, components, components_of}
+use Rattle.schemars_laws.specs.Stages.{Stands, IsForOpenApi, Anything}
+use Rattle.schemars_laws.specs.Laws.{for_openapi3}
+use Rattle.schemars_laws.proofs.Preserved.{weaker}
+use Rattle.schemars_laws.proofs.Chain.{components-found, openapi-law, names-at_end, all_seven, schema-at_end, len-at_end}
+use Rattle.schemars_laws.proofs.Chain.{found-at_end, missing-at_end, seven-each}
+use Rattle.schemars_headline.specs.Taken.{MeansItsRow, MeanTheirRows, OpenApiHeadline}
+use Rattle.schemars_headline.proofs.ReferencesKept.{RefersOnce}
+use Rattle.schemars_headline.proofs.DialectsResolving.{each-resolves}
+use Rattle.schemars_headline.proofs.Classes.{described-good}
+
+-- ---- names of these definitions
+
+-- one of a schema among them
+abbrev pub NamesOne : Members → Text → Type 0
+NamesOne es t = (k : Text) × IsUtf8 k × (t ≡ 35 ∷ (components ++ 47 ∷ encoded k)) × ((d : Data) × (get_member k es ≡ Some d) × IsSchema d)
+
+names-one : (es : Members) (t : Text) → NamesOne es t → IsDefinitionAt components t
+names-one es t (k, text, is, there) = (k, text, is)
+
+-- where all of them are of the class, the references of each resolve at the end
+one-resolves : (es : Members) (t : Text) → NamesOne es t → resolves (components_of (all_seven es)) (string t) ≡ true
+one-resolves es t (k, text, is, (d, found, schema)) =
+    ap (λ x. is_some (resolved (components_of (all_seven es)) x)) is
+    ∙ ap is_some (resolved-definition components k (components_of (all_seven es)) (for_openapi3 d) (all_seven es) plain-components
+    (components-found (all_seven es)) text (found-at_end k es d found) (schema-at_end (NamesOne es) (names-one es) d schema))
+
+pub resolve-at_end : (es : Members) → EachEverywhere (Stands (NamesOne es) IsForOpenApi) es → (name : Text) (e : Data) → get_member name (all_seven es) ≡ Some e
+    → all_resolve (components_of (all_seven es)) (references e) ≡ true
+resolve-at_end es all name e found =
+    each-resolves (NamesOne es) (components_of (all_seven es)) (one-resolves es) e
+    (weaker (Stands (NamesOne es) Anything) (RefersOnce (NamesOne es)) (λ ms is. (is.reference, is.once))
+    e (names-at_end (NamesOne es) (names-one es) es all name e found))
+
+-- ---- the generator's own definitions are of the class
+
+module _ (s : State) (own : HasOwnDefinitions s) (at : path_of s ≡ components) (plain : IsPlainTable s.rows) where
+  standing : AllStand (plan_of s None) (work_of s)
+  standing name d found = stands_now (plan_of s None) (work_of s) name d (own name d found)
+
+  refers-one : (j : ℕ) (r : Text) → Refers (plan_of s None) true (work_of s) j r → NamesOne s.definitions r
+  refers-one j r (inl is) = let never : None ≡ Some j = is.0 in cc
+  refers-one j r (inr is) = (
+    is.0,
+    (standing is.0 is.2.0 is.2.1).is_text,
+    is.3 ∙ ap (λ p. 35 ∷ (p ++ 47 ∷ encoded is.0)) at,
+    (
+      is.2.0,
+      is.2.1,
+      described (basis_of (plan_of s None)) (MayRefer (plan_of s None) (work_of s)) (standing is.0 is.2.0 is.2.1).depth
+          (standing is.0 is.2.0 is.2.1).row is.2.0 (standing is.0 is.2.0 is.2.1).describes,
+    ),
+  )
+
+  may_refer-one : (j : ℕ) (r : Text) → MayRefer (plan_of s None) (work_of s) j r → NamesOne s.definitions r
+  may_refer-one j r (inl is) = refers-one j r is
+  may_refer-one j r (inr is) = refers-one j r is
+
+  pub own-class : EachEverywhere (Stands (NamesOne s.definitions) IsForOpenApi) s.definitions
+  own-class name d found =
+      (described-good (NamesOne s.definitions) (basis_of (plan_of s None)) (MayRefer (plan_of s None) (work_of s)) plain may_refer-one
+      (standing name d found).depth (standing name d found).row d (standing name d found).describes).everywhere
+
+-- ---- what they mean
+
+module _ (s : State) (checked : IsChecked s.rows) (one : IsOneToOne s.names) (own : HasOwnDefinitions s) (at : path_of s ≡ components)
+    (plain : IsPlainTable s.rows) where
+  abbrev es : Members
+  es = s.definitions
+
+  abbrev plan : Plan
+  plan = plan_of s None
+
+  abbrev w : Work
+  w = work_of s
+
+  stand : AllStand plan w
+  stand = standing s own at plain
+
+  rootless : IsItsRoot plan w (components_of es)
+  rootless m is = absurd (let never : None ≡ Some m = is in cc)
+
+  holds : HoldsDefinitions plan.path w.definitions (components_of es)
+  holds = held plan.path es (components_of es) (inr at) (inr (ap (λ p. pointer p (components_of es)) at ∙ components-found es))
+
+  accepts-before : (name : Text) (d : Data) (found : get_member name es ≡ Some d)
+      → AcceptsItsValues s.rows (contract_of s.settings.contract) (path_of s) (stand name d found).row (components_of es) d
+  accepts-before name d found =
+      written_accepts plan w (components_of es) checked (plain_under s.rows (contract_of s.settings.contract) plain) one stand holds rootless (stand name d found).depth (stand name d found).row d
+      (inr (stand name d found).describes)
+
+  count-same : count_of_definitions components (components_of (all_seven es)) ≡ count_of_definitions components (components_of es)
+  count-same =
+      counted (all_seven es) ∙ (len-at_end es ∙ sym (counted es))
+    where
+      counted : (ds : Members) → count_of_definitions components (components_of ds) ≡ members_len ds
+      counted ds = count-place components (components_of ds) ds (components-found ds)
+
+  pub taken_means : EachEverywhere (Stands (NamesOne es) IsForOpenApi) es → (name : Text) (e : Data) → get_member name (all_seven es) ≡ Some e
+      → MeansItsRow s name (components_of (all_seven es)) e
+  taken_means all name e found = go (get_member name es) refl
+    where
+      some : {x y : Data} → Some x ≡ Some y → x ≡ y
+      some e = cc
+
+      go : (o : Option Data) → get_member name es ≡ o → MeansItsRow s name (components_of (all_seven es)) e
+      go None none = let never : None ≡ Some e = sym (missing-at_end name es none) ∙ found in cc
+      go (Some d) here = record {
+        row = (stand name d here).row;
+        is_named = (stand name d here).is_named;
+        accepts_its_values = λ patterns v json followed bounded.
+            ap (λ x. accepts openapi3 (components_of (all_seven es)) patterns followed x v) (sym same)
+            ∙ (openapi-law (NamesOne es) (names-one es) es all d (all name d here) patterns followed v
+            ∙ accepts-before name d here patterns v json followed
+            (subst (λ p. (depth v + 1) * (count_of_definitions p (components_of es) + 2) ≤ followed) (sym at)
+            (subst (λ c. (depth v + 1) * (c + 2) ≤ followed) count-same bounded)));
+        references_resolve = resolve-at_end es all name e found;
+      }
+        where
+          same : for_openapi3 d ≡ e
+          same = some (sym (found-at_end name es d here) ∙ found)
+
+-- ---- so do the definitions that a generator holds, through the transforms
+
+pub openapi_headline : (s : State) → IsChecked s.rows → IsOneToOne s.names → OpenApiHeadline s
+openapi_headline s checked one own at plain =
+    subst (MeanTheirRows s) (seven-each s.definitions) (taken_means s checked one own at plain (own-class s own at plain))

@@ -1,0 +1,67 @@
+-- What documents for the older drafts promise: they accept just the values that belong to their type, and those of examples
+-- accept them.
+use Rattle.std.specs.Prelude.{◌≡◌, ◌⊎◌, ◌≤◌, ℕ, List, Some, codes}
+use Rattle.serde_json.specs.Data.{Data, no_members}
+use Rattle.schemars_schema.specs.Json.{Text, IsJson}
+use Rattle.schemars_schema.specs.Verdict.{Yes, verdict}
+use Rattle.schemars_schema.specs.Acceptance.{Dialect, Patterns, draft07, draft2019_09, accepts, bound}
+use Rattle.schemars_schema.specs.References.{ReferencesResolve}
+use Rattle.schemars_laws.specs.Laws.{for_draft07, for_draft2019_09}
+use Rattle.schemars_types.specs.Rows.{Row}
+use Rattle.schemars_types.specs.Meaning.{Contract, belongs}
+use Rattle.schemars_documents.specs.PlainTable.{IsPlainTable}
+use Rattle.schemars_documents.specs.ContractOf.{contract_of}
+use Rattle.schemars_sample.specs.Example.{Example}
+use Rattle.schemars_sample.specs.SampleJson.{sample_json}
+use Rattle.schemars_headline.specs.State.{State, path_of, HasOwnDefinitions}
+
+-- under every reading of patterns, from the bound on, the document accepts under this dialect a JSON value exactly when it
+-- belongs to the row, and never leaves it open
+abbrev pub AcceptsItsValuesUnder : Dialect → List Row → Contract → Text → ℕ → Data → Type 0
+AcceptsItsValuesUnder dialect rows contract path n document =
+    (patterns : Patterns) (v : Data) → IsJson v → (followed : ℕ) → bound path document v ≤ followed
+    → accepts dialect document patterns followed document v ≡ verdict (belongs rows contract patterns n v)
+
+-- the headline under a dialect, for a document of row n whose definitions stand at the path
+pub record MeansItsTypeUnder (dialect : Dialect) (rows : List Row) (contract : Contract) (path : Text) (n : ℕ)
+    (document : Data) : Type 0 where
+  pub accepts_its_values : AcceptsItsValuesUnder dialect rows contract path n document
+  pub references_resolve : ReferencesResolve document
+
+-- the headline of a generator whose definitions are its own, and stand at this path
+abbrev pub RootHeadlineUnder : Dialect → Text → State → ℕ → Data → Type 0
+RootHeadlineUnder dialect path s n document =
+    HasOwnDefinitions s → path_of s ≡ path → IsPlainTable s.rows
+    → MeansItsTypeUnder dialect s.rows (contract_of s.settings.contract) (path_of s) n document
+
+-- what is made for the drafts of a root document of row n
+abbrev pub Draft07Headline : State → ℕ → Data → Type 0
+Draft07Headline s n document = RootHeadlineUnder draft07 (codes "/definitions") s n (for_draft07 document)
+
+abbrev pub Draft2019_09Headline : State → ℕ → Data → Type 0
+Draft2019_09Headline s n document = RootHeadlineUnder draft2019_09 (codes "/$defs") s n (for_draft2019_09 document)
+
+-- ---- examples
+
+-- no definitions, or the generator's own, of a plain table
+abbrev pub HasPlainDefinitions : State → Type 0
+HasPlainDefinitions s = (s.definitions ≡ no_members) ⊎ (HasOwnDefinitions s × IsPlainTable s.rows)
+
+-- under every reading of patterns, however many references are followed, the document accepts under this dialect the example,
+-- where it has a JSON form
+abbrev pub AcceptsExampleUnder : Dialect → Example → Data → Type 0
+AcceptsExampleUnder dialect x document =
+    (patterns : Patterns) (followed : ℕ) (json : Data) → sample_json x ≡ Some json
+    → accepts dialect document patterns followed document json ≡ Yes
+
+-- so it does beside plain definitions of a generator, which stand at this path
+abbrev pub SampleHeadlineUnder : Dialect → Text → State → Example → Data → Type 0
+SampleHeadlineUnder dialect path s x document =
+    path_of s ≡ path → HasPlainDefinitions s → AcceptsExampleUnder dialect x document
+
+-- what is made for the drafts of the root document of an example
+abbrev pub Draft07Sample : State → Example → Data → Type 0
+Draft07Sample s x document = SampleHeadlineUnder draft07 (codes "/definitions") s x (for_draft07 document)
+
+abbrev pub Draft2019_09Sample : State → Example → Data → Type 0
+Draft2019_09Sample s x document = SampleHeadlineUnder draft2019_09 (codes "/$defs") s x (for_draft2019_09 document)

@@ -1,5 +1,0 @@
-use Rattle.std.proofs.Common.{rules}
-use Rattle.schemars_json.proofs.encoding.is_hex_digit.Goals as goal
-
-pub returns : goal.returns
-returns c = search rules

@@ -1,9 +1,0 @@
-use Rattle.std.proofs.Common.{ap, ◌∙◌}
-use Rattle.schemars_keys.specs.Found.{adding, options_at}
-use Rattle.schemars_keys.proofs.Adding.{adding-once}
-use Rattle.schemars_keys.proofs.keys.key_options.Goals as goal
-
-pub returns : goal.returns
-returns c =
-    let o = options_at c.args.types.now c.args.key in
-    c.in_ok-add_row.ensures.added ∙ (ap (λ start. adding start o) c.none.ensures ∙ adding-once o)

@@ -1,8 +1,0 @@
--- Where a reference may stand, nothing is taken out.
-use Rattle.std.proofs.Common.{sym, ◌∙◌}
-use Rattle.schemars_parts.proofs.Unchanged.{reference_unchanged}
-use Rattle.schemars_parts.proofs.closing.stands_in_place.Goals as goal
-
-pub returns-clause-unchanged : goal.returns-clause-unchanged
-returns-clause-unchanged c =
-    λ passes. reference_unchanged c.args.inline c.args.schema.now (sym c.asks_for_place.ensures ∙ passes)

@@ -1,7 +1,0 @@
--- Where no `oneOf` stands nothing is taken out.
-use Rattle.schemars_parts.proofs.Optional.{no_choice}
-use Rattle.schemars_parts.proofs.flattening.choice_or_anything.Goals as goal
-
-pub returns-in-None : goal.returns-in-None
-returns-in-None c =
-    no_choice c.args.schema.now c.remove.new.self c.in-None.ensures.value c.in-None.ensures.removed

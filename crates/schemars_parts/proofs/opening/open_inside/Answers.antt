@@ -1,7 +1,0 @@
-use Rattle.std.proofs.Common.{◌∙◌}
-use Rattle.std.proofs.lemmas.Result.{on_ok_weaker}
-use Rattle.schemars_parts.proofs.Levels.{around_opened}
-use Rattle.schemars_parts.proofs.opening.open_inside.Goals as goal
-
-pub returns : goal.returns
-returns c = on_ok_weaker c.rewrite.result (λ h. h ∙ around_opened c.args.schema.now) c.rewrite.ensures

@@ -1,6 +1,0 @@
-pub mod Changes
-pub mod Removals
-pub mod NullKeywords
-pub mod NullMembers
-pub mod Nulls
-pub mod LiteralNulls

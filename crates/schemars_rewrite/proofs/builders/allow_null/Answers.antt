@@ -1,5 +1,0 @@
-use Rattle.schemars_rewrite.proofs.Nulls.{allow_null-law}
-use Rattle.schemars_rewrite.proofs.builders.allow_null.Goals as goal
-
-pub returns-clause-law : goal.returns-clause-law
-returns-clause-law c = allow_null-law c.args.schema.now c.make_nullable.new.schema c.in_ok-make_nullable.ensures

@@ -1,7 +1,0 @@
-use Rattle.std.proofs.Common.{◌≡◌, drop}
-use Rattle.serde_json.specs.View.{items_view}
-use Rattle.schemars_rewrite.specs.AllowNull.{holds_null}
-use Rattle.schemars_rewrite.proofs.builders.holds_null.Given as goal
-
-abbrev pub invariant-loop-value : goal.invariant-loop-value
-invariant-loop-value l = holds_null (items_view (drop l.value-index l.values)) ≡ holds_null (items_view l.values)

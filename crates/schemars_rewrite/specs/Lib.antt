@@ -1,4 +1,0 @@
-pub mod AllowNull
-pub mod NullLaw
-pub mod Properties
-pub mod Variants

@@ -1,4 +1,0 @@
-pub mod Answered
-pub mod Untransformed
-mod Samples
-mod SampleWhole

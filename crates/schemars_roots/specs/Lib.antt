@@ -1,4 +1,0 @@
-pub mod Answers
-pub mod Samples
-pub mod Settings
-pub mod Through

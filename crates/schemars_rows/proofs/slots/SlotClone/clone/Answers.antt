@@ -1,5 +1,0 @@
-use Rattle.std.proofs.Common.{rules}
-use Rattle.schemars_rows.proofs.slots.SlotClone.clone.Goals as goal
-
-pub returns : goal.returns
-returns c = search rules

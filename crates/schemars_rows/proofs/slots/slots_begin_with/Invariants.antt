@@ -1,9 +1,0 @@
--- How far the slots have been compared.
-use Rattle.std.proofs.Common.{◌≡◌, map}
-use Rattle.schemars_rows.specs.Slots.{row_of}
-use Rattle.schemars_rows.specs.Extends.{begins_with}
-use Rattle.schemars_rows.proofs.slots.slots_begin_with.Given as goal
-
-abbrev pub invariant-loop-id : goal.invariant-loop-id
-invariant-loop-id l = begins_with (map row_of l.rest) (map row_of l.id-iterator)
-    ≡ begins_with (map row_of l.slots.entries) (map row_of l.first.entries)

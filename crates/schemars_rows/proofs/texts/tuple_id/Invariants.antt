@@ -1,9 +1,0 @@
--- The texts so far, and those of the parts that are left.
-use Rattle.std.proofs.Common.{◌≡◌, ◌++◌, map, drop}
-use Rattle.schemars_rows.specs.Rows.{id_at}
-use Rattle.schemars_rows.specs.Slots.{row_of}
-use Rattle.schemars_rows.proofs.texts.tuple_id.Given as goal
-
-abbrev pub invariant-loop-n : goal.invariant-loop-n
-invariant-loop-n l =
-    map (λ t. t.now) l.ids.items ++ map (id_at (map row_of l.slots.entries)) (drop l.n-index l.parts) ≡ map (id_at (map row_of l.slots.entries)) l.parts

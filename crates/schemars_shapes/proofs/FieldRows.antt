@@ -1,0 +1,115 @@
+-- The names that were met before, and the first that is met a second time.
+use Rattle.std.proofs.Common.{◌≡◌, ◌<◌, ◌+◌, ◌||◌, ◌∙◌, ℕ, List, [], ◌∷◌, ◌++◌, Bool, true, false, not, cond, Some}
+use Rattle.std.proofs.Common.{Bor, length, map, take, get_or, option_map, Contains, refl, ap, sym, subst}
+use Rattle.std.specs.Cmp.Lexicographic.{slice_cmp}
+use Rattle.std.specs.Ordering.{nat_cmp, is_eq}
+use Rattle.std.specs.List.{IsDistinct, list_any}
+use Rattle.std.specs.Str.{bytes_eq}
+use Rattle.std.specs.BTreeSet.{BTreeSet, contains, Updates}
+use Rattle.std.proofs.lemmas.Cmp.{nat_list_eq_equiv}
+use Rattle.std.proofs.lemmas.List.{take-map, map_more}
+use Rattle.std.proofs.lemmas.Map.Keys.{IsDistinct-push}
+use Rattle.std.proofs.lemmas.Map.Text.{is_eq-slice_cmp}
+use Rattle.std.proofs.lemmas.Option.{slice_get-map, slice_get-get_or}
+use Rattle.schemars_schema.specs.Json.{Text}
+use Rattle.schemars_shapes.specs.declared.shape.Fields as src-fields
+use Rattle.schemars_shapes.specs.declared.variant.Payload as src-payload
+use Rattle.schemars_shapes.specs.declared.variant.Payload.TheVariants as payload
+use Rattle.schemars_shapes.specs.declared.variant.InternalPayload as src-internal_payload
+use Rattle.schemars_shapes.specs.declared.variant.InternalPayload.TheVariants as inside
+use Rattle.schemars_shapes.specs.Shape.{payload_of, internal_payload_of, payload_names}
+use Rattle.schemars_shapes.specs.Repeated.{IsRepeated}
+use Rattle.schemars_shapes.proofs.FieldLemmas.{Contains-from_any, bytes_eq_comm}
+
+list_any-push : (test : Text → Bool) (xs : List Text) (y : Text) → list_any test (xs ++ y ∷ []) ≡ list_any test xs || test y
+list_any-push test [] y = or_false (test y)
+  where
+    or_false : (b : Bool) → b || false ≡ b
+    or_false true = refl
+    or_false false = refl
+list_any-push test (x ∷ xs) y = further (test x) (list_any-push test xs y)
+  where
+    further : (b : Bool) → list_any test (xs ++ y ∷ []) ≡ list_any test xs || test y
+        → b || list_any test (xs ++ y ∷ []) ≡ (b || list_any test xs) || test y
+    further true h = refl
+    further false h = h
+
+abbrev pub now_of : Bor (List ℕ) → Text
+now_of b = b.now
+
+-- the first names differ, and a set has just these
+pub record AreMet (fs : List (Bor (List ℕ))) (i : ℕ) (met : BTreeSet (Bor (List ℕ))) : Type 0 where
+  pub differ : IsDistinct bytes_eq (map now_of (take i fs))
+  pub same : (q : Bor (List ℕ)) → contains (λ x y. slice_cmp nat_cmp x.now y.now) met q
+      ≡ list_any (bytes_eq q.now) (map now_of (take i fs))
+
+pub met_none : (fs : List (Bor (List ℕ))) (met : BTreeSet (Bor (List ℕ))) → met.keys ≡ [] → AreMet fs 0 met
+unfolding IsDistinct
+met_none fs met empty = record { differ = tt; same = λ q. rw empty refl }
+
+name_more : (fs : List (Bor (List ℕ))) (i : ℕ) (d : Bor (List ℕ)) → i < length fs
+    → map now_of (take (i + 1) fs) ≡ map now_of (take i fs) ++ now_of (get_or fs i d) ∷ []
+name_more fs i d below = map_more now_of fs i d below
+
+pub met_more : (fs : List (Bor (List ℕ))) (i : ℕ) (d name : Bor (List ℕ)) (old new : BTreeSet (Bor (List ℕ)))
+    → i < length fs → name.now ≡ now_of (get_or fs i d) → AreMet fs i old
+    → contains (λ x y. slice_cmp nat_cmp x.now y.now) old name ≡ false → Updates (λ x y. slice_cmp nat_cmp x.now y.now) old new name true
+    → AreMet fs (i + 1) new
+met_more fs i d name old new below is h absent updates =
+    let before : List Text = map now_of (take i fs) in
+    let grown : map now_of (take (i + 1) fs) ≡ before ++ name.now ∷ [] =
+    name_more fs i d below ∙ ap (λ (n : Text). before ++ n ∷ []) (sym is) in
+    record {
+      differ = subst (λ (ns : List Text). IsDistinct bytes_eq ns) (sym grown)
+          (IsDistinct-push nat_list_eq_equiv before name.now h.differ (sym (h.same name) ∙ absent));
+      same = λ q.
+          updates.0 q ∙ either (is_eq (slice_cmp nat_cmp name.now q.now)) (bytes_eq q.now name.now)
+          (contains (λ x y. slice_cmp nat_cmp x.now y.now) old q) (is_eq-slice_cmp name.now q.now ∙ bytes_eq_comm name.now q.now)
+          ∙ ap (λ b. b || bytes_eq q.now name.now) (h.same q) ∙ sym (list_any-push (bytes_eq q.now) before name.now)
+          ∙ ap (list_any (bytes_eq q.now)) (sym grown);
+    }
+  where
+    either : (a b was : Bool) → a ≡ b → cond a true was ≡ was || b
+    either true true true e = refl
+    either true true false e = refl
+    either true false was e = cc
+    either false true was e = cc
+    either false false true e = refl
+    either false false false e = refl
+
+pub repeated_at : (fs : List (Bor (List ℕ))) (i : ℕ) (d name : Bor (List ℕ)) (met : BTreeSet (Bor (List ℕ)))
+    → i < length fs → name.now ≡ now_of (get_or fs i d) → AreMet fs i met
+    → contains (λ x y. slice_cmp nat_cmp x.now y.now) met name ≡ true → IsRepeated (map now_of fs) name.now
+repeated_at fs i d name met below is h there =
+    let front : take i (map now_of fs) ≡ map now_of (take i fs) = take-map now_of i fs in
+    record {
+      place = i;
+      is_there = slice_get-map now_of fs i ∙ ap (option_map now_of) (slice_get-get_or fs i d below) ∙ ap Some (sym is);
+      is_before = subst (λ (ns : List Text). Contains ns name.now) (sym front)
+          (Contains-from_any name.now (map now_of (take i fs)) (sym (h.same name) ∙ there));
+      is_first = subst (λ (ns : List Text). IsDistinct bytes_eq ns) (sym front) h.differ;
+    }
+
+pub from_not_false : (a b : Bool) → a ≡ not b → a ≡ false → b ≡ true
+from_not_false a true e h = refl
+from_not_false a false e h = cc
+
+pub from_not_true : (a b : Bool) → a ≡ not b → a ≡ true → b ≡ false
+from_not_true a true e h = cc
+from_not_true a false e h = refl
+
+-- no payload but a struct has fields
+pub no_fields : (p : src-payload.Payload) → ((fields : src-fields.Fields) → p ≡ payload.Struct fields → ⊥)
+    → IsDistinct bytes_eq (payload_names (payload_of p))
+unfolding IsDistinct
+no_fields (payload.Struct fields) other = absurd (other fields refl)
+no_fields payload.Unit other = tt
+no_fields (payload.Newtype n) other = tt
+no_fields (payload.Tuple ns) other = tt
+
+pub no_inside_fields : (p : src-internal_payload.InternalPayload)
+    → ((fields : src-fields.Fields) → p ≡ inside.Struct fields → ⊥) → IsDistinct bytes_eq (payload_names (internal_payload_of p))
+unfolding IsDistinct
+no_inside_fields (inside.Struct fields) other = absurd (other fields refl)
+no_inside_fields inside.Unit other = tt
+no_inside_fields (inside.Newtype n) other = tt

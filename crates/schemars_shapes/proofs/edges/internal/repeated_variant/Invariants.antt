@@ -1,0 +1,10 @@
+-- The names before, and those of the variants that are left.
+use Rattle.std.proofs.Common.{◌≡◌, ◌++◌, map, drop}
+use Rattle.schemars_shapes.specs.Shape.{internal_variant_of}
+use Rattle.schemars_shapes.proofs.FieldRows.{now_of}
+use Rattle.schemars_shapes.proofs.edges.internal.repeated_variant.Given as goal
+
+abbrev pub invariant-loop-variant : goal.invariant-loop-variant
+invariant-loop-variant l =
+    map now_of l.names.items ++ map (λ x. x.name) (map internal_variant_of (drop l.variant-index l.internal.variants.items))
+    ≡ map (λ x. x.name) (map internal_variant_of l.internal.variants.items)

@@ -1,2 +1,0 @@
-pub mod Templates
-pub mod Literals

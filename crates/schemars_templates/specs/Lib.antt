@@ -1,5 +1,0 @@
-pub mod Basis
-pub mod Template
-pub mod OfShape
-pub mod View
-pub mod Describes

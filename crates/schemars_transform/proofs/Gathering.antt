@@ -1,0 +1,112 @@
+-- The names that a schema and those inside it add, call by call.
+use Rattle.std.proofs.Common.{◌≡◌, ℕ, zero, suc, ◌+◌, ◌<◌, ◌≤◌, max, Some, None, List, [], ◌∷◌, ◌++◌}
+use Rattle.std.proofs.Common.{length, get_or, drop, Bool, true, false, IsTrue, codes, refl, sym, ap, ◌∙◌, subst, add-one, arith}
+use Rattle.std.proofs.lemmas.Bool.{false≢true}
+use Rattle.serde_json.specs.Data.{Data, null, boolean, number, string, array, object}
+use Rattle.serde_json.specs.Data.{Items, no_items, item, Members, no_members, member, depth, items_depth}
+use Rattle.serde_json.specs.Find.{as_array, as_object}
+use Rattle.serde_json.specs.View.{view, items_view, members_view}
+use Rattle.serde_json.specs.declared.value.Value.{Value}
+use Rattle.serde_json.proofs.Views.{Entry}
+use Rattle.schemars_schema.specs.Json.{Text}
+use Rattle.schemars_schema.specs.SchemaData.{inserted}
+use Rattle.schemars_builders.specs.Properties.{put_missing}
+use Rattle.schemars_transform.specs.Unevaluated.{names_in, names_in_items, names_in_keywords, names_at, with_names, properties_made}
+
+pub with_names-append : (a b : List Text) (ms : Members) → with_names (a ++ b) ms ≡ with_names b (with_names a ms)
+with_names-append [] b ms = refl
+with_names-append (k ∷ a) b ms = with_names-append a b (put_missing k (boolean true) ms)
+
+pub names_in_object : (d : Data) (ms : Members) → Some ms ≡ as_object d → names_in_keywords ms ≡ (names_in d).in_schema
+unfolding names_in names_in_keywords
+names_in_object null ms e = cc
+names_in_object (boolean b) ms e = cc
+names_in_object (number n) ms e = cc
+names_in_object (string s) ms e = cc
+names_in_object (array ds) ms e = cc
+names_in_object (object fs) ms e = let same : ms ≡ fs = cc in ap names_in_keywords same
+
+pub names_in_other : (d : Data) → None ≡ as_object d → [] ≡ (names_in d).in_schema
+unfolding names_in
+names_in_other null e = refl
+names_in_other (boolean b) e = refl
+names_in_other (number n) e = refl
+names_in_other (string s) e = refl
+names_in_other (array ds) e = refl
+names_in_other (object fs) e = cc
+
+pub names_in_array : (d : Data) (ds : Items) → Some ds ≡ as_array d → names_in_items ds ≡ (names_in d).in_list
+unfolding names_in names_in_items
+names_in_array null ds e = cc
+names_in_array (boolean b) ds e = cc
+names_in_array (number n) ds e = cc
+names_in_array (string s) ds e = cc
+names_in_array (array fs) ds e = let same : ds ≡ fs = cc in ap names_in_items same
+names_in_array (object ms) ds e = cc
+
+pub names_in_no_array : (d : Data) → None ≡ as_array d → [] ≡ (names_in d).in_list
+unfolding names_in
+names_in_no_array null e = refl
+names_in_no_array (boolean b) e = refl
+names_in_no_array (number n) e = refl
+names_in_no_array (string s) e = refl
+names_in_no_array (array fs) e = cc
+names_in_no_array (object ms) e = refl
+
+-- one turn: the first member's names have been put in
+pub keyword_done : (k : Text) (d : Data) (ms now next : Members) → next ≡ with_names (names_at k d (names_in d)) now
+    → with_names (names_in_keywords ms) next ≡ with_names (names_in_keywords (member k d ms)) now
+unfolding names_in_keywords
+keyword_done k d ms now next e = ap (with_names (names_in_keywords ms)) e ∙ sym (with_names-append (names_at k d (names_in d))
+    (names_in_keywords ms) now)
+
+pub item_done : (d : Data) (ds : Items) (now next : Members) → next ≡ with_names (names_in d).in_schema now
+    → with_names (names_in_items ds) next ≡ with_names (names_in_items (item d ds)) now
+unfolding names_in_items
+item_done d ds now next e = ap (with_names (names_in_items ds)) e ∙ sym (with_names-append (names_in d).in_schema (names_in_items ds) now)
+
+pub nothing_left : (ms : Members) → with_names (names_in_keywords no_members) ms ≡ ms
+unfolding names_in_keywords
+nothing_left ms = refl
+
+pub no_items_left : (ms : Members) → with_names (names_in_items no_items) ms ≡ ms
+unfolding names_in_items
+no_items_left ms = refl
+
+from_here : (xs : List Value) (i : ℕ) (x : Value) → i < length xs
+    → items_view (drop i xs) ≡ item (view (get_or xs i x)) (items_view (drop (suc i) xs))
+from_here [] i x h = absurd (omega arith)
+from_here (y ∷ xs) zero x h = refl
+from_here (y ∷ xs) (suc i) x h = from_here xs i x (omega arith)
+
+pub items_turn : (xs : List Value) (i : ℕ) (x : Value) (all now next : Members) → i < length xs → x ≡ get_or xs i x
+    → next ≡ with_names (names_in (view x)).in_schema now
+    → with_names (names_in_items (items_view (drop i xs))) now ≡ all → with_names (names_in_items (items_view (drop (i + 1) xs))) next ≡ all
+items_turn xs i x all now next within is step before =
+    let here : items_view (drop i xs) ≡ item (view x) (items_view (drop (suc i) xs)) =
+    from_here xs i x within ∙ ap (λ y. item (view y) (items_view (drop (suc i) xs))) (sym is) in
+    rw add-one (item_done (view x) (items_view (drop (suc i) xs)) now next step ∙ ap (λ ds. with_names (names_in_items ds) now) (sym
+    here) ∙ before)
+
+pub items_shallow : (xs : List Value) (i : ℕ) (x : Value) → i < length xs
+    → items_depth (items_view (drop (i + 1) xs)) ≤ items_depth (items_view (drop i xs))
+items_shallow xs i x within =
+    let same : items_depth (items_view (drop i xs)) ≡ max (depth (view (get_or xs i x))) (items_depth (items_view (drop (suc i) xs))) =
+    ap items_depth (from_here xs i x within) in
+    rw add-one (omega arith)
+
+pub items_end : (xs : List Value) (i : ℕ) (all now : Members) → length xs ≤ i
+    → with_names (names_in_items (items_view (drop i xs))) now ≡ all → now ≡ all
+items_end xs i all now end before = sym (no_items_left now) ∙ ap (λ ds. with_names (names_in_items ds) now) (sym (nothing_at xs i end)) ∙
+    before
+  where
+    nothing_at : (ys : List Value) (j : ℕ) → length ys ≤ j → items_view (drop j ys) ≡ no_items
+    nothing_at [] zero h = refl
+    nothing_at [] (suc j) h = refl
+    nothing_at (y ∷ ys) zero h = absurd (omega arith)
+    nothing_at (y ∷ ys) (suc j) h = nothing_at ys j (omega arith)
+
+pub made : (es : List Entry) (ms : Members) (s n : Data) (b : Bool) → members_view es ≡ ms → (length es ≡ 0 → IsTrue b) → b ≡ false
+    → n ≡ inserted (codes "properties") (object (members_view es)) s → n ≡ properties_made ms s
+made [] ms s n b is empty has new = let t : IsTrue b = empty refl in absurd (false≢true (sym has ∙ t))
+made (e ∷ es) ms s n b is empty has new = subst (λ m. n ≡ properties_made m s) is new

@@ -1,0 +1,110 @@
+-- What the transforms make of schemas, computed.
+use Rattle.std.proofs.Common.{◌≡◌, List, [], ◌∷◌, true, false, refl}
+use Rattle.std.specs.Prelude.{codes}
+use Rattle.std.specs.Global.{Global}
+use Rattle.std.specs.Prelude.{String as StringOf}
+use Prim.Native.String.{String}
+use Rattle.serde_json.specs.Data.{Data, null, boolean, number, unsigned, string, array}
+use Rattle.serde_json.specs.Data.{object, Items, no_items, item, Members, no_members, member}
+use Rattle.schemars_walk.specs.Rewritten.{forms, in_items, in_names, in_keywords}
+use Rattle.schemars_transform.specs.Formats.{restrict_formats, format_rules}
+use Rattle.schemars_transform.specs.declared.built_in.formats.Draft.{Draft}
+use Rattle.schemars_transform.specs.declared.built_in.formats.Draft.TheVariants.{NotAsked, Missing}
+use Rattle.schemars_walk.specs.Rewritten.{rewritten}
+use Rattle.std.specs.BTreeSet.{BTreeSet}
+use Rattle.schemars_transform.specs.Unevaluated.{replace_unevaluated_properties, names_in, names_in_items, names_in_keywords}
+
+-- ---- JSON in short; the keys of an object stand in order
+
+abbrev text : String → Data
+text s = string (codes s)
+
+abbrev list_of : List Data → Items
+list_of [] = no_items
+list_of (d ∷ ds) = item d (list_of ds)
+
+abbrev list : List Data → Data
+list ds = array (list_of ds)
+
+abbrev entry : String → Data → Members → Members
+entry k d ms = member (codes k) d ms
+
+abbrev one : String → Data → Data
+one k d = object (entry k d no_members)
+
+abbrev empty : Data
+empty = object no_members
+
+-- ---- `unevaluatedProperties`
+
+abbrev with_a : Data
+with_a = one "properties" (one "a" empty)
+
+names_join : replace_unevaluated_properties (object (entry "anyOf" (list (with_a ∷ [])) (entry "unevaluatedProperties" (boolean false)
+    no_members)))
+    ≡ object (entry "additionalProperties" (boolean false) (entry "anyOf" (list (with_a ∷ [])) (entry "properties" (one "a" (boolean
+    true)) no_members)))
+unfolding forms in_items in_names in_keywords names_in names_in_items names_in_keywords
+names_join = refl
+
+names_stay : replace_unevaluated_properties (object (entry "properties" (one "a" (one "not" empty)) (entry "then" with_a (entry
+    "unevaluatedProperties" (boolean true) no_members))))
+    ≡ object (entry "additionalProperties" (boolean true) (entry "properties" (one "a" (one "not" empty)) (entry "then" with_a no_members)))
+unfolding forms in_items in_names in_keywords names_in names_in_items names_in_keywords
+names_stay = refl
+
+deep_names : replace_unevaluated_properties (object (entry "allOf" (list (one "oneOf" (list (one "else" with_a ∷ [])) ∷ [])) (entry
+    "unevaluatedProperties" (boolean false) no_members)))
+    ≡ object (entry "additionalProperties" (boolean false) (entry "allOf" (list (one "oneOf" (list (one "else" with_a ∷ [])) ∷ []))
+    (entry "properties" (one "a" (boolean true)) no_members)))
+unfolding forms in_items in_names in_keywords names_in names_in_items names_in_keywords
+deep_names = refl
+
+no_names : replace_unevaluated_properties (object (entry "not" with_a (entry "unevaluatedProperties" (boolean false) no_members)))
+    ≡ object (entry "additionalProperties" (boolean false) (entry "not" with_a no_members))
+unfolding forms in_items in_names in_keywords names_in names_in_items names_in_keywords
+no_names = refl
+
+nothing_unevaluated : replace_unevaluated_properties (one "anyOf" (list (with_a ∷ []))) ≡ one "anyOf" (list (with_a ∷ []))
+unfolding forms in_items in_names in_keywords names_in names_in_items names_in_keywords
+nothing_unevaluated = refl
+
+-- ---- formats
+
+abbrev none_allowed : BTreeSet (StringOf Global)
+none_allowed = record { keys = [] }
+
+abbrev restricted_from : Draft → Data → Data
+restricted_from draft s = rewritten (format_rules none_allowed) draft s
+
+abbrev of_draft07 : String → Data
+of_draft07 f = object (entry "$schema" (text "http://json-schema.org/draft-07/schema#") (entry "format" (text f) no_members))
+
+none_known : restricted_from Missing (one "format" (text "custom")) ≡ one "format" (text "custom")
+unfolding forms in_items in_names in_keywords
+none_known = refl
+
+not_of_draft07 : restricted_from Missing (of_draft07 "uuid") ≡ one "$schema" (text "http://json-schema.org/draft-07/schema#")
+unfolding forms in_items in_names in_keywords
+not_of_draft07 = refl
+
+of_draft07_stays : restricted_from Missing (of_draft07 "date") ≡ of_draft07 "date"
+unfolding forms in_items in_names in_keywords
+of_draft07_stays = refl
+
+handed_down : restricted_from Missing (object (entry "$schema" (text "https://json-schema.org/draft/2020-12/schema")
+    (entry "anyOf" (list (one "format" (text "uuid") ∷ of_draft07 "uuid" ∷ one "format" (text "custom") ∷ [])) no_members)))
+    ≡ object (entry "$schema" (text "https://json-schema.org/draft/2020-12/schema")
+    (entry "anyOf" (list (one "format" (text "uuid") ∷ one "$schema" (text "http://json-schema.org/draft-07/schema#") ∷ empty ∷ []))
+    no_members))
+unfolding forms in_items in_names in_keywords
+handed_down = refl
+
+foreign : restricted_from Missing (object (entry "$schema" (text "x") (entry "not" (of_draft07 "uuid") no_members)))
+    ≡ object (entry "$schema" (text "x") (entry "not" (of_draft07 "uuid") no_members))
+unfolding forms in_items in_names in_keywords
+foreign = refl
+
+not_asked : restricted_from NotAsked (one "format" (text "uuid")) ≡ empty
+unfolding forms in_items in_names in_keywords
+not_asked = refl

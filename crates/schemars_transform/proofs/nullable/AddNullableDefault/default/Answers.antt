@@ -1,5 +1,0 @@
-use Rattle.std.proofs.Common.{refl}
-use Rattle.schemars_transform.proofs.nullable.AddNullableDefault.default.Goals as goal
-
-pub returns : goal.returns
-returns c = refl

@@ -1,7 +1,0 @@
-use Rattle.std.proofs.Common.{◌≡◌, drop}
-use Rattle.serde_json.specs.View.{items_view}
-use Rattle.schemars_transform.specs.Nullable.{all_null}
-use Rattle.schemars_transform.proofs.nullable.all_null.Given as goal
-
-abbrev pub invariant-loop-name : goal.invariant-loop-name
-invariant-loop-name l = all_null (items_view (drop l.name-index l.names)) ≡ all_null (items_view l.fn.names)

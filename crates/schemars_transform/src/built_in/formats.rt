@@ -1,0 +1,208 @@
+//! Formats that no draft defines, taken out.
+ghost use Rattle.std.specs.Prelude.{◌≡◌, [], Some, OnOk, true, codes, map, option_and_then};
+ghost use Rattle.serde_json.specs.Find.{get, as_str};
+ghost use Rattle.serde_json.specs.View.{view};
+ghost use Rattle.schemars_schema.specs.OrderedText.{is_listed};
+ghost use Rattle.schemars_walk.specs.Rewritten.{rewritten};
+ghost use Rattle.schemars_transform.specs.Formats.{draft_named, draft_by, draft_inside, is_defined, stays, format_rules};
+
+use schemars_schema::Schema;
+use schemars_schema::consts::meta_schemas;
+use schemars_walk::rewrite::place::{Place, place_under};
+use schemars_walk::rewrite::{Rule, rewrite};
+use schemars_walk::{Transform, TransformError};
+use serde_json::Value;
+use std::alloc::{AllocError, Global};
+use std::collections::BTreeSet;
+
+/// Takes `format` out where its value is neither among the allowed formats nor defined by the draft.
+///
+/// The draft is what `$schema` says, in the schema or in the nearest one around it. Where no `$schema` is
+/// found, all formats stay, and so they do inside a schema with the `$schema` of no known draft.
+#[derive(Clone, Drop)]
+pub struct RestrictFormats {
+    /// Reads the draft from `$schema`. Without it the allowed formats alone stay.
+    pub infer_from_meta_schema: bool,
+    /// Formats that stay under every draft.
+    pub allowed_formats: BTreeSet<String>,
+}
+
+impl RestrictFormats {
+    /// Reads the draft from `$schema`, and allows no format beside those of the draft.
+    pub fn default(alloc: Global) -> RestrictFormats
+        ensures infers { result.infer_from_meta_schema ≡ true }
+        ensures allowed { result.allowed_formats.keys ≡ [] }
+    {
+        RestrictFormats {
+            infer_from_meta_schema: true,
+            allowed_formats: BTreeSet::new(alloc),
+        }
+    }
+}
+
+impl Transform for RestrictFormats {
+    ghost use Rattle.schemars_transform.specs.Built.{Changes};
+    ghost use Rattle.schemars_transform.specs.Formats.{restrict_formats};
+
+    ghost makes = { λ t s r u v. Changes (restrict_formats t) t s r u v };
+
+    fn transform(&mut self, alloc: Global, schema: &mut Schema) -> Result<(), TransformError> {
+        let draft = if self.infer_from_meta_schema {
+            Draft::Missing
+        } else {
+            Draft::NotAsked
+        };
+        restrict(&self.allowed_formats, draft, alloc, schema)?;
+        Ok(())
+    }
+}
+
+// What is known of the draft.
+#[derive(Clone, Copy)]
+enum Draft {
+    // The draft is not asked for.
+    NotAsked,
+    // No `$schema` has been found.
+    Missing,
+    Draft07,
+    // 2019-09 or 2020-12.
+    Draft2019,
+    // No known draft.
+    Foreign,
+}
+
+#[derive(Clone, Copy)]
+struct Restriction<'a> {
+    allowed: &'a BTreeSet<String>,
+    draft: Draft,
+}
+
+impl<'a> Rule for Restriction<'a> {
+    ghost use Rattle.schemars_transform.specs.Formats.{restriction_rules};
+
+    ghost rules = { restriction_rules };
+
+    fn inside(self, schema: &Value) -> Restriction<'a> {
+        Restriction {
+            allowed: self.allowed,
+            draft: draft_inside(self.draft, schema),
+        }
+    }
+
+    fn place(self, key: &str, _value: &Value) -> Place {
+        place_under(key)
+    }
+
+    fn finish(self, _alloc: Global, schema: &mut Schema) -> Result<(), AllocError> {
+        if !stays(self.draft, self.allowed, schema) {
+            let _format = schema.remove("format");
+        }
+        Ok(())
+    }
+}
+
+fn restrict(
+    allowed: &BTreeSet<String>,
+    draft: Draft,
+    alloc: Global,
+    schema: &mut Schema,
+) -> Result<(), AllocError>
+    ensures { OnOk result (schema.new ≡ rewritten (format_rules allowed.now) draft schema.old) }
+{
+    rewrite(Restriction { allowed, draft }, alloc, schema)
+}
+
+fn draft_inside(draft: Draft, schema: &Value) -> Draft
+    ensures { result ≡ draft_inside draft (view schema.now) }
+{
+    match draft {
+        Draft::NotAsked => Draft::NotAsked,
+        Draft::Foreign => Draft::Foreign,
+        Draft::Missing | Draft::Draft07 | Draft::Draft2019 => draft_by(schema, draft),
+    }
+}
+
+fn draft_by(schema: &Value, draft: Draft) -> Draft
+    ensures { result ≡ draft_by (get (codes "$schema") (view schema.now)) draft }
+{
+    match schema.get("$schema") {
+        Some(meta_schema) => draft_named(meta_schema),
+        None => draft,
+    }
+}
+
+fn draft_named(meta_schema: &Value) -> Draft
+    ensures { result ≡ draft_named (as_str (view meta_schema.now)) }
+{
+    match meta_schema.as_str() {
+        Some(uri) => draft_at(uri),
+        None => Draft::Foreign,
+    }
+}
+
+fn draft_at(uri: &str) -> Draft
+    ensures { result ≡ draft_named (Some uri.now) }
+{
+    if uri == meta_schemas::DRAFT07 {
+        Draft::Draft07
+    } else if uri == meta_schemas::DRAFT2019_09 || uri == meta_schemas::DRAFT2020_12 {
+        Draft::Draft2019
+    } else {
+        Draft::Foreign
+    }
+}
+
+fn stays(draft: Draft, allowed: &BTreeSet<String>, schema: &Schema) -> bool
+    ensures { result ≡ stays draft allowed.now (option_and_then as_str (get (codes "format") schema.now)) }
+{
+    match schema.get("format").and_then(Value::as_str) {
+        Some(format) => allowed.contains(format) || is_defined(draft, format),
+        None => true,
+    }
+}
+
+fn is_defined(draft: Draft, format: &str) -> bool
+    ensures { result ≡ is_defined draft format.now }
+{
+    match draft {
+        Draft::NotAsked => false,
+        Draft::Missing | Draft::Foreign => true,
+        Draft::Draft07 => is_listed(format, &DRAFT07_FORMATS),
+        Draft::Draft2019 => {
+            is_listed(format, &LATER_FORMATS) || is_listed(format, &DRAFT07_FORMATS)
+        }
+    }
+}
+
+const LATER_FORMATS: [&str; 2] = ["duration", "uuid"];
+
+const DRAFT07_FORMATS: [&str; 17] = [
+    "date-time",
+    "date",
+    "time",
+    "email",
+    "idn-email",
+    "hostname",
+    "idn-hostname",
+    "ipv4",
+    "ipv6",
+    "uri",
+    "uri-reference",
+    "iri",
+    "iri-reference",
+    "uri-template",
+    "json-pointer",
+    "relative-json-pointer",
+    "regex",
+];
+
+fn is_listed(format: &str, formats: &[&str]) -> bool
+    ensures { result ≡ is_listed format.now (map (λ f. f.now) formats.now) }
+{
+    for defined in formats {
+        if format == *defined {
+            return true;
+        }
+    }
+    false
+}

@@ -1,4 +1,0 @@
--- Lemmas that several proofs share.
-pub mod Texts
-pub mod Lists
-pub mod Laws

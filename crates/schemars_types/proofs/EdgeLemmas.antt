@@ -1,0 +1,133 @@
+-- The edges of a table lie among its rows, and a graph of targets has the same walks.
+use Rattle.std.proofs.Common.{◌≡◌, ◌<◌, ◌∙◌, ◌⊎◌, inl, inr, ℕ, zero, suc, List, [], ◌∷◌, ◌++◌, Bool, true, false, Option}
+use Rattle.std.proofs.Common.{Some, None, length, filter, cond, Contains, nat_lt, MatchOption, refl, sym, ap, subst}
+use Rattle.std.proofs.Common.{arith, true≢false, append_assoc, append-nil}
+use Rattle.std.specs.Option.{option_map_or}
+use Rattle.std.proofs.lemmas.Bool.Decides.{Decides-ltb}
+use Rattle.std.proofs.lemmas.List.Elements.{Contains-append_left, Contains-append_right, Contains-append_cases}
+use Rattle.schemars_shapes.specs.Shape.{Entry, numbers_of, same_value_numbers}
+use Rattle.schemars_types.specs.Rows.{Row, entry_at}
+use Rattle.schemars_types.specs.Walks.{Leads, OnCycle, IsFree, IsLeast}
+use Rattle.schemars_types.specs.Search.{Graph, targets_in, IsClosed, HasTargets}
+use Rattle.schemars_types.specs.Edges.{numbers_at, is_inline_at, asked_in, asked_at, is_row, DirectEdge, same_value_numbers_at}
+use Rattle.schemars_types.specs.Edges.{option_at, below_within}
+use Rattle.schemars_types.specs.EdgeKind.{targets_along}
+use Rattle.schemars_types.specs.declared.check.faults.EdgeKind.{EdgeKind}
+use Rattle.schemars_types.specs.declared.check.faults.EdgeKind.TheVariants.{Direct, SameValue}
+use Rattle.schemars_types.proofs.GraphLemmas.{Contains-later, targets_in-within, walk_along}
+
+Contains-cons : (x m : ℕ) (xs : List ℕ) → Contains (x ∷ xs) m → (x ≡ m) ⊎ Contains xs m
+Contains-cons x m xs (zero, below, is) = inl is
+Contains-cons x m xs (suc k, below, is) = inr (k, omega arith, is)
+
+pub Contains-filter : (test : ℕ → Bool) (xs : List ℕ) (m : ℕ) → Contains (filter test xs) m → Contains xs m × (test m ≡ true)
+Contains-filter test [] m (k, below, is) = absurd (omega arith)
+Contains-filter test (x ∷ xs) m among = by (test x) refl among (Contains-filter test xs m)
+  where
+    by : (b : Bool) → test x ≡ b → Contains (cond b (x ∷ filter test xs) (filter test xs)) m
+        → (Contains (filter test xs) m → Contains xs m × (test m ≡ true)) → Contains (x ∷ xs) m × (test m ≡ true)
+    by true e h rest = elim (Contains-cons x m (filter test xs) h) [
+      | inl same ↦ ((0, omega arith, same), ap test (sym same) ∙ e)
+      | inr
+          later ↦ let (c, t) = rest later in (Contains-later x m xs c, t)
+    ]
+    by false e h rest = let (c, t) = rest h in (Contains-later x m xs c, t)
+
+pub Contains-filtered : (test : ℕ → Bool) (xs : List ℕ) (m : ℕ) → Contains xs m → test m ≡ true → Contains (filter test xs) m
+Contains-filtered test [] m (k, below, is) t = absurd (omega arith)
+Contains-filtered test (x ∷ xs) m among t = by (test x) refl (Contains-cons x m xs among) (λ c. Contains-filtered test xs m c t)
+  where
+    by : (b : Bool) → test x ≡ b → (x ≡ m) ⊎ Contains xs m → (Contains xs m → Contains (filter test xs) m)
+        → Contains (cond b (x ∷ filter test xs) (filter test xs)) m
+    by true e (inl same) rest = (0, omega arith, same)
+    by true e (inr later) rest = Contains-later x m (filter test xs) (rest later)
+    by false e (inl same) rest = absurd (true≢false (sym t ∙ ap test (sym same) ∙ e))
+    by false e (inr later) rest = rest later
+
+-- where an entry says something of row n, row n is in the table
+entry_within : (f : Entry → List ℕ) (rows : List Row) (n m : ℕ) → Contains (option_map_or f (entry_at rows n) []) m → n < length rows
+entry_within f [] n m (k, below, is) = absurd (omega arith)
+entry_within f (r ∷ rows) zero m among = omega arith
+entry_within f (r ∷ rows) (suc n) m among = omega (arith, entry_within f rows n m among)
+
+inline_within : (rows : List Row) (m : ℕ) → is_inline_at rows m ≡ true → m < length rows
+inline_within [] m h = cc
+inline_within (r ∷ rows) zero h = omega arith
+inline_within (r ∷ rows) (suc m) h = omega (arith, inline_within rows m h)
+
+pub nat_lt-below : (m n : ℕ) → nat_lt m n ≡ true → m < n
+nat_lt-below m n h = (Decides-ltb m n).0 h
+
+pub below-nat_lt : (m n : ℕ) → m < n → nat_lt m n ≡ true
+below-nat_lt m n h = (Decides-ltb m n).1 h
+
+-- the ends of direct edges, one way and the other
+pub to_direct : (rows : List Row) (n m : ℕ) → Contains (targets_along Direct rows n) m → DirectEdge rows n m
+to_direct rows n m among = elim (Contains-append_cases (filter (is_inline_at rows) (numbers_at rows n)) (filter (is_row rows) (asked_at rows n)) m among) [
+  | inl c ↦ inl (Contains-filter (is_inline_at rows) (numbers_at rows n) m c)
+  | inr c ↦ let (d, t) = Contains-filter (is_row rows) (asked_at rows n) m c in inr (d, nat_lt-below m (length rows) t)
+]
+
+pub from_direct : (rows : List Row) (n m : ℕ) → DirectEdge rows n m → Contains (targets_along Direct rows n) m
+from_direct rows n m (inl e) = Contains-append_left (filter (is_inline_at rows) (numbers_at rows n)) (filter (is_row rows) (asked_at rows n)) m
+    (Contains-filtered (is_inline_at rows) (numbers_at rows n) m e.0 e.1)
+from_direct rows n m (inr e) = Contains-append_right (filter (is_inline_at rows) (numbers_at rows n)) (filter (is_row rows) (asked_at rows n)) m
+    (Contains-filtered (is_row rows) (asked_at rows n) m e.0 (below-nat_lt m (length rows) e.1))
+
+-- both ends of an edge are rows
+pub ends_within : (kind : EdgeKind) (rows : List Row) (n m : ℕ) → Contains (targets_along kind rows n) m
+    → (n < length rows) × (m < length rows)
+ends_within Direct rows n m among = elim (to_direct rows n m among) [
+  | inl e ↦ (entry_within (λ e. numbers_of e.shape) rows n m e.0, inline_within rows m e.1)
+  | inr e ↦ (entry_within (λ e. asked_in rows e.shape) rows n m e.0, e.1)
+]
+ends_within SameValue rows n m among =
+    let (c, t) = Contains-filter (is_row rows) (same_value_numbers_at rows n) m among in
+    (entry_within (λ e. same_value_numbers e.shape) rows n m c, nat_lt-below m (length rows) t)
+
+-- ---- the rows below a row
+
+pub below_none : (rows : List Row) (steps n : ℕ) → None ≡ option_at rows n → below_within rows steps n ≡ []
+below_none rows zero n none = refl
+below_none rows (suc steps) n none = ap (λ o. option_map_or (λ m. m ∷ below_within rows steps m) o []) (sym none)
+
+pub below_some : (rows : List Row) (steps n m : ℕ) → Some m ≡ option_at rows n
+    → below_within rows (suc steps) n ≡ m ∷ below_within rows steps m
+below_some rows steps n m some = ap (λ o. option_map_or (λ k. k ∷ below_within rows steps k) o []) (sym some)
+
+-- what is below joins what was found
+pub below_joins : (found : List ℕ) (rows : List Row) (steps n m : ℕ) (all : List ℕ)
+    → Some m ≡ option_at rows n → found ++ below_within rows (suc steps) n ≡ all → (found ++ m ∷ []) ++ below_within rows steps m ≡ all
+below_joins found rows steps n m all some is =
+    append_assoc found (m ∷ []) (below_within rows steps m) ∙ (ap (λ ms. found ++ ms) (sym (below_some rows steps n m some)) ∙ is)
+
+pub none_joins : (found : List ℕ) (rows : List Row) (steps n : ℕ) (all : List ℕ)
+    → None ≡ option_at rows n → found ++ below_within rows steps n ≡ all → found ≡ all
+none_joins found rows steps n all none is =
+    sym (append-nil found) ∙ (ap (λ ms. found ++ ms) (sym (below_none rows steps n none)) ∙ is)
+
+-- ---- the graph of a table
+
+module _ (kind : EdgeKind) (rows : List Row) (graph : Graph) (h : HasTargets (targets_along kind rows) (length rows) graph) where
+  to_table : (n m : ℕ) → Contains (targets_in graph n) m → Contains (targets_along kind rows n) m
+  to_table n m among =
+      let below = targets_in-within graph n m among in
+      subst (λ (ms : List ℕ). Contains ms m) (h.at n (omega (arith, h.len_is))) among
+
+  from_table : (n m : ℕ) → Contains (targets_along kind rows n) m → Contains (targets_in graph n) m
+  from_table n m among = subst (λ (ms : List ℕ). Contains ms m) (sym (h.at n (ends_within kind rows n m among).0)) among
+
+  pub graph_closed : IsClosed graph
+  graph_closed = record {
+    within = λ n m among. let ends = ends_within kind rows n m (to_table n m among) in
+        omega (arith, ends.1, h.len_is);
+  }
+
+  pub cycles_alike : (r : Option ℕ) → MatchOption r (IsFree (OnCycle (Leads (targets_in graph))))
+      (IsLeast (OnCycle (Leads (targets_in graph))))
+      → MatchOption r (IsFree (OnCycle (Leads (targets_along kind rows)))) (IsLeast (OnCycle (Leads (targets_along kind rows))))
+  cycles_alike None free = λ n w. free n (walk_along (Leads (targets_along kind rows)) (Leads (targets_in graph)) from_table n n w)
+  cycles_alike (Some n) least = (
+    walk_along (Leads (targets_in graph)) (Leads (targets_along kind rows)) to_table n n least.0,
+    λ k below w. least.1 k below (walk_along (Leads (targets_along kind rows)) (Leads (targets_in graph)) from_table k k w),
+  )

@@ -1,0 +1,12 @@
+-- The names that are left are still to be added.
+use Rattle.std.proofs.Common.{◌≡◌, [], None, false, map, drop}
+use Rattle.schemars_shapes.specs.Shape.{variant_of}
+use Rattle.schemars_types.specs.KeyOptions.{keys}
+use Rattle.schemars_types.specs.Found.{options_of, adding}
+use Rattle.schemars_types.proofs.keys.add_names.Given as goal
+
+abbrev pub invariant-loop-variant : goal.invariant-loop-variant
+invariant-loop-variant l =
+    adding (options_of l.options)
+    (keys false (map (λ x. x.name) (map variant_of (drop l.variant-index l.variants))) None [])
+    ≡ adding (options_of l.fn.options) (keys false (map (λ x. x.name) (map variant_of l.variants)) None [])

@@ -1,0 +1,224 @@
+//! The faults of a table.
+ghost use Rattle.std.specs.Prelude.{◌≡◌, ◌<◌, ◌++◌, ℕ, length, map, filter, None, IfOk, OnOk, MatchOption, string_bytes};
+ghost use Rattle.schemars_shapes.specs.Shape.{shape_of, numbers_of};
+ghost use Rattle.schemars_types.specs.Walks.{Leads, OnCycle, IsFree, IsLeast};
+ghost use Rattle.schemars_types.specs.Search.{HasTargets};
+ghost use Rattle.schemars_shapes.specs.Repeated.{AreDistinctLists, IsFirstRepeated};
+ghost use Rattle.schemars_types.specs.Slots.{row_of};
+ghost use Rattle.schemars_types.specs.Edges.{is_inline_at, is_row, asked_in, below, option_at, names_at};
+ghost use Rattle.schemars_types.specs.EdgeKind.{targets_along};
+ghost use Rattle.schemars_types.specs.Undefined.{IsUndefined};
+
+use crate::check::cycles::least_on_cycle;
+use crate::table::slots::{Slot, count, entry};
+use indexmap::IndexMap;
+use schemars_shapes::{
+    Shape, TypeNo, asked_numbers, flattened_numbers, numbers, same_value_numbers,
+};
+use std::alloc::{AllocError, Global};
+
+/// Which edges are followed from row to row.
+#[derive(Clone, Copy)]
+pub enum EdgeKind {
+    /// to the rows that are asked at once: those that are written in place, that of a map's keys,
+    /// and those whose members stand in a row's own maps
+    Direct,
+    /// to the rows whose values, or whose members, a row has
+    SameValue,
+}
+
+/// The first row that was never defined.
+pub fn first_undefined(slots: &IndexMap<String, Slot>) -> Option<TypeNo>
+    ensures { MatchOption result (IsFree (IsUndefined (map row_of slots.now.entries)))
+        (IsLeast (IsUndefined (map row_of slots.now.entries))) }
+{
+    for n in 0..count(slots) {
+        if entry(slots, n).is_none() {
+            return Some(n);
+        }
+    }
+    None
+}
+
+/// The first row with a name twice, and the name.
+pub fn first_repeated(
+    alloc: Global,
+    slots: &IndexMap<String, Slot>,
+) -> Result<Option<(TypeNo, String)>, AllocError>
+    ensures { IfOk result (λ r.
+        MatchOption r ((n : ℕ) → AreDistinctLists (names_at (map row_of slots.now.entries) n))
+        (λ p. ((k : ℕ) → k < p.0 → AreDistinctLists (names_at (map row_of slots.now.entries) k))
+        × IsFirstRepeated (names_at (map row_of slots.now.entries) p.0) (string_bytes p.1))) }
+{
+    for n in 0..count(slots) {
+        if let Some(name) = repeated_name(alloc, slots, n)? {
+            return Ok(Some((n, name)));
+        }
+    }
+    Ok(None)
+}
+
+fn repeated_name(
+    alloc: Global,
+    slots: &IndexMap<String, Slot>,
+    n: TypeNo,
+) -> Result<Option<String>, AllocError>
+    ensures { IfOk result (λ r. MatchOption r (AreDistinctLists (names_at (map row_of slots.now.entries) n))
+        (λ s. IsFirstRepeated (names_at (map row_of slots.now.entries) n) (string_bytes s))) }
+{
+    match entry(slots, n) {
+        Some(entry) => schemars_shapes::repeated_name(alloc, &entry.shape),
+        None => Ok(None),
+    }
+}
+
+/// The lowest row on a cycle of edges of this kind.
+pub fn first_on_cycle(
+    alloc: Global,
+    slots: &IndexMap<String, Slot>,
+    kind: EdgeKind,
+) -> Result<Option<TypeNo>, AllocError>
+    ensures { IfOk result (λ r.
+        MatchOption r (IsFree (OnCycle (Leads (targets_along kind (map row_of slots.now.entries)))))
+        (IsLeast (OnCycle (Leads (targets_along kind (map row_of slots.now.entries)))))) }
+{
+    let graph = graph(alloc, slots, kind)?;
+    let found = least_on_cycle(alloc, &graph)?;
+    Ok(found)
+}
+
+fn graph(
+    alloc: Global,
+    slots: &IndexMap<String, Slot>,
+    kind: EdgeKind,
+) -> Result<Vec<Vec<TypeNo>>, AllocError>
+    ensures { IfOk result (λ v. HasTargets (targets_along kind (map row_of slots.now.entries))
+        (length (map row_of slots.now.entries)) v.items) }
+{
+    let len = count(slots);
+    let mut graph = Vec::with_capacity(alloc, len)?;
+    for n in 0..len {
+        let targets = targets(alloc, slots, kind, n)?;
+        graph.push(targets)?;
+    }
+    Ok(graph)
+}
+
+fn targets(
+    alloc: Global,
+    slots: &IndexMap<String, Slot>,
+    kind: EdgeKind,
+    n: TypeNo,
+) -> Result<Vec<TypeNo>, AllocError>
+    ensures { IfOk result (λ v. v.items ≡ targets_along kind (map row_of slots.now.entries) n) }
+{
+    let Some(entry) = entry(slots, n) else {
+        return Ok(Vec::new(alloc));
+    };
+    match kind {
+        EdgeKind::Direct => direct_targets(alloc, slots, &entry.shape),
+        EdgeKind::SameValue => {
+            let numbers = same_value_numbers(alloc, &entry.shape)?;
+            rows_among(alloc, slots, numbers)
+        }
+    }
+}
+
+fn direct_targets(
+    alloc: Global,
+    slots: &IndexMap<String, Slot>,
+    shape: &Shape,
+) -> Result<Vec<TypeNo>, AllocError>
+    ensures { IfOk result (λ v. v.items
+        ≡ filter (is_inline_at (map row_of slots.now.entries)) (numbers_of (shape_of shape.now))
+        ++ filter (is_row (map row_of slots.now.entries))
+        (asked_in (map row_of slots.now.entries) (shape_of shape.now))) }
+{
+    let mut targets = in_place_among(alloc, slots, numbers(alloc, shape)?)?;
+    let mut asked = rows_among(alloc, slots, asked(alloc, slots, shape)?)?;
+    targets.append(&mut asked)?;
+    Ok(targets)
+}
+
+// Those of these numbers that are numbers of rows in place.
+fn in_place_among(
+    alloc: Global,
+    slots: &IndexMap<String, Slot>,
+    numbers: Vec<TypeNo>,
+) -> Result<Vec<TypeNo>, AllocError>
+    ensures { IfOk result (λ v. v.items ≡ filter (is_inline_at (map row_of slots.now.entries)) numbers.items) }
+{
+    numbers
+        .into_iter()
+        .filter(|m| is_inline(slots, *m))
+        .collect(alloc)
+}
+
+// Those of these numbers that are numbers of rows.
+fn rows_among(
+    alloc: Global,
+    slots: &IndexMap<String, Slot>,
+    numbers: Vec<TypeNo>,
+) -> Result<Vec<TypeNo>, AllocError>
+    ensures { IfOk result (λ v. v.items ≡ filter (is_row (map row_of slots.now.entries)) numbers.items) }
+{
+    numbers
+        .into_iter()
+        .filter(|m| *m < count(slots))
+        .collect(alloc)
+}
+
+// The rows that a shape asks, whether they are written in place or not.
+fn asked(
+    alloc: Global,
+    slots: &IndexMap<String, Slot>,
+    shape: &Shape,
+) -> Result<Vec<TypeNo>, AllocError>
+    ensures { IfOk result (λ v. v.items
+        ≡ asked_in (map row_of slots.now.entries) (shape_of shape.now)) }
+{
+    let mut asked = asked_numbers(alloc, shape)?;
+    let flattened = flattened_numbers(alloc, shape)?;
+    for n in &flattened {
+        add_below(slots, *n, &mut asked)?;
+    }
+    Ok(asked)
+}
+
+// Adds the rows below row `n` through Options.
+fn add_below(
+    slots: &IndexMap<String, Slot>,
+    n: TypeNo,
+    rows: &mut Vec<TypeNo>,
+) -> Result<(), AllocError>
+    ensures { OnOk result (rows.new.items ≡ rows.old.items ++ below (map row_of slots.now.entries) n) }
+{
+    let mut at = n;
+    for _step in 0..count(slots) {
+        let Some(inner) = option(slots, at) else {
+            return Ok(());
+        };
+        rows.push(inner)?;
+        at = inner;
+    }
+    Ok(())
+}
+
+// The row in row `n`, an Option.
+fn option(slots: &IndexMap<String, Slot>, n: TypeNo) -> Option<TypeNo>
+    ensures { result ≡ option_at (map row_of slots.now.entries) n }
+{
+    match entry(slots, n) {
+        Some(entry) => entry.shape.option(),
+        None => None,
+    }
+}
+
+fn is_inline(slots: &IndexMap<String, Slot>, n: TypeNo) -> bool
+    ensures { result ≡ is_inline_at (map row_of slots.now.entries) n }
+{
+    match entry(slots, n) {
+        Some(entry) => entry.inline,
+        None => false,
+    }
+}

@@ -1,0 +1,5 @@
+//! The constructors of rows.
+mod containers;
+mod fixed;
+mod register;
+mod scalars;
