@@ -8,8 +8,7 @@ use Rattle.serde_json.specs.Written.{has_float}
 use Rattle.schemars_types.specs.Rows.{Row}
 use Rattle.schemars_types.specs.Faults.{IsAccepted}
 use Rattle.schemars_schema.specs.Acceptance.{draft07, draft2019_09}
-use Rattle.schemars_documents.specs.declared.contract.Contract.{Contract}
-use Rattle.schemars_documents.specs.ContractOf.{contract_of}
+use Rattle.schemars_types.specs.declared.contract.Contract.{Contract}
 use Rattle.schemars_headline.specs.Dialects.{MeansItsTypeUnder}
 use Rattle.schemars_transform.specs.declared.gen_transform.GenTransform.{GenTransform}
 use Rattle.schemars_transform.specs.declared.no_transform.NoTransform.{NoTransform}
@@ -94,23 +93,23 @@ asks dialect contract inlines = record { dialect = dialect; contract = contract;
 
 means : (dialect : Dialect) (c : Contract) (inlines : Bool) (rows : List Row) (root : ℕ) (d document : Data)
     → IsUntransformed (fresh (asks dialect c inlines) rows) root d → document ≡ made_by (transforms_of_dialect dialect) d
-    → IsPlainTable rows → Means dialect rows (contract_of c) root document
+    → IsPlainTable rows → Means dialect rows c root document
 means Draft2020_12 c inlines rows root d document told same plain =
-    subst (MeansItsType rows (contract_of c) (codes "/$defs") root) (sym same)
+    subst (MeansItsType rows c (codes "/$defs") root) (sym same)
     (told.headline (has_own_definitions (asks Draft2020_12 c inlines) rows) (inl refl) plain)
 means Draft2019_09 c inlines rows root d document told same plain =
-    subst (MeansItsTypeUnder draft2019_09 rows (contract_of c) (codes "/$defs") root) (sym same)
+    subst (MeansItsTypeUnder draft2019_09 rows c (codes "/$defs") root) (sym same)
     (told.draft2019_09 (has_own_definitions (asks Draft2019_09 c inlines) rows) refl plain)
 means Draft07 c inlines rows root d document told same plain =
-    subst (MeansItsTypeUnder draft07 rows (contract_of c) (codes "/definitions") root) (sym same)
+    subst (MeansItsTypeUnder draft07 rows c (codes "/definitions") root) (sym same)
     (told.draft07 (has_own_definitions (asks Draft07 c inlines) rows) refl plain)
 means OpenApi3 c inlines rows root d document told same plain = tt
 
 means_wide : (dialect : Dialect) (c : Contract) (inlines : Bool) (rows : List Row) (root : ℕ) (d document : Data)
     → IsUntransformed (fresh (asks dialect c inlines) rows) root d → document ≡ made_by (transforms_of_dialect dialect) d
-    → MeansWide dialect rows (contract_of c) root document
+    → MeansWide dialect rows c root document
 means_wide Draft2020_12 c inlines rows root d document told same = λ plain.
-    subst (MeansItsType rows (contract_of c) (codes "/$defs") root) (sym same)
+    subst (MeansItsType rows c (codes "/$defs") root) (sym same)
     (told.wide (has_own_definitions (asks Draft2020_12 c inlines) rows) (inl refl) plain)
 means_wide Draft2019_09 c inlines rows root d document told same = tt
 means_wide Draft07 c inlines rows root d document told same = tt

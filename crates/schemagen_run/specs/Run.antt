@@ -23,10 +23,9 @@ use Rattle.schemars_headline.specs.Headline.{MeansItsType, CannotPlace}
 use Rattle.schemars_headline.specs.Calls.{IsLastRootCall, IsPartOf, Adds, IsNeeded}
 use Rattle.schemars_headline.specs.Dialects.{MeansItsTypeUnder, AcceptsExampleUnder}
 use Rattle.schemars_headline.specs.Taken.{TakenHeadline, MeanTheirRows}
-use Rattle.schemars_documents.specs.ContractOf.{contract_of}
 use Rattle.schemars_generate.specs.Refusals.{code_of, HasFault}
 use Rattle.schemars_headline.specs.State.{Settings, State, settings2020_12, HasOwnDefinitions}
-use Rattle.schemars_types.specs.Meaning.{Contract}
+use Rattle.schemars_types.specs.declared.contract.Contract.{Contract}
 use Rattle.schemars_transform.specs.declared.gen_transform.GenTransform.{GenTransform}
 use Rattle.schemars_transform.specs.declared.no_transform.NoTransform.{NoTransform}
 use Rattle.schemars_transform.specs.BuiltIn.{IsMadeBy, each_made_by}
@@ -121,8 +120,8 @@ MeansWide OpenApi3 rows contract root document = Unit {0}
 abbrev pub IsDocumentOf : Asked → List Row → ℕ → Data → Type 0
 IsDocumentOf asked rows root document =
     IsMadeBy (transforms_of_dialect asked.dialect) (IsLastRootCall (fresh asked rows) root) document
-    × (IsPlainTable rows → Means asked.dialect rows (contract_of asked.contract) root document)
-    × MeansWide asked.dialect rows (contract_of asked.contract) root document
+    × (IsPlainTable rows → Means asked.dialect rows asked.contract root document)
+    × MeansWide asked.dialect rows asked.contract root document
     × (transforms_of_dialect asked.dialect ≡ [] → HasNoFloat rows → has_float document ≡ false)
 
 -- what a generator holds after it has made a part for this row, and its definitions, through these transforms

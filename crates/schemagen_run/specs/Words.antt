@@ -2,8 +2,8 @@
 use Rattle.std.specs.Prelude.{◌≡◌, ◌⊎◌, List, [], ◌∷◌, Bool, true, false, codes, map, string_bytes, String}
 use Rattle.std.specs.declared.alloc.Global.{Global}
 use Rattle.schemars_schema.specs.Json.{Text}
-use Rattle.schemars_documents.specs.declared.contract.Contract.{Contract}
-use Rattle.schemars_documents.specs.declared.contract.Contract.TheVariants.{Deserialize, Serialize}
+use Rattle.schemars_types.specs.declared.contract.Contract.{Contract}
+use Rattle.schemars_types.specs.declared.contract.Contract.TheVariants.{Deserialize, Serialize}
 use Rattle.schemagen_run.specs.declared.words.Asked.{Asked}
 use Rattle.schemagen_run.specs.declared.words.Command.{Command}
 use Rattle.schemagen_run.specs.declared.words.Command.TheVariants.{Types, Sample}

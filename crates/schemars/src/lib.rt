@@ -8,8 +8,8 @@ pub mod builders;
 mod macros;
 pub mod transform;
 
-pub use schemars_documents::Contract;
 pub use schemars_generate::{GenerateError, SchemaGenerator, SchemaSettings, generate};
 pub use schemars_sample::sample;
 pub use schemars_schema::{NotASchema, Schema, consts, encoding, json_eq, schema};
 pub use schemars_types as types;
+pub use schemars_types::Contract;

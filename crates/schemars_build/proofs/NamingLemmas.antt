@@ -17,11 +17,11 @@ use Rattle.std.proofs.lemmas.Map.Keys.{IsDistinct-push, IsDistinct-head, IsDisti
 use Rattle.std.proofs.lemmas.Map.Made.{length-le_from_is_member}
 use Rattle.std.proofs.lemmas.Slice.Eq.{bytes_eq-Decides}
 use Rattle.schemars_schema.specs.Json.{Text}
-use Rattle.schemars_documents.specs.declared.contract.Contract.{Contract}
-use Rattle.schemars_documents.specs.declared.contract.Contract.TheVariants.{Deserialize, Serialize}
+use Rattle.schemars_types.specs.declared.contract.Contract.{Contract}
+use Rattle.schemars_types.specs.declared.contract.Contract.TheVariants.{Deserialize, Serialize}
 use Rattle.schemars_build.specs.declared.names.Owner.{Owner}
 use Rattle.schemars_build.specs.contracts.names.OwnerPartialEq.TheImpl as owner_eq
-use Rattle.schemars_documents.specs.ContractOf.{is_same_contract}
+use Rattle.schemars_types.specs.Contracts.{is_same_contract}
 use Rattle.schemars_build.specs.Naming.{Named, Naming, is_of, name_of, is_used, candidate, IsOneToOne}
 use Rattle.schemars_build.specs.Owners.{named, naming_of}
 

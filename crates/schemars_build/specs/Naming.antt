@@ -4,8 +4,8 @@ use Rattle.std.specs.Prelude.{Option, Some, option_map, bytes_eq}
 use Rattle.std.specs.List.{list_any}
 use Rattle.std.specs.Fmt.{decimal}
 use Rattle.schemars_schema.specs.Json.{Text}
-use Rattle.schemars_documents.specs.declared.contract.Contract.{Contract}
-use Rattle.schemars_documents.specs.ContractOf.{is_same_contract}
+use Rattle.schemars_types.specs.declared.contract.Contract.{Contract}
+use Rattle.schemars_types.specs.Contracts.{is_same_contract}
 
 pub record Named : Type 0 where
   pub row : ℕ

@@ -4,8 +4,8 @@ use Rattle.std.specs.Prelude.{slice_get, option_and_then}
 use Rattle.std.specs.HashMap.{HashMap, get_by_text}
 use Rattle.std.specs.declared.alloc.Global.{Global}
 use Rattle.schemars_schema.specs.Json.{Text}
-use Rattle.schemars_documents.specs.declared.contract.Contract.{Contract}
-use Rattle.schemars_documents.specs.declared.contract.Contract.TheVariants.{Deserialize, Serialize}
+use Rattle.schemars_types.specs.declared.contract.Contract.{Contract}
+use Rattle.schemars_types.specs.declared.contract.Contract.TheVariants.{Deserialize, Serialize}
 use Rattle.schemars_build.specs.declared.names.Places.{Places}
 use Rattle.schemars_build.specs.declared.names.Owner.{Owner}
 use Rattle.schemars_build.specs.Naming.{Named, Naming, is_used, candidate, IsFirstUnused}

@@ -9,8 +9,7 @@ use Rattle.schemars_schema.specs.Edits.{without}
 use Rattle.schemars_schema.specs.Encoding.{encoded}
 use Rattle.schemars_types.specs.Rows.{Row, name_at}
 use Rattle.schemars_types.specs.Edges.{is_inline_at}
-use Rattle.schemars_documents.specs.declared.contract.Contract.{Contract}
-use Rattle.schemars_documents.specs.ContractOf.{contract_of}
+use Rattle.schemars_types.specs.declared.contract.Contract.{Contract}
 use Rattle.schemars_build.specs.Naming.{Named, Naming, name_of, IsFirstUnused}
 use Rattle.schemars_documents.specs.Basis.{Basis}
 use Rattle.schemars_build.specs.Placed.{IsDocument}
@@ -62,7 +61,7 @@ Refers plan free w n r =
 
 -- what the documents are made from
 abbrev pub basis_of : Plan → Basis
-basis_of plan = record { rows = plan.rows; contract = contract_of plan.contract; titles = plan.titles }
+basis_of plan = record { rows = plan.rows; contract = plan.contract; titles = plan.titles }
 
 -- d is the document of the row of this name, made while some rows were pending
 pub record IsDefinition (plan : Plan) (w : Work) (name : Text) (d : Data) : Type 0 where

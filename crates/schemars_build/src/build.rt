@@ -20,13 +20,13 @@ ghost use Rattle.schemars_build.specs.Left.{left_of_reply, left_going, IsWithin}
 ghost use Rattle.schemars_build.specs.declared.build.Document as src;
 
 use crate::work::Work;
+use schemars_documents::entry_template;
 use schemars_documents::template::basis::Basis;
 use schemars_documents::template::{Ask, Template, fill};
-use schemars_documents::{Contract, entry_template};
 use schemars_flatten::{as_flattened, open_inside, stands_in_place};
 use schemars_schema::Schema;
 use schemars_schema::encoding::encode_ref_name;
-use schemars_types::{TypeNo, Types};
+use schemars_types::{Contract, TypeNo, Types};
 use std::alloc::{AllocError, Global};
 use std::collections::VecDeque;
 

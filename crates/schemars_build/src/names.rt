@@ -3,11 +3,10 @@ ghost use Rattle.std.specs.Prelude.{ℕ, ◌≡◌, ◌+◌, ◌<◌, ◌^◌, �
 ghost use Rattle.std.specs.Prelude.{Some, None, option_map, string_bytes, take};
 ghost use Rattle.schemars_build.specs.Naming.{name_of, is_used, candidate, IsOneToOne, IsFirstUnused};
 ghost use Rattle.schemars_build.specs.Owners.{AreUsed, IsFirst, IsNoted, place_of};
-ghost use Rattle.schemars_documents.specs.declared.contract.Contract.{Contract};
+ghost use Rattle.schemars_types.specs.declared.contract.Contract.{Contract};
 
 use indexmap::IndexSet;
-use schemars_documents::Contract;
-use schemars_types::TypeNo;
+use schemars_types::{Contract, TypeNo};
 use std::alloc::{AllocError, Global};
 use std::collections::HashMap;
 use std::marker::Model;

@@ -17,7 +17,8 @@ use Rattle.schemars_types.specs.Edges.{option_at}
 use Rattle.schemars_types.specs.Effective.{without_options_within, without_options, flattened_fields, weakened, part_fields, shape_fields}
 use Rattle.schemars_types.specs.Effective.{fields_within, row_fields, flattened_enums, shape_enums, enums_within, part_enums, enum_at}
 use Rattle.schemars_types.specs.Effective.{spread_fields, spread_payload, spread_variant, spread_in}
-use Rattle.schemars_types.specs.Meaning.{Contract, Choice, is_required, has_payload, has_variant, has_internal, has_shape, belongs_within}
+use Rattle.schemars_types.specs.declared.contract.Contract.{Contract}
+use Rattle.schemars_types.specs.Meaning.{Choice, is_required, has_payload, has_variant, has_internal, has_shape, belongs_within}
 use Rattle.schemars_types.specs.Meaning.{choices_within, belongs}
 use Rattle.schemars_types.specs.OpenStructs.{joined_fields, joined_payload, joined_variant, joined, struct_fields_within, joined_in}
 use Rattle.schemars_types.specs.OpenStructs.{no_choices, belongs_plainly_within, belongs_plainly}

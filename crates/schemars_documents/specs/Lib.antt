@@ -1,4 +1,3 @@
-pub mod ContractOf
 pub mod Documents
 pub mod PlainTable
 pub mod Basis

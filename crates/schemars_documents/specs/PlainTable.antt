@@ -12,7 +12,8 @@ use Rattle.schemars_shapes.specs.Units.{is_none}
 use Rattle.schemars_types.specs.Rows.{Row, entry_at}
 use Rattle.schemars_types.specs.Edges.{option_at}
 use Rattle.schemars_types.specs.Effective.{without_options, flattened_enums, part_enums, spread_in}
-use Rattle.schemars_types.specs.Meaning.{Contract, is_required}
+use Rattle.schemars_types.specs.declared.contract.Contract.{Contract}
+use Rattle.schemars_types.specs.Meaning.{is_required}
 
 -- no field has this name
 abbrev pub IsNoName : Text → List Field → Type 0

@@ -6,7 +6,6 @@ ghost use Rattle.serde_json.specs.View.{items_view};
 ghost use Rattle.schemars_builders.specs.NullLaw.{text_items};
 ghost use Rattle.schemars_shapes.specs.Shape.{shape_of, field_of, required_of};
 ghost use Rattle.schemars_types.specs.Meaning.{is_required};
-ghost use Rattle.schemars_documents.specs.ContractOf.{contract_of};
 ghost use Rattle.schemars_documents.specs.Documents.{byte_document, bytes_document, schema_document};
 ghost use Rattle.schemars_documents.specs.Documents.{required_names};
 ghost use Rattle.serde_json.specs.View.{view, members_view};
@@ -15,9 +14,8 @@ ghost use Rattle.schemars_documents.specs.Documents.{typed, type_alone, char_doc
 ghost use Rattle.schemars_documents.specs.Documents.{empty_list_document, annotated};
 ghost use Rattle.schemars_documents.specs.Documents.{with_title, with_meta_schema, root_document};
 
-use crate::contract::Contract;
 use schemars_schema::Schema;
-use schemars_types::{Field, Required};
+use schemars_types::{Contract, Field, Required};
 use serde_json::{Map, Value};
 use std::alloc::{AllocError, Global};
 
@@ -63,7 +61,7 @@ pub fn empty_list_document(alloc: Global) -> Result<Schema, AllocError>
 
 /// Bytes: a list of them, or, where they are read, a text.
 pub fn bytes_document(alloc: Global, contract: Contract, byte: Schema) -> Result<Schema, AllocError>
-    ensures { IfOk result (λ s. byte ≡ byte_document → s ≡ bytes_document (contract_of contract)) }
+    ensures { IfOk result (λ s. byte ≡ byte_document → s ≡ bytes_document contract) }
 {
     let mut members = match contract {
         Contract::Deserialize => one_of_two(alloc, "array", "string")?,
@@ -105,7 +103,7 @@ pub fn required_names(
     fields: &[Field],
 ) -> Result<Vec<Value>, AllocError>
     ensures { IfOk result (λ v. items_view v.items
-        ≡ text_items (required_names (contract_of contract) (map field_of fields.now))) }
+        ≡ text_items (required_names contract (map field_of fields.now))) }
 {
     let mut names = Vec::new(alloc);
     for field in fields {
@@ -119,7 +117,7 @@ pub fn required_names(
 
 /// Whether a member has to be there, under this contract.
 pub fn is_required(contract: Contract, required: Required) -> bool
-    ensures { result ≡ is_required (contract_of contract) (required_of required) }
+    ensures { result ≡ is_required contract (required_of required) }
 {
     match contract {
         Contract::Deserialize => required.deserialize,

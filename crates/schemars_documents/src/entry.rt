@@ -4,14 +4,12 @@
 ghost use Rattle.std.specs.Prelude.{◌≡◌, IfOk};
 ghost use Rattle.schemars_shapes.specs.Shape.{shape_of, entry_of};
 ghost use Rattle.schemars_types.specs.Faults.{IsChecked};
-ghost use Rattle.schemars_documents.specs.ContractOf.{contract_of};
 ghost use Rattle.schemars_documents.specs.Documents.{bytes_document};
 ghost use Rattle.schemars_documents.specs.Basis.{basis_of};
 ghost use Rattle.schemars_documents.specs.Template.{row, finished, nullable};
 ghost use Rattle.schemars_documents.specs.View.{template_view};
 ghost use Rattle.schemars_documents.specs.OfShape.{template_of, entry_template, literal_document};
 
-use crate::contract::Contract;
 use crate::documents::{
     bytes_document, char_document, formatted_document, schema_document, type_alone,
 };
@@ -28,7 +26,7 @@ use crate::template::Template;
 use crate::template::basis::Basis;
 use crate::template::nodes::{finished, row};
 use schemars_schema::Schema;
-use schemars_types::{IntKind, Shape, TypeEntry, TypeNo};
+use schemars_types::{Contract, IntKind, Shape, TypeEntry, TypeNo};
 use std::alloc::{AllocError, Global};
 
 /// The template of a row's document, with its notes.
@@ -91,7 +89,7 @@ fn template_of<'t>(
 }
 
 fn bytes_template<'t>(alloc: Global, contract: Contract) -> Result<Template<'t>, AllocError>
-    ensures { IfOk result (λ t. template_view t ≡ finished (bytes_document (contract_of contract))) }
+    ensures { IfOk result (λ t. template_view t ≡ finished (bytes_document contract)) }
 {
     let byte = int_document(alloc, IntKind::U8)?;
     finished(bytes_document(alloc, contract, byte)?)

@@ -1,5 +1,5 @@
 //! What documents rest on, beside a table.
-use schemars_documents::Contract;
+use schemars_types::Contract;
 
 /// How documents are made.
 #[derive(Clone, Copy)]

@@ -29,10 +29,10 @@ ghost use Rattle.schemars_generate.specs.Settings.{transforms07, transforms2019_
 use crate::contents::Contents;
 use crate::error::GenerateError;
 pub use crate::settings::SchemaSettings;
-pub use schemars_documents::Contract;
 use schemars_schema::Schema;
 pub use schemars_transform::GenTransform;
 use schemars_transform::NoTransform;
+pub use schemars_types::Contract;
 use schemars_types::{TypeNo, Types};
 use schemars_walk::Transform;
 use serde_json::{Map, Value};

@@ -1,7 +1,7 @@
 //! How documents are made, and the settings of the drafts.
 ghost use Rattle.std.specs.Prelude.{◌≡◌, ◌∷◌, ◌++◌, ◌↔◌, [], true, false, Some, Err, IfOk, IsTrue};
 ghost use Rattle.serde_json.specs.Data.{no_members};
-ghost use Rattle.schemars_documents.specs.declared.contract.Contract.TheVariants as contracts;
+ghost use Rattle.schemars_types.specs.declared.contract.Contract.TheVariants as contracts;
 ghost use Rattle.schemars_headline.specs.State.{settings2020_12};
 ghost use Rattle.schemars_generate.specs.DocumentSettings as roots;
 ghost use Rattle.schemars_transform.specs.Member.{some_own};
@@ -12,13 +12,13 @@ ghost use Rattle.schemars_generate.specs.Settings.{transforms07, transforms2019_
 use crate::document_settings::DocumentSettings;
 use crate::error::GenerateError;
 use crate::generate::SchemaGenerator;
-use schemars_documents::Contract;
 use schemars_schema::consts::meta_schemas;
 use schemars_transform::{
     AddNullable, GenTransform, NoTransform, RemoveRefSiblings, ReplaceBoolSchemas,
     ReplaceConstValue, ReplacePrefixItems, ReplaceUnevaluatedProperties, SetSingleExample,
     try_clone_all,
 };
+use schemars_types::Contract;
 use std::alloc::{AllocError, Global};
 use std::borrow::CowStr;
 

@@ -6,10 +6,9 @@ use Rattle.schemars_schema.specs.Json.{Text}
 use Rattle.schemars_schema.specs.Acceptance.{Dialect, Patterns, draft2020_12, draft2019_09, draft07, accepts}
 use Rattle.schemars_schema.specs.Acceptance.{count_of_definitions}
 use Rattle.schemars_types.specs.Rows.{Row}
-use Rattle.schemars_types.specs.Meaning.{Contract}
+use Rattle.schemars_types.specs.declared.contract.Contract.{Contract}
 use Rattle.schemars_types.specs.Faults.{IsChecked}
 use Rattle.schemars_documents.specs.PlainTable.{IsPlainTable}
-use Rattle.schemars_documents.specs.ContractOf.{contract_of}
 use Rattle.schemars_build.specs.Naming.{IsOneToOne}
 use Rattle.schemars_build.specs.Work.{Work}
 use Rattle.schemars_headline.specs.State.{State, path_of, plan_of, HasOwnDefinitions}
@@ -86,31 +85,31 @@ module _ (s : State) (n : ℕ) (w : Work) (document : Data) (checked : IsChecked
   has : Has key w.definitions document
   has = ready-has (IsName key) key w.definitions document ready
 
-  means : MeansItsType s.rows (contract_of s.settings.contract) (path_of s) n document
+  means : MeansItsType s.rows s.settings.contract (path_of s) n document
   means = root_means s n w document checked root once one own (stands-draft (path_of s) key at) plain
 
   all : Everywhere (Named key IsDraft07) document
   all = good-named key document ready.everywhere
 
-  pub draft07_accepts : AcceptsItsValuesUnder draft07 s.rows (contract_of s.settings.contract) (path_of s) n
+  pub draft07_accepts : AcceptsItsValuesUnder draft07 s.rows s.settings.contract (path_of s) n
       (for_draft07 document)
   draft07_accepts =
       accepts-moved for_draft07 draft07 key IsDraft07
       (draft07-law key (stands-place (path_of s) key at) (not-properties (path_of s) key at))
-      document ready.inside ready.is_object ready.is_map all s.rows (contract_of s.settings.contract) (path_of s) n
+      document ready.inside ready.is_object ready.is_map all s.rows s.settings.contract (path_of s) n
       (count-has (path_of s) key at w.definitions (for_draft07 document)
       (draft07-has (path_of s) key at w.definitions document has)
       ∙ sym (count-has (path_of s) key at w.definitions document has))
       means.accepts_its_values
 
-  pub draft2019_09_accepts : AcceptsItsValuesUnder draft2019_09 s.rows (contract_of s.settings.contract) (path_of s) n
+  pub draft2019_09_accepts : AcceptsItsValuesUnder draft2019_09 s.rows s.settings.contract (path_of s) n
       (for_draft2019_09 document)
   draft2019_09_accepts =
       accepts-moved for_draft2019_09 draft2019_09 key HasPlainItems
       (draft2019_09-law key (stands-place (path_of s) key at) (not-properties (path_of s) key at))
       document ready.inside ready.is_object ready.is_map
       (weaker (Named key IsDraft07) (Named key HasPlainItems) (λ ms is. (is.0, is.1, is.2.2)) document all)
-      s.rows (contract_of s.settings.contract) (path_of s) n
+      s.rows s.settings.contract (path_of s) n
       (count-has (path_of s) key at w.definitions (for_draft2019_09 document)
       (prefix-has key (stands-place (path_of s) key at) w.definitions document has)
       ∙ sym (count-has (path_of s) key at w.definitions document has))

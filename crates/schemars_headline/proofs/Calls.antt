@@ -15,7 +15,6 @@ use Rattle.schemars_types.specs.Rows.{name_at}
 use Rattle.schemars_types.specs.Edges.{DirectEdge, height, rank}
 use Rattle.schemars_types.specs.Faults.{IsChecked}
 use Rattle.schemars_documents.proofs.OpenStructs.{plain_under}
-use Rattle.schemars_documents.specs.ContractOf.{contract_of}
 use Rattle.schemars_build.specs.Naming.{name_of, IsOneToOne}
 use Rattle.schemars_documents.specs.Documents.{reference, root_document}
 use Rattle.schemars_documents.specs.Basis.{Basis}
@@ -51,7 +50,7 @@ definition-moved plan other old new rows contract titles inlines names refers k 
       let wide = document-wider (basis_of plan) plan.inlines (Refers plan false old) (Refers other false new) refers h.pending h.row d
       h.document in
       let same : basis_of plan ≡ basis_of other =
-      λ i. record { rows = rows i; contract = contract_of (contract i); titles = titles i } in
+      λ i. record { rows = rows i; contract = (contract i); titles = titles i } in
       let P : Basis → Type 0 = λ b. IsDocument b plan.inlines (Refers other false new) h.pending h.row d in
       let Q : Bool → Type 0 = λ b. IsDocument (basis_of other) b (Refers other false new) h.pending h.row d in
       subst Q inlines (subst P same wide);
@@ -131,16 +130,16 @@ part_own s new same step own =
 
 pub root_means_wide : (s : State) (n : ℕ) (w : Work) (d : Data) → IsChecked s.rows → IsRootOf s n w d → HasKeysOnce w.definitions
     → IsOneToOne w.names → HasOwnDefinitions s → IsDraftPath (plan_of s None).path
-    → WideHeadline s.rows (contract_of s.settings.contract) (plan_of s None).path n d
+    → WideHeadline s.rows s.settings.contract (plan_of s None).path n d
 root_means_wide s n w d checked root once one own path = root_call_means s n w d root checked one once
     (definitions_in s (Some n) w root.step own) path
 
 -- a plain table is plain under each contract
 pub root_means : (s : State) (n : ℕ) (w : Work) (d : Data) → IsChecked s.rows → IsRootOf s n w d → HasKeysOnce w.definitions
     → IsOneToOne w.names → HasOwnDefinitions s → IsDraftPath (plan_of s None).path
-    → Headline s.rows (contract_of s.settings.contract) (plan_of s None).path n d
+    → Headline s.rows s.settings.contract (plan_of s None).path n d
 root_means s n w d checked root once one own path plain =
-    root_means_wide s n w d checked root once one own path (plain_under s.rows (contract_of s.settings.contract) plain)
+    root_means_wide s n w d checked root once one own path (plain_under s.rows s.settings.contract plain)
 
 pub root_is_whole : (s : State) (n : ℕ) (w : Work) (d : Data) → IsRootOf s n w d → HasKeysOnce w.definitions → HasNoFloat s.rows
     → HasOwnDefinitions s → has_float d ≡ false

@@ -22,7 +22,9 @@ use Rattle.schemars_shapes.specs.IntKind.{format_of}
 use Rattle.schemars_shapes.specs.declared.shape.IntKind.{IntKind}
 use Rattle.schemars_shapes.specs.declared.shape.IntKind.TheVariants.{U8}
 use Rattle.schemars_shapes.specs.Shape.{Field}
-use Rattle.schemars_types.specs.Meaning.{Contract, Deserialize, Serialize, least_of, greatest_of}
+use Rattle.schemars_types.specs.declared.contract.Contract.{Contract}
+use Rattle.schemars_types.specs.declared.contract.Contract.TheVariants.{Deserialize, Serialize}
+use Rattle.schemars_types.specs.Meaning.{least_of, greatest_of}
 use Rattle.schemars_documents.specs.Documents.{Keyword, type_alone, int_keywords, int_document, non_zero_document, is_signed}
 use Rattle.schemars_documents.specs.Documents.{char_document, formatted_document, empty_list_document, bytes_document, bytes_type}
 use Rattle.schemars_documents.specs.Documents.{byte_document, schema_document, reference, required_names}

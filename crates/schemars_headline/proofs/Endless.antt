@@ -18,7 +18,9 @@ use Rattle.schemars_types.specs.Rows.{Row, entry_at}
 use Rattle.schemars_types.specs.Walks.{Walk, one, then}
 use Rattle.schemars_types.specs.Edges.{is_inline_at, DirectEdge, SameValueEdge, names_at}
 use Rattle.schemars_types.specs.Faults.{IsUndefined, HasRepeated, IsAccepted}
-use Rattle.schemars_types.specs.Meaning.{Contract, Deserialize, Serialize, belongs_within, every_member, member_fits, is_required}
+use Rattle.schemars_types.specs.declared.contract.Contract.{Contract}
+use Rattle.schemars_types.specs.declared.contract.Contract.TheVariants.{Deserialize, Serialize}
+use Rattle.schemars_types.specs.Meaning.{belongs_within, every_member, member_fits, is_required}
 use Rattle.schemars_types.proofs.Accepted.{never_first_repeated}
 use Rattle.schemars_headline.specs.Headline.{MeansItsType}
 

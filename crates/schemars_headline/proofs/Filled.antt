@@ -9,7 +9,7 @@ use Rattle.schemars_builders.specs.Properties.{internally_tagged_variant}
 use Rattle.schemars_shapes.specs.Shape.{Field, Fields, Flattened, Payload, Variant, no_payload, newtype_payload, tuple_payload}
 use Rattle.schemars_shapes.specs.Shape.{struct_payload}
 use Rattle.schemars_shapes.specs.Units.{is_bare_unit}
-use Rattle.schemars_types.specs.Meaning.{Contract}
+use Rattle.schemars_types.specs.declared.contract.Contract.{Contract}
 use Rattle.schemars_types.specs.Effective.{flattened_fields, effective, spread_payload, spread_variant}
 use Rattle.schemars_types.specs.KeyOptions.{KeyOptions, keys}
 use Rattle.schemars_documents.specs.PlainTable.{AreNoted, IsTagged, AreTagged, ArePlainParts, payload_parts, variant_parts}

@@ -26,7 +26,6 @@ use Rattle.schemars_types.specs.Faults.{IsChecked}
 use Rattle.schemars_types.proofs.Asked.{asked, entry_low}
 use Rattle.schemars_documents.specs.Describes.{IsWritten, Describes}
 use Rattle.schemars_documents.specs.PlainTable.{IsPlainUnder, parts_in, payload_parts, variant_parts}
-use Rattle.schemars_documents.specs.ContractOf.{contract_of}
 use Rattle.schemars_build.specs.Naming.{Naming, IsOneToOne, name_of}
 use Rattle.schemars_build.specs.Work.{Plan, Work, IsKey, reference_to, basis_of}
 use Rattle.schemars_headline.specs.Headline.{AcceptsItsValues}
@@ -219,7 +218,7 @@ IsItsRoot plan w document =
 bound_enough : (a len defs counted n : ℕ) → len ≤ defs + 1 → defs ≤ counted → (a + 1) * (counted + 2) ≤ n → (a + 1) * (len + 1) ≤ n
 bound_enough a len defs counted n few less h = grind (arith, mul-le-mul_left)
 
-module _ (plan : Plan) (w : Work) (document : Data) (checked : IsChecked plan.rows) (plain : IsPlainUnder (contract_of plan.contract) plan.rows)
+module _ (plan : Plan) (w : Work) (document : Data) (checked : IsChecked plan.rows) (plain : IsPlainUnder plan.contract plan.rows)
     (one : IsOneToOne w.names) (definitions : AllStand plan w)
     (holds : HoldsDefinitions plan.path w.definitions document) (is_root : IsItsRoot plan w document) where
   abbrev row_named : (k : Text) → IsKey k w.definitions → RowNamed plan w.names k
@@ -337,7 +336,7 @@ module _ (plan : Plan) (w : Work) (document : Data) (checked : IsChecked plan.ro
 
   -- what is written for a row accepts just its values
   pub written_accepts : (d n : ℕ) (t : Data) → IsWritten (MayRefer plan w) (D d) n t
-      → AcceptsItsValues plan.rows (contract_of plan.contract) plan.path n document t
+      → AcceptsItsValues plan.rows plan.contract plan.path n document t
   unfolding setting
   written_accepts d n t h patterns v json followed bounded =
       let listed = written_map (MayRefer plan w) (InList refs) (D d) (Describes (basis_of plan) (InList refs) d)

@@ -19,7 +19,8 @@ use Rattle.schemars_shapes.specs.IntKind.{format_of}
 use Rattle.schemars_shapes.specs.Shape as shape
 use Rattle.schemars_shapes.specs.Shape.{Shape, Flattened, Entry}
 use Rattle.schemars_types.specs.Rows.{entry_at}
-use Rattle.schemars_types.specs.Meaning.{Contract, least_of, greatest_of}
+use Rattle.schemars_types.specs.declared.contract.Contract.{Contract}
+use Rattle.schemars_types.specs.Meaning.{least_of, greatest_of}
 use Rattle.schemars_documents.specs.Documents.{annotated, with_title, with_meta_schema, root_document, int_keywords}
 use Rattle.schemars_documents.specs.Documents.{is_signed, required_names, reference}
 use Rattle.schemars_types.specs.KeyOptions.{KeyOptions, keys, key_options}

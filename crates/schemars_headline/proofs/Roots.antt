@@ -13,7 +13,7 @@ use Rattle.schemars_builders.specs.NullLaw.{context2020_12}
 use Rattle.schemars_shapes.specs.Shape.{Entry}
 use Rattle.schemars_types.specs.Rows.{Row, name_at, entry_at}
 use Rattle.schemars_types.specs.Effective.{spread, flattened_in, part_enums}
-use Rattle.schemars_types.specs.Meaning.{Contract}
+use Rattle.schemars_types.specs.declared.contract.Contract.{Contract}
 use Rattle.schemars_types.specs.Faults.{IsChecked}
 use Rattle.schemars_documents.specs.Documents.{root_document}
 use Rattle.schemars_documents.specs.Describes.{IsWritten, Describes}
@@ -21,7 +21,6 @@ use Rattle.schemars_shapes.specs.Shape as shape
 use Rattle.schemars_shapes.specs.Shape.{Shape, Field, Flattened}
 use Rattle.schemars_documents.specs.PlainTable.{IsPlainShape, HasPlainLiteral, IsEntryUnder, IsPlainUnder}
 use Rattle.schemars_documents.specs.PlainTable.{IsNotedEntry, HasPlainNotes}
-use Rattle.schemars_documents.specs.ContractOf.{contract_of}
 use Rattle.schemars_documents.proofs.OpenStructs.{plain_under}
 use Rattle.schemars_build.specs.Naming.{IsOneToOne}
 use Rattle.schemars_build.specs.Work.{Plan, Work, Refers, basis_of}
@@ -49,14 +48,14 @@ key_silent key (inr is) = rw is refl
 -- ---- what holds of every document with the definitions
 
 module _ (plan : Plan) (w : Work) (document : Data) (checked : IsChecked plan.rows)
-    (plain : IsPlainUnder (contract_of plan.contract) plan.rows)
+    (plain : IsPlainUnder plan.contract plan.rows)
     (one : IsOneToOne w.names) (definitions : AllStand plan w)
     (holds : HoldsDefinitions plan.path w.definitions document) (is_root : IsItsRoot plan w document) where
   leads : (j : ℕ) (r : Text) → MayRefer plan w j r → is_some (resolved document r) ≡ true
   leads = refers_resolve plan w document checked plain one definitions holds is_root
 
   noted : AreNotedRows plan.rows
-  noted = under_rows (contract_of plan.contract) plan.rows plain
+  noted = under_rows plan.contract plan.rows plain
 
   definition_resolved : (name : Text) (d : Data) → get_member name w.definitions ≡ Some d → Resolve (resolves document) (references d)
   definition_resolved name d found =
@@ -103,7 +102,7 @@ pub root_means : (plan : Plan) (w : Work) (n : ℕ) (name : Text) (uri : Option 
     → IsChecked plan.rows → IsOneToOne w.names → HasKeysOnce w.definitions → plan.root ≡ Some n
     → AllStand plan w → Describes (basis_of plan) (MayRefer plan w) depth n own
     → IsPlaced plan.path w.definitions (root_document name uri own) document
-    → WideHeadline plan.rows (contract_of plan.contract) plan.path n document
+    → WideHeadline plan.rows plan.contract plan.path n document
 root_means plan w n name uri depth own document checked one once root definitions h placed plain =
     let members : Members = members_in (root_document name uri own) in
     let is_schema : IsSchema own = described (basis_of plan) (MayRefer plan w) depth n own h in
@@ -118,7 +117,7 @@ root_means plan w n name uri depth own document checked one once root definition
     let all : AllResolve (resolves document) w.definitions = all_members (λ d. Resolve (resolves document) (references d)) w.definitions
     once (definition_resolved plan w document checked plain one definitions holds is_root) in
     let resolved_own = described_resolved (resolves document) (basis_of plan) (MayRefer plan w)
-    (under_rows (contract_of plan.contract) plan.rows plain)
+    (under_rows plan.contract plan.rows plain)
     (refers_resolve plan w document checked plain one definitions holds is_root) depth n own h in
     record {
       accepts_its_values = λ patterns v json followed bounded.
@@ -156,17 +155,17 @@ pub root_headline : (plan : Plan) (w : Work) (n : ℕ) (name : Text) (uri : Opti
     → IsChecked plan.rows → IsOneToOne w.names → HasKeysOnce w.definitions → plan.root ≡ Some n
     → AllStand plan w → Describes (basis_of plan) (MayRefer plan w) depth n own → IsDraftPath plan.path
     → with_definitions plan.path w.definitions (root_document name uri own) ≡ Some document
-    → WideHeadline plan.rows (contract_of plan.contract) plan.path n document
+    → WideHeadline plan.rows plan.contract plan.path n document
 root_headline plan w n name uri depth own document checked one once root definitions h draft made plain =
     let placed = placed_in plan.path w.definitions (members_in (root_document name uri own)) document draft
-    (room plan w n name uri depth own (plain_notes (contract_of plan.contract) plan.rows plain) (MayRefer plan w) h) made in
+    (room plan w n name uri depth own (plain_notes plan.contract plan.rows plain) (MayRefer plan w) h) made in
     root_means plan w n name uri depth own document checked one once root definitions h placed plain
 
 -- so does what a root call makes
 pub root_call_means : (old : State) (n : ℕ) (w : Work) (document : Data) → IsRootOf old n w document → IsChecked old.rows
     → IsOneToOne w.names → HasKeysOnce w.definitions → AllStand (plan_of old (Some n)) w
     → IsDraftPath (plan_of old (Some n)).path
-    → WideHeadline old.rows (contract_of old.settings.contract) (plan_of old (Some n)).path n document
+    → WideHeadline old.rows old.settings.contract (plan_of old (Some n)).path n document
 root_call_means old n w document h checked one once definitions draft =
     let plan = plan_of old (Some n) in
     let depth = h.is_document.0 in
@@ -181,8 +180,8 @@ root_call_means old n w document h checked one once definitions draft =
 pub subschema_means : (plan : Plan) (w : Work) (n : ℕ) (free : Bool) (depth : ℕ) (schema document : Data) → IsChecked plan.rows
     → IsOneToOne w.names → plan.root ≡ None → AllStand plan w
     → IsWritten (Refers plan free w) (Describes (basis_of plan) (Refers plan free w) depth) n schema
-    → IsPlainUnder (contract_of plan.contract) plan.rows → HoldsDefinitions plan.path w.definitions document
-    → MeansItsTypeIn plan.rows (contract_of plan.contract) plan.path n w.definitions document schema
+    → IsPlainUnder plan.contract plan.rows → HoldsDefinitions plan.path w.definitions document
+    → MeansItsTypeIn plan.rows plan.contract plan.path n w.definitions document schema
 subschema_means plan w n free depth schema document checked one none definitions h plain holds =
     let is_root : IsItsRoot plan w document = λ m is. absurd (let never : None ≡ Some m = sym none ∙ is in cc) in
     let more = refers_may plan w free in
@@ -205,4 +204,4 @@ subschema_headline s n free schema checked one definitions h plain known documen
     let written = placed_written (basis_of plan) plan.inlines (Refers plan free (work_of s)) [] n schema h in
     subschema_means plan (work_of s) n free written.0 schema document checked one refl
     (λ name d found. stands_now plan (work_of s) name d (definitions name d found)) written.1
-    (plain_under s.rows (contract_of s.settings.contract) plain) (held plan.path s.definitions document known holding)
+    (plain_under s.rows s.settings.contract plain) (held plan.path s.definitions document known holding)

@@ -3,9 +3,8 @@ use Rattle.std.proofs.Common.{◌≡◌, ◌∙◌, ℕ, List, sym, ap, subst}
 use Rattle.serde_json.specs.Data.{Data}
 use Rattle.schemars_schema.specs.Json.{Text}
 use Rattle.schemars_types.specs.Rows.{Row}
-use Rattle.schemars_types.specs.Meaning.{Contract}
+use Rattle.schemars_types.specs.declared.contract.Contract.{Contract}
 use Rattle.schemars_documents.specs.PlainTable.{IsPlainTable}
-use Rattle.schemars_documents.specs.ContractOf.{contract_of}
 use Rattle.schemars_headline.specs.State.{State, Settings, path_of, HasOwnDefinitions}
 use Rattle.schemars_headline.specs.Headline.{MeansItsType, HaveSameAcceptance, RootHeadline, IsDraftPath}
 
@@ -24,5 +23,5 @@ pub same_acceptance : (s : State) (settings : Settings) (n : ℕ) (document othe
 same_acceptance s settings n document other plain same own also draft drafted h g =
     let t = record s { settings = settings } in
     let P : Contract → Type 0 = λ c. MeansItsType s.rows c (path_of t) n other in
-    let means : P (contract_of s.settings.contract) = subst P (ap contract_of same) (g also drafted plain) in
-    same_meaning s.rows (contract_of s.settings.contract) (path_of s) (path_of t) n document other (h own draft plain) means
+    let means : P s.settings.contract = subst P (same) (g also drafted plain) in
+    same_meaning s.rows s.settings.contract (path_of s) (path_of t) n document other (h own draft plain) means

@@ -14,7 +14,6 @@ use Rattle.schemars_schema.specs.Acceptance.{openapi3, accepts, count_of_definit
 use Rattle.schemars_schema.proofs.Placings.{plain-components, resolved-definition, count-place}
 use Rattle.schemars_types.specs.Faults.{IsChecked}
 use Rattle.schemars_documents.specs.PlainTable.{IsPlainTable}
-use Rattle.schemars_documents.specs.ContractOf.{contract_of}
 use Rattle.schemars_build.specs.Naming.{IsOneToOne}
 use Rattle.schemars_build.specs.Work.{Plan, Work, basis_of, Refers}
 use Rattle.schemars_documents.proofs.OpenStructs.{plain_under}
@@ -110,9 +109,9 @@ module _ (s : State) (checked : IsChecked s.rows) (one : IsOneToOne s.names) (ow
   holds = held plan.path es (components_of es) (inr at) (inr (ap (λ p. pointer p (components_of es)) at ∙ components-found es))
 
   accepts-before : (name : Text) (d : Data) (found : get_member name es ≡ Some d)
-      → AcceptsItsValues s.rows (contract_of s.settings.contract) (path_of s) (stand name d found).row (components_of es) d
+      → AcceptsItsValues s.rows s.settings.contract (path_of s) (stand name d found).row (components_of es) d
   accepts-before name d found =
-      written_accepts plan w (components_of es) checked (plain_under s.rows (contract_of s.settings.contract) plain) one stand holds rootless (stand name d found).depth (stand name d found).row d
+      written_accepts plan w (components_of es) checked (plain_under s.rows s.settings.contract plain) one stand holds rootless (stand name d found).depth (stand name d found).row d
       (inr (stand name d found).describes)
 
   count-same : count_of_definitions components (components_of (all_seven es)) ≡ count_of_definitions components (components_of es)

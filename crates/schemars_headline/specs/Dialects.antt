@@ -8,9 +8,9 @@ use Rattle.schemars_schema.specs.Acceptance.{Dialect, Patterns, draft07, draft20
 use Rattle.schemars_schema.specs.References.{ReferencesResolve}
 use Rattle.schemars_laws.specs.Laws.{for_draft07, for_draft2019_09}
 use Rattle.schemars_types.specs.Rows.{Row}
-use Rattle.schemars_types.specs.Meaning.{Contract, belongs}
+use Rattle.schemars_types.specs.declared.contract.Contract.{Contract}
+use Rattle.schemars_types.specs.Meaning.{belongs}
 use Rattle.schemars_documents.specs.PlainTable.{IsPlainTable}
-use Rattle.schemars_documents.specs.ContractOf.{contract_of}
 use Rattle.schemars_sample.specs.Example.{Example}
 use Rattle.schemars_sample.specs.SampleJson.{sample_json}
 use Rattle.schemars_headline.specs.State.{State, path_of, HasOwnDefinitions}
@@ -32,7 +32,7 @@ pub record MeansItsTypeUnder (dialect : Dialect) (rows : List Row) (contract : C
 abbrev pub RootHeadlineUnder : Dialect → Text → State → ℕ → Data → Type 0
 RootHeadlineUnder dialect path s n document =
     HasOwnDefinitions s → path_of s ≡ path → IsPlainTable s.rows
-    → MeansItsTypeUnder dialect s.rows (contract_of s.settings.contract) (path_of s) n document
+    → MeansItsTypeUnder dialect s.rows s.settings.contract (path_of s) n document
 
 -- what is made for the drafts of a root document of row n
 abbrev pub Draft07Headline : State → ℕ → Data → Type 0

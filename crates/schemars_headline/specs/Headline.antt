@@ -10,9 +10,9 @@ use Rattle.schemars_schema.specs.Placing.{placed_at}
 use Rattle.schemars_types.specs.Rows.{Row, name_at}
 use Rattle.schemars_types.specs.Edges.{numbers_at}
 use Rattle.schemars_types.specs.Walks.{OnCycle, IsFree}
-use Rattle.schemars_types.specs.Meaning.{Contract, belongs}
+use Rattle.schemars_types.specs.declared.contract.Contract.{Contract}
+use Rattle.schemars_types.specs.Meaning.{belongs}
 use Rattle.schemars_documents.specs.PlainTable.{IsPlainTable, IsPlainUnder}
-use Rattle.schemars_documents.specs.ContractOf.{contract_of}
 use Rattle.schemars_documents.specs.Documents.{root_document}
 use Rattle.schemars_build.specs.Work.{Work, Step}
 use Rattle.schemars_build.specs.Parts.{IsDocumentOf}
@@ -53,11 +53,11 @@ IsDraftPath path = (path ≡ codes "/$defs") ⊎ (path ≡ codes "/definitions")
 -- that of a generator whose definitions are its own
 abbrev pub RootHeadline : State → ℕ → Data → Type 0
 RootHeadline s n document =
-    HasOwnDefinitions s → IsDraftPath (path_of s) → Headline s.rows (contract_of s.settings.contract) (path_of s) n document
+    HasOwnDefinitions s → IsDraftPath (path_of s) → Headline s.rows s.settings.contract (path_of s) n document
 
 abbrev pub RootWideHeadline : State → ℕ → Data → Type 0
 RootWideHeadline s n document =
-    HasOwnDefinitions s → IsDraftPath (path_of s) → WideHeadline s.rows (contract_of s.settings.contract) (path_of s) n document
+    HasOwnDefinitions s → IsDraftPath (path_of s) → WideHeadline s.rows s.settings.contract (path_of s) n document
 
 abbrev pub IsKnownPath : Text → Type 0
 IsKnownPath path = IsDraftPath path ⊎ (path ≡ codes "/components/schemas")
@@ -110,7 +110,7 @@ pub record MeansItsTypeIn (rows : List Row) (contract : Contract) (path : Text) 
 abbrev pub SubschemaHeadline : State → ℕ → Data → Type 0
 SubschemaHeadline s n schema =
     IsPlainTable s.rows → IsKnownPath (path_of s) → (document : Data) → IsHolding (path_of s) s.definitions document
-    → MeansItsTypeIn s.rows (contract_of s.settings.contract) (path_of s) n s.definitions document schema
+    → MeansItsTypeIn s.rows s.settings.contract (path_of s) n s.definitions document schema
 
 -- ---- rows in place
 

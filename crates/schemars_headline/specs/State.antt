@@ -5,8 +5,8 @@ use Rattle.serde_json.specs.Find.{get_member}
 use Rattle.schemars_schema.specs.References.{references}
 use Rattle.schemars_schema.specs.Json.{Text}
 use Rattle.schemars_types.specs.Rows.{Row}
-use Rattle.schemars_documents.specs.declared.contract.Contract.{Contract}
-use Rattle.schemars_documents.specs.declared.contract.Contract.TheVariants.{Deserialize}
+use Rattle.schemars_types.specs.declared.contract.Contract.{Contract}
+use Rattle.schemars_types.specs.declared.contract.Contract.TheVariants.{Deserialize}
 use Rattle.schemars_build.specs.Naming.{Naming}
 use Rattle.schemars_build.specs.Work.{Plan, Work, IsKey, AreDefinitions, reference_to}
 

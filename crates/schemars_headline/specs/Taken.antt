@@ -9,7 +9,6 @@ use Rattle.schemars_schema.specs.Acceptance.{Patterns, openapi3, accepts, bound}
 use Rattle.schemars_schema.specs.References.{references, all_resolve}
 use Rattle.schemars_types.specs.Meaning.{belongs}
 use Rattle.schemars_documents.specs.PlainTable.{IsPlainTable}
-use Rattle.schemars_documents.specs.ContractOf.{contract_of}
 use Rattle.schemars_build.specs.Naming.{name_of}
 use Rattle.schemars_laws.specs.Paths.{components, components_of, each_changed}
 use Rattle.schemars_laws.specs.Laws.{for_openapi3}
@@ -22,7 +21,7 @@ pub record MeansItsRow (s : State) (name : Text) (document schema : Data) : Type
   pub is_named : name_of row s.settings.contract s.names ≡ Some name
   pub accepts_its_values : (patterns : Patterns) (v : Data) → IsJson v → (followed : ℕ) → bound components document v ≤ followed
       → accepts openapi3 document patterns followed schema v
-      ≡ verdict (belongs s.rows (contract_of s.settings.contract) patterns row v)
+      ≡ verdict (belongs s.rows s.settings.contract patterns row v)
   pub references_resolve : all_resolve document (references schema) ≡ true
 
 -- so does each of these, in a document that holds them under its components

@@ -15,7 +15,9 @@ use Rattle.schemars_builders.specs.NullLaw.{context2020_12}
 use Rattle.schemars_builders.specs.Variants.{unit_variant}
 use Rattle.schemars_shapes.specs.Shape as shape
 use Rattle.schemars_shapes.specs.Shape.{Shape, needed}
-use Rattle.schemars_types.specs.Meaning.{Contract, Deserialize, Serialize, has_shape, has_fields, exactly_one, none, is_text}
+use Rattle.schemars_types.specs.declared.contract.Contract.{Contract}
+use Rattle.schemars_types.specs.declared.contract.Contract.TheVariants.{Deserialize, Serialize}
+use Rattle.schemars_types.specs.Meaning.{has_shape, has_fields, exactly_one, none, is_text}
 use Rattle.schemars_types.specs.OpenStructs.{no_choices}
 use Rattle.serde_json.specs.View.{items_of}
 use Rattle.schemars_types.specs.KeyOptions.{key_options}

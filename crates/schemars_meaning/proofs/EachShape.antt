@@ -19,7 +19,9 @@ use Rattle.schemars_shapes.specs.declared.shape.IntKind.{IntKind}
 use Rattle.schemars_shapes.specs.declared.shape.IntKind.TheVariants.{I8, I16, I32, I64, I128, Isize, U8, U16, U32, U64, U128, Usize}
 use Rattle.schemars_shapes.specs.IntKind.{format_of}
 use Rattle.schemars_shapes.specs.Shape as shape
-use Rattle.schemars_types.specs.Meaning.{Contract, Deserialize, Serialize, is_byte, is_byte_text, has_shape, every_item}
+use Rattle.schemars_types.specs.declared.contract.Contract.{Contract}
+use Rattle.schemars_types.specs.declared.contract.Contract.TheVariants.{Deserialize, Serialize}
+use Rattle.schemars_types.specs.Meaning.{is_byte, is_byte_text, has_shape, every_item}
 use Rattle.schemars_types.specs.OpenStructs.{no_choices}
 use Rattle.schemars_types.specs.Meaning.{each_of, holds, least_of, greatest_of, is_at_least, is_at_most, is_zero}
 use Rattle.schemars_types.specs.KeyOptions.{key_options}

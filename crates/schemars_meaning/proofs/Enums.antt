@@ -12,7 +12,7 @@ use Rattle.schemars_builders.proofs.Nulls.{IsReady, AreReady}
 use Rattle.schemars_shapes.specs.Shape.{Field, Flattened, Fields, Payload, Variant, no_payload, newtype_payload, tuple_payload}
 use Rattle.schemars_shapes.specs.Shape.{struct_payload}
 use Rattle.schemars_types.specs.Effective.{spread_variant}
-use Rattle.schemars_types.specs.Meaning.{Contract}
+use Rattle.schemars_types.specs.declared.contract.Contract.{Contract}
 use Rattle.schemars_documents.specs.PlainTable.{ArePlainVariants, payload_parts, variant_parts}
 use Rattle.schemars_documents.specs.Basis.{Basis}
 use Rattle.schemars_documents.specs.Template.{Ask, part, Template, noted, Templates, asks_of, asks_in, filled, filled_in}

@@ -11,7 +11,7 @@ use Rattle.schemars_builders.specs.AllowNull.{null_schema}
 use Rattle.schemars_flatten.specs.Parts.{flattened_part}
 use Rattle.schemars_shapes.specs.Shape.{Field, Payload, Variant, no_payload, newtype_payload, tuple_payload, struct_payload}
 use Rattle.schemars_shapes.specs.Units.{is_bare_unit}
-use Rattle.schemars_types.specs.Meaning.{Contract}
+use Rattle.schemars_types.specs.declared.contract.Contract.{Contract}
 use Rattle.schemars_documents.specs.Documents.{annotated}
 use Rattle.schemars_documents.specs.Template.{Ask, part, Template, noted, asks_of, asks_in, filled, filled_in}
 use Rattle.schemars_documents.specs.OfShape.{templates_of, member_template, payload_template, named_template, bare_units, other_items}

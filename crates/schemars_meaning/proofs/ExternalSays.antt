@@ -20,7 +20,9 @@ use Rattle.schemars_builders.specs.Variants.{unit_variant}
 use Rattle.schemars_shapes.specs.Shape.{Field, Flattened, Payload, Variant, no_payload, newtype_payload, tuple_payload, struct_payload}
 use Rattle.schemars_shapes.specs.Shape.{needed}
 use Rattle.schemars_shapes.specs.Units.{is_bare_unit}
-use Rattle.schemars_types.specs.Meaning.{Contract, Deserialize, Serialize, is_map_of, is_text, every_member, member_fits, has_required}
+use Rattle.schemars_types.specs.declared.contract.Contract.{Contract}
+use Rattle.schemars_types.specs.declared.contract.Contract.TheVariants.{Deserialize, Serialize}
+use Rattle.schemars_types.specs.Meaning.{is_map_of, is_text, every_member, member_fits, has_required}
 use Rattle.schemars_types.specs.Meaning.{none, exactly_one}
 use Rattle.schemars_documents.specs.PlainTable.{IsNoVariant, AreDistinctVariants}
 use Rattle.schemars_documents.specs.Documents.{annotated}

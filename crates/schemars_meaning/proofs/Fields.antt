@@ -11,7 +11,8 @@ use Rattle.schemars_schema.specs.SchemaData.{IsSchema, put_all}
 use Rattle.schemars_schema.specs.Acceptance.{have_all}
 use Rattle.schemars_schema.specs.Annotations.{AreNotes}
 use Rattle.schemars_shapes.specs.Shape.{Field}
-use Rattle.schemars_types.specs.Meaning.{Contract, is_required, field_named, has_required}
+use Rattle.schemars_types.specs.declared.contract.Contract.{Contract}
+use Rattle.schemars_types.specs.Meaning.{is_required, field_named, has_required}
 use Rattle.schemars_documents.specs.PlainTable.{IsNoName, AreDistinct, AreNoted}
 use Rattle.schemars_documents.specs.Documents.{Keyword, annotated, required_names}
 use Rattle.schemars_meaning.proofs.Spread.{field_keywords, AreWritten}

@@ -6,7 +6,9 @@ use Rattle.schemars_schema.specs.Json.{Text}
 use Rattle.schemars_builders.specs.NullLaw.{text_items}
 use Rattle.schemars_flatten.specs.Flatten.{flattened}
 use Rattle.schemars_shapes.specs.Shape.{Field, Flattened, Fields}
-use Rattle.schemars_types.specs.Meaning.{Contract, Deserialize, Serialize, is_required}
+use Rattle.schemars_types.specs.declared.contract.Contract.{Contract}
+use Rattle.schemars_types.specs.declared.contract.Contract.TheVariants.{Deserialize, Serialize}
+use Rattle.schemars_types.specs.Meaning.{is_required}
 use Rattle.schemars_types.specs.Rows.{Row}
 use Rattle.schemars_types.specs.Effective.{effective, flattened_fields}
 use Rattle.schemars_documents.specs.Documents.{Keyword, annotated, required_names}

@@ -19,7 +19,8 @@ use Rattle.schemars_shapes.specs.Shape.{struct_payload}
 use Rattle.schemars_types.specs.Rows.{Row, entry_at}
 use Rattle.schemars_types.specs.KeyOptions.{key_options}
 use Rattle.schemars_types.specs.Effective.{row_fields, flattened_in, shape_fields, part_enums, enums_within, shape_enums, spread_in}
-use Rattle.schemars_types.specs.Meaning.{Contract, Choice, has_shape, belongs_within, choices_within}
+use Rattle.schemars_types.specs.declared.contract.Contract.{Contract}
+use Rattle.schemars_types.specs.Meaning.{Choice, has_shape, belongs_within, choices_within}
 use Rattle.schemars_documents.specs.Documents.{reference, annotated}
 use Rattle.schemars_documents.specs.PlainTable.{IsPlainShape, IsEntryUnder, IsPlainUnder, ArePartsUnder, parts_in}
 use Rattle.schemars_documents.specs.Basis.{Basis}

@@ -21,7 +21,8 @@ use Rattle.schemars_builders.specs.Variants.{unit_variant}
 use Rattle.schemars_builders.specs.Properties.{internally_tagged_variant}
 use Rattle.schemars_shapes.specs.Shape.{Field, Fields, Flattened, Payload, Variant, no_payload, newtype_payload, tuple_payload}
 use Rattle.schemars_shapes.specs.Shape.{struct_payload}
-use Rattle.schemars_types.specs.Meaning.{Contract, holds, is_text, every_member, member_fits, tagged_fits, has_required, has_content}
+use Rattle.schemars_types.specs.declared.contract.Contract.{Contract}
+use Rattle.schemars_types.specs.Meaning.{holds, is_text, every_member, member_fits, tagged_fits, has_required, has_content}
 use Rattle.schemars_types.specs.Meaning.{none, exactly_one}
 use Rattle.schemars_documents.specs.PlainTable.{IsNoVariant, AreDistinctVariants, AreDistinct, AreNoted}
 use Rattle.schemars_documents.specs.Documents.{annotated, type_alone}

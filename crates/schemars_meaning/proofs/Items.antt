@@ -15,7 +15,9 @@ use Rattle.schemars_schema.specs.Verdict.{verdict}
 use Rattle.schemars_schema.specs.Acceptance.{Context, Judge, judge}
 use Rattle.schemars_flatten.specs.Opening.{opened}
 use Rattle.schemars_shapes.specs.Shape.{Field, needed}
-use Rattle.schemars_types.specs.Meaning.{Contract, Deserialize, Serialize, every_member, member_fits, has_required}
+use Rattle.schemars_types.specs.declared.contract.Contract.{Contract}
+use Rattle.schemars_types.specs.declared.contract.Contract.TheVariants.{Deserialize, Serialize}
+use Rattle.schemars_types.specs.Meaning.{every_member, member_fits, has_required}
 use Rattle.schemars_documents.specs.Documents.{Keyword, annotated}
 use Rattle.schemars_types.specs.Meaning.{Choice, has_fields, has_member, member_choice}
 use Rattle.schemars_meaning.proofs.MapDocument.{map_document, noted_by, AllNotes}

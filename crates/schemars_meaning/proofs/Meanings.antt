@@ -13,7 +13,8 @@ use Rattle.schemars_meaning.proofs.Enums.{IsNewtypeIn, external_ready, untagged_
 use Rattle.schemars_meaning.proofs.Keyed.{values_ready, values_say}
 use Rattle.schemars_shapes.specs.Shape as shape
 use Rattle.schemars_shapes.specs.Shape.{Shape, Field, Flattened, Fields}
-use Rattle.schemars_types.specs.Meaning.{Contract, Choice, has_shape}
+use Rattle.schemars_types.specs.declared.contract.Contract.{Contract}
+use Rattle.schemars_types.specs.Meaning.{Choice, has_shape}
 use Rattle.schemars_documents.specs.Basis.{Basis}
 use Rattle.schemars_builders.specs.Variants.{unit_variant}
 use Rattle.schemars_meaning.proofs.ByShape.{IsDocument, member_document}

@@ -14,7 +14,7 @@ use Rattle.schemars_builders.proofs.Removals.{later_member}
 use Rattle.schemars_flatten.specs.Opening.{opened, has_type}
 use Rattle.schemars_flatten.specs.Parts.{flattened_part, units_of, unit_objects, first_units}
 use Rattle.schemars_shapes.specs.Shape.{Field}
-use Rattle.schemars_types.specs.Meaning.{Contract}
+use Rattle.schemars_types.specs.declared.contract.Contract.{Contract}
 use Rattle.schemars_documents.specs.Documents.{Keyword, annotated, required_names}
 use Rattle.schemars_types.specs.Meaning.{Choice, every_part, claims}
 use Rattle.schemars_meaning.proofs.SortedMembers.{IsSorted, sorted-without}

@@ -17,7 +17,9 @@ use Rattle.schemars_shapes.specs.Shape.{tuple_payload, struct_payload}
 use Rattle.schemars_shapes.specs.Units.{is_none, is_bare_unit}
 use Rattle.schemars_types.specs.Rows.{Row, entry_at}
 use Rattle.schemars_types.specs.Edges.{option_at}
-use Rattle.schemars_types.specs.Meaning.{Contract, Deserialize, Serialize, is_required, is_text}
+use Rattle.schemars_types.specs.declared.contract.Contract.{Contract}
+use Rattle.schemars_types.specs.declared.contract.Contract.TheVariants.{Deserialize, Serialize}
+use Rattle.schemars_types.specs.Meaning.{is_required, is_text}
 use Rattle.schemars_documents.specs.PlainTable.{AreDistinct, AreNoted, parts_in, payload_parts, variant_parts}
 use Rattle.schemars_documents.specs.Documents.{annotated, required_names}
 use Rattle.schemars_flatten.specs.Parts.{flattened_part}

@@ -6,7 +6,8 @@ use Rattle.schemars_schema.specs.Json.{Text}
 use Rattle.schemars_builders.proofs.Nulls.{IsReady, AreReady, some_accepts_null}
 use Rattle.schemars_shapes.specs.declared.shape.IntKind.{IntKind}
 use Rattle.schemars_shapes.specs.declared.shape.IntKind.TheVariants.{I8, I16, I32, I64, I128, Isize, U8, U16, U32, U64, U128, Usize}
-use Rattle.schemars_types.specs.Meaning.{Contract, Deserialize, Serialize}
+use Rattle.schemars_types.specs.declared.contract.Contract.{Contract}
+use Rattle.schemars_types.specs.declared.contract.Contract.TheVariants.{Deserialize, Serialize}
 use Rattle.schemars_documents.specs.Documents.{Keyword, int_document, non_zero_document, bytes_document, required_names, reference}
 use Rattle.schemars_shapes.specs.Shape.{Field}
 use Rattle.schemars_meaning.proofs.Spread.{field_keywords, IsFieldsDocument}

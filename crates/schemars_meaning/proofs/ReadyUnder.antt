@@ -12,7 +12,7 @@ use Rattle.schemars_shapes.specs.Shape.{Fields, Shape, Entry}
 use Rattle.schemars_types.specs.Rows.{Row, entry_at}
 use Rattle.schemars_types.specs.Effective.{effective, row_fields, flattened_in, shape_fields, flattened_enums, part_enums, enums_within}
 use Rattle.schemars_types.specs.Effective.{shape_enums, enum_at, spread_in}
-use Rattle.schemars_types.specs.Meaning.{Contract}
+use Rattle.schemars_types.specs.declared.contract.Contract.{Contract}
 use Rattle.schemars_documents.specs.PlainTable.{IsPlainShape, ArePartsUnder, IsEntryUnder, IsPlainUnder, parts_in}
 use Rattle.schemars_documents.specs.Basis.{Basis}
 use Rattle.schemars_documents.specs.Template.{Ask, asks_of, filled}

@@ -21,7 +21,9 @@ use Rattle.schemars_shapes.specs.Units.{is_bare_unit}
 use Rattle.schemars_shapes.specs.declared.shape.IntegerKeys.{IntegerKeys}
 use Rattle.schemars_shapes.specs.IntegerKeys.{pattern_of}
 use Rattle.schemars_types.specs.Rows.{Row}
-use Rattle.schemars_types.specs.Meaning.{Contract, Deserialize, Serialize, least_of, greatest_of, is_required}
+use Rattle.schemars_types.specs.declared.contract.Contract.{Contract}
+use Rattle.schemars_types.specs.declared.contract.Contract.TheVariants.{Deserialize, Serialize}
+use Rattle.schemars_types.specs.Meaning.{least_of, greatest_of, is_required}
 use Rattle.schemars_types.specs.Effective.{flattened_fields, effective, flattened_in, part_enums, spread_payload, spread_variant, spread_in}
 use Rattle.schemars_types.specs.KeyOptions.{KeyOptions, keys, or_any_text, all_options, key_options, each_once, once}
 use Rattle.schemars_documents.specs.Documents.{int_keywords, is_signed, required_names, bytes_document}

@@ -12,7 +12,7 @@ use Rattle.schemars_flatten.proofs.Schemas.{flattened_part-schema, opened_inside
 use Rattle.schemars_shapes.specs.Shape.{Entry}
 use Rattle.schemars_types.specs.Rows.{Row, entry_at}
 use Rattle.schemars_documents.specs.Documents.{reference}
-use Rattle.schemars_types.specs.Meaning.{Contract}
+use Rattle.schemars_types.specs.declared.contract.Contract.{Contract}
 use Rattle.schemars_documents.specs.PlainTable.{IsPlainEntry, IsPlainTable, IsEntryUnder, IsPlainUnder}
 use Rattle.schemars_documents.specs.Basis.{Basis}
 use Rattle.schemars_documents.specs.Template.{Ask, filled}

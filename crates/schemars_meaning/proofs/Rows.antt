@@ -10,7 +10,8 @@ use Rattle.schemars_shapes.specs.Shape.{Shape, Field, Flattened, Fields, Payload
 use Rattle.schemars_shapes.specs.Shape.{struct_payload, internal, numbers_of, flattened_numbers, flattened_rows, fields_numbers}
 use Rattle.schemars_shapes.specs.Shape.{payload_numbers, payload_flattened, variant_numbers, of_variants}
 use Rattle.schemars_shapes.specs.Units.{is_bare_unit}
-use Rattle.schemars_types.specs.Meaning.{Contract, is_required}
+use Rattle.schemars_types.specs.declared.contract.Contract.{Contract}
+use Rattle.schemars_types.specs.Meaning.{is_required}
 use Rattle.schemars_types.specs.KeyOptions.{KeyOptions, keys, key_options}
 use Rattle.schemars_documents.specs.Documents.{required_names}
 use Rattle.schemars_documents.specs.Basis.{Basis}

@@ -19,7 +19,8 @@ use Rattle.schemars_types.specs.Rows.{Row, entry_at}
 use Rattle.schemars_types.specs.KeyOptions.{key_options}
 use Rattle.schemars_types.specs.Effective.{row_fields, flattened_in, shape_fields, part_enums, enums_within, shape_enums}
 use Rattle.schemars_types.specs.Effective.{spread_payload, spread_variant, spread_in}
-use Rattle.schemars_types.specs.Meaning.{Contract, Choice, has_payload, has_shape, belongs_within, choices_within}
+use Rattle.schemars_types.specs.declared.contract.Contract.{Contract}
+use Rattle.schemars_types.specs.Meaning.{Choice, has_payload, has_shape, belongs_within, choices_within}
 use Rattle.schemars_documents.specs.PlainTable.{IsPlainPayload, ArePlainVariants, IsTagged, AreTagged, IsPlainShape, IsPlainUnder}
 use Rattle.schemars_documents.specs.PlainTable.{ArePartsUnder, parts_in, payload_parts, variant_parts}
 use Rattle.schemars_documents.specs.Basis.{Basis}

@@ -3,7 +3,7 @@ use Rattle.std.proofs.Common.{◌≡◌, ℕ, List, [], ◌∷◌, Bool, true, f
 use Rattle.serde_json.specs.Data.{Data, Members}
 use Rattle.schemars_shapes.specs.Shape.{Field, Flattened}
 use Rattle.schemars_types.specs.Rows.{Row}
-use Rattle.schemars_types.specs.Meaning.{Contract}
+use Rattle.schemars_types.specs.declared.contract.Contract.{Contract}
 use Rattle.schemars_documents.specs.Documents.{Keyword, required_names, annotated}
 use Rattle.schemars_documents.specs.PlainTable.{IsPlainPart}
 use Rattle.schemars_documents.specs.Template.{Ask, part, members_of}

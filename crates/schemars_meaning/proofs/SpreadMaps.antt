@@ -16,7 +16,9 @@ use Rattle.schemars_builders.specs.Properties.{internally_tagged_variant}
 use Rattle.schemars_flatten.specs.Flatten.{flattened}
 use Rattle.schemars_shapes.specs.Shape.{Field, Flattened, Fields}
 use Rattle.schemars_types.specs.Rows.{Row}
-use Rattle.schemars_types.specs.Meaning.{Contract, Deserialize, Serialize, is_required}
+use Rattle.schemars_types.specs.declared.contract.Contract.{Contract}
+use Rattle.schemars_types.specs.declared.contract.Contract.TheVariants.{Deserialize, Serialize}
+use Rattle.schemars_types.specs.Meaning.{is_required}
 use Rattle.schemars_types.specs.Effective.{flattened_fields, effective, flattened_in}
 use Rattle.schemars_documents.specs.Documents.{Keyword, required_names, annotated}
 use Rattle.schemars_documents.specs.PlainTable.{IsNoName, AreDistinct, AreNoted, IsPlainPart, ArePlainParts}

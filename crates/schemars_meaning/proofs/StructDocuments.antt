@@ -21,7 +21,8 @@ use Rattle.schemars_flatten.specs.Parts.{flattened_part, units_of, unit_objects,
 use Rattle.schemars_flatten.specs.Parts.{list_changed_at, units_as_objects}
 use Rattle.schemars_flatten.specs.Parts.{with_units, with_empty_object, choice_or_anything, optional, one_or_anything}
 use Rattle.schemars_shapes.specs.Shape.{Field}
-use Rattle.schemars_types.specs.Meaning.{Contract, every_member, member_fits, has_required, holds, is_required}
+use Rattle.schemars_types.specs.declared.contract.Contract.{Contract}
+use Rattle.schemars_types.specs.Meaning.{every_member, member_fits, has_required, holds, is_required}
 use Rattle.schemars_documents.specs.PlainTable.{AreDistinct, AreNoted}
 use Rattle.schemars_documents.specs.Documents.{Keyword, annotated, required_names}
 use Rattle.schemars_types.specs.Meaning.{Choice, every_part, claims, shut, has_fields}

@@ -8,7 +8,8 @@ use Rattle.schemars_schema.specs.Acceptance.{Context, Judge, judge}
 use Rattle.schemars_builders.specs.NullLaw.{text_items}
 use Rattle.schemars_flatten.specs.Flatten.{flattened}
 use Rattle.schemars_shapes.specs.Shape.{Field, Flattened, Fields}
-use Rattle.schemars_types.specs.Meaning.{Contract, is_required}
+use Rattle.schemars_types.specs.declared.contract.Contract.{Contract}
+use Rattle.schemars_types.specs.Meaning.{is_required}
 use Rattle.schemars_documents.specs.Documents.{Keyword, annotated, required_names}
 use Rattle.schemars_documents.specs.Template.{Ask, part, members_of, Template, asked, with_keywords, asks_of, asks_in, filled, filled_in}
 use Rattle.schemars_documents.specs.Template.{first, keyed}

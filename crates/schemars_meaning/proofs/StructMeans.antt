@@ -18,7 +18,8 @@ use Rattle.schemars_schema.proofs.Verdicts.{both-yes, both-verdict}
 use Rattle.schemars_schema.proofs.Objects.{says}
 use Rattle.schemars_schema.proofs.Literals.{judge-put_members}
 use Rattle.schemars_shapes.specs.Shape.{Field}
-use Rattle.schemars_types.specs.Meaning.{Contract, field_named, member_fits, every_member, has_required, holds}
+use Rattle.schemars_types.specs.declared.contract.Contract.{Contract}
+use Rattle.schemars_types.specs.Meaning.{field_named, member_fits, every_member, has_required, holds}
 use Rattle.schemars_documents.specs.Documents.{Keyword, annotated}
 use Rattle.schemars_meaning.proofs.Verdicts.{both-swap, both-assoc, both-middle}
 use Rattle.schemars_meaning.proofs.Notes.{annotated_fits}

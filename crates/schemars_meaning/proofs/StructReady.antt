@@ -11,7 +11,8 @@ use Rattle.schemars_builders.specs.AllowNull.{is_text, is_combined, is_null_choi
 use Rattle.schemars_builders.specs.NullLaw.{IsChoice, HasTypeForm, IsPlain}
 use Rattle.schemars_builders.proofs.Nulls.{IsReady}
 use Rattle.schemars_shapes.specs.Shape.{Field}
-use Rattle.schemars_types.specs.Meaning.{Contract, Choice}
+use Rattle.schemars_types.specs.declared.contract.Contract.{Contract}
+use Rattle.schemars_types.specs.Meaning.{Choice}
 use Rattle.schemars_documents.specs.Documents.{Keyword, required_names}
 use Rattle.schemars_meaning.proofs.Spread.{field_keywords}
 use Rattle.schemars_meaning.proofs.StructForm.{Parts, struct_keywords, all_there, one_there}

@@ -7,7 +7,8 @@ use Rattle.schemars_schema.specs.SchemaData.{IsSchema}
 use Rattle.schemars_schema.specs.Acceptance.{Patterns, Judge, Context, judge}
 use Rattle.schemars_builders.specs.NullLaw.{context2020_12}
 use Rattle.schemars_shapes.specs.Shape.{Field}
-use Rattle.schemars_types.specs.Meaning.{Contract, has_fields}
+use Rattle.schemars_types.specs.declared.contract.Contract.{Contract}
+use Rattle.schemars_types.specs.Meaning.{has_fields}
 use Rattle.schemars_documents.specs.PlainTable.{AreDistinct, AreNoted}
 use Rattle.schemars_documents.specs.Documents.{required_names}
 use Rattle.schemars_meaning.proofs.MapKeywords.{keywords}

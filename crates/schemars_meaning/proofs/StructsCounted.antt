@@ -18,7 +18,8 @@ use Rattle.schemars_shapes.specs.Shape.{struct_payload}
 use Rattle.schemars_types.specs.Rows.{Row, entry_at}
 use Rattle.schemars_types.specs.Effective.{effective, row_fields, flattened_in, shape_fields, flattened_enums, part_enums, enums_within}
 use Rattle.schemars_types.specs.Effective.{shape_enums, enum_at, spread_payload, spread_in}
-use Rattle.schemars_types.specs.Meaning.{Contract, Choice, is_required, offers, has_payload, belongs_within, choices_within}
+use Rattle.schemars_types.specs.declared.contract.Contract.{Contract}
+use Rattle.schemars_types.specs.Meaning.{Choice, is_required, offers, has_payload, belongs_within, choices_within}
 use Rattle.schemars_flatten.proofs.Schemas.{flattened-schema}
 use Rattle.schemars_documents.specs.PlainTable.{IsPlainPayload, IsPlainUnder, IsPartUnder, ArePartsUnder, payload_parts}
 use Rattle.schemars_documents.specs.Basis.{Basis}

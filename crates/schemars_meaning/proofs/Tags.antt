@@ -19,7 +19,9 @@ use Rattle.schemars_builders.specs.Variants.{unit_variant}
 use Rattle.schemars_builders.specs.Properties.{with_property, required_first, tagged, has_null_type, closed_where, with_member, with_first}
 use Rattle.schemars_builders.specs.Properties.{internally_tagged_variant}
 use Rattle.schemars_shapes.specs.Shape.{Field, needed}
-use Rattle.schemars_types.specs.Meaning.{Contract, Deserialize, Serialize, is_text, holds, every_member, member_fits, tagged_fits}
+use Rattle.schemars_types.specs.declared.contract.Contract.{Contract}
+use Rattle.schemars_types.specs.declared.contract.Contract.TheVariants.{Deserialize, Serialize}
+use Rattle.schemars_types.specs.Meaning.{is_text, holds, every_member, member_fits, tagged_fits}
 use Rattle.schemars_types.specs.Meaning.{has_required, is_required, field_named}
 use Rattle.schemars_documents.specs.PlainTable.{IsNoName, AreDistinct, AreNoted}
 use Rattle.schemars_documents.specs.Documents.{Keyword, annotated, required_names, type_alone}

@@ -24,7 +24,8 @@ use Rattle.schemars_flatten.specs.Opening.{opened, has_type}
 use Rattle.schemars_flatten.specs.Parts.{unit_object, unit_object_first, unit_objects, units_of, items_changed, with_items, with_units}
 use Rattle.schemars_flatten.specs.Parts.{first_as_objects, list_changed_at, units_as_objects, flattened_part}
 use Rattle.schemars_shapes.specs.Shape.{Field, Payload, Variant, no_payload}
-use Rattle.schemars_types.specs.Meaning.{Contract, exactly_one, none}
+use Rattle.schemars_types.specs.declared.contract.Contract.{Contract}
+use Rattle.schemars_types.specs.Meaning.{exactly_one, none}
 use Rattle.schemars_documents.specs.Documents.{Keyword, annotated, typed}
 use Rattle.schemars_types.specs.Meaning.{Choice, every_part, claimed_by, claims, member_choice}
 use Rattle.schemars_meaning.proofs.SortedMembers.{IsSorted, sorted-put, sorted-replaced, sorted-without}

@@ -12,7 +12,8 @@ use Rattle.schemars_shapes.specs.Shape as shape
 use Rattle.schemars_shapes.specs.Shape.{Shape, Field, Flattened, Required, Fields, Variant, no_payload, newtype_payload, struct_payload}
 use Rattle.schemars_shapes.specs.Shape.{in_place, needed}
 use Rattle.schemars_types.specs.Rows.{Row}
-use Rattle.schemars_types.specs.Meaning.{Contract, Deserialize, Serialize}
+use Rattle.schemars_types.specs.declared.contract.Contract.{Contract}
+use Rattle.schemars_types.specs.declared.contract.Contract.TheVariants.{Deserialize, Serialize}
 use Rattle.schemars_documents.specs.Documents.{type_alone}
 use Rattle.schemars_walk.specs.Rewritten.{forms}
 use Rattle.schemars_flatten.specs.Parts.{flattened_part}

@@ -6,7 +6,7 @@ use Rattle.serde_json.specs.View.{items_of}
 use Rattle.schemars_schema.specs.Json.{Text, json_eq, is_among}
 use Rattle.schemars_schema.specs.SchemaData.{members_in, inserted, object_of}
 use Rattle.schemars_builders.specs.AllowNull.{allow_null}
-use Rattle.schemars_types.specs.Meaning.{Serialize}
+use Rattle.schemars_types.specs.declared.contract.Contract.TheVariants.{Serialize}
 use Rattle.schemars_documents.specs.Documents.{type_alone, char_document, bytes_document, typed, count_at, with_meta_schema}
 use Rattle.schemars_sample.specs.Example.{Example, truth, whole, character, text, bytes, no_value, some_value}
 use Rattle.schemars_sample.specs.Example.{unit_struct, unit_variant, newtype_struct, newtype_variant, seq, tuple}

@@ -5,7 +5,7 @@ ghost use Rattle.serde_json.specs.View.{view, items_view};
 ghost use Rattle.schemars_schema.specs.Json.{is_among, json_eq};
 ghost use Rattle.schemars_schema.specs.SchemaData.{inserted};
 ghost use Rattle.schemars_builders.specs.AllowNull.{allow_null};
-ghost use Rattle.schemars_types.specs.Meaning.{Serialize};
+ghost use Rattle.schemars_types.specs.declared.contract.Contract.TheVariants.{Serialize};
 ghost use Rattle.schemars_documents.specs.Documents.{type_alone, bytes_document};
 ghost use Rattle.schemars_sample.specs.Accepted.{AcceptsExample};
 ghost use Rattle.schemars_sample.specs.Example.{example_of, examples_view, entries_view};
@@ -16,11 +16,10 @@ ghost use Rattle.schemars_sample.specs.SampleSchema.{one_beside, is_everything, 
 use crate::json::json_of;
 use crate::sample::Sample;
 use schemars_builders::allow_null;
-use schemars_documents::Contract;
 use schemars_documents::documents::{bytes_document, char_document, type_alone};
 use schemars_documents::integers::int_document;
 use schemars_schema::{Schema, json_eq};
-use schemars_types::IntKind;
+use schemars_types::{Contract, IntKind};
 use serde_json::{Map, Value};
 use std::alloc::{AllocError, Global};
 

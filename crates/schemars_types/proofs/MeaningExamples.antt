@@ -10,7 +10,9 @@ use Rattle.schemars_shapes.specs.Shape as shape
 use Rattle.schemars_shapes.specs.Shape.{Shape, Field, Fields, Variant, no_payload, newtype_payload, struct_payload, in_place, bare_fields, needed}
 use Rattle.schemars_types.specs.Rows.{Row}
 use Rattle.schemars_types.specs.Effective.{fields_within, enums_within}
-use Rattle.schemars_types.specs.Meaning.{Contract, Deserialize, Serialize, belongs, belongs_within}
+use Rattle.schemars_types.specs.declared.contract.Contract.{Contract}
+use Rattle.schemars_types.specs.declared.contract.Contract.TheVariants.{Deserialize, Serialize}
+use Rattle.schemars_types.specs.Meaning.{belongs, belongs_within}
 
 -- row 0 has the bytes, and row 1 this shape
 table : Shape → List Row

@@ -1,3 +1,4 @@
+pub mod Contracts
 pub mod Walks
 pub mod Search
 pub mod Rows

@@ -22,11 +22,8 @@ use Rattle.schemars_types.specs.Effective.{spread_in}
 use Rattle.schemars_shapes.specs.declared.shape.IntKind.{IntKind}
 use Rattle.schemars_shapes.specs.declared.shape.IntKind.TheVariants.{U8}
 use Rattle.schemars_shapes.specs.IntKind.{facts_of}
-
--- whether the values are those that are read or those that are written
-pub data Contract : Type 0 where
-  Deserialize : Contract
-  Serialize : Contract
+use Rattle.schemars_types.specs.declared.contract.Contract.{Contract}
+use Rattle.schemars_types.specs.declared.contract.Contract.TheVariants.{Deserialize, Serialize}
 
 abbrev pub least_of : IntKind → Option ℤ
 least_of kind = (facts_of kind).least

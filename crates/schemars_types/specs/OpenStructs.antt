@@ -9,7 +9,8 @@ use Rattle.schemars_shapes.specs.Shape.{Payload, Variant, no_payload, newtype_pa
 use Rattle.schemars_types.specs.KeyOptions.{key_options}
 use Rattle.schemars_types.specs.Rows.{Row, entry_at}
 use Rattle.schemars_types.specs.Effective.{effective, shape_fields}
-use Rattle.schemars_types.specs.Meaning.{Contract, Choice, has_shape}
+use Rattle.schemars_types.specs.declared.contract.Contract.{Contract}
+use Rattle.schemars_types.specs.Meaning.{Choice, has_shape}
 
 -- ---- shapes with the flattened fields among their own, into which nothing is flattened
 

@@ -3,10 +3,12 @@
 
 mod check;
 mod constructors;
+mod contract;
 mod error;
 mod keys;
 mod table;
 
+pub use contract::Contract;
 pub use error::TypesError;
 pub use keys::key_options;
 pub use keys::options::KeyOptions;

@@ -4,14 +4,12 @@ ghost use Rattle.serde_json.specs.Data.{array};
 ghost use Rattle.serde_json.specs.View.{items_view};
 ghost use Rattle.schemars_shapes.specs.Shape.{payload_of, variant_of};
 ghost use Rattle.schemars_builders.specs.NullLaw.{text_items};
-ghost use Rattle.schemars_documents.specs.ContractOf.{contract_of};
 ghost use Rattle.schemars_documents.specs.Template.{noted};
 ghost use Rattle.schemars_documents.specs.View.{template_view};
 ghost use Rattle.schemars_documents.specs.OfShape.{object_with, typed, said, payload_template, named_template};
 ghost use Rattle.schemars_documents.specs.OfShape.{bare_units, other_items, external_template};
 ghost use Rattle.schemars_documents.specs.OfShape.{payload_item, untagged_template, titled};
 
-use crate::contract::Contract;
 use crate::documents::type_alone;
 use crate::shape::lists::tuple_template;
 use crate::shape::maps::{member_template, struct_template, typed};
@@ -20,7 +18,7 @@ use crate::template::nodes::{any_of, finished, object_with, one_of, row};
 use schemars_builders::new_unit_enum_variant;
 use schemars_schema::Schema;
 use schemars_shapes::is_bare_unit;
-use schemars_types::{Payload, Variant};
+use schemars_types::{Contract, Payload, Variant};
 use serde_json::Value;
 use std::alloc::{AllocError, Global};
 
@@ -31,7 +29,7 @@ pub fn external_template<'t>(
     variants: &'t [Variant],
 ) -> Result<Template<'t>, AllocError>
     ensures { IfOk result (λ t. template_view t
-        ≡ external_template (contract_of contract) (map variant_of variants.now)) }
+        ≡ external_template contract (map variant_of variants.now)) }
 {
     let names = bare_units(alloc, variants)?;
     let others = other_items(alloc, contract, variants)?;
@@ -57,7 +55,7 @@ pub fn untagged_template<'t>(
     variants: &'t [Variant],
 ) -> Result<Template<'t>, AllocError>
     ensures { IfOk result (λ t. template_view t
-        ≡ untagged_template (contract_of contract) titles (map variant_of variants.now)) }
+        ≡ untagged_template contract titles (map variant_of variants.now)) }
 {
     if variants.is_empty() {
         return finished(Schema::from(false));
@@ -86,7 +84,7 @@ fn other_items<'t>(
     variants: &'t [Variant],
 ) -> Result<Vec<Template<'t>>, AllocError>
     ensures { IfOk result (λ v. map template_view v.items
-        ≡ other_items (contract_of contract) (map variant_of variants.now)) }
+        ≡ other_items contract (map variant_of variants.now)) }
 {
     let mut items = Vec::new(alloc);
     for variant in variants {
@@ -104,7 +102,7 @@ fn other_item<'t>(
     variant: &'t Variant,
 ) -> Result<Template<'t>, AllocError>
     ensures { IfOk result (λ t. template_view t ≡ noted (variant_of variant.now).notes
-        (named_template (contract_of contract) (variant_of variant.now).name (variant_of variant.now).payload)) }
+        (named_template contract (variant_of variant.now).name (variant_of variant.now).payload)) }
 {
     let item = named_template(alloc, contract, variant.name.as_str(), &variant.payload)?;
     noted(alloc, variant, item)
@@ -149,7 +147,7 @@ fn named_template<'t>(
     name: &'t str,
     payload: &'t Payload,
 ) -> Result<Template<'t>, AllocError>
-    ensures { IfOk result (λ t. template_view t ≡ named_template (contract_of contract) name.now (payload_of payload.now)) }
+    ensures { IfOk result (λ t. template_view t ≡ named_template contract name.now (payload_of payload.now)) }
 {
     if let Payload::Unit = payload {
         return finished(new_unit_enum_variant(alloc, name)?);
@@ -166,7 +164,7 @@ fn payload_items<'t>(
     variants: &'t [Variant],
 ) -> Result<Vec<Template<'t>>, AllocError>
     ensures { IfOk result (λ v. map template_view v.items
-        ≡ map (payload_item (contract_of contract) titles) (map variant_of variants.now)) }
+        ≡ map (payload_item contract titles) (map variant_of variants.now)) }
 {
     let mut items = Vec::new(alloc);
     for variant in variants {
@@ -183,7 +181,7 @@ fn payload_item<'t>(
     variant: &'t Variant,
 ) -> Result<Template<'t>, AllocError>
     ensures { IfOk result (λ t. template_view t
-        ≡ payload_item (contract_of contract) titles (variant_of variant.now)) }
+        ≡ payload_item contract titles (variant_of variant.now)) }
 {
     let payload = payload_template(alloc, contract, &variant.payload)?;
     let item = titled(alloc, titles, variant.name.as_str(), payload)?;
@@ -211,7 +209,7 @@ fn payload_template<'t>(
     contract: Contract,
     payload: &'t Payload,
 ) -> Result<Template<'t>, AllocError>
-    ensures { IfOk result (λ t. template_view t ≡ payload_template (contract_of contract) (payload_of payload.now)) }
+    ensures { IfOk result (λ t. template_view t ≡ payload_template contract (payload_of payload.now)) }
 {
     match payload {
         Payload::Unit => finished(type_alone(alloc, "null")?),

@@ -2,17 +2,15 @@
 ghost use Rattle.std.specs.Prelude.{◌≡◌, ◌∷◌, ◌++◌, [], map, IfOk, OnOk};
 ghost use Rattle.serde_json.specs.View.{items_view};
 ghost use Rattle.schemars_shapes.specs.Shape.{field_of, flattened_of, fields_of};
-ghost use Rattle.schemars_documents.specs.ContractOf.{contract_of};
 ghost use Rattle.schemars_documents.specs.View.{template_view, keyword_view};
 ghost use Rattle.schemars_documents.specs.OfShape.{typed, property, properties_at, required_at, closed_at};
 ghost use Rattle.schemars_documents.specs.OfShape.{map_template, fields_template, with_flattened, struct_template};
 ghost use Rattle.schemars_documents.specs.OfShape.{member_template, range_template};
 
-use crate::contract::Contract;
 use crate::documents::{is_required, required_names};
 use crate::template::nodes::{object_with, row, text};
 use crate::template::{Ask, Template};
-use schemars_types::{Field, Fields, Flattened, TypeNo};
+use schemars_types::{Contract, Field, Fields, Flattened, TypeNo};
 use serde_json::Value;
 use std::alloc::{AllocError, Global};
 
@@ -95,7 +93,7 @@ pub fn struct_template<'t>(
     fields: &'t Fields,
 ) -> Result<Template<'t>, AllocError>
     ensures { IfOk result (λ t. template_view t
-        ≡ struct_template (contract_of contract) (fields_of fields.now)) }
+        ≡ struct_template contract (fields_of fields.now)) }
 {
     let own = fields_template(alloc, contract, &fields.list, fields.closed)?;
     with_flattened(alloc, contract, own, &fields.flatten)
@@ -108,7 +106,7 @@ fn fields_template<'t>(
     closed: bool,
 ) -> Result<Template<'t>, AllocError>
     ensures { IfOk result (λ t. template_view t
-        ≡ fields_template (contract_of contract) (map field_of list.now) closed) }
+        ≡ fields_template contract (map field_of list.now) closed) }
 {
     let properties = properties(alloc, list)?;
     let required = required_names(alloc, contract, list)?;
@@ -123,7 +121,7 @@ fn with_flattened<'t>(
     flatten: &[Flattened],
 ) -> Result<Template<'t>, AllocError>
     ensures { IfOk result (λ t. template_view t
-        ≡ with_flattened (contract_of contract) (map flattened_of flatten.now) (template_view own.entry)) }
+        ≡ with_flattened contract (map flattened_of flatten.now) (template_view own.entry)) }
 {
     let mut template = own;
     for part in flatten {

@@ -1,17 +1,15 @@
 //! The templates of enums whose variants are named by a member of their own maps.
 ghost use Rattle.std.specs.Prelude.{◌≡◌, map, IfOk};
 ghost use Rattle.schemars_shapes.specs.Shape.{internal_payload_of, internal_variant_of, internal_view};
-ghost use Rattle.schemars_documents.specs.ContractOf.{contract_of};
 ghost use Rattle.schemars_documents.specs.View.{template_view};
 ghost use Rattle.schemars_documents.specs.OfShape.{content_template, internal_item, internal_template};
 
-use crate::contract::Contract;
 use crate::documents::type_alone;
 use crate::shape::maps::struct_template;
 use crate::template::nodes::{finished, one_of};
 use crate::template::{Ask, Template};
 use schemars_schema::Schema;
-use schemars_types::{Internal, InternalPayload, InternalVariant};
+use schemars_types::{Contract, Internal, InternalPayload, InternalVariant};
 use std::alloc::{AllocError, Global};
 
 /// Just one of the variants' maps.
@@ -20,7 +18,7 @@ pub fn internal_template<'t>(
     contract: Contract,
     internal: &'t Internal,
 ) -> Result<Template<'t>, AllocError>
-    ensures { IfOk result (λ t. template_view t ≡ internal_template (contract_of contract)
+    ensures { IfOk result (λ t. template_view t ≡ internal_template contract
         (internal_view internal.now).0 (internal_view internal.now).1 (internal_view internal.now).2) }
 {
     if internal.variants.is_empty() {
@@ -40,7 +38,7 @@ fn internal_items<'t>(
     variants: &'t [InternalVariant],
 ) -> Result<Vec<Template<'t>>, AllocError>
     ensures { IfOk result (λ v. map template_view v.items
-        ≡ map (internal_item (contract_of contract) tag.now closed) (map internal_variant_of variants.now)) }
+        ≡ map (internal_item contract tag.now closed) (map internal_variant_of variants.now)) }
 {
     let mut items = Vec::new(alloc);
     for variant in variants {
@@ -58,7 +56,7 @@ fn internal_item<'t>(
     variant: &'t InternalVariant,
 ) -> Result<Template<'t>, AllocError>
     ensures { IfOk result (λ t. template_view t
-        ≡ internal_item (contract_of contract) tag.now closed (internal_variant_of variant.now)) }
+        ≡ internal_item contract tag.now closed (internal_variant_of variant.now)) }
 {
     let content = content_template(alloc, contract, &variant.payload)?;
     let name = variant.name.as_str();
@@ -73,7 +71,7 @@ fn content_template<'t>(
     payload: &'t InternalPayload,
 ) -> Result<Template<'t>, AllocError>
     ensures { IfOk result (λ t. template_view t
-        ≡ content_template (contract_of contract) (internal_payload_of payload.now)) }
+        ≡ content_template contract (internal_payload_of payload.now)) }
 {
     match payload {
         InternalPayload::Unit => finished(type_alone(alloc, "null")?),

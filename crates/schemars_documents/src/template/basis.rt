@@ -1,7 +1,6 @@
 //! What documents are made from.
 
-use crate::contract::Contract;
-use schemars_types::Types;
+use schemars_types::{Contract, Types};
 
 /// A table, and how the documents of its rows are made.
 #[derive(Clone, Copy)]

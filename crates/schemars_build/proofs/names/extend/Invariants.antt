@@ -1,5 +1,5 @@
 use Rattle.std.proofs.Common.{◌≡◌, ◌-◌, ℕ, suc, length}
-use Rattle.schemars_documents.specs.declared.contract.Contract.{Contract}
+use Rattle.schemars_types.specs.declared.contract.Contract.{Contract}
 use Rattle.schemars_build.specs.Owners.{place_of}
 use Rattle.schemars_build.proofs.names.extend.Given as goal
 

@@ -3,7 +3,7 @@ use Rattle.std.specs.Map.{lookup}
 use Rattle.std.specs.Str.{bytes_eq}
 use Rattle.std.proofs.lemmas.List.{take_all, length-take-le}
 use Rattle.std.proofs.lemmas.Option.{none-some}
-use Rattle.schemars_documents.specs.declared.contract.Contract.{Contract}
+use Rattle.schemars_types.specs.declared.contract.Contract.{Contract}
 use Rattle.schemars_build.specs.Owners.{naming_of, place_of}
 use Rattle.schemars_build.proofs.NamingLemmas.{naming_of-take, length-naming_of}
 use Rattle.schemars_build.proofs.PlacedLemmas.{placed_same, placed_take}

@@ -1,7 +1,6 @@
 use Rattle.std.proofs.Common.{◌≡◌, true, false, length, map, ap, subst, ◌∙◌, ◌∷◌, sym, arith, IfOk}
 use Rattle.std.specs.Prelude.{◌==◌}
 use Rattle.schemars_shapes.specs.Shape.{variant_of}
-use Rattle.schemars_documents.specs.ContractOf.{contract_of}
 use Rattle.schemars_documents.specs.View.{template_view}
 use Rattle.schemars_documents.specs.OfShape.{bare_units, one_of, choice_of, external_template}
 use Rattle.schemars_documents.proofs.Units.{units_alone, units_lead, seen}
@@ -30,7 +29,7 @@ returns c =
     let more : (length (map template_view others.items) == 0) ≡ false =
     seen others.items ∙ (sym (c.is_empty-2.ensures ∙ ap (λ n. n == 0) (omega (arith, others.ok.0))) ∙ c.if-is_empty-3.false) in
     let all : one_of (map template_view c.in_ok-items.items.items)
-    ≡ external_template (contract_of c.args.contract) (map variant_of c.args.variants.now) =
+    ≡ external_template c.args.contract (map variant_of c.args.variants.now) =
     ap one_of (c.in_ok-items.ensures ∙ ap (λ u. u ∷ map template_view others.items) c.in_ok-units.ensures)
     ∙ (units_lead units names.items (map template_view others.items) some c.in_ok-names.ensures more
     ∙ ap (choice_of units) c.in_ok-others.ensures) in

@@ -3,7 +3,6 @@ use Rattle.std.proofs.Common.{◌≡◌, ◌∷◌, ◌++◌, ◌+◌, ◌∙◌
 use Rattle.std.proofs.lemmas.List.{at_drop_more, map-append}
 use Rattle.std.specs.Prelude.{if◌then◌else◌}
 use Rattle.schemars_shapes.specs.Shape.{variant_of}
-use Rattle.schemars_documents.specs.ContractOf.{contract_of}
 use Rattle.schemars_documents.specs.Template.{noted}
 use Rattle.schemars_documents.specs.View.{template_view}
 use Rattle.schemars_documents.specs.OfShape.{named_template, other_items}
@@ -12,7 +11,7 @@ use Rattle.schemars_documents.proofs.shape.enums.other_items.Goals as goal
 
 pub loop-variant-preserved : goal.loop-variant-preserved
 loop-variant-preserved c =
-    let contract = contract_of c.args.contract in
+    let contract = c.args.contract in
     let variants = c.args.variants.now in
     let i = c.loop-variant.variant-index in
     let x = variant_of c.variant-item.result in

@@ -1,12 +1,11 @@
 -- The items so far, and those of the variants that are left.
 use Rattle.std.proofs.Common.{◌≡◌, ◌++◌, map, drop}
 use Rattle.schemars_shapes.specs.Shape.{variant_of}
-use Rattle.schemars_documents.specs.ContractOf.{contract_of}
 use Rattle.schemars_documents.specs.View.{template_view}
 use Rattle.schemars_documents.specs.OfShape.{other_items}
 use Rattle.schemars_documents.proofs.shape.enums.other_items.Given as goal
 
 abbrev pub invariant-loop-variant : goal.invariant-loop-variant
 invariant-loop-variant l =
-    map template_view l.items.items ++ other_items (contract_of l.contract) (map variant_of (drop l.variant-index l.variants))
-    ≡ other_items (contract_of l.contract) (map variant_of l.variants)
+    map template_view l.items.items ++ other_items l.contract (map variant_of (drop l.variant-index l.variants))
+    ≡ other_items l.contract (map variant_of l.variants)

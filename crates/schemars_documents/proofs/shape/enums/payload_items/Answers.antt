@@ -1,5 +1,4 @@
 use Rattle.schemars_shapes.specs.Shape.{variant_of}
-use Rattle.schemars_documents.specs.ContractOf.{contract_of}
 use Rattle.schemars_documents.specs.View.{template_view}
 use Rattle.schemars_documents.specs.OfShape.{payload_item}
 use Rattle.schemars_documents.proofs.Items.{one_more}
@@ -7,6 +6,6 @@ use Rattle.schemars_documents.proofs.shape.enums.payload_items.Goals as goal
 
 pub loop-variant-preserved : goal.loop-variant-preserved
 loop-variant-preserved c =
-    one_more template_view (payload_item (contract_of c.args.contract) c.args.titles) variant_of
+    one_more template_view (payload_item c.args.contract c.args.titles) variant_of
     c.loop-variant.items.items c.push.new.self.items _ c.variant-item.result c.args.variants.now c.loop-variant.variant-index
     c.loop-variant-test.true c.variant-item.is c.in_ok-push.ensures.items c.in_ok-item.ensures c.loop-variant.invariant

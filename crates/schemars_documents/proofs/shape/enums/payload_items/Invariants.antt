@@ -1,7 +1,6 @@
 -- The items so far, and those of the variants that are left.
 use Rattle.std.proofs.Common.{◌≡◌, ◌++◌, map, drop}
 use Rattle.schemars_shapes.specs.Shape.{variant_of}
-use Rattle.schemars_documents.specs.ContractOf.{contract_of}
 use Rattle.schemars_documents.specs.View.{template_view}
 use Rattle.schemars_documents.specs.OfShape.{payload_item}
 use Rattle.schemars_documents.proofs.shape.enums.payload_items.Given as goal
@@ -9,5 +8,5 @@ use Rattle.schemars_documents.proofs.shape.enums.payload_items.Given as goal
 abbrev pub invariant-loop-variant : goal.invariant-loop-variant
 invariant-loop-variant l =
     map template_view l.items.items
-    ++ map (payload_item (contract_of l.contract) l.titles) (map variant_of (drop l.variant-index l.variants))
-    ≡ map (payload_item (contract_of l.contract) l.titles) (map variant_of l.variants)
+    ++ map (payload_item l.contract l.titles) (map variant_of (drop l.variant-index l.variants))
+    ≡ map (payload_item l.contract l.titles) (map variant_of l.variants)

@@ -2,8 +2,7 @@ use Rattle.std.proofs.Common.{◌≡◌, Bool, false, List, [], ◌∷◌, lengt
 use Rattle.std.specs.Prelude.{◌==◌}
 use Rattle.schemars_shapes.specs.Shape.{variant_of}
 use Rattle.schemars_shapes.specs.declared.variant.Variant.{Variant}
-use Rattle.schemars_types.specs.Meaning.{Contract}
-use Rattle.schemars_documents.specs.ContractOf.{contract_of}
+use Rattle.schemars_types.specs.declared.contract.Contract.{Contract}
 use Rattle.schemars_documents.specs.View.{template_view}
 use Rattle.schemars_documents.specs.OfShape.{any_of, payload_item, untagged_template}
 use Rattle.schemars_documents.proofs.shape.enums.untagged_template.Goals as goal
@@ -17,5 +16,5 @@ pub returns : goal.returns
 returns c =
     let variants = c.args.variants.now in
     let all = ap any_of c.in_ok-items.ensures
-    ∙ one_at_least (contract_of c.args.contract) c.args.titles variants (sym c.is_empty.ensures ∙ c.if-is_empty.false) in
+    ∙ one_at_least c.args.contract c.args.titles variants (sym c.is_empty.ensures ∙ c.if-is_empty.false) in
     subst (λ u. IfOk c.any_of.result (λ t. template_view t ≡ u)) all c.any_of.ensures

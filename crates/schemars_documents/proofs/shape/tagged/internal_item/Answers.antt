@@ -4,7 +4,6 @@ use Rattle.serde_json.specs.View.{members_view}
 use Rattle.serde_json.specs.declared.value.Value.{Value}
 use Rattle.schemars_schema.specs.Json.{Text}
 use Rattle.schemars_shapes.specs.Shape.{internal_variant_of}
-use Rattle.schemars_documents.specs.ContractOf.{contract_of}
 use Rattle.schemars_documents.specs.Template.{noted, tagged}
 use Rattle.schemars_documents.specs.OfShape.{content_template}
 use Rattle.schemars_documents.specs.View.{template_view}
@@ -23,7 +22,7 @@ pub returns : goal.returns
 returns c =
     let tag = c.args.tag in
     let x = internal_variant_of c.args.variant.now in
-    let content = content_template (contract_of c.args.contract) x.payload in
+    let content = content_template c.args.contract x.payload in
     let beside = ap template_view c.in_ok-new-2.ensures.ok ∙ seen_tagged tag c.as_str-name.result c.args.closed c.in_ok-new.field-0 in
     let inside = ap template_view c.in_ok-new.ensures.ok ∙ c.in_ok-content.ensures in
     let said = ap (tagged tag.now c.as_str-name.result.now c.args.closed) inside in
