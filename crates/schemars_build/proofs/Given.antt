@@ -7,7 +7,7 @@ use Rattle.schemars_schema.specs.Json.{Text}
 use Rattle.schemars_types.specs.Rows.{Row}
 use Rattle.schemars_types.specs.declared.contract.Contract.{Contract}
 use Rattle.schemars_types.specs.declared.contract.Contract.TheVariants.{Deserialize, Serialize}
-use Rattle.schemars_types.specs.Contracts.{is_same_contract}
+use Rattle.schemars_types.specs.SameContract.{is_same_contract}
 use Rattle.schemars_build.specs.Naming.{Named, Naming, is_of, name_of}
 use Rattle.schemars_build.specs.Work.{IsGiven, AreGiven, GivesNames}
 

@@ -21,7 +21,7 @@ use Rattle.schemars_types.specs.declared.contract.Contract.{Contract}
 use Rattle.schemars_types.specs.declared.contract.Contract.TheVariants.{Deserialize, Serialize}
 use Rattle.schemars_build.specs.declared.names.Owner.{Owner}
 use Rattle.schemars_build.specs.contracts.names.OwnerPartialEq.TheImpl as owner_eq
-use Rattle.schemars_types.specs.Contracts.{is_same_contract}
+use Rattle.schemars_types.specs.SameContract.{is_same_contract}
 use Rattle.schemars_build.specs.Naming.{Named, Naming, is_of, name_of, is_used, candidate, IsOneToOne}
 use Rattle.schemars_build.specs.Owners.{named, naming_of}
 

@@ -5,7 +5,7 @@ use Rattle.std.specs.List.{list_any}
 use Rattle.std.specs.Fmt.{decimal}
 use Rattle.schemars_schema.specs.Json.{Text}
 use Rattle.schemars_types.specs.declared.contract.Contract.{Contract}
-use Rattle.schemars_types.specs.Contracts.{is_same_contract}
+use Rattle.schemars_types.specs.SameContract.{is_same_contract}
 
 pub record Named : Type 0 where
   pub row : ℕ

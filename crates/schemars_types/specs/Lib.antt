@@ -1,4 +1,4 @@
-pub mod Contracts
+pub mod SameContract
 pub mod Walks
 pub mod Search
 pub mod Rows

@@ -1,5 +1,5 @@
 ghost use Rattle.std.specs.Prelude.{◌≡◌};
-ghost use Rattle.schemars_types.specs.Contracts.{is_same_contract};
+ghost use Rattle.schemars_types.specs.SameContract.{is_same_contract};
 
 /// Which values a document is about: a type may be written in another form than it is read.
 #[derive(Clone, Copy, PartialEq, Eq, PartialOrd, Ord, Hash, Debug)]
