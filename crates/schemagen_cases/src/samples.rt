@@ -1,15 +1,16 @@
 //! What generators answer for examples of every kind.
 //!
-//! An example is an object of one member: its key is the kind, and behind a space the name, if the kind
-//! has one; its value is the content, and null where there is none. Entries are a list of objects.
+//! An example is an object of one member: its key is the kind, and behind a space the name, if the
+//! kind has one; its value is the content, and null where there is none. Entries are a list of
+//! objects.
 use crate::calls::error::NoAnswer;
 use schemars::sample::Sample;
 use schemars::{GenerateError, Schema, SchemaGenerator, SchemaSettings, schema_for_value};
 use serde_json::{Map, Value};
 use std::alloc::Global;
 
-/// The root document of the example that a value describes: by a generator for this dialect that is kept or used up,
-/// or by the macro.
+/// The root document of the example that a value describes: by a generator for this dialect that is
+/// kept or used up, or by the macro.
 pub fn answer(alloc: Global, call: &str, dialect: &str, value: &Value) -> Result<String, NoAnswer> {
     let sample = sample_in(alloc, value)?;
     let settings = settings_of(alloc, dialect)?;

@@ -41,8 +41,9 @@ impl<T: Drop> From<AllocFailed<T>> for SampleError {
     }
 }
 
-/// The example that a JSON value is: null is a unit, a list a sequence, an object a map whose entries are given one by one.
-/// Where the value has only 64-bit whole numbers, and its keys in order, each once, the JSON of the example is that value again.
+/// The example that a JSON value is: null is a unit, a list a sequence, an object a map whose
+/// entries are given one by one. Where the value has only 64-bit whole numbers, and its keys in
+/// order, each once, the JSON of the example is that value again.
 ///
 /// Refusals: `NotWhole` where a number in it is no 64-bit whole number, and want of memory.
 #[cycle(sample)]

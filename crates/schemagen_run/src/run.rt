@@ -38,18 +38,19 @@ use schemars_types::{TypeNo, Types};
 use serde_json::{Map, Value};
 use std::alloc::{AllocError, Global};
 
-/// Reads a table of types from the source, and writes the root document of its root to the sink; or reads an example, and
-/// writes the root document of a schema that is made from it. The document is in ordered text, with a newline at its end.
-/// For a table and OpenAPI it writes the definitions that the root leads to, as one object.
+/// Reads a table of types from the source, and writes the root document of its root to the sink; or
+/// reads an example, and writes the root document of a schema that is made from it. The document is
+/// in ordered text, with a newline at its end. For a table and OpenAPI it writes the definitions
+/// that the root leads to, as one object.
 ///
 /// The words are those after the program's name: `types`, a dialect, and, in either order,
-/// `--inline` where rows are to be written in place and `--serialize` where the document is to be for
-/// the values that are written; or `sample` and a dialect. The dialects are `2020-12`, `2019-09`, `draft-07` and
-/// `openapi3`. Other words are refused first, with
-/// nothing read. Then a run is refused where the source fails, where the bytes are no JSON, where
-/// the value is no table with a root, where the table has a fault, where the notes of its rows leave no
-/// place for the definitions, where a number of an example is no 64-bit whole number, and where the sink fails, in this
-/// order. It may also be refused for want of memory.
+/// `--inline` where rows are to be written in place and `--serialize` where the document is to be
+/// for the values that are written; or `sample` and a dialect. The dialects are `2020-12`,
+/// `2019-09`, `draft-07` and `openapi3`. Other words are refused first, with nothing read. Then a
+/// run is refused where the source fails, where the bytes are no JSON, where the value is no table
+/// with a root, where the table has a fault, where the notes of its rows leave no place for the
+/// definitions, where a number of an example is no 64-bit whole number, and where the sink fails,
+/// in this order. It may also be refused for want of memory.
 ///
 /// A run that is refused has written nothing, unless the sink has failed: that has taken a
 /// beginning of the text.

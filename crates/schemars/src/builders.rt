@@ -1,5 +1,5 @@
-//! Builders: rewrites of finished schemas, what rows are in the documents of others, and what is read in
-//! documentation.
+//! Builders: rewrites of finished schemas, what rows are in the documents of others, and what is
+//! read in documentation.
 pub use schemars_builders::{
     allow_null, apply_internal_enum_variant_tag, escape, get_title_and_description,
     insert_metadata_property_if_nonempty, insert_object_property, insert_validation_property,

@@ -1,7 +1,8 @@
 //! Macros for the bodies of functions.
 
 /// The root document of an example value, a `Sample`, by a generator with the default settings:
-/// `schema_for_value!(in alloc; sample)` answers what `SchemaGenerator::into_root_schema_for_value` answers.
+/// `schema_for_value!(in alloc; sample)` answers what `SchemaGenerator::into_root_schema_for_value`
+/// answers.
 #[macro_export]
 macro_rules! schema_for_value {
     (in $alloc:expr; $value:expr) => {{

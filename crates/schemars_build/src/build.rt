@@ -45,8 +45,8 @@ pub struct Plan<'t> {
     pub root: Option<TypeNo>,
 }
 
-// What a document is made for. A truth value beside the first two says whether the row was entered as
-// pending for it.
+// What a document is made for. A truth value beside the first two says whether the row was entered
+// as pending for it.
 #[derive(Drop)]
 enum Purpose {
     // as the row's own document
@@ -103,7 +103,8 @@ pub fn own_document(
     Ok(own)
 }
 
-/// What a row answers: its schema as a part, a schema of its members, or of what stands beside a tag.
+/// What a row answers: its schema as a part, a schema of its members, or of what stands beside a
+/// tag.
 pub fn answer(
     alloc: Global,
     plan: &Plan<'_>,
@@ -121,8 +122,8 @@ pub fn answer(
     Ok(answer)
 }
 
-// Makes what is asked. Documents that wait for answers stand in a list, the innermost first: each waits
-// for the one before it, and no call stands in another one for it.
+// Makes what is asked. Documents that wait for answers stand in a list, the innermost first: each
+// waits for the one before it, and no call stands in another one for it.
 fn made(
     alloc: Global,
     plan: &Plan<'_>,
@@ -148,8 +149,8 @@ fn made(
     }
 }
 
-// What goes on after a reply: the document that has to be made, or the one that waited for the answer.
-// Where none waits, the answer is what was asked first.
+// What goes on after a reply: the document that has to be made, or the one that waited for the
+// answer. Where none waits, the answer is what was asked first.
 fn taken<'t>(
     waiting: &mut VecDeque<Document<'t>>,
     reply: Reply<'t>,
@@ -282,8 +283,8 @@ fn own<'t>(
     Ok(document)
 }
 
-// Row `n` as a part: a reference to its definition or to the root, or the document that is to stand in
-// its place or in its definition.
+// Row `n` as a part: a reference to its definition or to the root, or the document that is to stand
+// in its place or in its definition.
 fn part<'t>(
     alloc: Global,
     plan: &Plan<'t>,

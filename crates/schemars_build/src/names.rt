@@ -157,7 +157,8 @@ impl Names {
         unreachable!()
     }
 
-    // Notes that this many of the first candidates of `base` are used, where there is memory for it.
+    // Notes that this many of the first candidates of `base` are used, where there is memory for
+    // it.
     fn note(&mut self, alloc: Global, base: &str, count: usize)
         requires { AreUsed self.old base.now count }
         ensures { self.new ≡ self.old }
@@ -212,8 +213,8 @@ impl Names {
     }
 }
 
-// Notes a count, where there is memory for it. That of a base with one name is left out: it would spare
-// one look-up for the second, and most bases have one.
+// Notes a count, where there is memory for it. That of a base with one name is left out: it would
+// spare one look-up for the second, and most bases have one.
 fn note(tried: &mut HashMap<String, usize>, alloc: Global, base: &str, count: usize)
     ensures { IsNoted tried.old base.now count tried.new }
 {

@@ -182,8 +182,8 @@ impl Work {
         self.pending.contains(n)
     }
 
-    /// Notes, where rows are inlined, that the document of row `n` is being made. The answer is whether
-    /// it was not noted before.
+    /// Notes, where rows are inlined, that the document of row `n` is being made. The answer is
+    /// whether it was not noted before.
     pub fn enter(&mut self, inlines: bool, n: TypeNo) -> Result<bool, AllocError>
         ensures is_new { IfOk result (λ b. b ≡ inlines && not (is_pending self.old.pending n)) }
         ensures ok { OnOk result (self.new ≡ record self.old { pending = pending_in inlines self.old.pending n }) }

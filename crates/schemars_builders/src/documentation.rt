@@ -3,11 +3,11 @@ ghost use Rattle.std.specs.Prelude.{◌≡◌};
 ghost use Rattle.schemars_builders.specs.Documentation.{trimmed, without_marks};
 ghost use Rattle.schemars_builders.specs.Documentation.{title_in, description_in};
 
-/// The title and the description in a documentation text.
+/// Splits a documentation text into a title and a description.
 ///
-/// ASCII white space at the ends of the text and of both parts is left out. Where a text begins
-/// with `#`, its first line without the leading `#`s is the title, and the rest the description.
-/// Any other text is a description, and its title is empty.
+/// If the text begins with `#`, its first line without the leading `#`s is the title, and the rest
+/// the description. Any other text is a description, and its title is empty. ASCII white space at
+/// the ends of the text and of both parts is removed.
 pub fn get_title_and_description(doc: &str) -> (&str, &str)
     ensures title { result.0.now ≡ title_in doc.now }
     ensures description { result.1.now ≡ description_in doc.now }

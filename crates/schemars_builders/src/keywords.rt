@@ -14,10 +14,13 @@ use schemars_schema::Schema;
 use serde_json::Value;
 use std::alloc::{AllocError, Global};
 
-/// Puts a text into a schema, in place of any value at the key, unless the text is empty.
+/// Sets a keyword to a text, unless the text is empty.
 ///
-/// A truth value becomes an object first, as under `ensure_object`. Where memory runs out, the
-/// schema stays as it was.
+/// A truth value becomes an object first, as by `ensure_object`.
+///
+/// # Errors
+///
+/// `AllocError` if memory runs out; the schema is then unchanged.
 pub fn insert_metadata_property_if_nonempty(
     alloc: Global,
     schema: &mut Schema,
@@ -34,10 +37,12 @@ pub fn insert_metadata_property_if_nonempty(
     set_keyword(alloc, schema, key, text)
 }
 
-/// Puts a value into the schema of values of this type, in place of any value at the key.
+/// Sets a keyword if the schema's `type` is this type or a list with it. For `number`, the type
+/// `integer` will do as well. Any other schema is unchanged.
 ///
-/// The schema's `type` has to be this type, or a list with it. For `number` it may be `integer` as
-/// well. Any other schema stays as it was, and so does each one where memory runs out.
+/// # Errors
+///
+/// `AllocError` if memory runs out; the schema is then unchanged.
 pub fn insert_validation_property(
     alloc: Global,
     schema: &mut Schema,
@@ -55,9 +60,11 @@ pub fn insert_validation_property(
     set_keyword(alloc, schema, key, value)
 }
 
-/// Makes this text, escaped, the `pattern` of the schema of texts, in place of any pattern.
+/// Sets the `pattern` of a schema of texts to this text, escaped. Any other schema is unchanged.
 ///
-/// Any other schema stays as it was, and so does each one where memory runs out.
+/// # Errors
+///
+/// `AllocError` if memory runs out; the schema is then unchanged.
 pub fn must_contain(alloc: Global, schema: &mut Schema, text: &str) -> Result<(), AllocError>
     ensures ok { OnOk result (schema.new ≡ with_validation (codes "string") (codes "pattern")
         (string (escaped text.now)) schema.old) }

@@ -20,13 +20,13 @@ use serde_json::{Map, Value};
 use std::alloc::{AllocError, Global};
 use std::mem;
 
-/// Lets a schema accept null too.
+/// Makes a schema accept null too.
 ///
-/// `true` stays, and `false` becomes the schema of null. So does an object with `anyOf` alone stay, one
-/// of whose schemas is that of null. Another object that combines schemas, refers to one, or has a
-/// `not` that refuses everything becomes `anyOf` of itself and the schema of null. Any other object
-/// gets `null` at the end of its `type`, and null at the end of its `enum`; a `const` other than null
-/// becomes an `enum` of its value and null.
+/// `true` is unchanged, and so is an object with only `anyOf`, one of whose schemas is the schema
+/// of null. `false` becomes the schema of null. An object that combines schemas, has a `$ref`, or
+/// has a `not` that refuses everything becomes `anyOf` of itself and the schema of null. Any other
+/// object gets `null` at the end of its `type`, and null at the end of its `enum`; a `const` other
+/// than null becomes an `enum` of its value and null.
 pub fn allow_null(alloc: Global, schema: &mut Schema) -> Result<(), AllocError>
     ensures becomes { OnOk result (schema.new ≡ allow_null schema.old) }
     ensures law { OnOk result ((dialect : Dialect) → IsDraft dialect

@@ -5,10 +5,8 @@ ghost use Rattle.schemars_builders.specs.Pattern.{is_special, escaped, unescaped
 
 use std::alloc::{AllocError, Global};
 
-/// The text with a backslash before each character that stands for something else in a regular
+/// Returns the text with a backslash before each character that has a meaning in a regular
 /// expression: `\ . + * ? ( ) | [ ] { } ^ $ # & - ~`.
-///
-/// Without these backslashes it is the text again, where each takes the next character as it is.
 pub fn escape(alloc: Global, text: &str) -> Result<String, AllocError>
     ensures escaped { IfOk result (λ pattern. string_bytes pattern ≡ escaped text.now) }
     ensures law { IfOk result (λ pattern. unescaped (string_bytes pattern) ≡ text.now) }

@@ -14,14 +14,14 @@ use schemars_schema::Schema;
 use serde_json::{Map, Value};
 use std::alloc::{AllocError, Global};
 
-/// Makes the schema of an enum's variant that of objects with a tag: a key that has to be there, with
-/// the variant's name under it.
+/// Adds the tag of an internally tagged enum to the schema of a variant: a required member with the
+/// variant's name.
 ///
-/// A truth value becomes an object first, as under `ensure_object`. The `type` becomes `object`. The
-/// schema of the variant's name goes into `properties`, in place of any under the tag, and the tag to
-/// the front of `required`, also where it stands there already. The two are made where they are
-/// missing, and stay where they are no object and no list. Where the `type` was `null` and unknown
-/// fields are denied, `additionalProperties` becomes false unless it is there.
+/// A truth value becomes an object first, as by `ensure_object`. The `type` becomes `object`. The
+/// schema of the name is set under the tag in `properties`, and the tag is added to the front of
+/// `required`, even if it is there already. The two are created if they are missing, and unchanged
+/// if they are not an object and not a list. If the `type` was `null` and unknown fields are
+/// denied, `additionalProperties` becomes false unless it is there.
 pub fn apply_internal_enum_variant_tag(
     alloc: Global,
     schema: &mut Schema,
@@ -38,12 +38,12 @@ pub fn apply_internal_enum_variant_tag(
     close_where(alloc, members, is_closed)
 }
 
-/// Puts a property into the schema of an object.
+/// Adds a property to the schema of an object.
 ///
-/// A truth value becomes an object first, as under `ensure_object`. The property's schema goes into
-/// `properties`, in place of any under the key, and unless it is optional the key goes to the end of
-/// `required`, also where it stands there already. The two are made where they are missing, and stay
-/// where they are no object and no list.
+/// A truth value becomes an object first, as by `ensure_object`. The property's schema is set under
+/// the key in `properties`, and unless it is optional the key is added to the end of `required`,
+/// even if it is there already. The two are created if they are missing, and unchanged if they are
+/// not an object and not a list.
 pub fn insert_object_property(
     alloc: Global,
     schema: &mut Schema,

@@ -6,7 +6,7 @@ use schemars_schema::Schema;
 use serde_json::{Map, Value};
 use std::alloc::{AllocError, Global};
 
-/// The schema of an enum's unit variant: its name as a text, and nothing else.
+/// Returns the schema of a unit variant: a text that is its name.
 pub fn new_unit_enum_variant(alloc: Global, variant: &str) -> Result<Schema, AllocError>
     ensures { IfOk result (λ s. s ≡ unit_variant variant.now) }
 {
@@ -18,8 +18,8 @@ pub fn new_unit_enum_variant(alloc: Global, variant: &str) -> Result<Schema, All
     Ok(Schema::from(members))
 }
 
-/// The schema of an enum's variant that is tagged by its name: an object with the name as its one
-/// key, and this schema for what stands there.
+/// Returns the schema of an externally tagged variant: an object with the name as its only key, and
+/// this schema for its value.
 pub fn new_externally_tagged_enum_variant(
     alloc: Global,
     variant: &str,

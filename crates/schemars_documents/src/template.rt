@@ -53,7 +53,8 @@ pub enum Template<'t> {
     Titled(&'t str, Box<Template<'t>>),
     /// A schema with the keywords of another put in.
     WithKeywords(Box<Template<'t>>, Box<Template<'t>>),
-    /// A schema of maps with a variant's name under the tag; of null's, other keys are excluded if so.
+    /// A schema of maps with a variant's name under the tag; of null's, other keys are excluded if
+    /// so.
     Tagged(&'t str, &'t str, bool, Box<Template<'t>>),
 }
 

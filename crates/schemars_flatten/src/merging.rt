@@ -11,17 +11,17 @@ use schemars_schema::Schema;
 use serde_json::{Map, Value};
 use std::alloc::{AllocError, Global};
 
-/// Puts the keywords of another schema into a schema, as a flattened field needs it.
+/// Merges the keywords of another schema into a schema, as for a flattened field.
 ///
-/// `false` puts nothing in. `true` lets further members of the object in, unless the schema is a
-/// truth value or speaks of them. Where the other is an object, a truth value becomes one first, as
-/// under `ensure_object`. Then `additionalProperties` of each side becomes `unevaluatedProperties`
-/// where the other side has that keyword or applies schemas to the same value. Keywords that are
-/// missing are taken; `required` and `allOf` are joined; `properties` and `patternProperties` are
-/// merged, and the other's stays under a name of both; a second `oneOf` or `anyOf` goes with the
-/// first into `allOf`; of other keywords the schema's own stays. Where what would be joined or
-/// merged is no list or no object, the schema's own stays too, and of two choices beside an `allOf`
-/// that is no list neither does.
+/// `false` adds nothing. `true` allows further members of the object, unless the schema is a truth
+/// value or has a keyword for them. If the other schema is an object, a truth value becomes one
+/// first, as by `ensure_object`. Then `additionalProperties` of each side becomes
+/// `unevaluatedProperties` if the other side has that keyword or applies schemas to the same value.
+/// Missing keywords are added; `required` and `allOf` are concatenated; `properties` and
+/// `patternProperties` are merged, and the other's value is kept under a common name; a second
+/// `oneOf` or `anyOf` is moved with the first into `allOf`; of other keywords the schema's own
+/// value is kept. If values to concatenate or merge are not lists or objects, the schema's own
+/// value is kept too, and two choices beside an `allOf` that is not a list are both dropped.
 pub fn flatten(alloc: Global, schema: &mut Schema, other: Schema) -> Result<(), AllocError>
     ensures becomes { OnOk result (schema.new ≡ flattened schema.old other) }
     ensures law { OnOk result (AreJoinable schema.old other

@@ -15,12 +15,15 @@ use schemars_schema::Schema;
 use schemars_types::TypeNo;
 use std::alloc::Global;
 
-/// A schema of the members of row `n`, as they are flattened into the map of a struct, with the
-/// definitions that this leads to: the document of the row inside the Options around it, which lets
-/// further members in. The members of an Option may be missing, unless `required`. No transform is
-/// applied.
+/// Generates the schema of row `n` as a flattened field: its document without the Options around
+/// it, which allows further members.
 ///
-/// Refusals: `UnknownType(n)` where the table has no row `n`, and want of memory.
+/// The members of an Option are optional unless `required`. Definitions that the schema needs are
+/// added. No transform is applied. On an error the generator is unchanged.
+///
+/// # Errors
+///
+/// `UnknownType(n)` if the table has no row `n`; `OutOfMemory`.
 pub fn json_schema_for_flatten<O>(
     alloc: Global,
     generator: &mut SchemaGenerator<O>,
@@ -48,12 +51,16 @@ pub fn json_schema_for_flatten<O>(
     generator.contents.members_of(alloc, &settings, n, required)
 }
 
-/// The schema of row `n` where its members stand beside the tag of an internally tagged enum, with the
-/// definitions that this leads to: the row's own document in place, whose inner schemas let the tag in,
-/// where a reference would not do, and elsewhere as by `SchemaGenerator::subschema_for_type`. No
-/// transform is applied.
+/// Generates the schema of row `n` as the content of a newtype variant beside the tag of an
+/// internally tagged enum.
 ///
-/// Refusals: `UnknownType(n)` where the table has no row `n`, and want of memory.
+/// It is the row's document in place, whose inner schemas allow the tag, if a reference would not
+/// do, and otherwise what `SchemaGenerator::subschema_for_type` returns. Definitions that the
+/// schema needs are added. No transform is applied. On an error the generator is unchanged.
+///
+/// # Errors
+///
+/// `UnknownType(n)` if the table has no row `n`; `OutOfMemory`.
 pub fn json_schema_for_internally_tagged_enum_newtype_variant<O>(
     alloc: Global,
     generator: &mut SchemaGenerator<O>,

@@ -211,9 +211,9 @@ impl Contents {
         self.answer(alloc, settings, Ask::Part(n))
     }
 
-    /// A schema of the members of row `n`, as they stand in the map of a struct: the document of the row
-    /// inside the Options around it, as it is flattened, with the definitions that this leads to. The
-    /// members of an Option may be missing, unless `required`.
+    /// A schema of the members of row `n`, as they stand in the map of a struct: the document of
+    /// the row inside the Options around it, as it is flattened, with the definitions that this
+    /// leads to. The members of an Option may be missing, unless `required`.
     ///
     /// Refusals: `UnknownType(n)` where the table has no row `n`, and want of memory.
     pub fn members_of(
@@ -243,8 +243,9 @@ impl Contents {
         self.answer(alloc, settings, Ask::MembersOf(n, required))
     }
 
-    /// The schema of what stands beside a tag, for row `n`: the row's own document, opened inside, where
-    /// it has to stand in place, and elsewhere the row as a part, with the definitions that this leads to.
+    /// The schema of what stands beside a tag, for row `n`: the row's own document, opened inside,
+    /// where it has to stand in place, and elsewhere the row as a part, with the definitions that
+    /// this leads to.
     ///
     /// Refusals: `UnknownType(n)` where the table has no row `n`, and want of memory.
     pub fn content(
@@ -359,8 +360,8 @@ impl Contents {
 
     /// The root document of an example, with the definitions, through the transforms.
     ///
-    /// Refusals: `DefinitionsPath` where there are definitions that can't be placed at the path, those of the transforms,
-    /// and want of memory.
+    /// Refusals: `DefinitionsPath` where there are definitions that can't be placed at the path,
+    /// those of the transforms, and want of memory.
     pub fn sample_root<T: Transform>(
         &self,
         alloc: Global,

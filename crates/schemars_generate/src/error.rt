@@ -4,16 +4,16 @@ use schemars_walk::TransformError;
 use std::alloc::AllocError;
 use thiserror::Error;
 
-/// Why a call of a generator is refused.
+/// An error of a generator.
 #[derive(Debug, Drop, Error)]
 pub enum GenerateError {
-    /// Memory ran out.
+    /// Out of memory.
     #[error("OutOfMemory")]
     OutOfMemory,
-    /// This row of the table was reserved and never defined.
+    /// This row was reserved but never defined.
     #[error("UndefinedType")]
     UndefinedType(usize),
-    /// This row's list of fields has this name twice.
+    /// This row has two fields, or two variants, of this name.
     #[error("RepeatedName")]
     RepeatedName(usize, String),
     /// This row is on a cycle of rows that are written in place.
@@ -22,22 +22,22 @@ pub enum GenerateError {
     /// This row is on a cycle of rows that have the values of the next.
     #[error("EmptyCycle")]
     EmptyCycle(usize),
-    /// Another entry stands in this row.
+    /// This row has another entry already.
     #[error("AlreadyDefined")]
     AlreadyDefined(usize),
-    /// The table's first rows are not those of the generator's.
+    /// The table does not begin with the rows of the generator's table.
     #[error("NotAnExtension")]
     NotAnExtension,
     /// The table has no row of this number.
     #[error("UnknownType")]
     UnknownType(usize),
-    /// There are definitions, and they can't be placed at the path.
+    /// There are definitions, and they cannot be placed at the path.
     #[error("DefinitionsPath")]
     DefinitionsPath,
-    /// A transform refused, not for want of memory.
+    /// A transform failed for another reason than memory.
     #[error("Transform")]
     Transform(TransformError),
-    /// There is no copy where a transform of one's own is held.
+    /// User-defined transforms cannot be copied.
     #[error("OwnTransform")]
     OwnTransform,
 }
@@ -46,7 +46,7 @@ impl GenerateError {
     ghost use Rattle.std.specs.Prelude.{◌≡◌};
     ghost use Rattle.schemars_generate.specs.Refusals.{code_of};
 
-    /// The number that callers in other languages know the refusal by.
+    /// Returns the number of the error, for callers in other languages.
     pub fn code(&self) -> u32
         ensures { result ≡ code_of self.now }
     {

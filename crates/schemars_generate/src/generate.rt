@@ -39,12 +39,21 @@ use serde_json::{Map, Value};
 use std::alloc::Global;
 use std::mem;
 
-/// Makes the documents of a table's rows, which refer to one another by definitions.
+/// Generates JSON Schema documents for the rows of a table of types.
 ///
-/// A row that is not written in place is referred to by its name, under which its document is one
-/// of the definitions. Inline rows are written in place; where the settings inline subschemas, so are
-/// all others, but for those whose document is being made. The first row of a name has the name itself,
-/// and further ones have it with 2, 3 and so on behind it. Names stay for as long as the generator.
+/// A row is written in place if and only if it is marked inline, or `inline_subschemas` is set and
+/// its document is not being made already. Any other row is a definition under its name, and is
+/// referred to by a `$ref`. The first row of a name gets the name itself, further rows get the
+/// name followed by 2, 3 and so on. A generator never changes the name of a row.
+///
+/// ```
+/// let mut types = Types::new(alloc);
+/// let byte = types.int(alloc, IntKind::U8)?;
+/// let option = types.option(alloc, byte)?;
+/// let settings = SchemaSettings::draft2020_12(alloc);
+/// let generator = SchemaGenerator::with_types(alloc, settings, types)?;
+/// let schema = generator.into_root_schema_for_type(alloc, option)?;
+/// ```
 #[derive(Drop)]
 pub struct SchemaGenerator<O = NoTransform> {
     pub(crate) settings: SchemaSettings<O>,
@@ -52,7 +61,7 @@ pub struct SchemaGenerator<O = NoTransform> {
 }
 
 impl SchemaGenerator {
-    /// A generator of JSON Schema 2020-12, over an empty table.
+    /// Returns a generator with the settings of JSON Schema 2020-12 and an empty table.
     pub fn default(alloc: Global) -> SchemaGenerator
         ensures state { state result ≡ record {
           settings = settings2020_12;
@@ -67,7 +76,7 @@ impl SchemaGenerator {
 }
 
 impl<O> SchemaGenerator<O> {
-    /// A generator over an empty table.
+    /// Returns a generator with an empty table.
     pub fn new(alloc: Global, settings: SchemaSettings<O>) -> SchemaGenerator<O>
         ensures settings { result.settings ≡ settings }
         ensures contents { result.contents ≡ record { rows = []; names = []; definitions = no_members } }
@@ -78,7 +87,7 @@ impl<O> SchemaGenerator<O> {
         }
     }
 
-    /// As `new`.
+    /// Returns a generator with an empty table, as `new` does.
     pub fn from(alloc: Global, settings: SchemaSettings<O>) -> SchemaGenerator<O>
         ensures settings { result.settings ≡ settings }
         ensures contents { result.contents ≡ record { rows = []; names = []; definitions = no_members } }
@@ -88,9 +97,11 @@ impl<O> SchemaGenerator<O> {
 }
 
 impl<O: Drop> SchemaGenerator<O> {
-    /// A generator over this table.
+    /// Returns a generator for the rows of this table.
     ///
-    /// Refusals: those of the table's `check`, and want of memory.
+    /// # Errors
+    ///
+    /// The errors of `Types::check`, and `OutOfMemory`.
     pub fn with_types(
         alloc: Global,
         settings: SchemaSettings<O>,
@@ -107,8 +118,11 @@ impl<O: Drop> SchemaGenerator<O> {
         Ok(SchemaGenerator { settings, contents })
     }
 
-    /// A generator that holds the same, with the same settings. Where these hold a transform of one's own
-    /// it is refused with `OwnTransform`, whatever memory there is.
+    /// Returns a copy of the generator, with its settings, table, names and definitions.
+    ///
+    /// # Errors
+    ///
+    /// `OwnTransform` if and only if the settings have a user-defined transform; `OutOfMemory`.
     pub fn try_clone(&self, alloc: Global) -> Result<SchemaGenerator<O>, GenerateError>
         ensures copied { IfOk result (λ g. AreSettingsCopied self.now.settings g.settings) }
         ensures same { IfOk result (λ g. g.contents ≡ self.now.contents) }
@@ -121,10 +135,14 @@ impl<O: Drop> SchemaGenerator<O> {
 }
 
 impl<O> SchemaGenerator<O> {
-    /// Takes a table whose first rows are those of the present one in its place.
+    /// Replaces the table by a longer one that begins with the same rows.
     ///
-    /// Refusals: `NotAnExtension` where they are not, those of the table's `check`, and want of
-    /// memory. Entries are compared as by `Types::define`.
+    /// Entries are compared as by `Types::define`. On an error the generator is unchanged.
+    ///
+    /// # Errors
+    ///
+    /// `NotAnExtension` if the table does not begin with the rows of the present one, the errors of
+    /// `Types::check`, and `OutOfMemory`.
     pub fn add_types(&mut self, alloc: Global, types: Types) -> Result<(), GenerateError>
         ensures ok { OnOk result (state self.new ≡ record (state self.old) { rows = types }) }
         ensures extends { OnOk result (begins_with types self.old.contents.rows ≡ true) }
@@ -143,35 +161,35 @@ impl<O> SchemaGenerator<O> {
         self.contents.add_types(alloc, types)
     }
 
-    /// The settings.
+    /// Returns the settings.
     pub fn settings(&self) -> &SchemaSettings<O>
         ensures { result.now ≡ self.now.settings }
     {
         &self.settings
     }
 
-    /// Whose values the documents are for.
+    /// Returns the contract: whether documents describe the values that are read or written.
     pub fn contract(&self) -> Contract
         ensures { result ≡ (state self.now).settings.contract }
     {
         self.settings.contract
     }
 
-    /// The table.
+    /// Returns the table.
     pub fn types(&self) -> &Types
         ensures { result.now ≡ (state self.now).rows }
     {
         self.contents.types()
     }
 
-    /// The transforms that finished documents go through, for writing.
+    /// Borrows the transforms that are applied to finished documents.
     pub fn transforms_mut(&mut self) -> &mut [GenTransform<O>]
         ensures { result.now ≡ self.old.settings.transforms.items }
     {
         self.settings.transforms.as_mut_slice()
     }
 
-    /// The definitions that subschemas refer to.
+    /// Returns the definitions to which subschemas refer, by name.
     pub fn definitions(&self) -> &Map<String, Value>
         ensures definitions { members_view result.now.entries ≡ (state self.now).definitions }
         ensures one_to_one { IsOneToOne (state self.now).names }
@@ -179,8 +197,8 @@ impl<O> SchemaGenerator<O> {
         self.contents.definitions()
     }
 
-    /// The definitions, for writing. What a call promises of the documents that refer to definitions
-    /// holds for those that the generator made.
+    /// Borrows the definitions mutably. Documents are promised to mean their types only as long as
+    /// the caller leaves the definitions as they were generated.
     pub fn definitions_mut(&mut self) -> &mut Map<String, Value>
         ensures* writes_back { sem 𝓛 (LendsDefinitions O.row self.entry result) }
         ensures value { members_view result.now.entries ≡ (state self.old).definitions }
@@ -188,11 +206,16 @@ impl<O> SchemaGenerator<O> {
         self.contents.definitions_mut()
     }
 
-    /// The schema of row `n` as a part of a document that holds the definitions: the row's document
-    /// in place, or the `$ref` of its name, with the definitions that this leads to. No transform is
-    /// applied.
+    /// Generates the schema of row `n` for use inside a document that holds the definitions: the
+    /// row's document if the row is written in place, and otherwise a `$ref` to its definition.
     ///
-    /// Refusals: `UnknownType(n)` where the table has no row `n`, and want of memory.
+    /// Definitions that the schema needs are added. No transform is applied. In every document in
+    /// which the definitions are found at the path of the settings, the schema accepts exactly the
+    /// JSON values that belong to the row. On an error the generator is unchanged.
+    ///
+    /// # Errors
+    ///
+    /// `UnknownType(n)` if the table has no row `n`; `OutOfMemory`.
     pub fn subschema_for_type(&mut self, alloc: Global, n: TypeNo) -> Result<Schema, GenerateError>
         ensures means { IfOk result (λ s. HasOwnDefinitions (state self.old) → SubschemaHeadline (state self.new) n s) }
         ensures part { IfOk result (IsPartOf (state self.new) n) }
@@ -219,11 +242,17 @@ impl<O> SchemaGenerator<O> {
 }
 
 impl<O: Transform + Drop> SchemaGenerator<O> {
-    /// Takes the definitions, so that there are none: as they are, or each through the transforms, in map
-    /// order, where what is no schema stays as it is. Names stay. Through the transforms of OpenAPI, and
-    /// under `components.schemas`, each accepts exactly the JSON values that belong to the row of its name.
+    /// Removes and returns all definitions. Assigned names are kept.
     ///
-    /// Refusals, with transforms: theirs, and want of memory.
+    /// With `apply_transforms`, each definition is transformed first, in key order; a definition
+    /// that is not a schema is returned unchanged. With the transforms of OpenAPI and under
+    /// `components.schemas`, each definition accepts exactly the JSON values that belong to its
+    /// row. On an error the generator is unchanged, apart from the state of user-defined
+    /// transforms.
+    ///
+    /// # Errors
+    ///
+    /// With `apply_transforms`, the errors of the transforms, and `OutOfMemory`. None without.
     pub fn take_definitions(
         &mut self,
         alloc: Global,
@@ -259,12 +288,19 @@ impl<O: Transform + Drop> SchemaGenerator<O> {
             .take_transformed(alloc, &mut self.settings.transforms)
     }
 
-    /// The root document of row `n`, through the transforms. Before them it accepts exactly the JSON values
-    /// that belong to the row; so it does after those of Draft 7 and of 2019-09, under that draft, with the
-    /// definitions at its path.
+    /// Generates the root document of row `n`, with `$schema`, a title and the definitions, and
+    /// applies the transforms.
     ///
-    /// Refusals: `UnknownType(n)` where the table has no row `n`, `DefinitionsPath` where there are
-    /// definitions that can't be placed at the path, those of the transforms, and want of memory.
+    /// With the settings of 2020-12, 2019-09 or Draft 7, the document of a plain table accepts,
+    /// under that draft, exactly the JSON values that belong to the row, and each of its references
+    /// resolves. On an error the generator is unchanged, apart from the state of user-defined
+    /// transforms.
+    ///
+    /// # Errors
+    ///
+    /// `UnknownType(n)` if the table has no row `n`; `DefinitionsPath` if the document needs
+    /// definitions and they cannot be placed at the path; the errors of the transforms;
+    /// `OutOfMemory`.
     pub fn root_schema_for_type(
         &mut self,
         alloc: Global,
@@ -303,7 +339,8 @@ impl<O: Transform + Drop> SchemaGenerator<O> {
         answer
     }
 
-    /// As `root_schema_for_type`, with the generator used up.
+    /// Generates the root document of row `n` as `root_schema_for_type` does, and consumes the
+    /// generator.
     pub fn into_root_schema_for_type(
         self,
         alloc: Global,

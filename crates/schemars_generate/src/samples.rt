@@ -22,13 +22,17 @@ use std::alloc::Global;
 use std::mem;
 
 impl<O: Transform + Drop> SchemaGenerator<O> {
-    /// The root document of an example, with the definitions, through the transforms: a schema that is made from the values
-    /// in it. Before the transforms it accepts the example, where the definitions stand at the path of a draft; so it does
-    /// after those of Draft 7 and of 2019-09, under that draft, with the definitions of a plain table at its path. The example
-    /// itself stands under `examples`, unless a whole number in it is not from -2^63 to 2^64 - 1.
+    /// Generates a root document from an example value, with the definitions, and applies the
+    /// transforms.
     ///
-    /// Refusals: `DefinitionsPath` where there are definitions that can't be placed at the path, those of the transforms,
-    /// and want of memory.
+    /// The schema is made from the values in the example, and accepts the example. The example
+    /// itself is written under `examples`, unless it has a whole number outside of -2^63 to 2^64 -
+    /// 1. On an error the generator is unchanged, apart from the state of user-defined transforms.
+    ///
+    /// # Errors
+    ///
+    /// `DefinitionsPath` if there are definitions and they cannot be placed at the path; the errors
+    /// of the transforms; `OutOfMemory`.
     pub fn root_schema_for_value(
         &mut self,
         alloc: Global,
@@ -64,7 +68,7 @@ impl<O: Transform + Drop> SchemaGenerator<O> {
         answer
     }
 
-    /// As `root_schema_for_value`, with the generator used up.
+    /// Generates a root document as `root_schema_for_value` does, and consumes the generator.
     pub fn into_root_schema_for_value(
         self,
         alloc: Global,

@@ -22,29 +22,32 @@ use schemars_types::Contract;
 use std::alloc::{AllocError, Global};
 use std::borrow::CowStr;
 
-/// How documents are made.
+/// The settings of a generator.
 ///
-/// The transforms are built-in ones, or of the caller's own type `O`.
+/// `O` is the type of user-defined transforms; built-in ones need none.
 #[derive(Drop)]
 pub struct SchemaSettings<O = NoTransform> {
-    /// A JSON Pointer to where the definitions stand.
+    /// A JSON Pointer to the definitions in a root document, such as `/$defs`.
     pub definitions_path: CowStr<'static>,
-    /// What a root document says of itself under `$schema`.
+    /// The value of `$schema` in root documents, if any.
     pub meta_schema: Option<CowStr<'static>>,
-    /// What changes finished documents, in order.
+    /// The transforms that are applied to finished documents, in order.
     pub transforms: Vec<GenTransform<O>>,
-    /// Whether each row is written in place, but for one inside its own document.
+    /// Whether rows are written in place, except inside their own documents.
     pub inline_subschemas: bool,
-    /// Whose values the documents are for.
+    /// Whether documents describe the values that are read or those that are written.
     pub contract: Contract,
-    /// Whether the variants of an untagged enum have their names as titles.
+    /// Whether the variants of an untagged enum get their names as titles.
     pub untagged_enum_variant_titles: bool,
 }
 
 impl SchemaSettings {
-    /// The settings of JSON Schema Draft 7.
+    /// Returns the settings of JSON Schema Draft 7: definitions at `/definitions`, and three
+    /// transforms.
     ///
-    /// Refusal: want of memory.
+    /// # Errors
+    ///
+    /// `AllocError` if memory runs out.
     pub fn draft07(alloc: Global) -> Result<SchemaSettings, AllocError>
         ensures settings { IfOk result (λ s. settings_of s ≡ settings07) }
         ensures transforms { IfOk result (λ s. s.transforms.items ≡ transforms07) }
@@ -57,9 +60,11 @@ impl SchemaSettings {
         Ok(settings_with("/definitions", meta_schemas::DRAFT07, transforms))
     }
 
-    /// The settings of JSON Schema 2019-09.
+    /// Returns the settings of JSON Schema 2019-09: definitions at `/$defs`, and one transform.
     ///
-    /// Refusal: want of memory.
+    /// # Errors
+    ///
+    /// `AllocError` if memory runs out.
     pub fn draft2019_09(alloc: Global) -> Result<SchemaSettings, AllocError>
         ensures settings { IfOk result (λ s. settings_of s ≡ settings2019_09) }
         ensures transforms { IfOk result (λ s. s.transforms.items ≡ transforms2019_09) }
@@ -68,7 +73,7 @@ impl SchemaSettings {
         Ok(settings_with("/$defs", meta_schemas::DRAFT2019_09, transforms))
     }
 
-    /// The settings of JSON Schema 2020-12.
+    /// Returns the settings of JSON Schema 2020-12: definitions at `/$defs`, and no transform.
     pub fn draft2020_12(alloc: Global) -> SchemaSettings
         ensures settings { settings_of result ≡ settings2020_12 }
         ensures transforms { result.transforms.items ≡ [] }
@@ -76,9 +81,12 @@ impl SchemaSettings {
         settings_with("/$defs", meta_schemas::DRAFT2020_12, Vec::new(alloc))
     }
 
-    /// The settings of the schema objects of OpenAPI 3.0.
+    /// Returns the settings of OpenAPI 3.0 schema objects: definitions at `/components/schemas`,
+    /// and seven transforms.
     ///
-    /// Refusal: want of memory.
+    /// # Errors
+    ///
+    /// `AllocError` if memory runs out.
     pub fn openapi3(alloc: Global) -> Result<SchemaSettings, AllocError>
         ensures settings { IfOk result (λ s. settings_of s ≡ settings_openapi3) }
         ensures transforms { IfOk result (λ s. s.transforms.items ≡ transforms_openapi3) }
@@ -98,7 +106,7 @@ impl SchemaSettings {
         Ok(settings_with("/components/schemas", meta_schemas::OPENAPI3, transforms))
     }
 
-    /// The settings of JSON Schema 2020-12.
+    /// Returns the settings of JSON Schema 2020-12.
     pub fn default(alloc: Global) -> SchemaSettings
         ensures settings { settings_of result ≡ settings2020_12 }
         ensures transforms { result.transforms.items ≡ [] }
@@ -108,7 +116,7 @@ impl SchemaSettings {
 }
 
 impl<O> SchemaSettings<O> {
-    /// These settings, for values that are read.
+    /// Returns these settings for the values that are read.
     pub fn for_deserialize(self) -> SchemaSettings<O>
         ensures settings { settings_of result ≡ record (settings_of self) { contract = contracts.Deserialize } }
         ensures transforms { result.transforms ≡ self.transforms }
@@ -118,7 +126,7 @@ impl<O> SchemaSettings<O> {
         settings
     }
 
-    /// These settings, for values that are written.
+    /// Returns these settings for the values that are written.
     pub fn for_serialize(self) -> SchemaSettings<O>
         ensures settings { settings_of result ≡ record (settings_of self) { contract = contracts.Serialize } }
         ensures transforms { result.transforms ≡ self.transforms }
@@ -128,8 +136,11 @@ impl<O> SchemaSettings<O> {
         settings
     }
 
-    /// A copy of these settings that may hold transforms of one's own, of any type. One that holds such
-    /// transforms already is refused with `OwnTransform`, whatever memory there is.
+    /// Returns a copy of these settings that can hold user-defined transforms of type `P`.
+    ///
+    /// # Errors
+    ///
+    /// `OwnTransform` if and only if they have a user-defined transform already; `OutOfMemory`.
     pub fn for_own<P: Drop>(&self, alloc: Global) -> Result<SchemaSettings<P>, GenerateError>
         ensures copied { IfOk result (λ s. AreSettingsCopied self.now s) }
         ensures none_own { IfOk result (λ s. some_own s.transforms.items ≡ false) }
@@ -166,9 +177,11 @@ impl<O> SchemaSettings<O> {
 }
 
 impl<O: Drop> SchemaSettings<O> {
-    /// These settings, with one more transform behind the others.
+    /// Returns these settings with a further transform, which is applied last.
     ///
-    /// Refusal: want of memory.
+    /// # Errors
+    ///
+    /// `AllocError` if memory runs out.
     pub fn with_transform(self, transform: GenTransform<O>) -> Result<SchemaSettings<O>, AllocError>
         ensures settings { IfOk result (λ s. settings_of s ≡ settings_of self) }
         ensures transforms { IfOk result (λ s. s.transforms.items ≡ self.transforms.items ++ transform ∷ []) }
@@ -178,8 +191,11 @@ impl<O: Drop> SchemaSettings<O> {
         Ok(settings)
     }
 
-    /// These settings once more. Where they hold a transform of one's own they are refused with
-    /// `OwnTransform`, whatever memory there is.
+    /// Returns a copy of these settings.
+    ///
+    /// # Errors
+    ///
+    /// `OwnTransform` if and only if they have a user-defined transform; `OutOfMemory`.
     pub fn try_clone(&self, alloc: Global) -> Result<SchemaSettings<O>, GenerateError>
         ensures copied { IfOk result (λ s. AreSettingsCopied self.now s) }
         ensures own { (result ≡ Err GenerateError.OwnTransform) ↔ IsTrue (some_own self.now.transforms.items) }
@@ -187,7 +203,7 @@ impl<O: Drop> SchemaSettings<O> {
         self.for_own(alloc)
     }
 
-    /// A generator with these settings, over an empty table.
+    /// Returns a generator with these settings and an empty table.
     pub fn into_generator(self, alloc: Global) -> SchemaGenerator<O>
         ensures settings { result.settings ≡ self }
         ensures contents { result.contents ≡ record { rows = []; names = []; definitions = no_members } }

@@ -9,9 +9,12 @@ use crate::sample::Sample;
 use serde_json::{Map, Value};
 use std::alloc::{AllocError, Global};
 
-/// The example as `serde_json` writes it. None where a whole number in it is not from -2^63 to 2^64 - 1.
+/// Returns the example as `serde_json` writes it. There is none if a whole number in it is not from
+/// -2^63 to 2^64 - 1.
 ///
-/// Refusal: want of memory.
+/// # Errors
+///
+/// `AllocError` if memory runs out.
 #[cycle(json)]
 pub fn json_of(alloc: Global, sample: &Sample) -> Result<Option<Value>, AllocError>
     ensures { IfOk result (λ v. option_map view v ≡ sample_json (example_of sample.now)) }

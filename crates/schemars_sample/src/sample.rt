@@ -1,6 +1,12 @@
 //! Example values.
 
-/// An example value, as a serializer is told of it. Structs, and the variants of enums, have their own names first.
+/// An example value, in the data model of serde's serializers. Structs, and variants of enums, have
+/// their names first.
+///
+/// ```
+/// let sample = Sample::Tuple(vec![in alloc; Sample::Bool(true), Sample::UInt(1)]?);
+/// let schema = schema_for_value!(in alloc; sample)?;
+/// ```
 #[derive(Drop)]
 pub enum Sample {
     Bool(bool),

@@ -23,10 +23,12 @@ use schemars_types::{Contract, IntKind};
 use serde_json::{Map, Value};
 use std::alloc::{AllocError, Global};
 
-/// The root document of an example, without definitions: its schema as an object, with the names of structs as titles,
-/// the example itself where it has a JSON form, and the meta-schema.
+/// Returns the root document of an example, without definitions: its schema as an object, with the
+/// names of structs as titles, the example itself if it has a JSON form, and the meta-schema.
 ///
-/// Refusal: want of memory.
+/// # Errors
+///
+/// `AllocError` if memory runs out.
 pub fn root_document(
     alloc: Global,
     sample: &Sample,

@@ -7,10 +7,10 @@ ghost use Rattle.schemars_schema.specs.Json.{IsJson, json_eq, items_eq, members_
 
 use serde_json::{Map, Number, Value};
 
-/// Whether two JSON values are equal: among JSON values without other numbers, whether they are
-/// the same. A number that is no 64-bit whole number equals nothing, not even itself.
+/// Returns whether two JSON values are equal. A number that is not a 64-bit whole number equals
+/// nothing, not even itself.
 ///
-/// It stops at the first difference, so it reads no more than the smaller value has.
+/// It stops at the first difference.
 pub fn json_eq(a: &Value, b: &Value) -> bool
     ensures value { result ≡ json_eq (view a.now) (view b.now) }
     ensures same { IsJson (view a.now) → (IsTrue result ↔ (view a.now ≡ view b.now)) }
@@ -47,7 +47,7 @@ fn values_eq(a: &Value, b: &Value) -> bool
     }
 }
 
-/// Whether two objects have equal members: the same keys, and equal values at them.
+/// Returns whether two objects have equal members: the same keys, and equal values for them.
 #[cycle(equality)]
 #[tactic(auto, unfolding(crate::specs::Json::json_eq, crate::specs::Json::items_eq, crate::specs::Json::members_eq))]
 pub fn json_eq_members(a: &Map<String, Value>, b: &Map<String, Value>) -> bool

@@ -23,7 +23,14 @@ use std::marker::Model;
 
 /// A JSON Schema: a JSON value that is an object or a truth value.
 ///
-/// `true` accepts every value, `false` none, and an object what all of its keywords accept.
+/// `true` accepts every value, `false` accepts none, and an object accepts what all of its keywords
+/// accept.
+///
+/// ```
+/// let mut schema = Schema::default(alloc);
+/// schema.insert(alloc, key, value)?;
+/// let text = schema.to_ordered_string(alloc)?;
+/// ```
 #[derive(Drop)]
 pub struct Schema {
     value: Value,
@@ -47,7 +54,7 @@ impl Model for Schema {
 impl Schema {
     ghost use Rattle.schemars_schema.specs.contracts.schema.Schema.{the_row};
 
-    /// The schema `{}`, which accepts every value.
+    /// Returns the schema `{}`, which accepts every value.
     pub fn default(alloc: Global) -> Schema
         ensures { result ≡ object no_members }
     {
@@ -56,8 +63,8 @@ impl Schema {
         }
     }
 
-    /// The schema `{"$ref": reference}`. The text should be a URI reference, mostly a JSON Pointer
-    /// behind a `#`.
+    /// Returns the schema `{"$ref": reference}`. The text should be a URI reference, such as a `#`
+    /// followed by a JSON Pointer.
     pub fn new_ref(alloc: Global, reference: String) -> Result<Schema, AllocError>
         ensures { IfOk result (λ s. s ≡ object (member (codes "$ref")
             (string (string_bytes reference)) no_members)) }
@@ -69,7 +76,7 @@ impl Schema {
         })
     }
 
-    /// The JSON value, which is an object or a truth value.
+    /// Returns the JSON value, which is an object or a truth value.
     pub fn as_value(&self) -> &Value
         ensures value { view result.now ≡ self.now }
         ensures schema { IsSchema self.now }
@@ -77,21 +84,21 @@ impl Schema {
         &self.value
     }
 
-    /// The truth value, if the schema is one.
+    /// Returns the truth value, if the schema is one.
     pub fn as_bool(&self) -> Option<bool>
         ensures { result ≡ as_bool self.now }
     {
         self.value.as_bool()
     }
 
-    /// The keywords and their values, if the schema is an object.
+    /// Returns the keywords and their values, if the schema is an object.
     pub fn as_object(&self) -> Option<&Map<String, Value>>
         ensures { option_map (λ m. members_view m.now.entries) result ≡ as_object self.now }
     {
         self.value.as_object()
     }
 
-    /// The keywords and their values for writing, if the schema is an object.
+    /// Borrows the keywords and their values mutably, if the schema is an object.
     pub fn as_object_mut(&mut self) -> Option<&mut Map<String, Value>>
         ensures* writes_back { sem 𝓛 (LendsIf the_row map_row self.entry result
             (λ m. object (members_view m.entries)) self.old) }
@@ -100,7 +107,7 @@ impl Schema {
         self.value.as_object_mut()
     }
 
-    /// The JSON value, without the schema around it.
+    /// Converts the schema into its JSON value.
     pub fn to_value(self) -> Value
         ensures value { view result ≡ self }
         ensures schema { IsSchema self }
@@ -109,15 +116,15 @@ impl Schema {
         value
     }
 
-    /// The value at a keyword. A truth value has none.
+    /// Returns the value of a keyword. A truth value has none.
     pub fn get(&self, key: &str) -> Option<&Value>
         ensures { option_map (λ v. view v.now) result ≡ get key.now self.now }
     {
         self.value.get(key)
     }
 
-    /// The value at a keyword for writing. A truth value has none, and no write through the result
-    /// makes the whole anything but a schema.
+    /// Borrows the value of a keyword mutably. A truth value has none. Whatever is written through
+    /// the result, the whole is still a schema.
     pub fn get_mut(&mut self, key: &str) -> Option<&mut Value>
         ensures* writes_back { sem 𝓛 (LendsSo the_row value_row self.entry result
             (λ n w. OnSome result (n ≡ object (replaced key.now (view w) (members_in self.old))))
@@ -130,7 +137,7 @@ impl Schema {
         }
     }
 
-    /// Takes the value at a keyword out. A truth value has none, and stays as it is.
+    /// Removes a keyword, and returns its value. A truth value has none, and is unchanged.
     pub fn remove(&mut self, key: &str) -> Option<Value>
         ensures value { option_map view result ≡ get key.now self.old }
         ensures removed { self.new ≡ removed key.now self.old }
@@ -141,17 +148,20 @@ impl Schema {
         }
     }
 
-    /// Whether the value is an object or a truth value.
+    /// Returns whether the value is an object or a truth value.
     pub fn is_schema(value: &Value) -> bool
         ensures { result ≡ is_schema (view value.now) }
     {
         value.is_object() || value.is_boolean()
     }
 
-    /// Sets the value at a keyword, and answers the one that stood there.
+    /// Sets the value of a keyword, and returns the value that it had.
     ///
-    /// A truth value becomes an object first, as under `ensure_object`. Where memory runs out, the
-    /// schema stays as it was.
+    /// A truth value becomes an object first, as by `ensure_object`.
+    ///
+    /// # Errors
+    ///
+    /// `AllocError` if memory runs out; the schema is then unchanged.
     pub fn insert(
         &mut self,
         alloc: Global,
@@ -173,10 +183,13 @@ impl Schema {
         Ok(old)
     }
 
-    /// Makes the schema an object, and lends its keywords and their values for writing.
+    /// Makes the schema an object, and borrows its keywords and their values mutably.
     ///
-    /// `true` becomes `{}`, and `false` becomes `{"not":{}}`, which accept the same values. Where
-    /// memory runs out, the schema stays as it was.
+    /// `true` becomes `{}`, and `false` becomes `{"not":{}}`, which accept the same values.
+    ///
+    /// # Errors
+    ///
+    /// `AllocError` if memory runs out; the schema is then unchanged.
     pub fn ensure_object(&mut self, alloc: Global) -> Result<&mut Map<String, Value>, AllocError>
         ensures* writes_back { sem 𝓛 (LendsIfOk the_row map_row self.entry result
             (λ m. object (members_view m.entries)) self.old) }

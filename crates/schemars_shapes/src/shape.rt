@@ -144,7 +144,7 @@ pub enum Shape {
     Seq(TypeNo),
     /// a list of values of this row, no two of them equal
     Set(TypeNo),
-    /// a list of just so many values of this row
+    /// a list of exactly so many values of this row
     Array(TypeNo, u64),
     /// a list of at most so many values of this row
     UpTo(TypeNo, u64),
@@ -156,7 +156,8 @@ pub enum Shape {
     Newtype(TypeNo),
     /// a map with `Ok` of the first row, or one with `Err` of the second, and not both
     Result(TypeNo, TypeNo),
-    /// a map with `Included` or one with `Excluded` of this row, and not both, or the text `Unbounded`
+    /// a map with `Included` or one with `Excluded` of this row, and not both, or the text
+    /// `Unbounded`
     Bound(TypeNo),
     /// a map with `start` and `end` of this row
     Range(TypeNo),
@@ -178,17 +179,17 @@ pub enum Shape {
 #[derive(Drop)]
 pub struct Fields {
     pub list: Vec<Field>,
-    /// The types whose members stand beside the fields, in the same map.
+    /// The types whose members are in the same map as the fields.
     pub flatten: Vec<Flattened>,
     /// No other keys are allowed.
     pub closed: bool,
 }
 
-/// A type whose members stand in the map of a struct.
+/// A type that is flattened into a struct: its members are in the same map.
 #[derive(Clone, Copy)]
 pub struct Flattened {
     pub ty: TypeNo,
-    /// Whether they have to be there, where the type is an Option.
+    /// Whether its members are required, if the type is an Option.
     pub required: Required,
 }
 
@@ -202,7 +203,7 @@ pub struct Field {
     pub notes: Map<String, Value>,
 }
 
-/// Whether a member has to be there, in values that are read and in those that are written.
+/// Whether a member is required, in values that are read and in those that are written.
 #[derive(Clone, Copy, PartialEq, Eq, Debug)]
 pub struct Required {
     pub deserialize: bool,
@@ -309,7 +310,7 @@ impl Field {
     }
 }
 
-/// What a row of a table says.
+/// The entry of a row: its shape, its notes, and whether it is written in place.
 #[derive(Drop)]
 pub struct TypeEntry {
     /// The document is written in place wherever the row is referred to.
@@ -320,7 +321,7 @@ pub struct TypeEntry {
 }
 
 impl TypeEntry {
-    /// The entry of this shape that has no notes.
+    /// Returns an entry of this shape without notes.
     pub fn without_notes(alloc: Global, inline: bool, shape: Shape) -> TypeEntry
         ensures { entry_of result ≡ without_notes inline (shape_of shape) }
     {
@@ -331,8 +332,8 @@ impl TypeEntry {
         }
     }
 
-    /// Whether the two say the same. Notes are compared as JSON values, so one that holds a number
-    /// other than a 64-bit whole number differs from every note, itself included.
+    /// Returns whether two entries are equal. Notes are compared as JSON values, so an entry whose
+    /// notes have a number that is not a 64-bit whole number equals no entry, not even itself.
     pub fn is_equal(&self, other: &TypeEntry) -> bool
         ensures { result ≡ entry_eq (entry_of self.now) (entry_of other.now) }
     {

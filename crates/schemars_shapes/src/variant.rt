@@ -83,7 +83,7 @@ impl Variant {
     }
 }
 
-/// Whether the variant is a unit without notes, which its name alone tells.
+/// Returns whether the variant is a unit without notes.
 pub fn is_bare_unit(variant: &Variant) -> bool
     ensures { result ≡ is_bare_unit (variant_of variant.now) }
 {

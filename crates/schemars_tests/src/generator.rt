@@ -70,9 +70,11 @@ enum Asks {
     Inlining,
 }
 
-// The path of the definitions, what else the settings say, a table, and calls of a generator in order.
+// The path of the definitions, what else the settings say, a table, and calls of a generator in
+// order.
 const CALLS: [(&str, Asks, &str, &[Answer]); 9] = [
-    // A root document that refers to itself leaves no definitions, and a part has those it leads to.
+    // A root document that refers to itself leaves no definitions, and a part has those it leads
+    // to.
     (
         "/$defs",
         Asks::Nothing,

@@ -7,8 +7,11 @@ use crate::error::CloneError;
 use crate::gen_transform::GenTransform;
 use std::alloc::Global;
 
-/// Copies of built-in transforms, in order. A list that holds one of one's own is refused, whatever
-/// memory there is.
+/// Copies a list of built-in transforms.
+///
+/// # Errors
+///
+/// `OwnTransform` if and only if the list has a user-defined transform; `Memory`.
 pub fn try_clone_all<O, P: Drop>(
     alloc: Global,
     transforms: &[GenTransform<O>],

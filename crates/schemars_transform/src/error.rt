@@ -2,13 +2,13 @@
 use std::alloc::{AllocError, AllocFailed};
 use thiserror::Error;
 
-/// Why there is no copy of a transform.
+/// An error of a copy of transforms.
 #[derive(Clone, Copy, Debug, Error)]
 pub enum CloneError {
-    /// Memory ran out.
+    /// Out of memory.
     #[error("Memory")]
     Memory,
-    /// It is a transform of one's own.
+    /// A transform is user-defined.
     #[error("OwnTransform")]
     OwnTransform,
 }

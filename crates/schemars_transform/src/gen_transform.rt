@@ -17,14 +17,14 @@ use schemars_schema::Schema;
 use schemars_walk::{Transform, TransformError};
 use std::alloc::Global;
 
-/// One of the built-in transforms, or a transform of one's own.
+/// One of the built-in transforms, or a user-defined transform of type `O`.
 ///
-/// Own transforms of several kinds are closures: a list of `GenTransform<FnTransform>` holds them.
+/// User-defined transforms of several kinds can be closures: a list of `GenTransform<FnTransform>`.
 #[derive(Drop)]
 pub enum GenTransform<O = NoTransform> {
     /// Makes every schema an object.
     ReplaceBoolSchemas(ReplaceBoolSchemas),
-    /// Takes `$ref` apart from other keywords.
+    /// Separates `$ref` from other keywords.
     RemoveRefSiblings(RemoveRefSiblings),
     /// Makes the first of the examples the only one.
     SetSingleExample(SetSingleExample),
@@ -36,9 +36,9 @@ pub enum GenTransform<O = NoTransform> {
     AddNullable(AddNullable),
     /// Makes `unevaluatedProperties` `additionalProperties`.
     ReplaceUnevaluatedProperties(ReplaceUnevaluatedProperties),
-    /// Takes formats out that the draft does not define.
+    /// Removes formats that the draft does not define.
     RestrictFormats(RestrictFormats),
-    /// A transform of one's own.
+    /// A user-defined transform.
     Own(O),
 }
 
@@ -63,7 +63,7 @@ impl<O: Transform> Transform for GenTransform<O> {
 }
 
 impl<O> GenTransform<O> {
-    /// Whether it is a transform of one's own.
+    /// Returns whether it is a user-defined transform.
     pub fn is_own(&self) -> bool
         ensures { result ≡ is_own self.now }
     {
@@ -73,7 +73,11 @@ impl<O> GenTransform<O> {
         }
     }
 
-    /// A copy of a built-in transform. One of one's own is refused, whatever memory there is.
+    /// Returns a copy of a built-in transform.
+    ///
+    /// # Errors
+    ///
+    /// `OwnTransform` if and only if it is user-defined; `Memory`.
     pub fn try_clone<P>(&self) -> Result<GenTransform<P>, CloneError>
         ensures copies { IfOk result (λ c. IsCopy self.now c) }
         ensures none_own { IfOk result (λ c. is_own c ≡ false) }

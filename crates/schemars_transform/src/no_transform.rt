@@ -3,7 +3,7 @@ use schemars_schema::Schema;
 use schemars_walk::{Transform, TransformError};
 use std::alloc::Global;
 
-/// Leaves every schema as it is, and never refuses.
+/// A transform that changes nothing and never fails.
 #[derive(Clone, Copy)]
 pub struct NoTransform;
 

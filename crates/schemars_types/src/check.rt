@@ -12,11 +12,14 @@ use crate::table::Types;
 use std::alloc::Global;
 
 impl Types {
-    /// Whether every type has a document and a meaning.
+    /// Checks that every row has a document and a meaning.
     ///
-    /// A table is refused at a row that was never defined, at a list of fields with a name twice, at
-    /// a cycle of rows that are written in place, and at a cycle of rows that have each other's
-    /// values. The first of these kinds is answered, at the lowest row.
+    /// # Errors
+    ///
+    /// The first of these that applies, with the lowest row: `UndefinedType` for a row that was
+    /// never defined, `RepeatedName` for a list of fields or variants with a name twice,
+    /// `DirectCycle` for a cycle of rows that are written in place, `EmptyCycle` for a cycle of
+    /// rows that have each other's values. `OutOfMemory` if memory runs out.
     pub fn check(&self, alloc: Global) -> Result<(), TypesError>
         ensures accepted { OnOk result (IsAccepted self.now) }
         ensures checked { OnOk result (IsChecked self.now) }

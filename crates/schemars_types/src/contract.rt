@@ -1,7 +1,7 @@
 ghost use Rattle.std.specs.Prelude.{◌≡◌};
 ghost use Rattle.schemars_types.specs.SameContract.{is_same_contract};
 
-/// Which values a document is about: a type may be written in another form than it is read.
+/// Which values a document describes: a type may be written in another form than it is read.
 #[derive(Clone, Copy, PartialEq, Eq, PartialOrd, Ord, Hash, Debug)]
 pub enum Contract {
     /// The values that are read.
@@ -11,7 +11,7 @@ pub enum Contract {
 }
 
 impl Contract {
-    /// Whether it is about the values that are read.
+    /// Returns whether the values that are read are described.
     pub fn is_deserialize(&self) -> bool
         ensures { result ≡ is_same_contract self.now Contract.Deserialize }
     {
@@ -21,7 +21,7 @@ impl Contract {
         }
     }
 
-    /// Whether it is about the values that are written.
+    /// Returns whether the values that are written are described.
     pub fn is_serialize(&self) -> bool
         ensures { result ≡ is_same_contract self.now Contract.Serialize }
     {

@@ -1,16 +1,16 @@
 use std::alloc::{AllocError, AllocFailed};
 use thiserror::Error;
 
-/// Why a call of a table is refused.
+/// An error of a table.
 #[derive(Debug, Drop, Error)]
 pub enum TypesError {
-    /// Memory ran out.
+    /// Out of memory.
     #[error("OutOfMemory")]
     OutOfMemory,
-    /// This row was reserved and never defined.
+    /// This row was reserved but never defined.
     #[error("UndefinedType")]
     UndefinedType(usize),
-    /// This row's list of fields has this name twice.
+    /// This row has two fields, or two variants, of this name.
     #[error("RepeatedName")]
     RepeatedName(usize, String),
     /// This row is on a cycle of rows that are written in place.
@@ -19,7 +19,7 @@ pub enum TypesError {
     /// This row is on a cycle of rows that have the values of the next.
     #[error("EmptyCycle")]
     EmptyCycle(usize),
-    /// Another entry stands in this row.
+    /// This row has another entry already.
     #[error("AlreadyDefined")]
     AlreadyDefined(usize),
     /// The table has no row of this number.
@@ -31,7 +31,7 @@ impl TypesError {
     ghost use Rattle.std.specs.Prelude.{◌≡◌};
     ghost use Rattle.schemars_types.specs.Refusals.{code_of};
 
-    /// The number that callers in other languages know the refusal by.
+    /// Returns the number of the error, for callers in other languages.
     pub fn code(&self) -> u32
         ensures { result ≡ code_of self.now }
     {

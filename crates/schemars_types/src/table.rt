@@ -22,8 +22,14 @@ use std::marker::Model;
 /// A table of types, by number and by id.
 ///
 /// A row has an id, a name and, once it is defined, an entry. Rows are numbered from 0 in the order
-/// in which their ids were reserved, and stay. Entries refer to one another by number, so a type
-/// may be reserved first and refer to itself.
+/// in which their ids were reserved, and are never removed. Entries refer to rows by number, so a
+/// type can be reserved first and then refer to itself:
+///
+/// ```
+/// let node = types.reserve(id, name)?;
+/// let next = types.option(alloc, node)?;
+/// types.define(node, TypeEntry::without_notes(alloc, false, Shape::Newtype(next)))?;
+/// ```
 #[derive(Drop)]
 pub struct Types {
     pub(crate) slots: IndexMap<String, Slot>,
@@ -61,7 +67,7 @@ impl Clone for Types {
 }
 
 impl Types {
-    /// A table without rows.
+    /// Returns a table without rows.
     pub fn new(alloc: Global) -> Types
         ensures { result ≡ [] }
     {
@@ -70,7 +76,7 @@ impl Types {
         }
     }
 
-    /// The number of rows. It is above every number in an entry.
+    /// Returns the number of rows. Each row number in an entry is less than it.
     pub fn len(&self) -> usize
         ensures len { result ≡ length self.now }
         ensures above { RefersWithin self.now }
@@ -78,21 +84,21 @@ impl Types {
         self.slots.len()
     }
 
-    /// Whether the table has no rows.
+    /// Returns whether the table has no rows.
     pub fn is_empty(&self) -> bool
         ensures { IsTrue result ↔ (self.now ≡ []) }
     {
         self.slots.is_empty()
     }
 
-    /// The number of the row with this id.
+    /// Returns the number of the row with this id, if there is one.
     pub fn find(&self, id: &str) -> Option<TypeNo>
         ensures { result ≡ place_of id.now self.now }
     {
         self.slots.get_index_of(id)
     }
 
-    /// The id of row `n`.
+    /// Returns the id of row `n`, if there is such a row.
     pub fn id(&self, n: TypeNo) -> Option<&str>
         ensures { option_map (λ s. s.now) result ≡ option_map (λ r. r.id) (slice_get self.now n) }
     {
@@ -100,7 +106,7 @@ impl Types {
         Some(id.as_str())
     }
 
-    /// The name of row `n`.
+    /// Returns the name of row `n`, if there is such a row.
     pub fn name(&self, n: TypeNo) -> Option<&str>
         ensures { option_map (λ s. s.now) result ≡ option_map (λ r. r.name) (slice_get self.now n) }
     {
@@ -108,15 +114,19 @@ impl Types {
         Some(slot.name.as_str())
     }
 
-    /// The entry of row `n`, once it is defined.
+    /// Returns the entry of row `n`, if there is such a row and it is defined.
     pub fn entry(&self, n: TypeNo) -> Option<&TypeEntry>
         ensures { option_map (λ e. entry_of e.now) result ≡ entry_at self.now n }
     {
         entry(&self.slots, n)
     }
 
-    /// The number of the row with this id. An id that is not there gets the next number, and this
-    /// name; one that is keeps its own.
+    /// Returns the number of the row with this id. If there is none, a row with this id and name is
+    /// added first; a row that exists keeps its name.
+    ///
+    /// # Errors
+    ///
+    /// `OutOfMemory`; the table is then unchanged.
     pub fn reserve(&mut self, id: String, name: String) -> Result<TypeNo, TypesError>
         ensures ok { OnOk result (self.new ≡ reserved (string_bytes id) (string_bytes name) self.old) }
         ensures number { IfOk result (λ n. place_of (string_bytes id) self.new ≡ Some n) }
@@ -134,9 +144,12 @@ impl Types {
         Ok(n)
     }
 
-    /// Gives row `n` its entry. A row that has an equal entry stays as it is.
+    /// Defines row `n`. A row that has an equal entry already is unchanged.
     ///
-    /// `UnknownType` comes first: of `n`, or else of the first number in the entry that is no row's.
+    /// # Errors
+    ///
+    /// `UnknownType` with `n`, or else with the first number in the entry, that is not the number
+    /// of a row; `AlreadyDefined(n)` if the row has a different entry. The table is then unchanged.
     pub fn define(&mut self, n: TypeNo, entry: TypeEntry) -> Result<(), TypesError>
         ensures ok { OnOk result (self.new ≡ defined n (entry_of entry) self.old) }
         ensures err { OnErr result (self.new ≡ self.old) }
@@ -156,8 +169,8 @@ impl Types {
         }
     }
 
-    /// Whether the table's first rows are those of `first`: the same ids, names and entries under
-    /// the same numbers.
+    /// Returns whether the table begins with the rows of `first`: the same ids, names and entries
+    /// under the same numbers.
     ///
     /// Entries are compared as by `define`, so an entry with a decimal in its notes equals none.
     pub fn begins_with(&self, first: &Types) -> bool

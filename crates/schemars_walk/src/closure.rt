@@ -8,7 +8,7 @@ use std::alloc::Global;
 /// A closure that changes a schema, in a box.
 pub type Call = Box<dyn FnMut(&mut Schema) -> Result<(), TransformError> + Drop>;
 
-/// The transform that calls a closure.
+/// A transform that calls a closure.
 #[derive(Drop)]
 pub struct FnTransform {
     call: Call,
@@ -16,7 +16,7 @@ pub struct FnTransform {
 }
 
 impl FnTransform {
-    /// Takes a closure that may be called on every schema.
+    /// Makes a transform of a closure that can be called on every schema.
     pub fn new(call: Call) -> FnTransform
         requires { Call.IsAlwaysCallable call }
         ensures { result.call ≡ call }

@@ -3,8 +3,8 @@ use crate::transform::{Transform, TransformError};
 use schemars_schema::Schema;
 use std::alloc::Global;
 
-/// Applies its members one after another. The first refusal is passed on, and the members behind it
-/// are not called.
+/// Applies its members one after another. The first error is returned, and later members are not
+/// called.
 impl<T: Transform> Transform for Vec<T> {
     ghost use Rattle.schemars_walk.specs.Order.{InOrder};
 

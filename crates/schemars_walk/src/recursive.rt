@@ -4,14 +4,14 @@ use crate::walk::{Reach, visit};
 use schemars_schema::Schema;
 use std::alloc::Global;
 
-/// How deep the schemas lie that a recursive transform reaches, at most. The one that it is called on
-/// has depth 0.
+/// The greatest depth of the schemas that a recursive transform reaches. The schema that it is
+/// called on has depth 0.
 pub const DEPTH_LIMIT: usize = 256;
 
 /// Applies its transform to a schema, and then to the schemas inside it, from the top down.
 ///
-/// The first refusal is passed on. A schema deeper than `DEPTH_LIMIT` is refused with `TooDeep`, so
-/// that a transform which adds schemas comes to an end.
+/// The first error is returned. The error for a schema deeper than `DEPTH_LIMIT` is `TooDeep`, so
+/// that a transform that adds schemas comes to an end.
 #[derive(Clone, Drop)]
 pub struct RecursiveTransform<T>(pub T);
 

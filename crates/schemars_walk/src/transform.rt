@@ -7,16 +7,16 @@ use schemars_schema::Schema;
 use std::alloc::{AllocError, Global};
 use thiserror::Error;
 
-/// Why a transform gave up.
+/// An error of a transform.
 #[derive(Clone, Copy, Debug, Error)]
 pub enum TransformError {
-    /// Memory ran out.
+    /// Out of memory.
     #[error("Memory")]
     Memory,
-    /// A recursive transform reached a schema deeper than it goes.
+    /// A recursive transform reached a schema deeper than `DEPTH_LIMIT`.
     #[error("TooDeep")]
     TooDeep,
-    /// A caller's own transform refused, with a number of its own.
+    /// A user-defined transform failed, with a number of its own.
     #[error("Own")]
     Own(u32),
 }
@@ -32,13 +32,18 @@ impl From<AllocError> for TransformError {
     }
 }
 
-/// Changes a schema.
+/// A change of schemas.
+///
+/// ```
+/// let mut transform = AddNullable::default();
+/// transform.transform(alloc, &mut schema)?;
+/// ```
 pub trait Transform {
     // What one call may make of a transform and a schema, and what it may answer: the old state,
     // the old schema, the answer, the new state and the new schema.
     ghost makes: { Self → Data → Result (Unit {0}) TransformError → Self → Data → Type 0 };
 
-    /// Changes the schema, which after a refusal is still a schema, of open content.
+    /// Changes the schema. After an error it is still a schema, with unspecified content.
     fn transform(&mut self, alloc: Global, schema: &mut Schema) -> Result<(), TransformError>
         ensures { makes self.old schema.old result self.new schema.new };
 }

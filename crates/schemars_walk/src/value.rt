@@ -8,9 +8,8 @@ use serde_json::Value;
 use std::alloc::Global;
 use std::mem;
 
-/// Applies a transform to a value that is a schema, and answers true. A value that is no schema is
-/// left alone, and the answer is false. After a refusal the value is what the transform left, a
-/// schema still.
+/// Applies a transform to a value if it is a schema, and returns whether it is. Any other value is
+/// unchanged. After an error the value is what the transform left, which is still a schema.
 pub fn on_value<T: Transform>(
     alloc: Global,
     value: &mut Value,

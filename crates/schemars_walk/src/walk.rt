@@ -15,8 +15,8 @@ use serde_json::{Map, Value};
 use std::alloc::{AllocError, Global};
 use std::mem;
 
-/// Applies a transform to each direct subschema of a schema, in the order of its keys. A value that is
-/// no schema is passed over. The first refusal, of the transform or for want of memory, ends the walk.
+/// Applies a transform to each direct subschema of a schema, in the order of its keys. Values that
+/// are not schemas are skipped. The first error, of the transform or of memory, ends the walk.
 pub fn transform_subschemas<T: Transform>(
     alloc: Global,
     t: &mut T,
@@ -27,8 +27,8 @@ pub fn transform_subschemas<T: Transform>(
     walk(t, alloc, schema, Reach::Once)
 }
 
-/// Applies a transform to each member of a map, in the order of its keys. A value that is no schema
-/// is passed over. The first refusal, of the transform or for want of memory, ends the walk.
+/// Applies a transform to each member of a map, in the order of its keys. Values that are not
+/// schemas are skipped. The first error, of the transform or of memory, ends the walk.
 pub fn transform_members<T: Transform>(
     t: &mut T,
     alloc: Global,

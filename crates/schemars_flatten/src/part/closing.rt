@@ -11,11 +11,11 @@ use crate::part::opening::{closes_by, holds_same, lists_same};
 use schemars_schema::Schema;
 use serde_json::{Map, Value};
 
-/// Whether the content of a variant that is tagged by a member of its object has to stand in place,
-/// by its own document: where it is to be put in place anyway, where its `type` is `null`, which then
-/// becomes that of an object, and where it or a schema inside it that judges the same object has
-/// `additionalProperties` or `unevaluatedProperties` with the value false, which would not let the
-/// tag in. Where a reference may stand, opening the schemas inside takes nothing out.
+/// Returns whether the content beside the tag of an internally tagged variant has to be written in
+/// place, given its document: if it is inline anyway; if its `type` is `null`, which then becomes
+/// that of an object; or if it, or a schema inside it that judges the same object, has
+/// `additionalProperties` or `unevaluatedProperties` with the value false, which would refuse the
+/// tag. If a reference will do, opening the schemas inside changes nothing.
 pub fn stands_in_place(schema: &Schema, inline: bool) -> bool
     ensures value { result ≡ stands_in_place inline schema.now }
     ensures unchanged { result ≡ false → opened_inside schema.now ≡ schema.now }

@@ -13,10 +13,10 @@ use schemars_walk::rewrite::{Rule, rewrite};
 use serde_json::Value;
 use std::alloc::{AllocError, Global};
 
-/// Lets further members in wherever a schema inside this one judges the same object: in every schema
-/// that is reached through `if`, `then`, `else`, `allOf`, `anyOf` and `oneOf` alone, at any depth,
-/// `additionalProperties` goes where it is false, and `unevaluatedProperties` goes where it is false.
-/// The schema keeps its own.
+/// Allows further members in each schema inside this one that judges the same object: in every
+/// schema that is reached only through `if`, `then`, `else`, `allOf`, `anyOf` and `oneOf`, at any
+/// depth, `additionalProperties` and `unevaluatedProperties` are removed where they are false. The
+/// schema keeps its own.
 pub fn open_inside(alloc: Global, schema: &mut Schema) -> Result<(), AllocError>
     ensures { OnOk result (schema.new ≡ opened_inside schema.old) }
 {

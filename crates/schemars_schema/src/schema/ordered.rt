@@ -9,15 +9,19 @@ use crate::schema::Schema;
 use std::alloc::{AllocError, Global};
 
 impl Schema {
-    /// The schema as compact JSON, with the members of each schema object in a fixed order: `$id`,
-    /// `$schema`, `title`, `description`, `type`, `format` and `properties` come first, `$defs` and
-    /// `definitions` last, and the others stand between them in map order.
+    /// Returns the schema as compact JSON, with the members of each schema object in a fixed order:
+    /// `$id`, `$schema`, `title`, `description`, `type`, `format` and `properties` first, `$defs`
+    /// and `definitions` last, and the others between them in map order.
     ///
-    /// What stands under `properties`, `patternProperties`, `dependentSchemas`, `$defs` and
-    /// `definitions` are schemas by name: the names keep map order. What stands under `examples`,
-    /// `default` and keys that begin with `x-` is plain JSON, in map order.
+    /// Names under `properties`, `patternProperties`, `dependentSchemas`, `$defs` and `definitions`
+    /// are in map order. Values of `examples`, `default` and keys that begin with `x-` are plain
+    /// JSON, in map order.
     ///
     /// A number with a fraction or beyond 64 bits has the digits that `serde_json` gives it.
+    ///
+    /// # Errors
+    ///
+    /// `AllocError` if memory runs out.
     pub fn to_ordered_string(&self, alloc: Global) -> Result<String, AllocError>
         ensures ordered { IfOk result (λ s. has_float self.now ≡ false
             → string_bytes s ≡ ordered_text self.now) }

@@ -12,11 +12,11 @@ use serde_json::{Map, Value};
 use std::alloc::{AllocError, Global};
 
 impl Schema {
-    /// Puts these members into the object at a JSON Pointer (RFC 6901), and answers whether it
-    /// could. Missing objects are made on the way.
+    /// Adds these members to the object at a JSON Pointer (RFC 6901), and returns whether it could.
+    /// Missing objects on the way are created.
     ///
-    /// It cannot where the pointer is empty, is `/` alone, or does not begin with `/`, and where it
-    /// meets a value that is no object. What the schema then holds is open.
+    /// It returns false if the pointer is empty, is only `/`, or does not begin with `/`, and if a
+    /// value on the way is not an object. The content of the schema is then unspecified.
     pub fn merge_at(
         &mut self,
         alloc: Global,

@@ -12,11 +12,11 @@ use std::alloc::{AllocError, Global};
 use std::borrow::CowStr;
 
 impl Schema {
-    /// What the JSON Pointer leads to (RFC 6901): the whole at `""`, and otherwise a member, or an
-    /// item at an index without a leading zero, for each token after a `/`.
+    /// Returns the value at a JSON Pointer (RFC 6901): the whole at `""`, and otherwise a member,
+    /// or an item at an index without a leading zero, for each token after a `/`.
     ///
-    /// A pointer behind a `#` is percent-decoded first, as in the fragment of a URI (section 6).
-    /// Nothing is found where that gives no text, and nothing in a truth value.
+    /// A pointer after a `#` is percent-decoded first, as in the fragment of a URI (section 6).
+    /// There is no value if that is not UTF-8, and none in a truth value.
     pub fn pointer(&self, alloc: Global, pointer: &str) -> Result<Option<&Value>, AllocError>
         ensures { IfOk result (λ found.
             option_map (λ v. view v.now) found ≡ pointed_in pointer.now self.now) }
@@ -30,8 +30,8 @@ impl Schema {
         }
     }
 
-    /// What the JSON Pointer leads to, for writing. The whole, at `""` and `#`, is not lent: no
-    /// write makes the schema anything but a schema.
+    /// Borrows the value at a JSON Pointer mutably. The whole, at `""` and `#`, is not borrowed:
+    /// whatever is written, the schema is still a schema.
     pub fn pointer_mut(
         &mut self,
         alloc: Global,

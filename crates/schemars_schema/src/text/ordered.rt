@@ -34,7 +34,8 @@ pub fn to_ordered_string(alloc: Global, schema: &Value) -> Result<String, AllocE
     Ok(out.into_string())
 }
 
-/// Definitions as compact JSON: one object in map order, with each definition written as by `to_ordered_string`.
+/// Definitions as compact JSON: one object in map order, with each definition written as by
+/// `to_ordered_string`.
 pub fn definitions_to_ordered_string(
     alloc: Global,
     definitions: &Map<String, Value>,

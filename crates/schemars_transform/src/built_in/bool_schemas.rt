@@ -13,7 +13,7 @@ use std::alloc::{AllocError, Global};
 /// Makes every schema an object: `true` becomes `{}`, and `false` becomes `{"not":{}}`.
 #[derive(Clone, Copy, Default)]
 pub struct ReplaceBoolSchemas {
-    /// Leaves a truth value under `additionalProperties` as it is. By default it is replaced too.
+    /// Whether a truth value under `additionalProperties` is kept. False by default.
     pub skip_additional_properties: bool,
 }
 

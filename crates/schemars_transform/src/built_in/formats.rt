@@ -15,20 +15,20 @@ use serde_json::Value;
 use std::alloc::{AllocError, Global};
 use std::collections::BTreeSet;
 
-/// Takes `format` out where its value is neither among the allowed formats nor defined by the draft.
+/// Removes `format` if its value is neither an allowed format nor defined by the draft.
 ///
-/// The draft is what `$schema` says, in the schema or in the nearest one around it. Where no `$schema` is
-/// found, all formats stay, and so they do inside a schema with the `$schema` of no known draft.
+/// The draft is the one of `$schema`, in the schema or in the nearest schema around it. Without a
+/// `$schema`, or with one of an unknown draft, all formats are kept.
 #[derive(Clone, Drop)]
 pub struct RestrictFormats {
-    /// Reads the draft from `$schema`. Without it the allowed formats alone stay.
+    /// Whether the draft is read from `$schema`. If not, only the allowed formats are kept.
     pub infer_from_meta_schema: bool,
-    /// Formats that stay under every draft.
+    /// Formats that are kept under every draft.
     pub allowed_formats: BTreeSet<String>,
 }
 
 impl RestrictFormats {
-    /// Reads the draft from `$schema`, and allows no format beside those of the draft.
+    /// Returns a transform that reads the draft from `$schema` and keeps only the draft's formats.
     pub fn default(alloc: Global) -> RestrictFormats
         ensures infers { result.infer_from_meta_schema ≡ true }
         ensures allowed { result.allowed_formats.keys ≡ [] }

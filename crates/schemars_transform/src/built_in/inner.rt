@@ -8,7 +8,7 @@ use schemars_walk::{Transform, TransformError, on_value};
 use serde_json::Value;
 use std::alloc::Global;
 
-/// Applies a transform to what stands under `items`, if it is a schema. It goes back after a refusal too.
+/// Applies a transform to the value of `items`, if that is a schema.
 pub fn apply_inner_validation<T: Transform>(
     alloc: Global,
     schema: &mut Schema,

@@ -8,8 +8,8 @@ use schemars_schema::Schema;
 use serde_json::Value;
 use std::alloc::{AllocError, Global};
 
-/// Sets the value at a keyword, and answers the one that stood there. A truth value becomes an object
-/// first.
+/// Sets the value at a keyword, and answers the one that stood there. A truth value becomes an
+/// object first.
 pub fn put(
     alloc: Global,
     schema: &mut Schema,

@@ -16,16 +16,16 @@ use serde_json::Value;
 use std::alloc::{AllocError, Global};
 use std::mem;
 
-/// Sets `nullable` to true where `type` holds `null`.
+/// Sets `nullable` to true where `type` has `null`.
 ///
-/// Where `null` is the only type, `const` becomes null and `type` goes. Where it is one of several, it is
-/// taken out, and a list of one type becomes that type.
+/// If `null` is the only type, `const` becomes null and `type` is removed. If it is one of several,
+/// it is removed, and a list of one type becomes that type.
 #[derive(Clone, Copy)]
 pub struct AddNullable {
-    /// Takes `null` out of `type`. By default it is taken out.
+    /// Whether `null` is removed from `type`. True by default.
     pub remove_null_type: bool,
-    /// Sets `const` to null where `null` is the only type. By default it is set; without it `type` becomes
-    /// an empty list there.
+    /// Whether `const` is set to null if `null` is the only type. True by default; otherwise `type`
+    /// becomes an empty list.
     pub add_const_null: bool,
 }
 

@@ -5,7 +5,7 @@ use schemars_walk::rewrite::change::{Change, change_all};
 use schemars_walk::{Transform, TransformError};
 use std::alloc::{AllocError, Global};
 
-/// Makes `prefixItems` the value of `items`, and what stood under `items` that of `additionalItems`.
+/// Renames `prefixItems` to `items`, and an `items` beside it to `additionalItems`.
 #[derive(Clone, Copy, Default)]
 pub struct ReplacePrefixItems;
 

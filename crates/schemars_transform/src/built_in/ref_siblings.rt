@@ -12,9 +12,11 @@ use schemars_walk::{Transform, TransformError};
 use serde_json::{Map, Value};
 use std::alloc::{AllocError, Global};
 
-/// Moves a `$ref` that stands beside other keywords into a schema of its own, at the end of `allOf`.
+/// Moves a `$ref` that has other keywords beside it into a schema of its own, at the end of
+/// `allOf`.
 ///
-/// `allOf` is made where it is missing. Where it is no list, it stays, and the `$ref` is lost.
+/// `allOf` is created if it is missing. If it is not a list, it is unchanged, and the `$ref` is
+/// lost.
 #[derive(Clone, Copy, Default)]
 pub struct RemoveRefSiblings;
 

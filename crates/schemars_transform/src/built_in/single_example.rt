@@ -10,7 +10,7 @@ use schemars_walk::{Transform, TransformError};
 use serde_json::Value;
 use std::alloc::{AllocError, Global};
 
-/// Takes `examples` out, and makes the first of them the value of `example`.
+/// Removes `examples`, and makes the first of them the value of `example`.
 #[derive(Clone, Copy, Default)]
 pub struct SetSingleExample;
 

@@ -15,10 +15,11 @@ use schemars_walk::{Transform, TransformError};
 use serde_json::{Map, Value};
 use std::alloc::{AllocError, Global};
 
-/// Makes the value of `unevaluatedProperties` that of `additionalProperties`.
+/// Renames `unevaluatedProperties` to `additionalProperties`.
 ///
-/// The names under `properties` of the schemas that judge the same object, at any depth below `if`, `then`,
-/// `else`, `allOf`, `anyOf` and `oneOf`, join `properties` with the schema `true` where they are missing.
+/// The names under `properties` of all schemas that judge the same object, at any depth below `if`,
+/// `then`, `else`, `allOf`, `anyOf` and `oneOf`, are added to `properties` with the schema `true`
+/// if they are missing.
 #[derive(Clone, Copy, Default)]
 pub struct ReplaceUnevaluatedProperties;
 

@@ -15,9 +15,10 @@ use std::alloc::Global;
 
 /// Rows of types that are made of the types of other rows.
 ///
-/// Each call answers the number of the type's row, which has no notes and is written in place. It adds the row
-/// unless it is there. `AlreadyDefined` says that another entry stands under the id, and `UnknownType` has the
-/// first of the numbers that is no row's. After a refusal the table is as before.
+/// Each call returns the number of the type's row, which has no notes and is written in place, and
+/// adds the row if it does not exist. `AlreadyDefined` is returned if the id has another entry, and
+/// `UnknownType` with the first number that is not the number of a row. On an error the table is
+/// unchanged.
 impl Types {
     /// The type of null and the values of row `n`.
     pub fn option(&mut self, alloc: Global, n: TypeNo) -> Result<TypeNo, TypesError>
@@ -60,8 +61,8 @@ impl Types {
         self.register_around(alloc, n, "Set<", ">", "Set_of_", true, Shape::Set(n))
     }
 
-    /// The type of lists of just `len` values of row `n`. Where `len` is 0 it is that of empty lists,
-    /// whatever `n` is.
+    /// The type of lists of exactly `len` values of row `n`. If `len` is 0 it is the type of empty
+    /// lists, whatever `n` is.
     pub fn array(&mut self, alloc: Global, n: TypeNo, len: u64) -> Result<TypeNo, TypesError>
         ensures ok { IfOk result (Registers (array_id (id_at self.old n) len)
             (array_name (name_at self.old n) len) (in_place (array_of n len)) self.old self.new) }
@@ -113,8 +114,8 @@ impl Types {
         )
     }
 
-    /// The type of lists of one value of each of these rows, in their order. Without rows it is that
-    /// of empty lists.
+    /// The type of lists of one value of each of these rows, in their order. Without rows it is
+    /// that of empty lists.
     pub fn tuple(&mut self, alloc: Global, parts: Vec<TypeNo>) -> Result<TypeNo, TypesError>
         ensures ok { IfOk result (Registers (tuple_id (map (id_at self.old) parts.items))
             (tuple_name (map (name_at self.old) parts.items))

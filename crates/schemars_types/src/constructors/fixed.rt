@@ -14,10 +14,10 @@ use std::alloc::Global;
 
 /// Rows of enums and structs that many programs have.
 ///
-/// Each call answers the number of the type's row, which has no notes. It adds the row unless it is
-/// there. Those of `either` are written in place, and no others. `AlreadyDefined` says that another entry stands
-/// under the id, and `UnknownType` has the first of the numbers that is no row's. After a refusal the table
-/// is as before, but for the numbers of times.
+/// Each call returns the number of the type's row, which has no notes, and adds the row if it does
+/// not exist. Only the rows of `either` are written in place. `AlreadyDefined` is returned if the
+/// id has another entry, and `UnknownType` with the first number that is not the number of a row.
+/// On an error the table is unchanged, except that the rows of the numbers of a time stay.
 impl Types {
     /// The type of maps with `Ok` of row `value`, or with `Err` of row `error`, and not both.
     pub fn result(
@@ -94,8 +94,8 @@ impl Types {
         )
     }
 
-    /// The type of spans of time: maps with `secs`, a 64-bit number, and `nanos`, a 32-bit number. The
-    /// rows of these numbers come before it, and stay where it is refused.
+    /// The type of spans of time: maps with `secs`, a 64-bit number, and `nanos`, a 32-bit number.
+    /// The rows of these numbers come before it, and stay where it is refused.
     pub fn duration(&mut self, alloc: Global) -> Result<TypeNo, TypesError>
         ensures ok { IfOk result (RegistersTime (codes "std::time::Duration") (codes "Duration")
             (codes "secs") (codes "nanos") self.old self.new) }
@@ -106,8 +106,8 @@ impl Types {
     }
 
     /// The type of points in time: maps with `secs_since_epoch`, a 64-bit number, and
-    /// `nanos_since_epoch`, a 32-bit number. The rows of these numbers come before it, and stay where
-    /// it is refused.
+    /// `nanos_since_epoch`, a 32-bit number. The rows of these numbers come before it, and stay
+    /// where it is refused.
     pub fn system_time(&mut self, alloc: Global) -> Result<TypeNo, TypesError>
         ensures ok { IfOk result (RegistersTime (codes "std::time::SystemTime") (codes "SystemTime")
             (codes "secs_since_epoch") (codes "nanos_since_epoch") self.old self.new) }

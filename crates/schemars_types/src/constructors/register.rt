@@ -32,8 +32,8 @@ impl Types {
         self.register_named(alloc, id, name, false, Shape::Struct(fields))
     }
 
-    // Reserves and defines a row. Its shape refers to rows of the table alone, so a new row is never
-    // left without its entry.
+    // Reserves and defines a row. Its shape refers to rows of the table alone, so a new row is
+    // never left without its entry.
     pub(crate) fn register_row(
         &mut self,
         alloc: Global,
@@ -55,8 +55,8 @@ impl Types {
         Ok(n)
     }
 
-    // Registers a row that is made of row `n`: its id has the id of `n` between these texts, and its
-    // name has that of `n` behind this one.
+    // Registers a row that is made of row `n`: its id has the id of `n` between these texts, and
+    // its name has that of `n` behind this one.
     pub(crate) fn register_around(
         &mut self,
         alloc: Global,

@@ -17,9 +17,9 @@ use std::alloc::{AllocError, Global};
 
 /// Rows of common types that are not made of others.
 ///
-/// Each call answers the number of the type's row, which has no notes. It adds the row unless it is
-/// there. Rows are written in place but for those of bytes, schemas and versions. `AlreadyDefined` says that
-/// another entry stands under the id. After a refusal the table is as before.
+/// Each call returns the number of the type's row, which has no notes, and adds the row if it does
+/// not exist. Rows are written in place, except those of bytes, schemas and versions.
+/// `AlreadyDefined` is returned if the id has another entry. On an error the table is unchanged.
 impl Types {
     /// The type of null.
     pub fn null(&mut self, alloc: Global) -> Result<TypeNo, TypesError>

@@ -29,8 +29,8 @@ pub fn name_at(slots: &IndexMap<String, Slot>, n: TypeNo) -> &str
     }
 }
 
-/// The id and the name of a row that is made of row `n`: its id has the id of `n` between two texts,
-/// and its name has that of `n` behind one.
+/// The id and the name of a row that is made of row `n`: its id has the id of `n` between two
+/// texts, and its name has that of `n` behind one.
 pub fn texts_around(
     alloc: Global,
     slots: &IndexMap<String, Slot>,
