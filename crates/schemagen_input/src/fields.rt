@@ -1,8 +1,10 @@
 //! Fields of structs.
 ghost use Rattle.std.specs.Prelude.{◌≡◌, true, None, Some, IfOk, IfErr, option_map, map, codes};
 ghost use Rattle.serde_json.specs.View.{view, items_view};
-ghost use Rattle.schemars_shapes.specs.Shape.{shape_of, field_of, flattened_of, fields_of, required_of};
-ghost use Rattle.schemagen_input.specs.Forms.{required, required_each, required_in, field_in, fields_in, list_in, fields_said, struct_in};
+ghost use Rattle.schemars_shapes.specs.Shape.{shape_of, field_of, flattened_of, fields_of};
+ghost use Rattle.schemars_shapes.specs.Shape.{required_of};
+ghost use Rattle.schemagen_input.specs.Forms.{required, required_each, required_in, field_in};
+ghost use Rattle.schemagen_input.specs.Forms.{fields_in, list_in, fields_said, struct_in};
 ghost use Rattle.schemagen_input.specs.Forms.{optional, flattened_in, all_flattened_in, flatten_in};
 
 use crate::error::InputError;
@@ -79,7 +81,8 @@ fn field_in(alloc: Global, value: &Value) -> Result<Field, InputError>
 }
 
 fn fields_in(alloc: Global, values: &[Value]) -> Result<Vec<Field>, InputError>
-    ensures ok { IfOk result (λ v. fields_in (items_view values.now) ≡ Some (map field_of v.items)) }
+    ensures ok { IfOk result (λ v. fields_in (items_view values.now)
+        ≡ Some (map field_of v.items)) }
     ensures bad { IfErr result
         (λ e. e ≡ InputError.BadTable → fields_in (items_view values.now) ≡ None) }
 {
@@ -117,7 +120,8 @@ fn flattened_in(value: &Value) -> Option<Flattened>
 }
 
 fn all_flattened_in(alloc: Global, values: &[Value]) -> Result<Vec<Flattened>, InputError>
-    ensures ok { IfOk result (λ v. all_flattened_in (items_view values.now) ≡ Some (map flattened_of v.items)) }
+    ensures ok { IfOk result (λ v. all_flattened_in (items_view values.now)
+        ≡ Some (map flattened_of v.items)) }
     ensures bad { IfErr result
         (λ e. e ≡ InputError.BadTable → all_flattened_in (items_view values.now) ≡ None) }
 {
@@ -148,7 +152,8 @@ fn flatten_in(alloc: Global, value: &Value) -> Result<Vec<Flattened>, InputError
 /// The fields of a struct, the rows flattened into it, and whether other keys are excluded.
 pub fn fields_said(alloc: Global, value: &Value) -> Result<Fields, InputError>
     ensures ok { IfOk result (λ f. fields_said (view value.now) ≡ Some (fields_of f)) }
-    ensures bad { IfErr result (λ e. e ≡ InputError.BadTable → fields_said (view value.now) ≡ None) }
+    ensures bad { IfErr result (λ e. e ≡ InputError.BadTable
+        → fields_said (view value.now) ≡ None) }
 {
     if !has_only(value, &["fields", "flatten", "closed"]) {
         return Err(InputError::BadTable);

@@ -1,8 +1,10 @@
 //! The members of objects, and what single values say.
-ghost use Rattle.std.specs.Prelude.{◌≡◌, false, None, Some, IfOk, IfErr, option_map, string_bytes, map};
+ghost use Rattle.std.specs.Prelude.{◌≡◌, false, None, Some, IfOk, IfErr, option_map, string_bytes};
+ghost use Rattle.std.specs.Prelude.{map};
 ghost use Rattle.serde_json.specs.View.{view, items_view, members_view};
 ghost use Rattle.schemars_schema.specs.OrderedText.{is_listed};
-ghost use Rattle.schemagen_input.specs.Forms.{has_only, lone_in, number_in, notes_in, kind_named, kind_in, parts_in, numbers_in};
+ghost use Rattle.schemagen_input.specs.Forms.{has_only, lone_in, number_in, notes_in, kind_named};
+ghost use Rattle.schemagen_input.specs.Forms.{kind_in, parts_in, numbers_in};
 ghost use Rattle.schemagen_input.specs.Forms.{optional, needed};
 ghost use Rattle.serde_json.specs.Find.{as_bool, as_str};
 

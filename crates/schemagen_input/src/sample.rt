@@ -49,7 +49,8 @@ impl<T: Drop> From<AllocFailed<T>> for SampleError {
 #[cycle(sample)]
 pub fn read_sample(alloc: Global, value: &Value) -> Result<Sample, SampleError>
     ensures ok { IfOk result (λ x. sample_input (view value.now) ≡ Some (example_of x)) }
-    ensures same { IfOk result (λ x. IsJson (view value.now) → sample_json (example_of x) ≡ Some (view value.now)) }
+    ensures same { IfOk result (λ x. IsJson (view value.now)
+        → sample_json (example_of x) ≡ Some (view value.now)) }
     ensures not_whole { result ≡ Err SampleError.NotWhole → sample_input (view value.now) ≡ None }
 {
     match value {
@@ -69,8 +70,10 @@ pub fn read_sample(alloc: Global, value: &Value) -> Result<Sample, SampleError>
 #[cycle(sample)]
 #[tactic(auto, using(crate::proofs::Samples::more_examples, crate::proofs::Samples::all_examples))]
 fn read_items(alloc: Global, items: &[Value]) -> Result<Vec<Sample>, SampleError>
-    ensures ok { IfOk result (λ v. items_input (items_view items.now) ≡ Some (examples_view v.items)) }
-    ensures not_whole { result ≡ Err SampleError.NotWhole → items_input (items_view items.now) ≡ None }
+    ensures ok { IfOk result (λ v. items_input (items_view items.now)
+        ≡ Some (examples_view v.items)) }
+    ensures not_whole { result ≡ Err SampleError.NotWhole
+        → items_input (items_view items.now) ≡ None }
 {
     let mut samples = Vec::new(alloc);
     for item in items {
@@ -85,8 +88,10 @@ fn read_members(
     alloc: Global,
     members: &Map<String, Value>,
 ) -> Result<Vec<(String, Sample)>, SampleError>
-    ensures ok { IfOk result (λ v. members_input (members_view members.now.entries) ≡ Some (entries_view v.items)) }
-    ensures not_whole { result ≡ Err SampleError.NotWhole → members_input (members_view members.now.entries) ≡ None }
+    ensures ok { IfOk result (λ v. members_input (members_view members.now.entries)
+        ≡ Some (entries_view v.items)) }
+    ensures not_whole { result ≡ Err SampleError.NotWhole
+        → members_input (members_view members.now.entries) ≡ None }
 {
     let mut entries = Vec::new(alloc);
     for (key, value) in members.iter() {

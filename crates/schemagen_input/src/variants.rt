@@ -1,10 +1,14 @@
 //! Variants of enums.
-ghost use Rattle.std.specs.Prelude.{◌≡◌, None, Some, IfOk, IfErr, option_map, option_and_then, map, codes};
+ghost use Rattle.std.specs.Prelude.{◌≡◌, None, Some, IfOk, IfErr, option_map, option_and_then, map};
+ghost use Rattle.std.specs.Prelude.{codes};
 ghost use Rattle.serde_json.specs.View.{view, items_view};
-ghost use Rattle.schemars_shapes.specs.Shape.{shape_of, no_payload, payload_of, variant_of, internal_payload_of, internal_variant_of};
-ghost use Rattle.schemagen_input.specs.Forms.{payload_named, payload_under, payload_in, variant_in, variants_in};
+ghost use Rattle.schemars_shapes.specs.Shape.{shape_of, no_payload, payload_of, variant_of};
+ghost use Rattle.schemars_shapes.specs.Shape.{internal_payload_of, internal_variant_of};
+ghost use Rattle.schemagen_input.specs.Forms.{payload_named, payload_under, payload_in, variant_in};
+ghost use Rattle.schemagen_input.specs.Forms.{variants_in};
 ghost use Rattle.schemagen_input.specs.Forms.{enum_in, external_in, untagged_in};
-ghost use Rattle.schemagen_input.specs.Forms.{payload_inside, variant_inside, internals_in, internals_said, internal_in, optional};
+ghost use Rattle.schemagen_input.specs.Forms.{payload_inside, variant_inside, internals_in};
+ghost use Rattle.schemagen_input.specs.Forms.{internals_said, internal_in, optional};
 
 use crate::error::InputError;
 use crate::fields::fields_said;
@@ -97,7 +101,8 @@ fn variant_in(alloc: Global, value: &Value) -> Result<Variant, InputError>
 }
 
 fn variants_in(alloc: Global, values: &[Value]) -> Result<Vec<Variant>, InputError>
-    ensures ok { IfOk result (λ v. variants_in (items_view values.now) ≡ Some (map variant_of v.items)) }
+    ensures ok { IfOk result (λ v. variants_in (items_view values.now)
+        ≡ Some (map variant_of v.items)) }
     ensures bad { IfErr result
         (λ e. e ≡ InputError.BadTable → variants_in (items_view values.now) ≡ None) }
 {
@@ -129,7 +134,8 @@ fn enum_in(alloc: Global, value: &Value) -> Result<Vec<Variant>, InputError>
 /// An enum whose variants are tagged by their names.
 pub fn external_in(alloc: Global, value: &Value) -> Result<Shape, InputError>
     ensures ok { IfOk result (λ s. external_in (view value.now) ≡ Some (shape_of s)) }
-    ensures bad { IfErr result (λ e. e ≡ InputError.BadTable → external_in (view value.now) ≡ None) }
+    ensures bad { IfErr result (λ e. e ≡ InputError.BadTable
+        → external_in (view value.now) ≡ None) }
 {
     let variants = enum_in(alloc, value)?;
     Ok(Shape::External(variants))
@@ -138,7 +144,8 @@ pub fn external_in(alloc: Global, value: &Value) -> Result<Shape, InputError>
 /// An enum whose variants are tagged by nothing.
 pub fn untagged_in(alloc: Global, value: &Value) -> Result<Shape, InputError>
     ensures ok { IfOk result (λ s. untagged_in (view value.now) ≡ Some (shape_of s)) }
-    ensures bad { IfErr result (λ e. e ≡ InputError.BadTable → untagged_in (view value.now) ≡ None) }
+    ensures bad { IfErr result (λ e. e ≡ InputError.BadTable
+        → untagged_in (view value.now) ≡ None) }
 {
     let variants = enum_in(alloc, value)?;
     Ok(Shape::Untagged(variants))
@@ -173,7 +180,8 @@ fn variant_inside(variant: Variant) -> Option<InternalVariant>
 }
 
 fn internals_in(alloc: Global, values: &[Value]) -> Result<Vec<InternalVariant>, InputError>
-    ensures ok { IfOk result (λ v. internals_in (items_view values.now) ≡ Some (map internal_variant_of v.items)) }
+    ensures ok { IfOk result (λ v. internals_in (items_view values.now)
+        ≡ Some (map internal_variant_of v.items)) }
     ensures bad { IfErr result
         (λ e. e ≡ InputError.BadTable → internals_in (items_view values.now) ≡ None) }
 {
@@ -186,9 +194,11 @@ fn internals_in(alloc: Global, values: &[Value]) -> Result<Vec<InternalVariant>,
 }
 
 fn internal_variant_in(alloc: Global, value: &Value) -> Result<InternalVariant, InputError>
-    ensures ok { IfOk result (λ x. option_and_then variant_inside (variant_in (view value.now)) ≡ Some (internal_variant_of x)) }
+    ensures ok { IfOk result (λ x. option_and_then variant_inside (variant_in (view value.now))
+        ≡ Some (internal_variant_of x)) }
     ensures bad { IfErr result
-        (λ e. e ≡ InputError.BadTable → option_and_then variant_inside (variant_in (view value.now)) ≡ None) }
+        (λ e. e ≡ InputError.BadTable
+        → option_and_then variant_inside (variant_in (view value.now)) ≡ None) }
 {
     let variant = variant_in(alloc, value)?;
     variant_inside(variant).ok_or(InputError::BadTable)
@@ -196,8 +206,10 @@ fn internal_variant_in(alloc: Global, value: &Value) -> Result<InternalVariant, 
 
 // The variants beside a tag; there are none where they are missing.
 fn internals_said(alloc: Global, value: &Value) -> Result<Vec<InternalVariant>, InputError>
-    ensures ok { IfOk result (λ v. internals_said (view value.now) ≡ Some (map internal_variant_of v.items)) }
-    ensures bad { IfErr result (λ e. e ≡ InputError.BadTable → internals_said (view value.now) ≡ None) }
+    ensures ok { IfOk result (λ v. internals_said (view value.now)
+        ≡ Some (map internal_variant_of v.items)) }
+    ensures bad { IfErr result (λ e. e ≡ InputError.BadTable
+        → internals_said (view value.now) ≡ None) }
 {
     let Some(variants) = value.get("variants") else {
         return Ok(Vec::new(alloc));
@@ -211,7 +223,8 @@ fn internals_said(alloc: Global, value: &Value) -> Result<Vec<InternalVariant>, 
 /// An enum whose variants are named by a member of their own maps.
 pub fn internal_in(alloc: Global, value: &Value) -> Result<Shape, InputError>
     ensures ok { IfOk result (λ s. internal_in (view value.now) ≡ Some (shape_of s)) }
-    ensures bad { IfErr result (λ e. e ≡ InputError.BadTable → internal_in (view value.now) ≡ None) }
+    ensures bad { IfErr result (λ e. e ≡ InputError.BadTable
+        → internal_in (view value.now) ≡ None) }
 {
     if !has_only(value, &["tag", "closed", "variants"]) {
         return Err(InputError::BadTable);

@@ -1,5 +1,6 @@
 //! A run of the program over its words, a source and a sink.
-ghost use Rattle.std.specs.Prelude.{◌≡◌, ◌≢◌, ◌⊎◌, ◌↔◌, ℕ, List, Some, None, false, true, Err, IsTrue, IfOk, IfErr, OnOk};
+ghost use Rattle.std.specs.Prelude.{◌≡◌, ◌≢◌, ◌⊎◌, ◌↔◌, ℕ, List, Some, None, false, true, Err};
+ghost use Rattle.std.specs.Prelude.{IsTrue, IfOk, IfErr, OnOk};
 ghost use Rattle.std.specs.Prelude.{string_bytes, [], ◌∷◌, ◌++◌, ◌<◌, length};
 ghost use Rattle.std.specs.Io.KnownBytes.{Appends};
 ghost use Rattle.serde_json.specs.View.{view, members_view};
@@ -16,11 +17,15 @@ ghost use Rattle.schemagen_input.specs.SampleInput.{sample_input};
 ghost use Rattle.schemagen_run.specs.declared.words.Dialect.TheVariants.{OpenApi3};
 ghost use Rattle.schemagen_run.specs.Words.{AskForTypes, AskForSample, AreKnown};
 ghost use Rattle.schemagen_run.specs.Run.{GivesAll, IsTextOf, IsNoJson, IsBadTable, IsTableText};
-ghost use Rattle.schemagen_run.specs.Run.{IsAcceptedText, IsNotedText, IsFaultyTable, IsRefusal, IsLineRefusal};
-ghost use Rattle.schemagen_run.specs.Run.{settings_for, settings_of_dialect, transforms_of_dialect, fresh};
-ghost use Rattle.schemagen_run.specs.Run.{IsDocumentOf, IsTextLine, IsDocumentLine, IsLineOf, IsTableLine, IsUnplacedText};
+ghost use Rattle.schemagen_run.specs.Run.{IsAcceptedText, IsNotedText, IsFaultyTable, IsRefusal};
+ghost use Rattle.schemagen_run.specs.Run.{IsLineRefusal};
+ghost use Rattle.schemagen_run.specs.Run.{settings_for, settings_of_dialect, transforms_of_dialect};
+ghost use Rattle.schemagen_run.specs.Run.{fresh};
+ghost use Rattle.schemagen_run.specs.Run.{IsDocumentOf, IsTextLine, IsDocumentLine, IsLineOf};
+ghost use Rattle.schemagen_run.specs.Run.{IsTableLine, IsUnplacedText};
 ghost use Rattle.schemagen_run.specs.Run.{AreDefinitionsOf, AreTaken, IsDefinitionsLine};
-ghost use Rattle.schemagen_run.specs.Run.{IsNotWhole, IsSampleText, IsSampleDocument, IsExampleLine, IsSampleLineOf, IsSampleLine};
+ghost use Rattle.schemagen_run.specs.Run.{IsNotWhole, IsSampleText, IsSampleDocument};
+ghost use Rattle.schemagen_run.specs.Run.{IsExampleLine, IsSampleLineOf, IsSampleLine};
 ghost use Rattle.schemagen_run.specs.Run.{IsLineFor, IsUnplacedFor};
 ghost use Rattle.schemagen_run.specs.Fault.{IsValueFault, IsReadFault, IsTableFault, IsOutside};
 ghost use Rattle.schemagen_run.specs.Fault.{IsTypesFault, IsSampleFault, IsFault};
@@ -71,7 +76,8 @@ pub fn run<S: Source, K: Sink>(
     ensures bad_table { result ≡ Err (Fault.Refused BAD_TABLE)
         → AskForTypes words.now × GivesAll (S.left source.old) (S.left source.new) IsBadTable }
     ensures faulty { IfErr result (λ e. IsTableFault e
-        → AskForTypes words.now × GivesAll (S.left source.old) (S.left source.new) (IsFaultyTable e)) }
+        → AskForTypes words.now × GivesAll (S.left source.old) (S.left source.new)
+        (IsFaultyTable e)) }
     ensures unplaced { result ≡ Err (Fault.Refused DEFINITIONS_PATH)
         → GivesAll (S.left source.old) (S.left source.new) (IsUnplacedFor words.now) }
     ensures not_whole { result ≡ Err (Fault.Refused NOT_WHOLE)
@@ -89,7 +95,8 @@ pub fn run<S: Source, K: Sink>(
         (λ e. e ≢ Fault.Refused WRITE → sink.new ≡ sink.old) }
     ensures faults { IfErr result IsFault }
     ensures accepted { AskForTypes words.now → (bytes : List ℕ) → S.left source.old ≡ Some bytes
-        → IsAcceptedText bytes → IfErr result (λ e. IsOutside e ⊎ (e ≡ Fault.Refused DEFINITIONS_PATH)) }
+        → IsAcceptedText bytes → IfErr result (λ e. IsOutside e
+        ⊎ (e ≡ Fault.Refused DEFINITIONS_PATH)) }
     ensures noted { AskForTypes words.now → (bytes : List ℕ) → S.left source.old ≡ Some bytes
         → IsNotedText bytes → IfErr result IsOutside }
     ensures whole { AskForSample words.now → (bytes : List ℕ) → S.left source.old ≡ Some bytes
@@ -130,8 +137,10 @@ fn run_types<S: Source, K: Sink>(
         (λ e. e ≢ Fault.Refused WRITE → sink.new ≡ sink.old) }
     ensures faults { IfErr result IsTypesFault }
     ensures accepted { (bytes : List ℕ) → S.left source.old ≡ Some bytes
-        → IsAcceptedText bytes → IfErr result (λ e. IsOutside e ⊎ (e ≡ Fault.Refused DEFINITIONS_PATH)) }
-    ensures noted { (bytes : List ℕ) → S.left source.old ≡ Some bytes → IsNotedText bytes → IfErr result IsOutside }
+        → IsAcceptedText bytes → IfErr result (λ e. IsOutside e
+        ⊎ (e ≡ Fault.Refused DEFINITIONS_PATH)) }
+    ensures noted { (bytes : List ℕ) → S.left source.old ≡ Some bytes → IsNotedText bytes
+        → IfErr result IsOutside }
 {
     let (types, root) = read_table(alloc, source)?;
     let line = line_for(alloc, asked, types, root)?;
@@ -164,7 +173,8 @@ fn run_sample<S: Source, K: Sink>(
     ensures unwritten { IfErr result
         (λ e. e ≢ Fault.Refused WRITE → sink.new ≡ sink.old) }
     ensures faults { IfErr result IsSampleFault }
-    ensures whole { (bytes : List ℕ) → S.left source.old ≡ Some bytes → IsSampleText bytes → IfErr result IsOutside }
+    ensures whole { (bytes : List ℕ) → S.left source.old ≡ Some bytes → IsSampleText bytes
+        → IfErr result IsOutside }
 {
     let value = read_value(alloc, source)?;
     let line = sample_line(alloc, dialect, &value)?;
@@ -260,7 +270,8 @@ fn settings_of_dialect(alloc: Global, dialect: Dialect) -> Result<SchemaSettings
 // The settings that are asked for.
 fn settings_for(alloc: Global, asked: Asked) -> Result<SchemaSettings, AllocError>
     ensures settings { IfOk result (λ s. settings_of s ≡ settings_for asked) }
-    ensures transforms { IfOk result (λ s. s.transforms.items ≡ transforms_of_dialect asked.dialect) }
+    ensures transforms { IfOk result (λ s. s.transforms.items
+        ≡ transforms_of_dialect asked.dialect) }
 {
     let mut settings = settings_of_dialect(alloc, asked.dialect)?;
     settings.contract = asked.contract;
@@ -328,7 +339,8 @@ fn line_of_definitions(
     alloc: Global,
     definitions: &Map<String, Value>,
 ) -> Result<String, AllocError>
-    ensures { IfOk result (λ s. IsDefinitionsLine (members_view definitions.now.entries) (string_bytes s)) }
+    ensures { IfOk result (λ s. IsDefinitionsLine (members_view definitions.now.entries)
+        (string_bytes s)) }
 {
     let text = definitions_to_ordered_string(alloc, definitions)?;
     with_newline(text)
@@ -349,7 +361,8 @@ fn generator_over(
     types: Types,
 ) -> Result<SchemaGenerator, GenerateError>
     ensures fresh { IfOk result (λ g. state g ≡ fresh asked types) }
-    ensures transforms { IfOk result (λ g. g.settings.transforms.items ≡ transforms_of_dialect asked.dialect) }
+    ensures transforms { IfOk result (λ g. g.settings.transforms.items
+        ≡ transforms_of_dialect asked.dialect) }
     ensures accepted { OnOk result (IsAccepted types) }
     ensures refused { IfErr result (λ e. (e ≡ GenerateError.OutOfMemory) ⊎ HasFault types e) }
     ensures only_memory { IsAccepted types → IfErr result (λ e. e ≡ GenerateError.OutOfMemory) }
@@ -400,7 +413,8 @@ fn taken_definitions(
 ) -> Result<Map<String, Value>, GenerateError>
     requires own { some_own generator.old.settings.transforms.items ≡ false }
     requires known { root < length generator.old.contents.rows }
-    ensures ok { IfOk result (λ m. AreTaken generator.old.settings.transforms.items (state generator.old) root
+    ensures ok { IfOk result (λ m. AreTaken generator.old.settings.transforms.items
+        (state generator.old) root
         (members_view m.entries)) }
     ensures only_memory { IfErr result (λ e. e ≡ GenerateError.OutOfMemory) }
 {
@@ -411,8 +425,10 @@ fn taken_definitions(
 // The line of the document of the example that the value is.
 fn sample_line(alloc: Global, dialect: Dialect, value: &Value) -> Result<String, Fault>
     ensures ok { IfOk result (λ s. IsSampleLineOf dialect (view value.now) (string_bytes s)) }
-    ensures not_whole { result ≡ Err (Fault.Refused NOT_WHOLE) → sample_input (view value.now) ≡ None }
-    ensures faults { IfErr result (λ e. (e ≡ Fault.Refused OUT_OF_MEMORY) ⊎ (e ≡ Fault.Refused NOT_WHOLE)) }
+    ensures not_whole { result ≡ Err (Fault.Refused NOT_WHOLE)
+        → sample_input (view value.now) ≡ None }
+    ensures faults { IfErr result (λ e. (e ≡ Fault.Refused OUT_OF_MEMORY)
+        ⊎ (e ≡ Fault.Refused NOT_WHOLE)) }
 {
     let sample = sample_of(alloc, value)?;
     example_line(alloc, dialect, &sample)
@@ -431,9 +447,12 @@ fn example_line(alloc: Global, dialect: Dialect, sample: &Sample) -> Result<Stri
 // The example that the value is.
 fn sample_of(alloc: Global, value: &Value) -> Result<Sample, Fault>
     ensures ok { IfOk result (λ x. sample_input (view value.now) ≡ Some (example_of x)) }
-    ensures same { IfOk result (λ x. IsJson (view value.now) → sample_json (example_of x) ≡ Some (view value.now)) }
-    ensures not_whole { result ≡ Err (Fault.Refused NOT_WHOLE) → sample_input (view value.now) ≡ None }
-    ensures faults { IfErr result (λ e. (e ≡ Fault.Refused OUT_OF_MEMORY) ⊎ (e ≡ Fault.Refused NOT_WHOLE)) }
+    ensures same { IfOk result (λ x. IsJson (view value.now)
+        → sample_json (example_of x) ≡ Some (view value.now)) }
+    ensures not_whole { result ≡ Err (Fault.Refused NOT_WHOLE)
+        → sample_input (view value.now) ≡ None }
+    ensures faults { IfErr result (λ e. (e ≡ Fault.Refused OUT_OF_MEMORY)
+        ⊎ (e ≡ Fault.Refused NOT_WHOLE)) }
 {
     match read_sample(alloc, value) {
         Ok(sample) => Ok(sample),

@@ -1,5 +1,6 @@
 //! Where a run's bytes come from, and where they go.
-ghost use Rattle.std.specs.Prelude.{◌≡◌, ◌<◌, ◌≤◌, ℕ, List, [], ◌++◌, Bool, false, Option, length, IsTrue, IfOk, OnOk, OnErr, IfErr};
+ghost use Rattle.std.specs.Prelude.{◌≡◌, ◌<◌, ◌≤◌, ℕ, List, [], ◌++◌, Bool, false, Option, length};
+ghost use Rattle.std.specs.Prelude.{IsTrue, IfOk, OnOk, OnErr, IfErr};
 ghost use Rattle.std.specs.Result.{is_err};
 ghost use Rattle.std.specs.Io.KnownBytes.{ReadConsumes, WriteAppends, Appends, Consumes, IsAtEnd};
 ghost use Rattle.schemagen_run.specs.Streams.{AppendsBeginning};
@@ -148,7 +149,8 @@ pub(crate) fn read_all<S: Source>(alloc: Global, source: &mut S) -> Result<Vec<u
     ensures end { OnOk result (IsAtEnd (S.left source.new)) }
     ensures sound { OnOk result (S.has_failed source.new ≡ false) }
     ensures failed { IfErr result (λ e. e ≡ ReadError.Failed → IsTrue (S.has_failed source.new)) }
-    ensures memory { IfErr result (λ e. e ≡ ReadError.OutOfMemory → S.has_failed source.new ≡ false) }
+    ensures memory { IfErr result (λ e. e ≡ ReadError.OutOfMemory
+        → S.has_failed source.new ≡ false) }
 {
     let mut all = Vec::new(alloc);
     let mut buf = [0u8; 4096];

@@ -1,6 +1,7 @@
 //! What the words of a run ask for.
 ghost use Rattle.std.specs.Prelude.{◌≡◌, ◌↔◌, IsTrue, MatchOption, bytes_eq, codes, [], ◌∷◌};
-ghost use Rattle.schemagen_run.specs.Words.{AskFor, AskForTypes, AskForExample, AskForSample, AreKnown, Asks};
+ghost use Rattle.schemagen_run.specs.Words.{AskFor, AskForTypes, AskForExample, AskForSample};
+ghost use Rattle.schemagen_run.specs.Words.{AreKnown, Asks};
 ghost use Rattle.schemagen_run.specs.Words.{word_for, IsDialect, IsAskedBy, IsKnown};
 
 use schemars::Contract;
@@ -107,7 +108,8 @@ fn asked_plainly(dialect: &str) -> Option<Asked>
 
 // What one flag asks for.
 fn asked_by_one(dialect: &str, flag: &str) -> Option<Asked>
-    ensures { MatchOption result (¬ (IsKnown dialect.now (flag.now ∷ []))) (IsAskedBy dialect.now (flag.now ∷ [])) }
+    ensures { MatchOption result (¬ (IsKnown dialect.now (flag.now
+        ∷ []))) (IsAskedBy dialect.now (flag.now ∷ [])) }
 {
     let dialect = dialect_of(dialect)?;
     if flag == "--serialize" {

@@ -116,7 +116,8 @@ pub fn answer(
     requires known { row_asked (ask_of ask) < length (plan_of plan.now).rows }
     ensures undone { undone work.new ≡ undone work.old }
     ensures step { OnOk result (Step (plan_of plan.now) work.old work.new) }
-    ensures is { IfOk result (IsAnswer (plan_of plan.now) in_definition work.old work.new (ask_of ask)) }
+    ensures is { IfOk result (IsAnswer (plan_of plan.now) in_definition work.old work.new
+        (ask_of ask)) }
 {
     let answer = made(alloc, plan, work, in_definition, Request::Asked(ask))?;
     Ok(answer)

@@ -1,7 +1,9 @@
 //! Which rows have names.
-ghost use Rattle.std.specs.Prelude.{ℕ, ◌≡◌, ◌+◌, ◌<◌, ◌^◌, ◌++◌, ◌∷◌, [], false, length, IfOk, OnOk, OnErr};
+ghost use Rattle.std.specs.Prelude.{ℕ, ◌≡◌, ◌+◌, ◌<◌, ◌^◌, ◌++◌, ◌∷◌, [], false, length, IfOk};
+ghost use Rattle.std.specs.Prelude.{OnOk, OnErr};
 ghost use Rattle.std.specs.Prelude.{Some, None, option_map, string_bytes, take};
-ghost use Rattle.schemars_build.specs.Naming.{name_of, is_used, candidate, IsOneToOne, IsFirstUnused};
+ghost use Rattle.schemars_build.specs.Naming.{name_of, is_used, candidate, IsOneToOne};
+ghost use Rattle.schemars_build.specs.Naming.{IsFirstUnused};
 ghost use Rattle.schemars_build.specs.Owners.{AreUsed, IsFirst, IsNoted, place_of};
 ghost use Rattle.schemars_types.specs.declared.contract.Contract.{Contract};
 
@@ -169,7 +171,9 @@ impl Names {
     fn push(&mut self, n: TypeNo, contract: Contract, name: String) -> Result<(), AllocError>
         requires unnamed { name_of n contract self.old ≡ None }
         requires unused { is_used (string_bytes name) self.old ≡ false }
-        ensures ok { OnOk result (self.new ≡ self.old ++ (record { row = n; contract = contract; name = string_bytes name }) ∷ []) }
+        ensures ok { OnOk result (self.new
+            ≡ self.old ++ (record { row = n; contract = contract; name = string_bytes name })
+            ∷ []) }
         ensures err { OnErr result (self.new ≡ self.old) }
     {
         extend(&mut self.places, n)?;
@@ -252,7 +256,8 @@ fn put_place(places: &mut Vec<Places>, n: TypeNo, contract: Contract, place: usi
 // Makes room for the places of row `n`.
 fn extend(places: &mut Vec<Places>, n: TypeNo) -> Result<(), AllocError>
     ensures ok { OnOk result (n < length places.new.items) }
-    ensures same { (m : ℕ) (d : Contract) → place_of m d places.new.items ≡ place_of m d places.old.items }
+    ensures same { (m : ℕ) (d : Contract)
+        → place_of m d places.new.items ≡ place_of m d places.old.items }
 {
     'growing: while places.len() <= n {
         places.push(NOWHERE)?;

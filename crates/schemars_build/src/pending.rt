@@ -1,5 +1,6 @@
 //! The rows whose documents are being made.
-ghost use Rattle.std.specs.Prelude.{ℕ, ◌≡◌, ◌<◌, [], not, length, Some, IfOk, OnOk, OnErr, nat_eq, slice_get};
+ghost use Rattle.std.specs.Prelude.{ℕ, ◌≡◌, ◌<◌, [], not, length, Some, IfOk, OnOk, OnErr, nat_eq};
+ghost use Rattle.std.specs.Prelude.{slice_get};
 ghost use Rattle.indexmap.specs.IndexSet.{insert_key};
 ghost use Rattle.schemars_build.specs.Placed.{is_pending};
 ghost use Rattle.schemars_build.specs.Work.{without_last};
@@ -108,7 +109,8 @@ impl Pending {
 // Makes room for the mark of row `n`.
 fn extend(marks: &mut Vec<usize>, n: TypeNo) -> Result<(), AllocError>
     ensures ok { OnOk result (n < length marks.new.items) }
-    ensures same { (m i : ℕ) → slice_get marks.old.items m ≡ Some i → slice_get marks.new.items m ≡ Some i }
+    ensures same { (m i : ℕ) → slice_get marks.old.items m ≡ Some i
+        → slice_get marks.new.items m ≡ Some i }
 {
     'growing: while marks.len() <= n {
         marks.push(0)?;
@@ -120,7 +122,8 @@ fn extend(marks: &mut Vec<usize>, n: TypeNo) -> Result<(), AllocError>
 fn put_mark(marks: &mut Vec<usize>, n: TypeNo, place: usize)
     requires { n < length marks.old.items }
     ensures here { slice_get marks.new.items n ≡ Some place }
-    ensures others { (m : ℕ) → (n ≡ m → ⊥) → slice_get marks.new.items m ≡ slice_get marks.old.items m }
+    ensures others { (m : ℕ) → (n ≡ m → ⊥)
+        → slice_get marks.new.items m ≡ slice_get marks.old.items m }
 {
     marks[n] = place;
 }

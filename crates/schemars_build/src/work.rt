@@ -1,6 +1,8 @@
 //! What documents are made into.
-ghost use Rattle.std.specs.Prelude.{ℕ, List, true, false, map, ◌≡◌, ◌∷◌, ◌++◌, ◌||◌, [], None, Some, length};
-ghost use Rattle.std.specs.Prelude.{IfOk, OnOk, OnErr, is_some, string_bytes, not, ◌&&◌, if◌then◌else◌};
+ghost use Rattle.std.specs.Prelude.{ℕ, List, true, false, map, ◌≡◌, ◌∷◌, ◌++◌, ◌||◌, [], None};
+ghost use Rattle.std.specs.Prelude.{Some, length};
+ghost use Rattle.std.specs.Prelude.{IfOk, OnOk, OnErr, is_some, string_bytes, not, ◌&&◌};
+ghost use Rattle.std.specs.Prelude.{if◌then◌else◌};
 ghost use Rattle.serde_json.specs.Data.{boolean, put, no_members};
 ghost use Rattle.serde_json.specs.Find.{get_member, as_object};
 ghost use Rattle.schemars_schema.specs.SchemaData.{members_in};
@@ -121,9 +123,11 @@ impl Work {
         contract: Contract,
         n: TypeNo,
     ) -> Result<String, AllocError>
-        ensures named { IfOk result (λ s. name_of n contract self.new.names ≡ Some (string_bytes s)) }
+        ensures named { IfOk result (λ s. name_of n contract self.new.names
+            ≡ Some (string_bytes s)) }
         ensures given { OnOk result (GivesNames types.now self.old.names self.new.names) }
-        ensures no_other { OnOk result ((m : ℕ) (c : Contract) (name : List ℕ) → name_of m c self.old.names ≡ None
+        ensures no_other { OnOk result ((m : ℕ) (c : Contract) (name : List ℕ)
+            → name_of m c self.old.names ≡ None
             → name_of m c self.new.names ≡ Some name → (m ≡ n) × (c ≡ contract)) }
         ensures rest { self.new ≡ record self.old { names = self.new.names } }
         ensures undone { undone self.new ≡ undone self.old }
@@ -186,7 +190,8 @@ impl Work {
     /// whether it was not noted before.
     pub fn enter(&mut self, inlines: bool, n: TypeNo) -> Result<bool, AllocError>
         ensures is_new { IfOk result (λ b. b ≡ inlines && not (is_pending self.old.pending n)) }
-        ensures ok { OnOk result (self.new ≡ record self.old { pending = pending_in inlines self.old.pending n }) }
+        ensures ok { OnOk result (self.new
+            ≡ record self.old { pending = pending_in inlines self.old.pending n }) }
         ensures err { OnErr result (self.new ≡ self.old) }
     {
         if !inlines {

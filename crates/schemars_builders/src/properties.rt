@@ -2,7 +2,8 @@
 ghost use Rattle.std.specs.Prelude.{◌≡◌, codes, OnOk};
 ghost use Rattle.serde_json.specs.Data.{array, no_items, item, put};
 ghost use Rattle.serde_json.specs.View.{view, members_view};
-ghost use Rattle.schemars_builders.specs.Properties.{with_member, with_first, with_last, put_missing};
+ghost use Rattle.schemars_builders.specs.Properties.{with_member, with_first, with_last};
+ghost use Rattle.schemars_builders.specs.Properties.{put_missing};
 ghost use Rattle.schemars_builders.specs.Properties.{with_property, required_first, required_last};
 ghost use Rattle.schemars_builders.specs.Properties.{required_unless, with_object_property};
 ghost use Rattle.schemars_builders.specs.Properties.{has_null_type, tagged, closed_where};
@@ -51,7 +52,8 @@ pub fn insert_object_property(
     is_optional: bool,
     sub_schema: Schema,
 ) -> Result<(), AllocError>
-    ensures { OnOk result (schema.new ≡ with_object_property key.now is_optional sub_schema schema.old) }
+    ensures { OnOk result (schema.new
+        ≡ with_object_property key.now is_optional sub_schema schema.old) }
 {
     let members = schema.ensure_object(alloc)?;
     put_property(alloc, members, key, sub_schema.to_value())?;

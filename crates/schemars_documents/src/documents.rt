@@ -6,11 +6,14 @@ ghost use Rattle.serde_json.specs.View.{items_view};
 ghost use Rattle.schemars_builders.specs.NullLaw.{text_items};
 ghost use Rattle.schemars_shapes.specs.Shape.{shape_of, field_of, required_of};
 ghost use Rattle.schemars_types.specs.Meaning.{is_required};
-ghost use Rattle.schemars_documents.specs.Documents.{byte_document, bytes_document, schema_document};
+ghost use Rattle.schemars_documents.specs.Documents.{byte_document, bytes_document};
+ghost use Rattle.schemars_documents.specs.Documents.{schema_document};
 ghost use Rattle.schemars_documents.specs.Documents.{required_names};
 ghost use Rattle.serde_json.specs.View.{view, members_view};
-ghost use Rattle.schemars_schema.specs.SchemaData.{IsSchema, members_in, inserted, put_all, put_members};
-ghost use Rattle.schemars_documents.specs.Documents.{typed, type_alone, char_document, formatted_document};
+ghost use Rattle.schemars_schema.specs.SchemaData.{IsSchema, members_in, inserted, put_all};
+ghost use Rattle.schemars_schema.specs.SchemaData.{put_members};
+ghost use Rattle.schemars_documents.specs.Documents.{typed, type_alone, char_document};
+ghost use Rattle.schemars_documents.specs.Documents.{formatted_document};
 ghost use Rattle.schemars_documents.specs.Documents.{empty_list_document, annotated};
 ghost use Rattle.schemars_documents.specs.Documents.{with_title, with_meta_schema, root_document};
 

@@ -36,7 +36,8 @@ pub fn entry_template<'t>(
     entry: &'t TypeEntry,
 ) -> Result<Template<'t>, AllocError>
     requires { IsChecked (basis_of basis.now).rows }
-    ensures { IfOk result (λ t. template_view t ≡ entry_template (basis_of basis.now) (entry_of entry.now)) }
+    ensures { IfOk result (λ t. template_view t
+        ≡ entry_template (basis_of basis.now) (entry_of entry.now)) }
 {
     let bare = template_of(alloc, basis, &entry.shape)?;
     Ok(Template::Noted(&entry.notes, Box::new(alloc, bare)?))
@@ -49,7 +50,8 @@ fn template_of<'t>(
     shape: &'t Shape,
 ) -> Result<Template<'t>, AllocError>
     requires { IsChecked (basis_of basis.now).rows }
-    ensures { IfOk result (λ t. template_view t ≡ template_of (basis_of basis.now) (shape_of shape.now)) }
+    ensures { IfOk result (λ t. template_view t
+        ≡ template_of (basis_of basis.now) (shape_of shape.now)) }
 {
     match shape {
         Shape::Null => finished(type_alone(alloc, "null")?),

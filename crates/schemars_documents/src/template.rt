@@ -7,7 +7,8 @@ ghost use Rattle.schemars_builders.specs.AllowNull.{allow_null};
 ghost use Rattle.schemars_builders.specs.Properties.{internally_tagged_variant};
 ghost use Rattle.schemars_flatten.specs.Flatten.{flattened};
 ghost use Rattle.schemars_documents.specs.Documents.{annotated};
-ghost use Rattle.schemars_documents.specs.Template.{asks_of, filled, filled_in, left, left_in, first, behind, keyed};
+ghost use Rattle.schemars_documents.specs.Template.{asks_of, filled, filled_in, left, left_in};
+ghost use Rattle.schemars_documents.specs.Template.{first, behind, keyed};
 ghost use Rattle.schemars_documents.specs.OfShape.{title_alone};
 ghost use Rattle.schemars_documents.specs.View.{ask_of, template_view, templates_view};
 
@@ -123,8 +124,10 @@ fn fill_value(
     template: Template<'_>,
     parts: &mut VecDeque<Schema>,
 ) -> Result<Value, AllocError>
-    ensures value { IfOk result (λ v. view v ≡ filled (template_view template.entry) parts.old.items) }
-    ensures left { OnOk result (parts.new.items ≡ left (template_view template.entry) parts.old.items) }
+    ensures value { IfOk result (λ v. view v
+        ≡ filled (template_view template.entry) parts.old.items) }
+    ensures left { OnOk result (parts.new.items
+        ≡ left (template_view template.entry) parts.old.items) }
 {
     match template {
         Template::Value(value) => Ok(value),
@@ -279,7 +282,8 @@ fn tagged(
     name: &str,
     closed: bool,
 ) -> Result<Value, AllocError>
-    ensures { IfOk result (λ v. view v ≡ internally_tagged_variant tag.now name.now closed (view value)) }
+    ensures { IfOk result (λ v. view v
+        ≡ internally_tagged_variant tag.now name.now closed (view value)) }
 {
     let mut schema = schema_of(alloc, value);
     apply_internal_enum_variant_tag(alloc, &mut schema, tag, name, closed)?;

@@ -32,19 +32,24 @@ pub fn json_schema_for_flatten<O>(
 ) -> Result<Schema, GenerateError>
     ensures members { IfOk result (IsAnswerOf (state generator.new) (members_of n required)) }
     ensures step { OnOk result (Adds (state generator.old) (state generator.new)) }
-    ensures needed { IfOk result (IsNeededFor (state generator.old) (state generator.new) (members_of n required)) }
+    ensures needed { IfOk result (IsNeededFor (state generator.old) (state generator.new)
+        (members_of n required)) }
     ensures reached { IfOk result (λ s. IsOpenStruct (entry_at generator.old.contents.rows n)
         → IsNeeded (state generator.old) (state generator.new) (references s)) }
-    ensures own { HasOwnDefinitions (state generator.old) → HasOwnDefinitions (state generator.new) }
-    ensures keys { HasOwnDefinitions (state generator.old) → IsPlainTable generator.new.contents.rows
+    ensures own { HasOwnDefinitions (state generator.old)
+        → HasOwnDefinitions (state generator.new) }
+    ensures keys { HasOwnDefinitions (state generator.old)
+        → IsPlainTable generator.new.contents.rows
         → ReferencesNameKeys (state generator.new) }
     ensures rest { generator.new.contents ≡ record generator.old.contents {
       names = generator.new.contents.names;
       definitions = generator.new.contents.definitions;
     } }
     ensures settings { generator.new.settings ≡ generator.old.settings }
-    ensures unknown { (result ≡ Err (GenerateError.UnknownType n)) ↔ (length generator.old.contents.rows ≤ n) }
-    ensures refused { IfErr result (λ e. (e ≡ GenerateError.OutOfMemory) ⊎ (e ≡ GenerateError.UnknownType n)) }
+    ensures unknown { (result ≡ Err (GenerateError.UnknownType n))
+        ↔ (length generator.old.contents.rows ≤ n) }
+    ensures refused { IfErr result (λ e. (e ≡ GenerateError.OutOfMemory)
+        ⊎ (e ≡ GenerateError.UnknownType n)) }
     ensures err { OnErr result (generator.new ≡ generator.old) }
 {
     let settings = generator.settings.document();
@@ -68,17 +73,22 @@ pub fn json_schema_for_internally_tagged_enum_newtype_variant<O>(
 ) -> Result<Schema, GenerateError>
     ensures content { IfOk result (IsAnswerOf (state generator.new) (content n)) }
     ensures step { OnOk result (Adds (state generator.old) (state generator.new)) }
-    ensures needed { IfOk result (IsNeededFor (state generator.old) (state generator.new) (content n)) }
-    ensures own { HasOwnDefinitions (state generator.old) → HasOwnDefinitions (state generator.new) }
-    ensures keys { HasOwnDefinitions (state generator.old) → IsPlainTable generator.new.contents.rows
+    ensures needed { IfOk result (IsNeededFor (state generator.old) (state generator.new)
+        (content n)) }
+    ensures own { HasOwnDefinitions (state generator.old)
+        → HasOwnDefinitions (state generator.new) }
+    ensures keys { HasOwnDefinitions (state generator.old)
+        → IsPlainTable generator.new.contents.rows
         → ReferencesNameKeys (state generator.new) }
     ensures rest { generator.new.contents ≡ record generator.old.contents {
       names = generator.new.contents.names;
       definitions = generator.new.contents.definitions;
     } }
     ensures settings { generator.new.settings ≡ generator.old.settings }
-    ensures unknown { (result ≡ Err (GenerateError.UnknownType n)) ↔ (length generator.old.contents.rows ≤ n) }
-    ensures refused { IfErr result (λ e. (e ≡ GenerateError.OutOfMemory) ⊎ (e ≡ GenerateError.UnknownType n)) }
+    ensures unknown { (result ≡ Err (GenerateError.UnknownType n))
+        ↔ (length generator.old.contents.rows ≤ n) }
+    ensures refused { IfErr result (λ e. (e ≡ GenerateError.OutOfMemory)
+        ⊎ (e ≡ GenerateError.UnknownType n)) }
     ensures err { OnErr result (generator.new ≡ generator.old) }
 {
     let settings = generator.settings.document();

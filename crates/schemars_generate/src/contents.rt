@@ -9,8 +9,10 @@ ghost use Rattle.schemars_schema.specs.References.{references};
 ghost use Rattle.schemars_types.specs.Extends.{begins_with};
 ghost use Rattle.schemars_types.specs.Rows.{entry_at};
 ghost use Rattle.schemars_types.specs.Faults.{IsAccepted, IsChecked};
-ghost use Rattle.schemars_headline.specs.Headline.{SubschemaHeadline, IsDraftPath, IsInlined, CannotPlace};
-ghost use Rattle.schemars_headline.specs.Calls.{IsPartOf, IsReferenceOf, Adds, IsNeeded, IsLastRootCall};
+ghost use Rattle.schemars_headline.specs.Headline.{SubschemaHeadline, IsDraftPath, IsInlined};
+ghost use Rattle.schemars_headline.specs.Headline.{CannotPlace};
+ghost use Rattle.schemars_headline.specs.Calls.{IsPartOf, IsReferenceOf, Adds, IsNeeded};
+ghost use Rattle.schemars_headline.specs.Calls.{IsLastRootCall};
 ghost use Rattle.schemars_headline.specs.Taken.{OpenApiHeadline};
 ghost use Rattle.schemars_build.specs.Missing.{row_asked};
 ghost use Rattle.schemars_build.specs.Parts.{IsPlainAsk};
@@ -18,14 +20,17 @@ ghost use Rattle.schemars_build.specs.Naming.{IsOneToOne};
 ghost use Rattle.schemars_documents.specs.PlainTable.{IsPlainTable, HasPlainNotes, IsOpenStruct};
 ghost use Rattle.schemars_documents.specs.Template as spec;
 ghost use Rattle.schemars_documents.specs.View.{ask_of};
-ghost use Rattle.schemars_headline.specs.State.{Settings, path_of, HasOwnDefinitions, ReferencesNameKeys};
+ghost use Rattle.schemars_headline.specs.State.{Settings, path_of, HasOwnDefinitions};
+ghost use Rattle.schemars_headline.specs.State.{ReferencesNameKeys};
 ghost use Rattle.schemars_generate.specs.Answers.{IsAnswerOf, IsNeededFor};
 ghost use Rattle.schemars_generate.specs.Refusals.{HasFault};
 ghost use Rattle.schemars_generate.specs.Samples.{IsSampleRoot, IsSampleRefusedThrough};
 ghost use Rattle.schemars_generate.specs.DocumentSettings.{settings_of, state_with};
 ghost use Rattle.schemars_sample.specs.Example.{example_of};
-ghost use Rattle.schemars_generate.specs.Through.{IsThrough, IsTurnedDown, AreThrough, AreTurnedDown};
-ghost use Rattle.schemars_generate.specs.Through.{IsUntransformed, IsUntransformedCall, IsRootRefused};
+ghost use Rattle.schemars_generate.specs.Through.{IsThrough, IsTurnedDown, AreThrough};
+ghost use Rattle.schemars_generate.specs.Through.{AreTurnedDown};
+ghost use Rattle.schemars_generate.specs.Through.{IsUntransformed, IsUntransformedCall};
+ghost use Rattle.schemars_generate.specs.Through.{IsRootRefused};
 
 use crate::document::{answer_of, last_document, root_document, row_asked, sample_document};
 use crate::document_settings::DocumentSettings;
@@ -87,7 +92,8 @@ impl Contents {
     ///
     /// Refusals: those of the table's `check`, and want of memory.
     pub fn with_types(alloc: Global, types: Types) -> Result<Contents, GenerateError>
-        ensures made { IfOk result (λ c. c ≡ record { rows = types; names = []; definitions = no_members }) }
+        ensures made { IfOk result (λ c. c
+            ≡ record { rows = types; names = []; definitions = no_members }) }
         ensures accepted { OnOk result (IsAccepted types) }
         ensures checked { OnOk result (IsChecked types) }
         ensures refused { IfErr result (λ e. (e ≡ GenerateError.OutOfMemory) ⊎ HasFault types e) }
@@ -109,7 +115,8 @@ impl Contents {
         ensures accepted { OnOk result (IsAccepted types) }
         ensures own { (s : Settings) → HasOwnDefinitions (state_with s self.old)
             → HasOwnDefinitions (state_with s self.new) }
-        ensures other { begins_with types self.old.rows ≡ false → result ≡ Err GenerateError.NotAnExtension }
+        ensures other { begins_with types self.old.rows ≡ false
+            → result ≡ Err GenerateError.NotAnExtension }
         ensures refused { begins_with types self.old.rows ≡ true
             → IfErr result (λ e. (e ≡ GenerateError.OutOfMemory) ⊎ HasFault types e) }
         ensures only_memory { begins_with types self.old.rows ≡ true → IsAccepted types
@@ -170,7 +177,8 @@ impl Contents {
             (members_view m.entries)) }
         ensures openapi3 { OnOk result ((x : Settings) → OpenApiHeadline (state_with x self.old)) }
         ensures rest { OnOk result (self.new ≡ record self.old { definitions = no_members }) }
-        ensures refused { IfErr result (λ e. ((e ≡ GenerateError.OutOfMemory) × (transforms.new ≡ transforms.old))
+        ensures refused { IfErr result (λ e. ((e ≡ GenerateError.OutOfMemory)
+            × (transforms.new ≡ transforms.old))
             ⊎ AreTurnedDown T.makes transforms.old transforms.new self.old.definitions e) }
         ensures err { OnErr result (self.new ≡ self.old) }
     {
@@ -190,20 +198,24 @@ impl Contents {
         settings: &DocumentSettings<'_>,
         n: TypeNo,
     ) -> Result<Schema, GenerateError>
-        ensures means { IfOk result (λ d. HasOwnDefinitions (state_with (settings_of settings.now) self.old)
+        ensures means { IfOk result (λ d. HasOwnDefinitions
+            (state_with (settings_of settings.now) self.old)
             → SubschemaHeadline (state_with (settings_of settings.now) self.new) n d) }
         ensures part { IfOk result (IsPartOf (state_with (settings_of settings.now) self.new) n) }
-        ensures reference { IfOk result (IsReferenceOf (state_with (settings_of settings.now) self.old)
+        ensures reference { IfOk result
+            (IsReferenceOf (state_with (settings_of settings.now) self.old)
             (state_with (settings_of settings.now) self.new) n) }
         ensures inlined { IfOk result (IsInlined (state_with (settings_of settings.now) self.old)) }
         ensures step { OnOk result (Adds (state_with (settings_of settings.now) self.old)
             (state_with (settings_of settings.now) self.new)) }
-        ensures reached { IfOk result (λ d. IsNeeded (state_with (settings_of settings.now) self.old)
+        ensures reached { IfOk result (λ d. IsNeeded
+            (state_with (settings_of settings.now) self.old)
             (state_with (settings_of settings.now) self.new) (references d)) }
         ensures own { HasOwnDefinitions (state_with (settings_of settings.now) self.old)
             → HasOwnDefinitions (state_with (settings_of settings.now) self.new) }
         ensures rest { self.new ≡ record self.old { names = self.new.names; definitions = self.new.definitions } }
-        ensures unknown { (result ≡ Err (GenerateError.UnknownType n)) ↔ (length self.old.rows ≤ n) }
+        ensures unknown { (result ≡ Err (GenerateError.UnknownType n))
+            ↔ (length self.old.rows ≤ n) }
         ensures refused { IfErr result (λ e. (e ≡ GenerateError.OutOfMemory)
             ⊎ (e ≡ GenerateError.UnknownType n)) }
         ensures err { OnErr result (self.new ≡ self.old) }
@@ -224,7 +236,8 @@ impl Contents {
         required: bool,
     ) -> Result<Schema, GenerateError>
         ensures members { IfOk result
-            (IsAnswerOf (state_with (settings_of settings.now) self.new) (spec.members_of n required)) }
+            (IsAnswerOf (state_with (settings_of settings.now) self.new)
+            (spec.members_of n required)) }
         ensures step { OnOk result (Adds (state_with (settings_of settings.now) self.old)
             (state_with (settings_of settings.now) self.new)) }
         ensures needed { IfOk result (IsNeededFor (state_with (settings_of settings.now) self.old)
@@ -235,7 +248,8 @@ impl Contents {
         ensures own { HasOwnDefinitions (state_with (settings_of settings.now) self.old)
             → HasOwnDefinitions (state_with (settings_of settings.now) self.new) }
         ensures rest { self.new ≡ record self.old { names = self.new.names; definitions = self.new.definitions } }
-        ensures unknown { (result ≡ Err (GenerateError.UnknownType n)) ↔ (length self.old.rows ≤ n) }
+        ensures unknown { (result ≡ Err (GenerateError.UnknownType n))
+            ↔ (length self.old.rows ≤ n) }
         ensures refused { IfErr result (λ e. (e ≡ GenerateError.OutOfMemory)
             ⊎ (e ≡ GenerateError.UnknownType n)) }
         ensures err { OnErr result (self.new ≡ self.old) }
@@ -263,7 +277,8 @@ impl Contents {
         ensures own { HasOwnDefinitions (state_with (settings_of settings.now) self.old)
             → HasOwnDefinitions (state_with (settings_of settings.now) self.new) }
         ensures rest { self.new ≡ record self.old { names = self.new.names; definitions = self.new.definitions } }
-        ensures unknown { (result ≡ Err (GenerateError.UnknownType n)) ↔ (length self.old.rows ≤ n) }
+        ensures unknown { (result ≡ Err (GenerateError.UnknownType n))
+            ↔ (length self.old.rows ≤ n) }
         ensures refused { IfErr result (λ e. (e ≡ GenerateError.OutOfMemory)
             ⊎ (e ≡ GenerateError.UnknownType n)) }
         ensures err { OnErr result (self.new ≡ self.old) }
@@ -278,7 +293,8 @@ impl Contents {
         settings: &DocumentSettings<'_>,
         ask: Ask,
     ) -> Result<Schema, GenerateError>
-        ensures said { IfOk result (IsAnswerOf (state_with (settings_of settings.now) self.new) (ask_of ask)) }
+        ensures said { IfOk result (IsAnswerOf (state_with (settings_of settings.now) self.new)
+            (ask_of ask)) }
         ensures step { OnOk result (Adds (state_with (settings_of settings.now) self.old)
             (state_with (settings_of settings.now) self.new)) }
         ensures needed { IfOk result (IsNeededFor (state_with (settings_of settings.now) self.old)
@@ -318,7 +334,8 @@ impl Contents {
             (state_with (settings_of settings.now) self.new))) }
         ensures own { HasOwnDefinitions (state_with (settings_of settings.now) self.old)
             → HasOwnDefinitions (state_with (settings_of settings.now) self.new) }
-        ensures unknown { (result ≡ Err (GenerateError.UnknownType n)) ↔ (length self.old.rows ≤ n) }
+        ensures unknown { (result ≡ Err (GenerateError.UnknownType n))
+            ↔ (length self.old.rows ≤ n) }
         ensures refused { IfErr result (IsRootRefused T.makes transforms.old transforms.new
             (state_with (settings_of settings.now) self.old) n) }
         ensures only_memory { HasPlainNotes self.old.rows
@@ -370,7 +387,8 @@ impl Contents {
         sample: &Sample,
     ) -> Result<Schema, GenerateError>
         ensures root { IfOk result (IsThrough T.makes transforms.old transforms.new
-            (IsSampleRoot (settings_of settings.now) self.now.definitions (example_of sample.now))) }
+            (IsSampleRoot (settings_of settings.now) self.now.definitions
+            (example_of sample.now))) }
         ensures refused { IfErr result (IsSampleRefusedThrough T.makes transforms.old transforms.new
             (settings_of settings.now) self.now.definitions (example_of sample.now)) }
     {
@@ -408,8 +426,10 @@ impl Contents {
         n: TypeNo,
     ) -> Result<Schema, GenerateError>
         requires { n < length self.rows }
-        ensures root { IfOk result (IsUntransformed (state_with (settings_of settings.now) self) n) }
-        ensures refused { IfErr result (λ e. (e ≡ GenerateError.OutOfMemory) ⊎ ((e ≡ GenerateError.DefinitionsPath)
+        ensures root { IfOk result (IsUntransformed
+            (state_with (settings_of settings.now) self) n) }
+        ensures refused { IfErr result (λ e. (e ≡ GenerateError.OutOfMemory)
+            ⊎ ((e ≡ GenerateError.DefinitionsPath)
             × CannotPlace (state_with (settings_of settings.now) self) n)) }
     {
         let Contents { types, work } = self;

@@ -1,9 +1,11 @@
 //! Documents of rows as parts and as roots.
-ghost use Rattle.std.specs.Prelude.{List, ℕ, true, false, ◌≡◌, ◌<◌, ◌⊎◌, length, IfOk, IfErr, OnOk, OnErr, None, Some};
+ghost use Rattle.std.specs.Prelude.{List, ℕ, true, false, ◌≡◌, ◌<◌, ◌⊎◌, length, IfOk, IfErr, OnOk};
+ghost use Rattle.std.specs.Prelude.{OnErr, None, Some};
 ghost use Rattle.serde_json.specs.View.{members_view};
 ghost use Rattle.schemars_schema.specs.References.{references};
 ghost use Rattle.schemars_types.specs.Faults.{IsChecked};
-ghost use Rattle.schemars_headline.specs.Headline.{IsRootOf, IsTitledRoot, CannotPlace, with_definitions};
+ghost use Rattle.schemars_headline.specs.Headline.{IsRootOf, IsTitledRoot, CannotPlace};
+ghost use Rattle.schemars_headline.specs.Headline.{with_definitions};
 ghost use Rattle.schemars_build.specs.Missing.{row_asked};
 ghost use Rattle.schemars_build.specs.Parts.{IsPlainAsk, IsSaid, AreNeededFor};
 ghost use Rattle.schemars_build.specs.Naming.{IsOneToOne};
@@ -56,10 +58,13 @@ pub(crate) fn answer_of(
     requires known { row_asked (ask_of ask) < length types.now }
     requires between { work.old ≡ work_of (state_of settings.now types.now work.old) }
     ensures between { work.new ≡ work_of (state_of settings.now types.now work.new) }
-    ensures step { OnOk result (Step (state_plan (state_of settings.now types.now work.old) None) work.old work.new) }
+    ensures step { OnOk result (Step
+        (state_plan (state_of settings.now types.now work.old) None) work.old work.new) }
     ensures said { IfOk result
-        (IsSaid (state_plan (state_of settings.now types.now work.old) None) false work.new (ask_of ask)) }
-    ensures needed { IfOk result (AreNeededFor (state_plan (state_of settings.now types.now work.old) None) true
+        (IsSaid (state_plan (state_of settings.now types.now work.old) None) false work.new
+        (ask_of ask)) }
+    ensures needed { IfOk result (AreNeededFor
+        (state_plan (state_of settings.now types.now work.old) None) true
         work.old work.new (ask_of ask)) }
     ensures reached { IfOk result (λ s. IsPlainAsk types.now (ask_of ask) → IsPlainTable types.now
         → AreReached (state_plan (state_of settings.now types.now work.old) None) true work.old work.new
@@ -102,7 +107,8 @@ pub(crate) fn root_document<T: Transform>(
     ensures root { IfOk result (IsThrough T.makes transforms.old transforms.new
         (IsMade (state_of settings.now types.now work.old) n work.new)) }
     ensures refused { IfErr result
-        (IsRefusedThrough T.makes transforms.old transforms.new (state_of settings.now types.now work.old) n) }
+        (IsRefusedThrough T.makes transforms.old transforms.new
+        (state_of settings.now types.now work.old) n) }
     ensures err { OnErr result (work.new ≡ work.old) }
 {
     match whole_document(alloc, settings, transforms, types, work, n) {
@@ -137,7 +143,8 @@ fn whole_document<T: Transform>(
         (IsRootOf (state_of settings.now types.now work.old) n work.new)) }
     ensures once { OnOk result (HasKeysOnce work.new.definitions) }
     ensures refused { IfErr result
-        (IsRefusedThrough T.makes transforms.old transforms.new (state_of settings.now types.now work.old) n) }
+        (IsRefusedThrough T.makes transforms.old transforms.new
+        (state_of settings.now types.now work.old) n) }
     ensures undone { undone work.new ≡ undone work.old }
 {
     let mut document = untransformed_document(alloc, settings, types, work, n)?;
@@ -159,7 +166,8 @@ fn untransformed_document(
     ensures root { IfOk result (IsRootOf (state_of settings.now types.now work.old) n work.new) }
     ensures once { OnOk result (HasKeysOnce work.new.definitions) }
     ensures refused { IfErr result (λ e. (e ≡ GenerateError.OutOfMemory)
-        ⊎ ((e ≡ GenerateError.DefinitionsPath) × CannotPlace (state_of settings.now types.now work.old) n)) }
+        ⊎ ((e ≡ GenerateError.DefinitionsPath)
+        × CannotPlace (state_of settings.now types.now work.old) n)) }
     ensures undone { undone work.new ≡ undone work.old }
 {
     let own = titled_document(alloc, settings, types, work, n)?;
@@ -180,10 +188,12 @@ pub(crate) fn last_document(
     requires checked { IsChecked types.now }
     requires known { n < length types.now }
     requires between { work ≡ work_of (state_of settings.now types.now work) }
-    ensures root { IfOk result (λ d. (w : specs.Work) × IsRootOf (state_of settings.now types.now work) n w d
+    ensures root { IfOk result (λ d. (w : specs.Work)
+        × IsRootOf (state_of settings.now types.now work) n w d
         × HasKeysOnce w.definitions × IsOneToOne w.names) }
     ensures refused { IfErr result (λ e. (e ≡ GenerateError.OutOfMemory)
-        ⊎ ((e ≡ GenerateError.DefinitionsPath) × CannotPlace (state_of settings.now types.now work) n)) }
+        ⊎ ((e ≡ GenerateError.DefinitionsPath)
+        × CannotPlace (state_of settings.now types.now work) n)) }
 {
     let mut work = work;
     let own = titled_document(alloc, settings, types, &mut work, n)?;
@@ -207,7 +217,8 @@ fn titled_document(
     ensures undone { undone work.new ≡ undone work.old }
     ensures step { OnOk result
         (Step (state_plan (state_of settings.now types.now work.old) (Some n)) work.old work.new) }
-    ensures titled { IfOk result (IsTitledRoot (state_of settings.now types.now work.old) work.old n work.new) }
+    ensures titled { IfOk result (IsTitledRoot
+        (state_of settings.now types.now work.old) work.old n work.new) }
 {
     let plan = Plan {
         types,
@@ -235,9 +246,11 @@ pub(crate) fn sample_document(
     definitions: Map<String, Value>,
 ) -> Result<Schema, GenerateError>
     ensures root { IfOk result
-        (IsSampleRoot (settings_of settings.now) (members_view definitions.entries) (example_of sample.now)) }
+        (IsSampleRoot (settings_of settings.now) (members_view definitions.entries)
+        (example_of sample.now)) }
     ensures refused { IfErr result
-        (IsSampleRefused (settings_of settings.now) (members_view definitions.entries) (example_of sample.now)) }
+        (IsSampleRefused (settings_of settings.now) (members_view definitions.entries)
+        (example_of sample.now)) }
 {
     let own = schemars_sample::root_document(alloc, sample, settings.meta_schema)?;
     let path = stripped(settings.definitions_path);
@@ -252,9 +265,11 @@ fn place(
     document: Schema,
     definitions: Map<String, Value>,
 ) -> Result<Schema, GenerateError>
-    ensures ok { IfOk result (λ d. with_definitions path.now (members_view definitions.entries) document ≡ Some d) }
+    ensures ok { IfOk result (λ d. with_definitions path.now
+        (members_view definitions.entries) document ≡ Some d) }
     ensures once { HasKeysOnce (members_view definitions.entries) }
-    ensures refused { IfErr result (λ e. (e ≡ GenerateError.OutOfMemory) ⊎ ((e ≡ GenerateError.DefinitionsPath)
+    ensures refused { IfErr result (λ e. (e ≡ GenerateError.OutOfMemory)
+        ⊎ ((e ≡ GenerateError.DefinitionsPath)
         × (with_definitions path.now (members_view definitions.entries) document ≡ None))) }
 {
     let mut document = document;

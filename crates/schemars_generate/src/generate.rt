@@ -8,23 +8,28 @@ ghost use Rattle.schemars_schema.specs.Acceptance.{draft07, draft2019_09};
 ghost use Rattle.schemars_schema.specs.References.{references};
 ghost use Rattle.schemars_types.specs.Extends.{begins_with};
 ghost use Rattle.schemars_types.specs.Faults.{IsAccepted, IsChecked};
-ghost use Rattle.schemars_headline.specs.Headline.{RootHeadline, RootWideHeadline, SubschemaHeadline};
+ghost use Rattle.schemars_headline.specs.Headline.{RootHeadline, RootWideHeadline};
+ghost use Rattle.schemars_headline.specs.Headline.{SubschemaHeadline};
 ghost use Rattle.schemars_headline.specs.Headline.{IsDraftPath, IsInlined};
 ghost use Rattle.schemars_headline.specs.Calls.{IsPartOf, IsReferenceOf, Adds, IsNeeded};
-ghost use Rattle.schemars_headline.specs.State.{path_of, settings2020_12, HasOwnDefinitions, ReferencesNameKeys};
+ghost use Rattle.schemars_headline.specs.State.{path_of, settings2020_12, HasOwnDefinitions};
+ghost use Rattle.schemars_headline.specs.State.{ReferencesNameKeys};
 ghost use Rattle.schemars_build.specs.Naming.{IsOneToOne};
 ghost use Rattle.schemars_documents.specs.PlainTable.{IsPlainTable, HasPlainNotes};
 ghost use Rattle.schemars_headline.specs.Dialects.{RootHeadlineUnder};
 ghost use Rattle.schemars_headline.specs.Taken.{TakenHeadline, HasSameKeys};
 ghost use Rattle.schemars_generate.specs.Refusals.{HasFault};
-ghost use Rattle.schemars_generate.specs.Through.{IsThrough, AreThrough, AreTurnedDown, IsRootRefused};
+ghost use Rattle.schemars_generate.specs.Through.{IsThrough, AreThrough, AreTurnedDown};
+ghost use Rattle.schemars_generate.specs.Through.{IsRootRefused};
 ghost use Rattle.schemars_generate.specs.Through.{IsUntransformed, IsUntransformedCall, IsRefused};
 ghost use Rattle.schemars_transform.specs.Member.{some_own};
 ghost use Rattle.schemars_transform.specs.BuiltIn.{IsMadeBy, each_made_by};
 ghost use Rattle.std.specs.Borrow.{sem};
 ghost use Rattle.schemars_generate.specs.Lends.{LendsDefinitions};
-ghost use Rattle.schemars_generate.specs.Settings.{settings_of, state, ApplyInOrder, AreSettingsCopied};
-ghost use Rattle.schemars_generate.specs.Settings.{transforms07, transforms2019_09, transforms_openapi3};
+ghost use Rattle.schemars_generate.specs.Settings.{settings_of, state, ApplyInOrder};
+ghost use Rattle.schemars_generate.specs.Settings.{AreSettingsCopied};
+ghost use Rattle.schemars_generate.specs.Settings.{transforms07, transforms2019_09};
+ghost use Rattle.schemars_generate.specs.Settings.{transforms_openapi3};
 
 use crate::contents::Contents;
 use crate::error::GenerateError;
@@ -79,7 +84,8 @@ impl<O> SchemaGenerator<O> {
     /// Returns a generator with an empty table.
     pub fn new(alloc: Global, settings: SchemaSettings<O>) -> SchemaGenerator<O>
         ensures settings { result.settings ≡ settings }
-        ensures contents { result.contents ≡ record { rows = []; names = []; definitions = no_members } }
+        ensures contents { result.contents
+            ≡ record { rows = []; names = []; definitions = no_members } }
     {
         SchemaGenerator {
             settings,
@@ -90,7 +96,8 @@ impl<O> SchemaGenerator<O> {
     /// Returns a generator with an empty table, as `new` does.
     pub fn from(alloc: Global, settings: SchemaSettings<O>) -> SchemaGenerator<O>
         ensures settings { result.settings ≡ settings }
-        ensures contents { result.contents ≡ record { rows = []; names = []; definitions = no_members } }
+        ensures contents { result.contents
+            ≡ record { rows = []; names = []; definitions = no_members } }
     {
         SchemaGenerator::new(alloc, settings)
     }
@@ -108,7 +115,8 @@ impl<O: Drop> SchemaGenerator<O> {
         types: Types,
     ) -> Result<SchemaGenerator<O>, GenerateError>
         ensures settings { IfOk result (λ g. g.settings ≡ settings) }
-        ensures made { IfOk result (λ g. g.contents ≡ record { rows = types; names = []; definitions = no_members }) }
+        ensures made { IfOk result (λ g. g.contents
+            ≡ record { rows = types; names = []; definitions = no_members }) }
         ensures accepted { OnOk result (IsAccepted types) }
         ensures checked { OnOk result (IsChecked types) }
         ensures refused { IfErr result (λ e. (e ≡ GenerateError.OutOfMemory) ⊎ HasFault types e) }
@@ -126,7 +134,8 @@ impl<O: Drop> SchemaGenerator<O> {
     pub fn try_clone(&self, alloc: Global) -> Result<SchemaGenerator<O>, GenerateError>
         ensures copied { IfOk result (λ g. AreSettingsCopied self.now.settings g.settings) }
         ensures same { IfOk result (λ g. g.contents ≡ self.now.contents) }
-        ensures own { (result ≡ Err GenerateError.OwnTransform) ↔ IsTrue (some_own self.now.settings.transforms.items) }
+        ensures own { (result ≡ Err GenerateError.OwnTransform)
+            ↔ IsTrue (some_own self.now.settings.transforms.items) }
     {
         let settings = self.settings.try_clone(alloc)?;
         let contents = self.contents.try_clone()?;
@@ -150,7 +159,8 @@ impl<O> SchemaGenerator<O> {
         ensures own { HasOwnDefinitions (state self.old) → HasOwnDefinitions (state self.new) }
         ensures keys { HasOwnDefinitions (state self.old) → IsPlainTable self.new.contents.rows
             → ReferencesNameKeys (state self.new) }
-        ensures other { begins_with types self.old.contents.rows ≡ false → result ≡ Err GenerateError.NotAnExtension }
+        ensures other { begins_with types self.old.contents.rows ≡ false
+            → result ≡ Err GenerateError.NotAnExtension }
         ensures refused { begins_with types self.old.contents.rows ≡ true
             → IfErr result (λ e. (e ≡ GenerateError.OutOfMemory) ⊎ HasFault types e) }
         ensures only_memory { begins_with types self.old.contents.rows ≡ true → IsAccepted types
@@ -217,12 +227,14 @@ impl<O> SchemaGenerator<O> {
     ///
     /// `UnknownType(n)` if the table has no row `n`; `OutOfMemory`.
     pub fn subschema_for_type(&mut self, alloc: Global, n: TypeNo) -> Result<Schema, GenerateError>
-        ensures means { IfOk result (λ s. HasOwnDefinitions (state self.old) → SubschemaHeadline (state self.new) n s) }
+        ensures means { IfOk result (λ s. HasOwnDefinitions (state self.old)
+            → SubschemaHeadline (state self.new) n s) }
         ensures part { IfOk result (IsPartOf (state self.new) n) }
         ensures reference { IfOk result (IsReferenceOf (state self.old) (state self.new) n) }
         ensures inlined { IfOk result (IsInlined (state self.old)) }
         ensures step { OnOk result (Adds (state self.old) (state self.new)) }
-        ensures reached { IfOk result (λ s. IsNeeded (state self.old) (state self.new) (references s)) }
+        ensures reached { IfOk result (λ s. IsNeeded (state self.old) (state self.new)
+            (references s)) }
         ensures own { HasOwnDefinitions (state self.old) → HasOwnDefinitions (state self.new) }
         ensures keys { HasOwnDefinitions (state self.old) → IsPlainTable self.new.contents.rows
             → ReferencesNameKeys (state self.new) }
@@ -231,7 +243,8 @@ impl<O> SchemaGenerator<O> {
           definitions = self.new.contents.definitions;
         } }
         ensures settings { self.new.settings ≡ self.old.settings }
-        ensures unknown { (result ≡ Err (GenerateError.UnknownType n)) ↔ (length self.old.contents.rows ≤ n) }
+        ensures unknown { (result ≡ Err (GenerateError.UnknownType n))
+            ↔ (length self.old.contents.rows ≤ n) }
         ensures refused { IfErr result (λ e. (e ≡ GenerateError.OutOfMemory)
             ⊎ (e ≡ GenerateError.UnknownType n)) }
         ensures err { OnErr result (self.new ≡ self.old) }
@@ -260,21 +273,27 @@ impl<O: Transform + Drop> SchemaGenerator<O> {
     ) -> Result<Map<String, Value>, GenerateError>
         ensures taken { apply_transforms ≡ false
             → IfOk result (λ m. members_view m.entries ≡ (state self.old).definitions) }
-        ensures through { apply_transforms ≡ true → IfOk result (λ m. AreThrough (ApplyInOrder O.makes)
+        ensures through { apply_transforms ≡ true
+            → IfOk result (λ m. AreThrough (ApplyInOrder O.makes)
             self.old.settings.transforms self.new.settings.transforms (state self.old).definitions
             (members_view m.entries)) }
-        ensures built_in { apply_transforms ≡ true → some_own self.old.settings.transforms.items ≡ false
+        ensures built_in { apply_transforms ≡ true
+            → some_own self.old.settings.transforms.items ≡ false
             → IfOk result (λ m. members_view m.entries
             ≡ each_made_by self.old.settings.transforms.items (state self.old).definitions) }
-        ensures openapi3 { apply_transforms ≡ true → self.old.settings.transforms.items ≡ transforms_openapi3
+        ensures openapi3 { apply_transforms ≡ true
+            → self.old.settings.transforms.items ≡ transforms_openapi3
             → IfOk result (λ m. HasSameKeys (members_view m.entries) (state self.old).definitions
             × TakenHeadline (state self.old) (members_view m.entries)) }
-        ensures rest { OnOk result (state self.new ≡ record (state self.old) { definitions = no_members }) }
+        ensures rest { OnOk result (state self.new
+            ≡ record (state self.old) { definitions = no_members }) }
         ensures own { OnOk result (HasOwnDefinitions (state self.new)) }
         ensures keys { OnOk result (ReferencesNameKeys (state self.new)) }
-        ensures succeeds { apply_transforms ≡ false → IsOk result × (self.new.settings ≡ self.old.settings) }
+        ensures succeeds { apply_transforms ≡ false
+            → IsOk result × (self.new.settings ≡ self.old.settings) }
         ensures refused { IfErr result (λ e.
-            ((e ≡ GenerateError.OutOfMemory) × (self.new.settings.transforms ≡ self.old.settings.transforms))
+            ((e ≡ GenerateError.OutOfMemory)
+            × (self.new.settings.transforms ≡ self.old.settings.transforms))
             ⊎ AreTurnedDown (ApplyInOrder O.makes) self.old.settings.transforms self.new.settings.transforms
             (state self.old).definitions e) }
         ensures only_memory { some_own self.old.settings.transforms.items ≡ false
@@ -306,8 +325,10 @@ impl<O: Transform + Drop> SchemaGenerator<O> {
         alloc: Global,
         n: TypeNo,
     ) -> Result<Schema, GenerateError>
-        ensures headline { self.old.settings.transforms.items ≡ [] → IfOk result (RootHeadline (state self.old) n) }
-        ensures wide { self.old.settings.transforms.items ≡ [] → IfOk result (RootWideHeadline (state self.old) n) }
+        ensures headline { self.old.settings.transforms.items ≡ []
+            → IfOk result (RootHeadline (state self.old) n) }
+        ensures wide { self.old.settings.transforms.items ≡ []
+            → IfOk result (RootWideHeadline (state self.old) n) }
         ensures draft07 { self.old.settings.transforms.items ≡ transforms07
             → IfOk result (RootHeadlineUnder draft07 (codes "/definitions") (state self.old) n) }
         ensures draft2019_09 { self.old.settings.transforms.items ≡ transforms2019_09
@@ -316,16 +337,21 @@ impl<O: Transform + Drop> SchemaGenerator<O> {
             → IfOk result (IsMadeBy self.old.settings.transforms.items
             (IsUntransformedCall (state self.old) n (state self.new))) }
         ensures root { IfOk result (IsThrough (ApplyInOrder O.makes) self.old.settings.transforms
-            self.new.settings.transforms (IsUntransformedCall (state self.old) n (state self.new))) }
+            self.new.settings.transforms (IsUntransformedCall (state self.old) n
+            (state self.new))) }
         ensures own { HasOwnDefinitions (state self.old) → HasOwnDefinitions (state self.new) }
         ensures keys { HasOwnDefinitions (state self.old) → IsPlainTable self.new.contents.rows
             → ReferencesNameKeys (state self.new) }
-        ensures unknown { (result ≡ Err (GenerateError.UnknownType n)) ↔ (length self.old.contents.rows ≤ n) }
-        ensures refused { IfErr result (IsRootRefused (ApplyInOrder O.makes) self.old.settings.transforms
+        ensures unknown { (result ≡ Err (GenerateError.UnknownType n))
+            ↔ (length self.old.contents.rows ≤ n) }
+        ensures refused { IfErr result
+            (IsRootRefused (ApplyInOrder O.makes) self.old.settings.transforms
             self.new.settings.transforms (state self.old) n) }
         ensures refused_built_in { some_own self.old.settings.transforms.items ≡ false
-            → IfErr result (λ e. (e ≡ GenerateError.UnknownType n) ⊎ IsRefused (state self.old) n e) }
-        ensures only_memory { some_own self.old.settings.transforms.items ≡ false → HasPlainNotes self.old.contents.rows
+            → IfErr result (λ e. (e ≡ GenerateError.UnknownType n)
+            ⊎ IsRefused (state self.old) n e) }
+        ensures only_memory { some_own self.old.settings.transforms.items ≡ false
+            → HasPlainNotes self.old.contents.rows
             → IsDraftPath (path_of (state self.old)) → n < length self.old.contents.rows
             → IfErr result (λ e. e ≡ GenerateError.OutOfMemory) }
         ensures err { OnErr result (state self.new ≡ state self.old) }
@@ -346,22 +372,29 @@ impl<O: Transform + Drop> SchemaGenerator<O> {
         alloc: Global,
         n: TypeNo,
     ) -> Result<Schema, GenerateError>
-        ensures headline { self.settings.transforms.items ≡ [] → IfOk result (RootHeadline (state self) n) }
-        ensures wide { self.settings.transforms.items ≡ [] → IfOk result (RootWideHeadline (state self) n) }
+        ensures headline { self.settings.transforms.items ≡ []
+            → IfOk result (RootHeadline (state self) n) }
+        ensures wide { self.settings.transforms.items ≡ []
+            → IfOk result (RootWideHeadline (state self) n) }
         ensures draft07 { self.settings.transforms.items ≡ transforms07
             → IfOk result (RootHeadlineUnder draft07 (codes "/definitions") (state self) n) }
         ensures draft2019_09 { self.settings.transforms.items ≡ transforms2019_09
             → IfOk result (RootHeadlineUnder draft2019_09 (codes "/$defs") (state self) n) }
         ensures built_in { some_own self.settings.transforms.items ≡ false
-            → IfOk result (IsMadeBy self.settings.transforms.items (IsUntransformed (state self) n)) }
-        ensures root { IfOk result (λ d. (after : _) × IsThrough (ApplyInOrder O.makes) self.settings.transforms after
+            → IfOk result (IsMadeBy self.settings.transforms.items
+            (IsUntransformed (state self) n)) }
+        ensures root { IfOk result (λ d. (after : _)
+            × IsThrough (ApplyInOrder O.makes) self.settings.transforms after
             (IsUntransformed (state self) n) d) }
-        ensures unknown { (result ≡ Err (GenerateError.UnknownType n)) ↔ (length self.contents.rows ≤ n) }
+        ensures unknown { (result ≡ Err (GenerateError.UnknownType n))
+            ↔ (length self.contents.rows ≤ n) }
         ensures refused { IfErr result (λ e. (after : _)
-            × IsRootRefused (ApplyInOrder O.makes) self.settings.transforms after (state self) n e) }
+            × IsRootRefused (ApplyInOrder O.makes) self.settings.transforms after
+            (state self) n e) }
         ensures refused_built_in { some_own self.settings.transforms.items ≡ false
             → IfErr result (λ e. (e ≡ GenerateError.UnknownType n) ⊎ IsRefused (state self) n e) }
-        ensures only_memory { some_own self.settings.transforms.items ≡ false → HasPlainNotes self.contents.rows
+        ensures only_memory { some_own self.settings.transforms.items ≡ false
+            → HasPlainNotes self.contents.rows
             → IsDraftPath (path_of (state self)) → n < length self.contents.rows
             → IfErr result (λ e. e ≡ GenerateError.OutOfMemory) }
     {

@@ -4,7 +4,8 @@ ghost use Rattle.schemars_schema.specs.Acceptance.{draft07, draft2019_09};
 ghost use Rattle.schemars_headline.specs.Dialects.{SampleHeadlineUnder};
 ghost use Rattle.schemars_headline.specs.Headline.{IsDraftPath};
 ghost use Rattle.schemars_headline.specs.State.{path_of};
-ghost use Rattle.schemars_generate.specs.Samples.{IsSampleRoot, IsSampleRefused, IsSampleRefusedThrough};
+ghost use Rattle.schemars_generate.specs.Samples.{IsSampleRoot, IsSampleRefused};
+ghost use Rattle.schemars_generate.specs.Samples.{IsSampleRefusedThrough};
 ghost use Rattle.schemars_generate.specs.Through.{IsThrough};
 ghost use Rattle.schemars_sample.specs.Accepted.{AcceptsExample};
 ghost use Rattle.schemars_sample.specs.Example.{example_of};
@@ -38,24 +39,33 @@ impl<O: Transform + Drop> SchemaGenerator<O> {
         alloc: Global,
         value: &Sample,
     ) -> Result<Schema, GenerateError>
-        ensures accepts { self.old.settings.transforms.items ≡ [] → IsDraftPath (path_of (state self.old))
+        ensures accepts { self.old.settings.transforms.items ≡ []
+            → IsDraftPath (path_of (state self.old))
             → IfOk result (AcceptsExample (example_of value.now)) }
         ensures draft07 { self.old.settings.transforms.items ≡ transforms07
-            → IfOk result (SampleHeadlineUnder draft07 (codes "/definitions") (state self.old) (example_of value.now)) }
+            → IfOk result (SampleHeadlineUnder draft07 (codes "/definitions") (state self.old)
+            (example_of value.now)) }
         ensures draft2019_09 { self.old.settings.transforms.items ≡ transforms2019_09
-            → IfOk result (SampleHeadlineUnder draft2019_09 (codes "/$defs") (state self.old) (example_of value.now)) }
+            → IfOk result (SampleHeadlineUnder draft2019_09 (codes "/$defs") (state self.old)
+            (example_of value.now)) }
         ensures built_in { some_own self.old.settings.transforms.items ≡ false
             → IfOk result (IsMadeBy self.old.settings.transforms.items
-            (IsSampleRoot (settings_of self.old.settings) self.old.contents.definitions (example_of value.now))) }
+            (IsSampleRoot (settings_of self.old.settings) self.old.contents.definitions
+            (example_of value.now))) }
         ensures root { IfOk result (IsThrough (ApplyInOrder O.makes) self.old.settings.transforms
             self.new.settings.transforms
-            (IsSampleRoot (settings_of self.old.settings) self.old.contents.definitions (example_of value.now))) }
-        ensures refused { IfErr result (IsSampleRefusedThrough (ApplyInOrder O.makes) self.old.settings.transforms
+            (IsSampleRoot (settings_of self.old.settings) self.old.contents.definitions
+            (example_of value.now))) }
+        ensures refused { IfErr result
+            (IsSampleRefusedThrough (ApplyInOrder O.makes) self.old.settings.transforms
             self.new.settings.transforms (settings_of self.old.settings) self.old.contents.definitions
             (example_of value.now)) }
-        ensures refused_built_in { some_own self.old.settings.transforms.items ≡ false → IfErr result
-            (IsSampleRefused (settings_of self.old.settings) self.old.contents.definitions (example_of value.now)) }
-        ensures only_memory { some_own self.old.settings.transforms.items ≡ false → IsDraftPath (path_of (state self.old))
+        ensures refused_built_in { some_own self.old.settings.transforms.items ≡ false
+            → IfErr result
+            (IsSampleRefused (settings_of self.old.settings) self.old.contents.definitions
+            (example_of value.now)) }
+        ensures only_memory { some_own self.old.settings.transforms.items ≡ false
+            → IsDraftPath (path_of (state self.old))
             → IfErr result (λ e. e ≡ GenerateError.OutOfMemory) }
         ensures rest { state self.new ≡ state self.old }
     {
@@ -77,19 +87,28 @@ impl<O: Transform + Drop> SchemaGenerator<O> {
         ensures accepts { self.settings.transforms.items ≡ [] → IsDraftPath (path_of (state self))
             → IfOk result (AcceptsExample (example_of value.now)) }
         ensures draft07 { self.settings.transforms.items ≡ transforms07
-            → IfOk result (SampleHeadlineUnder draft07 (codes "/definitions") (state self) (example_of value.now)) }
+            → IfOk result (SampleHeadlineUnder draft07 (codes "/definitions") (state self)
+            (example_of value.now)) }
         ensures draft2019_09 { self.settings.transforms.items ≡ transforms2019_09
-            → IfOk result (SampleHeadlineUnder draft2019_09 (codes "/$defs") (state self) (example_of value.now)) }
-        ensures built_in { some_own self.settings.transforms.items ≡ false → IfOk result (IsMadeBy self.settings.transforms.items
-            (IsSampleRoot (settings_of self.settings) self.contents.definitions (example_of value.now))) }
-        ensures root { IfOk result (λ d. (after : _) × IsThrough (ApplyInOrder O.makes) self.settings.transforms after
-            (IsSampleRoot (settings_of self.settings) self.contents.definitions (example_of value.now)) d) }
-        ensures refused { IfErr result (λ e. (after : _) × IsSampleRefusedThrough (ApplyInOrder O.makes)
+            → IfOk result (SampleHeadlineUnder draft2019_09 (codes "/$defs") (state self)
+            (example_of value.now)) }
+        ensures built_in { some_own self.settings.transforms.items ≡ false
+            → IfOk result (IsMadeBy self.settings.transforms.items
+            (IsSampleRoot (settings_of self.settings) self.contents.definitions
+            (example_of value.now))) }
+        ensures root { IfOk result (λ d. (after : _)
+            × IsThrough (ApplyInOrder O.makes) self.settings.transforms after
+            (IsSampleRoot (settings_of self.settings) self.contents.definitions
+            (example_of value.now)) d) }
+        ensures refused { IfErr result (λ e. (after : _)
+            × IsSampleRefusedThrough (ApplyInOrder O.makes)
             self.settings.transforms after (settings_of self.settings) self.contents.definitions
             (example_of value.now) e) }
         ensures refused_built_in { some_own self.settings.transforms.items ≡ false → IfErr result
-            (IsSampleRefused (settings_of self.settings) self.contents.definitions (example_of value.now)) }
-        ensures only_memory { some_own self.settings.transforms.items ≡ false → IsDraftPath (path_of (state self))
+            (IsSampleRefused (settings_of self.settings) self.contents.definitions
+            (example_of value.now)) }
+        ensures only_memory { some_own self.settings.transforms.items ≡ false
+            → IsDraftPath (path_of (state self))
             → IfErr result (λ e. e ≡ GenerateError.OutOfMemory) }
     {
         let SchemaGenerator {

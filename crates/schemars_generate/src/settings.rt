@@ -5,9 +5,11 @@ ghost use Rattle.schemars_types.specs.declared.contract.Contract.TheVariants as 
 ghost use Rattle.schemars_headline.specs.State.{settings2020_12};
 ghost use Rattle.schemars_generate.specs.DocumentSettings as roots;
 ghost use Rattle.schemars_transform.specs.Member.{some_own};
-ghost use Rattle.schemars_generate.specs.Settings.{settings_of, AreSettingsCopied, settings07, settings2019_09};
+ghost use Rattle.schemars_generate.specs.Settings.{settings_of, AreSettingsCopied, settings07};
+ghost use Rattle.schemars_generate.specs.Settings.{settings2019_09};
 ghost use Rattle.schemars_generate.specs.Settings.{settings_openapi3};
-ghost use Rattle.schemars_generate.specs.Settings.{transforms07, transforms2019_09, transforms_openapi3};
+ghost use Rattle.schemars_generate.specs.Settings.{transforms07, transforms2019_09};
+ghost use Rattle.schemars_generate.specs.Settings.{transforms_openapi3};
 
 use crate::document_settings::DocumentSettings;
 use crate::error::GenerateError;
@@ -118,7 +120,8 @@ impl SchemaSettings {
 impl<O> SchemaSettings<O> {
     /// Returns these settings for the values that are read.
     pub fn for_deserialize(self) -> SchemaSettings<O>
-        ensures settings { settings_of result ≡ record (settings_of self) { contract = contracts.Deserialize } }
+        ensures settings { settings_of result
+            ≡ record (settings_of self) { contract = contracts.Deserialize } }
         ensures transforms { result.transforms ≡ self.transforms }
     {
         let mut settings = self;
@@ -128,7 +131,8 @@ impl<O> SchemaSettings<O> {
 
     /// Returns these settings for the values that are written.
     pub fn for_serialize(self) -> SchemaSettings<O>
-        ensures settings { settings_of result ≡ record (settings_of self) { contract = contracts.Serialize } }
+        ensures settings { settings_of result
+            ≡ record (settings_of self) { contract = contracts.Serialize } }
         ensures transforms { result.transforms ≡ self.transforms }
     {
         let mut settings = self;
@@ -144,7 +148,8 @@ impl<O> SchemaSettings<O> {
     pub fn for_own<P: Drop>(&self, alloc: Global) -> Result<SchemaSettings<P>, GenerateError>
         ensures copied { IfOk result (λ s. AreSettingsCopied self.now s) }
         ensures none_own { IfOk result (λ s. some_own s.transforms.items ≡ false) }
-        ensures own { (result ≡ Err GenerateError.OwnTransform) ↔ IsTrue (some_own self.now.transforms.items) }
+        ensures own { (result ≡ Err GenerateError.OwnTransform)
+            ↔ IsTrue (some_own self.now.transforms.items) }
     {
         let transforms = try_clone_all(alloc, &self.transforms)?;
         let definitions_path = self.definitions_path.clone()?;
@@ -184,7 +189,8 @@ impl<O: Drop> SchemaSettings<O> {
     /// `AllocError` if memory runs out.
     pub fn with_transform(self, transform: GenTransform<O>) -> Result<SchemaSettings<O>, AllocError>
         ensures settings { IfOk result (λ s. settings_of s ≡ settings_of self) }
-        ensures transforms { IfOk result (λ s. s.transforms.items ≡ self.transforms.items ++ transform ∷ []) }
+        ensures transforms { IfOk result (λ s. s.transforms.items
+            ≡ self.transforms.items ++ transform ∷ []) }
     {
         let mut settings = self;
         settings.transforms.push(transform)?;
@@ -198,7 +204,8 @@ impl<O: Drop> SchemaSettings<O> {
     /// `OwnTransform` if and only if they have a user-defined transform; `OutOfMemory`.
     pub fn try_clone(&self, alloc: Global) -> Result<SchemaSettings<O>, GenerateError>
         ensures copied { IfOk result (λ s. AreSettingsCopied self.now s) }
-        ensures own { (result ≡ Err GenerateError.OwnTransform) ↔ IsTrue (some_own self.now.transforms.items) }
+        ensures own { (result ≡ Err GenerateError.OwnTransform)
+            ↔ IsTrue (some_own self.now.transforms.items) }
     {
         self.for_own(alloc)
     }
@@ -206,7 +213,8 @@ impl<O: Drop> SchemaSettings<O> {
     /// Returns a generator with these settings and an empty table.
     pub fn into_generator(self, alloc: Global) -> SchemaGenerator<O>
         ensures settings { result.settings ≡ self }
-        ensures contents { result.contents ≡ record { rows = []; names = []; definitions = no_members } }
+        ensures contents { result.contents
+            ≡ record { rows = []; names = []; definitions = no_members } }
     {
         SchemaGenerator::new(alloc, self)
     }

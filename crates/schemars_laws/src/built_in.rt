@@ -13,17 +13,21 @@ ghost use Rattle.schemars_transform.specs.Formats as formats;
 ghost use Rattle.schemars_transform.specs.declared.built_in.formats.RestrictFormats.{RestrictFormats};
 ghost use Rattle.schemars_transform.specs.Unevaluated as unevaluated;
 ghost use Rattle.schemars_laws.specs.Classes.{IsConstAlone, HasPlainItems, HasPlainReference};
-ghost use Rattle.schemars_laws.specs.Classes.{HasPlainType, HasNoUnevaluated, IsDraft07, plain_nullable};
+ghost use Rattle.schemars_laws.specs.Classes.{HasPlainType, HasNoUnevaluated, IsDraft07};
+ghost use Rattle.schemars_laws.specs.Classes.{plain_nullable};
 ghost use Rattle.schemars_laws.specs.Classes.{without_const, with_const, by_items, by_prefix_items};
 ghost use Rattle.schemars_laws.specs.Classes.{alone_by, beside_by, with_nullable_read};
-ghost use Rattle.schemars_laws.specs.Classes.{without_nullable_read, with_unevaluated, without_unevaluated};
+ghost use Rattle.schemars_laws.specs.Classes.{without_nullable_read, with_unevaluated};
+ghost use Rattle.schemars_laws.specs.Classes.{without_unevaluated};
 ghost use Rattle.schemars_laws.specs.Stages.{Anything};
 ghost use Rattle.schemars_laws.specs.Laws.{MovesDrafts, MovesDocuments, MovesToOpenApi};
-ghost use Rattle.schemars_laws.specs.Laws.{LeavesReferencesAlone, for_draft07, for_draft2019_09, for_openapi3};
+ghost use Rattle.schemars_laws.specs.Laws.{LeavesReferencesAlone, for_draft07, for_draft2019_09};
+ghost use Rattle.schemars_laws.specs.Laws.{for_openapi3};
 
 /// Truth values as objects mean the same.
 pub fn replace_bool_schemas()
-    ensures { (t : ReplaceBoolSchemas) (d : Dialect) → MovesDocuments (made.replace_bool_schemas t) d d Anything }
+    ensures { (t : ReplaceBoolSchemas) (d : Dialect)
+        → MovesDocuments (made.replace_bool_schemas t) d d Anything }
 {}
 
 /// Beside references that moved into `allOf` no keyword is passed over, where readers pass over
@@ -41,7 +45,8 @@ pub fn set_single_example()
 
 /// A list of one value under `enum` means to all readers what `const` means to those that know it.
 pub fn replace_const_value()
-    ensures { (d : Dialect) → MovesDocuments made.replace_const_value (with_const d) (without_const d) IsConstAlone }
+    ensures { (d : Dialect) → MovesDocuments made.replace_const_value (with_const d)
+        (without_const d) IsConstAlone }
 {}
 
 /// A list under `items` means by the older drafts what `prefixItems` means.
@@ -52,18 +57,21 @@ pub fn replace_prefix_items()
 
 /// `nullable` means to readers that know it what null among the types means.
 pub fn add_nullable()
-    ensures { (d : Dialect) → MovesDocuments (nullable.add_nullable plain_nullable) (without_nullable_read d)
+    ensures { (d : Dialect) → MovesDocuments (nullable.add_nullable plain_nullable)
+        (without_nullable_read d)
         (with_nullable_read d) HasPlainType }
 {}
 
 /// Formats mean nothing, so that those that go are not missed.
 pub fn restrict_formats()
-    ensures { (t : RestrictFormats) (d : Dialect) → MovesDocuments (formats.restrict_formats t) d d Anything }
+    ensures { (t : RestrictFormats) (d : Dialect)
+        → MovesDocuments (formats.restrict_formats t) d d Anything }
 {}
 
 /// Where there are no `unevaluatedProperties`, nothing changes.
 pub fn replace_unevaluated_properties()
-    ensures { (d : Dialect) → MovesDocuments unevaluated.replace_unevaluated_properties (with_unevaluated d)
+    ensures { (d : Dialect) → MovesDocuments unevaluated.replace_unevaluated_properties
+        (with_unevaluated d)
         (without_unevaluated d) HasNoUnevaluated }
 {}
 

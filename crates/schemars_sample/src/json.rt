@@ -1,9 +1,11 @@
 //! The JSON of example values.
-ghost use Rattle.std.specs.Prelude.{◌≡◌, option_map, IfOk, OnOk, map, true, encode_utf8, string_bytes};
+ghost use Rattle.std.specs.Prelude.{◌≡◌, option_map, IfOk, OnOk, map, true, encode_utf8};
+ghost use Rattle.std.specs.Prelude.{string_bytes};
 ghost use Rattle.serde_json.specs.Data.{number, unsigned, object, no_members};
 ghost use Rattle.serde_json.specs.View.{view};
 ghost use Rattle.schemars_sample.specs.Example.{example_of, examples_view, entries_view};
-ghost use Rattle.schemars_sample.specs.SampleJson.{sample_json, items_json, entries_json, array_of, are_bytes, whole_json, named};
+ghost use Rattle.schemars_sample.specs.SampleJson.{sample_json, items_json, entries_json, array_of};
+ghost use Rattle.schemars_sample.specs.SampleJson.{are_bytes, whole_json, named};
 
 use crate::sample::Sample;
 use serde_json::{Map, Value};
@@ -50,7 +52,8 @@ pub fn json_of(alloc: Global, sample: &Sample) -> Result<Option<Value>, AllocErr
 
 #[cycle(json)]
 fn array_of(alloc: Global, items: &[Sample]) -> Result<Option<Value>, AllocError>
-    ensures { IfOk result (λ v. option_map view v ≡ option_map array_of (items_json (examples_view items.now))) }
+    ensures { IfOk result (λ v. option_map view v
+        ≡ option_map array_of (items_json (examples_view items.now))) }
 {
     let mut values = Vec::new(alloc);
     for item in items {
@@ -64,7 +67,8 @@ fn array_of(alloc: Global, items: &[Sample]) -> Result<Option<Value>, AllocError
 
 #[cycle(json)]
 fn object_of(alloc: Global, entries: &[(String, Sample)]) -> Result<Option<Value>, AllocError>
-    ensures { IfOk result (λ v. option_map view v ≡ option_map object (entries_json (entries_view entries.now) no_members)) }
+    ensures { IfOk result (λ v. option_map view v
+        ≡ option_map object (entries_json (entries_view entries.now) no_members)) }
 {
     let mut members = Map::new(alloc);
     for (key, sample) in entries {
@@ -78,7 +82,8 @@ fn object_of(alloc: Global, entries: &[(String, Sample)]) -> Result<Option<Value
 
 // The value as the content of a variant.
 fn named(alloc: Global, variant: &str, content: Option<Value>) -> Result<Option<Value>, AllocError>
-    ensures { IfOk result (λ v. option_map view v ≡ option_map (named variant.now) (option_map view content)) }
+    ensures { IfOk result (λ v. option_map view v
+        ≡ option_map (named variant.now) (option_map view content)) }
 {
     let Some(value) = content else {
         return Ok(None);
@@ -106,7 +111,8 @@ fn char_text(alloc: Global, c: char) -> Result<String, AllocError>
 }
 
 fn bytes_json(alloc: Global, bytes: &[u8]) -> Result<Vec<Value>, AllocError>
-    ensures values { IfOk result (λ v. map view v.items ≡ map (λ b. number (unsigned b)) bytes.now) }
+    ensures values { IfOk result (λ v. map view v.items
+        ≡ map (λ b. number (unsigned b)) bytes.now) }
     ensures in_range { OnOk result (are_bytes bytes.now ≡ true) }
 {
     let mut values = Vec::new(alloc);

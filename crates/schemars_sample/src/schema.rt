@@ -1,5 +1,6 @@
 //! The schemas of example values.
-ghost use Rattle.std.specs.Prelude.{◌≡◌, ◌∷◌, IfOk, OnOk, [], map, option_map, unwrap_or, Some, true};
+ghost use Rattle.std.specs.Prelude.{◌≡◌, ◌∷◌, IfOk, OnOk, [], map, option_map, unwrap_or, Some};
+ghost use Rattle.std.specs.Prelude.{true};
 ghost use Rattle.serde_json.specs.Data.{object, no_members};
 ghost use Rattle.serde_json.specs.View.{view, items_view};
 ghost use Rattle.schemars_schema.specs.Json.{is_among, json_eq};
@@ -10,8 +11,10 @@ ghost use Rattle.schemars_documents.specs.Documents.{type_alone, bytes_document}
 ghost use Rattle.schemars_sample.specs.Accepted.{AcceptsExample};
 ghost use Rattle.schemars_sample.specs.Example.{example_of, examples_view, entries_view};
 ghost use Rattle.schemars_sample.specs.SampleSchema as spec;
-ghost use Rattle.schemars_sample.specs.SampleSchema.{sample_schema, item_schemas, entry_schemas, value_schemas};
-ghost use Rattle.schemars_sample.specs.SampleSchema.{one_beside, is_everything, each_once, choice_of, shared_by, with_name, sample_root};
+ghost use Rattle.schemars_sample.specs.SampleSchema.{sample_schema, item_schemas, entry_schemas};
+ghost use Rattle.schemars_sample.specs.SampleSchema.{value_schemas};
+ghost use Rattle.schemars_sample.specs.SampleSchema.{one_beside, is_everything, each_once};
+ghost use Rattle.schemars_sample.specs.SampleSchema.{choice_of, shared_by, with_name, sample_root};
 
 use crate::json::json_of;
 use crate::sample::Sample;
@@ -148,7 +151,8 @@ fn tuple_schema(alloc: Global, parts: &[Sample]) -> Result<Schema, AllocError>
 
 #[cycle(schemas)]
 fn struct_schema(alloc: Global, entries: &[(String, Sample)]) -> Result<Schema, AllocError>
-    ensures { IfOk result (λ s. s ≡ spec.struct_schema (entry_schemas (entries_view entries.now) no_members)) }
+    ensures { IfOk result (λ s. s
+        ≡ spec.struct_schema (entry_schemas (entries_view entries.now) no_members)) }
 {
     let mut properties = Map::new(alloc);
     for (key, sample) in entries {
@@ -175,8 +179,10 @@ fn shared_schema(alloc: Global, entries: &[(String, Sample)]) -> Result<Value, A
 
 // Whether the schema is equal to the one before; where there is none it is kept.
 fn agrees(shared: &mut Option<Value>, schema: Value) -> bool
-    ensures equal { result ≡ unwrap_or (option_map (λ first. json_eq first (view schema)) (option_map view shared.old)) true }
-    ensures kept { option_map view shared.new ≡ Some (unwrap_or (option_map view shared.old) (view schema)) }
+    ensures equal { result ≡ unwrap_or
+        (option_map (λ first. json_eq first (view schema)) (option_map view shared.old)) true }
+    ensures kept { option_map view shared.new
+        ≡ Some (unwrap_or (option_map view shared.old) (view schema)) }
 {
     match shared {
         Some(first) => json_eq(first, &schema),
@@ -195,7 +201,8 @@ fn is_everything(schema: &Value) -> bool
 
 // Adds the schema, unless it is there.
 fn add_once(schemas: &mut Vec<Value>, schema: Value) -> Result<(), AllocError>
-    ensures { OnOk result (map view schemas.new.items ≡ each_once (map view schemas.old.items) (view schema ∷ [])) }
+    ensures { OnOk result (map view schemas.new.items
+        ≡ each_once (map view schemas.old.items) (view schema ∷ [])) }
 {
     if !is_among(schemas, &schema) {
         serde_json::push(schemas, schema)?;

@@ -109,7 +109,8 @@ impl Clone for Internal {
 
 #[tactic(auto, using(crate::proofs::Copies::map_internal_variant_of_copied))]
 fn internal_copies(variants: &Vec<InternalVariant>) -> Result<Vec<InternalVariant>, AllocError>
-    ensures { IfOk result (λ v. map internal_variant_of v.items ≡ map internal_variant_of variants.now.items) }
+    ensures { IfOk result (λ v. map internal_variant_of v.items
+        ≡ map internal_variant_of variants.now.items) }
 {
     variants.clone()
 }

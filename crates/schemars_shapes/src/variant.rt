@@ -1,6 +1,7 @@
 //! The variants of enums.
 ghost use Rattle.std.specs.Prelude.{◌≡◌, ◌&&◌, map, bytes_eq};
-ghost use Rattle.schemars_shapes.specs.Shape.{payload_of, variant_of, internal_payload_of, internal_variant_of, internal_view};
+ghost use Rattle.schemars_shapes.specs.Shape.{payload_of, variant_of, internal_payload_of};
+ghost use Rattle.schemars_shapes.specs.Shape.{internal_variant_of, internal_view};
 ghost use Rattle.schemars_shapes.specs.Equality.{bool_eq, payload_eq, variant_eq, variants_eq};
 ghost use Rattle.schemars_shapes.specs.Units.{is_bare_unit};
 
@@ -113,7 +114,8 @@ pub(crate) fn variants_equal(a: &[Variant], b: &[Variant]) -> bool
 
 impl InternalPayload {
     fn is_equal(&self, other: &InternalPayload) -> bool
-        ensures { result ≡ payload_eq (internal_payload_of self.now) (internal_payload_of other.now) }
+        ensures { result ≡ payload_eq (internal_payload_of self.now)
+            (internal_payload_of other.now) }
     {
         match (self, other) {
             (InternalPayload::Unit, InternalPayload::Unit) => true,
@@ -128,7 +130,8 @@ impl InternalPayload {
 
 impl InternalVariant {
     fn is_equal(&self, other: &InternalVariant) -> bool
-        ensures { result ≡ variant_eq (internal_variant_of self.now) (internal_variant_of other.now) }
+        ensures { result ≡ variant_eq (internal_variant_of self.now)
+            (internal_variant_of other.now) }
     {
         self.name == other.name
             && self.payload.is_equal(&other.payload)

@@ -1,16 +1,22 @@
 //! Which keys the type of a row allows.
-ghost use Rattle.std.specs.Prelude.{◌≡◌, ℕ, [], None, IfOk, OnOk, Contains, map, option_map, option_and_then};
+ghost use Rattle.std.specs.Prelude.{◌≡◌, ℕ, [], None, IfOk, OnOk, Contains, map, option_map};
+ghost use Rattle.std.specs.Prelude.{option_and_then};
 ghost use Rattle.std.specs.Prelude.{false, is_none, is_some};
-ghost use Rattle.schemars_shapes.specs.Shape.{variant_of, payload_of, newtype_payload, payload_same, of_variants};
+ghost use Rattle.schemars_shapes.specs.Shape.{variant_of, payload_of, newtype_payload};
+ghost use Rattle.schemars_shapes.specs.Shape.{payload_same, of_variants};
 ghost use Rattle.schemars_schema.specs.Acceptance.{texts_in};
 ghost use Rattle.schemars_types.specs.Edges.{SameValueEdge};
 ghost use Rattle.schemars_types.specs.Faults.{IsChecked};
-ghost use Rattle.schemars_types.specs.KeyOptions.{keys, are_names, external_options, untagged_options};
-ghost use Rattle.schemars_types.specs.KeyOptions.{all_options, member_options, key_options, or_any_text};
-ghost use Rattle.schemars_types.specs.KeyOptions.{typed_options, literal_texts, texts_options, literal_integers};
+ghost use Rattle.schemars_types.specs.KeyOptions.{keys, are_names, external_options};
+ghost use Rattle.schemars_types.specs.KeyOptions.{untagged_options};
+ghost use Rattle.schemars_types.specs.KeyOptions.{all_options, member_options, key_options};
+ghost use Rattle.schemars_types.specs.KeyOptions.{or_any_text};
+ghost use Rattle.schemars_types.specs.KeyOptions.{typed_options, literal_texts, texts_options};
+ghost use Rattle.schemars_types.specs.KeyOptions.{literal_integers};
 ghost use Rattle.serde_json.specs.Find.{as_str, get};
 ghost use Rattle.serde_json.specs.View.{items_view};
-ghost use Rattle.schemars_types.specs.Found.{options_of, options_at, adding, some_takes_all, HoldsRows};
+ghost use Rattle.schemars_types.specs.Found.{options_of, options_at, adding, some_takes_all};
+ghost use Rattle.schemars_types.specs.Found.{HoldsRows};
 
 pub(crate) mod options;
 
@@ -54,7 +60,8 @@ fn add_row<'t>(types: &'t Types, n: TypeNo, found: &mut Found<'t>) -> Result<(),
     requires holds { HoldsRows types.now found.old.rows.keys (options_of found.old.options) }
     ensures added { OnOk result (options_of found.new.options
         ≡ adding (options_of found.old.options) (options_at types.now n)) }
-    ensures holds { OnOk result (HoldsRows types.now found.new.rows.keys (options_of found.new.options)) }
+    ensures holds { OnOk result (HoldsRows types.now found.new.rows.keys
+        (options_of found.new.options)) }
 {
     if found.rows.contains(&n) {
         return Ok(());
@@ -71,7 +78,8 @@ fn add_own<'t>(types: &'t Types, n: TypeNo, found: &mut Found<'t>) -> Result<(),
     requires holds { HoldsRows types.now found.old.rows.keys (options_of found.old.options) }
     ensures added { OnOk result (options_of found.new.options
         ≡ adding (options_of found.old.options) (options_at types.now n)) }
-    ensures holds { OnOk result (HoldsRows types.now found.new.rows.keys (options_of found.new.options)) }
+    ensures holds { OnOk result (HoldsRows types.now found.new.rows.keys
+        (options_of found.new.options)) }
 {
     let Some(entry) = types.entry(n) else {
         found.options.allow_others();
@@ -101,9 +109,11 @@ fn add_untagged<'t>(
     requires edges { (m : ℕ) → Contains (of_variants payload_same (map variant_of variants.now)) m
         → SameValueEdge types.now n m }
     requires holds { HoldsRows types.now found.old.rows.keys (options_of found.old.options) }
-    ensures added { OnOk result (options_of found.new.options ≡ adding (options_of found.old.options)
+    ensures added { OnOk result (options_of found.new.options
+        ≡ adding (options_of found.old.options)
         (or_any_text (untagged_options (all_options types.now) (map variant_of variants.now)))) }
-    ensures holds { OnOk result (HoldsRows types.now found.new.rows.keys (options_of found.new.options)) }
+    ensures holds { OnOk result (HoldsRows types.now found.new.rows.keys
+        (options_of found.new.options)) }
 {
     if variants.is_empty() || some_takes_all(types, variants) {
         found.options.allow_others();
@@ -124,11 +134,14 @@ fn add_member<'t>(
     found: &mut Found<'t>,
 ) -> Result<(), AllocError>
     requires checked { IsChecked types.now }
-    requires edge { (m : ℕ) → payload_of payload.now ≡ newtype_payload m → SameValueEdge types.now n m }
+    requires edge { (m : ℕ) → payload_of payload.now ≡ newtype_payload m
+        → SameValueEdge types.now n m }
     requires holds { HoldsRows types.now found.old.rows.keys (options_of found.old.options) }
-    ensures added { OnOk result (options_of found.new.options ≡ adding (options_of found.old.options)
+    ensures added { OnOk result (options_of found.new.options
+        ≡ adding (options_of found.old.options)
         (or_any_text (member_options (all_options types.now) (payload_of payload.now)))) }
-    ensures holds { OnOk result (HoldsRows types.now found.new.rows.keys (options_of found.new.options)) }
+    ensures holds { OnOk result (HoldsRows types.now found.new.rows.keys
+        (options_of found.new.options)) }
 {
     let _ = n;
     match payload {
@@ -187,7 +200,8 @@ fn takes_all(types: &Types, n: TypeNo) -> bool
 // Adds what an externally tagged enum allows.
 fn add_external<'t>(variants: &'t [Variant], options: &mut KeyOptions<'t>) -> Result<(), AllocError>
     ensures { OnOk result (options_of options.new
-        ≡ adding (options_of options.old) (or_any_text (external_options (map variant_of variants.now)))) }
+        ≡ adding (options_of options.old)
+        (or_any_text (external_options (map variant_of variants.now)))) }
 {
     if !are_names(variants) {
         options.allow_others();
@@ -198,7 +212,8 @@ fn add_external<'t>(variants: &'t [Variant], options: &mut KeyOptions<'t>) -> Re
 
 fn add_names<'t>(variants: &'t [Variant], options: &mut KeyOptions<'t>) -> Result<(), AllocError>
     ensures { OnOk result (options_of options.new
-        ≡ adding (options_of options.old) (keys false (map (λ x. x.name) (map variant_of variants.now)) None [])) }
+        ≡ adding (options_of options.old)
+        (keys false (map (λ x. x.name) (map variant_of variants.now)) None [])) }
 {
     for variant in variants {
         options.add_text(variant.name.as_str())?;
@@ -208,7 +223,8 @@ fn add_names<'t>(variants: &'t [Variant], options: &mut KeyOptions<'t>) -> Resul
 
 // Adds what a literal allows, by its type.
 fn add_literal<'t>(schema: &'t Schema, options: &mut KeyOptions<'t>) -> Result<(), AllocError>
-    ensures { OnOk result (options_of options.new ≡ adding (options_of options.old) (typed_options schema.now)) }
+    ensures { OnOk result (options_of options.new
+        ≡ adding (options_of options.old) (typed_options schema.now)) }
 {
     let Some(name) = text_at(schema, "type") else {
         options.allow_others();
@@ -237,7 +253,8 @@ fn text_at<'t>(schema: &'t Schema, key: &str) -> Option<&'t str>
 
 // Those of its pattern, or else those in its list.
 fn add_literal_texts<'t>(schema: &'t Schema, options: &mut KeyOptions<'t>) -> Result<(), AllocError>
-    ensures { OnOk result (options_of options.new ≡ adding (options_of options.old) (literal_texts schema.now)) }
+    ensures { OnOk result (options_of options.new
+        ≡ adding (options_of options.old) (literal_texts schema.now)) }
 {
     if let Some(pattern) = text_at(schema, "pattern") {
         return options.add_pattern(pattern);

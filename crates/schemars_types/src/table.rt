@@ -1,5 +1,6 @@
 ghost use Rattle.std.specs.Prelude.{◌≡◌, ◌≢◌, ◌<◌, ◌↔◌, [], length, take, map, false, None, Some};
-ghost use Rattle.std.specs.Prelude.{IsTrue, IfOk, OnOk, OnErr, IfErr, Err, option_map, string_bytes};
+ghost use Rattle.std.specs.Prelude.{IsTrue, IfOk, OnOk, OnErr, IfErr, Err, option_map};
+ghost use Rattle.std.specs.Prelude.{string_bytes};
 ghost use Rattle.std.specs.Prelude.{slice_get};
 ghost use Rattle.schemars_shapes.specs.Shape.{entry_of, shape_of};
 ghost use Rattle.schemars_types.specs.Rows.{place_of, entry_at, unknown_in, reserved, defined};
@@ -128,7 +129,8 @@ impl Types {
     ///
     /// `OutOfMemory`; the table is then unchanged.
     pub fn reserve(&mut self, id: String, name: String) -> Result<TypeNo, TypesError>
-        ensures ok { OnOk result (self.new ≡ reserved (string_bytes id) (string_bytes name) self.old) }
+        ensures ok { OnOk result (self.new
+            ≡ reserved (string_bytes id) (string_bytes name) self.old) }
         ensures number { IfOk result (λ n. place_of (string_bytes id) self.new ≡ Some n) }
 
         // Only a new id needs memory.

@@ -6,7 +6,8 @@ ghost use Rattle.schemars_shapes.specs.Shape.{payload_of, variant_of};
 ghost use Rattle.schemars_builders.specs.NullLaw.{text_items};
 ghost use Rattle.schemars_documents.specs.Template.{noted};
 ghost use Rattle.schemars_documents.specs.View.{template_view};
-ghost use Rattle.schemars_documents.specs.OfShape.{object_with, typed, said, payload_template, named_template};
+ghost use Rattle.schemars_documents.specs.OfShape.{object_with, typed, said, payload_template};
+ghost use Rattle.schemars_documents.specs.OfShape.{named_template};
 ghost use Rattle.schemars_documents.specs.OfShape.{bare_units, other_items, external_template};
 ghost use Rattle.schemars_documents.specs.OfShape.{payload_item, untagged_template, titled};
 
@@ -66,7 +67,8 @@ pub fn untagged_template<'t>(
 }
 
 fn bare_units(alloc: Global, variants: &[Variant]) -> Result<Vec<Value>, AllocError>
-    ensures { IfOk result (λ v. items_view v.items ≡ text_items (bare_units (map variant_of variants.now))) }
+    ensures { IfOk result (λ v. items_view v.items
+        ≡ text_items (bare_units (map variant_of variants.now))) }
 {
     let mut names = Vec::new(alloc);
     for variant in variants {
@@ -115,14 +117,16 @@ fn noted<'t>(
     variant: &'t Variant,
     template: Template<'t>,
 ) -> Result<Template<'t>, AllocError>
-    ensures { IfOk result (λ t. template_view t ≡ noted (variant_of variant.now).notes (template_view template.entry)) }
+    ensures { IfOk result (λ t. template_view t
+        ≡ noted (variant_of variant.now).notes (template_view template.entry)) }
 {
     Ok(Template::Noted(&variant.notes, Box::new(alloc, template)?))
 }
 
 fn units_template<'t>(alloc: Global, names: Vec<Value>) -> Result<Template<'t>, AllocError>
     ensures { IfOk result (λ t. template_view t
-        ≡ object_with (typed (codes "string") ∷ said (codes "enum") (array (items_view names.items)) ∷ [])) }
+        ≡ object_with (typed (codes "string")
+        ∷ said (codes "enum") (array (items_view names.items)) ∷ [])) }
 {
     let mut keywords: Vec<(&'t str, Template<'t>)> = typed(alloc, "string")?;
     keywords.push(("enum", Template::Value(Value::Array(names))))?;
@@ -148,7 +152,8 @@ fn named_template<'t>(
     name: &'t str,
     payload: &'t Payload,
 ) -> Result<Template<'t>, AllocError>
-    ensures { IfOk result (λ t. template_view t ≡ named_template contract name.now (payload_of payload.now)) }
+    ensures { IfOk result (λ t. template_view t
+        ≡ named_template contract name.now (payload_of payload.now)) }
 {
     if let Payload::Unit = payload {
         return finished(new_unit_enum_variant(alloc, name)?);
@@ -196,7 +201,8 @@ fn titled<'t>(
     name: &'t str,
     template: Template<'t>,
 ) -> Result<Template<'t>, AllocError>
-    ensures { IfOk result (λ t. template_view t ≡ titled titles name.now (template_view template.entry)) }
+    ensures { IfOk result (λ t. template_view t
+        ≡ titled titles name.now (template_view template.entry)) }
 {
     if titles {
         return Ok(Template::Titled(name, Box::new(alloc, template)?));
@@ -210,7 +216,8 @@ fn payload_template<'t>(
     contract: Contract,
     payload: &'t Payload,
 ) -> Result<Template<'t>, AllocError>
-    ensures { IfOk result (λ t. template_view t ≡ payload_template contract (payload_of payload.now)) }
+    ensures { IfOk result (λ t. template_view t
+        ≡ payload_template contract (payload_of payload.now)) }
 {
     match payload {
         Payload::Unit => finished(type_alone(alloc, "null")?),

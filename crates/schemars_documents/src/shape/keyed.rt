@@ -5,7 +5,8 @@ ghost use Rattle.schemars_types.specs.KeyOptions.{key_options, keys};
 ghost use Rattle.schemars_types.specs.Found.{options_of};
 ghost use Rattle.schemars_documents.specs.Template.{row};
 ghost use Rattle.schemars_documents.specs.View.{template_view, keyword_view};
-ghost use Rattle.schemars_documents.specs.OfShape.{pattern_properties_at, other_values, values_template, values_of};
+ghost use Rattle.schemars_documents.specs.OfShape.{pattern_properties_at, other_values};
+ghost use Rattle.schemars_documents.specs.OfShape.{values_template, values_of};
 
 use crate::shape::maps::{add_properties, typed};
 use crate::template::Template;
@@ -22,7 +23,8 @@ pub fn values_template<'t>(
     value: TypeNo,
 ) -> Result<Template<'t>, AllocError>
     requires { IsChecked types.now }
-    ensures { IfOk result (λ t. template_view t ≡ values_template (key_options types.now key) value) }
+    ensures { IfOk result (λ t. template_view t
+        ≡ values_template (key_options types.now key) value) }
 {
     let options = key_options(alloc, types, key)?;
     options_template(alloc, &options, value)
@@ -73,7 +75,8 @@ fn keyed_template<'t>(
     patterns: &[&'t str],
     value: TypeNo,
 ) -> Result<Template<'t>, AllocError>
-    ensures { IfOk result (λ t. template_view t ≡ values_template (keys others (map (λ t. t.now) texts.now) None
+    ensures { IfOk result (λ t. template_view t
+        ≡ values_template (keys others (map (λ t. t.now) texts.now) None
         (map (λ t. t.now) patterns.now)) value) }
 {
     let mut keywords: Vec<(&'t str, Template<'t>)> = typed(alloc, "object")?;
@@ -119,7 +122,8 @@ fn values_at<'t>(
     keys: &[&'t str],
     value: TypeNo,
 ) -> Result<Vec<(&'t str, Template<'t>)>, AllocError>
-    ensures { IfOk result (λ v. map keyword_view v.items ≡ values_of value (map (λ t. t.now) keys.now)) }
+    ensures { IfOk result (λ v. map keyword_view v.items
+        ≡ values_of value (map (λ t. t.now) keys.now)) }
 {
     let mut values = Vec::new(alloc);
     for key in keys {

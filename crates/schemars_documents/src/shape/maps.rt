@@ -3,8 +3,10 @@ ghost use Rattle.std.specs.Prelude.{◌≡◌, ◌∷◌, ◌++◌, [], map, IfO
 ghost use Rattle.serde_json.specs.View.{items_view};
 ghost use Rattle.schemars_shapes.specs.Shape.{field_of, flattened_of, fields_of};
 ghost use Rattle.schemars_documents.specs.View.{template_view, keyword_view};
-ghost use Rattle.schemars_documents.specs.OfShape.{typed, property, properties_at, required_at, closed_at};
-ghost use Rattle.schemars_documents.specs.OfShape.{map_template, fields_template, with_flattened, struct_template};
+ghost use Rattle.schemars_documents.specs.OfShape.{typed, property, properties_at, required_at};
+ghost use Rattle.schemars_documents.specs.OfShape.{closed_at};
+ghost use Rattle.schemars_documents.specs.OfShape.{map_template, fields_template, with_flattened};
+ghost use Rattle.schemars_documents.specs.OfShape.{struct_template};
 ghost use Rattle.schemars_documents.specs.OfShape.{member_template, range_template};
 
 use crate::documents::{is_required, required_names};
@@ -22,7 +24,8 @@ pub fn map_template<'t>(
     closed: bool,
 ) -> Result<Template<'t>, AllocError>
     ensures { IfOk result (λ t. template_view t
-        ≡ map_template (map keyword_view properties.entry.items) (items_view required.items) closed) }
+        ≡ map_template (map keyword_view properties.entry.items)
+        (items_view required.items) closed) }
 {
     let mut keywords: Vec<(&'t str, Template<'t>)> = typed(alloc, "object")?;
     add_properties(alloc, &mut keywords, properties)?;
@@ -48,7 +51,8 @@ pub fn add_properties<'t>(
     properties: Vec<(&'t str, Template<'t>)>,
 ) -> Result<(), AllocError>
     ensures { OnOk result (map keyword_view keywords.new.items
-        ≡ map keyword_view keywords.old.items ++ properties_at (map keyword_view properties.entry.items)) }
+        ≡ map keyword_view keywords.old.items
+        ++ properties_at (map keyword_view properties.entry.items)) }
 {
     if properties.is_empty() {
         return Ok(());
@@ -154,7 +158,8 @@ pub fn member_template<'t>(
     part: Template<'t>,
     closed: bool,
 ) -> Result<Template<'t>, AllocError>
-    ensures { IfOk result (λ t. template_view t ≡ member_template closed name.now (template_view part.entry)) }
+    ensures { IfOk result (λ t. template_view t
+        ≡ member_template closed name.now (template_view part.entry)) }
 {
     let properties: Vec<(&'t str, Template<'t>)> = vec![in alloc; (name, part)]?;
     let required = vec![in alloc; Value::try_from_str(alloc, name)?]?;

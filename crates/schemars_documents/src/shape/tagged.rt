@@ -1,8 +1,10 @@
 //! The templates of enums whose variants are named by a member of their own maps.
 ghost use Rattle.std.specs.Prelude.{◌≡◌, map, IfOk};
-ghost use Rattle.schemars_shapes.specs.Shape.{internal_payload_of, internal_variant_of, internal_view};
+ghost use Rattle.schemars_shapes.specs.Shape.{internal_payload_of, internal_variant_of};
+ghost use Rattle.schemars_shapes.specs.Shape.{internal_view};
 ghost use Rattle.schemars_documents.specs.View.{template_view};
-ghost use Rattle.schemars_documents.specs.OfShape.{content_template, internal_item, internal_template};
+ghost use Rattle.schemars_documents.specs.OfShape.{content_template, internal_item};
+ghost use Rattle.schemars_documents.specs.OfShape.{internal_template};
 
 use crate::documents::type_alone;
 use crate::shape::maps::struct_template;
@@ -19,7 +21,8 @@ pub fn internal_template<'t>(
     internal: &'t Internal,
 ) -> Result<Template<'t>, AllocError>
     ensures { IfOk result (λ t. template_view t ≡ internal_template contract
-        (internal_view internal.now).0 (internal_view internal.now).1 (internal_view internal.now).2) }
+        (internal_view internal.now).0 (internal_view internal.now).1
+        (internal_view internal.now).2) }
 {
     if internal.variants.is_empty() {
         return finished(Schema::from(false));

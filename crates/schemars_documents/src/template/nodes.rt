@@ -44,7 +44,8 @@ pub fn object_with<'t>(
     alloc: Global,
     keywords: Vec<(&'t str, Template<'t>)>,
 ) -> Result<Template<'t>, AllocError>
-    ensures { IfOk result (λ t. template_view t ≡ object_with (map keyword_view keywords.entry.items)) }
+    ensures { IfOk result (λ t. template_view t
+        ≡ object_with (map keyword_view keywords.entry.items)) }
 {
     let mut keys = Vec::new(alloc);
     let mut values = Vec::new(alloc);

@@ -3,7 +3,8 @@ ghost use Rattle.std.specs.Prelude.{◌≡◌, codes, IfOk, OnOk};
 ghost use Rattle.serde_json.specs.View.{view, items_view};
 ghost use Rattle.schemars_flatten.specs.Flatten.{alone};
 ghost use Rattle.schemars_flatten.specs.Parts.{items_changed, list_changed_at, is_empty_object};
-ghost use Rattle.schemars_flatten.specs.Parts.{holds_empty_object, with_empty_object, one_or_anything};
+ghost use Rattle.schemars_flatten.specs.Parts.{holds_empty_object, with_empty_object};
+ghost use Rattle.schemars_flatten.specs.Parts.{one_or_anything};
 ghost use Rattle.schemars_flatten.specs.Parts.{choice_or_anything, optional, optional_where};
 ghost use Rattle.schemars_flatten.specs.Parts.{flattened_part};
 
@@ -89,7 +90,8 @@ fn alone(alloc: Global, key: &str, value: Value) -> Result<Value, AllocError>
 
 // Puts `{}` at the end of `anyOf`, unless it has it.
 fn admit_anything(alloc: Global, schema: &mut Schema) -> Result<(), AllocError>
-    ensures { OnOk result (schema.new ≡ list_changed_at (codes "anyOf") with_empty_object schema.old) }
+    ensures { OnOk result (schema.new
+        ≡ list_changed_at (codes "anyOf") with_empty_object schema.old) }
 {
     match schema.get_mut("anyOf") {
         Some(choice) => change_list(alloc, choice),

@@ -114,7 +114,8 @@ fn put_choices(
 }
 
 fn push_units(choice: &mut Value, units: Vec<Value>) -> Result<(), AllocError>
-    ensures { OnOk result (view choice.new ≡ with_items (items_view units.items) (view choice.old)) }
+    ensures { OnOk result (view choice.new
+        ≡ with_items (items_view units.items) (view choice.old)) }
 {
     match choice.as_array_mut() {
         Some(schemas) => push_all(schemas, units),
@@ -124,7 +125,8 @@ fn push_units(choice: &mut Value, units: Vec<Value>) -> Result<(), AllocError>
 
 // Puts the objects of the first schema of `oneOf` at its end, in place of the schema.
 fn change_choice(alloc: Global, schema: &mut Schema) -> Result<(), AllocError>
-    ensures { OnOk result (schema.new ≡ list_changed_at (codes "oneOf") first_as_objects schema.old) }
+    ensures { OnOk result (schema.new
+        ≡ list_changed_at (codes "oneOf") first_as_objects schema.old) }
 {
     match schema.get_mut("oneOf") {
         Some(choice) => change_list(alloc, choice),

@@ -4,10 +4,14 @@ ghost use Rattle.json.specs.Lex.{tokens};
 ghost use Rattle.json.specs.Print.{print, quoted};
 ghost use Rattle.serde_json.specs.View.{view, items_view, members_view};
 ghost use Rattle.serde_json.specs.Written.{has_float, items_have_float, members_have_float};
-ghost use Rattle.schemars_schema.specs.OrderedText.{first_keywords, last_keywords, is_listed, holds_plain_json};
-ghost use Rattle.schemars_schema.specs.OrderedText.{holds_named_schemas, SchemaLayout, layout_under, layout_inside};
-ghost use Rattle.schemars_schema.specs.OrderedText.{each_written_at, others, arranged, texts, ordered_text, text_in};
-ghost use Rattle.schemars_schema.specs.OrderedText.{item_texts, member_texts, definitions_text, object_text};
+ghost use Rattle.schemars_schema.specs.OrderedText.{first_keywords, last_keywords, is_listed};
+ghost use Rattle.schemars_schema.specs.OrderedText.{holds_plain_json};
+ghost use Rattle.schemars_schema.specs.OrderedText.{holds_named_schemas, SchemaLayout};
+ghost use Rattle.schemars_schema.specs.OrderedText.{layout_under, layout_inside};
+ghost use Rattle.schemars_schema.specs.OrderedText.{each_written_at, others, arranged, texts};
+ghost use Rattle.schemars_schema.specs.OrderedText.{ordered_text, text_in};
+ghost use Rattle.schemars_schema.specs.OrderedText.{item_texts, member_texts, definitions_text};
+ghost use Rattle.schemars_schema.specs.OrderedText.{object_text};
 ghost use Rattle.schemars_schema.specs.Output.{with_value, with_values, meant};
 
 use crate::text::output::Output;
@@ -40,7 +44,8 @@ pub fn definitions_to_ordered_string(
     alloc: Global,
     definitions: &Map<String, Value>,
 ) -> Result<String, AllocError>
-    ensures ordered { IfOk result (λ s. members_have_float (members_view definitions.now.entries) ≡ false
+    ensures ordered { IfOk result (λ s. members_have_float (members_view definitions.now.entries)
+        ≡ false
         → string_bytes s ≡ definitions_text (members_view definitions.now.entries)) }
     ensures compact { IfOk result (λ s. string_bytes s ≡ print (tokens (string_bytes s))) }
 {
@@ -164,7 +169,8 @@ fn write_object(
     out: &mut Output,
 ) -> Result<(), AllocError>
     ensures { OnOk result (members_have_float (members_view members.now.entries) ≡ false
-        → out.new ≡ with_value out.old (object_text (meant layout) (members_view members.now.entries))) }
+        → out.new ≡ with_value out.old
+        (object_text (meant layout) (members_view members.now.entries))) }
 {
     out.token(Token::BeginObject)?;
     write_members(members, layout, out)?;

@@ -1,5 +1,6 @@
 //! What fields refer to, and their names.
-ghost use Rattle.std.specs.Prelude.{◌≡◌, ◌++◌, nat_le, find, map, bytes_eq, string_bytes, IfOk, OnOk, MatchOption};
+ghost use Rattle.std.specs.Prelude.{◌≡◌, ◌++◌, nat_le, find, map, bytes_eq, string_bytes, IfOk};
+ghost use Rattle.std.specs.Prelude.{OnOk, MatchOption};
 ghost use Rattle.std.specs.List.{IsDistinct};
 ghost use Rattle.schemars_shapes.specs.Shape.{field_of, fields_of, fields_numbers, flattened_rows};
 ghost use Rattle.schemars_shapes.specs.Repeated.{IsRepeated};
@@ -17,14 +18,16 @@ pub(crate) fn numbers(alloc: Global, fields: &Fields) -> Result<Vec<TypeNo>, All
 }
 
 pub(crate) fn add_numbers(fields: &Fields, numbers: &mut Vec<TypeNo>) -> Result<(), AllocError>
-    ensures { OnOk result (numbers.new.items ≡ numbers.old.items ++ fields_numbers (fields_of fields.now)) }
+    ensures { OnOk result (numbers.new.items
+        ≡ numbers.old.items ++ fields_numbers (fields_of fields.now)) }
 {
     add_types(fields, numbers)?;
     add_flattened(fields, numbers)
 }
 
 fn add_types(fields: &Fields, numbers: &mut Vec<TypeNo>) -> Result<(), AllocError>
-    ensures { OnOk result (numbers.new.items ≡ numbers.old.items ++ map (λ f. f.ty) (map field_of fields.now.list.items)) }
+    ensures { OnOk result (numbers.new.items
+        ≡ numbers.old.items ++ map (λ f. f.ty) (map field_of fields.now.list.items)) }
 {
     for field in &fields.list {
         numbers.push(field.ty)?;
@@ -33,7 +36,8 @@ fn add_types(fields: &Fields, numbers: &mut Vec<TypeNo>) -> Result<(), AllocErro
 }
 
 pub(crate) fn add_flattened(fields: &Fields, numbers: &mut Vec<TypeNo>) -> Result<(), AllocError>
-    ensures { OnOk result (numbers.new.items ≡ numbers.old.items ++ flattened_rows (fields_of fields.now)) }
+    ensures { OnOk result (numbers.new.items
+        ≡ numbers.old.items ++ flattened_rows (fields_of fields.now)) }
 {
     for flattened in &fields.flatten {
         numbers.push(flattened.ty)?;
@@ -59,7 +63,8 @@ pub(crate) fn first_unknown(fields: &Fields, len: usize) -> Option<TypeNo>
 }
 
 fn unknown_field(fields: &Fields, len: usize) -> Option<TypeNo>
-    ensures { result ≡ find (λ n. nat_le len n) (map (λ f. f.ty) (map field_of fields.now.list.items)) }
+    ensures { result ≡ find (λ n. nat_le len n)
+        (map (λ f. f.ty) (map field_of fields.now.list.items)) }
 {
     for field in &fields.list {
         if len <= field.ty {

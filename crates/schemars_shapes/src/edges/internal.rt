@@ -1,7 +1,9 @@
 //! What variants refer to that are named by members of their own maps, and their names.
-ghost use Rattle.std.specs.Prelude.{◌≡◌, ◌++◌, nat_le, find, map, bytes_eq, string_bytes, IfOk, OnOk, MatchOption};
+ghost use Rattle.std.specs.Prelude.{◌≡◌, ◌++◌, nat_le, find, map, bytes_eq, string_bytes, IfOk};
+ghost use Rattle.std.specs.Prelude.{OnOk, MatchOption};
 ghost use Rattle.std.specs.List.{IsDistinct};
-ghost use Rattle.schemars_shapes.specs.Shape.{internal_payload_of, internal_variant_of, payload_numbers, variant_numbers, of_variants};
+ghost use Rattle.schemars_shapes.specs.Shape.{internal_payload_of, internal_variant_of};
+ghost use Rattle.schemars_shapes.specs.Shape.{payload_numbers, variant_numbers, of_variants};
 ghost use Rattle.schemars_shapes.specs.Shape.{payload_names, variant_names};
 ghost use Rattle.schemars_shapes.specs.Repeated.{IsRepeated, AreDistinctLists, IsFirstRepeated};
 ghost use Rattle.schemars_shapes.specs.Rows.{rows_along};
@@ -15,7 +17,8 @@ use crate::variant::{Internal, InternalPayload};
 use std::alloc::{AllocError, Global};
 
 fn first_unknown_in_payload(payload: &InternalPayload, len: usize) -> Option<TypeNo>
-    ensures { result ≡ find (λ n. nat_le len n) (payload_numbers (internal_payload_of payload.now)) }
+    ensures { result ≡ find (λ n. nat_le len n)
+        (payload_numbers (internal_payload_of payload.now)) }
 {
     match payload {
         InternalPayload::Unit => None,
@@ -29,7 +32,8 @@ fn add_payload_rows(
     kind: Rows,
     rows: &mut Vec<TypeNo>,
 ) -> Result<(), AllocError>
-    ensures { OnOk result (rows.new.items ≡ rows.old.items ++ rows_along kind (internal_payload_of payload.now)) }
+    ensures { OnOk result (rows.new.items
+        ≡ rows.old.items ++ rows_along kind (internal_payload_of payload.now)) }
 {
     match (payload, kind) {
         (InternalPayload::Newtype(n), Rows::All | Rows::Same) => Ok(rows.push(*n)?),
@@ -46,7 +50,8 @@ fn repeated_in_payload(
     alloc: Global,
     payload: &InternalPayload,
 ) -> Result<Option<String>, AllocError>
-    ensures { IfOk result (λ r. MatchOption r (IsDistinct bytes_eq (payload_names (internal_payload_of payload.now)))
+    ensures { IfOk result (λ r. MatchOption r
+        (IsDistinct bytes_eq (payload_names (internal_payload_of payload.now)))
         (λ s. IsRepeated (payload_names (internal_payload_of payload.now)) (string_bytes s))) }
 {
     match payload {
@@ -57,7 +62,8 @@ fn repeated_in_payload(
 
 #[tactic(auto, using(crate::proofs::VariantNumbers::internal_here, crate::proofs::VariantNumbers::internal_later))]
 pub(crate) fn first_unknown(internal: &Internal, len: usize) -> Option<TypeNo>
-    ensures { result ≡ find (λ n. nat_le len n) (variant_numbers (map internal_variant_of internal.now.variants.items)) }
+    ensures { result ≡ find (λ n. nat_le len n)
+        (variant_numbers (map internal_variant_of internal.now.variants.items)) }
 {
     for variant in &internal.variants {
         if let Some(n) = first_unknown_in_payload(&variant.payload, len) {
@@ -73,7 +79,8 @@ pub(crate) fn rows(
     internal: &Internal,
     kind: Rows,
 ) -> Result<Vec<TypeNo>, AllocError>
-    ensures { IfOk result (λ v. v.items ≡ of_variants (rows_along kind) (map internal_variant_of internal.now.variants.items)) }
+    ensures { IfOk result (λ v. v.items
+        ≡ of_variants (rows_along kind) (map internal_variant_of internal.now.variants.items)) }
 {
     let mut rows = Vec::new(alloc);
     for variant in &internal.variants {

@@ -1,7 +1,9 @@
 //! What variants refer to, and their names.
-ghost use Rattle.std.specs.Prelude.{◌≡◌, ◌++◌, nat_le, find, map, bytes_eq, string_bytes, IfOk, OnOk, MatchOption};
+ghost use Rattle.std.specs.Prelude.{◌≡◌, ◌++◌, nat_le, find, map, bytes_eq, string_bytes, IfOk};
+ghost use Rattle.std.specs.Prelude.{OnOk, MatchOption};
 ghost use Rattle.std.specs.List.{IsDistinct};
-ghost use Rattle.schemars_shapes.specs.Shape.{payload_of, variant_of, payload_numbers, variant_numbers, of_variants};
+ghost use Rattle.schemars_shapes.specs.Shape.{payload_of, variant_of, payload_numbers};
+ghost use Rattle.schemars_shapes.specs.Shape.{variant_numbers, of_variants};
 ghost use Rattle.schemars_shapes.specs.Shape.{payload_names, variant_names};
 ghost use Rattle.schemars_shapes.specs.Repeated.{IsRepeated, AreDistinctLists, IsFirstRepeated};
 ghost use Rattle.schemars_shapes.specs.Rows.{rows_along};
@@ -36,7 +38,8 @@ fn first_unknown_in_payload(payload: &Payload, len: usize) -> Option<TypeNo>
 }
 
 fn add_payload_rows(payload: &Payload, kind: Rows, rows: &mut Vec<TypeNo>) -> Result<(), AllocError>
-    ensures { OnOk result (rows.new.items ≡ rows.old.items ++ rows_along kind (payload_of payload.now)) }
+    ensures { OnOk result (rows.new.items
+        ≡ rows.old.items ++ rows_along kind (payload_of payload.now)) }
 {
     match (payload, kind) {
         (Payload::Newtype(n), Rows::All | Rows::Same) => Ok(rows.push(*n)?),
@@ -51,7 +54,8 @@ fn add_payload_rows(payload: &Payload, kind: Rows, rows: &mut Vec<TypeNo>) -> Re
 
 // The first name of a field that is met a second time.
 fn repeated_in_payload(alloc: Global, payload: &Payload) -> Result<Option<String>, AllocError>
-    ensures { IfOk result (λ r. MatchOption r (IsDistinct bytes_eq (payload_names (payload_of payload.now)))
+    ensures { IfOk result (λ r. MatchOption r
+        (IsDistinct bytes_eq (payload_names (payload_of payload.now)))
         (λ s. IsRepeated (payload_names (payload_of payload.now)) (string_bytes s))) }
 {
     match payload {
@@ -78,7 +82,8 @@ pub(crate) fn rows_in(
     kind: Rows,
     variants: &[Variant],
 ) -> Result<Vec<TypeNo>, AllocError>
-    ensures { IfOk result (λ v. v.items ≡ of_variants (rows_along kind) (map variant_of variants.now)) }
+    ensures { IfOk result (λ v. v.items
+        ≡ of_variants (rows_along kind) (map variant_of variants.now)) }
 {
     let mut rows = Vec::new(alloc);
     for variant in variants {
@@ -89,7 +94,8 @@ pub(crate) fn rows_in(
 
 // The first name that is met a second time, among the variants, or else among the fields of one.
 pub(crate) fn repeated_in(alloc: Global, variants: &[Variant]) -> Result<Option<String>, AllocError>
-    ensures { IfOk result (λ r. MatchOption r (AreDistinctLists (variant_names (map variant_of variants.now)))
+    ensures { IfOk result (λ r. MatchOption r
+        (AreDistinctLists (variant_names (map variant_of variants.now)))
         (λ s. IsFirstRepeated (variant_names (map variant_of variants.now)) (string_bytes s))) }
 {
     if let Some(name) = repeated_variant(alloc, variants)? {
@@ -104,7 +110,8 @@ pub(crate) fn repeated_in(alloc: Global, variants: &[Variant]) -> Result<Option<
 }
 
 fn repeated_variant(alloc: Global, variants: &[Variant]) -> Result<Option<String>, AllocError>
-    ensures { IfOk result (λ r. MatchOption r (IsDistinct bytes_eq (map (λ x. x.name) (map variant_of variants.now)))
+    ensures { IfOk result (λ r. MatchOption r
+        (IsDistinct bytes_eq (map (λ x. x.name) (map variant_of variants.now)))
         (λ s. IsRepeated (map (λ x. x.name) (map variant_of variants.now)) (string_bytes s))) }
 {
     let mut names = Vec::new(alloc);

@@ -4,7 +4,8 @@ ghost use Rattle.serde_json.specs.Find.{get, as_str};
 ghost use Rattle.serde_json.specs.View.{view};
 ghost use Rattle.schemars_schema.specs.OrderedText.{is_listed};
 ghost use Rattle.schemars_walk.specs.Rewritten.{rewritten};
-ghost use Rattle.schemars_transform.specs.Formats.{draft_named, draft_by, draft_inside, is_defined, stays, format_rules};
+ghost use Rattle.schemars_transform.specs.Formats.{draft_named, draft_by, draft_inside, is_defined};
+ghost use Rattle.schemars_transform.specs.Formats.{stays, format_rules};
 
 use schemars_schema::Schema;
 use schemars_schema::consts::meta_schemas;
@@ -153,7 +154,8 @@ fn draft_at(uri: &str) -> Draft
 }
 
 fn stays(draft: Draft, allowed: &BTreeSet<String>, schema: &Schema) -> bool
-    ensures { result ≡ stays draft allowed.now (option_and_then as_str (get (codes "format") schema.now)) }
+    ensures { result ≡ stays draft allowed.now
+        (option_and_then as_str (get (codes "format") schema.now)) }
 {
     match schema.get("format").and_then(Value::as_str) {
         Some(format) => allowed.contains(format) || is_defined(draft, format),

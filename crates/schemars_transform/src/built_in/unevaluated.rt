@@ -3,9 +3,12 @@ ghost use Rattle.std.specs.Prelude.{◌≡◌, IfOk, OnOk};
 ghost use Rattle.serde_json.specs.Data.{no_members};
 ghost use Rattle.serde_json.specs.View.{view, items_view, members_view};
 ghost use Rattle.schemars_schema.specs.OrderedText.{is_listed};
-ghost use Rattle.schemars_transform.specs.Unevaluated.{with_same_object, with_same_objects, keys, keys_in};
-ghost use Rattle.schemars_transform.specs.Unevaluated.{names_in, names_in_items, names_in_keywords, names_at, property_names};
-ghost use Rattle.schemars_transform.specs.Unevaluated.{with_names, named_in, properties_made, with_properties};
+ghost use Rattle.schemars_transform.specs.Unevaluated.{with_same_object, with_same_objects, keys};
+ghost use Rattle.schemars_transform.specs.Unevaluated.{keys_in};
+ghost use Rattle.schemars_transform.specs.Unevaluated.{names_in, names_in_items, names_in_keywords};
+ghost use Rattle.schemars_transform.specs.Unevaluated.{names_at, property_names};
+ghost use Rattle.schemars_transform.specs.Unevaluated.{with_names, named_in, properties_made};
+ghost use Rattle.schemars_transform.specs.Unevaluated.{with_properties};
 ghost use Rattle.schemars_builders.specs.Properties.{put_missing};
 
 use crate::built_in::keywords::put;

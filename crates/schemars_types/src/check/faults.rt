@@ -1,11 +1,13 @@
 //! The faults of a table.
-ghost use Rattle.std.specs.Prelude.{◌≡◌, ◌<◌, ◌++◌, ℕ, length, map, filter, None, IfOk, OnOk, MatchOption, string_bytes};
+ghost use Rattle.std.specs.Prelude.{◌≡◌, ◌<◌, ◌++◌, ℕ, length, map, filter, None, IfOk, OnOk};
+ghost use Rattle.std.specs.Prelude.{MatchOption, string_bytes};
 ghost use Rattle.schemars_shapes.specs.Shape.{shape_of, numbers_of};
 ghost use Rattle.schemars_types.specs.Walks.{Leads, OnCycle, IsFree, IsLeast};
 ghost use Rattle.schemars_types.specs.Search.{HasTargets};
 ghost use Rattle.schemars_shapes.specs.Repeated.{AreDistinctLists, IsFirstRepeated};
 ghost use Rattle.schemars_types.specs.Slots.{row_of};
-ghost use Rattle.schemars_types.specs.Edges.{is_inline_at, is_row, asked_in, below, option_at, names_at};
+ghost use Rattle.schemars_types.specs.Edges.{is_inline_at, is_row, asked_in, below, option_at};
+ghost use Rattle.schemars_types.specs.Edges.{names_at};
 ghost use Rattle.schemars_types.specs.EdgeKind.{targets_along};
 ghost use Rattle.schemars_types.specs.Undefined.{IsUndefined};
 
@@ -63,7 +65,8 @@ fn repeated_name(
     slots: &IndexMap<String, Slot>,
     n: TypeNo,
 ) -> Result<Option<String>, AllocError>
-    ensures { IfOk result (λ r. MatchOption r (AreDistinctLists (names_at (map row_of slots.now.entries) n))
+    ensures { IfOk result (λ r. MatchOption r
+        (AreDistinctLists (names_at (map row_of slots.now.entries) n))
         (λ s. IsFirstRepeated (names_at (map row_of slots.now.entries) n) (string_bytes s))) }
 {
     match entry(slots, n) {
@@ -146,7 +149,8 @@ fn in_place_among(
     slots: &IndexMap<String, Slot>,
     numbers: Vec<TypeNo>,
 ) -> Result<Vec<TypeNo>, AllocError>
-    ensures { IfOk result (λ v. v.items ≡ filter (is_inline_at (map row_of slots.now.entries)) numbers.items) }
+    ensures { IfOk result (λ v. v.items
+        ≡ filter (is_inline_at (map row_of slots.now.entries)) numbers.items) }
 {
     numbers
         .into_iter()
@@ -160,7 +164,8 @@ fn rows_among(
     slots: &IndexMap<String, Slot>,
     numbers: Vec<TypeNo>,
 ) -> Result<Vec<TypeNo>, AllocError>
-    ensures { IfOk result (λ v. v.items ≡ filter (is_row (map row_of slots.now.entries)) numbers.items) }
+    ensures { IfOk result (λ v. v.items
+        ≡ filter (is_row (map row_of slots.now.entries)) numbers.items) }
 {
     numbers
         .into_iter()
@@ -191,7 +196,8 @@ fn add_below(
     n: TypeNo,
     rows: &mut Vec<TypeNo>,
 ) -> Result<(), AllocError>
-    ensures { OnOk result (rows.new.items ≡ rows.old.items ++ below (map row_of slots.now.entries) n) }
+    ensures { OnOk result (rows.new.items
+        ≡ rows.old.items ++ below (map row_of slots.now.entries) n) }
 {
     let mut at = n;
     for _step in 0..count(slots) {

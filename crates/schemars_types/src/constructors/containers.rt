@@ -1,8 +1,10 @@
 //! Rows of optional values, lists, tuples and maps.
 ghost use Rattle.std.specs.Prelude.{◌≡◌, codes, IfOk, OnErr, IfErr, map};
 ghost use Rattle.schemars_shapes.specs.Shape.{Shape as shape, in_place, array_of};
-ghost use Rattle.schemars_types.specs.Names.{option_id, option_name, seq_id, seq_name, set_id, set_name};
-ghost use Rattle.schemars_types.specs.Names.{array_id, array_name, up_to_id, up_to_name, tuple_id, tuple_name};
+ghost use Rattle.schemars_types.specs.Names.{option_id, option_name, seq_id, seq_name, set_id};
+ghost use Rattle.schemars_types.specs.Names.{set_name};
+ghost use Rattle.schemars_types.specs.Names.{array_id, array_name, up_to_id, up_to_name, tuple_id};
+ghost use Rattle.schemars_types.specs.Names.{tuple_name};
 ghost use Rattle.schemars_types.specs.Names.{map_id, map_name};
 ghost use Rattle.schemars_types.specs.Refusals.{Registers, Refuses};
 ghost use Rattle.schemars_types.specs.Rows.{id_at, name_at};
@@ -22,7 +24,8 @@ use std::alloc::Global;
 impl Types {
     /// The type of null and the values of row `n`.
     pub fn option(&mut self, alloc: Global, n: TypeNo) -> Result<TypeNo, TypesError>
-        ensures ok { IfOk result (Registers (option_id (id_at self.old n)) (option_name (name_at self.old n))
+        ensures ok { IfOk result (Registers (option_id (id_at self.old n))
+            (option_name (name_at self.old n))
             (in_place (shape.option n)) self.old self.new) }
         ensures err { OnErr result (self.new ≡ self.old) }
         ensures refused { IfErr result
@@ -41,7 +44,8 @@ impl Types {
 
     /// The type of lists of values of row `n`.
     pub fn seq(&mut self, alloc: Global, n: TypeNo) -> Result<TypeNo, TypesError>
-        ensures ok { IfOk result (Registers (seq_id (id_at self.old n)) (seq_name (name_at self.old n))
+        ensures ok { IfOk result (Registers (seq_id (id_at self.old n))
+            (seq_name (name_at self.old n))
             (in_place (shape.seq n)) self.old self.new) }
         ensures err { OnErr result (self.new ≡ self.old) }
         ensures refused { IfErr result
@@ -52,7 +56,8 @@ impl Types {
 
     /// The type of lists of values of row `n`, no two of them equal.
     pub fn set(&mut self, alloc: Global, n: TypeNo) -> Result<TypeNo, TypesError>
-        ensures ok { IfOk result (Registers (set_id (id_at self.old n)) (set_name (name_at self.old n))
+        ensures ok { IfOk result (Registers (set_id (id_at self.old n))
+            (set_name (name_at self.old n))
             (in_place (shape.set n)) self.old self.new) }
         ensures err { OnErr result (self.new ≡ self.old) }
         ensures refused { IfErr result
@@ -93,7 +98,8 @@ impl Types {
     /// The type of lists of at most `cap` values of row `n`.
     pub fn up_to(&mut self, alloc: Global, n: TypeNo, cap: u64) -> Result<TypeNo, TypesError>
         ensures ok { IfOk result (Registers (up_to_id (id_at self.old n) cap)
-            (up_to_name (name_at self.old n) cap) (in_place (shape.up_to n cap)) self.old self.new) }
+            (up_to_name (name_at self.old n) cap)
+            (in_place (shape.up_to n cap)) self.old self.new) }
         ensures err { OnErr result (self.new ≡ self.old) }
         ensures refused { IfErr result
             (Refuses (up_to_id (id_at self.old n) cap) (in_place (shape.up_to n cap)) self.old) }

@@ -26,11 +26,13 @@ impl Types {
         value: TypeNo,
         error: TypeNo,
     ) -> Result<TypeNo, TypesError>
-        ensures ok { IfOk result (Registers (result_id (id_at self.old value) (id_at self.old error))
+        ensures ok { IfOk result (Registers
+            (result_id (id_at self.old value) (id_at self.old error))
             (result_name (name_at self.old value) (name_at self.old error))
             (without_notes false (shape.result value error)) self.old self.new) }
         ensures err { OnErr result (self.new ≡ self.old) }
-        ensures refused { IfErr result (Refuses (result_id (id_at self.old value) (id_at self.old error))
+        ensures refused { IfErr result
+            (Refuses (result_id (id_at self.old value) (id_at self.old error))
             (without_notes false (shape.result value error)) self.old) }
     {
         self.register_pair(
@@ -48,7 +50,8 @@ impl Types {
     /// The type of bounds: maps with `Included` or with `Excluded` of row `n`, and not both, and
     /// the text `Unbounded`.
     pub fn bound(&mut self, alloc: Global, n: TypeNo) -> Result<TypeNo, TypesError>
-        ensures ok { IfOk result (Registers (bound_id (id_at self.old n)) (bound_name (name_at self.old n))
+        ensures ok { IfOk result (Registers (bound_id (id_at self.old n))
+            (bound_name (name_at self.old n))
             (without_notes false (shape.bound n)) self.old self.new) }
         ensures err { OnErr result (self.new ≡ self.old) }
         ensures refused { IfErr result
@@ -59,7 +62,8 @@ impl Types {
 
     /// The type of maps with `start` and `end` of row `n`.
     pub fn range(&mut self, alloc: Global, n: TypeNo) -> Result<TypeNo, TypesError>
-        ensures ok { IfOk result (Registers (range_id (id_at self.old n)) (range_name (name_at self.old n))
+        ensures ok { IfOk result (Registers (range_id (id_at self.old n))
+            (range_name (name_at self.old n))
             (without_notes false (shape.range n)) self.old self.new) }
         ensures err { OnErr result (self.new ≡ self.old) }
         ensures refused { IfErr result
@@ -79,7 +83,8 @@ impl Types {
             (either_name (name_at self.old left) (name_at self.old right))
             (in_place (shape.either left right)) self.old self.new) }
         ensures err { OnErr result (self.new ≡ self.old) }
-        ensures refused { IfErr result (Refuses (either_id (id_at self.old left) (id_at self.old right))
+        ensures refused { IfErr result
+            (Refuses (either_id (id_at self.old left) (id_at self.old right))
             (in_place (shape.either left right)) self.old) }
     {
         self.register_pair(

@@ -1,5 +1,6 @@
 //! How rows of common types join a table.
-ghost use Rattle.std.specs.Prelude.{◌≡◌, ◌++◌, [], ◌∷◌, codes, IfOk, OnErr, IfErr, string_bytes, find, nat_le, length};
+ghost use Rattle.std.specs.Prelude.{◌≡◌, ◌++◌, [], ◌∷◌, codes, IfOk, OnErr, IfErr, string_bytes};
+ghost use Rattle.std.specs.Prelude.{find, nat_le, length};
 ghost use Rattle.schemars_shapes.specs.Shape.{shape_of, without_notes, numbers_of};
 ghost use Rattle.schemars_types.specs.Refusals.{Registers, Refuses};
 ghost use Rattle.schemars_types.specs.Rows.{id_at, name_at, unknown_in};
@@ -24,7 +25,8 @@ impl Types {
     ) -> Result<TypeNo, TypesError>
         ensures ok { IfOk result
             (RegistersTime id.now name.now seconds.now nanoseconds.now self.old self.new) }
-        ensures refused { IfErr result (RefusesTime id.now seconds.now nanoseconds.now self.old self.new) }
+        ensures refused { IfErr result
+            (RefusesTime id.now seconds.now nanoseconds.now self.old self.new) }
     {
         let whole = self.int(alloc, IntKind::U64)?;
         let part = self.int(alloc, IntKind::U32)?;
@@ -67,7 +69,8 @@ impl Types {
         inline: bool,
         shape: Shape,
     ) -> Result<TypeNo, TypesError>
-        requires { unknown_in self.old (shape_of shape) ≡ find (λ m. nat_le (length self.old) m) (n ∷ []) }
+        requires { unknown_in self.old (shape_of shape)
+            ≡ find (λ m. nat_le (length self.old) m) (n ∷ []) }
         ensures ok { IfOk result (Registers (before.now ++ (id_at self.old n ++ after.now))
             (name_before.now ++ name_at self.old n)
             (without_notes inline (shape_of shape)) self.old self.new) }
@@ -96,12 +99,15 @@ impl Types {
     ) -> Result<TypeNo, TypesError>
         requires { numbers_of (shape_of shape) ≡ first ∷ second ∷ [] }
         ensures ok { IfOk result (Registers
-            (generic.now ++ (codes "<" ++ (id_at self.old first ++ (codes ", " ++ (id_at self.old second ++ codes ">")))))
-            (name_before.now ++ (name_at self.old first ++ (name_between.now ++ name_at self.old second)))
+            (generic.now ++ (codes "<"
+            ++ (id_at self.old first ++ (codes ", " ++ (id_at self.old second ++ codes ">")))))
+            (name_before.now ++ (name_at self.old first
+            ++ (name_between.now ++ name_at self.old second)))
             (without_notes inline (shape_of shape)) self.old self.new) }
         ensures err { OnErr result (self.new ≡ self.old) }
         ensures refused { IfErr result (Refuses
-            (generic.now ++ (codes "<" ++ (id_at self.old first ++ (codes ", " ++ (id_at self.old second ++ codes ">")))))
+            (generic.now ++ (codes "<"
+            ++ (id_at self.old first ++ (codes ", " ++ (id_at self.old second ++ codes ">")))))
             (without_notes inline (shape_of shape)) self.old) }
     {
         if let Some(n) = first_unknown_among(&[first, second], self.len()) {

@@ -34,7 +34,8 @@ impl Types {
     /// The type of truth values.
     pub fn bool(&mut self, alloc: Global) -> Result<TypeNo, TypesError>
         ensures ok { IfOk result
-            (Registers (codes "boolean") (codes "boolean") (in_place shape.bool) self.old self.new) }
+            (Registers (codes "boolean") (codes "boolean")
+            (in_place shape.bool) self.old self.new) }
         ensures err { OnErr result (self.new ≡ self.old) }
         ensures refused { IfErr result (Refuses (codes "boolean") (in_place shape.bool) self.old) }
     {
@@ -44,9 +45,11 @@ impl Types {
     /// The type of whole numbers of this kind.
     pub fn int(&mut self, alloc: Global, kind: IntKind) -> Result<TypeNo, TypesError>
         ensures ok { IfOk result
-            (Registers (format_of kind) (format_of kind) (in_place (shape.int kind)) self.old self.new) }
+            (Registers (format_of kind) (format_of kind)
+            (in_place (shape.int kind)) self.old self.new) }
         ensures err { OnErr result (self.new ≡ self.old) }
-        ensures refused { IfErr result (Refuses (format_of kind) (in_place (shape.int kind)) self.old) }
+        ensures refused { IfErr result
+            (Refuses (format_of kind) (in_place (shape.int kind)) self.old) }
     {
         self.register_named(alloc, kind.format(), kind.format(), true, Shape::Int(kind))
     }
@@ -67,7 +70,8 @@ impl Types {
     /// The type of numbers.
     pub fn number(&mut self, alloc: Global) -> Result<TypeNo, TypesError>
         ensures ok { IfOk result
-            (Registers (codes "Number") (codes "Number") (in_place shape.number) self.old self.new) }
+            (Registers (codes "Number") (codes "Number")
+            (in_place shape.number) self.old self.new) }
         ensures err { OnErr result (self.new ≡ self.old) }
         ensures refused { IfErr result (Refuses (codes "Number") (in_place shape.number) self.old) }
     {
@@ -114,7 +118,8 @@ impl Types {
     /// The type of all values.
     pub fn any(&mut self, alloc: Global) -> Result<TypeNo, TypesError>
         ensures ok { IfOk result
-            (Registers (codes "AnyValue") (codes "AnyValue") (in_place shape.any) self.old self.new) }
+            (Registers (codes "AnyValue") (codes "AnyValue")
+            (in_place shape.any) self.old self.new) }
         ensures err { OnErr result (self.new ≡ self.old) }
         ensures refused { IfErr result (Refuses (codes "AnyValue") (in_place shape.any) self.old) }
     {
@@ -138,7 +143,8 @@ impl Types {
             (without_notes false shape.schema_itself) self.old self.new) }
         ensures err { OnErr result (self.new ≡ self.old) }
         ensures refused { IfErr result
-            (Refuses (codes "schemars::Schema") (without_notes false shape.schema_itself) self.old) }
+            (Refuses (codes "schemars::Schema")
+            (without_notes false shape.schema_itself) self.old) }
     {
         self.register_named(
             alloc,
@@ -155,7 +161,8 @@ impl Types {
             (without_notes false (shape.literal version_schema)) self.old self.new) }
         ensures err { OnErr result (self.new ≡ self.old) }
         ensures refused { IfErr result
-            (Refuses (codes "semver::Version") (without_notes false (shape.literal version_schema)) self.old) }
+            (Refuses (codes "semver::Version")
+            (without_notes false (shape.literal version_schema)) self.old) }
     {
         let schema = version_schema(alloc)?;
         self.register_named(

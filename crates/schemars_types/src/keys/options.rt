@@ -64,7 +64,8 @@ impl<'t> KeyOptions<'t> {
     }
 
     pub(crate) fn add_integers(&mut self, more: IntegerKeys)
-        ensures { options_of self.new ≡ adding (options_of self.old) (keys false [] (Some more) []) }
+        ensures { options_of self.new
+            ≡ adding (options_of self.old) (keys false [] (Some more) []) }
     {
         self.integers = Some(wider(self.integers, more));
     }

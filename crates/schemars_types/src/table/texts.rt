@@ -82,7 +82,8 @@ pub fn tuple_id(
     parts: &[TypeNo],
 ) -> Result<String, AllocError>
     ensures { IfOk result (λ s. string_bytes s ≡ codes "("
-        ++ (join_by (λ id. id) (codes ",") (map (id_at (map row_of slots.now.entries)) parts.now) ++ codes ")")) }
+        ++ (join_by (λ id. id) (codes ",") (map (id_at (map row_of slots.now.entries)) parts.now)
+        ++ codes ")")) }
 {
     let mut ids = Vec::new(alloc);
     for n in parts {
@@ -99,7 +100,8 @@ pub fn tuple_name(
     parts: &[TypeNo],
 ) -> Result<String, AllocError>
     ensures { IfOk result (λ s. string_bytes s ≡ codes "Tuple_of_"
-        ++ join_by (λ name. name) (codes "_and_") (map (name_at (map row_of slots.now.entries)) parts.now)) }
+        ++ join_by (λ name. name) (codes "_and_")
+        (map (name_at (map row_of slots.now.entries)) parts.now)) }
 {
     let mut names = Vec::new(alloc);
     for n in parts {
