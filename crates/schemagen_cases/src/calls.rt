@@ -1,7 +1,7 @@
 //! What calls of the libraries answer, as text.
 mod builders;
 mod edits;
-mod error;
+pub(crate) mod error;
 mod schemas;
 mod transforms;
 pub(crate) mod values;

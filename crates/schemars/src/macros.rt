@@ -7,6 +7,6 @@
 macro_rules! schema_for_value {
     (in $alloc:expr; $value:expr) => {{
         let alloc = $alloc;
-        $schemars_generate::SchemaGenerator(alloc).into_root_schema_for_value(alloc, &$value)
+        $crate::SchemaGenerator::default(alloc).into_root_schema_for_value(alloc, &$value)
     }};
 }

@@ -183,7 +183,7 @@ impl Contents {
         ensures err { OnErr result (self.new ≡ self.old) }
     {
         let mut definitions = self.work.copy_definitions()?;
-        transform_members(transforms, alloc, &mut definitions)?;
+        transform_members(alloc, transforms, &mut definitions)?;
         let _ = self.work.take_definitions(alloc);
         Ok(definitions)
     }

@@ -12,8 +12,8 @@ use std::mem;
 /// unchanged. After an error the value is what the transform left, which is still a schema.
 pub fn on_value<T: Transform>(
     alloc: Global,
-    value: &mut Value,
     t: &mut T,
+    value: &mut Value,
 ) -> Result<bool, TransformError>
     ensures { OnValue T.makes t.old (view value.old) result t.new (view value.new) }
 {

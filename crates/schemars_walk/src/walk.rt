@@ -31,8 +31,8 @@ pub fn transform_subschemas<T: Transform>(
 /// Applies a transform to each member of a map, in the order of its keys. Values that are not
 /// schemas are skipped. The first error, of the transform or of memory, ends the walk.
 pub fn transform_members<T: Transform>(
-    t: &mut T,
     alloc: Global,
+    t: &mut T,
     members: &mut Map<String, Value>,
 ) -> Result<(), TransformError>
     ensures { EachMember (λ k. AtSchema T.makes) t.old (members_view members.old.entries) result

@@ -27,7 +27,7 @@ pub(crate) fn answer(
         "recursive_growth" => RecursiveTransform(Growth).transform(alloc, schema),
         "fn_transform" => by_closure(alloc, schema),
         "apply_inner_validation" => {
-            apply_inner_validation(alloc, schema, &mut Numbering { next: 0 })
+            apply_inner_validation(alloc, &mut Numbering { next: 0 }, schema)
         }
         _ => built_in(alloc, call, argument, schema)?,
     };
@@ -53,7 +53,7 @@ pub(crate) fn answer_nested(alloc: Global, depth: &Value) -> Result<String, NoAn
 /// Whether a value is a schema, and what a transform makes of it.
 pub(crate) fn answer_of_value(alloc: Global, value: &Value) -> Result<String, NoAnswer> {
     let mut value = value.clone()?;
-    match on_value(alloc, &mut value, &mut Numbering { next: 0 }) {
+    match on_value(alloc, &mut Numbering { next: 0 }, &mut value) {
         Ok(is_schema) => {
             let text = value.to_string(alloc)?;
             Ok(format!(in alloc; "{is_schema} {text}")?)

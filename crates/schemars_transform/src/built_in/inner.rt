@@ -11,8 +11,8 @@ use std::alloc::Global;
 /// Applies a transform to the value of `items`, if that is a schema.
 pub fn apply_inner_validation<T: Transform>(
     alloc: Global,
-    schema: &mut Schema,
     t: &mut T,
+    schema: &mut Schema,
 ) -> Result<(), TransformError>
     ensures { AtItems T.makes t.old schema.old result t.new schema.new }
 {
@@ -30,6 +30,6 @@ fn at_schema<T: Transform>(
 ) -> Result<(), TransformError>
     ensures { AtSchema T.makes t.old (view value.old) result t.new (view value.new) }
 {
-    let _is_schema = on_value(alloc, value, t)?;
+    let _is_schema = on_value(alloc, t, value)?;
     Ok(())
 }
