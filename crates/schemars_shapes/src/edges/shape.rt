@@ -25,7 +25,9 @@ pub fn first_unknown(shape: &Shape, len: usize) -> Option<TypeNo>
         Shape::Internal(internal) => internal::first_unknown(internal, len),
         Shape::Tuple(parts) => first_unknown_among(parts, len),
         Shape::Struct(fields) => fields::first_unknown(fields, len),
-        _ => None,
+        Shape::Null | Shape::Bool | Shape::Int(_) | Shape::NonZero(_) => None,
+        Shape::Number | Shape::Text | Shape::Char | Shape::Formatted(_) => None,
+        Shape::Any | Shape::Bytes | Shape::SchemaItself | Shape::Literal(_) => None,
     }
 }
 
@@ -48,7 +50,9 @@ pub fn numbers(alloc: Global, shape: &Shape) -> Result<Vec<TypeNo>, AllocError>
         Shape::Internal(internal) => internal::rows(alloc, internal, Rows::All),
         Shape::Tuple(parts) => parts.clone(),
         Shape::Struct(fields) => fields::numbers(alloc, fields),
-        _ => Ok(Vec::new(alloc)),
+        Shape::Null | Shape::Bool | Shape::Int(_) | Shape::NonZero(_) => Ok(Vec::new(alloc)),
+        Shape::Number | Shape::Text | Shape::Char | Shape::Formatted(_) => Ok(Vec::new(alloc)),
+        Shape::Any | Shape::Bytes | Shape::SchemaItself | Shape::Literal(_) => Ok(Vec::new(alloc)),
     }
 }
 
@@ -62,7 +66,12 @@ pub fn same_value_numbers(alloc: Global, shape: &Shape) -> Result<Vec<TypeNo>, A
         Shape::External(variants) => rows_in(alloc, Rows::Flattened, variants),
         Shape::Untagged(variants) => rows_in(alloc, Rows::Same, variants),
         Shape::Internal(internal) => internal::rows(alloc, internal, Rows::Same),
-        _ => Ok(Vec::new(alloc)),
+        Shape::Null | Shape::Bool | Shape::Int(_) | Shape::NonZero(_) => Ok(Vec::new(alloc)),
+        Shape::Number | Shape::Text | Shape::Char | Shape::Formatted(_) => Ok(Vec::new(alloc)),
+        Shape::Any | Shape::Bytes | Shape::SchemaItself | Shape::Literal(_) => Ok(Vec::new(alloc)),
+        Shape::Seq(_) | Shape::Set(_) | Shape::Array(..) | Shape::UpTo(..) => Ok(Vec::new(alloc)),
+        Shape::Tuple(_) | Shape::Result(..) | Shape::Either(..) => Ok(Vec::new(alloc)),
+        Shape::Bound(_) | Shape::Range(_) | Shape::Map(..) => Ok(Vec::new(alloc)),
     }
 }
 
@@ -78,7 +87,13 @@ pub fn flattened_numbers(alloc: Global, shape: &Shape) -> Result<Vec<TypeNo>, Al
             variants,
         ),
         Shape::Internal(internal) => internal::rows(alloc, internal, Rows::Flattened),
-        _ => Ok(Vec::new(alloc)),
+        Shape::Null | Shape::Bool | Shape::Int(_) | Shape::NonZero(_) => Ok(Vec::new(alloc)),
+        Shape::Number | Shape::Text | Shape::Char | Shape::Formatted(_) => Ok(Vec::new(alloc)),
+        Shape::Any | Shape::Bytes | Shape::SchemaItself | Shape::Literal(_) => Ok(Vec::new(alloc)),
+        Shape::Option(_) | Shape::Newtype(_) | Shape::Seq(_) | Shape::Set(_) => Ok(Vec::new(alloc)),
+        Shape::Array(..) | Shape::UpTo(..) | Shape::Tuple(_) => Ok(Vec::new(alloc)),
+        Shape::Result(..) | Shape::Either(..) => Ok(Vec::new(alloc)),
+        Shape::Bound(_) | Shape::Range(_) | Shape::Map(..) => Ok(Vec::new(alloc)),
     }
 }
 
@@ -96,7 +111,13 @@ pub fn asked_numbers(alloc: Global, shape: &Shape) -> Result<Vec<TypeNo>, AllocE
             variants,
         ),
         Shape::Internal(internal) => internal::rows(alloc, internal, Rows::Same),
-        _ => Ok(Vec::new(alloc)),
+        Shape::Null | Shape::Bool | Shape::Int(_) | Shape::NonZero(_) => Ok(Vec::new(alloc)),
+        Shape::Number | Shape::Text | Shape::Char | Shape::Formatted(_) => Ok(Vec::new(alloc)),
+        Shape::Any | Shape::Bytes | Shape::SchemaItself | Shape::Literal(_) => Ok(Vec::new(alloc)),
+        Shape::Option(_) | Shape::Newtype(_) | Shape::Seq(_) | Shape::Set(_) => Ok(Vec::new(alloc)),
+        Shape::Array(..) | Shape::UpTo(..) | Shape::Tuple(_) => Ok(Vec::new(alloc)),
+        Shape::Result(..) | Shape::Either(..) => Ok(Vec::new(alloc)),
+        Shape::Bound(_) | Shape::Range(_) => Ok(Vec::new(alloc)),
     }
 }
 
