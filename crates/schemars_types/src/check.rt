@@ -26,16 +26,16 @@ impl Types {
         ensures refused { IfErr result (λ e. (e ≡ TypesError.OutOfMemory) ⊎ Refusal self.now e) }
         ensures only_memory { IsAccepted self.now → IfErr result (λ e. e ≡ TypesError.OutOfMemory) }
     {
-        if let Some(n) = first_undefined(&self.slots) {
+        if let Some(n) = first_undefined(self) {
             return Err(TypesError::UndefinedType(n));
         }
-        if let Some((n, name)) = first_repeated(alloc, &self.slots)? {
+        if let Some((n, name)) = first_repeated(alloc, self)? {
             return Err(TypesError::RepeatedName(n, name));
         }
-        if let Some(n) = first_on_cycle(alloc, &self.slots, EdgeKind::Direct)? {
+        if let Some(n) = first_on_cycle(alloc, self, EdgeKind::Direct)? {
             return Err(TypesError::DirectCycle(n));
         }
-        if let Some(n) = first_on_cycle(alloc, &self.slots, EdgeKind::SameValue)? {
+        if let Some(n) = first_on_cycle(alloc, self, EdgeKind::SameValue)? {
             return Err(TypesError::EmptyCycle(n));
         }
         Ok(())

@@ -5,15 +5,13 @@ ghost use Rattle.schemars_shapes.specs.Shape.{shape_of, numbers_of};
 ghost use Rattle.schemars_types.specs.Walks.{Leads, OnCycle, IsFree, IsLeast};
 ghost use Rattle.schemars_types.specs.Search.{HasTargets};
 ghost use Rattle.schemars_shapes.specs.Repeated.{AreDistinctLists, IsFirstRepeated};
-ghost use Rattle.schemars_types.specs.Slots.{row_of};
 ghost use Rattle.schemars_types.specs.Edges.{is_inline_at, is_row, asked_in, below, option_at};
-ghost use Rattle.schemars_types.specs.Edges.{names_at};
+ghost use Rattle.schemars_types.specs.Edges.{names_at, RefersWithin};
 ghost use Rattle.schemars_types.specs.EdgeKind.{targets_along};
 ghost use Rattle.schemars_types.specs.Undefined.{IsUndefined};
 
 use crate::check::cycles::least_on_cycle;
-use crate::table::slots::{Slot, count, entry};
-use indexmap::IndexMap;
+use crate::table::Types;
 use schemars_shapes::{
     Shape, TypeNo, asked_numbers, flattened_numbers, numbers, same_value_numbers,
 };
@@ -30,12 +28,13 @@ pub enum EdgeKind {
 }
 
 /// The first row that was never defined.
-pub fn first_undefined(slots: &IndexMap<String, Slot>) -> Option<TypeNo>
-    ensures { MatchOption result (IsFree (IsUndefined (map row_of slots.now.entries)))
-        (IsLeast (IsUndefined (map row_of slots.now.entries))) }
+pub fn first_undefined(types: &Types) -> Option<TypeNo>
+    ensures first { MatchOption result (IsFree (IsUndefined types.now))
+        (IsLeast (IsUndefined types.now)) }
+    ensures within { RefersWithin types.now }
 {
-    for n in 0..count(slots) {
-        if entry(slots, n).is_none() {
+    for n in 0..types.len() {
+        if types.entry(n).is_none() {
             return Some(n);
         }
     }
@@ -43,33 +42,26 @@ pub fn first_undefined(slots: &IndexMap<String, Slot>) -> Option<TypeNo>
 }
 
 /// The first row with a name twice, and the name.
-pub fn first_repeated(
-    alloc: Global,
-    slots: &IndexMap<String, Slot>,
-) -> Result<Option<(TypeNo, String)>, AllocError>
+pub fn first_repeated(alloc: Global, types: &Types) -> Result<Option<(TypeNo, String)>, AllocError>
     ensures { IfOk result (λ r.
-        MatchOption r ((n : ℕ) → AreDistinctLists (names_at (map row_of slots.now.entries) n))
-        (λ p. ((k : ℕ) → k < p.0 → AreDistinctLists (names_at (map row_of slots.now.entries) k))
-        × IsFirstRepeated (names_at (map row_of slots.now.entries) p.0) (string_bytes p.1))) }
+        MatchOption r ((n : ℕ) → AreDistinctLists (names_at types.now n))
+        (λ p. ((k : ℕ) → k < p.0 → AreDistinctLists (names_at types.now k))
+        × IsFirstRepeated (names_at types.now p.0) (string_bytes p.1))) }
 {
-    for n in 0..count(slots) {
-        if let Some(name) = repeated_name(alloc, slots, n)? {
+    for n in 0..types.len() {
+        if let Some(name) = repeated_name(alloc, types, n)? {
             return Ok(Some((n, name)));
         }
     }
     Ok(None)
 }
 
-fn repeated_name(
-    alloc: Global,
-    slots: &IndexMap<String, Slot>,
-    n: TypeNo,
-) -> Result<Option<String>, AllocError>
+fn repeated_name(alloc: Global, types: &Types, n: TypeNo) -> Result<Option<String>, AllocError>
     ensures { IfOk result (λ r. MatchOption r
-        (AreDistinctLists (names_at (map row_of slots.now.entries) n))
-        (λ s. IsFirstRepeated (names_at (map row_of slots.now.entries) n) (string_bytes s))) }
+        (AreDistinctLists (names_at types.now n))
+        (λ s. IsFirstRepeated (names_at types.now n) (string_bytes s))) }
 {
-    match entry(slots, n) {
+    match types.entry(n) {
         Some(entry) => schemars_shapes::repeated_name(alloc, &entry.shape),
         None => Ok(None),
     }
@@ -78,30 +70,26 @@ fn repeated_name(
 /// The lowest row on a cycle of edges of this kind.
 pub fn first_on_cycle(
     alloc: Global,
-    slots: &IndexMap<String, Slot>,
+    types: &Types,
     kind: EdgeKind,
 ) -> Result<Option<TypeNo>, AllocError>
     ensures { IfOk result (λ r.
-        MatchOption r (IsFree (OnCycle (Leads (targets_along kind (map row_of slots.now.entries)))))
-        (IsLeast (OnCycle (Leads (targets_along kind (map row_of slots.now.entries)))))) }
+        MatchOption r (IsFree (OnCycle (Leads (targets_along kind types.now))))
+        (IsLeast (OnCycle (Leads (targets_along kind types.now))))) }
 {
-    let graph = graph(alloc, slots, kind)?;
+    let graph = graph(alloc, types, kind)?;
     let found = least_on_cycle(alloc, &graph)?;
     Ok(found)
 }
 
-fn graph(
-    alloc: Global,
-    slots: &IndexMap<String, Slot>,
-    kind: EdgeKind,
-) -> Result<Vec<Vec<TypeNo>>, AllocError>
-    ensures { IfOk result (λ v. HasTargets (targets_along kind (map row_of slots.now.entries))
-        (length (map row_of slots.now.entries)) v.items) }
+fn graph(alloc: Global, types: &Types, kind: EdgeKind) -> Result<Vec<Vec<TypeNo>>, AllocError>
+    ensures { IfOk result (λ v. HasTargets (targets_along kind types.now)
+        (length types.now) v.items) }
 {
-    let len = count(slots);
+    let len = types.len();
     let mut graph = Vec::with_capacity(alloc, len)?;
     for n in 0..len {
-        let targets = targets(alloc, slots, kind, n)?;
+        let targets = targets(alloc, types, kind, n)?;
         graph.push(targets)?;
     }
     Ok(graph)
@@ -109,36 +97,32 @@ fn graph(
 
 fn targets(
     alloc: Global,
-    slots: &IndexMap<String, Slot>,
+    types: &Types,
     kind: EdgeKind,
     n: TypeNo,
 ) -> Result<Vec<TypeNo>, AllocError>
-    ensures { IfOk result (λ v. v.items ≡ targets_along kind (map row_of slots.now.entries) n) }
+    ensures { IfOk result (λ v. v.items ≡ targets_along kind types.now n) }
 {
-    let Some(entry) = entry(slots, n) else {
+    let Some(entry) = types.entry(n) else {
         return Ok(Vec::new(alloc));
     };
     match kind {
-        EdgeKind::Direct => direct_targets(alloc, slots, &entry.shape),
+        EdgeKind::Direct => direct_targets(alloc, types, &entry.shape),
         EdgeKind::SameValue => {
             let numbers = same_value_numbers(alloc, &entry.shape)?;
-            rows_among(alloc, slots, numbers)
+            rows_among(alloc, types, numbers)
         }
     }
 }
 
-fn direct_targets(
-    alloc: Global,
-    slots: &IndexMap<String, Slot>,
-    shape: &Shape,
-) -> Result<Vec<TypeNo>, AllocError>
+fn direct_targets(alloc: Global, types: &Types, shape: &Shape) -> Result<Vec<TypeNo>, AllocError>
     ensures { IfOk result (λ v. v.items
-        ≡ filter (is_inline_at (map row_of slots.now.entries)) (numbers_of (shape_of shape.now))
-        ++ filter (is_row (map row_of slots.now.entries))
-        (asked_in (map row_of slots.now.entries) (shape_of shape.now))) }
+        ≡ filter (is_inline_at types.now) (numbers_of (shape_of shape.now))
+        ++ filter (is_row types.now)
+        (asked_in types.now (shape_of shape.now))) }
 {
-    let mut targets = in_place_among(alloc, slots, numbers(alloc, shape)?)?;
-    let mut asked = rows_among(alloc, slots, asked(alloc, slots, shape)?)?;
+    let mut targets = in_place_among(alloc, types, numbers(alloc, shape)?)?;
+    let mut asked = rows_among(alloc, types, asked(alloc, types, shape)?)?;
     targets.append(&mut asked)?;
     Ok(targets)
 }
@@ -146,62 +130,50 @@ fn direct_targets(
 // Those of these numbers that are numbers of rows in place.
 fn in_place_among(
     alloc: Global,
-    slots: &IndexMap<String, Slot>,
+    types: &Types,
     numbers: Vec<TypeNo>,
 ) -> Result<Vec<TypeNo>, AllocError>
     ensures { IfOk result (λ v. v.items
-        ≡ filter (is_inline_at (map row_of slots.now.entries)) numbers.items) }
+        ≡ filter (is_inline_at types.now) numbers.items) }
 {
     numbers
         .into_iter()
-        .filter(|m| is_inline(slots, *m))
+        .filter(|m| is_inline(types, *m))
         .collect(alloc)
 }
 
 // Those of these numbers that are numbers of rows.
-fn rows_among(
-    alloc: Global,
-    slots: &IndexMap<String, Slot>,
-    numbers: Vec<TypeNo>,
-) -> Result<Vec<TypeNo>, AllocError>
+fn rows_among(alloc: Global, types: &Types, numbers: Vec<TypeNo>) -> Result<Vec<TypeNo>, AllocError>
     ensures { IfOk result (λ v. v.items
-        ≡ filter (is_row (map row_of slots.now.entries)) numbers.items) }
+        ≡ filter (is_row types.now) numbers.items) }
 {
     numbers
         .into_iter()
-        .filter(|m| *m < count(slots))
+        .filter(|m| *m < types.len())
         .collect(alloc)
 }
 
 // The rows that a shape asks, whether they are written in place or not.
-fn asked(
-    alloc: Global,
-    slots: &IndexMap<String, Slot>,
-    shape: &Shape,
-) -> Result<Vec<TypeNo>, AllocError>
+fn asked(alloc: Global, types: &Types, shape: &Shape) -> Result<Vec<TypeNo>, AllocError>
     ensures { IfOk result (λ v. v.items
-        ≡ asked_in (map row_of slots.now.entries) (shape_of shape.now)) }
+        ≡ asked_in types.now (shape_of shape.now)) }
 {
     let mut asked = asked_numbers(alloc, shape)?;
     let flattened = flattened_numbers(alloc, shape)?;
     for n in &flattened {
-        add_below(slots, *n, &mut asked)?;
+        add_below(types, *n, &mut asked)?;
     }
     Ok(asked)
 }
 
 // Adds the rows below row `n` through Options.
-fn add_below(
-    slots: &IndexMap<String, Slot>,
-    n: TypeNo,
-    rows: &mut Vec<TypeNo>,
-) -> Result<(), AllocError>
+fn add_below(types: &Types, n: TypeNo, rows: &mut Vec<TypeNo>) -> Result<(), AllocError>
     ensures { OnOk result (rows.new.items
-        ≡ rows.old.items ++ below (map row_of slots.now.entries) n) }
+        ≡ rows.old.items ++ below types.now n) }
 {
     let mut at = n;
-    for _step in 0..count(slots) {
-        let Some(inner) = option(slots, at) else {
+    for _step in 0..types.len() {
+        let Some(inner) = option(types, at) else {
             return Ok(());
         };
         rows.push(inner)?;
@@ -211,19 +183,19 @@ fn add_below(
 }
 
 // The row in row `n`, an Option.
-fn option(slots: &IndexMap<String, Slot>, n: TypeNo) -> Option<TypeNo>
-    ensures { result ≡ option_at (map row_of slots.now.entries) n }
+fn option(types: &Types, n: TypeNo) -> Option<TypeNo>
+    ensures { result ≡ option_at types.now n }
 {
-    match entry(slots, n) {
+    match types.entry(n) {
         Some(entry) => entry.shape.option(),
         None => None,
     }
 }
 
-fn is_inline(slots: &IndexMap<String, Slot>, n: TypeNo) -> bool
-    ensures { result ≡ is_inline_at (map row_of slots.now.entries) n }
+fn is_inline(types: &Types, n: TypeNo) -> bool
+    ensures { result ≡ is_inline_at types.now n }
 {
-    match entry(slots, n) {
+    match types.entry(n) {
         Some(entry) => entry.inline,
         None => false,
     }

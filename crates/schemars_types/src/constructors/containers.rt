@@ -136,8 +136,8 @@ impl Types {
         if let Some(n) = first_unknown_among(&parts, self.len()) {
             return Err(TypesError::UnknownType(n));
         }
-        let id = tuple_id(alloc, &self.slots, &parts)?;
-        let name = tuple_name(alloc, &self.slots, &parts)?;
+        let id = tuple_id(alloc, self, &parts)?;
+        let name = tuple_name(alloc, self, &parts)?;
         self.register_row(alloc, id, name, true, Shape::Tuple(parts))
     }
 
@@ -153,7 +153,7 @@ impl Types {
         let shape = Shape::Map(key, value);
 
         // A map with texts for its keys is named by its values alone.
-        if id_at(&self.slots, key) == "string" {
+        if id_at(self, key) == "string" {
             return self.register_around(alloc, value, "Map<", ">", "Map_of_", true, shape);
         }
         self.register_pair(alloc, key, value, "Map", "Map_from_", "_to_", true, shape)

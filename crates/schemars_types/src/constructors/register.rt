@@ -81,7 +81,7 @@ impl Types {
         if self.len() <= n {
             return Err(TypesError::UnknownType(n));
         }
-        let (id, name) = texts_around(alloc, &self.slots, n, before, after, name_before)?;
+        let (id, name) = texts_around(alloc, self, n, before, after, name_before)?;
         self.register_row(alloc, id, name, inline, shape)
     }
 
@@ -115,7 +115,7 @@ impl Types {
         }
         let (id, name) = pair_texts(
             alloc,
-            &self.slots,
+            self,
             first,
             second,
             generic,

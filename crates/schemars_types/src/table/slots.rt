@@ -1,5 +1,5 @@
 //! What a table holds under each id.
-ghost use Rattle.std.specs.Prelude.{◌≡◌, ◌&&◌, length, map, bytes_eq, string_bytes, Some};
+ghost use Rattle.std.specs.Prelude.{◌≡◌, ◌&&◌, map, bytes_eq, string_bytes, Some};
 ghost use Rattle.std.specs.Prelude.{option_map};
 ghost use Rattle.std.specs.Option.{option_eq};
 ghost use Rattle.schemars_shapes.specs.Shape.{entry_of};
@@ -54,13 +54,6 @@ impl Clone for Slot {
             entry: self.entry.clone()?,
         })
     }
-}
-
-/// The number of rows.
-pub(crate) fn count(slots: &IndexMap<String, Slot>) -> usize
-    ensures { result ≡ length (map row_of slots.now.entries) }
-{
-    slots.len()
 }
 
 /// The entry of row `n`, once it is defined.

@@ -1,4 +1,4 @@
-use Rattle.std.proofs.Common.{◌≡◌, ◌<◌, ◌∙◌, refl, ap, sym, arith, rules}
+use Rattle.std.proofs.Common.{◌<◌, ◌∙◌, refl, ap, sym, arith, rules}
 use Rattle.std.specs.Prelude.{◌==◌, is_none, is_some}
 use Rattle.schemars_shapes.specs.declared.shape.Shape.TheVariants as src
 use Rattle.schemars_types.specs.Edges.{SameValueEdge, rank}

@@ -1,13 +1,12 @@
 -- What the shape asks itself, and the rows below what it flattens.
-use Rattle.std.proofs.Common.{◌++◌, ◌∙◌, ap, map}
+use Rattle.std.proofs.Common.{◌++◌, ◌∙◌, ap}
 use Rattle.schemars_shapes.specs.Shape.{shape_of, asked_numbers}
 use Rattle.schemars_types.specs.Edges.{below_all}
-use Rattle.schemars_types.specs.Slots.{row_of}
 use Rattle.schemars_types.proofs.check.faults.asked.Goals as goal
 
 pub loop-n-init : goal.loop-n-init
 loop-n-init c =
-    let rows = map row_of c.args.slots.now.entries in
+    let rows = c.args.types.now in
     let flattened = c.deref-n-items.result.now in
     ap (λ ns. ns ++ below_all rows flattened) c.in_ok-asked.ensures
     ∙ ap (λ ns. asked_numbers (shape_of c.args.shape.now) ++ below_all rows ns)

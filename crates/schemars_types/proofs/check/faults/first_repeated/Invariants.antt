@@ -1,9 +1,8 @@
 -- In the rows before the names differ.
-use Rattle.std.proofs.Common.{ℕ, ◌<◌, map}
+use Rattle.std.proofs.Common.{ℕ, ◌<◌}
 use Rattle.schemars_shapes.specs.Repeated.{AreDistinctLists}
 use Rattle.schemars_types.specs.Edges.{names_at}
-use Rattle.schemars_types.specs.Slots.{row_of}
 use Rattle.schemars_types.proofs.check.faults.first_repeated.Given as goal
 
 abbrev pub invariant-loop-n : goal.invariant-loop-n
-invariant-loop-n l = (k : ℕ) → k < l.n → AreDistinctLists (names_at (map row_of l.slots.entries) k)
+invariant-loop-n l = (k : ℕ) → k < l.n → AreDistinctLists (names_at l.types k)

@@ -1,8 +1,7 @@
 -- The rows before are defined.
-use Rattle.std.proofs.Common.{ℕ, ◌<◌, map}
+use Rattle.std.proofs.Common.{ℕ, ◌<◌}
 use Rattle.schemars_types.specs.Undefined.{IsUndefined}
-use Rattle.schemars_types.specs.Slots.{row_of}
 use Rattle.schemars_types.proofs.check.faults.first_undefined.Given as goal
 
 abbrev pub invariant-loop-n : goal.invariant-loop-n
-invariant-loop-n l = (k : ℕ) → k < l.n → ¬ IsUndefined (map row_of l.slots.entries) k
+invariant-loop-n l = (k : ℕ) → k < l.n → ¬ IsUndefined l.types k

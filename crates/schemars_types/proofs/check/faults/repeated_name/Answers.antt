@@ -1,15 +1,14 @@
 -- The names of a row are those of its entry, and a row without one has none.
-use Rattle.std.proofs.Common.{List, [], sym, ap, subst, map, string_bytes, IfOk}
+use Rattle.std.proofs.Common.{List, [], sym, ap, subst, string_bytes, IfOk}
 use Rattle.std.specs.Option.{MatchOption, option_map_or}
 use Rattle.schemars_schema.specs.Json.{Text}
 use Rattle.schemars_shapes.specs.Repeated.{AreDistinctLists, IsFirstRepeated}
 use Rattle.schemars_shapes.specs.Shape.{Entry, names_of}
 use Rattle.schemars_types.proofs.Names.{differ_undefined}
-use Rattle.schemars_types.specs.Slots.{row_of}
 use Rattle.schemars_types.proofs.check.faults.repeated_name.Goals as goal
 
 pub returns-in-None : goal.returns-in-None
-returns-in-None c = differ_undefined (map row_of c.args.slots.now.entries) c.args.n (sym c.in-None.ensures)
+returns-in-None c = differ_undefined c.args.types.now c.args.n (sym c.in-None.ensures)
 
 pub returns-in-Some : goal.returns-in-Some
 returns-in-Some c =

@@ -11,14 +11,10 @@ known_text [] n text = cc
 known_text (r ∷ rows) zero text = grind (arith, nat_tests)
 known_text (r ∷ rows) (suc n) text = let below : nat_le (length rows) n ≡ false = known_text rows n text in grind (arith, nat_tests)
 
--- the rows are those of the table
-text_of : (rows held : List Row) (n : ℕ) → held ≡ rows → is_text_id (id_at rows n) ≡ is_text_id (id_at held n)
-text_of rows held n same = ap (λ rs. is_text_id (id_at rs n)) (sym same)
-
 pub register_around-requires : goal.register_around-requires
 register_around-requires c =
-    let text : is_text_id (id_at c.args.self.now c.args.key) ≡ true = text_of c.args.self.now _ c.args.key c.self.view_is
-    ∙ ap is_text_id (sym c.id_at.ensures) ∙ sym c.if-eq.ensures in
+    let text : is_text_id (id_at c.args.self.now c.args.key) ≡ true =
+    ap is_text_id (sym c.id_at.ensures) ∙ sym c.if-eq.ensures in
     rw (known_text c.args.self.now c.args.key text)
 
 pub register_pair-requires : goal.register_pair-requires
@@ -26,24 +22,24 @@ register_pair-requires c = refl
 
 pub returns-then-eq-clause-ok : goal.returns-then-eq-clause-ok
 returns-then-eq-clause-ok c =
-    let text : is_text_id (id_at c.args.self.now c.args.key) ≡ true = text_of c.args.self.now _ c.args.key c.self.view_is
-    ∙ ap is_text_id (sym c.id_at.ensures) ∙ sym c.if-eq.ensures in
+    let text : is_text_id (id_at c.args.self.now c.args.key) ≡ true =
+    ap is_text_id (sym c.id_at.ensures) ∙ sym c.if-eq.ensures in
     rw text c.register_around.ensures.ok
 
 pub returns-then-eq-clause-refused : goal.returns-then-eq-clause-refused
 returns-then-eq-clause-refused c =
-    let text : is_text_id (id_at c.args.self.now c.args.key) ≡ true = text_of c.args.self.now _ c.args.key c.self.view_is
-    ∙ ap is_text_id (sym c.id_at.ensures) ∙ sym c.if-eq.ensures in
+    let text : is_text_id (id_at c.args.self.now c.args.key) ≡ true =
+    ap is_text_id (sym c.id_at.ensures) ∙ sym c.if-eq.ensures in
     rw text c.register_around.ensures.refused
 
 pub returns-clause-ok : goal.returns-clause-ok
 returns-clause-ok c =
-    let other : is_text_id (id_at c.args.self.now c.args.key) ≡ false = text_of c.args.self.now _ c.args.key c.self.view_is
-    ∙ ap is_text_id (sym c.id_at.ensures) ∙ sym c.if-eq.ensures in
+    let other : is_text_id (id_at c.args.self.now c.args.key) ≡ false =
+    ap is_text_id (sym c.id_at.ensures) ∙ sym c.if-eq.ensures in
     rw other c.register_pair.ensures.ok
 
 pub returns-clause-refused : goal.returns-clause-refused
 returns-clause-refused c =
-    let other : is_text_id (id_at c.args.self.now c.args.key) ≡ false = text_of c.args.self.now _ c.args.key c.self.view_is
-    ∙ ap is_text_id (sym c.id_at.ensures) ∙ sym c.if-eq.ensures in
+    let other : is_text_id (id_at c.args.self.now c.args.key) ≡ false =
+    ap is_text_id (sym c.id_at.ensures) ∙ sym c.if-eq.ensures in
     rw other c.register_pair.ensures.refused

@@ -24,7 +24,7 @@ pub register_row-requires : goal.register_row-requires
 register_row-requires c = c.requires ∙ known c.args.self.now c.args.n c.len.result c.len.ensures.len c.if-len-n.false
 
 pub returns-clause-ok : goal.returns-clause-ok
-returns-clause-ok c = rw (c.in_ok-id.ensures.id, c.in_ok-id.ensures.name, c.self.view_is) at c.register_row.ensures.ok
+returns-clause-ok c = rw (c.in_ok-id.ensures.id, c.in_ok-id.ensures.name) at c.register_row.ensures.ok
 
 pub returns-clause-refused : goal.returns-clause-refused
-returns-clause-refused c = rw (c.in_ok-id.ensures.id, c.self.view_is) at c.register_row.ensures.refused
+returns-clause-refused c = rw c.in_ok-id.ensures.id at c.register_row.ensures.refused

@@ -18,7 +18,7 @@ register_row-requires c =
     unknown_among c.args.self.now (shape_of c.args.shape) _ c.len.result _ c.requires c.len.ensures.len c.in_default.ensures
 
 pub returns-clause-ok : goal.returns-clause-ok
-returns-clause-ok c = rw (c.in_ok-id.ensures.id, c.in_ok-id.ensures.name, c.self.view_is) at c.register_row.ensures.ok
+returns-clause-ok c = rw (c.in_ok-id.ensures.id, c.in_ok-id.ensures.name) at c.register_row.ensures.ok
 
 pub returns-clause-refused : goal.returns-clause-refused
-returns-clause-refused c = rw (c.in_ok-id.ensures.id, c.self.view_is) at c.register_row.ensures.refused
+returns-clause-refused c = rw c.in_ok-id.ensures.id at c.register_row.ensures.refused

@@ -73,9 +73,9 @@ returns-clause-ok c =
     let some = sym (c.is_empty.ensures ∙ ap (λ n. n == 0) (omega (arith, parts.ok.0))) ∙ c.if-is_empty.false in
     let texts = texts_of_parts rows parts.items some in
     let id : string_bytes c.in_ok-id.id ≡ tuple_id (map (id_at rows) parts.items) =
-    c.in_ok-id.ensures ∙ (λ i. id_text (c.self.view_is i) (c.deref-2.ensures.value i)) ∙ texts.0 in
+    c.in_ok-id.ensures ∙ ap (id_text rows) c.deref-2.ensures.value ∙ texts.0 in
     let name : string_bytes c.in_ok-name.name ≡ tuple_name (map (name_at rows) parts.items) =
-    c.in_ok-name.ensures ∙ (λ i. name_text (c.self.view_is i) (c.deref-3.ensures.value i)) ∙ texts.1 in
+    c.in_ok-name.ensures ∙ ap (name_text rows) c.deref-3.ensures.value ∙ texts.1 in
     rw (id, name) at c.register_row.ensures.ok
 
 pub returns-clause-refused : goal.returns-clause-refused
@@ -84,5 +84,5 @@ returns-clause-refused c =
     let parts = c.args.parts in
     let some = sym (c.is_empty.ensures ∙ ap (λ n. n == 0) (omega (arith, parts.ok.0))) ∙ c.if-is_empty.false in
     let id : string_bytes c.in_ok-id.id ≡ tuple_id (map (id_at rows) parts.items) =
-    c.in_ok-id.ensures ∙ (λ i. id_text (c.self.view_is i) (c.deref-2.ensures.value i)) ∙ (texts_of_parts rows parts.items some).0 in
+    c.in_ok-id.ensures ∙ ap (id_text rows) c.deref-2.ensures.value ∙ (texts_of_parts rows parts.items some).0 in
     rw id at c.register_row.ensures.refused

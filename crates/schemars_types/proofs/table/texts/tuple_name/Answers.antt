@@ -3,13 +3,12 @@ use Rattle.std.specs.List.{join_by}
 use Rattle.std.proofs.lemmas.List.{drop_all}
 use Rattle.schemars_schema.specs.Json.{Text}
 use Rattle.schemars_types.specs.Rows.{name_at}
-use Rattle.schemars_types.specs.Slots.{row_of}
 use Rattle.schemars_types.proofs.Joined.{join_same}
 use Rattle.schemars_types.proofs.table.texts.tuple_name.Goals as goal
 
 pub returns : goal.returns
 returns c =
-    let rows = map row_of c.args.slots.now.entries in
+    let rows = c.args.types.now in
     let parts = c.args.parts.now in
     let texts = map (λ t. t.now) c.loop-n.names.items in
     let ended : drop c.loop-n.n-index parts ≡ [] = drop_all c.loop-n.n-index parts c.loop-n-test.false in
