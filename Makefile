@@ -1,29 +1,40 @@
-# On a machine with the kit: `make run`, `make try`, `make openapi-example` and `make test`.
-.PHONY: run try openapi-example test
+# On a machine with the Rattle kit. `make help` lists the targets.
+.PHONY: help run program openapi-example test
 
-example = examples/vec-option-u8.json
+TABLE = examples/vec-option-u8.json
+DIALECT = 2020-12
+FLAGS =
 program = crates/schemagen
 built = $(program)/out/schemagen
 # the crates below the program, lowest first
 libraries = $(shell sed -n '/^schemagen:/q; s/^\([a-z_]*\):.*/\1/p' crates.txt)
 
-# Proves the libraries and says how far it is, builds the program, and prints the document of a list
-# of optional bytes.
-run:
-	@for crate in $(libraries); do \
-	    echo "proving $$crate" >&2; \
-	    (cd crates/$$crate && rt check) | grep --line-buffered '^so far' >&2; \
-	done; true
-	@cd $(program) && rt run < ../../$(example) -- types 2020-12
+help:
+	@echo 'make run [TABLE=FILE] [DIALECT=..] [FLAGS=..]   prints the document of a table, without proofs'
+	@echo 'make program                                    proves everything below the program, and builds it'
+	@echo 'make openapi-example                            writes examples/openapi/openapi.json anew'
+	@echo 'make test                                       the merge gate'
 
-# The same line by the toolchain's checked run, without any proof.
-try:
-	@cd $(program) && rt try < ../../$(example) -- types 2020-12
+# The document of a table, by the toolchain's checked run.
+run:
+	@echo 'a checked run without proofs; it takes a minute or two' >&2
+	@cd $(program) && rt try < $(abspath $(TABLE)) -- types $(DIALECT) $(FLAGS)
+
+# Proves the libraries, which takes about an hour on two cores, and builds the program.
+program:
+	@started=$$(date +%s); done=0; all=$(words $(libraries)); \
+	for crate in $(libraries); do \
+	    done=$$((done + 1)); \
+	    echo "proving $$crate ($$done of $$all, $$(( ($$(date +%s) - started) / 60 )) minutes so far)" >&2; \
+	    (cd crates/$$crate && rt check >/dev/null) || exit 1; \
+	done
+	@cd $(program) && rt run < ../../examples/vec-option-u8.json -- types 2020-12 >/dev/null
+	@echo 'built: $(built) types 2020-12 < TABLE' >&2
 
 # Writes examples/openapi/openapi.json anew: its paths, and the definitions that the program prints for
-# its table. Where the program is not built, `make run` comes first.
+# its table. If the program is not built, it is built first.
 openapi-example:
-	@test -x $(built) || $(MAKE) --no-print-directory run
+	@test -x $(built) || $(MAKE) --no-print-directory program
 	@$(built) types openapi3 < examples/openapi/table.json | examples/openapi/join
 
 # The merge gate: every proof from nothing, the must-fail edits, the tests and the programs.
