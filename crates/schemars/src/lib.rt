@@ -7,9 +7,9 @@
 pub mod builders;
 mod macros;
 pub mod transform;
+pub mod types;
 
 pub use schemars_generate::{GenerateError, SchemaGenerator, SchemaSettings, generate};
 pub use schemars_sample::sample;
 pub use schemars_schema::{NotASchema, Schema, consts, encoding, json_eq, schema};
-pub use schemars_types as types;
 pub use schemars_types::Contract;
