@@ -80,7 +80,8 @@ node = refl
 required_by_contract : said
     (codes "{\"types\":[{\"id\":\"a\",\"name\":\"a\",\"shape\":{\"struct\":{\"closed\":true,\"fields\":[{\"type\":0,\"name\":\"b\"},{\"name\":\"b\",\"type\":0,\"notes\":{},\"required\":{\"serialize\":true,\"deserialize\":false}}]}}}],\"root\":0}")
     ≡ Some (
-      named (codes "a") (struct (bare_fields (field (codes "b") 0 (required true true) ∷ field (codes "b") 0 (required false true) ∷ []) true))
+      named (codes "a")
+          (struct (bare_fields (field (codes "b") 0 (required true true) ∷ field (codes "b") 0 (required false true) ∷ []) true))
           ∷ [],
       0,
     )
@@ -109,7 +110,8 @@ unfolding serde_json_on_literals said named flattening flattened_row
 flattened_rows = refl
 
 flattened_by_name : said
-    (codes "{\"types\":[{\"id\":\"a\",\"name\":\"a\",\"shape\":{\"struct\":{\"flatten\":[{\"name\":\"b\",\"type\":0}]}}}],\"root\":0}") ≡ None
+    (codes "{\"types\":[{\"id\":\"a\",\"name\":\"a\",\"shape\":{\"struct\":{\"flatten\":[{\"name\":\"b\",\"type\":0}]}}}],\"root\":0}")
+    ≡ None
 unfolding serde_json_on_literals said
 flattened_by_name = refl
 
@@ -183,7 +185,8 @@ unfolding serde_json_on_literals said
 tagged_tuple = refl
 
 another_member_of_a_variant : said
-    (codes "{\"types\":[{\"id\":\"E\",\"name\":\"E\",\"shape\":{\"external\":{\"variants\":[{\"name\":\"A\",\"type\":0}]}}}],\"root\":0}") ≡ None
+    (codes "{\"types\":[{\"id\":\"E\",\"name\":\"E\",\"shape\":{\"external\":{\"variants\":[{\"name\":\"A\",\"type\":0}]}}}],\"root\":0}")
+    ≡ None
 unfolding serde_json_on_literals said
 another_member_of_a_variant = refl
 
@@ -211,7 +214,8 @@ unfolding serde_json_on_literals said named noted_unit titled
 tagged_variant_with_notes = refl
 
 notes_of_a_variant_in_a_list : said
-    (codes "{\"types\":[{\"id\":\"E\",\"name\":\"E\",\"shape\":{\"external\":{\"variants\":[{\"name\":\"A\",\"notes\":[]}]}}}],\"root\":0}") ≡ None
+    (codes "{\"types\":[{\"id\":\"E\",\"name\":\"E\",\"shape\":{\"external\":{\"variants\":[{\"name\":\"A\",\"notes\":[]}]}}}],\"root\":0}")
+    ≡ None
 unfolding serde_json_on_literals said
 notes_of_a_variant_in_a_list = refl
 

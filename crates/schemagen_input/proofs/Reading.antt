@@ -1,26 +1,30 @@
 -- Why reading the headings of all rows first, and then their entries, gives the table that the value says.
-use Rattle.std.proofs.Common.{◌≡◌, ◌+◌, ◌<◌, ◌≤◌, ℕ, zero, suc, nat_lt, nat_le, List, [], ◌∷◌, ◌++◌, length, get_or}
-use Rattle.std.proofs.Common.{drop, slice_get, Bool, true, false, not, ◌&&◌, ◌||◌, Option, Some, None, option_map}
+use Rattle.std.proofs.Common.{◌≡◌, ◌+◌, ◌<◌, ℕ, nat_lt, nat_le, List, [], ◌∷◌, ◌++◌, length, get_or}
+use Rattle.std.proofs.Common.{drop, slice_get, Bool, true, false, not, ◌||◌, Option, Some, None, option_map}
 use Rattle.std.proofs.Common.{option_and_then, is_some, cond, codes, refl, ap, ◌∙◌, sym, arith, append_assoc}
-use Rattle.std.proofs.Common.{append-nil, add-one, true≢false, subst}
+use Rattle.std.proofs.Common.{subst}
 use Rattle.std.specs.List.{list_all, list_any, position_from, find}
 use Rattle.std.specs.Option.{option_map_or}
 use Rattle.std.specs.Str.{bytes_eq}
-use Rattle.std.proofs.Math.Seq.{drop-cons}
 use Rattle.std.proofs.lemmas.List.{length-map}
 use Rattle.std.proofs.lemmas.List.Folds.{list_all-append}
 use Rattle.std.proofs.lemmas.Bool.Decides.{nat_tests}
 use Rattle.std.proofs.lemmas.Slice.Eq.{bytes_eq-Decides}
+use Rattle.std.proofs.lemmas.Bool.{and_parts, not-true}
+use Rattle.std.proofs.Math.Bool.{and-false, or-true}
 use Rattle.serde_json.specs.Data.{Data, Items, no_items, item}
 use Rattle.serde_json.specs.Find.{as_str, as_array, get}
 use Rattle.serde_json.specs.View.{view, items_view}
 use Rattle.serde_json.specs.declared.value.Value.{Value}
 use Rattle.schemars_schema.specs.Json.{Text}
+use Rattle.schemars_schema.proofs.Members.{flipped}
+use Rattle.schemars_schema.proofs.Lists.{from_here}
 use Rattle.schemars_shapes.specs.Shape.{Entry, numbers_of}
 use Rattle.schemars_types.specs.Rows.{Row, place_of, with_entry, defined, reserved, unknown_in, holds_another}
 use Rattle.schemars_types.specs.Refusals.{refusal_of}
 use Rattle.schemars_types.specs.declared.error.TypesError.{TypesError}
 use Rattle.schemars_types.specs.declared.error.TypesError.TheVariants.{UnknownType, AlreadyDefined}
+use Rattle.schemars_types.proofs.Within.{length-defined}
 use Rattle.schemagen_input.specs.Forms.{number_in, has_only, needed}
 use Rattle.schemagen_input.specs.Input.{table_in, unentered, row_names, heading_in}
 use Rattle.schemagen_input.specs.Input.{entry_in, row_in, rows_in, all_differ, ids_of, refers_within}
@@ -38,10 +42,6 @@ then_some : {A B : Type 0} (f : A → Option B) (o : Option A) (b : B) → optio
 then_some f None b e = cc
 then_some f (Some a) b e = (a, refl, e)
 
-both_false : (b : Bool) → b && false ≡ false
-both_false true = refl
-both_false false = refl
-
 -- ---- ids
 
 found_once : (b : Bool) (i : ℕ) (rest : Option ℕ) (more : Bool) → is_some rest ≡ more → is_some (cond b (Some i) rest) ≡ b || more
@@ -55,11 +55,7 @@ is_some-position_from id (r ∷ rows) i = found_once (bytes_eq r.id id) i _ _ (i
 
 any-middle : (t u : Text) (before after : List Text) → bytes_eq t u ≡ true → list_any (λ v. bytes_eq v t) (before ++ u ∷ after) ≡ true
 any-middle t u [] after same = let e : u ≡ t = sym ((bytes_eq-Decides t u).0 same) in rw ((bytes_eq-Decides u t).1 e)
-any-middle t u (v ∷ before) after same = rw (any-middle t u before after same) (or_true (bytes_eq v t))
-  where
-    or_true : (b : Bool) → b || true ≡ true
-    or_true true = refl
-    or_true false = refl
+any-middle t u (v ∷ before) after same = rw (any-middle t u before after same) (or-true (bytes_eq v t))
 
 -- a text that is there already
 all_differ-again : (before after : List Text) (t : Text) → list_any (λ u. bytes_eq u t) before ≡ true
@@ -71,7 +67,7 @@ all_differ-again (u ∷ before) after t there = by (bytes_eq u t) refl there (al
         → (list_any (λ v. bytes_eq v t) before ≡ true → all_differ (before ++ t ∷ after) ≡ false)
         → all_differ ((u ∷ before) ++ t ∷ after) ≡ false
     by true same h rest = rw (any-middle u t before after same)
-    by false other h rest = rw (rest h) (both_false _)
+    by false other h rest = rw (rest h) (and-false _)
 
 any-append : (p : Text → Bool) (xs : List Text) (t : Text) → list_any p xs ≡ false → p t ≡ false → list_any p (xs ++ t ∷ []) ≡ false
 any-append p [] t none e = rw e
@@ -82,33 +78,18 @@ any-append p (x ∷ xs) t none e = by (p x) none (λ h. any-append p xs t h e)
     by true h rest = cc
     by false h rest = rest h
 
-both : (a b : Bool) → a && b ≡ true → (a ≡ true) × (b ≡ true)
-both true b e = (refl, e)
-both false b e = cc
-
-negated : (b : Bool) → not b ≡ true → b ≡ false
-negated true e = cc
-negated false e = refl
-
-unlike : (a b : Text) → bytes_eq a b ≡ false → bytes_eq b a ≡ false
-unlike a b other = either (bytes_eq b a) refl
-  where
-    either : (c : Bool) → bytes_eq b a ≡ c → c ≡ false
-    either true same = absurd (true≢false (sym ((bytes_eq-Decides a b).1 (sym ((bytes_eq-Decides b a).0 same))) ∙ other))
-    either false same = refl
-
 -- a new text joins at the end
 all_differ-joined : (ts : List Text) (t : Text) → all_differ ts ≡ true → list_any (λ u. bytes_eq u t) ts ≡ false
     → all_differ (ts ++ t ∷ []) ≡ true
 all_differ-joined [] t differ none = refl
 all_differ-joined (u ∷ ts) t differ none =
-    let parts = both (not (list_any (λ v. bytes_eq v u) ts)) (all_differ ts) differ in
+    let parts = and_parts (not (list_any (λ v. bytes_eq v u) ts)) (all_differ ts) differ in
     by (bytes_eq u t) refl none parts.0 (all_differ-joined ts t parts.1)
   where
     by : (b : Bool) → bytes_eq u t ≡ b → b || list_any (λ v. bytes_eq v t) ts ≡ false → not (list_any (λ v. bytes_eq v u) ts) ≡ true
         → (list_any (λ v. bytes_eq v t) ts ≡ false → all_differ (ts ++ t ∷ []) ≡ true) → all_differ ((u ∷ ts) ++ t ∷ []) ≡ true
     by true same h apart rest = cc
-    by false other h apart rest = rw (any-append (λ v. bytes_eq v u) ts t (negated _ apart) (unlike u t other)) (rest h)
+    by false other h apart rest = rw (any-append (λ v. bytes_eq v u) ts t (not-true _ apart) (flipped u t other)) (rest h)
 
 ids_of-append : (xs ys : List Row) → ids_of (xs ++ ys) ≡ ids_of xs ++ ids_of ys
 ids_of-append [] ys = refl
@@ -121,18 +102,6 @@ pub record Reserving (rows : List Value) (n : ℕ) (types : List Row) : Type 0 w
   pub rest : reserved_after [] (items_view rows) ≡ reserved_after types (items_view (drop n rows))
   pub differ : all_differ (ids_of types) ≡ true
 
-next_item : (rows : List Value) (n : ℕ) (row : Value) → row ≡ get_or rows n row → n < length rows
-    → items_view (drop n rows) ≡ item (view row) (items_view (drop (n + 1) rows))
-next_item rows n row is here =
-    ap items_view (drop-cons rows n row here) ∙ ap (λ (r : Value). items_view (r ∷ drop (suc n) rows)) (sym is)
-    ∙ ap (λ (k : ℕ). items_view (row ∷ drop k rows)) (sym (add-one n))
-
-no_items_left : (rows : List Value) (n : ℕ) → length rows ≤ n → items_view (drop n rows) ≡ no_items
-no_items_left [] zero past = refl
-no_items_left [] (suc n) past = refl
-no_items_left (r ∷ rows) zero past = absurd (omega arith)
-no_items_left (r ∷ rows) (suc n) past = no_items_left rows n (omega arith)
-
 reserved_after-item : (types : List Row) (d : Data) (ds : Items) (r : Row) → heading_in d ≡ Some r
     → reserved_after types (item d ds) ≡ reserved_after (types ++ r ∷ []) ds
 reserved_after-item types d ds r is = rw is (by (headings_in ds))
@@ -143,9 +112,6 @@ reserved_after-item types d ds r is = rw is (by (headings_in ds))
     by None = refl
     by (Some rs) = rw (append_assoc types (r ∷ []) rs)
 
-pub reserving_begins : (rows : List Value) → Reserving rows 0 []
-reserving_begins rows = record { rest = refl; differ = refl }
-
 pub reserving_goes_on : (rows : List Value) (n : ℕ) (types new : List Row) (row : Value) (id name : Text) → row ≡ get_or rows n row
     → n < length rows
     → Reserving rows n types → heading_in (view row) ≡ Some (unentered id name) → is_some (place_of id types) ≡ false
@@ -155,17 +121,12 @@ reserving_goes_on rows n types new row id name is here before heading absent gro
     let joined : new ≡ types ++ r ∷ [] = grown ∙ rw absent in
     let free : list_any (λ u. bytes_eq u id) (ids_of types) ≡ false = sym (is_some-position_from id types 0) ∙ absent in
     record {
-      rest = before.rest ∙ ap (reserved_after types) (next_item rows n row is here)
+      rest = before.rest ∙ ap (reserved_after types) (from_here rows n row here is)
           ∙ reserved_after-item types (view row) (items_view (drop (n + 1) rows)) r heading
           ∙ ap (λ (rs : List Row). reserved_after rs (items_view (drop (n + 1) rows))) (sym joined);
       differ = ap (λ (rs : List Row). all_differ (ids_of rs)) joined ∙ ap all_differ (ids_of-append types (r ∷ []))
           ∙ all_differ-joined (ids_of types) id before.differ free;
     }
-
--- a row has no heading
-pub reserving_fails : (rows : List Value) (n : ℕ) (types : List Row) (row : Value) → row ≡ get_or rows n row → n < length rows
-    → Reserving rows n types → heading_in (view row) ≡ None → reserved_after [] (items_view rows) ≡ None
-reserving_fails rows n types row is here before none = before.rest ∙ ap (reserved_after types) (next_item rows n row is here) ∙ rw none
 
 -- an id is there already
 pub reserving_repeats : (rows : List Value) (n : ℕ) (types : List Row) (row : Value) (id name : Text) → row ≡ get_or rows n row
@@ -173,7 +134,7 @@ pub reserving_repeats : (rows : List Value) (n : ℕ) (types : List Row) (row : 
     → Reserving rows n types → heading_in (view row) ≡ Some (unentered id name) → is_some (place_of id types) ≡ true
     → reserved_after [] (items_view rows) ≡ None
 reserving_repeats rows n types row id name is here before heading there =
-    before.rest ∙ ap (reserved_after types) (next_item rows n row is here) ∙ rw heading (by (headings_in (items_view (drop (n + 1) rows))))
+    before.rest ∙ ap (reserved_after types) (from_here rows n row here is) ∙ rw heading (by (headings_in (items_view (drop (n + 1) rows))))
   where
     by : (o : Option (List Row)) → option_and_then (λ rs. cond (all_differ (ids_of (types ++ rs))) (Some (types ++ rs)) None)
         (option_map (λ rs. unentered id name ∷ rs) o) ≡ None
@@ -182,11 +143,6 @@ reserving_repeats rows n types row id name is here before heading there =
         let again = ap all_differ (ids_of-append types (unentered id name ∷ rs))
         ∙ all_differ-again (ids_of types) (ids_of rs) id (sym (is_some-position_from id types 0) ∙ there) in
         rw again
-
-pub reserving_ends : (rows : List Value) (n : ℕ) (types : List Row) → length rows ≤ n → Reserving rows n types
-    → reserved_after [] (items_view rows) ≡ Some types
-reserving_ends rows n types past before =
-    before.rest ∙ ap (reserved_after types) (no_items_left rows n past) ∙ rw (append-nil types, before.differ)
 
 -- ---- entries
 
@@ -198,11 +154,6 @@ defined-middle (q ∷ done) after r e = ap (λ rs. q ∷ rs) (defined-middle don
 slice_get-middle : (done after : List Row) (r : Row) → slice_get (done ++ r ∷ after) (length done) ≡ Some r
 slice_get-middle [] after r = refl
 slice_get-middle (q ∷ done) after r = slice_get-middle done after r
-
-long-defined : (n : ℕ) (e : Entry) (rows : List Row) → length (defined n e rows) ≡ length rows
-long-defined n e [] = refl
-long-defined zero e (r ∷ rows) = refl
-long-defined (suc n) e (r ∷ rows) = ap suc (long-defined n e rows)
 
 is_within : (done after : List Row) (r : Row) → length done < length (done ++ r ∷ after)
 is_within [] after r = omega arith
@@ -218,19 +169,6 @@ pub record Defining (rows : List Value) (count n : ℕ) (types : List Row) : Typ
   pub headings : headings_in (items_view (drop n rows)) ≡ Some after
   pub rest : fitting_after count [] (items_view rows) ≡ fitting_after count done (items_view (drop n rows))
   pub fit : all_fit count done ≡ true
-
-pub defining_begins : (rows : List Value) (types : List Row) → headings_in (items_view rows) ≡ Some types
-    → Defining rows (length types) 0 types
-defining_begins rows types headings = record {
-  done = [];
-  after = types;
-  split = refl;
-  place = refl;
-  long = refl;
-  headings = headings;
-  rest = refl;
-  fit = refl;
-}
 
 -- the heading of the next row, and those after it
 record Next (d : Data) (ds : Items) (after : List Row) : Type 0 where
@@ -261,7 +199,7 @@ next_headings : (rows : List Value) (count n : ℕ) (row : Value) (types : List 
     → Next (view row) (items_view (drop (n + 1) rows)) before.after
 next_headings rows count n row types is here before =
     next_heading (view row) (items_view (drop (n + 1) rows)) before.after
-    (ap headings_in (sym (next_item rows n row is here)) ∙ before.headings)
+    (ap headings_in (sym (from_here rows n row here is)) ∙ before.headings)
 
 -- ---- numbers
 
@@ -292,7 +230,7 @@ some_unknown len (m ∷ ms) k there = by (nat_le len m) refl there (some_unknown
         → (find (λ k. nat_le len k) ms ≡ Some k → list_all (λ k. nat_lt k len) ms ≡ false)
         → list_all (λ k. nat_lt k len) (m ∷ ms) ≡ false
     by true e h rest = rw (not_below e)
-    by false e h rest = rw (rest h) (both_false (nat_lt m len))
+    by false e h rest = rw (rest h) (and-false (nat_lt m len))
 
 -- what the table takes refers to its rows
 taken_is_within : (rows : List Row) (n : ℕ) (e : Entry) → refusal_of rows n e ≡ None → refers_within (length rows) e ≡ true
@@ -353,9 +291,9 @@ defining_goes_on rows count n types new row e is here before entry taken grown =
       after = next.later;
       split = replaced ∙ sym (append_assoc done (r ∷ []) next.later);
       place = omega (arith, length-snoc done r, before.place);
-      long = ap length grown ∙ long-defined n e types ∙ before.long;
+      long = ap length grown ∙ length-defined n e types ∙ before.long;
       headings = next.there;
-      rest = before.rest ∙ ap (fitting_after count done) (next_item rows n row is here)
+      rest = before.rest ∙ ap (fitting_after count done) (from_here rows n row here is)
           ∙ fitting_after-item count done (view row) (items_view (drop (n + 1) rows)) r whole;
       fit = list_all-append (λ q. option_map_or (refers_within count) q.entry false) done (r ∷ [])
           ∙ rw (before.fit, within);
@@ -365,13 +303,6 @@ defining_goes_on rows count n types new row e is here before entry taken grown =
     length-snoc [] x = refl
     length-snoc (y ∷ xs) x = let h = length-snoc xs x in omega arith
 
--- a row has no entry
-pub defining_fails : (rows : List Value) (count n : ℕ) (types : List Row) (row : Value) → row ≡ get_or rows n row → n < length rows
-    → Defining rows count n types → entry_in (view row) ≡ None → fitting_after count [] (items_view rows) ≡ None
-defining_fails rows count n types row is here before none =
-    let next = next_headings rows count n row types is here before in
-    before.rest ∙ ap (fitting_after count before.done) (next_item rows n row is here) ∙ rw (next.here, none)
-
 -- a row's entry does not fit
 does_not_fit : (rows : List Value) (count n : ℕ) (types : List Row) (row : Value) (e : Entry) → row ≡ get_or rows n row → n < length rows
     → Defining rows count n types → entry_in (view row) ≡ Some e → refers_within count e ≡ false
@@ -380,12 +311,12 @@ does_not_fit rows count n types row e is here before entry bad =
     let next = next_headings rows count n row types is here before in
     let r = with_entry e next.heading in
     let whole : row_in (view row) ≡ Some r = rw (next.here, entry) in
-    before.rest ∙ ap (fitting_after count before.done) (next_item rows n row is here)
+    before.rest ∙ ap (fitting_after count before.done) (from_here rows n row here is)
     ∙ rw whole (by before.done r (rows_in (items_view (drop (n + 1) rows))) refl)
   where
     unfit : (done : List Row) (r : Row) (rs : List Row) → r.entry ≡ Some e → all_fit count (done ++ r ∷ rs) ≡ false
     unfit done r rs has = list_all-append (λ q. option_map_or (refers_within count) q.entry false) done (r ∷ rs)
-        ∙ rw (has, bad) (both_false (all_fit count done))
+        ∙ rw (has, bad) (and-false (all_fit count done))
 
     by : (done : List Row) (r : Row) (o : Option (List Row)) → r.entry ≡ Some e
         → option_and_then (λ rs. cond (all_fit count (done ++ rs)) (Some (done ++ rs)) None) (option_map (λ rs. r ∷ rs) o) ≡ None
@@ -406,18 +337,6 @@ defining_is_refused rows count n types row e x is here before entry refused =
     let outside = refused_is_not_within before.done next.later next.heading e x (no_entry (view row) next.heading next.here) at_place in
     let so_many : count ≡ length (before.done ++ next.heading ∷ next.later) = sym before.long ∙ ap length whole in
     does_not_fit rows count n types row e is here before entry (ap (λ (k : ℕ). refers_within k e) so_many ∙ outside)
-
-pub defining_ends : (rows : List Value) (count n : ℕ) (types : List Row) → length rows ≤ n → Defining rows count n types
-    → fitting_after count [] (items_view rows) ≡ Some types
-defining_ends rows count n types past before =
-    let empty = no_items_left rows n past in
-    let none_after : before.after ≡ [] = some_nil (sym before.headings ∙ ap headings_in empty) in
-    let all : types ≡ before.done ++ [] = before.split ∙ ap (λ rs. before.done ++ rs) none_after in
-    before.rest ∙ ap (fitting_after count before.done) empty ∙ rw (append-nil before.done, before.fit)
-    (ap Some (sym (all ∙ append-nil before.done)))
-  where
-    some_nil : {xs : List Row} → Some xs ≡ Some [] → xs ≡ []
-    some_nil e = cc
 
 -- ---- the whole
 
@@ -503,7 +422,7 @@ tabled-not_fitting ds root headings reserved none =
     by None is hs e = refl
     by (Some rs) is hs e =
         let many = same_length rs headings (same_ids ds rs headings is hs) in
-        rw (many, refuted (all_fit (length headings) rs) rs e, both_false (all_differ (ids_of rs)))
+        rw (many, refuted (all_fit (length headings) rs) rs e, and-false (all_differ (ids_of rs)))
 
 -- the rows, where nothing was refused
 pub rows_done : (ds : Items) (headings rows : List Row) → reserved_after [] ds ≡ Some headings

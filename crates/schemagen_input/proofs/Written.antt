@@ -1,7 +1,8 @@
 -- The JSON of a table reads back as that table.
-use Rattle.std.proofs.Common.{◌≡◌, ◌≢◌, ◌<◌, ℕ, nat_lt, List, [], ◌∷◌, map, length, Bool, true, false, ◌&&◌, Option, Some, None}
+use Rattle.std.proofs.Common.{◌≡◌, ◌≢◌, ◌<◌, ℕ, nat_lt, List, [], ◌∷◌, map, length, true, false, Option, Some, None}
 use Rattle.std.proofs.Common.{is_some, refl, ap, ◌∙◌, sym, arith}
 use Rattle.std.proofs.lemmas.Bool.Decides.{nat_tests}
+use Rattle.std.proofs.lemmas.Bool.{and_parts}
 use Rattle.std.specs.List.{list_all}
 use Rattle.std.specs.Option.{option_map_or}
 use Rattle.serde_json.specs.Data.{Data}
@@ -47,10 +48,6 @@ variants_back : (xs : List Variant) → variants_in (items_of (map variant_json 
 variants_back [] = refl
 variants_back (x ∷ xs) = rw (variants_back xs, payload_back x.payload) refl
 
-both : (a b : Bool) → a && b ≡ true → (a ≡ true) × (b ≡ true)
-both true b e = (refl, e)
-both false b e = cc
-
 inside_back : (p : Payload) → is_some (payload_inside p) ≡ true → payload_inside p ≡ Some p
 inside_back no_payload h = refl
 inside_back (newtype_payload n) h = refl
@@ -61,7 +58,7 @@ internals_back : (xs : List Variant) → list_all (λ x. is_some (payload_inside
     → internals_in (items_of (map variant_json xs)) ≡ Some xs
 internals_back [] h = refl
 internals_back (x ∷ xs) h =
-    let parts = both (is_some (payload_inside x.payload)) (list_all (λ y. is_some (payload_inside y.payload)) xs) h in
+    let parts = and_parts (is_some (payload_inside x.payload)) (list_all (λ y. is_some (payload_inside y.payload)) xs) h in
     rw (internals_back xs parts.1, payload_back x.payload, inside_back x.payload parts.0) refl
 
 -- ---- shapes
@@ -126,15 +123,15 @@ rows_back : (count : ℕ) (rows : List Row) → all_fit count rows ≡ true
     → list_all has_library_shape rows ≡ true → rows_in (items_of (map row_json rows)) ≡ Some rows
 rows_back count [] fit shapes = refl
 rows_back count (r ∷ rows) fit shapes =
-    let fits = both (option_map_or (refers_within count) r.entry false) (all_fit count rows) fit in
-    let each = both (has_library_shape r) (list_all has_library_shape rows) shapes in
+    let fits = and_parts (option_map_or (refers_within count) r.entry false) (all_fit count rows) fit in
+    let each = and_parts (has_library_shape r) (list_all has_library_shape rows) shapes in
     rw (row_back count r fits.0 each.0, rows_back count rows fits.1 each.1) refl
 
 -- ---- tables
 
 pub table_back : (rows : List Row) (root : ℕ) → CanBeWritten rows → table_in (json_of rows root) ≡ Some (rows, root)
 table_back rows root h =
-    let fit = both (all_differ (ids_of rows)) (all_fit (length rows) rows) h.complete in
+    let fit = and_parts (all_differ (ids_of rows)) (all_fit (length rows) rows) h.complete in
     rw (rows_back (length rows) rows fit.1 h.shapes, h.complete) refl
 
 pub input_back : (rows : List Row) (root : ℕ) → CanBeWritten rows → root < length rows

@@ -9,20 +9,10 @@ ghost use Rattle.schemagen_input.specs.Forms.{optional, needed};
 ghost use Rattle.serde_json.specs.Find.{as_bool, as_str};
 
 use crate::error::InputError;
+use schemars_schema::edits::is_listed;
 use schemars_types::{IntKind, TypeNo};
 use serde_json::{Map, Value};
 use std::alloc::{AllocError, Global};
-
-fn is_listed(name: &str, names: &[&str]) -> bool
-    ensures { result ≡ is_listed name.now (map (λ n. n.now) names.now) }
-{
-    for listed in names {
-        if name == *listed {
-            return true;
-        }
-    }
-    false
-}
 
 /// Whether the value is an object whose members all have one of these names.
 pub fn has_only(value: &Value, names: &[&str]) -> bool

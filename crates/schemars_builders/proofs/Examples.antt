@@ -2,8 +2,9 @@
 use Rattle.std.proofs.Common.{◌≡◌, [], ◌∷◌, true, false, refl}
 use Rattle.std.specs.Prelude.{codes}
 use Prim.Native.String.{String}
-use Rattle.serde_json.specs.Data.{Data, boolean, number, unsigned, string, array, no_items, item}
+use Rattle.serde_json.specs.Data.{Data, boolean, number, unsigned, array, no_items, item}
 use Rattle.schemars_schema.specs.SchemaData.{object_of}
+use Rattle.schemars_schema.proofs.JsonLiterals.{text, one}
 use Rattle.schemars_builders.specs.Documentation.{title_in, description_in}
 use Rattle.schemars_builders.specs.Keywords.{with_metadata, with_validation}
 use Rattle.schemars_builders.specs.Pattern.{escaped, unescaped}
@@ -58,14 +59,8 @@ vertical_tab_stays = refl
 
 -- ---- keywords
 
-abbrev one : String → Data → Data
-one k d = object_of ((codes k, d) ∷ [])
-
 abbrev two : String → Data → String → Data → Data
 two k d l e = object_of ((codes k, d) ∷ (codes l, e) ∷ [])
-
-abbrev text : String → Data
-text s = string (codes s)
 
 abbrev minimum : Data → Data
 minimum schema = with_validation (codes "number") (codes "minimum") (number (unsigned 1)) schema

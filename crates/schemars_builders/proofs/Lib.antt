@@ -1,6 +1,4 @@
 -- Lemmas that several proofs share.
-pub mod Changes
-pub mod Removals
 pub mod NullKeywords
 pub mod NullMembers
 pub mod Nulls

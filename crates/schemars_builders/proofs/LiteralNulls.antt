@@ -3,6 +3,7 @@ use Rattle.std.proofs.Common.{◌≡◌, ℕ, inl, inr, List, [], ◌∷◌, Opt
 use Rattle.std.proofs.Common.{◌∙◌, true≢false}
 use Rattle.std.specs.Prelude.{codes, bytes_eq, ◌||◌, ◌&&◌, if◌then◌else◌, is_some, option_and_then, option_map}
 use Rattle.std.proofs.lemmas.Slice.Eq.{bytes_eq-Decides}
+use Rattle.std.proofs.lemmas.Bool.{and_parts}
 use Rattle.serde_json.specs.Data.{Data, null, boolean, number, string, array, object, Items, no_items, item, Members}
 use Rattle.serde_json.specs.Data.{no_members, member}
 use Rattle.serde_json.specs.Find.{get_member, as_str}
@@ -14,11 +15,11 @@ use Rattle.schemars_schema.specs.Acceptance.{are_type_names, type_names, when}
 use Rattle.schemars_schema.specs.Edits.{without}
 use Rattle.schemars_schema.specs.Literal.{ArePlainMembers, IsPlainLiteral, has_literal}
 use Rattle.schemars_schema.proofs.Literals.{plain_at, plain_absent, literal_judged}
+use Rattle.schemars_schema.proofs.Members.{get_member-later}
 use Rattle.schemars_builders.specs.AllowNull.{allow_null}
 use Rattle.schemars_builders.specs.NullLaw.{text_items, HasTypeForm, HasPlainValues, IsDraft}
-use Rattle.schemars_builders.proofs.NullMembers.{and-parts, drafted, each_draft}
+use Rattle.schemars_builders.proofs.NullMembers.{drafted, each_draft}
 use Rattle.schemars_builders.proofs.Nulls.{IsReady, ready-law}
-use Rattle.schemars_builders.proofs.Removals.{later_member}
 
 -- ---- the type has the right form
 
@@ -67,7 +68,7 @@ literal_type ms plain = go (get_member (codes "type") ms) refl
   where
     go : (o : Option Data) → get_member (codes "type") ms ≡ o → HasTypeForm o
     go None is = tt
-    go (Some d) is = type_form d (and-parts (is_some (types_in d)) _ (plain_at (codes "type") ms d plain is)).0
+    go (Some d) is = type_form d (and_parts (is_some (types_in d)) _ (plain_at (codes "type") ms d plain is)).0
 
 -- ---- a key stands once
 
@@ -78,7 +79,7 @@ key_once k (member l d ms) plain = go (bytes_eq k l) refl (key_once k ms plain.2
     go : (b : Bool) → bytes_eq k l ≡ b → get_member k (without k ms) ≡ None
         → get_member k (if b then ms else member l d (without k ms)) ≡ None
     go true is later = ap (λ x. get_member x ms) ((bytes_eq-Decides k l).0 is) ∙ plain.1
-    go false is later = later_member k l d (without k ms) is ∙ later
+    go false is later = get_member-later k l d (without k ms) is ∙ later
 
 literal_values : (ms : Members) → ArePlainMembers ms
     → is_some (get_member (codes "enum") ms) && is_some (get_member (codes "const") ms) ≡ false → HasPlainValues ms

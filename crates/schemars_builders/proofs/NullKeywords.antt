@@ -3,32 +3,17 @@ use Rattle.std.proofs.Common.{◌≡◌, ◌⊎◌, inl, inr, List, [], ◌∷�
 use Rattle.std.proofs.Common.{ap, ◌∙◌, true≢false}
 use Rattle.std.specs.Prelude.{codes, bytes_eq, ◌||◌, ◌&&◌, if◌then◌else◌}
 use Rattle.serde_json.specs.Data.{Data, null, boolean, number, string, array, object, Items, no_items, item}
-use Rattle.std.proofs.Math.Bool.{or_assoc}
+use Rattle.std.proofs.Math.Bool.{or_assoc, or-false, or-true}
 use Rattle.schemars_schema.specs.Verdict.{Verdict, Yes, both, verdict}
 use Rattle.schemars_schema.specs.Json.{Text, json_eq, is_among}
 use Rattle.schemars_schema.specs.OrderedText.{is_listed}
 use Rattle.schemars_schema.specs.Acceptance.{type_says, const_says, enum_says, texts_in, type_names, are_type_names}
 use Rattle.schemars_schema.specs.Acceptance.{is_of_type, is_of_some_type, is_null}
-use Rattle.schemars_builders.specs.AllowNull.{holds_text, holds_null, with_item, type_with_null, enum_with_null}
+use Rattle.schemars_schema.specs.Edits.{holds_text, with_item}
+use Rattle.schemars_builders.specs.AllowNull.{holds_null, type_with_null, enum_with_null}
 use Rattle.schemars_builders.specs.NullLaw.{text_items, HasTypeForm}
 
 -- ---- truth values
-
-pub or-false : (a : Bool) → a || false ≡ a
-or-false true = refl
-or-false false = refl
-
-pub or-true : (a : Bool) → a || true ≡ true
-or-true true = refl
-or-true false = refl
-
-pub or-parts : (a b : Bool) → a || b ≡ false → (a ≡ false) × (b ≡ false)
-or-parts true b h = absurd (true≢false h)
-or-parts false b h = (refl, h)
-
-and-true : (a : Bool) → a && true ≡ a
-and-true true = refl
-and-true false = refl
 
 -- ---- the type with null
 
@@ -57,7 +42,7 @@ are_names_append (t ∷ ts) h = go (is_listed t type_names) (are_names_append ts
     go true later h = later h
     go false later h = h
 
-texts_in-text_items : (ts : List Text) → texts_in (text_items ts) ≡ Some ts
+pub texts_in-text_items : (ts : List Text) → texts_in (text_items ts) ≡ Some ts
 texts_in-text_items [] = refl
 texts_in-text_items (t ∷ ts) = rw (texts_in-text_items ts)
 
@@ -136,7 +121,7 @@ json_eq-null (string s) = refl
 json_eq-null (array vs) = refl
 json_eq-null (object ms) = refl
 
-null-json_eq : (v : Data) → json_eq null v ≡ is_null v
+pub null-json_eq : (v : Data) → json_eq null v ≡ is_null v
 unfolding json_eq
 null-json_eq null = refl
 null-json_eq (boolean b) = refl

@@ -9,11 +9,13 @@ use Rattle.std.proofs.Common.{arith, suc}
 use Rattle.std.specs.Cmp.Lexicographic.{slice_cmp}
 use Rattle.std.specs.Ordering.{match_ordering}
 use Rattle.std.proofs.Common.{Ordering, Less, Equal, Greater, nat_cmp, is_eq}
-use Rattle.std.proofs.lemmas.Bool.{eqb-true}
+use Rattle.std.proofs.lemmas.Bool.{eqb-true, and_parts, or_parts}
 use Rattle.std.proofs.lemmas.Map.Text.{is_eq-slice_cmp}
 use Rattle.serde_json.specs.Events.{members_len}
 use Rattle.serde_json.proofs.Views.{get_member-put, get_member-put_other}
 use Rattle.std.proofs.lemmas.Slice.Eq.{bytes_eq-Decides}
+use Rattle.std.proofs.Math.Bool.{and-false, or-false, or-true}
+use Rattle.std.proofs.lemmas.Option.{same_Some}
 use Rattle.schemars_schema.specs.Verdict.{Verdict, Yes, No, Open, both, verdict, opposite, none_of, any_of}
 use Rattle.schemars_schema.specs.Json.{Text, json_eq}
 use Rattle.schemars_schema.specs.SchemaData.{IsSchema}
@@ -23,13 +25,14 @@ use Rattle.schemars_schema.specs.Acceptance.{unevaluated_properties_say, is_refe
 use Rattle.schemars_schema.specs.Edits.{without}
 use Rattle.schemars_schema.proofs.Verdicts.{both-yes, either-verdict}
 use Rattle.schemars_schema.proofs.Objects.{schema-judge, judge-object, says, says-agree}
+use Rattle.schemars_schema.proofs.Members.{get_member-without, without-put}
+use Rattle.schemars_schema.proofs.Silent.{items_none, unevaluated_none, silent}
 use Rattle.schemars_builders.specs.AllowNull.{null_schema, is_combined, is_null_choice, offers_null, type_with_null}
 use Rattle.schemars_builders.specs.AllowNull.{null_in_type, enum_with_null, null_in_enum, const_or_null, null_in_const}
 use Rattle.schemars_builders.specs.AllowNull.{null_in_values, or_null, allow_null}
 use Rattle.schemars_builders.specs.NullLaw.{IsDraft, context_of, HasTypeForm, zero_schema, AcceptsNull, SomeAcceptsNull}
 use Rattle.schemars_builders.specs.NullLaw.{OffersNull, IsChoice, HasPlainValues, IsPlain, IsNullable}
-use Rattle.schemars_builders.proofs.Removals.{without-other, without-put}
-use Rattle.schemars_builders.proofs.NullKeywords.{const_null, const_plus, enum_plus, or-false, or-parts, or-true, type_null}
+use Rattle.schemars_builders.proofs.NullKeywords.{const_null, const_plus, enum_plus, type_null}
 use Rattle.schemars_builders.proofs.NullKeywords.{type_other, type_plus, values_null, values_other, values_plus}
 
 -- ---- an object that is not combined
@@ -99,7 +102,7 @@ const_or_null-other : (k : Text) (c : Data) (ms : Members) → bytes_eq k (codes
     → bytes_eq k (codes "enum") ≡ false
     → get_member k (const_or_null c ms) ≡ get_member k ms
 const_or_null-other k c ms no_const no_enum =
-    put_other k (codes "enum") _ (without (codes "const") ms) no_enum ∙ without-other k (codes "const") ms no_const
+    put_other k (codes "enum") _ (without (codes "const") ms) no_enum ∙ get_member-without k (codes "const") ms no_const
 
 pub const_or_null-const : (c : Data) (ms : Members) → get_member (codes "const") (without (codes "const") ms) ≡ None
     → get_member (codes "const") (const_or_null c ms) ≡ None
@@ -189,10 +192,6 @@ pub one_form : (ms : Members) → HasPlainValues ms
 one_form ms (inl none) = inl none
 one_form ms (inr one) = inr one.0
 
-silent : {A : Type 0} (o : Option A) → where_some o (λ x. Yes) ≡ Yes
-silent None = refl
-silent (Some x) = refl
-
 none_of_some : {A : Type 0} (o : Option A) → is_some o ≡ false → o ≡ None
 none_of_some None h = refl
 none_of_some (Some x) h = absurd (true≢false h)
@@ -214,18 +213,14 @@ pub alone_parts : (ms : Members) → is_combined (object ms) ≡ false
     → (get_member (codes "allOf") ms ≡ None) × (get_member (codes "anyOf") ms ≡ None) × (get_member (codes "oneOf") ms ≡ None)
     × (get_member (codes "$ref") ms ≡ None)
 alone_parts ms h =
-    let a = or-parts _ _ h in
-    let b = or-parts _ _ a.1 in
-    let d = or-parts _ _ b.1 in
-    let e = or-parts _ _ d.1 in
-    let g = or-parts _ _ e.1 in
+    let a = or_parts _ _ h in
+    let b = or_parts _ _ a.1 in
+    let d = or_parts _ _ b.1 in
+    let e = or_parts _ _ d.1 in
+    let g = or_parts _ _ e.1 in
     (none_of_some _ b.0, none_of_some _ d.0, none_of_some _ e.0, none_of_some _ g.0)
 
 -- ---- a choice that stays
-
-pub and-parts : (a b : Bool) → a && b ≡ true → (a ≡ true) × (b ≡ true)
-and-parts true b h = (refl, h)
-and-parts false b h = absurd (true≢false (sym h))
 
 same_key : (k l : Text) (d e : Data) → get_member k (member l d no_members) ≡ Some e → (k ≡ l) × (d ≡ e)
 same_key k l d e h = go (slice_cmp nat_cmp k l) (bytes_eq k l) refl (is_eq-slice_cmp k l) h
@@ -240,7 +235,7 @@ same_key k l d e h = go (slice_cmp nat_cmp k l) (bytes_eq k l) refl (is_eq-slice
 pub choice_key : (ms : Members) → is_null_choice (object ms) ≡ true → (k : Text) (e : Data) → get_member k ms ≡ Some e → k ≡ codes "anyOf"
 choice_key no_members stays k e h = cc
 choice_key (member l d (member j x ms)) stays k e h =
-    let one : suc (suc (members_len ms)) ≡ 1 = eqb-true _ _ (and-parts _ _ stays).0 in
+    let one : suc (suc (members_len ms)) ≡ 1 = eqb-true _ _ (and_parts _ _ stays).0 in
     absurd (omega (arith, one))
 choice_key (member l d no_members) stays k e h = go (get_member (codes "anyOf") (member l d no_members)) refl stays
   where
@@ -254,7 +249,7 @@ only_choice : (dialect : Dialect) (ms : Members) → is_null_choice (object ms) 
     → (ds : Items) × (ms ≡ member (codes "anyOf") (array ds) no_members) × SomeAcceptsNull dialect ds
 only_choice dialect no_members stays h = absurd h
 only_choice dialect (member l d (member k e ms)) stays h =
-    let one : suc (suc (members_len ms)) ≡ 1 = eqb-true _ _ (and-parts _ _ stays).0 in
+    let one : suc (suc (members_len ms)) ≡ 1 = eqb-true _ _ (and_parts _ _ stays).0 in
     absurd (omega (arith, one))
 only_choice dialect (member l d no_members) stays h = go (get_member (codes "anyOf") (member l d no_members)) refl h
   where
@@ -273,13 +268,10 @@ only_choice dialect (member l d no_members) stays h = go (get_member (codes "any
 alone-not_choice : (ms : Members) → is_combined (object ms) ≡ false → is_null_choice (object ms) ≡ true → ⊥
 alone-not_choice ms alone stays =
     let none : get_member (codes "anyOf") ms ≡ None = (alone_parts ms alone).1 in
-    true≢false (sym ((and-parts _ _ stays).1) ∙ ap offers_null none)
+    true≢false (sym ((and_parts _ _ stays).1) ∙ ap offers_null none)
 
 abbrev judge_in : Option Judge → Judge
 judge_in o = elim o [ None ↦ nothing | Some s ↦ s ]
-
-some_inj : {A : Type 0} {a b : A} → Some a ≡ Some b → a ≡ b
-some_inj h = cc
 
 -- with a `Yes` among them, verdicts are not all `No`
 refused : (y : Verdict) → both No y ≡ Yes → ⊥
@@ -318,10 +310,6 @@ each_draft P h dialect (inl is) = subst P (sym is) (h true true true)
 each_draft P h dialect (inr (inl is)) = subst P (sym is) (h true false true)
 each_draft P h dialect (inr (inr is)) = subst P (sym is) (h false false false)
 
-and-false : (a : Bool) → a && false ≡ false
-and-false true = refl
-and-false false = refl
-
 -- keywords for lists and maps say nothing of null
 items_of_null : (reads : Bool) (prefix items additional : Option Reading) → items_say reads prefix items additional null ≡ Yes
 items_of_null true prefix items additional = simp silent
@@ -336,14 +324,6 @@ unevaluated_of_null : (reads : Bool) (judged : Text → Bool) (o : Option Readin
     → unevaluated_properties_say reads judged o null ≡ Yes
 unevaluated_of_null true judged o = silent o
 unevaluated_of_null false judged o = refl
-
-items_none : (reads : Bool) (v : Data) → items_say reads None None None v ≡ Yes
-items_none true v = refl
-items_none false v = refl
-
-unevaluated_none : (reads : Bool) (judged : Text → Bool) (v : Data) → unevaluated_properties_say reads judged None v ≡ Yes
-unevaluated_none true judged v = refl
-unevaluated_none false judged v = refl
 
 -- where a reference stands alone, the rest of two objects need not agree
 beside : (alone : Bool) (r s t : Judge) (v : Data) → s.fits v ≡ t.fits v
@@ -450,7 +430,7 @@ module _ (siblings prefix unevaluated : Bool) (patterns : Patterns) (f : Text �
           → both_some (λ s ss. s ∷ ss) s o ≡ Some ss → none_of (map (λ s. s.fits null) ss) ≡ Yes → ⊥
       go below None o first later at = cc
       go below (Some s) None first later at = cc
-      go below (Some s) (Some rest) first later at = rw (← (some_inj at)) (here some)
+      go below (Some s) (Some rest) first later at = rw (← (same_Some _ _ at)) (here some)
         where
           here : AcceptsNull dialect d ⊎ SomeAcceptsNull dialect ds
               → both (opposite (s.fits null)) (none_of (map (λ s. s.fits null) rest)) ≡ Yes → ⊥

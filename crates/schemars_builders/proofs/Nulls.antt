@@ -1,28 +1,27 @@
 -- Schemas that null can be allowed in, once and again.
 use Rattle.std.proofs.Common.{◌≡◌, ◌⊎◌, inl, inr, List, [], ◌∷◌, ◌++◌, Option, Some, None, Bool, true, false, refl, sym}
 use Rattle.std.proofs.Common.{ap, ◌∙◌, arith, true≢false}
-use Rattle.std.specs.Prelude.{codes, bytes_eq, ◌||◌, if◌then◌else◌, is_some, IsTrue, length, option_and_then}
+use Rattle.std.proofs.lemmas.Bool.{and_parts}
+use Rattle.std.specs.Prelude.{codes, bytes_eq, ◌||◌, if◌then◌else◌, IsTrue, length, option_and_then}
 use Rattle.serde_json.specs.Data.{Data, null, boolean, number, string, array, object, no_items, item, Members}
 use Rattle.serde_json.specs.Find.{get_member}
-use Rattle.serde_json.specs.View.{view, items_view, items_of, members_view}
-use Rattle.serde_json.specs.declared.value.Value.{Value}
-use Rattle.serde_json.specs.Find.{as_object, as_bool, as_str}
-use Rattle.schemars_schema.specs.SchemaData.{members_in}
+use Rattle.serde_json.specs.View.{items_of, members_view}
+use Rattle.serde_json.specs.Find.{as_str}
 use Rattle.schemars_builders.specs.AllowNull.{accepts_everything}
 use Rattle.serde_json.proofs.Views.{Entry}
 use Rattle.schemars_schema.specs.Json.{Text}
 use Rattle.schemars_schema.specs.SchemaData.{IsSchema}
 use Rattle.schemars_schema.specs.Acceptance.{Dialect, draft2020_12, Context, Raw, is_null}
-use Rattle.schemars_schema.specs.Edits.{without}
+use Rattle.schemars_schema.specs.Edits.{without, holds_text, with_item, is_text}
 use Rattle.schemars_schema.proofs.Objects.{judge-object, says-agree}
-use Rattle.schemars_builders.specs.AllowNull.{null_schema, is_combined, is_null_choice, holds_text, with_item, is_text}
+use Rattle.schemars_builders.specs.AllowNull.{null_schema, is_combined, is_null_choice}
 use Rattle.schemars_builders.specs.AllowNull.{const_admits_null, enum_admits_null, is_null_schema, holds_null_schema}
 use Rattle.schemars_builders.specs.AllowNull.{const_or_null, or_null, allow_null}
 use Rattle.schemars_builders.specs.NullLaw.{IsDraft, AcceptsNull, SomeAcceptsNull, IsChoice, HasTypeForm, HasPlainValues}
 use Rattle.schemars_builders.specs.NullLaw.{IsPlain, IsNullable, AcceptsNullToo}
 use Rattle.schemars_builders.proofs.NullKeywords.{are_names_append, const_plus, enum_plus, type_plus, values_plus}
 use Rattle.schemars_builders.proofs.NullKeywords.{with_item-text_items}
-use Rattle.schemars_builders.proofs.NullMembers.{agree-none, allow_null-says, alone_parts, and-parts, at_type}
+use Rattle.schemars_builders.proofs.NullMembers.{agree-none, allow_null-says, alone_parts, at_type}
 use Rattle.schemars_builders.proofs.NullMembers.{c, const_or_null-const, each_draft, null_says, nulled, of_null, one_form}
 use Rattle.schemars_builders.proofs.NullMembers.{same_text, type_once, with_const, with_null, with_null-agree, with_null_type}
 
@@ -191,8 +190,8 @@ plain_null ms p is = each_draft (λ d. AcceptsNull d (object ms)) (λ siblings p
     let at : Context = c siblings prefix unevaluated patterns f in
     let g : Raw = λ k. get_member k ms in
     let parts = alone_parts ms p.alone in
-    let said = and-parts _ _ is in
-    let values = and-parts _ _ said.1 in
+    let said = and_parts _ _ is in
+    let values = and_parts _ _ said.1 in
     ap (λ j. j.fits null) (judge-object at ms ∙ says-agree at g (nulled g) (λ k key. kept g said.0 values.0 values.1 k))
     ∙ null_says siblings prefix unevaluated patterns f g p.type_form (one_form ms p.values) p.not_form
     parts.0 parts.1 parts.2 parts.3)
@@ -201,7 +200,7 @@ ready_null : (dialect : Dialect) → IsDraft dialect → (t : Data) → IsReady 
     → AcceptsNull dialect t
 ready_null dialect draft (boolean b) r is = absurd (true≢false (sym is))
 ready_null dialect draft (object ms) (inl choice) is =
-    let typed : is_text (codes "null") (option_and_then as_str (get_member (codes "type") ms)) ≡ true = (and-parts _ _ is).0 in
+    let typed : is_text (codes "null") (option_and_then as_str (get_member (codes "type") ms)) ≡ true = (and_parts _ _ is).0 in
     absurd (true≢false (sym typed ∙ choice.1))
 ready_null dialect draft (object ms) (inr p) is = plain_null ms p is dialect draft
 ready_null dialect draft null r is = absurd r
@@ -250,23 +249,3 @@ pub empty_accepts : (b : Bool) (es : List Entry) → (IsTrue b → length es ≡
 empty_accepts b [] none all = all refl
 empty_accepts true (e ∷ es) none all = absurd (omega (arith, none refl))
 empty_accepts false (e ∷ es) none all = refl
-
-pub items_view-push : (xs : List Value) (x : Value) → items_view (xs ++ x ∷ []) ≡ with_item (items_view xs) (view x)
-items_view-push [] x = refl
-items_view-push (y ∷ ys) x = ap (item (view y)) (items_view-push ys x)
-
-pub object-members_in : (d : Data) → is_some (as_object d) ≡ true → d ≡ object (members_in d)
-object-members_in (object ms) h = refl
-object-members_in null h = absurd (true≢false (sym h))
-object-members_in (boolean b) h = absurd (true≢false (sym h))
-object-members_in (number n) h = absurd (true≢false (sym h))
-object-members_in (string s) h = absurd (true≢false (sym h))
-object-members_in (array ds) h = absurd (true≢false (sym h))
-
-pub allow_null-plain : (d : Data) → is_some (as_object d) ≡ false → as_bool d ≡ None → d ≡ allow_null d
-allow_null-plain (object ms) h none = absurd (true≢false h)
-allow_null-plain null h none = refl
-allow_null-plain (boolean b) h none = cc
-allow_null-plain (number n) h none = refl
-allow_null-plain (string s) h none = refl
-allow_null-plain (array ds) h none = refl

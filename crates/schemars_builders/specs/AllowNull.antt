@@ -1,13 +1,11 @@
 -- A schema that accepts null too.
-use Rattle.std.specs.Prelude.{◌&&◌, ◌||◌, ◌==◌, [], ◌∷◌, Bool, true, false, Option, Some, None, is_some}
+use Rattle.std.specs.Prelude.{◌&&◌, ◌||◌, [], ◌∷◌, Bool, true, false, Option, Some, None, is_some}
 use Rattle.std.specs.Prelude.{option_and_then, if◌then◌else◌, codes, bytes_eq}
 use Rattle.serde_json.specs.Data.{Data, null, boolean, number, string, array, object, Items, no_items, item, Members}
 use Rattle.serde_json.specs.Data.{no_members, member, put}
-use Rattle.serde_json.specs.Events.{members_len}
-use Rattle.serde_json.specs.Find.{get, get_member, as_object, as_str}
-use Rattle.schemars_schema.specs.Json.{Text}
+use Rattle.serde_json.specs.Find.{get, get_member, as_str}
 use Rattle.schemars_schema.specs.SchemaData.{object_of}
-use Rattle.schemars_schema.specs.Edits.{without}
+use Rattle.schemars_schema.specs.Edits.{without, is_text, holds_text, has_one_member, with_item}
 use Rattle.schemars_schema.specs.Acceptance.{is_null}
 
 -- the schema of null alone
@@ -32,10 +30,6 @@ is_combined s =
     || (is_some (get (codes "allOf") s)
     || (is_some (get (codes "anyOf") s) || (is_some (get (codes "oneOf") s) ||
     (is_some (get (codes "$ref") s) || accepts_everything (get (codes "not") s)))))
-
-abbrev pub is_text : Text → Option Text → Bool
-is_text t None = false
-is_text t (Some s) = bytes_eq s t
 
 -- ---- the schema of null among others
 
@@ -76,22 +70,11 @@ offers_null (Some (string s)) = false
 offers_null (Some (array ds)) = holds_null_schema ds
 offers_null (Some (object ms)) = false
 
-abbrev pub has_one_member : Data → Bool
-has_one_member s = elim (as_object s) [ None ↦ false | Some ms ↦ members_len ms == 1 ]
-
 -- `anyOf` alone, with the schema of null among its schemas
 abbrev pub is_null_choice : Data → Bool
 is_null_choice s = has_one_member s && offers_null (get (codes "anyOf") s)
 
 -- ---- null in a type
-
-abbrev pub holds_text : Text → Items → Bool
-holds_text t no_items = false
-holds_text t (item d ds) = is_text t (as_str d) || holds_text t ds
-
-abbrev pub with_item : Items → Data → Items
-with_item no_items e = item e no_items
-with_item (item d ds) e = item d (with_item ds e)
 
 -- a type with null at its end, unless it has null
 abbrev pub type_with_null : Data → Data

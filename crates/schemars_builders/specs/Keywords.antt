@@ -4,7 +4,7 @@ use Rattle.serde_json.specs.Data.{Data, null, boolean, number, string, array, ob
 use Rattle.serde_json.specs.Find.{get}
 use Rattle.schemars_schema.specs.Json.{Text}
 use Rattle.schemars_schema.specs.SchemaData.{inserted}
-use Rattle.schemars_builders.specs.AllowNull.{holds_text}
+use Rattle.schemars_schema.specs.Edits.{holds_text}
 
 -- with this text at k, unless it is empty
 abbrev pub with_metadata : Text → Text → Data → Data

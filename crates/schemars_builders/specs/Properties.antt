@@ -1,47 +1,11 @@
 -- Properties put into the schema of an object.
-use Rattle.std.specs.Prelude.{◌&&◌, Bool, false, Some, None, is_some, option_and_then, if◌then◌else◌, codes}
-use Rattle.serde_json.specs.Data.{Data, null, boolean, number, string, array, object, no_items, item, Members, no_members, put}
-use Rattle.serde_json.specs.Find.{get, get_member, as_str}
+use Rattle.std.specs.Prelude.{◌&&◌, Bool, false, option_and_then, if◌then◌else◌, codes}
+use Rattle.serde_json.specs.Data.{Data, boolean, string, array, object, no_items, Members, no_members, put}
+use Rattle.serde_json.specs.Find.{get, as_str}
 use Rattle.schemars_schema.specs.Json.{Text}
 use Rattle.schemars_schema.specs.SchemaData.{members_in}
-use Rattle.schemars_schema.specs.Edits.{replaced}
-use Rattle.schemars_builders.specs.AllowNull.{is_text, with_item}
+use Rattle.schemars_schema.specs.Edits.{is_text, with_member, with_first, with_last, changed_at, put_missing}
 use Rattle.schemars_builders.specs.Variants.{unit_variant}
-
--- an object with d at k; what is no object stays as it is
-abbrev pub with_member : Text → Data → Data → Data
-with_member k d null = null
-with_member k d (boolean b) = boolean b
-with_member k d (number n) = number n
-with_member k d (string s) = string s
-with_member k d (array ds) = array ds
-with_member k d (object ms) = object (put k d ms)
-
--- a list with d in front; what is no list stays as it is
-abbrev pub with_first : Data → Data → Data
-with_first d null = null
-with_first d (boolean b) = boolean b
-with_first d (number n) = number n
-with_first d (string s) = string s
-with_first d (array ds) = array (item d ds)
-with_first d (object ms) = object ms
-
--- a list with d at its end; what is no list stays as it is
-abbrev pub with_last : Data → Data → Data
-with_last d null = null
-with_last d (boolean b) = boolean b
-with_last d (number n) = number n
-with_last d (string s) = string s
-with_last d (array ds) = array (with_item ds d)
-with_last d (object ms) = object ms
-
--- the members with the value at k changed; where there is none, the change of d joins there
-abbrev pub changed_at : Text → (Data → Data) → Data → Members → Members
-changed_at k change d ms = elim (get_member k ms) [ None ↦ put k (change d) ms | Some e ↦ replaced k (change e) ms ]
-
--- the members with d at k, unless a value stands there
-abbrev pub put_missing : Text → Data → Members → Members
-put_missing k d ms = if is_some (get_member k ms) then ms else put k d ms
 
 -- ---- the keywords of an object's schema
 

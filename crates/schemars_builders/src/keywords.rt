@@ -1,9 +1,7 @@
 //! Keywords that are put into a schema where they say something.
 ghost use Rattle.std.specs.Prelude.{◌≡◌, Some, OnOk, OnErr, codes};
 ghost use Rattle.serde_json.specs.Data.{string};
-ghost use Rattle.serde_json.specs.Find.{as_str};
-ghost use Rattle.serde_json.specs.View.{view, items_view};
-ghost use Rattle.schemars_builders.specs.AllowNull.{is_text, holds_text};
+ghost use Rattle.serde_json.specs.View.{view};
 ghost use Rattle.schemars_schema.specs.SchemaData.{inserted};
 ghost use Rattle.schemars_builders.specs.Keywords.{with_metadata, with_validation};
 ghost use Rattle.schemars_builders.specs.Keywords.{names_type, has_type, validates};
@@ -11,6 +9,7 @@ ghost use Rattle.schemars_builders.specs.Pattern.{escaped};
 
 use crate::pattern::escape;
 use schemars_schema::Schema;
+use schemars_schema::edits::holds_text;
 use serde_json::Value;
 use std::alloc::{AllocError, Global};
 
@@ -111,16 +110,4 @@ fn names_type(names: &Value, name: &str) -> bool
         Value::Array(names) => holds_text(names, name),
         _ => false,
     }
-}
-
-fn holds_text(values: &[Value], text: &str) -> bool
-    ensures { result ≡ holds_text text.now (items_view values.now) }
-{
-    values.iter().any(|value| is_text(value, text))
-}
-
-fn is_text(value: &Value, text: &str) -> bool
-    ensures { result ≡ is_text text.now (as_str (view value.now)) }
-{
-    value.as_str().is_some_and(|found| found == text)
 }

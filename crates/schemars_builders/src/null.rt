@@ -6,22 +6,18 @@ ghost use Rattle.serde_json.specs.Find.{get, get_member, as_object, as_str};
 ghost use Rattle.serde_json.specs.View.{view, items_view};
 ghost use Rattle.schemars_schema.specs.SchemaData.{members_in};
 ghost use Rattle.schemars_schema.specs.Acceptance.{Dialect, is_null};
-ghost use Rattle.schemars_builders.specs.AllowNull.{allow_null, null_schema, is_null_schema};
-ghost use Rattle.schemars_builders.specs.AllowNull.{holds_null};
-ghost use Rattle.schemars_builders.specs.AllowNull.{holds_null_schema, const_admits_null};
-ghost use Rattle.schemars_builders.specs.AllowNull.{enum_admits_null, offers_null};
-ghost use Rattle.schemars_builders.specs.AllowNull.{has_one_member, is_null_choice, is_combined};
-ghost use Rattle.schemars_builders.specs.AllowNull.{accepts_everything};
-ghost use Rattle.schemars_builders.specs.AllowNull.{is_text, holds_text, with_item, type_with_null};
-ghost use Rattle.schemars_builders.specs.AllowNull.{null_in_type};
-ghost use Rattle.schemars_builders.specs.AllowNull.{enum_with_null, null_in_enum, const_or_null};
-ghost use Rattle.schemars_builders.specs.AllowNull.{null_in_values};
+ghost use Rattle.schemars_builders.specs.AllowNull.{allow_null, null_schema, is_null_schema, holds_null};
+ghost use Rattle.schemars_builders.specs.AllowNull.{holds_null_schema, const_admits_null, enum_admits_null, offers_null};
+ghost use Rattle.schemars_builders.specs.AllowNull.{is_null_choice, is_combined, accepts_everything};
+ghost use Rattle.schemars_builders.specs.AllowNull.{type_with_null, null_in_type};
+ghost use Rattle.schemars_builders.specs.AllowNull.{enum_with_null, null_in_enum, const_or_null, null_in_values};
 ghost use Rattle.schemars_builders.specs.AllowNull.{or_null};
 ghost use Rattle.schemars_builders.specs.NullLaw.{IsDraft, IsNullable, AcceptsNullToo};
 ghost use Rattle.std.specs.Prelude.{None};
 ghost use Rattle.serde_json.specs.Find.{as_bool};
 
 use schemars_schema::Schema;
+use schemars_schema::edits::{has_one_member, holds_text, is_text};
 use serde_json::{Map, Value};
 use std::alloc::{AllocError, Global};
 use std::mem;
@@ -91,15 +87,6 @@ fn is_null_choice(schema: &Schema) -> bool
     ensures { result ≡ is_null_choice schema.now }
 {
     has_one_member(schema) && schema.get("anyOf").is_some_and(offers_null)
-}
-
-fn has_one_member(schema: &Schema) -> bool
-    ensures { result ≡ has_one_member schema.now }
-{
-    match schema.as_object() {
-        Some(members) => members.len() == 1,
-        None => false,
-    }
 }
 
 fn offers_null(choices: &Value) -> bool
@@ -244,26 +231,6 @@ fn names_with_null(alloc: Global, names: Vec<Value>) -> Result<Value, AllocError
     let mut names = names;
     serde_json::push(&mut names, null)?;
     Ok(Value::Array(names))
-}
-
-fn holds_text(items: &[Value], text: &str) -> bool
-    ensures { result ≡ holds_text text.now (items_view items.now) }
-{
-    for item in items {
-        if is_text(item, text) {
-            return true;
-        }
-    }
-    false
-}
-
-pub(crate) fn is_text(value: &Value, text: &str) -> bool
-    ensures { result ≡ is_text text.now (as_str (view value.now)) }
-{
-    match value.as_str() {
-        Some(found) => found == text,
-        None => false,
-    }
 }
 
 // Lets `const` and `enum` admit null.

@@ -2,16 +2,15 @@
 ghost use Rattle.std.specs.Prelude.{◌≡◌, codes, OnOk};
 ghost use Rattle.serde_json.specs.Data.{array, no_items, item, put};
 ghost use Rattle.serde_json.specs.View.{view, members_view};
-ghost use Rattle.schemars_builders.specs.Properties.{with_member, with_first, with_last};
-ghost use Rattle.schemars_builders.specs.Properties.{put_missing};
+ghost use Rattle.schemars_schema.specs.Edits.{with_member, with_first};
 ghost use Rattle.schemars_builders.specs.Properties.{with_property, required_first, required_last};
 ghost use Rattle.schemars_builders.specs.Properties.{required_unless, with_object_property};
 ghost use Rattle.schemars_builders.specs.Properties.{has_null_type, tagged, closed_where};
 ghost use Rattle.schemars_builders.specs.Properties.{internally_tagged_variant};
 
-use crate::null::is_text;
 use crate::variants::new_unit_enum_variant;
 use schemars_schema::Schema;
+use schemars_schema::edits::{append_at, is_text, put_missing};
 use serde_json::{Map, Value};
 use std::alloc::{AllocError, Global};
 
@@ -97,21 +96,6 @@ fn close_where(
     put_missing(alloc, members, "additionalProperties", Value::Bool(false))
 }
 
-fn put_missing(
-    alloc: Global,
-    members: &mut Map<String, Value>,
-    key: &str,
-    value: Value,
-) -> Result<(), AllocError>
-    ensures { OnOk result (members_view members.new.entries
-        ≡ put_missing key.now (view value) (members_view members.old.entries)) }
-{
-    if members.contains_key(key) {
-        return Ok(());
-    }
-    serde_json::put(members, alloc, key, value)
-}
-
 // Puts the schema of a property in.
 fn put_property(
     alloc: Global,
@@ -180,10 +164,7 @@ fn require_last(
         ≡ required_last name.now (members_view members.old.entries)) }
 {
     let name = Value::try_from_str(alloc, name)?;
-    match members.get_mut("required") {
-        Some(required) => insert_last(required, name),
-        None => require_alone(alloc, members, name),
-    }
+    append_at(alloc, members, "required", name)
 }
 
 fn require_alone(
@@ -204,15 +185,6 @@ fn insert_first(list: &mut Value, value: Value) -> Result<(), AllocError>
 {
     match list.as_array_mut() {
         Some(items) => Ok(items.insert(0, value)?),
-        None => Ok(()),
-    }
-}
-
-fn insert_last(list: &mut Value, value: Value) -> Result<(), AllocError>
-    ensures { OnOk result (view list.new ≡ with_last (view value) (view list.old)) }
-{
-    match list.as_array_mut() {
-        Some(items) => serde_json::push(items, value),
         None => Ok(()),
     }
 }

@@ -1,6 +1,6 @@
 -- Nodes of templates as the code makes them.
-use Rattle.std.proofs.Common.{◌≡◌, List, [], ◌∷◌, ◌++◌, length, map, Bool, true, false, refl, sym, ap, ◌∙◌, true≢false, append_assoc}
-use Rattle.std.proofs.Common.{rules, arith, Vec, Global, Bor}
+use Rattle.std.proofs.Common.{◌≡◌, List, [], ◌∷◌, ◌++◌, length, Bool, true, false, refl, sym, ap, ◌∙◌, true≢false, append_assoc}
+use Rattle.std.proofs.Common.{rules, arith, Vec, Global}
 use Rattle.std.specs.Prelude.{codes, ◌==◌, ◌&&◌, IsSome, option_and_then}
 use Rattle.serde_json.specs.Find.{get, get_member, as_object, as_str}
 use Rattle.serde_json.specs.Data.{Data, null, boolean, number, string, array, object, no_members}
@@ -9,13 +9,13 @@ use Rattle.serde_json.specs.declared.value.Value.{Value, Array, Bool as Bool', t
 use Rattle.serde_json.proofs.Views.{view-Array}
 use Rattle.schemars_schema.specs.Json.{Text}
 use Rattle.schemars_schema.specs.SchemaData.{IsSchema, members_in}
-use Rattle.schemars_builders.specs.AllowNull.{is_text}
+use Rattle.schemars_schema.specs.Edits.{is_text}
 use Rattle.schemars_builders.specs.Properties.{has_null_type, closed_where, tagged, internally_tagged_variant}
 use Rattle.schemars_flatten.specs.Flatten.{flattened, united_all}
-use Rattle.schemars_documents.specs.Template.{finished, list, members, keyed}
+use Rattle.schemars_documents.specs.Template.{finished, keyed}
 use Rattle.schemars_documents.specs.OfShape.{KeywordTemplate, said, required_at, closed_at}
-use Rattle.schemars_documents.specs.View.{template_view, templates_view}
-use Rattle.schemars_documents.specs.declared.template.Template.{Template, Value as Value', List as List', Object, the_lemmas}
+use Rattle.schemars_documents.specs.View.{template_view}
+use Rattle.schemars_documents.specs.declared.template.Template.{Value as Value', the_lemmas}
 
 -- what is not a schema has no members
 pub no_schema : (d : Data) → (IsSchema d → ⊥) → no_members ≡ members_in d
@@ -28,13 +28,6 @@ no_schema (object ms) h = absurd (h tt)
 
 pub template_view-Value : (v : Value) → template_view (Value' v) ≡ finished (view v)
 template_view-Value v = search (rules, the_lemmas)
-
-pub template_view-List : (v : Vec Template Global) → template_view (List' v) ≡ list (templates_view v.items)
-template_view-List v = search (rules, the_lemmas)
-
-pub template_view-Object : (ks : Vec (Bor Text) Global) (v : Vec Template Global)
-    → template_view (Object ks v) ≡ members (map (λ k. k.now) ks.items) (templates_view v.items)
-template_view-Object ks v = search (rules, the_lemmas)
 
 -- where there is no value
 pub keyed_nil : (ks : List Text) → keyed ks [] ≡ []

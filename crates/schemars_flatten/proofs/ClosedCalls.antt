@@ -8,8 +8,8 @@ use Rattle.serde_json.specs.Find.{as_array, as_object}
 use Rattle.serde_json.specs.View.{view, items_view}
 use Rattle.serde_json.specs.declared.value.Value.{Value}
 use Rattle.schemars_schema.specs.Json.{Text}
+use Rattle.schemars_schema.proofs.Lists.{nothing_left, from_here}
 use Rattle.schemars_flatten.specs.Opening.{closes, closed_at, closed_in, closed_in_items, closed_in_keywords}
-use Rattle.schemars_flatten.proofs.Lists.{from_here, nothing_at}
 
 pub closed_object : (d : Data) (ms : Members) → Some ms ≡ as_object d
     → closes d || closed_in_keywords ms ≡ (closed_in d).in_schema
@@ -106,4 +106,4 @@ item_passed xs i x all within is passes before =
 
 pub all_passed : (xs : List Value) (i : ℕ) (all : Bool) → length xs ≤ i
     → closed_in_items (items_view (drop i xs)) ≡ all → false ≡ all
-all_passed xs i all end before = no_item_closes ∙ (ap closed_in_items (sym (nothing_at xs i end)) ∙ before)
+all_passed xs i all end before = no_item_closes ∙ (ap closed_in_items (sym (nothing_left xs i end)) ∙ before)

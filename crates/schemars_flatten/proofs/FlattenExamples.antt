@@ -1,28 +1,11 @@
 -- What schemas become with others put in, computed. The keys of an object stand in order.
 use Rattle.std.proofs.Common.{◌≡◌, List, [], ◌∷◌, true, false, refl}
-use Rattle.std.specs.Prelude.{codes}
-use Prim.Native.String.{String}
-use Rattle.serde_json.specs.Data.{Data, boolean, string, array, object, Members, no_members, member}
-use Rattle.serde_json.specs.View.{items_of}
-use Rattle.schemars_flatten.specs.Flatten.{alone, flattened}
+use Rattle.serde_json.specs.Data.{Data, boolean, object, no_members}
+use Rattle.schemars_schema.proofs.JsonLiterals.{text, list, entry, one, empty}
+use Rattle.schemars_flatten.specs.Flatten.{flattened}
 use Rattle.schemars_flatten.specs.FlattenLaw.{AreJoinable}
 
 -- ---- JSON in short
-
-abbrev text : String → Data
-text s = string (codes s)
-
-abbrev list : List Data → Data
-list ds = array (items_of ds)
-
-abbrev entry : String → Data → Members → Members
-entry k d ms = member (codes k) d ms
-
-abbrev one : String → Data → Data
-one k d = alone (codes k) d
-
-abbrev empty : Data
-empty = object no_members
 
 abbrev yes : Data
 yes = boolean true

@@ -1,6 +1,6 @@
 -- No float comes into what is made of schemas without one.
-use Rattle.std.proofs.Common.{◌≡◌, Bool, true, false, refl, true≢false}
-use Rattle.std.specs.Prelude.{◌||◌}
+use Rattle.std.proofs.Common.{◌≡◌, Bool, false, refl}
+use Rattle.std.proofs.lemmas.Bool.{or_parts}
 use Rattle.serde_json.specs.Data.{Data, Items, no_items, item, Members, no_members, member}
 use Rattle.serde_json.specs.Written.{has_float, items_have_float, members_have_float}
 use Rattle.schemars_schema.specs.Json.{Text}
@@ -17,14 +17,10 @@ IsWhole d = has_float d ≡ false
 abbrev IsWholeAt : Text → Data → Type 0
 IsWholeAt k d = IsWhole d
 
-either_false : (a b : Bool) → a || b ≡ false → (a ≡ false) × (b ≡ false)
-either_false true b h = absurd (true≢false h)
-either_false false b h = (refl, h)
-
 parts : (ms : Members) → members_have_float ms ≡ false → AllMembers IsWholeAt ms
 parts no_members h = tt
 parts (member k d ms) h =
-    let each = either_false (has_float d) (members_have_float ms) h in (each.0, parts ms each.1)
+    let each = or_parts (has_float d) (members_have_float ms) h in (each.0, parts ms each.1)
 
 whole : (ms : Members) → AllMembers IsWholeAt ms → members_have_float ms ≡ false
 whole no_members h = refl
@@ -32,7 +28,7 @@ whole (member k d ms) h = rw (h.0, whole ms h.1)
 
 items : (ds : Items) → items_have_float ds ≡ false → AllItems IsWhole ds
 items no_items h = tt
-items (item d ds) h = let each = either_false (has_float d) (items_have_float ds) h in (each.0, items ds each.1)
+items (item d ds) h = let each = or_parts (has_float d) (items_have_float ds) h in (each.0, items ds each.1)
 
 list : (ds : Items) → AllItems IsWhole ds → items_have_float ds ≡ false
 list no_items h = refl
@@ -42,7 +38,7 @@ both : (ds es : Items) → items_have_float ds ≡ false → items_have_float es
     → items_have_float (appended ds es) ≡ false
 both no_items es first second = second
 both (item d ds) es first second =
-    let each = either_false (has_float d) (items_have_float ds) first in rw (each.0, both ds es each.1 second)
+    let each = or_parts (has_float d) (items_have_float ds) first in rw (each.0, both ds es each.1 second)
 
 merged : (ms ns : Members) → members_have_float ms ≡ false → members_have_float ns ≡ false
     → members_have_float (put_members ns ms) ≡ false

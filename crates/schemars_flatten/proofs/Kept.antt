@@ -13,14 +13,12 @@ use Rattle.serde_json.specs.Find.{get, get_member, as_array, as_object, as_str}
 use Rattle.schemars_schema.specs.Json.{Text}
 use Rattle.schemars_schema.specs.OrderedText.{is_listed}
 use Rattle.schemars_schema.specs.SchemaData.{members_in, put_members}
-use Rattle.schemars_schema.specs.Edits.{removed, replaced, without}
-use Rattle.schemars_schema.specs.References.{NoSchemas, OneSchema, SchemaList}
+use Rattle.schemars_schema.specs.Edits.{removed, replaced, without, with_item, changed_at}
+use Rattle.schemars_schema.specs.References.{NoSchemas, OneSchema, SchemaList, with_same_object, with_same_objects}
 use Rattle.schemars_schema.specs.Acceptance.{both_some}
 use Rattle.schemars_schema.proofs.MapEdits.{object-as_object}
-use Rattle.schemars_builders.specs.AllowNull.{with_item}
-use Rattle.schemars_builders.specs.Properties.{changed_at}
-use Rattle.schemars_builders.proofs.Changes.{array-as_array}
-use Rattle.schemars_flatten.specs.Flatten.{stands, has_subschema, moved, moved_beside, rest_keyword, opened_schema}
+use Rattle.schemars_schema.proofs.Changes.{array-as_array}
+use Rattle.schemars_flatten.specs.Flatten.{stands, has_subschema, moved, moved_beside, opened_schema}
 use Rattle.schemars_flatten.specs.Flatten.{appended}
 use Rattle.schemars_flatten.specs.Flatten.{joined, merged, is_joined, is_merged, is_choice, united, with_united}
 use Rattle.schemars_flatten.specs.Flatten.{alone}
@@ -28,7 +26,6 @@ use Rattle.schemars_flatten.specs.Flatten.{both_choices, with_choice, with_keywo
 use Rattle.schemars_flatten.specs.Flatten.{flattened}
 use Rattle.schemars_flatten.specs.Flatten as flatten
 use Rattle.schemars_walk.specs.Rewritten.{form_at, forms, in_items, in_keywords}
-use Rattle.schemars_transform.specs.Unevaluated.{with_same_object, with_same_objects}
 use Rattle.schemars_flatten.specs.Opening.{closes_by, opened_at, opened_here, same_object_place, opening, opened}
 use Rattle.schemars_flatten.specs.Opening.{opened_inside}
 use Rattle.schemars_flatten.specs.Opening.{has_type}

@@ -1,22 +1,24 @@
 -- The law of `flatten`: what two schemas of objects in one say.
 use Rattle.std.proofs.Common.{◌≡◌, Option, Some, None, Bool, true, false, refl, sym, ap, ◌∙◌, true≢false, option_map}
 use Rattle.std.proofs.lemmas.Slice.Eq.{bytes_eq-Decides}
-use Rattle.std.specs.Prelude.{◌&&◌, bytes_eq, codes, if◌then◌else◌, not}
+use Rattle.std.proofs.lemmas.Bool.{and_parts}
+use Rattle.std.proofs.Math.Bool.{and-false}
+use Rattle.std.specs.Prelude.{bytes_eq, codes, if◌then◌else◌, not}
 use Rattle.serde_json.specs.Data.{Data, null, boolean, number, string, array, object, Members}
 use Rattle.serde_json.specs.Find.{get_member, as_str}
 use Rattle.schemars_schema.specs.Json.{Text}
-use Rattle.schemars_schema.specs.Verdict.{Verdict, Yes, both}
-use Rattle.schemars_schema.specs.Acceptance.{Context, Raw, judge, read_data, all_keywords, items_say, const_says}
-use Rattle.schemars_schema.specs.Acceptance.{unevaluated_properties_say, type_says, required_says, properties_say}
-use Rattle.schemars_schema.proofs.Verdicts.{both-yes}
+use Rattle.schemars_schema.specs.Verdict.{Verdict, both}
+use Rattle.schemars_schema.specs.Acceptance.{Context, Raw, judge, read_data, all_keywords}
+use Rattle.schemars_schema.specs.Acceptance.{type_says, required_says, properties_say}
+use Rattle.schemars_schema.proofs.Verdicts.{both-yes, both-middle}
 use Rattle.schemars_schema.proofs.Objects.{IsKeyword, says, says-agree, judge-object, keyword-plain}
-use Rattle.schemars_builders.specs.AllowNull.{is_text}
-use Rattle.schemars_builders.proofs.NullMembers.{and-parts}
+use Rattle.schemars_schema.proofs.Silent.{items_none, const_none, unevaluated_none}
+use Rattle.schemars_schema.specs.Edits.{is_text}
 use Rattle.schemars_flatten.specs.Flatten.{with_keywords, flattened}
 use Rattle.schemars_flatten.specs.FlattenLaw.{has_keys_once, is_object_keyword, are_object_keywords}
 use Rattle.schemars_flatten.specs.FlattenLaw.{are_schemas_by_name, are_texts, are_apart, AreJoinable, AcceptsBoth}
 use Rattle.schemars_flatten.proofs.Lookups.{united_option, keyword_at, lacks, keywords_at, united_plain}
-use Rattle.schemars_flatten.proofs.Verdicts.{Holds, members_at, both-pairs, type_both, required_both, properties_both}
+use Rattle.schemars_flatten.proofs.Verdicts.{Holds, members_at, type_both, required_both, properties_both}
 
 -- ---- an object with these three keywords
 
@@ -32,32 +34,15 @@ object_fits c type properties required v =
     both (type_says c.dialect.reads_nullable type None v)
     (both (required_says required v) (properties_say (option_map (read_data c) properties) v))
 
-and_false : (b : Bool) → b && false ≡ false
-and_false true = refl
-and_false false = refl
-
-no_items_say : (reads : Bool) (v : Data) → items_say reads None None None v ≡ Yes
-no_items_say true v = refl
-no_items_say false v = refl
-
-no_const_says : (reads : Bool) (v : Data) → const_says reads None v ≡ Yes
-no_const_says true v = refl
-no_const_says false v = refl
-
-none_unevaluated : (reads : Bool) (judged : Text → Bool) (v : Data)
-    → unevaluated_properties_say reads judged None v ≡ Yes
-none_unevaluated true judged v = refl
-none_unevaluated false judged v = refl
-
 object_says : (c : Context) (type properties required : Option Data) (v : Data)
     → (says c (object_raw type properties required)).fits v ≡ object_fits c type properties required v
 unfolding says all_keywords
 object_says c type properties required v =
     rw (
-      and_false (not c.dialect.judges_siblings),
-      no_const_says c.dialect.reads_const v,
-      no_items_say c.dialect.reads_prefix_items v,
-      none_unevaluated c.dialect.reads_unevaluated _ v,
+      and-false (not c.dialect.judges_siblings),
+      const_none c.dialect.reads_const v,
+      items_none c.dialect.reads_prefix_items v,
+      unevaluated_none c.dialect.reads_unevaluated _ v,
       both-yes (properties_say (option_map (read_data c) properties) v),
     ) refl
 
@@ -148,8 +133,8 @@ keywords_fit c ms ns first second once apart v =
     (united_option (codes "required") q1 q2) v
     ∙ ((λ i. both (types i) (both (required i) (properties i)))
     ∙ (ap (both (both (says_type t1) (says_type t2)))
-    (both-pairs (says_required q1) (says_required q2) (says_properties p1) (says_properties p2))
-    ∙ (both-pairs (says_type t1) (says_type t2) (both (says_required q1) (says_properties p1))
+    (both-middle (says_required q1) (says_required q2) (says_properties p1) (says_properties p2))
+    ∙ (both-middle (says_type t1) (says_type t2) (both (says_required q1) (says_properties p1))
     (both (says_required q2) (says_properties p2))
     ∙ sym (λ i. both (one_fits c ms first v i) (one_fits c ns second v i))))))
 
@@ -157,8 +142,8 @@ keywords_fit c ms ns first second once apart v =
 
 flattened_fits : (s o : Data) → AreJoinable s o → AcceptsBoth s o (flattened s o)
 flattened_fits (object ms) (object ns) joinable c v =
-    let first = and-parts (are_object_keywords ms) (has_keys_once ms) joinable.first in
-    let second = and-parts (are_object_keywords ns) (has_keys_once ns) joinable.second in
+    let first = and_parts (are_object_keywords ms) (has_keys_once ms) joinable.first in
+    let second = and_parts (are_object_keywords ns) (has_keys_once ns) joinable.second in
     ap (λ x. (judge c (object x)).fits v) (united_plain ms ns first.0 second.0)
     ∙ keywords_fit c ms ns first.0 second.0 second.1 joinable.apart v
 flattened_fits null o joinable c v = absurd (true≢false (sym joinable.first))

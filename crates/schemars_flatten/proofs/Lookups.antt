@@ -1,19 +1,18 @@
 -- What is found in members after others are put in.
-use Rattle.std.proofs.Common.{◌≡◌, Option, Some, None, Bool, true, false, Ordering, Less, Equal, Greater, refl, sym, ap}
+use Rattle.std.proofs.Common.{◌≡◌, Option, Some, None, Bool, true, false, refl, sym, ap}
 use Rattle.std.proofs.Common.{◌∙◌}
-use Rattle.std.proofs.Common.{is_eq, true≢false, nat_cmp}
-use Rattle.std.proofs.lemmas.Map.Text.{is_eq-slice_cmp}
+use Rattle.std.proofs.Common.{true≢false}
 use Rattle.std.proofs.lemmas.Slice.Eq.{bytes_eq-Decides}
+use Rattle.std.proofs.lemmas.Bool.{and_parts}
 use Rattle.std.specs.Prelude.{◌||◌, bytes_eq, codes, if◌then◌else◌, is_some, not}
-use Rattle.std.specs.Ordering.{match_ordering}
-use Rattle.std.specs.Cmp.Lexicographic.{slice_cmp}
 use Rattle.serde_json.specs.Data.{Data, Members, no_members, member, put}
 use Rattle.serde_json.specs.Find.{get_member}
 use Rattle.serde_json.proofs.Views.{get_member-put, get_member-put_other}
 use Rattle.schemars_schema.specs.Json.{Text}
 use Rattle.schemars_schema.specs.SchemaData.{put_members}
 use Rattle.schemars_schema.specs.Edits.{replaced}
-use Rattle.schemars_builders.proofs.NullMembers.{and-parts}
+use Rattle.schemars_schema.proofs.Members.{differ, get_member-later, get_member-member, get_member-replaced}
+use Rattle.schemars_schema.proofs.Members.{get_member-replaced_other}
 use Rattle.schemars_flatten.specs.Flatten.{stands, is_choice, united, with_united, with_keyword, with_keywords}
 use Rattle.schemars_flatten.specs.Flatten.{moved_beside, united_all}
 use Rattle.schemars_flatten.specs.FlattenLaw.{has_keys_once, is_object_keyword, are_object_keywords, are_apart}
@@ -24,40 +23,9 @@ abbrev at : Text → Members → Option Data
 at k no_members = None
 at k (member l e ms) = if bytes_eq k l then Some e else at k ms
 
-at_step : (o : Ordering) (b : Bool) (e : Data) (r : Option Data) → is_eq o ≡ b
-    → match_ordering o r (Some e) r ≡ (if b then Some e else r)
-at_step Less b e r is = rw (← is)
-at_step Equal b e r is = rw (← is)
-at_step Greater b e r is = rw (← is)
-
 get_member-at : (k : Text) (ms : Members) → get_member k ms ≡ at k ms
 get_member-at k no_members = refl
-get_member-at k (member l e ms) =
-    rw (get_member-at k ms) (at_step (slice_cmp nat_cmp k l) (bytes_eq k l) e (at k ms) (is_eq-slice_cmp k l))
-
-at_replaced : (k : Text) (d e : Data) (ms : Members) → at k ms ≡ Some e → at k (replaced k d ms) ≡ Some d
-at_replaced k d e no_members h = cc
-at_replaced k d e (member l f ms) h = go (bytes_eq k l) refl h (at_replaced k d e ms)
-  where
-    go : (b : Bool) → bytes_eq k l ≡ b → (if b then Some f else at k ms) ≡ Some e
-        → (at k ms ≡ Some e → at k (replaced k d ms) ≡ Some d)
-        → at k (if b then member l d ms else member l f (replaced k d ms)) ≡ Some d
-    go true is h later = rw is refl
-    go false is h later = rw is (later h)
-
-at_replaced_other : (q k : Text) (d : Data) (ms : Members) → bytes_eq q k ≡ false → at q (replaced k d ms) ≡ at q ms
-at_replaced_other q k d no_members other = refl
-at_replaced_other q k d (member l f ms) other = go (bytes_eq k l) refl (at_replaced_other q k d ms other)
-  where
-    go : (b : Bool) → bytes_eq k l ≡ b → at q (replaced k d ms) ≡ at q ms
-        → at q (if b then member l d ms else member l f (replaced k d ms)) ≡ at q (member l f ms)
-    go true is later =
-        let apart : bytes_eq q l ≡ false = ap (bytes_eq q) (sym ((bytes_eq-Decides k l).0 is)) ∙ other in
-        rw apart refl
-    go false is later = ap (λ o. if bytes_eq q l then Some f else o) later
-
-differ : (q k : Text) → bytes_eq q k ≡ false → q ≡ k → ⊥
-differ q k other same = true≢false (sym ((bytes_eq-Decides q k).1 same) ∙ other)
+get_member-at k (member l e ms) = get_member-member k l e ms ∙ ap (λ o. if bytes_eq k l then Some e else o) (get_member-at k ms)
 
 -- ---- one keyword
 
@@ -67,11 +35,11 @@ united_option k None b = b
 united_option k (Some e) None = Some e
 united_option k (Some e) (Some d) = Some (united k e d)
 
-united_none : (k : Text) (a : Option Data) → united_option k a None ≡ a
+pub united_none : (k : Text) (a : Option Data) → united_option k a None ≡ a
 united_none k None = refl
 united_none k (Some e) = refl
 
-united_here : (k : Text) (d : Data) (ms : Members)
+pub united_here : (k : Text) (d : Data) (ms : Members)
     → get_member k (with_united k d ms) ≡ united_option k (get_member k ms) (Some d)
 united_here k d ms = go (get_member k ms) refl
   where
@@ -79,18 +47,16 @@ united_here k d ms = go (get_member k ms) refl
         → get_member k (elim o [ None ↦ put k d ms | Some e ↦ replaced k (united k e d) ms ])
         ≡ united_option k o (Some d)
     go None is = get_member-put k d ms
-    go (Some e) is = get_member-at k (replaced k (united k e d) ms)
-        ∙ at_replaced k (united k e d) e ms (sym (get_member-at k ms) ∙ is)
+    go (Some e) is = get_member-replaced k (united k e d) e ms is
 
-united_beside : (q k : Text) (d : Data) (ms : Members) → bytes_eq q k ≡ false
+pub united_beside : (q k : Text) (d : Data) (ms : Members) → bytes_eq q k ≡ false
     → get_member q (with_united k d ms) ≡ get_member q ms
 united_beside q k d ms other = go (get_member k ms)
   where
     go : (o : Option Data) → get_member q (elim o [ None ↦ put k d ms | Some e ↦ replaced k (united k e d) ms ])
         ≡ get_member q ms
     go None = get_member-put_other q k d ms (differ q k other)
-    go (Some e) = get_member-at q (replaced k (united k e d) ms)
-        ∙ (at_replaced_other q k (united k e d) ms other ∙ sym (get_member-at q ms))
+    go (Some e) = get_member-replaced_other q k (united k e d) ms other
 
 -- ---- keywords of objects
 
@@ -101,7 +67,7 @@ keyword_at q ms e all h = go ms all (sym (get_member-at q ms) ∙ h)
     go : (ns : Members) → are_object_keywords ns ≡ true → at q ns ≡ Some e → is_object_keyword q e ≡ true
     go no_members all h = cc
     go (member k d ns) all h =
-        let parts = and-parts (is_object_keyword k d) (are_object_keywords ns) all in
+        let parts = and_parts (is_object_keyword k d) (are_object_keywords ns) all in
         step (bytes_eq q k) refl h parts.0 (go ns parts.1)
       where
         step : (b : Bool) → bytes_eq q k ≡ b → (if b then Some d else at q ns) ≡ Some e → is_object_keyword k d ≡ true
@@ -140,10 +106,6 @@ not_there k ms h = go (get_member k ms) h
 here_first : (q k : Text) (d : Data) (ms : Members) → bytes_eq q k ≡ true → get_member q (member k d ms) ≡ Some d
 here_first q k d ms is = get_member-at q (member k d ms) ∙ rw is refl
 
-here_later : (q k : Text) (d : Data) (ms : Members) → bytes_eq q k ≡ false
-    → get_member q (member k d ms) ≡ get_member q ms
-here_later q k d ms is = get_member-at q (member k d ms) ∙ rw is (sym (get_member-at q ms))
-
 keyword_put : (k : Text) (d : Data) (ms : Members) → is_object_keyword k d ≡ true
     → with_keyword k d ms ≡ with_united k d ms
 keyword_put k d ms h = rw (no_choice k d h) refl
@@ -152,8 +114,8 @@ pub keywords_at : (q : Text) (ns ms : Members) → are_object_keywords ns ≡ tr
     → get_member q (with_keywords ns ms) ≡ united_option q (get_member q ms) (get_member q ns)
 keywords_at q no_members ms all once = sym (united_none q (get_member q ms))
 keywords_at q (member k d ns) ms all once =
-    let plain = and-parts (is_object_keyword k d) (are_object_keywords ns) all in
-    let alone = and-parts (not (stands k ns)) (has_keys_once ns) once in
+    let plain = and_parts (is_object_keyword k d) (are_object_keywords ns) all in
+    let alone = and_parts (not (stands k ns)) (has_keys_once ns) once in
     let rest = keywords_at q ns (with_keyword k d ms) plain.1 alone.1 in
     rest ∙ (ap (λ x. united_option q (get_member q x) (get_member q ns)) (keyword_put k d ms plain.0)
     ∙ go (bytes_eq q k) refl (not_there k ns alone.0))
@@ -171,7 +133,7 @@ keywords_at q (member k d ns) ms all once =
         ∙ ap (united_option q (get_member q ms)) (sym (here_first q k d ns is))))
     go false is none =
         ap (λ o. united_option q o (get_member q ns)) (united_beside q k d ms is)
-        ∙ ap (united_option q (get_member q ms)) (sym (here_later q k d ns is))
+        ∙ ap (united_option q (get_member q ms)) (sym (get_member-later q k d ns is))
 
 -- ---- properties
 
@@ -184,7 +146,7 @@ pub properties_at : (q : Text) (ns ms : Members) → has_keys_once ns ≡ true
     → get_member q (put_members ns ms) ≡ either_option (get_member q ns) (get_member q ms)
 properties_at q no_members ms once = refl
 properties_at q (member k d ns) ms once =
-    let alone = and-parts (not (stands k ns)) (has_keys_once ns) once in
+    let alone = and_parts (not (stands k ns)) (has_keys_once ns) once in
     properties_at q ns (put k d ms) alone.1 ∙ go (bytes_eq q k) refl (not_there k ns alone.0)
   where
     go : (b : Bool) → bytes_eq q k ≡ b → get_member k ns ≡ None
@@ -199,7 +161,7 @@ properties_at q (member k d ns) ms once =
         ∙ (put_in ∙ ap (λ o. either_option o (get_member q ms)) (sym (here_first q k d ns is)))
     go false is none =
         ap (either_option (get_member q ns)) (get_member-put_other q k d ms (differ q k is))
-        ∙ ap (λ o. either_option o (get_member q ms)) (sym (here_later q k d ns is))
+        ∙ ap (λ o. either_option o (get_member q ms)) (sym (get_member-later q k d ns is))
 
 pub apart_at : (q : Text) (ms ns : Members) (d : Data) → are_apart ms ns ≡ true → get_member q ns ≡ Some d
     → get_member q ms ≡ None
@@ -208,7 +170,7 @@ apart_at q ms ns d apart h = go ns apart (sym (get_member-at q ns) ∙ h)
     go : (ls : Members) → are_apart ms ls ≡ true → at q ls ≡ Some d → get_member q ms ≡ None
     go no_members apart h = cc
     go (member k e ls) apart h =
-        let parts = and-parts (not (stands k ms)) (are_apart ms ls) apart in
+        let parts = and_parts (not (stands k ms)) (are_apart ms ls) apart in
         step (bytes_eq q k) refl h (not_there k ms parts.0) (go ls parts.1)
       where
         step : (b : Bool) → bytes_eq q k ≡ b → (if b then Some e else at q ls) ≡ Some d → get_member k ms ≡ None

@@ -9,9 +9,8 @@ use Rattle.serde_json.specs.View.{view, items_view, members_view}
 use Rattle.serde_json.specs.declared.value.Value.{Value}
 use Rattle.serde_json.proofs.Views.{Entry}
 use Rattle.schemars_schema.specs.Json.{Text}
-use Rattle.schemars_schema.specs.Edits.{removed}
-use Rattle.schemars_builders.specs.AllowNull.{with_item}
-use Rattle.schemars_builders.proofs.Nulls.{items_view-push}
+use Rattle.schemars_schema.specs.Edits.{removed, with_item}
+use Rattle.schemars_schema.proofs.Lists.{items_view-push}
 use Rattle.schemars_flatten.specs.Flatten.{flattened}
 use Rattle.schemars_flatten.proofs.Parts.{without_missing}
 use Rattle.schemars_flatten.specs.Parts.{is_empty_object, holds_empty_object, with_empty_object, one_or_anything}

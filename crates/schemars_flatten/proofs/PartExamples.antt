@@ -1,32 +1,15 @@
 -- What documents become as parts of others, computed. The keys of an object stand in order.
 use Rattle.std.proofs.Common.{◌≡◌, List, [], ◌∷◌, true, false, refl}
-use Rattle.std.specs.Prelude.{codes}
 use Prim.Native.String.{String}
-use Rattle.serde_json.specs.Data.{Data, null, boolean, string, array, object, Members, no_members, member}
-use Rattle.serde_json.specs.View.{items_of}
+use Rattle.serde_json.specs.Data.{Data, null, boolean, object, no_members}
+use Rattle.schemars_schema.proofs.JsonLiterals.{text, list, entry, one, empty}
 use Rattle.schemars_walk.specs.Rewritten.{forms, in_items, in_names, in_keywords}
-use Rattle.schemars_flatten.specs.Flatten.{alone}
 use Rattle.schemars_flatten.specs.Opening.{closed_in, closed_in_items, closed_in_keywords, opened, opened_inside}
 use Rattle.schemars_flatten.specs.Opening.{closes_inside}
 use Rattle.schemars_flatten.specs.Opening.{stands_in_place}
 use Rattle.schemars_flatten.specs.Parts.{flattened_part}
 
 -- ---- JSON in short
-
-abbrev text : String → Data
-text s = string (codes s)
-
-abbrev list : List Data → Data
-list ds = array (items_of ds)
-
-abbrev entry : String → Data → Members → Members
-entry k d ms = member (codes k) d ms
-
-abbrev one : String → Data → Data
-one k d = alone (codes k) d
-
-abbrev empty : Data
-empty = object no_members
 
 abbrev yes : Data
 yes = boolean true

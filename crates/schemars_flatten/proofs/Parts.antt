@@ -3,6 +3,7 @@ use Rattle.std.proofs.Common.{◌≡◌, List, [], ◌∷◌, ◌++◌, Option, 
 use Rattle.std.proofs.Common.{Greater}
 use Rattle.std.proofs.Common.{refl, sym, ap, ◌∙◌, is_eq, true≢false, nat_cmp, string_bytes}
 use Rattle.std.proofs.lemmas.Map.Text.{is_eq-slice_cmp}
+use Rattle.std.proofs.Math.Bool.{or-false}
 use Rattle.std.specs.Prelude.{◌||◌, bytes_eq, if◌then◌else◌, codes}
 use Rattle.std.specs.Ordering.{match_ordering}
 use Rattle.std.specs.Cmp.Lexicographic.{slice_cmp}
@@ -19,7 +20,6 @@ use Rattle.schemars_schema.specs.SchemaData.{members_in, put_members}
 use Rattle.schemars_schema.specs.Edits.{replaced, without}
 use Rattle.schemars_schema.specs.Acceptance.{both_some}
 use Rattle.schemars_schema.proofs.MapEdits.{members_view-set_value}
-use Rattle.schemars_builders.proofs.NullKeywords.{or-false}
 use Rattle.schemars_flatten.specs.Flatten.{moved, appended, is_joined, joined, is_merged, merged, united, with_united}
 use Rattle.schemars_flatten.specs.Flatten.{both_choices, with_choice}
 use Rattle.schemars_flatten.specs.Flatten.{opened, opened_schema, united_all, flattened}

@@ -1,13 +1,13 @@
 -- Schemas of objects that let further members in stay as they are.
 use Rattle.std.proofs.Common.{◌≡◌, Option, Some, None, Bool, true, false, refl, sym, ap, ◌∙◌, true≢false}
 use Rattle.std.proofs.lemmas.Slice.Eq.{bytes_eq-Decides}
+use Rattle.std.proofs.lemmas.Bool.{and_parts}
 use Rattle.std.specs.Prelude.{bytes_eq, codes, option_and_then}
 use Rattle.serde_json.specs.Data.{Data, null, boolean, number, string, array, object, Members, no_members, member}
 use Rattle.serde_json.specs.Find.{get_member, as_str}
 use Rattle.schemars_schema.specs.Json.{Text}
 use Rattle.schemars_schema.specs.References.{NoSchemas}
-use Rattle.schemars_builders.specs.AllowNull.{is_text}
-use Rattle.schemars_builders.proofs.NullMembers.{and-parts}
+use Rattle.schemars_schema.specs.Edits.{is_text}
 use Rattle.schemars_flatten.specs.FlattenLaw.{has_keys_once, is_object_keyword, are_object_keywords, is_object_schema}
 use Rattle.schemars_flatten.proofs.Lookups.{keyword_at, lacks}
 use Rattle.schemars_walk.specs.Rewritten.{forms, in_keywords}
@@ -41,7 +41,7 @@ keywords_stay : (ms : Members) → are_object_keywords ms ≡ true → in_keywor
 unfolding in_keywords
 keywords_stay no_members all = refl
 keywords_stay (member k d ms) all =
-    let parts = and-parts (is_object_keyword k d) (are_object_keywords ms) all in
+    let parts = and_parts (is_object_keyword k d) (are_object_keywords ms) all in
     rw (no_place k d parts.0, keywords_stay ms parts.1) refl
 
 here_stays : (ms : Members) → are_object_keywords ms ≡ true → opened_here (object ms) ≡ object ms
@@ -76,7 +76,7 @@ units_stay ms all =
 
 pub open_object_stays : (s : Data) → is_object_schema s ≡ true → flattened_part false s ≡ s
 open_object_stays (object ms) h =
-    let all = (and-parts (are_object_keywords ms) (has_keys_once ms) h).0 in
+    let all = (and_parts (are_object_keywords ms) (has_keys_once ms) h).0 in
     ap opened (units_stay ms all) ∙ opened_stays ms all
 open_object_stays null h = absurd (true≢false (sym h))
 open_object_stays (boolean b) h = absurd (true≢false (sym h))
@@ -86,7 +86,7 @@ open_object_stays (array ds) h = absurd (true≢false (sym h))
 
 pub open_object_stays_inside : (s : Data) → is_object_schema s ≡ true → opened_inside s ≡ s
 open_object_stays_inside (object ms) h =
-    ap object (keywords_stay ms (and-parts (are_object_keywords ms) (has_keys_once ms) h).0)
+    ap object (keywords_stay ms (and_parts (are_object_keywords ms) (has_keys_once ms) h).0)
 open_object_stays_inside null h = absurd (true≢false (sym h))
 open_object_stays_inside (boolean b) h = absurd (true≢false (sym h))
 open_object_stays_inside (number n) h = absurd (true≢false (sym h))

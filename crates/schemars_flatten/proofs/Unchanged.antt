@@ -1,26 +1,22 @@
 -- Where nothing inside a schema refuses further members, opening takes nothing out.
-use Rattle.std.proofs.Common.{◌≡◌, Bool, true, false, refl, ap, ◌∙◌, true≢false}
+use Rattle.std.proofs.Common.{◌≡◌, Bool, true, false, refl, ap, ◌∙◌}
+use Rattle.std.proofs.lemmas.Bool.{or_parts}
 use Rattle.std.specs.Prelude.{◌||◌, codes, if◌then◌else◌}
 use Rattle.serde_json.specs.Data.{Data, null, boolean, number, string, array, object, Items, no_items, item, Members}
 use Rattle.serde_json.specs.Data.{no_members, member}
 use Rattle.schemars_schema.specs.Json.{Text}
 use Rattle.schemars_schema.specs.OrderedText.{is_listed}
-use Rattle.schemars_schema.specs.References.{NoSchemas, OneSchema, SchemaList}
-use Rattle.schemars_transform.specs.Unevaluated.{with_same_object, with_same_objects}
+use Rattle.schemars_schema.specs.References.{NoSchemas, OneSchema, SchemaList, with_same_object, with_same_objects}
 use Rattle.schemars_walk.specs.Rewritten.{form_at, forms, in_items, in_keywords}
 use Rattle.schemars_flatten.specs.Opening.{closes_by, closes, opened_at, opened_here, same_object_place, opening}
 use Rattle.schemars_flatten.specs.Opening.{opened}
 use Rattle.schemars_flatten.specs.Opening.{opened_inside, closed_at, closed_in, closed_in_items, closed_in_keywords}
 use Rattle.schemars_flatten.specs.Opening.{closes_inside, has_type, stands_in_place}
 
-either_false : (a b : Bool) → a || b ≡ false → (a ≡ false) × (b ≡ false)
-either_false true b h = absurd (true≢false h)
-either_false false b h = (refl, h)
-
 here_unchanged : (s : Data) → closes s ≡ false → opened_here s ≡ s
 here_unchanged s h =
     let each =
-    either_false (closes_by (codes "additionalProperties") s) (closes_by (codes "unevaluatedProperties") s) h in
+    or_parts (closes_by (codes "additionalProperties") s) (closes_by (codes "unevaluatedProperties") s) h in
     let first : opened_at (codes "additionalProperties") s ≡ s = rw (each.0) refl in
     let second : opened_at (codes "unevaluatedProperties") s ≡ s = rw (each.1) refl in
     ap (opened_at (codes "unevaluatedProperties")) first ∙ second
@@ -48,13 +44,13 @@ mutual
   schema_unchanged (string t) h = refl
   schema_unchanged (array ds) h = refl
   schema_unchanged (object ms) h =
-      let each = either_false (closes (object ms)) (closed_in_keywords ms) h in
+      let each = or_parts (closes (object ms)) (closed_in_keywords ms) h in
       ap (λ x. opened_here (object x)) (keywords_unchanged ms each.1) ∙ here_unchanged (object ms) each.0
 
   items_unchanged : (ds : Items) → closed_in_items ds ≡ false → in_items opening tt ds ≡ ds
   items_unchanged no_items h = refl
   items_unchanged (item d ds) h =
-      let each = either_false (closed_in d).in_schema (closed_in_items ds) h in
+      let each = or_parts (closed_in d).in_schema (closed_in_items ds) h in
       rw (schema_unchanged d each.0, items_unchanged ds each.1) refl
 
   list_unchanged : (d : Data) → (closed_in d).in_list ≡ false → (forms opening tt d).as_list ≡ d
@@ -68,7 +64,7 @@ mutual
   keywords_unchanged : (ms : Members) → closed_in_keywords ms ≡ false → in_keywords opening tt ms ≡ ms
   keywords_unchanged no_members h = refl
   keywords_unchanged (member k d ms) h =
-      let each = either_false (closed_at k (closed_in d)) (closed_in_keywords ms) h in
+      let each = or_parts (closed_at k (closed_in d)) (closed_in_keywords ms) h in
       rw (
         keyword_unchanged k d (λ f. schema_unchanged d f) (λ f. list_unchanged d f) each.0,
         keywords_unchanged ms each.1,
@@ -85,6 +81,6 @@ inside_unchanged (object ms) h = ap object (keywords_unchanged ms h)
 -- so a reference may stand for the document
 pub reference_unchanged : (inline : Bool) (s : Data) → stands_in_place inline s ≡ false → opened_inside s ≡ s
 reference_unchanged inline s h =
-    let rest = (either_false inline (has_type (codes "null") s || (closes s || closes_inside s)) h).1 in
-    let closed = (either_false (has_type (codes "null") s) (closes s || closes_inside s) rest).1 in
-    inside_unchanged s (either_false (closes s) (closes_inside s) closed).1
+    let rest = (or_parts inline (has_type (codes "null") s || (closes s || closes_inside s)) h).1 in
+    let closed = (or_parts (has_type (codes "null") s) (closes s || closes_inside s) rest).1 in
+    inside_unchanged s (or_parts (closes s) (closes_inside s) closed).1

@@ -9,13 +9,13 @@ use Rattle.serde_json.specs.View.{view, items_view}
 use Rattle.serde_json.specs.declared.value.Value.{Value}
 use Rattle.schemars_schema.specs.Json.{Text}
 use Rattle.schemars_schema.specs.Edits.{removed}
+use Rattle.schemars_schema.proofs.Lists.{nothing_left, from_here}
 use Rattle.schemars_flatten.specs.Flatten.{appended}
 use Rattle.schemars_flatten.proofs.Parts.{appended_none, appended_more}
 use Rattle.schemars_flatten.specs.Opening.{has_type}
 use Rattle.schemars_flatten.specs.Parts.{unit_object, unit_object_first, unit_objects, units_of, with_units}
 use Rattle.schemars_flatten.specs.Parts.{first_as_objects}
 use Rattle.schemars_flatten.specs.Parts.{list_changed_at, units_as_objects}
-use Rattle.schemars_flatten.proofs.Lists.{from_here, nothing_at}
 
 appended_assoc : (a b c : Items) → appended (appended a b) c ≡ appended a (appended b c)
 appended_assoc no_items b c = refl
@@ -58,7 +58,7 @@ unit_turn xs i x all done next within is step before =
 pub units_end : (xs : List Value) (i : ℕ) (all done : Items) → length xs ≤ i
     → appended done (unit_objects (items_view (drop i xs))) ≡ all → done ≡ all
 units_end xs i all done end before =
-    sym (appended_none done) ∙ (ap (λ ds. appended done (unit_objects ds)) (sym (nothing_at xs i end)) ∙ before)
+    sym (appended_none done) ∙ (ap (λ ds. appended done (unit_objects ds)) (sym (nothing_left xs i end)) ∙ before)
 
 -- ---- in a schema
 
@@ -72,20 +72,6 @@ units_missing s new missing made = made ∙ go (units_of s) missing
     ]
     go None h = refl
     go (Some units) h = cc
-
-pub units_there : (s new : Data) (units : Items) → Some units ≡ units_of s
-    → new ≡ with_units units (removed (codes "type") (removed (codes "enum") s)) → new ≡ units_as_objects s
-units_there s new units found made = made ∙ go (units_of s) found
-  where
-    go : (o : Option Items) → Some units ≡ o
-        → with_units units (removed (codes "type") (removed (codes "enum") s)) ≡ elim o [
-          | None ↦ list_changed_at (codes "oneOf") first_as_objects s
-          | Some others ↦ with_units others (removed (codes "type") (removed (codes "enum") s))
-        ]
-    go None h = cc
-    go (Some others) h =
-        let same : units ≡ others = cc in
-        ap (λ x. with_units x (removed (codes "type") (removed (codes "enum") s))) same
 
 pub no_units : (s : Data) → has_type (codes "string") s ≡ false → None ≡ units_of s
 no_units s h =

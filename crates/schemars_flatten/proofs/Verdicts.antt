@@ -4,6 +4,7 @@ use Rattle.std.proofs.Common.{Greater}
 use Rattle.std.proofs.Common.{refl, sym, ap, ◌∙◌, is_eq, true≢false, nat_cmp, option_map}
 use Rattle.std.proofs.lemmas.Map.Text.{is_eq-slice_cmp}
 use Rattle.std.proofs.lemmas.Slice.Eq.{bytes_eq-Decides}
+use Rattle.std.proofs.lemmas.Bool.{and_parts}
 use Rattle.std.specs.Prelude.{◌&&◌, bytes_eq, codes, if◌then◌else◌, is_some, option_and_then}
 use Rattle.std.specs.Ordering.{match_ordering}
 use Rattle.std.specs.Cmp.Lexicographic.{slice_cmp}
@@ -16,38 +17,14 @@ use Rattle.schemars_schema.specs.Verdict.{Verdict, Yes, No, Open, both, verdict}
 use Rattle.schemars_schema.specs.Acceptance.{Context, Judge, judge, read_data, read_members, all_named, where_some}
 use Rattle.schemars_schema.specs.Acceptance.{schema_named, each_member, texts_in, have_all, type_says, required_says}
 use Rattle.schemars_schema.specs.Acceptance.{properties_say}
-use Rattle.schemars_schema.proofs.Verdicts.{both-yes, both-verdict}
+use Rattle.schemars_schema.proofs.Verdicts.{both-yes, both-verdict, both-middle, each_agree}
 use Rattle.schemars_schema.proofs.Objects.{schema-judge}
-use Rattle.schemars_builders.specs.AllowNull.{is_text}
-use Rattle.schemars_builders.proofs.NullMembers.{and-parts}
+use Rattle.schemars_schema.specs.Edits.{is_text}
 use Rattle.schemars_flatten.specs.Flatten.{appended}
 use Rattle.schemars_flatten.specs.FlattenLaw.{has_keys_once, are_schemas, are_schemas_by_name, are_texts, are_apart}
 use Rattle.schemars_flatten.proofs.Lookups.{united_option, either_option, properties_at, apart_at}
 
 -- ---- verdicts
-
-both-swap : (x y : Verdict) → both x y ≡ both y x
-both-swap Yes y = sym (both-yes y)
-both-swap x Yes = both-yes x
-both-swap No No = refl
-both-swap No Open = refl
-both-swap Open No = refl
-both-swap Open Open = refl
-
-both-group : (x y z : Verdict) → both (both x y) z ≡ both x (both y z)
-both-group Yes y z = refl
-both-group Open y z = refl
-both-group No Yes z = refl
-both-group No Open z = refl
-both-group No No Yes = refl
-both-group No No No = refl
-both-group No No Open = refl
-
-pub both-pairs : (a b x y : Verdict) → both (both a b) (both x y) ≡ both (both a x) (both b y)
-both-pairs a b x y =
-    both-group a b (both x y)
-    ∙ (ap (both a) (sym (both-group b x y) ∙ (ap (λ z. both z y) (both-swap b x) ∙ both-group x b y))
-    ∙ sym (both-group a x (both b y)))
 
 both-same : (x : Verdict) → x ≡ both x x
 both-same Yes = refl
@@ -160,7 +137,7 @@ schemas_put : (k : Text) (d : Data) (ms : Members) → is_schema d ≡ true → 
     → are_schemas (put k d ms) ≡ true
 schemas_put k d no_members i h = rw i refl
 schemas_put k d (member l e ms) i h =
-    go (slice_cmp nat_cmp k l) (and-parts (is_schema e) (are_schemas ms) h) (schemas_put k d ms i)
+    go (slice_cmp nat_cmp k l) (and_parts (is_schema e) (are_schemas ms) h) (schemas_put k d ms i)
   where
     go : (o : Ordering) → (is_schema e ≡ true) × (are_schemas ms ≡ true)
         → (are_schemas ms ≡ true → are_schemas (put k d ms) ≡ true)
@@ -173,7 +150,7 @@ schemas_merged : (qs ps : Members) → are_schemas qs ≡ true → are_schemas p
     → are_schemas (put_members qs ps) ≡ true
 schemas_merged no_members ps h i = i
 schemas_merged (member k d qs) ps h i =
-    let parts = and-parts (is_schema d) (are_schemas qs) h in
+    let parts = and_parts (is_schema d) (are_schemas qs) h in
     schemas_merged qs (put k d ps) parts.1 (schemas_put k d ps parts.0 i)
 
 -- the schemas under names, as they judge
@@ -186,7 +163,7 @@ read_names : (c : Context) (ms : Members) → are_schemas ms ≡ true
 unfolding read_data judges_under
 read_names c no_members h = refl
 read_names c (member k d ms) h =
-    let parts = and-parts (is_schema d) (are_schemas ms) h in
+    let parts = and_parts (is_schema d) (are_schemas ms) h in
     rw (schema-judge c d (schema_is d parts.0), read_names c ms parts.1)
 
 -- what the schema that stands there says
@@ -213,17 +190,12 @@ asked_under c (member l d ms) k w =
     (is_eq-slice_cmp k l)
     (asked_under c ms k w)
 
-each_same : (f g : Text → Data → Verdict) → ((k : Text) (w : Data) → f k w ≡ g k w) → (ms : Members)
-    → each_member f ms ≡ each_member g ms
-each_same f g same no_members = refl
-each_same f g same (member k w ms) = λ i. both (same k w i) (each_same f g same ms i)
-
 each_both : (f g h : Text → Data → Verdict) → ((k : Text) (w : Data) → f k w ≡ both (g k w) (h k w)) → (ms : Members)
     → each_member f ms ≡ both (each_member g ms) (each_member h ms)
 each_both f g h same no_members = refl
 each_both f g h same (member k w ms) =
     (λ i. both (same k w i) (each_both f g h same ms i))
-    ∙ both-pairs (g k w) (h k w) (each_member g ms) (each_member h ms)
+    ∙ both-middle (g k w) (h k w) (each_member g ms) (each_member h ms)
 
 where_same : (o : Option Members) (f g : Members → Verdict) → ((ms : Members) → f ms ≡ g ms)
     → where_some o f ≡ where_some o g
@@ -235,12 +207,12 @@ properties_ask : (c : Context) (ps : Members) → are_schemas ps ≡ true → (v
     ≡ where_some (as_object v) (λ ms. each_member (λ k w. asked c (get_member k ps) w) ms)
 unfolding read_data
 properties_ask c ps h v =
-    rw (read_names c ps h) (where_same (as_object v) _ _ (λ ms. each_same _ _ (λ k w. asked_under c ps k w) ms))
+    rw (read_names c ps h) (where_same (as_object v) _ _ (λ ms. each_agree _ _ (λ k w. asked_under c ps k w) ms))
 
 named_schemas : (d : Data) → are_schemas_by_name d ≡ true
     → (ms : Members) × (d ≡ object ms) × (are_schemas ms ≡ true) × (has_keys_once ms ≡ true)
 named_schemas (object ms) h =
-    let parts = and-parts (are_schemas ms) (has_keys_once ms) h in (ms, refl, parts.0, parts.1)
+    let parts = and_parts (are_schemas ms) (has_keys_once ms) h in (ms, refl, parts.0, parts.1)
 named_schemas null h = absurd (true≢false (sym h))
 named_schemas (boolean b) h = absurd (true≢false (sym h))
 named_schemas (number n) h = absurd (true≢false (sym h))

@@ -8,7 +8,7 @@ use Rattle.schemars_schema.specs.SchemaData.{is_schema}
 use Rattle.schemars_schema.specs.Annotations.{is_annotation}
 use Rattle.schemars_schema.specs.Verdict.{both}
 use Rattle.schemars_schema.specs.Acceptance.{Context, judge, texts_in}
-use Rattle.schemars_builders.specs.AllowNull.{is_text}
+use Rattle.schemars_schema.specs.Edits.{is_text}
 use Rattle.schemars_flatten.specs.Flatten.{stands}
 
 -- each key once, as in a map

@@ -6,9 +6,8 @@ use Rattle.serde_json.specs.Data.{no_members, member}
 use Rattle.serde_json.specs.Find.{get, as_str, as_array}
 use Rattle.schemars_schema.specs.Json.{Text}
 use Rattle.schemars_schema.specs.SchemaData.{members_in, object_of}
-use Rattle.schemars_schema.specs.Edits.{removed, replaced}
-use Rattle.schemars_builders.specs.AllowNull.{null_schema, with_item}
-use Rattle.schemars_builders.specs.Properties.{changed_at}
+use Rattle.schemars_schema.specs.Edits.{removed, replaced, with_item, changed_at}
+use Rattle.schemars_builders.specs.AllowNull.{null_schema}
 use Rattle.schemars_flatten.specs.Flatten.{appended, alone, flattened}
 use Rattle.schemars_flatten.specs.Opening.{has_type, opened}
 

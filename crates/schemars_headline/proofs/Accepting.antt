@@ -5,6 +5,7 @@ use Rattle.serde_json.specs.Find.{get_member}
 use Rattle.schemars_schema.specs.Json.{Text}
 use Rattle.schemars_schema.specs.Acceptance.{Dialect, Patterns, draft2020_12, draft2019_09, draft07, accepts}
 use Rattle.schemars_schema.specs.Acceptance.{count_of_definitions}
+use Rattle.schemars_schema.proofs.Members.{differ}
 use Rattle.schemars_types.specs.Rows.{Row}
 use Rattle.schemars_types.specs.declared.contract.Contract.{Contract}
 use Rattle.schemars_types.specs.Faults.{IsChecked}
@@ -22,7 +23,6 @@ use Rattle.schemars_laws.specs.Names.{IsName, Named, IsMap}
 use Rattle.schemars_laws.specs.Classes.{IsDraft07, HasPlainItems}
 use Rattle.schemars_laws.specs.Laws.{MovesAcceptance, for_draft07, for_draft2019_09}
 use Rattle.schemars_laws.proofs.Preserved.{weaker}
-use Rattle.schemars_laws.proofs.Apart.{differ}
 use Rattle.schemars_laws.proofs.Drafts.{draft07-law, draft2019_09-law}
 use Rattle.schemars_headline.specs.Dialects.{AcceptsItsValuesUnder}
 use Rattle.schemars_headline.proofs.Classes.{good-named}

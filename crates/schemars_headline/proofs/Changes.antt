@@ -10,17 +10,17 @@ use Rattle.schemars_schema.specs.Json.{Text}
 use Rattle.schemars_schema.specs.OrderedText.{is_listed}
 use Rattle.schemars_schema.specs.SchemaData.{IsSchema, members_in, put_members}
 use Rattle.schemars_schema.specs.Annotations.{is_annotation, AreNotes}
-use Rattle.schemars_schema.specs.Edits.{without}
+use Rattle.schemars_schema.specs.Edits.{without, holds_text, with_item}
 use Rattle.schemars_schema.specs.References.{NoSchemas, place_under, with_schema, with_list, with_names}
 use Rattle.schemars_schema.specs.Acceptance.{is_null}
 use Rattle.schemars_schema.proofs.Objects.{annotation-not_listed}
-use Rattle.schemars_builders.specs.AllowNull.{is_null_choice, is_combined, or_null, allow_null, type_with_null, null_in_type, holds_text, with_item}
+use Rattle.schemars_schema.proofs.Members.{differ}
+use Rattle.schemars_builders.specs.AllowNull.{is_null_choice, is_combined, or_null, allow_null, type_with_null, null_in_type}
 use Rattle.schemars_builders.specs.AllowNull.{enum_with_null, null_in_enum, const_or_null, null_in_const, null_in_values}
 use Rattle.schemars_documents.specs.Documents.{annotated}
 use Rattle.schemars_meaning.proofs.MapDocument.{noted_by, AllNotes}
 use Rattle.schemars_laws.specs.Everywhere.{Everywhere, asked, asked_at, asked_of_keywords}
 use Rattle.schemars_laws.specs.Classes.{IsSchemaList, AreTexts, is_null_alone, IsConstAlone}
-use Rattle.schemars_laws.proofs.Apart.{differ}
 use Rattle.schemars_laws.specs.Stages.{Stands, IsForOpenApi, AreSomeTypes}
 use Rattle.schemars_laws.proofs.Editing.{without-put, alike-put, once-put, absent-once, type-alike, values-alike, const-alike, stands-alike}
 use Rattle.schemars_laws.proofs.Looked.{without-other}

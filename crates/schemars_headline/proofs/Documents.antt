@@ -12,10 +12,11 @@ use Rattle.serde_json.specs.View.{items_of}
 use Rattle.schemars_schema.specs.Json.{Text}
 use Rattle.schemars_schema.specs.OrderedText.{is_listed}
 use Rattle.schemars_schema.specs.SchemaData.{IsSchema, object_of, put_all}
-use Rattle.schemars_schema.specs.Edits.{without}
+use Rattle.schemars_schema.specs.Edits.{without, holds_text}
 use Rattle.schemars_schema.specs.Literal.{is_plain_member, ArePlainMembers, IsPlainLiteral, IsPlainObject, names_types, is_null_type}
 use Rattle.schemars_schema.specs.References.{NoSchemas, place_under, with_schema, with_list, with_names}
 use Rattle.schemars_schema.proofs.Literals.{plain_at}
+use Rattle.schemars_schema.proofs.Members.{get_member-member as get_member-first}
 use Rattle.schemars_builders.specs.NullLaw.{zero_schema}
 use Rattle.schemars_builders.specs.Variants.{unit_variant}
 use Rattle.schemars_shapes.specs.IntKind.{format_of}
@@ -47,9 +48,7 @@ use Rattle.std.specs.List.{list_all}
 use Rattle.serde_json.specs.Events.{items_len}
 use Rattle.schemars_schema.specs.Json.{are_distinct}
 use Rattle.schemars_schema.specs.Acceptance.{texts_in, when, are_type_names}
-use Rattle.schemars_builders.specs.AllowNull.{holds_text}
 use Rattle.schemars_transform.specs.Nullable.{all_null}
-use Rattle.schemars_laws.proofs.Looked.{get_member-first}
 use Rattle.schemars_laws.proofs.Preserved.{schema-no_list}
 use Rattle.schemars_headline.proofs.Changes.{place-none, asked-nothing, Class, AreGood, are-put, are-types, are-const, are-enum}
 use Rattle.schemars_headline.proofs.Changes.{nothing, IsGood, good, good_truth, good-annotated, good-noted_by}

@@ -14,12 +14,12 @@ use Rattle.schemars_schema.specs.Json.{Text}
 use Rattle.schemars_schema.specs.SchemaData.{put_members, members_in, put_all, object_of}
 use Rattle.schemars_schema.proofs.Contents.{members_have_float-put}
 use Rattle.schemars_builders.specs.AllowNull.{is_null_choice, is_combined, or_null, allow_null, type_with_null}
-use Rattle.schemars_builders.specs.AllowNull.{null_in_type, with_item, holds_text, holds_null, enum_with_null}
+use Rattle.schemars_builders.specs.AllowNull.{null_in_type, holds_null, enum_with_null}
 use Rattle.schemars_builders.specs.AllowNull.{null_in_enum, const_or_null, null_in_const, null_in_values}
 use Rattle.schemars_schema.specs.Acceptance.{is_null}
 use Rattle.schemars_builders.specs.NullLaw.{zero_schema, text_items}
 use Rattle.schemars_builders.specs.Properties as properties
-use Rattle.schemars_builders.specs.Properties.{with_member, with_first, changed_at, put_missing, closed_where}
+use Rattle.schemars_builders.specs.Properties.{closed_where}
 use Rattle.schemars_builders.specs.Properties.{has_null_type, internally_tagged_variant}
 use Rattle.schemars_builders.specs.Variants.{unit_variant}
 use Rattle.schemars_shapes.specs.IntKind.{format_of}
@@ -48,7 +48,7 @@ use Rattle.schemars_documents.specs.Describes.{IsWritten, Describes}
 use Rattle.schemars_flatten.proofs.Floats.{flattened-whole, flattened_part-whole, opened_inside-whole}
 use Rattle.schemars_documents.specs.PlainTable.{FieldsHaveNoFloat, PayloadHasNoFloat, VariantsHaveNoFloat, ShapeHasNoFloat}
 use Rattle.schemars_documents.specs.PlainTable.{EntryHasNoFloat, HasNoFloat}
-use Rattle.schemars_schema.specs.Edits.{without, replaced}
+use Rattle.schemars_schema.specs.Edits.{without, replaced, with_item, holds_text, with_member, with_first, changed_at, put_missing}
 use Rattle.schemars_schema.specs.Placing.{placed, placed_at, tokens_of}
 use Rattle.schemars_shapes.specs.Units.{is_bare_unit}
 use Rattle.schemars_build.specs.Work.{Plan, Work, basis_of}

@@ -11,10 +11,10 @@ use Rattle.serde_json.specs.Data.{member, put}
 use Rattle.serde_json.specs.Find.{get, get_member}
 use Rattle.serde_json.proofs.Views.{get_member-put_other}
 use Rattle.schemars_schema.specs.Json.{Text}
-use Rattle.schemars_schema.specs.Edits.{without, replaced, removed}
+use Rattle.schemars_schema.specs.Edits.{without, replaced, removed, with_member, with_first, changed_at}
 use Rattle.schemars_schema.specs.SchemaData.{members_in}
 use Rattle.schemars_builders.specs.Variants.{unit_variant}
-use Rattle.schemars_builders.specs.Properties.{with_member, with_first, changed_at, tagged, closed_where, has_null_type}
+use Rattle.schemars_builders.specs.Properties.{tagged, closed_where, has_null_type}
 use Rattle.schemars_builders.specs.Properties.{internally_tagged_variant}
 use Rattle.schemars_flatten.specs.Flatten as flatten
 use Rattle.schemars_flatten.specs.Flatten.{stands, has_subschema, moved, moved_beside, opened_schema, united, with_united}

@@ -5,12 +5,12 @@ use Rattle.serde_json.specs.Data.{Data, object, Members}
 use Rattle.serde_json.specs.Find.{get_member}
 use Rattle.serde_json.specs.Events.{members_len}
 use Rattle.schemars_schema.specs.Edits.{without}
+use Rattle.schemars_schema.proofs.Members.{differ}
 use Rattle.schemars_transform.specs.Built.{reference_moved, without_siblings, remove_ref_siblings}
 use Rattle.schemars_laws.specs.Everywhere.{asked, asked_of_keywords}
 use Rattle.schemars_laws.specs.Classes.{IsOnce, IsReferenceAlone}
 use Rattle.schemars_laws.specs.Laws.{LeavesReferencesAlone}
 use Rattle.schemars_laws.proofs.Looked.{change_rules, walked, once-walked}
-use Rattle.schemars_laws.proofs.Apart.{differ}
 use Rattle.schemars_laws.proofs.Siblings.{schema-siblings, get-moved}
 use Rattle.schemars_laws.proofs.Preserved.{Preserves, after, change-preserves, asked-without}
 use Rattle.schemars_laws.proofs.Editing.{asked-moved}

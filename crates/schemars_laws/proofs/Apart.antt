@@ -1,8 +1,7 @@
 -- The keywords of which dialects read some in another way, apart from all others.
 use Rattle.std.proofs.Common.{◌≡◌, ◌≢◌, List, [], ◌∷◌, Option, Bool, true, false, codes, option_map, refl, sym, ap, ◌∙◌, true≢false}
 use Rattle.std.proofs.Math.Path.{fun_ext}
-use Rattle.std.proofs.lemmas.Slice.Eq.{bytes_eq-Decides}
-use Rattle.std.specs.Prelude.{bytes_eq, ◌++◌, if◌then◌else◌, ◌||◌, ◌&&◌, not}
+use Rattle.std.specs.Prelude.{◌++◌, if◌then◌else◌, ◌||◌, ◌&&◌, not}
 use Rattle.serde_json.specs.Data.{Data, object, Members}
 use Rattle.serde_json.specs.Find.{get_member}
 use Rattle.schemars_schema.specs.Json.{Text}
@@ -77,7 +76,8 @@ fits-apart c raw read v =
 abbrev pub four : List Text
 four = codes "type" ∷ codes "nullable" ∷ codes "const" ∷ codes "enum" ∷ codes "prefixItems" ∷ codes "items" ∷ codes "additionalItems" ∷ []
 
-others-left_out : (c : Context) (raw : Raw) (read : Readings) (v : Data) → others_say c (left_out four raw) (left_out four read) v ≡ others_say c raw read v
+others-left_out : (c : Context) (raw : Raw) (read : Readings) (v : Data)
+    → others_say c (left_out four raw) (left_out four read) v ≡ others_say c raw read v
 unfolding others_say
 others-left_out c raw read v = refl
 
@@ -94,7 +94,8 @@ others-agree c f g read reread v e h =
     ∙ (ap (λ x. others_say c (left_out four g) x v) (fun_ext (left_out-agree four read reread h))
     ∙ others-left_out c g reread v))
 
-pub judges-agree : (c : Context) (f g : Raw) (read reread : Readings) (v : Data) (k : Text) → AgreeOutside four f g → AgreeOutside four read reread
+pub judges-agree : (c : Context) (f g : Raw) (read reread : Readings) (v : Data) (k : Text) → AgreeOutside four f g
+    → AgreeOutside four read reread
     → (all_keywords c f read).judges v k ≡ (all_keywords c g reread).judges v k
 judges-agree c f g read reread v k e h =
     sym (judges-left_out c f read v k)
@@ -103,19 +104,23 @@ judges-agree c f g read reread v k e h =
     ∙ judges-left_out c g reread v k))
 
 -- Two dialects with the same keywords but for these four. What the four say is told once for all that the others may say.
-module _ (c : Context) (old new : Dialect) (siblings : new.judges_siblings ≡ old.judges_siblings) (unevaluated : new.reads_unevaluated ≡ old.reads_unevaluated)
+module _ (c : Context) (old new : Dialect) (siblings : new.judges_siblings ≡ old.judges_siblings)
+    (unevaluated : new.reads_unevaluated ≡ old.reads_unevaluated)
     (f g : Raw) (read reread : Readings) (e : AgreeOutside four g f) (h : AgreeOutside four reread read)
-    (same : (v : Data) (x : Verdict) → four_and (record c { dialect = new }) g reread v x ≡ four_and (record c { dialect = old }) f read v x) where
+    (same : (v : Data) (x : Verdict)
+    → four_and (record c { dialect = new }) g reread v x ≡ four_and (record c { dialect = old }) f read v x) where
   others-moved : (v : Data) → others_say (record c { dialect = new }) f read v ≡ others_say (record c { dialect = old }) f read v
   unfolding others_say
   others-moved v =
       ap (λ b. all_of (reference_says c.follow (f (codes "$ref")) v ∷ counts_say c f v
       ++ behind_items (record c { dialect = record old { reads_unevaluated = b } }) f read (judged_beside c f read v) v)) unevaluated
 
-  fits-moved : (v : Data) → (all_keywords (record c { dialect = new }) g reread).fits v ≡ (all_keywords (record c { dialect = old }) f read).fits v
+  fits-moved : (v : Data)
+      → (all_keywords (record c { dialect = new }) g reread).fits v ≡ (all_keywords (record c { dialect = old }) f read).fits v
   fits-moved v =
       fits-apart (record c { dialect = new }) g reread v
-      ∙ (ap (four_and (record c { dialect = new }) g reread v) (others-agree (record c { dialect = new }) g f reread read v e h ∙ others-moved v)
+      ∙ (ap (four_and (record c { dialect = new }) g reread v)
+      (others-agree (record c { dialect = new }) g f reread read v e h ∙ others-moved v)
       ∙ (same v (others_say (record c { dialect = old }) f read v)
       ∙ sym (fits-apart (record c { dialect = old }) f read v)))
 
@@ -131,24 +136,26 @@ module _ (c : Context) (old new : Dialect) (siblings : new.judges_siblings ≡ o
 
   pub keywords-moved : keywords (record c { dialect = new }) g reread ≡ keywords (record c { dialect = old }) f read
   keywords-moved =
-      ap (λ o. if not new.judges_siblings && is_reference o then reference_alone c (λ k. o) else all_keywords (record c { dialect = new }) g reread) reference-moved
-      ∙ (ap (λ b. if not b && is_reference (f (codes "$ref")) then reference_alone c f else all_keywords (record c { dialect = new }) g reread) siblings
-      ∙ ap (λ j. if not old.judges_siblings && is_reference (f (codes "$ref")) then reference_alone c f else j) (judge_ext _ _ fits-moved judges-moved))
+      ap (λ o. if not new.judges_siblings
+      && is_reference o then reference_alone c (λ k. o) else all_keywords (record c { dialect = new }) g reread) reference-moved
+      ∙ (ap (λ b. if not b
+      && is_reference (f (codes "$ref")) then reference_alone c f else all_keywords (record c { dialect = new }) g reread) siblings
+      ∙ ap (λ j. if not old.judges_siblings && is_reference (f (codes "$ref")) then reference_alone c f else j)
+      (judge_ext _ _ fits-moved judges-moved))
 
 -- ---- by look-ups
-
-pub differ : (k l : Text) → bytes_eq k l ≡ false → k ≢ l
-differ k l e same = true≢false (sym ((bytes_eq-Decides k l).1 same) ∙ e)
 
 -- a key outside the four is none of theirs
 pub outside : (k l : Text) → is_listed k four ≡ false → is_listed l four ≡ true → k ≢ l
 outside k l out in_four same = true≢false (sym in_four ∙ (ap (λ x. is_listed x four) (sym same) ∙ out))
 
 -- what the four say, by what stands under their keywords
-unfoldable pub four_of : Context → Dialect → Option Data → Option Data → Option Data → Option Data → Option Data → Option Data → Option Data → Data
+unfoldable pub four_of : Context → Dialect → Option Data → Option Data → Option Data → Option Data → Option Data → Option Data → Option Data
+    → Data
     → Verdict → Verdict
 four_of c d prefix items additional enum const type nullable v x =
-    both (items_say d.reads_prefix_items (option_map (read_data c) prefix) (option_map (read_data c) items) (option_map (read_data c) additional) v)
+    both (items_say d.reads_prefix_items (option_map (read_data c) prefix) (option_map (read_data c) items)
+    (option_map (read_data c) additional) v)
     (both (enum_says enum v) (both (const_says d.reads_const const v) (both (type_says d.reads_nullable type nullable v) x)))
 
 abbrev pub four_by : Context → Dialect → Raw → Data → Verdict → Verdict
@@ -171,7 +178,8 @@ pub says-moved : (c : Context) (old new : Dialect) (ms ns : Members) → c.diale
 unfolding read_data
 says-moved c old new ms ns is siblings unevaluated agree same =
     ap (λ d. keywords (record c { dialect = d }) (look_up ns) (reading_at (read_members c ns))) is
-    ∙ keywords-moved c old new siblings unevaluated (look_up ms) (look_up ns) (reading_at (read_members c ms)) (reading_at (read_members c ns))
+    ∙ keywords-moved c old new siblings unevaluated (look_up ms) (look_up ns) (reading_at (read_members c ms))
+    (reading_at (read_members c ns))
     agree
     (λ k other. reading_at-members c ns k ∙ (ap (option_map (read_data c)) (agree k other) ∙ sym (reading_at-members c ms k)))
     (λ v x. four-looked c new ns v x ∙ (same v x ∙ sym (four-looked c old ms v x)))

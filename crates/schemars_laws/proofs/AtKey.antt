@@ -45,7 +45,8 @@ module _ {R : Type 0} (ρ : Rules R) (r : R) (key : Text) (at : place_under key 
       go (inr e) = absurd e.1
 
   -- what stands under the key in the new document
-  now : (o : Option Data) → get_member key ms ≡ o → get_member key news ≡ option_map (λ d. form_at (ρ.place inner key d) d (forms ρ inner d)) o
+  now : (o : Option Data) → get_member key ms ≡ o
+      → get_member key news ≡ option_map (λ d. form_at (ρ.place inner key d) d (forms ρ inner d)) o
   now o is = (h.definitions (ρ.inside r (object ms)) (in_keywords ρ (ρ.inside r (object ms)) ms)).2
       ∙ (keywords_get ρ inner key ms ∙ ap (option_map (λ d. form_at (ρ.place inner key d) d (forms ρ inner d))) is)
 
@@ -61,7 +62,8 @@ module _ {R : Type 0} (ρ : Rules R) (r : R) (key : Text) (at : place_under key 
       go false = tt
 
   by_lookup : (t : Text) (o p : Option Data) → lookup t (object ms) ≡ o → lookup t (object news) ≡ p
-      → IsLed ρ P (option_and_then schema_only o) (option_and_then schema_only p) → IsLed ρ P (resolved (object ms) t) (resolved (object news) t)
+      → IsLed ρ P (option_and_then schema_only o) (option_and_then schema_only p)
+      → IsLed ρ P (resolved (object ms) t) (resolved (object news) t)
   unfolding resolved
   by_lookup t o p old_at new_at is =
       subst (λ x. IsLed ρ P (option_and_then schema_only x) (resolved (object news) t)) (sym old_at)
@@ -74,7 +76,8 @@ module _ {R : Type 0} (ρ : Rules R) (r : R) (key : Text) (at : place_under key 
   name-leads k t name (Some (object es)) there is =
       by_lookup t (get_member k es) (option_map (λ d. (forms ρ inner d).as_schema) (get_member k es)) (name.there ms es there)
       (name.there news (in_names ρ inner es) (now (Some (object es)) there ∙ ap Some (placed es)) ∙ names_get ρ inner k es)
-      (led (get_member k es) (all-members P es (subst (λ p. asked_at p (asked P (object es))) at (asked-get P key ms (object es) there a.1)) k))
+      (led (get_member k es)
+      (all-members P es (subst (λ p. asked_at p (asked P (object es))) at (asked-get P key ms (object es) there a.1)) k))
   name-leads k t name (Some null) there is = absurd is
   name-leads k t name (Some (boolean b)) there is = absurd is
   name-leads k t name (Some (number x)) there is = absurd is
@@ -84,7 +87,8 @@ module _ {R : Type 0} (ρ : Rules R) (r : R) (key : Text) (at : place_under key 
   key-leads : Leads ρ (IsName key) Q (object ms) (object news)
   key-leads t (inl is) =
       subst (λ o. IsLed ρ P o (resolved (object news) t)) (sym (ap (resolved (object ms)) is ∙ resolved-whole ms))
-      (subst (λ o. IsLed ρ P (Some (object ms)) o) (sym (ap (resolved (object news)) is ∙ resolved-whole news)) (a, (r, λ c. ap (judge c) (sym is-new))))
+      (subst (λ o. IsLed ρ P (Some (object ms)) o) (sym (ap (resolved (object news)) is ∙ resolved-whole news))
+      (a, (r, λ c. ap (judge c) (sym is-new))))
   key-leads t (inr (k, name)) = name-leads k t name (get_member key ms) refl map
 
 -- so the definitions may stand at one key

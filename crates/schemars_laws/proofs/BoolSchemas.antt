@@ -1,5 +1,6 @@
 -- Objects in place of truth values say the same.
 use Rattle.std.proofs.Common.{◌≡◌, ◌⊎◌, inl, inr, Some, None, Bool, true, false, [], ◌∷◌, codes, refl, ap, ◌∙◌}
+use Rattle.std.proofs.Math.Bool.{and-false}
 use Rattle.std.specs.Prelude.{bytes_eq, if◌then◌else◌, ◌&&◌, not, is_some}
 use Rattle.serde_json.specs.Data.{Data, null, boolean, number, string, array, object, Members, no_members, member}
 use Rattle.serde_json.specs.Find.{as_bool}
@@ -16,7 +17,7 @@ use Rattle.schemars_laws.proofs.Kept.{IsTruth}
 use Rattle.schemars_laws.proofs.Moved.{Moves}
 use Rattle.schemars_laws.proofs.Examples.{same-dialect}
 use Rattle.schemars_schema.proofs.Verdicts.{both-yes}
-use Rattle.schemars_laws.proofs.Siblings.{items-none, const-none, unevaluated-none, and-false}
+use Rattle.schemars_schema.proofs.Silent.{items_none, const_none, unevaluated_none}
 
 -- an object with a schema under `not` alone
 abbrev not_read : Judge → Readings
@@ -32,7 +33,11 @@ module _ (c : Context) where
   empty-fits : (v : Data) → (all_keywords c nothing_raw nothing_read).fits v ≡ Yes
   unfolding all_keywords
   empty-fits v =
-      rw (items-none c.dialect.reads_prefix_items v, const-none c.dialect.reads_const v, unevaluated-none c.dialect.reads_unevaluated _ v) refl
+      rw (
+        items_none c.dialect.reads_prefix_items v,
+        const_none c.dialect.reads_const v,
+        unevaluated_none c.dialect.reads_unevaluated _ v,
+      ) refl
 
   empty-judges : (v : Data) (k : Text) → (all_keywords c nothing_raw nothing_read).judges v k ≡ false
   unfolding all_keywords
@@ -41,7 +46,7 @@ module _ (c : Context) where
   not-fits : (j : Judge) (v : Data) → (all_keywords c nothing_raw (not_read j)).fits v ≡ opposite (j.fits v)
   unfolding all_keywords
   not-fits j v =
-      rw (items-none c.dialect.reads_prefix_items v, const-none c.dialect.reads_const v, unevaluated-none c.dialect.reads_unevaluated _ v)
+      rw (items_none c.dialect.reads_prefix_items v, const_none c.dialect.reads_const v, unevaluated_none c.dialect.reads_unevaluated _ v)
       (both-yes (opposite (j.fits v)))
 
   not-judges : (j : Judge) (v : Data) (k : Text) → (all_keywords c nothing_raw (not_read j)).judges v k ≡ false
@@ -49,13 +54,15 @@ module _ (c : Context) where
   not-judges j v k = rw (and-false c.dialect.reads_unevaluated) refl
 
   no_reference : (read : Readings) → keywords c nothing_raw read ≡ all_keywords c nothing_raw read
-  no_reference read = ap (λ b. if b then reference_alone c nothing_raw else all_keywords c nothing_raw read) (and-false (not c.dialect.judges_siblings))
+  no_reference read =
+      ap (λ b. if b then reference_alone c nothing_raw else all_keywords c nothing_raw read) (and-false (not c.dialect.judges_siblings))
 
   judge-true : judge c (object no_members) ≡ truth_value true
   unfolding read_data
   judge-true = no_reference nothing_read ∙ judge_ext _ _ empty-fits empty-judges
 
-  as_not : judge c (object (member (codes "not") (object no_members) no_members)) ≡ keywords c nothing_raw (not_read (judge c (object no_members)))
+  as_not : judge c (object (member (codes "not") (object no_members) no_members))
+      ≡ keywords c nothing_raw (not_read (judge c (object no_members)))
   unfolding read_data all_keywords
   as_not = refl
 

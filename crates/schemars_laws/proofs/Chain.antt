@@ -7,6 +7,7 @@ use Rattle.schemars_schema.specs.Json.{Text}
 use Rattle.schemars_schema.specs.SchemaData.{IsSchema}
 use Rattle.schemars_schema.specs.Acceptance.{Dialect, Patterns, draft2020_12, openapi3, accepts}
 use Rattle.schemars_schema.proofs.Placings.{plain-components, pointer-components}
+use Rattle.schemars_schema.proofs.Members.{differ}
 use Rattle.schemars_walk.specs.Rewritten.{Rules, forms, in_names, in_keywords, rewritten}
 use Rattle.schemars_transform.specs.Built.{bool_rules, without_siblings, with_single_example, const_as_enum, prefix_as_items}
 use Rattle.schemars_transform.specs.declared.built_in.bool_schemas.ReplaceBoolSchemas.{ReplaceBoolSchemas}
@@ -20,7 +21,6 @@ use Rattle.schemars_laws.specs.Stages.{AreSomeTypes, Stands, IsForOpenApi, After
 use Rattle.schemars_laws.specs.Laws.{MovesToOpenApi, for_openapi3}
 use Rattle.schemars_laws.proofs.Moved.{Rewrites, schema-moved}
 use Rattle.schemars_laws.proofs.Looked.{change_rules, items-walked}
-use Rattle.schemars_laws.proofs.Apart.{differ}
 use Rattle.schemars_laws.proofs.Preserved.{Preserves, after, weaker}
 use Rattle.schemars_laws.proofs.Nullable.{nullable_change}
 use Rattle.schemars_laws.proofs.BoolSchemas.{bool_schemas}
@@ -35,7 +35,8 @@ pub components-found : (es : Members) → pointer components (components_of es) 
 components-found es = pointer-components (member (codes "components") (object (member (codes "schemas") (object es) no_members)) no_members)
     (member (codes "schemas") (object es) no_members) (object es) refl refl
 
-naming : (N : Text → Type 0) (P Q : Members → Type 0) → ((ms : Members) → Stands N P ms → Q ms) → (ms : Members) → Stands N P ms → NamedBy N Q ms
+naming : (N : Text → Type 0) (P Q : Members → Type 0) → ((ms : Members) → Stands N P ms → Q ms) → (ms : Members) → Stands N P ms
+    → NamedBy N Q ms
 naming N P Q own ms is = (text-named N (get_member (codes "$ref") ms) is.reference, is.closed, own ms is)
 
 -- what a transform moves, and what it keeps
@@ -115,7 +116,8 @@ module _ (N : Text → Type 0) (are : (t : Text) → N t → IsDefinitionAt comp
         → accepts new (components_of (in_names ρ r es)) patterns n (rewritten ρ r part) v ≡ accepts old (components_of es) patterns n part v
     step es all patterns n part v is =
         schema-moved ρ N old new h.asks h.rewrites (components_of es) (components_of (in_names ρ r es))
-        (λ t is. definition-leads ρ r components plain-components N h.asks (components_of es) (components_of (in_names ρ r es)) h.rewrites.schema (record {
+        (λ t is. definition-leads ρ r components plain-components N h.asks (components_of es)
+        (components_of (in_names ρ r es)) h.rewrites.schema (record {
           entries = es;
           before = components-found es;
           after = components-found (in_names ρ r es);
@@ -186,7 +188,8 @@ module _ (N : Text → Type 0) (are : (t : Text) → N t → IsDefinitionAt comp
         asks = HasPlainItems;
         own = λ ms is. is.own;
         rewrites = moved;
-        keeps = keep-positions N (λ s is. moved.schema tt s is) (λ ms is. items-walked prefix_as_items (λ s is. moved.schema tt s is) ms is);
+        keeps = keep-positions N (λ s is. moved.schema tt s is)
+            (λ ms is. items-walked prefix_as_items (λ s is. moved.schema tt s is) ms is);
       }
 
   -- the definitions before each, and a part before each
@@ -252,13 +255,18 @@ module _ (N : Text → Type 0) (are : (t : Text) → N t → IsDefinitionAt comp
 
       -- a part of this class accepts under OpenAPI, after all transforms, what it accepted under 2020-12
       pub openapi-law : (patterns : Patterns) (n : ℕ) (v : Data)
-          → accepts openapi3 (components_of (all_seven es)) patterns n (for_openapi3 part) v ≡ accepts draft2020_12 (components_of es) patterns n part v
+          → accepts openapi3 (components_of (all_seven es)) patterns n (for_openapi3 part) v
+          ≡ accepts draft2020_12 (components_of es) patterns n part v
       openapi-law patterns n v =
           step (change_rules prefix_as_items) tt const_passed openapi3 HasPlainItems Anything seventh (e6 es) a6 patterns n s6 v p6
-          ∙ (step (change_rules const_as_enum) tt siblings_passed const_passed AfterSiblings HasPlainItems sixth (e5 es) a5 patterns n s5 v p5
-          ∙ (step (change_rules with_single_example) tt siblings_passed siblings_passed AfterSiblings AfterSiblings fifth (e4 es) a4 patterns n s4 v p4
-          ∙ (step (change_rules without_siblings) tt nullable_read siblings_passed AfterNullable AfterSiblings fourth (e3 es) a3 patterns n s3 v p3
-          ∙ (step (change_rules nullable_change) tt unevaluated_gone nullable_read IsForOpenApi AfterNullable third (e2 es) a2 patterns n s2 v p2
+          ∙ (step (change_rules const_as_enum) tt siblings_passed const_passed AfterSiblings HasPlainItems sixth
+          (e5 es) a5 patterns n s5 v p5
+          ∙ (step (change_rules with_single_example) tt siblings_passed siblings_passed AfterSiblings AfterSiblings fifth
+          (e4 es) a4 patterns n s4 v p4
+          ∙ (step (change_rules without_siblings) tt nullable_read siblings_passed AfterNullable AfterSiblings fourth
+          (e3 es) a3 patterns n s3 v p3
+          ∙ (step (change_rules nullable_change) tt unevaluated_gone nullable_read IsForOpenApi AfterNullable third
+          (e2 es) a2 patterns n s2 v p2
           ∙ (step bool_rules skip unevaluated_gone unevaluated_gone IsForOpenApi IsForOpenApi second (e1 es) a1 patterns n s1 v p1
           ∙ step (change_rules unevaluated_as_additional) tt draft2020_12 unevaluated_gone IsForOpenApi IsForOpenApi first es all patterns n part v is)))))
 
@@ -332,5 +340,6 @@ seven-each (member k d es) = ap (member k (for_openapi3 d)) (seven-each es)
 
 pub openapi3-law : MovesToOpenApi for_openapi3
 openapi3-law es all patterns n part v is =
-    subst (λ ds. accepts openapi3 (components_of ds) patterns n (for_openapi3 part) v ≡ accepts draft2020_12 (components_of es) patterns n part v)
+    subst (λ ds. accepts openapi3 (components_of ds) patterns n (for_openapi3 part) v
+    ≡ accepts draft2020_12 (components_of es) patterns n part v)
     (seven-each es) (openapi-law (IsDefinitionAt components) (λ t is. is) es all part is patterns n v)

@@ -1,5 +1,6 @@
 -- An `enum` of one value in place of `const`, for readers that do not know `const`.
 use Rattle.std.proofs.Common.{◌≡◌, ◌≢◌, ◌⊎◌, inl, inr, Option, Some, None, Bool, false, codes, refl, sym, ap, ◌∙◌}
+use Rattle.std.proofs.Math.Bool.{or-false}
 use Rattle.std.specs.Prelude.{bytes_eq}
 use Rattle.serde_json.specs.Data.{Data, null, boolean, number, string, array, object, no_items, item, Members, put}
 use Rattle.serde_json.specs.Find.{get_member}
@@ -9,11 +10,11 @@ use Rattle.schemars_schema.specs.SchemaData.{IsSchema}
 use Rattle.schemars_schema.specs.Edits.{without}
 use Rattle.schemars_schema.specs.Verdict.{Verdict}
 use Rattle.schemars_schema.specs.Acceptance.{Dialect, Context, judge, keywords, truth_value, read_data, read_members, reading_at}
+use Rattle.schemars_schema.proofs.Members.{differ}
 use Rattle.schemars_transform.specs.Built.{const_as_enum, value_as_enum}
-use Rattle.schemars_builders.proofs.NullKeywords.{or-false}
 use Rattle.schemars_laws.specs.Classes.{IsOnce, IsConstAlone, without_const, with_const}
 use Rattle.schemars_laws.proofs.Looked.{without-other, walked, raw-walked, once-walked, Change}
-use Rattle.schemars_laws.proofs.Apart.{four_of, four_by, look_up, says-moved, differ, outside}
+use Rattle.schemars_laws.proofs.Apart.{four_of, four_by, look_up, says-moved, outside}
 
 abbrev const_members : Option Data → Members → Members
 const_members None ms = without (codes "const") ms
@@ -23,10 +24,12 @@ changed : (o : Option Data) (ms : Members) → value_as_enum o (object (without 
 changed None ms = refl
 changed (Some w) ms = refl
 
-get-other : (o : Option Data) (k : Text) (ms : Members) → k ≢ codes "const" → k ≢ codes "enum" → get_member k (const_members o ms) ≡ get_member k ms
+get-other : (o : Option Data) (k : Text) (ms : Members) → k ≢ codes "const" → k ≢ codes "enum"
+    → get_member k (const_members o ms) ≡ get_member k ms
 get-other None k ms const enum = without-other (codes "const") k ms const
 get-other (Some w) k ms const enum =
-    get_member-put_other k (codes "enum") (array (item w no_items)) (without (codes "const") ms) enum ∙ without-other (codes "const") k ms const
+    get_member-put_other k (codes "enum") (array (item w no_items)) (without (codes "const") ms) enum
+    ∙ without-other (codes "const") k ms const
 
 module _ (c : Context) (d : Dialect) (p i a t n : Option Data) (v : Data) (x : Verdict) where
   no_const : (e : Option Data) → four_of c (without_const d) p i a e None t n v x ≡ four_of c (with_const d) p i a e None t n v x
@@ -84,7 +87,8 @@ judge-const : (c : Context) (d : Dialect) (ms : Members) → c.dialect ≡ witho
 judge-const c d ms is alone = go (get_member (codes "const") ms) refl alone.1
   where
     moved : (o : Option Data)
-        → ((v : Data) (x : Verdict) → four_by c (without_const d) (look_up (const_members o ms)) v x ≡ four_by c (with_const d) (look_up ms) v x)
+        → ((v : Data) (x : Verdict)
+        → four_by c (without_const d) (look_up (const_members o ms)) v x ≡ four_by c (with_const d) (look_up ms) v x)
         → judge c (value_as_enum o (object (without (codes "const") ms)))
         ≡ keywords (record c { dialect = with_const d }) (look_up ms) (reading_at (read_members c ms))
     moved o same =
@@ -92,7 +96,8 @@ judge-const c d ms is alone = go (get_member (codes "const") ms) refl alone.1
         ∙ says-moved c (with_const d) (without_const d) ms (const_members o ms) is refl refl
         (λ k out. get-other o k ms (outside k (codes "const") out refl) (outside k (codes "enum") out refl)) same
 
-    go : (o : Option Data) → get_member (codes "const") ms ≡ o → (get_member (codes "const") ms ≡ None) ⊎ (get_member (codes "enum") ms ≡ None)
+    go : (o : Option Data) → get_member (codes "const") ms ≡ o
+        → (get_member (codes "const") ms ≡ None) ⊎ (get_member (codes "enum") ms ≡ None)
         → judge c (value_as_enum (get_member (codes "const") ms) (object (without (codes "const") ms)))
         ≡ keywords (record c { dialect = with_const d }) (look_up ms) (reading_at (read_members c ms))
     go None there one = rw there (moved None (λ v x. none-same c d ms alone.0 v x there))

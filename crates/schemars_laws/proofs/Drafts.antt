@@ -8,6 +8,7 @@ use Rattle.schemars_schema.specs.Json.{Text}
 use Rattle.schemars_schema.specs.Edits.{without}
 use Rattle.schemars_schema.specs.References.{NoSchemas, OneSchema, SchemaList, SchemasByName, place_under}
 use Rattle.schemars_schema.specs.Acceptance.{Dialect, Patterns, accepts, draft2020_12, draft2019_09, draft07}
+use Rattle.schemars_schema.proofs.Members.{differ}
 use Rattle.schemars_transform.specs.Built.{reference_moved, without_siblings, remove_ref_siblings, replace_prefix_items}
 use Rattle.schemars_transform.specs.Unevaluated.{unevaluated_as_additional, closed_by, replace_unevaluated_properties}
 use Rattle.schemars_laws.specs.Everywhere.{Everywhere, asked, asked_of_keywords}
@@ -17,7 +18,6 @@ use Rattle.schemars_laws.specs.Laws.{MovesAcceptance, for_draft07, for_draft2019
 use Rattle.schemars_laws.specs.Classes.{alone_by, without_unevaluated}
 use Rattle.schemars_laws.proofs.Laws.{replace_unevaluated_properties-at, remove_ref_siblings-at, replace_prefix_items-at, other, none}
 use Rattle.schemars_laws.proofs.Looked.{without-other, change_rules, walked, items-walked, changed-document}
-use Rattle.schemars_laws.proofs.Apart.{differ}
 use Rattle.schemars_laws.proofs.Siblings.{schema-siblings, definitions-stay as siblings-stay, moved_members, get-moved}
 use Rattle.schemars_laws.proofs.Editing.{alike-moved, asked-moved}
 use Rattle.schemars_laws.proofs.Unevaluated.{schema-unevaluated, none-kept, definitions-stay as unevaluated-stay}
@@ -32,21 +32,28 @@ WithReferences ms = HasPlainReference ms × HasPlainItems ms
 -- `unevaluatedProperties` that are not there leave the others as they are
 after-unevaluated : (key : Text) → Preserves (change_rules unevaluated_as_additional) (Named key IsDraft07) (Named key WithReferences)
 unfolding asked
-after-unevaluated key = change-preserves unevaluated_as_additional (Named key IsDraft07) (Named key WithReferences) schema-unevaluated (λ b. tt) go
+after-unevaluated key =
+    change-preserves unevaluated_as_additional (Named key IsDraft07) (Named key WithReferences) schema-unevaluated (λ b. tt) go
   where
-    kept : (ms : Members) → Named key IsDraft07 ms → Named key WithReferences (without (codes "unevaluatedProperties") (walked unevaluated_as_additional ms))
+    kept : (ms : Members) → Named key IsDraft07 ms
+        → Named key WithReferences (without (codes "unevaluatedProperties") (walked unevaluated_as_additional ms))
     kept ms is =
         let ns = walked unevaluated_as_additional ms in
         let none : get_member (codes "unevaluatedProperties") (without (codes "unevaluatedProperties") ns) ≡ None =
         (none-kept ms is.2.0).0 in (
-          name-alike (IsName key) (without (codes "unevaluatedProperties") ns) ns (alike-without (codes "$ref") (codes "unevaluatedProperties") ns refl)
+          name-alike (IsName key) (without (codes "unevaluatedProperties") ns) ns
+              (alike-without (codes "$ref") (codes "unevaluatedProperties") ns refl)
               (named-walked unevaluated_as_additional (IsName key) ms is.0),
           subst IsNoObject (sym none) tt,
           (
-            reference-alike (without (codes "unevaluatedProperties") ns) ns (alike-without (codes "$ref") (codes "unevaluatedProperties") ns refl)
-                (alike-without (codes "allOf") (codes "unevaluatedProperties") ns refl) (reference-walked unevaluated_as_additional schema-unevaluated ms is.2.1),
-            items-alike (without (codes "unevaluatedProperties") ns) ns (alike-without (codes "prefixItems") (codes "unevaluatedProperties") ns refl)
-                (alike-without (codes "items") (codes "unevaluatedProperties") ns refl) (alike-without (codes "additionalItems") (codes "unevaluatedProperties") ns refl)
+            reference-alike (without (codes "unevaluatedProperties") ns) ns
+                (alike-without (codes "$ref") (codes "unevaluatedProperties") ns refl)
+                (alike-without (codes "allOf") (codes "unevaluatedProperties") ns refl)
+                (reference-walked unevaluated_as_additional schema-unevaluated ms is.2.1),
+            items-alike (without (codes "unevaluatedProperties") ns) ns
+                (alike-without (codes "prefixItems") (codes "unevaluatedProperties") ns refl)
+                (alike-without (codes "items") (codes "unevaluatedProperties") ns refl)
+                (alike-without (codes "additionalItems") (codes "unevaluatedProperties") ns refl)
                 (items-walked unevaluated_as_additional schema-unevaluated ms is.2.2),
           ),
         )
@@ -71,19 +78,23 @@ after-siblings key = change-preserves without_siblings (Named key WithReferences
     stay : (ns : Members) → HasNameOf (IsName key) ns → IsNoObject (get_member (codes "unevaluatedProperties") ns) → HasPlainItems ns → Q ns
     stay ns name closed items = (name, closed, items)
 
-    alone : (r : Data) (ns : Members) → get_member (codes "$ref") ns ≡ Some r → HasNameOf (IsName key) ns → Q (member (codes "$ref") r no_members)
+    alone : (r : Data) (ns : Members) → get_member (codes "$ref") ns ≡ Some r → HasNameOf (IsName key) ns
+        → Q (member (codes "$ref") r no_members)
     alone r ns here name = (subst (λ o. IsNamedBy (IsName key) (option_and_then as_str o)) here name, tt, (refl, tt, tt, refl))
 
     gone : (ns : Members) → IsOnce (codes "$ref") ns → IsNoObject (get_member (codes "unevaluatedProperties") ns) → HasPlainItems ns
         → Q (without (codes "$ref") ns)
     gone ns once closed items = (
       subst (λ o. IsNamedBy (IsName key) (option_and_then as_str o)) (sym once) tt,
-      subst IsNoObject (sym (without-other (codes "$ref") (codes "unevaluatedProperties") ns (differ (codes "unevaluatedProperties") (codes "$ref") refl))) closed,
+      subst IsNoObject
+          (sym (without-other (codes "$ref") (codes "unevaluatedProperties") ns
+          (differ (codes "unevaluatedProperties") (codes "$ref") refl))) closed,
       items-alike (without (codes "$ref") ns) ns (alike-without (codes "prefixItems") (codes "$ref") ns refl)
           (alike-without (codes "items") (codes "$ref") ns refl) (alike-without (codes "additionalItems") (codes "$ref") ns refl) items,
     )
 
-    moved : (r : Data) (ns : Members) → IsOnce (codes "$ref") ns → IsNoObject (get_member (codes "unevaluatedProperties") ns) → HasPlainItems ns
+    moved : (r : Data) (ns : Members) → IsOnce (codes "$ref") ns → IsNoObject (get_member (codes "unevaluatedProperties") ns)
+        → HasPlainItems ns
         → Q (moved_members r ns)
     moved r ns once closed items = (
       subst (λ o. IsNamedBy (IsName key) (option_and_then as_str o))
@@ -141,10 +152,13 @@ module _ (key : Text) (at : place_under key ≡ SchemasByName) (apart : key ≢ 
       two s = remove_ref_siblings (one s)
 
       is-one : (d : Data) → Everywhere (Named key IsDraft07) d → Everywhere (Named key WithReferences) (one d)
-      is-one d all = after (change_rules unevaluated_as_additional) (Named key IsDraft07) (Named key WithReferences) (after-unevaluated key) tt d all
+      is-one d all =
+          after (change_rules unevaluated_as_additional) (Named key IsDraft07) (Named key WithReferences) (after-unevaluated key) tt d all
 
       is-two : (d : Data) → Everywhere (Named key IsDraft07) d → Everywhere (Named key HasPlainItems) (two d)
-      is-two d all = after (change_rules without_siblings) (Named key WithReferences) (Named key HasPlainItems) (after-siblings key) tt (one d) (is-one d all)
+      is-two d all =
+          after (change_rules without_siblings) (Named key WithReferences) (Named key HasPlainItems) (after-siblings key) tt (one d)
+          (is-one d all)
 
       no-unevaluated : (d : Data) → Everywhere (Named key IsDraft07) d → Everywhere (Named key HasNoUnevaluated) d
       no-unevaluated d all = weaker (Named key IsDraft07) (Named key HasNoUnevaluated) (λ ns h. (h.0, h.1, h.2.0)) d all
@@ -165,21 +179,26 @@ module _ (key : Text) (at : place_under key ≡ SchemasByName) (apart : key ≢ 
           (siblings-stay key (walked without_siblings document-one.0) (other key (codes "$ref") NoSchemas at refl none)
           (other key (codes "allOf") SchemaList at refl (λ e. cc))))
 
-      first : accepts (without_unevaluated draft2020_12) (one (object ms)) patterns n (one part) v ≡ accepts draft2020_12 (object ms) patterns n part v
-      first = replace_unevaluated_properties-at key at draft2020_12 apart ms map (no-unevaluated (object ms) is) patterns n part v (no-unevaluated part part_is)
+      first : accepts (without_unevaluated draft2020_12) (one (object ms)) patterns n (one part) v
+          ≡ accepts draft2020_12 (object ms) patterns n part v
+      first = replace_unevaluated_properties-at key at draft2020_12 apart ms map (no-unevaluated (object ms) is) patterns n part v
+          (no-unevaluated part part_is)
 
       middle : accepts (alone_by (without_unevaluated draft2020_12)) (two (object ms)) patterns n (two part) v
           ≡ accepts (without_unevaluated draft2020_12) (one (object ms)) patterns n (one part) v
       middle =
-          at-document remove_ref_siblings (without_unevaluated draft2020_12) (alone_by (without_unevaluated draft2020_12)) key HasPlainReference
+          at-document remove_ref_siblings (without_unevaluated draft2020_12)
+          (alone_by (without_unevaluated draft2020_12)) key HasPlainReference
           (remove_ref_siblings-at key at (without_unevaluated draft2020_12)) (one (object ms)) document-one.0 document-one.1 document-one.2
-          (with-reference (one (object ms)) (is-one (object ms) is)) patterns n (one part) v (with-reference (one part) (is-one part part_is))
+          (with-reference (one (object ms)) (is-one (object ms) is)) patterns n (one part) v
+          (with-reference (one part) (is-one part part_is))
 
       last : accepts draft07 (replace_prefix_items (two (object ms))) patterns n (replace_prefix_items (two part)) v
           ≡ accepts (alone_by (without_unevaluated draft2020_12)) (two (object ms)) patterns n (two part) v
       last =
           at-document replace_prefix_items (alone_by (without_unevaluated draft2020_12)) draft07 key HasPlainItems
-          (replace_prefix_items-at key at (alone_by (without_unevaluated draft2020_12))) (two (object ms)) document-two.0 document-two.1 document-two.2
+          (replace_prefix_items-at key at (alone_by (without_unevaluated draft2020_12)))
+          (two (object ms)) document-two.0 document-two.1 document-two.2
           (is-two (object ms) is) patterns n (two part) v (is-two part part_is)
 
   pub draft2019_09-law : MovesAcceptance for_draft2019_09 draft2020_12 draft2019_09 key HasPlainItems

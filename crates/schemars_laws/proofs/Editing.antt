@@ -10,15 +10,13 @@ use Rattle.serde_json.specs.Data.{Data, null, boolean, number, string, array, ob
 use Rattle.serde_json.specs.Find.{get_member}
 use Rattle.serde_json.proofs.Views.{get_member-put_other}
 use Rattle.schemars_schema.specs.Json.{Text}
-use Rattle.schemars_schema.specs.Edits.{without, replaced}
-use Rattle.schemars_builders.specs.AllowNull.{with_item}
-use Rattle.schemars_builders.specs.Properties.{with_last}
+use Rattle.schemars_schema.specs.Edits.{without, replaced, with_item, with_last}
+use Rattle.schemars_schema.proofs.Members.{differ, get_member-member, unequal, without-put as put_without}
 use Rattle.schemars_transform.specs.Built.{reference}
 use Rattle.schemars_laws.specs.Everywhere.{asked, asked_of_items, asked_of_keywords}
 use Rattle.schemars_laws.specs.Names.{IsNoObject}
 use Rattle.schemars_laws.specs.Classes.{IsOnce, is_null_alone, IsConstAlone}
-use Rattle.schemars_laws.proofs.Looked.{get_member-first, unequal, without-other}
-use Rattle.schemars_laws.proofs.Apart.{differ}
+use Rattle.schemars_laws.proofs.Looked.{without-other}
 use Rattle.schemars_laws.proofs.Siblings.{replaced-other, moved_members, get-moved}
 use Rattle.schemars_laws.proofs.Plain.{Alike, without-swap}
 use Rattle.schemars_laws.proofs.Preserved.{asked-without, asked-put, asked-replaced, asked-get}
@@ -26,34 +24,8 @@ use Rattle.schemars_laws.specs.Stages.{IsTextOf, Stands, AreSomeTypes, HasSomeTy
 
 -- ---- look-ups
 
-put-first : (o : Ordering) (k l j : Text) (d e : Data) (ms : Members) → k ≢ l → slice_cmp nat_cmp l j ≡ o
-    → get_member k (without k (put l d ms)) ≡ get_member k (without k ms)
-    → get_member k (without k (match_ordering o (member l d (member j e ms)) (member j d ms) (member j e (put l d ms))))
-    ≡ get_member k (without k (member j e ms))
-put-first Less k l j d e ms apart is later =
-    ap (λ b. get_member k (if b then member j e ms else member l d (without k (member j e ms)))) (unequal k l apart)
-    ∙ (get_member-first k l d (without k (member j e ms)) ∙ ap (λ b. if b then Some d else get_member k (without k (member j e ms))) (unequal k l apart))
-put-first Equal k l j d e ms apart is later =
-    let same : l ≡ j = (bytes_eq-Decides l j).0 (sym (is_eq-slice_cmp l j) ∙ ap is_eq is) in
-    let other : bytes_eq k j ≡ false = unequal k j (λ h. apart (h ∙ sym same)) in
-    ap (λ b. get_member k (if b then ms else member j d (without k ms))) other
-    ∙ (get_member-first k j d (without k ms) ∙ (ap (λ b. if b then Some d else get_member k (without k ms)) other
-    ∙ sym (ap (λ b. get_member k (if b then ms else member j e (without k ms))) other
-    ∙ (get_member-first k j e (without k ms) ∙ ap (λ b. if b then Some e else get_member k (without k ms)) other))))
-put-first Greater k l j d e ms apart is later = go (bytes_eq k j) refl
-  where
-    go : (b : Bool) → bytes_eq k j ≡ b → get_member k (if b then put l d ms else member j e (without k (put l d ms)))
-        ≡ get_member k (if b then ms else member j e (without k ms))
-    go true same = get_member-put_other k l d ms apart
-    go false same =
-        get_member-first k j e (without k (put l d ms))
-        ∙ (ap (λ o. if bytes_eq k j then Some e else o) later ∙ sym (get_member-first k j e (without k ms)))
-
 pub without-put : (k l : Text) (d : Data) (ms : Members) → k ≢ l → get_member k (without k (put l d ms)) ≡ get_member k (without k ms)
-without-put k l d no_members apart =
-    ap (λ b. get_member k (if b then no_members else member l d no_members)) (unequal k l apart)
-    ∙ (get_member-first k l d no_members ∙ ap (λ b. if b then Some d else None) (unequal k l apart))
-without-put k l d (member j e ms) apart = put-first (slice_cmp nat_cmp l j) k l j d e ms apart refl (without-put k l d ms apart)
+without-put k l d ms apart = put_without k l d ms (unequal k l apart)
 
 pub alike-put : (k l : Text) (d : Data) (ms : Members) → bytes_eq k l ≡ false → Alike k (put l d ms) ms
 alike-put k l d ms is = record { first = get_member-put_other k l d ms (differ k l is); others = without-put k l d ms (differ k l is) }
@@ -64,25 +36,28 @@ alike-then k a b c x y = record { first = x.first ∙ y.first; others = x.others
 pub alike-same : (k : Text) (ms : Members) → Alike k ms ms
 alike-same k ms = record { first = refl; others = refl }
 
-pub without-replaced : (k l : Text) (d : Data) (ms : Members) → k ≢ l → get_member k (without k (replaced l d ms)) ≡ get_member k (without k ms)
+pub without-replaced : (k l : Text) (d : Data) (ms : Members) → k ≢ l
+    → get_member k (without k (replaced l d ms)) ≡ get_member k (without k ms)
 without-replaced k l d no_members apart = refl
 without-replaced k l d (member j e ms) apart = go (bytes_eq l j) refl (bytes_eq k j) refl (without-replaced k l d ms apart)
   where
-    go : (b : Bool) → bytes_eq l j ≡ b → (a : Bool) → bytes_eq k j ≡ a → get_member k (without k (replaced l d ms)) ≡ get_member k (without k ms)
+    go : (b : Bool) → bytes_eq l j ≡ b → (a : Bool) → bytes_eq k j ≡ a
+        → get_member k (without k (replaced l d ms)) ≡ get_member k (without k ms)
         → get_member k (without k (if b then member j d ms else member j e (replaced l d ms)))
         ≡ get_member k (if a then ms else member j e (without k ms))
     go true at_l a at_k rest =
         let other : bytes_eq k j ≡ false = unequal k j (λ same. apart (same ∙ sym ((bytes_eq-Decides l j).0 at_l))) in
         ap (λ b. get_member k (if b then ms else member j d (without k ms))) other
-        ∙ (get_member-first k j d (without k ms) ∙ (ap (λ b. if b then Some d else get_member k (without k ms)) other
+        ∙ (get_member-member k j d (without k ms) ∙ (ap (λ b. if b then Some d else get_member k (without k ms)) other
         ∙ sym (ap (λ b. get_member k (if b then ms else member j e (without k ms))) (sym at_k ∙ other)
-        ∙ (get_member-first k j e (without k ms) ∙ ap (λ b. if b then Some e else get_member k (without k ms)) other))))
+        ∙ (get_member-member k j e (without k ms) ∙ ap (λ b. if b then Some e else get_member k (without k ms)) other))))
     go false at_l true at_k rest =
-        ap (λ b. get_member k (if b then replaced l d ms else member j e (without k (replaced l d ms)))) at_k ∙ replaced-other l k d ms apart
+        ap (λ b. get_member k (if b then replaced l d ms else member j e (without k (replaced l d ms)))) at_k
+        ∙ replaced-other l k d ms apart
     go false at_l false at_k rest =
         ap (λ b. get_member k (if b then replaced l d ms else member j e (without k (replaced l d ms)))) at_k
-        ∙ (get_member-first k j e (without k (replaced l d ms))
-        ∙ (ap (λ o. if bytes_eq k j then Some e else o) rest ∙ sym (get_member-first k j e (without k ms))))
+        ∙ (get_member-member k j e (without k (replaced l d ms))
+        ∙ (ap (λ o. if bytes_eq k j then Some e else o) rest ∙ sym (get_member-member k j e (without k ms))))
 
 pub alike-replaced : (k l : Text) (d : Data) (ms : Members) → bytes_eq k l ≡ false → Alike k (replaced l d ms) ms
 alike-replaced k l d ms is = record {
@@ -102,7 +77,8 @@ without-moved r k ms other = go (get_member (codes "allOf") (without (codes "$re
     go (Some e) = without-replaced k (codes "allOf") (with_last (reference r) e) (without (codes "$ref") ms) other
 
 -- keywords beside a reference that moves into `allOf`
-pub alike-moved : (r : Data) (k : Text) (ms : Members) → bytes_eq k (codes "allOf") ≡ false → bytes_eq k (codes "$ref") ≡ false → Alike k (moved_members r ms) ms
+pub alike-moved : (r : Data) (k : Text) (ms : Members) → bytes_eq k (codes "allOf") ≡ false → bytes_eq k (codes "$ref") ≡ false
+    → Alike k (moved_members r ms) ms
 alike-moved r k ms all ref = record {
   first = get-moved r ms k (differ k (codes "allOf") all) ∙ without-other (codes "$ref") k ms (differ k (codes "$ref") ref);
   others = without-moved r k ms (differ k (codes "allOf") all) ∙ without-swap k (codes "$ref") ms (differ k (codes "$ref") ref);
@@ -114,7 +90,7 @@ absent-once k no_members none = refl
 absent-once k (member l d ms) none = go (bytes_eq k l) refl (absent-once k ms)
   where
     found : get_member k (member l d ms) ≡ (if bytes_eq k l then Some d else get_member k ms)
-    found = get_member-first k l d ms
+    found = get_member-member k l d ms
 
     go : (b : Bool) → bytes_eq k l ≡ b → (get_member k ms ≡ None → IsOnce k ms)
         → get_member k (if b then ms else member l d (without k ms)) ≡ None
@@ -122,7 +98,7 @@ absent-once k (member l d ms) none = go (bytes_eq k l) refl (absent-once k ms)
         let some : Some d ≡ None = sym (found ∙ ap (λ b. if b then Some d else get_member k ms) at) ∙ none in cc
     go false at later =
         let none_later : get_member k ms ≡ None = sym (found ∙ ap (λ b. if b then Some d else get_member k ms) at) ∙ none in
-        get_member-first k l d (without k ms)
+        get_member-member k l d (without k ms)
         ∙ (ap (λ b. if b then Some d else get_member k (without k ms)) at ∙ later none_later)
 
 -- the reference itself has gone
@@ -144,18 +120,18 @@ once-put k d no_members none = go (bytes_eq k k) refl
 once-put k d (member l e ms) none = go (slice_cmp nat_cmp k l) refl (once-put k d ms)
   where
     found : get_member k (member l e ms) ≡ (if bytes_eq k l then Some e else get_member k ms)
-    found = get_member-first k l e ms
+    found = get_member-member k l e ms
 
     other : bytes_eq k l ≡ false
     other = each (bytes_eq k l) refl
       where
         each : (b : Bool) → bytes_eq k l ≡ b → b ≡ false
         each true at =
-            let some : Some e ≡ None = sym (get_member-first k l e ms ∙ ap (λ b. if b then Some e else get_member k ms) at) ∙ none in cc
+            let some : Some e ≡ None = sym (get_member-member k l e ms ∙ ap (λ b. if b then Some e else get_member k ms) at) ∙ none in cc
         each false at = refl
 
     rest : get_member k ms ≡ None
-    rest = sym (ap (λ b. if b then Some e else get_member k ms) other) ∙ (sym (get_member-first k l e ms) ∙ none)
+    rest = sym (ap (λ b. if b then Some e else get_member k ms) other) ∙ (sym (get_member-member k l e ms) ∙ none)
 
     go : (o : Ordering) → slice_cmp nat_cmp k l ≡ o → (get_member k ms ≡ None → IsOnce k (put k d ms))
         → IsOnce k (match_ordering o (member k d (member l e ms)) (member l d ms) (member l e (put k d ms)))
@@ -166,13 +142,14 @@ once-put k d (member l e ms) none = go (slice_cmp nat_cmp k l) refl (once-put k 
         let false_too : true ≡ false = sym same ∙ other in cc
     go Greater at later =
         ap (λ b. get_member k (if b then put k d ms else member l e (without k (put k d ms)))) other
-        ∙ (get_member-first k l e (without k (put k d ms))
+        ∙ (get_member-member k l e (without k (put k d ms))
         ∙ (ap (λ b. if b then Some e else get_member k (without k (put k d ms))) other ∙ later rest))
 
 -- ---- what holds of the schemas inside, once a reference has moved
 
 -- the list with the reference behind it
-items-last : (Q : Members → Type 0) (ds : Items) (d : Data) → asked_of_items Q ds → (asked Q d).as_schema → asked_of_items Q (with_item ds d)
+items-last : (Q : Members → Type 0) (ds : Items) (d : Data) → asked_of_items Q ds → (asked Q d).as_schema
+    → asked_of_items Q (with_item ds d)
 unfolding asked
 items-last Q no_items d a here = (here, tt)
 items-last Q (item e ds) d a here = (a.0, items-last Q ds d a.1 here)

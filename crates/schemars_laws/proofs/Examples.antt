@@ -35,8 +35,12 @@ definitions-stay o key ms one all = go o
     go (Some (number n)) = (old, refl, without-other (codes "examples") key ms all)
     go (Some (string t)) = (old, refl, without-other (codes "examples") key ms all)
     go (Some (array no_items)) = (old, refl, without-other (codes "examples") key ms all)
-    go (Some (array (item d ds))) =
-        (put (codes "example") d old, refl, get_member-put_other key (codes "example") d old one ∙ without-other (codes "examples") key ms all)
+    go (Some (array (item d ds))) = (
+      put (codes "example") d old,
+      refl,
+      get_member-put_other key (codes "example") d old one
+          ∙ without-other (codes "examples") key ms all,
+    )
     go (Some (object es)) = (old, refl, without-other (codes "examples") key ms all)
 
 judge-example : (c : Context) (o : Option Data) (ms : Members) → judge c (first_as_example o (object ms)) ≡ judge c (object ms)

@@ -32,7 +32,8 @@ pub record Keeps {R : Type 0} (ρ : Rules R) (before after : Context) (P : Membe
   pub schema : (r : R) (s : Data) → IsSchema s → IsSchema (ρ.finish r s)
   pub of_truth : (r : R) (b : Bool) → judge after (ρ.finish r (boolean b)) ≡ truth_value b
   pub of_object : (r : R) (ms : Members) → P ms → judge after (ρ.finish r (object (in_keywords ρ r ms)))
-      ≡ keywords (record before { follow = after.follow }) (λ k. get_member k (in_keywords ρ r ms)) (reading_at (read_members after (in_keywords ρ r ms)))
+      ≡ keywords (record before { follow = after.follow }) (λ k. get_member k (in_keywords ρ r ms))
+      (reading_at (read_members after (in_keywords ρ r ms)))
   pub unevaluated : (ms : Members) → P ms → IsNoObject (get_member (codes "unevaluatedProperties") ms)
   pub reference : (ms : Members) → P ms → AgreeOn after.follow before.follow (get_member (codes "$ref") ms)
 
@@ -62,7 +63,8 @@ module _ {R : Type 0} (ρ : Rules R) (before after : Context) (P : Members → T
   either-listed r (number n) e = refl
   either-listed r (string s) e = refl
   either-listed r (array ds) e = e
-  either-listed r (object ms) e = schema-listed after _ (h.schema (ρ.inside r (object ms)) (object (in_keywords ρ (ρ.inside r (object ms)) ms)) tt)
+  either-listed r (object ms) e =
+      schema-listed after _ (h.schema (ρ.inside r (object ms)) (object (in_keywords ρ (ρ.inside r (object ms)) ms)) tt)
 
   either-schema : (r : R) (d : Data) → KeptSchema (forms ρ r d).as_schema d → KeptSchema (forms ρ r d).as_either d
   unfolding forms read_data
@@ -99,7 +101,8 @@ module _ {R : Type 0} (ρ : Rules R) (before after : Context) (P : Members → T
     at-place OneSchema a = ap (λ s. record { schema = s; listed = None; named = None }) (one a)
     at-place SchemaList a = ap (λ s. record { schema = None; listed = s; named = None }) (list a)
     at-place SchemaOrList a =
-        ap (λ s. record { schema = s; listed = (read_data after (forms ρ r d).as_either).listed; named = None }) (either-schema r d (one a.0))
+        ap (λ s. record { schema = s; listed = (read_data after (forms ρ r d).as_either).listed; named = None })
+        (either-schema r d (one a.0))
         ∙ ap (λ s. record { schema = (read_data before d).schema; listed = s; named = None }) (either-listed r d (list a.1))
     at-place SchemasByName a = ap (λ s. record { schema = None; listed = None; named = s }) (names a)
 
@@ -135,7 +138,8 @@ module _ {R : Type 0} (ρ : Rules R) (before after : Context) (P : Members → T
       go None = refl
       go (Some d) = ap Some (raw-place r k d none)
 
-  raw-same : (r : R) (ms : Members) (k : Text) → unread_under (λ l. get_member l (in_keywords ρ r ms)) k ≡ unread_under (λ l. get_member l ms) k
+  raw-same : (r : R) (ms : Members) (k : Text)
+      → unread_under (λ l. get_member l (in_keywords ρ r ms)) k ≡ unread_under (λ l. get_member l ms) k
   raw-same r ms k = go (place_under k) refl
     where
       go : (p : Place) → place_under k ≡ p → at_no_schemas p (get_member k (in_keywords ρ r ms)) ≡ at_no_schemas p (get_member k ms)
@@ -179,7 +183,8 @@ module _ {R : Type 0} (ρ : Rules R) (before after : Context) (P : Members → T
   said : (r : R) (ms : Members) → P ms
       → ((k : Text) → option_map (seen (place_under k)) (reading_at (read_members after (in_keywords ρ r ms)) k)
       ≡ option_map (seen (place_under k)) (reading_at (read_members before ms) k))
-      → keywords (record before { follow = after.follow }) (λ k. get_member k (in_keywords ρ r ms)) (reading_at (read_members after (in_keywords ρ r ms)))
+      → keywords (record before { follow = after.follow }) (λ k. get_member k (in_keywords ρ r ms))
+      (reading_at (read_members after (in_keywords ρ r ms)))
       ≡ keywords before (λ k. get_member k ms) (reading_at (read_members before ms))
   said r ms a same =
       let c : Context = record before { follow = after.follow } in
@@ -207,7 +212,8 @@ module _ {R : Type 0} (ρ : Rules R) (before after : Context) (P : Members → T
     one r (array ds) a = refl
     one r (object ms) a =
         schema-judge after _ (h.schema (ρ.inside r (object ms)) (object (in_keywords ρ (ρ.inside r (object ms)) ms)) tt)
-        ∙ ap Some (h.of_object (ρ.inside r (object ms)) ms a.0 ∙ said (ρ.inside r (object ms)) ms a.0 (under (ρ.inside r (object ms)) ms a.1))
+        ∙ ap Some
+        (h.of_object (ρ.inside r (object ms)) ms a.0 ∙ said (ρ.inside r (object ms)) ms a.0 (under (ρ.inside r (object ms)) ms a.1))
 
     list : (r : R) (d : Data) → (asked P d).as_list → KeptList (forms ρ r d).as_list d
     list r null a = refl
@@ -240,6 +246,8 @@ module _ {R : Type 0} (ρ : Rules R) (before after : Context) (P : Members → T
     under r no_members a k = refl
     under r (member l d ms) a k =
         first (bytes_eq k l) (place_under k) _ _ _ _
-        (λ is. subst (λ x. seen (place_under x) (read_data after (form_at (ρ.place r l d) d (forms ρ r d))) ≡ seen (place_under x) (read_data before d))
+        (λ is. subst
+        (λ x. seen (place_under x) (read_data after (form_at (ρ.place r l d) d (forms ρ r d)))
+        ≡ seen (place_under x) (read_data before d))
         (sym ((bytes_eq-Decides k l).0 is)) (at-key r d (one r d) (list r d) (names r d) l a.0))
         (under r ms a.1 k)

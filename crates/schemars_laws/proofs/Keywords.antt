@@ -68,7 +68,8 @@ left_out ks f k = if is_listed k ks then None else f k
 abbrev pub AgreeOutside : {A : Type 0} → List Text → (Text → Option A) → (Text → Option A) → Type 0
 AgreeOutside ks f g = (k : Text) → is_listed k ks ≡ false → f k ≡ g k
 
-pub left_out-agree : {A : Type 0} (ks : List Text) (f g : Text → Option A) → AgreeOutside ks f g → (k : Text) → left_out ks f k ≡ left_out ks g k
+pub left_out-agree : {A : Type 0} (ks : List Text) (f g : Text → Option A) → AgreeOutside ks f g → (k : Text)
+    → left_out ks f k ≡ left_out ks g k
 left_out-agree {A} ks f g e k = go (is_listed k ks) refl
   where
     go : (b : Bool) → is_listed k ks ≡ b → (if b then None else f k) ≡ (if b then None else g k)

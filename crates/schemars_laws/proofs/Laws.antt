@@ -4,6 +4,7 @@ use Rattle.serde_json.specs.Data.{object, Members}
 use Rattle.schemars_schema.specs.Json.{Text}
 use Rattle.schemars_schema.specs.References.{Place, NoSchemas, OneSchema, SchemaList, SchemaOrList, SchemasByName, place_under}
 use Rattle.schemars_schema.specs.Acceptance.{Dialect}
+use Rattle.schemars_schema.proofs.Members.{differ}
 use Rattle.schemars_walk.specs.Rewritten.{Rules, in_keywords, forms, rewritten}
 use Rattle.schemars_transform.specs.Built.{replace_bool_schemas, remove_ref_siblings, set_single_example, replace_const_value, replace_prefix_items}
 use Rattle.schemars_transform.specs.Built.{bool_rules, without_siblings, with_single_example, const_as_enum, prefix_as_items}
@@ -21,7 +22,6 @@ use Rattle.schemars_laws.proofs.Moved.{Moves}
 use Rattle.schemars_laws.proofs.AtKey.{at-key}
 use Rattle.schemars_laws.proofs.Paths.{moves-components}
 use Rattle.schemars_laws.proofs.Looked.{change_rules, moves}
-use Rattle.schemars_laws.proofs.Apart.{differ}
 use Rattle.schemars_laws.proofs.Examples.{single_example}
 use Rattle.schemars_laws.proofs.ConstValue.{const_value}
 use Rattle.schemars_laws.proofs.PrefixItems.{prefix_items}
@@ -54,7 +54,8 @@ module _ (key : Text) (at : place_under key ≡ SchemasByName) where
   pub prefix-moves : (d : Dialect) → Moves (change_rules prefix_as_items) key (by_prefix_items d) (by_items d) HasPlainItems
   prefix-moves d =
       moves prefix_as_items key (by_prefix_items d) (by_items d) HasPlainItems
-      (prefix_items key d (other key (codes "prefixItems") SchemaList at refl (λ e. cc)) (other key (codes "items") SchemaOrList at refl (λ e. cc))
+      (prefix_items key d (other key (codes "prefixItems") SchemaList at refl (λ e. cc))
+      (other key (codes "items") SchemaOrList at refl (λ e. cc))
       (other key (codes "additionalItems") OneSchema at refl (λ e. cc)))
 
   pub siblings-moves : (d : Dialect) → Moves (change_rules without_siblings) key (beside_by d) (alone_by d) HasPlainReference
@@ -62,7 +63,8 @@ module _ (key : Text) (at : place_under key ≡ SchemasByName) where
       moves without_siblings key (beside_by d) (alone_by d) HasPlainReference
       (ref_siblings key d (other key (codes "$ref") NoSchemas at refl none) (other key (codes "allOf") SchemaList at refl (λ e. cc)))
 
-  pub nullable-moves : (d : Dialect) → Moves (change_rules nullable_change) key (without_nullable_read d) (with_nullable_read d) HasPlainType
+  pub nullable-moves : (d : Dialect)
+      → Moves (change_rules nullable_change) key (without_nullable_read d) (with_nullable_read d) HasPlainType
   nullable-moves d =
       moves nullable_change key (without_nullable_read d) (with_nullable_read d) HasPlainType
       (nullable key d (other key (codes "type") NoSchemas at refl none) (other key (codes "const") NoSchemas at refl none)
@@ -82,17 +84,20 @@ module _ (key : Text) (at : place_under key ≡ SchemasByName) where
 
   -- in place of positions by `prefixItems` those by `items`
   pub replace_prefix_items-at : (d : Dialect) → MovesAcceptance replace_prefix_items (by_prefix_items d) (by_items d) key HasPlainItems
-  replace_prefix_items-at d = at-key (change_rules prefix_as_items) tt (by_prefix_items d) (by_items d) key HasPlainItems at (prefix-moves d)
+  replace_prefix_items-at d =
+      at-key (change_rules prefix_as_items) tt (by_prefix_items d) (by_items d) key HasPlainItems at (prefix-moves d)
 
   -- references alone, where their siblings are passed over
   pub remove_ref_siblings-at : (d : Dialect) → MovesAcceptance remove_ref_siblings (beside_by d) (alone_by d) key HasPlainReference
-  remove_ref_siblings-at d = at-key (change_rules without_siblings) tt (beside_by d) (alone_by d) key HasPlainReference at (siblings-moves d)
+  remove_ref_siblings-at d =
+      at-key (change_rules without_siblings) tt (beside_by d) (alone_by d) key HasPlainReference at (siblings-moves d)
 
   -- without `unevaluatedProperties` there is nothing to replace
   pub replace_unevaluated_properties-at : (d : Dialect) → key ≢ codes "properties"
       → MovesAcceptance replace_unevaluated_properties (with_unevaluated d) (without_unevaluated d) key HasNoUnevaluated
   replace_unevaluated_properties-at d apart =
-      at-key (change_rules unevaluated_as_additional) tt (with_unevaluated d) (without_unevaluated d) key HasNoUnevaluated at (unevaluated-moves d apart)
+      at-key (change_rules unevaluated_as_additional) tt (with_unevaluated d) (without_unevaluated d) key HasNoUnevaluated at
+      (unevaluated-moves d apart)
 
 -- ---- wherever definitions stand
 

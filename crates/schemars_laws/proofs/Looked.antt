@@ -1,17 +1,13 @@
 -- Look-ups in members of which one is taken out, and rewrites that change every schema alike.
-use Rattle.std.proofs.Common.{◌≡◌, ◌≢◌, inl, Option, Some, None, Bool, true, false, Ordering, Less, Equal, Greater, nat_cmp, is_eq, option_map, refl, sym, ap, ◌∙◌, subst}
-use Rattle.std.specs.Prelude.{bytes_eq, if◌then◌else◌}
-use Rattle.std.specs.Cmp.Lexicographic.{slice_cmp}
-use Rattle.std.specs.Ordering.{match_ordering}
-use Rattle.std.proofs.lemmas.Map.Text.{is_eq-slice_cmp}
-use Rattle.std.proofs.lemmas.Slice.Eq.{bytes_eq-Decides}
-use Rattle.serde_json.specs.Data.{Data, null, boolean, number, string, array, object, Members, no_members, member}
+use Rattle.std.proofs.Common.{◌≡◌, ◌≢◌, inl, Option, Some, None, Bool, option_map, refl, sym, ap, ◌∙◌, subst}
+use Rattle.serde_json.specs.Data.{Data, null, boolean, number, string, array, object, Members}
 use Rattle.serde_json.specs.Find.{get_member}
 use Rattle.schemars_schema.specs.Json.{Text}
 use Rattle.schemars_schema.specs.SchemaData.{IsSchema}
 use Rattle.schemars_schema.specs.Edits.{without}
 use Rattle.schemars_schema.specs.References.{NoSchemas, SchemaList, SchemaOrList, SchemasByName, place_under}
 use Rattle.schemars_schema.specs.Acceptance.{Dialect, Context, judge, keywords, truth_value, read_members, reading_at}
+use Rattle.schemars_schema.proofs.Members.{unequal, get_member-without}
 use Rattle.schemars_walk.specs.Rewritten.{Rules, everywhere, rewritten, forms, in_keywords, read_at}
 use Rattle.schemars_walk.proofs.KeywordLaws.{keywords_get}
 use Rattle.schemars_laws.specs.Names.{IsMap}
@@ -20,34 +16,8 @@ use Rattle.schemars_laws.proofs.Moved.{Moves}
 use Rattle.schemars_laws.proofs.Walking.{raw-walked as raw-walked_by, none-walked as none-walked_by, once-walked as once-walked_by, list-walked as list-walked_by}
 use Rattle.schemars_laws.proofs.Walking.{no_list-walked as no_list-walked_by, items-walked as items-walked_by}
 
-by_order : (o : Ordering) (b : Bool) (d : Data) (rest : Option Data) → is_eq o ≡ b → match_ordering o rest (Some d) rest ≡ (if b then Some d else rest)
-by_order Less b d rest is = rw (← is) refl
-by_order Equal b d rest is = rw (← is) refl
-by_order Greater b d rest is = rw (← is) refl
-
--- by equality of keys
-pub get_member-first : (k l : Text) (d : Data) (ms : Members) → get_member k (member l d ms) ≡ (if bytes_eq k l then Some d else get_member k ms)
-get_member-first k l d ms = by_order (slice_cmp nat_cmp k l) (bytes_eq k l) d (get_member k ms) (is_eq-slice_cmp k l)
-
-pub unequal : (k l : Text) → k ≢ l → bytes_eq k l ≡ false
-unequal k l apart = go (bytes_eq k l) refl
-  where
-    go : (b : Bool) → bytes_eq k l ≡ b → b ≡ false
-    go true is = absurd (apart ((bytes_eq-Decides k l).0 is))
-    go false is = refl
-
 pub without-other : (k l : Text) (ms : Members) → l ≢ k → get_member l (without k ms) ≡ get_member l ms
-without-other k l no_members apart = refl
-without-other k l (member j d ms) apart = go (bytes_eq k j) refl (without-other k l ms apart)
-  where
-    go : (b : Bool) → bytes_eq k j ≡ b → get_member l (without k ms) ≡ get_member l ms
-        → get_member l (if b then ms else member j d (without k ms)) ≡ get_member l (member j d ms)
-    go true is later =
-        sym (get_member-first l j d ms ∙ ap (λ b. if b then Some d else get_member l ms)
-        (unequal l j (λ e. apart (e ∙ sym ((bytes_eq-Decides k j).0 is)))))
-    go false is later =
-        get_member-first l j d (without k ms)
-        ∙ (ap (λ o. if bytes_eq l j then Some d else o) later ∙ sym (get_member-first l j d ms))
+without-other k l ms apart = get_member-without l k ms (unequal l k apart)
 
 -- ---- rewrites that change every schema alike
 
@@ -67,7 +37,8 @@ pub record Change (f : Data → Data) (key : Text) (old new : Dialect) (Q : Memb
       ≡ keywords (record c { dialect = old }) (λ k. get_member k (walked f ms)) (reading_at (read_members c (walked f ms)))
   pub definitions : (ms : Members) → (ns : Members) × (f (object ms) ≡ object ns) × (get_member key ns ≡ get_member key ms)
 
-pub moves : (f : Data → Data) (key : Text) (old new : Dialect) (Q : Members → Type 0) → Change f key old new Q → Moves (change_rules f) key old new Q
+pub moves : (f : Data → Data) (key : Text) (old new : Dialect) (Q : Members → Type 0) → Change f key old new Q
+    → Moves (change_rules f) key old new Q
 moves f key old new Q h = record {
   rewrites = record {
     place = λ r k d. inl refl;
@@ -96,10 +67,12 @@ pub once-walked : (f : Data → Data) (k : Text) (ms : Members) → IsOnce k ms 
 once-walked f k ms once = once-walked_by (change_rules f) AnyKey (goes-down f) tt k ms once
 
 module _ (f : Data → Data) (kept : (s : Data) → IsSchema s → IsSchema (f s)) where
-  pub list-walked : (k : Text) (ms : Members) → place_under k ≡ SchemaList → IsSchemaList (get_member k ms) → IsSchemaList (get_member k (walked f ms))
+  pub list-walked : (k : Text) (ms : Members) → place_under k ≡ SchemaList → IsSchemaList (get_member k ms)
+      → IsSchemaList (get_member k (walked f ms))
   list-walked k ms at is = list-walked_by (change_rules f) AnyKey (goes-down f) (λ r s is. kept s is) tt k ms tt at is
 
-  pub no_list-walked : (k : Text) (ms : Members) → place_under k ≡ SchemaOrList → IsNoList (get_member k ms) → IsNoList (get_member k (walked f ms))
+  pub no_list-walked : (k : Text) (ms : Members) → place_under k ≡ SchemaOrList → IsNoList (get_member k ms)
+      → IsNoList (get_member k (walked f ms))
   no_list-walked k ms at is = no_list-walked_by (change_rules f) AnyKey (goes-down f) (λ r s is. kept s is) tt k ms tt at is
 
   pub items-walked : (ms : Members) → HasPlainItems ms → HasPlainItems (walked f ms)
@@ -117,7 +90,8 @@ map-form f (Some (number n)) is = absurd is
 map-form f (Some (string s)) is = absurd is
 map-form f (Some (array ds)) is = absurd is
 
-pub map-walked : (f : Data → Data) (key : Text) (ms : Members) → place_under key ≡ SchemasByName → IsMap (get_member key ms) → IsMap (get_member key (walked f ms))
+pub map-walked : (f : Data → Data) (key : Text) (ms : Members) → place_under key ≡ SchemasByName → IsMap (get_member key ms)
+    → IsMap (get_member key (walked f ms))
 map-walked f key ms at is =
     subst IsMap (sym (keywords_get (change_rules f) tt key ms
     ∙ ap (λ p. option_map (λ d. read_at (change_rules f) p tt d) (get_member key ms)) at)) (map-form f (get_member key ms) is)

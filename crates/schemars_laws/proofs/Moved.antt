@@ -79,7 +79,8 @@ module _ {R : Type 0} (ρ : Rules R) (N : Text → Type 0) (old new : Dialect) (
       named (Some (array ds)) is = tt
       named (Some (object es)) is = tt
 
-  moved : (n : ℕ) → AgreeAt n → (r : R) (d : Data) → Everywhere (NamedBy N Q) d → judge (new_at n) (forms ρ r d).as_schema ≡ judge (old_at n) d
+  moved : (n : ℕ) → AgreeAt n → (r : R) (d : Data) → Everywhere (NamedBy N Q) d
+      → judge (new_at n) (forms ρ r d).as_schema ≡ judge (old_at n) d
   moved n agree r d is =
       judged (new_at n) (old_at n) (forms ρ r d).as_schema d (one ρ (old_at n) (new_at n) (NamedBy N Q) (keeps n agree) r d is)
 

@@ -4,18 +4,19 @@ use Rattle.std.specs.Prelude.{option_map, bytes_eq, if◌then◌else◌, ◌&&�
 use Rattle.serde_json.specs.Data.{Data, null, boolean, number, string, array, object, Items, no_items, item, Members, put}
 use Rattle.serde_json.specs.Find.{get_member}
 use Rattle.serde_json.proofs.Views.{get_member-put, get_member-put_other}
-use Rattle.schemars_schema.specs.Json.{Text, json_eq}
+use Rattle.schemars_schema.specs.Json.{Text}
 use Rattle.schemars_schema.specs.OrderedText.{is_listed}
 use Rattle.schemars_schema.specs.SchemaData.{IsSchema}
-use Rattle.schemars_schema.specs.Edits.{without, replaced}
+use Rattle.schemars_schema.specs.Edits.{without, replaced, holds_text}
 use Rattle.schemars_schema.specs.Verdict.{Verdict, Yes, No, Open, both, verdict}
 use Rattle.schemars_schema.specs.Acceptance.{Dialect, Context, judge, keywords, truth_value, read_data, read_members, reading_at, is_null, type_says, type_fits, types_in, is_of_some_type, where_some, items_say, enum_says}
-use Rattle.schemars_builders.specs.AllowNull.{holds_text}
+use Rattle.schemars_schema.proofs.Members.{differ, get_member-replaced}
+use Rattle.schemars_builders.proofs.NullKeywords.{null-json_eq}
 use Rattle.schemars_transform.specs.Nullable.{all_null, nulls_in, type_without_null, null_taken_out, nullable_by, with_nullable}
 use Rattle.schemars_laws.specs.Classes.{IsTypes, is_null_alone, HasPlainType, plain_nullable, with_nullable_read, without_nullable_read}
 use Rattle.schemars_laws.proofs.Looked.{without-other, walked, raw-walked, Change}
-use Rattle.schemars_laws.proofs.Apart.{four_of, four_by, look_up, says-moved, differ, outside}
-use Rattle.schemars_laws.proofs.Siblings.{replaced-other, replaced-at}
+use Rattle.schemars_laws.proofs.Apart.{four_of, four_by, look_up, says-moved, outside}
+use Rattle.schemars_laws.proofs.Siblings.{replaced-other}
 use Rattle.schemars_laws.proofs.TypeNames.{text-missing, list-missing, text-alone, list-alone, list-among}
 
 -- ---- the members of one schema
@@ -32,14 +33,17 @@ among_members t ms = replaced (codes "type") (type_without_null t) (nulled ms)
 type-nulled : (ms : Members) → get_member (codes "type") (nulled ms) ≡ get_member (codes "type") ms
 type-nulled ms = get_member-put_other (codes "type") (codes "nullable") (boolean true) ms (differ (codes "type") (codes "nullable") refl)
 
-alone-other : (k : Text) (ms : Members) → k ≢ codes "type" → k ≢ codes "const" → k ≢ codes "nullable" → get_member k (alone_members ms) ≡ get_member k ms
+alone-other : (k : Text) (ms : Members) → k ≢ codes "type" → k ≢ codes "const" → k ≢ codes "nullable"
+    → get_member k (alone_members ms) ≡ get_member k ms
 alone-other k ms type const nullable =
     without-other (codes "type") k (put (codes "const") null (nulled ms)) type
     ∙ (get_member-put_other k (codes "const") null (nulled ms) const ∙ get_member-put_other k (codes "nullable") (boolean true) ms nullable)
 
-among-other : (t : Data) (k : Text) (ms : Members) → k ≢ codes "type" → k ≢ codes "nullable" → get_member k (among_members t ms) ≡ get_member k ms
+among-other : (t : Data) (k : Text) (ms : Members) → k ≢ codes "type" → k ≢ codes "nullable"
+    → get_member k (among_members t ms) ≡ get_member k ms
 among-other t k ms type nullable =
-    replaced-other (codes "type") k (type_without_null t) (nulled ms) type ∙ get_member-put_other k (codes "nullable") (boolean true) ms nullable
+    replaced-other (codes "type") k (type_without_null t) (nulled ms) type
+    ∙ get_member-put_other k (codes "nullable") (boolean true) ms nullable
 
 alone-const : (ms : Members) → get_member (codes "const") (alone_members ms) ≡ Some null
 alone-const ms =
@@ -54,7 +58,7 @@ alone-nullable ms =
 
 among-type : (t : Data) (ms : Members) → get_member (codes "type") ms ≡ Some t
     → get_member (codes "type") (among_members t ms) ≡ Some (type_without_null t)
-among-type t ms is = replaced-at (codes "type") (type_without_null t) t (nulled ms) (type-nulled ms ∙ is)
+among-type t ms is = get_member-replaced (codes "type") (type_without_null t) t (nulled ms) (type-nulled ms ∙ is)
 
 among-nullable : (t : Data) (ms : Members) → get_member (codes "nullable") (among_members t ms) ≡ Some (boolean true)
 among-nullable t ms =
@@ -62,15 +66,6 @@ among-nullable t ms =
     ∙ get_member-put (codes "nullable") (boolean true) ms
 
 -- ---- what they say
-
-null-equal : (v : Data) → json_eq null v ≡ is_null v
-unfolding json_eq
-null-equal null = refl
-null-equal (boolean b) = refl
-null-equal (number n) = refl
-null-equal (string s) = refl
-null-equal (array ds) = refl
-null-equal (object ms) = refl
 
 or-true : (a b : Bool) → a || (b || true) ≡ true
 or-true true b = refl
@@ -116,11 +111,13 @@ module _ (c : Context) (d : Dialect) (p i a e : Option Data) (v : Data) (x : Ver
   four-missing k t is = rw is refl
 
   four-alone : (t left : Option Data) → type_says false t None v ≡ verdict (is_null v)
-      → four_of c (with_nullable_read d) p i a e (Some null) left (Some (boolean true)) v x ≡ four_of c (without_nullable_read d) p i a e None t None v x
+      → four_of c (with_nullable_read d) p i a e (Some null) left (Some (boolean true)) v x
+      ≡ four_of c (without_nullable_read d) p i a e None t None v x
   unfolding four_of
   four-alone t left is =
-      rw (is, null-equal v)
-      (ap (λ y. both (items_say d.reads_prefix_items (option_map (read_data c) p) (option_map (read_data c) i) (option_map (read_data c) a) v)
+      rw (is, null-json_eq v)
+      (ap (λ y. both
+      (items_say d.reads_prefix_items (option_map (read_data c) p) (option_map (read_data c) i) (option_map (read_data c) a) v)
       (both (enum_says e v) y)) (left-over left v x))
 
   four-among : (k t n : Option Data) → type_says true n (Some (boolean true)) v ≡ type_says false t None v
@@ -128,28 +125,33 @@ module _ (c : Context) (d : Dialect) (p i a e : Option Data) (v : Data) (x : Ver
   unfolding four_of
   four-among k t n is = rw is refl
 
-module _ (c : Context) (d : Dialect) (ms : Members) (is : c.dialect ≡ with_nullable_read d) (none : get_member (codes "nullable") ms ≡ None) where
+module _ (c : Context) (d : Dialect) (ms : Members) (is : c.dialect ≡ with_nullable_read d)
+    (none : get_member (codes "nullable") ms ≡ None) where
   abbrev Says : Members → Type 0
   Says ns = judge c (object ns) ≡ keywords (record c { dialect = without_nullable_read d }) (look_up ms) (reading_at (read_members c ms))
 
-  judge-missing : ((v : Data) → type_says true (get_member (codes "type") ms) None v ≡ type_says false (get_member (codes "type") ms) None v) → Says ms
+  judge-missing : ((v : Data)
+      → type_says true (get_member (codes "type") ms) None v ≡ type_says false (get_member (codes "type") ms) None v) → Says ms
   judge-missing type =
       says-moved c (without_nullable_read d) (with_nullable_read d) ms ms is refl refl (λ k out. refl)
-      (λ v x. rw none (four-missing c d (get_member (codes "prefixItems") ms) (get_member (codes "items") ms) (get_member (codes "additionalItems") ms)
+      (λ v x. rw none
+      (four-missing c d (get_member (codes "prefixItems") ms) (get_member (codes "items") ms) (get_member (codes "additionalItems") ms)
       (get_member (codes "enum") ms) v x (get_member (codes "const") ms) (get_member (codes "type") ms) (type v)))
 
   judge-alone : get_member (codes "const") ms ≡ None
       → ((v : Data) → type_says false (get_member (codes "type") ms) None v ≡ verdict (is_null v)) → Says (alone_members ms)
   judge-alone const type =
       says-moved c (without_nullable_read d) (with_nullable_read d) ms (alone_members ms) is refl refl
-      (λ k out. alone-other k ms (outside k (codes "type") out refl) (outside k (codes "const") out refl) (outside k (codes "nullable") out refl))
+      (λ k out. alone-other k ms (outside k (codes "type") out refl) (outside k (codes "const") out refl)
+      (outside k (codes "nullable") out refl))
       same
     where
       other : (k : Text) → bytes_eq k (codes "type") ≡ false → bytes_eq k (codes "const") ≡ false → bytes_eq k (codes "nullable") ≡ false
           → get_member k (alone_members ms) ≡ get_member k ms
       other k t l n = alone-other k ms (differ k (codes "type") t) (differ k (codes "const") l) (differ k (codes "nullable") n)
 
-      same : (v : Data) (x : Verdict) → four_by c (with_nullable_read d) (look_up (alone_members ms)) v x ≡ four_by c (without_nullable_read d) (look_up ms) v x
+      same : (v : Data) (x : Verdict)
+          → four_by c (with_nullable_read d) (look_up (alone_members ms)) v x ≡ four_by c (without_nullable_read d) (look_up ms) v x
       same v x =
           rw (
             other (codes "prefixItems") refl refl refl,
@@ -165,15 +167,18 @@ module _ (c : Context) (d : Dialect) (ms : Members) (is : c.dialect ≡ with_nul
           (get_member (codes "enum") ms) v x (get_member (codes "type") ms) (get_member (codes "type") (alone_members ms)) (type v))
 
   judge-among : (t : Data) → get_member (codes "type") ms ≡ Some t
-      → ((v : Data) → type_says true (Some (type_without_null t)) (Some (boolean true)) v ≡ type_says false (Some t) None v) → Says (among_members t ms)
+      → ((v : Data) → type_says true (Some (type_without_null t)) (Some (boolean true)) v ≡ type_says false (Some t) None v)
+      → Says (among_members t ms)
   judge-among t here type =
       says-moved c (without_nullable_read d) (with_nullable_read d) ms (among_members t ms) is refl refl
       (λ k out. among-other t k ms (outside k (codes "type") out refl) (outside k (codes "nullable") out refl)) same
     where
-      other : (k : Text) → bytes_eq k (codes "type") ≡ false → bytes_eq k (codes "nullable") ≡ false → get_member k (among_members t ms) ≡ get_member k ms
+      other : (k : Text) → bytes_eq k (codes "type") ≡ false → bytes_eq k (codes "nullable") ≡ false
+          → get_member k (among_members t ms) ≡ get_member k ms
       other k e n = among-other t k ms (differ k (codes "type") e) (differ k (codes "nullable") n)
 
-      same : (v : Data) (x : Verdict) → four_by c (with_nullable_read d) (look_up (among_members t ms)) v x ≡ four_by c (without_nullable_read d) (look_up ms) v x
+      same : (v : Data) (x : Verdict)
+          → four_by c (with_nullable_read d) (look_up (among_members t ms)) v x ≡ four_by c (without_nullable_read d) (look_up ms) v x
       same v x =
           rw (
             other (codes "prefixItems") refl refl,
@@ -205,7 +210,8 @@ among-changed None t ms here is = cc
 among-changed (Some u) t ms here is = let same : u ≡ t = cc in ap (λ x. object (among_members x ms)) same
 
 module _ (P : Data → Type 0) (ms : Members) where
-  by_text : (s : Text) → (bytes_eq s (codes "null") ≡ false → P (object ms)) → (bytes_eq s (codes "null") ≡ true → P (object (alone_members ms)))
+  by_text : (s : Text) → (bytes_eq s (codes "null") ≡ false → P (object ms))
+      → (bytes_eq s (codes "null") ≡ true → P (object (alone_members ms)))
       → P (changed_for (Some (string s)) (object ms))
   by_text s missing alone = go (bytes_eq s (codes "null")) refl
     where
@@ -223,7 +229,9 @@ module _ (P : Data → Type 0) (ms : Members) where
     where
       go : (b : Bool) → holds_text (codes "null") ds ≡ b → (a : Bool) → all_null ds ≡ a
           → P (nullable_by plain_nullable
-          (if b then (if a then nulls_in (Some (string (codes "null"))) else nulls_in (Some (array (item (string (codes "null")) (item null no_items))))) else nulls_in None)
+          (if b then
+          (if a then nulls_in (Some (string (codes "null"))) else nulls_in
+          (Some (array (item (string (codes "null")) (item null no_items))))) else nulls_in None)
           (object ms))
       go false is a all = missing is
       go true is true all = alone is all
@@ -243,18 +251,22 @@ module _ (P : Data → Type 0) (ms : Members) (missing : P (object ms)) (alone :
   by_kind (Some (object es)) here = missing
 
 judge-nullable : (c : Context) (d : Dialect) (ms : Members) → c.dialect ≡ with_nullable_read d → HasPlainType ms
-    → judge c (nullable_change (object ms)) ≡ keywords (record c { dialect = without_nullable_read d }) (look_up ms) (reading_at (read_members c ms))
+    → judge c (nullable_change (object ms))
+    ≡ keywords (record c { dialect = without_nullable_read d }) (look_up ms) (reading_at (read_members c ms))
 judge-nullable c d ms is plain = go (get_member (codes "type") ms) refl plain.0 plain.2
   where
     Goal : Data → Type 0
     Goal s = judge c s ≡ keywords (record c { dialect = without_nullable_read d }) (look_up ms) (reading_at (read_members c ms))
 
-    unread : (t : Data) → get_member (codes "type") ms ≡ Some t → ((v : Data) → type_says true (Some t) None v ≡ type_says false (Some t) None v) → Goal (object ms)
+    unread : (t : Data) → get_member (codes "type") ms ≡ Some t
+        → ((v : Data) → type_says true (Some t) None v ≡ type_says false (Some t) None v) → Goal (object ms)
     unread t here same =
-        judge-missing c d ms is plain.1 (λ v. ap (λ o. type_says true o None v) here ∙ (same v ∙ ap (λ o. type_says false o None v) (sym here)))
+        judge-missing c d ms is plain.1
+        (λ v. ap (λ o. type_says true o None v) here ∙ (same v ∙ ap (λ o. type_says false o None v) (sym here)))
 
     const-none : (t : Data) → get_member (codes "type") ms ≡ Some t → is_null_alone (Some t) ≡ true
-        → (is_null_alone (get_member (codes "type") ms) ≡ false) ⊎ (get_member (codes "const") ms ≡ None) → get_member (codes "const") ms ≡ None
+        → (is_null_alone (get_member (codes "type") ms) ≡ false) ⊎ (get_member (codes "const") ms ≡ None)
+        → get_member (codes "const") ms ≡ None
     const-none t here alone_is (inl not_alone) = absurd (true≢false (sym alone_is ∙ (sym (ap is_null_alone here) ∙ not_alone)))
     const-none t here alone_is (inr none) = none
 
@@ -272,7 +284,8 @@ judge-nullable c d ms is plain = go (get_member (codes "type") ms) refl plain.0 
         (judge-missing c d ms is plain.1 (λ v. ap (λ o. type_says true o None v) here ∙ ap (λ o. type_says false o None v) (sym here)))
     go (Some (string s)) here types one =
         subst (λ o. Goal (changed_for o (object ms))) (sym here)
-        (by_text Goal ms s (λ lacks. unread (string s) here (λ v. text-missing s v lacks)) (λ null_is. alone (string s) here null_is one (λ v. text-alone s v null_is)))
+        (by_text Goal ms s (λ lacks. unread (string s) here (λ v. text-missing s v lacks))
+        (λ null_is. alone (string s) here null_is one (λ v. text-alone s v null_is)))
     go (Some (array ds)) here types one =
         let are = subst IsTypes here types in
         subst (λ o. Goal (changed_for o (object ms))) (sym here)
@@ -315,7 +328,8 @@ plain-walked ms plain = (
 )
   where
     one : (is_null_alone (get_member (codes "type") ms) ≡ false) ⊎ (get_member (codes "const") ms ≡ None)
-        → (is_null_alone (get_member (codes "type") (walked nullable_change ms)) ≡ false) ⊎ (get_member (codes "const") (walked nullable_change ms) ≡ None)
+        → (is_null_alone (get_member (codes "type") (walked nullable_change ms)) ≡ false)
+        ⊎ (get_member (codes "const") (walked nullable_change ms) ≡ None)
     one (inl other) = inl (ap is_null_alone (raw-walked nullable_change (codes "type") ms refl) ∙ other)
     one (inr none) = inr (raw-walked nullable_change (codes "const") ms refl ∙ none)
 

@@ -29,7 +29,8 @@ names_get ρ r k no_members = refl
 names_get ρ r k (member l d ms) = rw (names_get ρ r k ms) (go (slice_cmp nat_cmp k l) (get_member k ms))
   where
     go : (o : Ordering) (found : Option Data)
-        → match_ordering o (option_map (λ d. (forms ρ r d).as_schema) found) (Some (forms ρ r d).as_schema) (option_map (λ d. (forms ρ r d).as_schema) found)
+        → match_ordering o (option_map (λ d. (forms ρ r d).as_schema) found) (Some (forms ρ r d).as_schema)
+        (option_map (λ d. (forms ρ r d).as_schema) found)
         ≡ option_map (λ d. (forms ρ r d).as_schema) (match_ordering o found (Some d) found)
     go Less found = refl
     go Equal found = refl
@@ -67,7 +68,8 @@ all-members P (member l e es) a k d is = go (slice_cmp nat_cmp k l) is (all-memb
     some : {x y : Data} → Some x ≡ Some y → x ≡ y
     some e = cc
 
-    go : (o : Ordering) → match_ordering o (get_member k es) (Some e) (get_member k es) ≡ Some d → (get_member k es ≡ Some d → Everywhere P d) → Everywhere P d
+    go : (o : Ordering) → match_ordering o (get_member k es) (Some e) (get_member k es) ≡ Some d
+        → (get_member k es ≡ Some d → Everywhere P d) → Everywhere P d
     go Less is later = later is
     go Equal is later = subst (Everywhere P) (some is) a.0
     go Greater is later = later is
@@ -104,7 +106,8 @@ module _ {R : Type 0} (ρ : Rules R) (r : R) (path : Text) (plain : IsPlain path
       ap (λ x. lookup x new) is ∙ (lookup-definition path k new (in_names ρ r stand.entries) plain stand.after text
       ∙ names_get ρ r k stand.entries) in
       subst (λ o. IsLed ρ (NamedBy N Q) (option_and_then schema_only o) (resolved new t)) (sym old_at)
-      (subst (λ o. IsLed ρ (NamedBy N Q) (option_and_then schema_only (get_member k stand.entries)) (option_and_then schema_only o)) (sym new_at)
+      (subst (λ o. IsLed ρ (NamedBy N Q) (option_and_then schema_only (get_member k stand.entries)) (option_and_then schema_only o))
+      (sym new_at)
       (led (get_member k stand.entries) (stand.each k)))
 
 -- so do all names, where the new document says what the old one says, rewritten
@@ -128,8 +131,10 @@ moves-components ρ r old new Q h whole ms parts es at inside all each patterns 
     (names-lead ρ r components plain-components Q ms ns h.schema (record {
       entries = es;
       before = pointer-components ms parts (object es) at inside;
-      after = pointer-components ns now (object (in_names ρ r es)) (get_member-put (codes "components") (object now) (members_in (rewritten ρ r (object ms))))
-          (get_member-put (codes "schemas") (object (each_changed (rewritten ρ r) es)) parts ∙ ap (λ x. Some (object x)) (sym (each-names ρ r es)));
+      after = pointer-components ns now (object (in_names ρ r es))
+          (get_member-put (codes "components") (object now) (members_in (rewritten ρ r (object ms))))
+          (get_member-put (codes "schemas") (object (each_changed (rewritten ρ r) es)) parts
+          ∙ ap (λ x. Some (object x)) (sym (each-names ρ r es)));
       each = each;
     }) all says) patterns n r part v part_is
   where

@@ -8,12 +8,12 @@ use Rattle.schemars_schema.specs.Json.{Text}
 use Rattle.schemars_schema.specs.SchemaData.{IsSchema}
 use Rattle.schemars_schema.specs.Edits.{without}
 use Rattle.schemars_schema.specs.References.{NoSchemas, place_under}
+use Rattle.schemars_schema.proofs.Members.{differ, get_member-member, unequal}
 use Rattle.schemars_walk.specs.Rewritten.{Rules, in_keywords}
 use Rattle.schemars_laws.specs.Names.{IsNamedBy, HasNameOf, IsNoObject}
 use Rattle.schemars_laws.specs.Classes.{IsText, IsSchemaList, IsNoList, HasPlainItems, HasPlainReference}
 use Rattle.schemars_laws.proofs.Walking.{without-walked, raw-walked as raw-walked_by}
-use Rattle.schemars_laws.proofs.Looked.{get_member-first, unequal, without-other, walked, raw-walked, once-walked, list-walked}
-use Rattle.schemars_laws.proofs.Apart.{differ}
+use Rattle.schemars_laws.proofs.Looked.{without-other, walked, raw-walked, once-walked, list-walked}
 
 -- ---- by a walk
 
@@ -42,10 +42,12 @@ pub record Alike (k : Text) (ns ms : Members) : Type 0 where
 pub name-alike : (N : Text → Type 0) (ns ms : Members) → Alike (codes "$ref") ns ms → HasNameOf N ms → HasNameOf N ns
 name-alike N ns ms a is = subst (λ o. IsNamedBy N (option_and_then as_str o)) (sym a.first) is
 
-pub reference-alike : (ns ms : Members) → Alike (codes "$ref") ns ms → Alike (codes "allOf") ns ms → HasPlainReference ms → HasPlainReference ns
+pub reference-alike : (ns ms : Members) → Alike (codes "$ref") ns ms → Alike (codes "allOf") ns ms → HasPlainReference ms
+    → HasPlainReference ns
 reference-alike ns ms a b plain = (a.others ∙ plain.0, subst IsText (sym a.first) plain.1, subst IsSchemaList (sym b.first) plain.2)
 
-pub items-alike : (ns ms : Members) → Alike (codes "prefixItems") ns ms → Alike (codes "items") ns ms → Alike (codes "additionalItems") ns ms
+pub items-alike : (ns ms : Members) → Alike (codes "prefixItems") ns ms → Alike (codes "items") ns ms
+    → Alike (codes "additionalItems") ns ms
     → HasPlainItems ms → HasPlainItems ns
 items-alike ns ms a b c plain =
     (a.others ∙ plain.0, subst IsSchemaList (sym a.first) plain.1, subst IsNoList (sym b.first) plain.2, c.first ∙ plain.3)
@@ -54,21 +56,24 @@ pub without-swap : (k l : Text) (ms : Members) → k ≢ l → get_member k (wit
 without-swap k l no_members apart = refl
 without-swap k l (member j d ms) apart = go (bytes_eq l j) refl (bytes_eq k j) refl (without-swap k l ms apart)
   where
-    go : (b : Bool) → bytes_eq l j ≡ b → (a : Bool) → bytes_eq k j ≡ a → get_member k (without k (without l ms)) ≡ get_member k (without k ms)
-        → get_member k (without k (if b then ms else member j d (without l ms))) ≡ get_member k (if a then ms else member j d (without k ms))
+    go : (b : Bool) → bytes_eq l j ≡ b → (a : Bool) → bytes_eq k j ≡ a
+        → get_member k (without k (without l ms)) ≡ get_member k (without k ms)
+        → get_member k (without k (if b then ms else member j d (without l ms)))
+        ≡ get_member k (if a then ms else member j d (without k ms))
     go true at_l a at_k rest =
         let other : bytes_eq k j ≡ false = unequal k j (λ same. apart (same ∙ sym ((bytes_eq-Decides l j).0 at_l))) in
         sym (ap (λ b. get_member k (if b then ms else member j d (without k ms))) (sym at_k ∙ other)
-        ∙ (get_member-first k j d (without k ms) ∙ ap (λ b. if b then Some d else get_member k (without k ms)) other))
+        ∙ (get_member-member k j d (without k ms) ∙ ap (λ b. if b then Some d else get_member k (without k ms)) other))
     go false at_l true at_k rest =
         ap (λ b. get_member k (if b then without l ms else member j d (without k (without l ms)))) at_k ∙ without-other l k ms apart
     go false at_l false at_k rest =
         ap (λ b. get_member k (if b then without l ms else member j d (without k (without l ms)))) at_k
-        ∙ (get_member-first k j d (without k (without l ms))
-        ∙ (ap (λ o. if bytes_eq k j then Some d else o) rest ∙ sym (get_member-first k j d (without k ms))))
+        ∙ (get_member-member k j d (without k (without l ms))
+        ∙ (ap (λ o. if bytes_eq k j then Some d else o) rest ∙ sym (get_member-member k j d (without k ms))))
 
 -- keywords without schemas that a walk goes down under
-pub alike-walked : {R : Type 0} (ρ : Rules R) (Enters : Text → Type 0) → ((r : R) (k : Text) (d : Data) → Enters k → ρ.place r k d ≡ place_under k)
+pub alike-walked : {R : Type 0} (ρ : Rules R) (Enters : Text → Type 0)
+    → ((r : R) (k : Text) (d : Data) → Enters k → ρ.place r k d ≡ place_under k)
     → (r : R) (k : Text) (ms : Members) → Enters k → place_under k ≡ NoSchemas → Alike k (in_keywords ρ r ms) ms
 alike-walked ρ Enters place r k ms enters none = record {
   first = raw-walked_by ρ Enters place r k ms enters none;

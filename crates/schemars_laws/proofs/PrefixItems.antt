@@ -7,21 +7,19 @@ use Rattle.serde_json.proofs.Views.{get_member-put, get_member-put_other}
 use Rattle.schemars_schema.specs.Json.{Text}
 use Rattle.schemars_schema.specs.SchemaData.{IsSchema}
 use Rattle.schemars_schema.specs.Edits.{without}
-use Rattle.schemars_schema.specs.Verdict.{Verdict, Yes}
+use Rattle.schemars_schema.specs.Verdict.{Verdict}
 use Rattle.schemars_schema.specs.Acceptance.{Dialect, Context, Judge, judge, keywords, truth_value, read_data, read_items, read_members, reading_at}
-use Rattle.schemars_schema.specs.Acceptance.{items_say, where_some}
+use Rattle.schemars_schema.specs.Acceptance.{items_say}
 use Rattle.schemars_schema.proofs.Objects.{schema-judge}
 use Rattle.schemars_transform.specs.Built.{prefix_as_items, prefix_moved, old_items_moved}
 use Rattle.schemars_laws.specs.Classes.{IsOnce, AreSchemas, IsSchemaList, IsNoList, HasPlainItems, by_items, by_prefix_items}
 use Rattle.schemars_schema.proofs.Verdicts.{both-yes}
+use Rattle.schemars_schema.proofs.Silent.{silent}
+use Rattle.schemars_schema.proofs.Members.{differ}
 use Rattle.schemars_laws.proofs.Looked.{without-other, walked, none-walked, once-walked, list-walked, no_list-walked, Change}
-use Rattle.schemars_laws.proofs.Apart.{four_of, four_by, look_up, says-moved, differ, outside}
+use Rattle.schemars_laws.proofs.Apart.{four_of, four_by, look_up, says-moved, outside}
 
 -- ---- what the keywords for items say
-
-where-yes : {A : Type 0} (o : Option A) → where_some o (λ a. Yes) ≡ Yes
-where-yes None = refl
-where-yes (Some a) = refl
 
 pub some-list : (c : Context) (ds : Items) → AreSchemas ds → (ss : List Judge) × (read_items c ds ≡ Some ss)
 unfolding read_data
@@ -45,18 +43,19 @@ items_by c b p i a v = items_say b (option_map (read_data c) p) (option_map (rea
 -- without `prefixItems`
 items-alone : (c : Context) (i : Option Data) (v : Data) → IsNoList i → items_by c false None i None v ≡ items_by c true None i None v
 items-alone c None v is = refl
-items-alone c (Some d) v is = rw (no-list c d is, where-yes (as_array v)) (both-yes _)
+items-alone c (Some d) v is = rw (no-list c d is, silent (as_array v)) (both-yes _)
 
 -- a list alone
-list-alone : (c : Context) (ds : Items) (v : Data) → AreSchemas ds → items_by c false None (Some (array ds)) None v ≡ items_by c true (Some (array ds)) None None v
+list-alone : (c : Context) (ds : Items) (v : Data) → AreSchemas ds
+    → items_by c false None (Some (array ds)) None v ≡ items_by c true (Some (array ds)) None None v
 unfolding read_data
-list-alone c ds v are = let list = some-list c ds are in rw (list.1, where-yes (as_array v)) refl
+list-alone c ds v are = let list = some-list c ds are in rw (list.1, silent (as_array v)) refl
 
 -- a list, and what stands behind it
 list-before : (c : Context) (ds : Items) (d v : Data) → AreSchemas ds
     → items_by c false None (Some (array ds)) (Some d) v ≡ items_by c true (Some (array ds)) (Some d) None v
 unfolding read_data
-list-before c ds d v are = let list = some-list c ds are in rw (list.1, where-yes (as_array v)) refl
+list-before c ds d v are = let list = some-list c ds are in rw (list.1, silent (as_array v)) refl
 
 -- ---- the members of one schema
 
@@ -79,7 +78,8 @@ changed ms = go (get_member (codes "prefixItems") ms)
     items : get_member (codes "items") (without (codes "prefixItems") ms) ≡ get_member (codes "items") ms
     items = without-other (codes "prefixItems") (codes "items") ms (differ (codes "items") (codes "prefixItems") refl)
 
-    go : (o : Option Data) → prefix_moved o (object (without (codes "prefixItems") ms)) ≡ object (moved_members o (get_member (codes "items") ms) ms)
+    go : (o : Option Data)
+        → prefix_moved o (object (without (codes "prefixItems") ms)) ≡ object (moved_members o (get_member (codes "items") ms) ms)
     go None = refl
     go (Some p) =
         ap (λ i. old_items_moved i (object (put (codes "items") p (without (codes "prefixItems") ms)))) items
@@ -108,11 +108,14 @@ module _ (ms : Members) (once : IsOnce (codes "prefixItems") ms) (none : get_mem
   prefix-gone : (p i : Option Data) → get_member (codes "prefixItems") (moved_members p i ms) ≡ None
   prefix-gone None i = once
   prefix-gone (Some p) i =
-      get-behind i (codes "prefixItems") (put (codes "items") p (without (codes "prefixItems") ms)) (differ (codes "prefixItems") (codes "additionalItems") refl)
-      ∙ (get_member-put_other (codes "prefixItems") (codes "items") p (without (codes "prefixItems") ms) (differ (codes "prefixItems") (codes "items") refl)
+      get-behind i (codes "prefixItems") (put (codes "items") p (without (codes "prefixItems") ms))
+      (differ (codes "prefixItems") (codes "additionalItems") refl)
+      ∙ (get_member-put_other (codes "prefixItems") (codes "items") p (without (codes "prefixItems") ms)
+      (differ (codes "prefixItems") (codes "items") refl)
       ∙ once)
 
-  items-moved : (p : Option Data) → get_member (codes "items") (moved_members p (get_member (codes "items") ms) ms) ≡ items_of p (get_member (codes "items") ms)
+  items-moved : (p : Option Data)
+      → get_member (codes "items") (moved_members p (get_member (codes "items") ms) ms) ≡ items_of p (get_member (codes "items") ms)
   items-moved None = without-other (codes "prefixItems") (codes "items") ms (differ (codes "items") (codes "prefixItems") refl)
   items-moved (Some p) =
       get-behind (get_member (codes "items") ms) (codes "items") (put (codes "items") p (without (codes "prefixItems") ms))
@@ -129,8 +132,10 @@ module _ (ms : Members) (once : IsOnce (codes "prefixItems") ms) (none : get_mem
       without-other (codes "prefixItems") (codes "additionalItems") ms (differ (codes "additionalItems") (codes "prefixItems") refl) ∙ none
   additional-moved (Some p) i =
       additional-behind i (put (codes "items") p (without (codes "prefixItems") ms))
-      (get_member-put_other (codes "additionalItems") (codes "items") p (without (codes "prefixItems") ms) (differ (codes "additionalItems") (codes "items") refl)
-      ∙ (without-other (codes "prefixItems") (codes "additionalItems") ms (differ (codes "additionalItems") (codes "prefixItems") refl) ∙ none))
+      (get_member-put_other (codes "additionalItems") (codes "items") p (without (codes "prefixItems") ms)
+      (differ (codes "additionalItems") (codes "items") refl)
+      ∙ (without-other (codes "prefixItems") (codes "additionalItems") ms (differ (codes "additionalItems") (codes "prefixItems") refl)
+      ∙ none))
 
 items-same : (c : Context) (p i : Option Data) (v : Data) → IsSchemaList p → IsNoList i
     → items_by c false None (items_of p i) (additional_of p i) v ≡ items_by c true p i None v
@@ -149,17 +154,20 @@ unfolding four_of
 four-same c d p i e k t n v x list plain = rw (items-same c p i v list plain) refl
 
 judge-prefix : (c : Context) (d : Dialect) (ms : Members) → c.dialect ≡ by_items d → HasPlainItems ms
-    → judge c (prefix_as_items (object ms)) ≡ keywords (record c { dialect = by_prefix_items d }) (look_up ms) (reading_at (read_members c ms))
+    → judge c (prefix_as_items (object ms))
+    ≡ keywords (record c { dialect = by_prefix_items d }) (look_up ms) (reading_at (read_members c ms))
 judge-prefix c d ms is plain =
     let p = get_member (codes "prefixItems") ms in
     let i = get_member (codes "items") ms in
     let new : Members = moved_members p i ms in
     ap (judge c) (changed ms)
     ∙ says-moved c (by_prefix_items d) (by_items d) ms new is refl refl
-    (λ k out. get-other p i k ms (outside k (codes "prefixItems") out refl) (outside k (codes "items") out refl) (outside k (codes "additionalItems") out refl))
+    (λ k out. get-other p i k ms (outside k (codes "prefixItems") out refl) (outside k (codes "items") out refl)
+    (outside k (codes "additionalItems") out refl))
     same
   where
-    other : (k : Text) → bytes_eq k (codes "prefixItems") ≡ false → bytes_eq k (codes "items") ≡ false → bytes_eq k (codes "additionalItems") ≡ false
+    other : (k : Text) → bytes_eq k (codes "prefixItems") ≡ false → bytes_eq k (codes "items") ≡ false
+        → bytes_eq k (codes "additionalItems") ≡ false
         → get_member k (moved_members (get_member (codes "prefixItems") ms) (get_member (codes "items") ms) ms) ≡ get_member k ms
     other k prefix items additional =
         get-other (get_member (codes "prefixItems") ms) (get_member (codes "items") ms) k ms (differ k (codes "prefixItems") prefix)

@@ -28,7 +28,8 @@ module _ (Q : Members → Type 0) where
       go true rest = a.1
       go false rest = (a.0, rest)
 
-  pub asked-put : (k : Text) (d : Data) (ms : Members) → asked_at (place_under k) (asked Q d) → asked_of_keywords Q ms → asked_of_keywords Q (put k d ms)
+  pub asked-put : (k : Text) (d : Data) (ms : Members) → asked_at (place_under k) (asked Q d) → asked_of_keywords Q ms
+      → asked_of_keywords Q (put k d ms)
   unfolding asked_of_keywords
   asked-put k d no_members here a = (here, tt)
   asked-put k d (member l e ms) here a = go (slice_cmp nat_cmp k l) refl (asked-put k d ms here a.1)
@@ -40,7 +41,8 @@ module _ (Q : Members → Type 0) where
           (subst (λ x. asked_at (place_under x) (asked Q d)) ((bytes_eq-Decides k l).0 (sym (is_eq-slice_cmp k l) ∙ ap is_eq is)) here, a.1)
       go Greater is rest = (a.0, rest)
 
-  pub asked-replaced : (k : Text) (d : Data) (ms : Members) → asked_at (place_under k) (asked Q d) → asked_of_keywords Q ms → asked_of_keywords Q (replaced k d ms)
+  pub asked-replaced : (k : Text) (d : Data) (ms : Members) → asked_at (place_under k) (asked Q d) → asked_of_keywords Q ms
+      → asked_of_keywords Q (replaced k d ms)
   unfolding asked_of_keywords
   asked-replaced k d no_members here a = tt
   asked-replaced k d (member l e ms) here a = go (bytes_eq k l) refl (asked-replaced k d ms here a.1)
@@ -50,7 +52,8 @@ module _ (Q : Members → Type 0) where
       go true is rest = (subst (λ x. asked_at (place_under x) (asked Q d)) ((bytes_eq-Decides k l).0 is) here, a.1)
       go false is rest = (a.0, rest)
 
-  pub asked-get : (k : Text) (ms : Members) (d : Data) → get_member k ms ≡ Some d → asked_of_keywords Q ms → asked_at (place_under k) (asked Q d)
+  pub asked-get : (k : Text) (ms : Members) (d : Data) → get_member k ms ≡ Some d → asked_of_keywords Q ms
+      → asked_at (place_under k) (asked Q d)
   unfolding asked_of_keywords
   asked-get k no_members d is a = cc
   asked-get k (member l e ms) d is a = go (slice_cmp nat_cmp k l) refl is (λ there. asked-get k ms d there a.1)
@@ -63,7 +66,8 @@ module _ (Q : Members → Type 0) where
       go Less same is later = later is
       go Equal same is later =
           subst (λ x. asked_at (place_under k) (asked Q x)) (some is)
-          (subst (λ x. asked_at (place_under x) (asked Q e)) (sym ((bytes_eq-Decides k l).0 (sym (is_eq-slice_cmp k l) ∙ ap is_eq same))) a.0)
+          (subst (λ x. asked_at (place_under x) (asked Q e))
+          (sym ((bytes_eq-Decides k l).0 (sym (is_eq-slice_cmp k l) ∙ ap is_eq same))) a.0)
       go Greater same is later = later is
 
   pub schema-no_list : (s : Data) → IsSchema s → (asked Q s).as_list
@@ -77,7 +81,8 @@ module _ (Q : Members → Type 0) where
 
 -- ---- what is weaker
 
-weaker-at : (P Q : Members → Type 0) (d : Data) → ((asked P d).as_schema → (asked Q d).as_schema) → ((asked P d).as_list → (asked Q d).as_list)
+weaker-at : (P Q : Members → Type 0) (d : Data) → ((asked P d).as_schema → (asked Q d).as_schema)
+    → ((asked P d).as_list → (asked Q d).as_list)
     → ((asked P d).by_name → (asked Q d).by_name) → (p : Place) → asked_at p (asked P d) → asked_at p (asked Q d)
 weaker-at P Q d one list names NoSchemas a = tt
 weaker-at P Q d one list names OneSchema a = one a
@@ -123,7 +128,8 @@ module _ (P Q : Members → Type 0) (h : (ms : Members) → P ms → Q ms) where
 
     weaker-keywords : (ms : Members) → asked_of_keywords P ms → asked_of_keywords Q ms
     weaker-keywords no_members a = tt
-    weaker-keywords (member k d ms) a = (weaker-at P Q d (weaker d) (weaker-list d) (weaker-names d) (place_under k) a.0, weaker-keywords ms a.1)
+    weaker-keywords (member k d ms) a =
+        (weaker-at P Q d (weaker d) (weaker-list d) (weaker-names d) (place_under k) a.0, weaker-keywords ms a.1)
 
 -- ---- a rewrite of each schema
 
@@ -143,8 +149,10 @@ module _ {R : Type 0} (ρ : Rules R) (P Q : Members → Type 0) (h : Preserves �
     unfolding asked forms
     either null is a = subst (λ x. asked_at SchemaOrList (asked Q (forms ρ r x).as_either)) is (tt, tt)
     either (boolean b) is a =
-        subst (λ x. asked_at SchemaOrList (asked Q (forms ρ r x).as_either)) is
-        (h.of_truth (ρ.inside r (boolean b)) b, schema-no_list Q (ρ.finish (ρ.inside r (boolean b)) (boolean b)) (h.schema (ρ.inside r (boolean b)) (boolean b) tt))
+        subst (λ x. asked_at SchemaOrList (asked Q (forms ρ r x).as_either)) is (
+          h.of_truth (ρ.inside r (boolean b)) b,
+          schema-no_list Q (ρ.finish (ρ.inside r (boolean b)) (boolean b)) (h.schema (ρ.inside r (boolean b)) (boolean b) tt),
+        )
     either (number n) is a = subst (λ x. asked_at SchemaOrList (asked Q (forms ρ r x).as_either)) is (tt, tt)
     either (string s) is a = subst (λ x. asked_at SchemaOrList (asked Q (forms ρ r x).as_either)) is (tt, tt)
     either (array ds) is a =
@@ -185,8 +193,11 @@ module _ {R : Type 0} (ρ : Rules R) (P Q : Members → Type 0) (h : Preserves �
     where
       go : (ρ.place r k d ≡ place_under k) ⊎ ((ρ.place r k d ≡ NoSchemas) × IsTruth d)
           → asked_at (place_under k) (asked Q (form_at (ρ.place r k d) d (forms ρ r d)))
-      go (inl is) = subst (λ p. asked_at (place_under k) (asked Q (form_at p d (forms ρ r d)))) (sym is) (by_place r d one more named (place_under k) a)
-      go (inr is) = subst (λ p. asked_at (place_under k) (asked Q (form_at p d (forms ρ r d)))) (sym is.0) (of_a_truth (place_under k) d is.1)
+      go (inl is) =
+          subst (λ p. asked_at (place_under k) (asked Q (form_at p d (forms ρ r d)))) (sym is)
+          (by_place r d one more named (place_under k) a)
+      go (inr is) =
+          subst (λ p. asked_at (place_under k) (asked Q (form_at p d (forms ρ r d)))) (sym is.0) (of_a_truth (place_under k) d is.1)
 
   mutual
     unfolding asked forms

@@ -31,7 +31,8 @@ nowhere-defs : (rest : Text) (ms : Members) → get_member (codes "$defs") ms �
 unfolding percent_decoded
 nowhere-defs rest ms none =
     ap (λ bs. option_and_then (λ p. pointer p (object ms)) (text_of_bytes bs)) (decoded-defs rest)
-    ∙ text-nowhere (λ p. pointer p (object ms)) (codes "/$defs/" ++ percent_decoded_bytes rest) (missing-defs (percent_decoded_bytes rest) ms none)
+    ∙ text-nowhere (λ p. pointer p (object ms)) (codes "/$defs/" ++ percent_decoded_bytes rest)
+    (missing-defs (percent_decoded_bytes rest) ms none)
 
 pub defs-name : (k : Text) → IsUtf8 k → IsName (codes "$defs") (codes "#/$defs/" ++ encoded k)
 defs-name k text = inr (
@@ -42,11 +43,13 @@ defs-name k text = inr (
   },
 )
 
-missing-definitions : (bs : Text) (ms : Members) → get_member (codes "definitions") ms ≡ None → pointer (codes "/definitions/" ++ bs) (object ms) ≡ None
+missing-definitions : (bs : Text) (ms : Members) → get_member (codes "definitions") ms ≡ None
+    → pointer (codes "/definitions/" ++ bs) (object ms) ≡ None
 unfolding serde_json_on_literals
 missing-definitions bs ms none = rw none refl
 
-decoded-definitions : (rest : Text) → percent_decoded_bytes (codes "/definitions/" ++ rest) ≡ codes "/definitions/" ++ percent_decoded_bytes rest
+decoded-definitions : (rest : Text)
+    → percent_decoded_bytes (codes "/definitions/" ++ rest) ≡ codes "/definitions/" ++ percent_decoded_bytes rest
 unfolding percent_decoded_bytes
 decoded-definitions [] = refl
 decoded-definitions (x ∷ []) = refl

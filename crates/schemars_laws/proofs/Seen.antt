@@ -34,7 +34,8 @@ judge_ext a b fit judged =
     ∙ ap (λ j. record { fits = b.fits; judges = j }) (fun_ext (λ v. fun_ext (judged v)))
 
 items-seen : (b : Bool) (p i a : Option Reading) (v : Data)
-    → items_say b (option_map (seen SchemaList) p) (option_map (seen SchemaOrList) i) (option_map (seen OneSchema) a) v ≡ items_say b p i a v
+    → items_say b (option_map (seen SchemaList) p) (option_map (seen SchemaOrList) i) (option_map (seen OneSchema) a) v
+    ≡ items_say b p i a v
 items-seen true None None a v = refl
 items-seen true None (Some i) a v = refl
 items-seen true (Some p) None a v = refl
@@ -91,7 +92,8 @@ or-cong {b} {c} e h = ap (λ x. x || c) e ∙ ap (λ x. b || x) h
 or-else : (a : Bool) {c d : Bool} → c ≡ d → a || c ≡ a || d
 or-else a h = ap (λ x. a || x) h
 
-judged-seen : (c : Context) (raw : Raw) (read : Readings) (v : Data) (k : Text) → judged_beside c raw (seen_under read) v k ≡ judged_beside c raw read v k
+judged-seen : (c : Context) (raw : Raw) (read : Readings) (v : Data) (k : Text)
+    → judged_beside c raw (seen_under read) v k ≡ judged_beside c raw read v k
 judged-seen c raw read v k =
     or-cong (ap (λ f. f k) (covered-seen c.patterns (read (codes "properties")) (read (codes "patternProperties"))))
     (or-cong (stands-seen (read (codes "additionalProperties")))
@@ -100,16 +102,19 @@ judged-seen c raw read v k =
     (or-cong (judged_list-seen (read (codes "oneOf")) v k) refl))))
 
 additional_covered-seen : (patterns : Patterns) (o p a : Option Reading) (v : Data)
-    → additional_properties_say (is_covered patterns (option_map (seen SchemasByName) o) (option_map (seen SchemasByName) p)) (option_map (seen OneSchema) a) v
+    → additional_properties_say (is_covered patterns (option_map (seen SchemasByName) o) (option_map (seen SchemasByName) p))
+    (option_map (seen OneSchema) a) v
     ≡ additional_properties_say (is_covered patterns o p) a v
 additional_covered-seen patterns o p a v =
-    ap (λ f. additional_properties_say f (option_map (seen OneSchema) a) v) (covered-seen patterns o p) ∙ additional-seen (is_covered patterns o p) a v
+    ap (λ f. additional_properties_say f (option_map (seen OneSchema) a) v) (covered-seen patterns o p)
+    ∙ additional-seen (is_covered patterns o p) a v
 
 unevaluated_judged-seen : (c : Context) (raw : Raw) (read : Readings) (o : Option Reading) (v : Data)
     → unevaluated_properties_say c.dialect.reads_unevaluated (judged_beside c raw (seen_under read) v) (option_map (seen OneSchema) o) v
     ≡ unevaluated_properties_say c.dialect.reads_unevaluated (judged_beside c raw read v) o v
 unevaluated_judged-seen c raw read o v =
-    ap (λ f. unevaluated_properties_say c.dialect.reads_unevaluated f (option_map (seen OneSchema) o) v) (fun_ext (judged-seen c raw read v))
+    ap (λ f. unevaluated_properties_say c.dialect.reads_unevaluated f (option_map (seen OneSchema) o) v)
+    (fun_ext (judged-seen c raw read v))
     ∙ unevaluated-seen c.dialect.reads_unevaluated (judged_beside c raw read v) o v
 
 cons : {x y : Verdict} {xs ys : List Verdict} → x ≡ y → xs ≡ ys → x ∷ xs ≡ y ∷ ys
@@ -125,14 +130,16 @@ verdicts-seen c raw read v =
     (same
     (cons (properties-seen (read (codes "properties")) v)
     (cons (pattern_properties-seen c.patterns (read (codes "patternProperties")) v)
-    (cons (additional_covered-seen c.patterns (read (codes "properties")) (read (codes "patternProperties")) (read (codes "additionalProperties")) v)
+    (cons (additional_covered-seen c.patterns (read (codes "properties")) (read (codes "patternProperties"))
+    (read (codes "additionalProperties")) v)
     (cons (each-seen all_of (read (codes "allOf")) v)
     (cons (each-seen any_of (read (codes "anyOf")) v)
     (cons (each-seen one_of (read (codes "oneOf")) v)
     (cons (not-seen (read (codes "not")) v)
     (cons (unevaluated_judged-seen c raw read (read (codes "unevaluatedProperties")) v) refl)))))))))))))))))))))
 
-fits-seen : (c : Context) (raw : Raw) (read : Readings) (v : Data) → (all_keywords c raw (seen_under read)).fits v ≡ (all_keywords c raw read).fits v
+fits-seen : (c : Context) (raw : Raw) (read : Readings) (v : Data)
+    → (all_keywords c raw (seen_under read)).fits v ≡ (all_keywords c raw read).fits v
 fits-seen c raw read v =
     fits-all c raw (seen_under read) v ∙ (ap all_of (verdicts-seen c raw read v) ∙ sym (fits-all c raw read v))
 
@@ -185,7 +192,8 @@ module _ (c : Context) (f : Text → Judge) (raw : Raw) (read : Readings) (e : A
   verdicts-follow v =
       cons (reference-same f c.follow (raw (codes "$ref")) v e)
       (same (same (same (same (same (same (same (same (same (same (same (same (same (same (same (same (same (same (same (same
-      (cons (ap (λ g. unevaluated_properties_say c.dialect.reads_unevaluated g (read (codes "unevaluatedProperties")) v) (fun_ext (judged-follow v)))
+      (cons (ap (λ g. unevaluated_properties_say c.dialect.reads_unevaluated g (read (codes "unevaluatedProperties")) v)
+      (fun_ext (judged-follow v)))
       refl)))))))))))))))))))))
 
   all_keywords-follow : all_keywords (record c { follow = f }) raw read ≡ all_keywords c raw read

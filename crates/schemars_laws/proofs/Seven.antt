@@ -6,10 +6,10 @@ use Rattle.serde_json.specs.Find.{get_member}
 use Rattle.serde_json.specs.Events.{members_len}
 use Rattle.schemars_schema.specs.Json.{Text}
 use Rattle.schemars_schema.specs.SchemaData.{IsSchema, members_in}
-use Rattle.schemars_schema.specs.Edits.{without, replaced}
+use Rattle.schemars_schema.specs.Edits.{without, replaced, holds_text}
 use Rattle.schemars_schema.specs.References.{SchemaOrList}
 use Rattle.schemars_schema.specs.Acceptance.{draft2020_12}
-use Rattle.schemars_builders.specs.AllowNull.{holds_text}
+use Rattle.schemars_schema.proofs.Members.{differ}
 use Rattle.schemars_walk.specs.Rewritten.{in_keywords}
 use Rattle.schemars_transform.specs.Built.{bool_rules, reference_moved, without_siblings, first_as_example, with_single_example}
 use Rattle.schemars_transform.specs.Built.{value_as_enum, const_as_enum, prefix_as_items, prefix_moved, old_items_moved}
@@ -19,7 +19,6 @@ use Rattle.schemars_laws.specs.Everywhere.{asked, asked_at, asked_of_keywords}
 use Rattle.schemars_laws.specs.Names.{IsNoObject}
 use Rattle.schemars_laws.specs.Classes.{IsSchemaList, is_null_alone, IsConstAlone, HasPlainItems, plain_nullable}
 use Rattle.schemars_laws.proofs.Looked.{change_rules}
-use Rattle.schemars_laws.proofs.Apart.{differ}
 use Rattle.schemars_laws.proofs.Siblings.{schema-siblings, moved_members}
 use Rattle.schemars_laws.proofs.Nullable.{nullable_change, nullable}
 use Rattle.schemars_laws.proofs.Unevaluated.{schema-unevaluated}

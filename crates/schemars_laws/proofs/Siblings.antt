@@ -3,6 +3,7 @@ use Rattle.std.proofs.Common.{◌≡◌, ◌≢◌, ℕ, suc, arith, List, [], �
 use Rattle.std.proofs.Math.Path.{fun_ext}
 use Rattle.std.proofs.lemmas.Slice.Eq.{bytes_eq-Decides}
 use Rattle.std.proofs.lemmas.Bool.Decides.{nat_tests}
+use Rattle.std.proofs.Math.Bool.{and-false, or-false, or_assoc}
 use Rattle.std.specs.Prelude.{bytes_eq, if◌then◌else◌, ◌||◌, ◌&&◌, ◌++◌, ◌==◌}
 use Rattle.serde_json.specs.Data.{Data, null, boolean, number, string, array, object, Items, no_items, item, Members, no_members, member, put}
 use Rattle.serde_json.specs.Find.{get_member}
@@ -11,25 +12,25 @@ use Rattle.serde_json.proofs.Views.{get_member-put, get_member-put_other}
 use Rattle.schemars_schema.specs.Json.{Text}
 use Rattle.schemars_schema.specs.OrderedText.{is_listed}
 use Rattle.schemars_schema.specs.SchemaData.{IsSchema}
-use Rattle.schemars_schema.specs.Edits.{without, replaced}
+use Rattle.schemars_schema.specs.Edits.{without, replaced, with_item, with_last, changed_at}
 use Rattle.schemars_schema.specs.Verdict.{Verdict, Yes, No, Open, both, all_of, is_yes}
 use Rattle.schemars_schema.specs.Acceptance.{Dialect, Context, Raw, Readings, Judge, judge, keywords, all_keywords, reference_alone, is_reference}
 use Rattle.schemars_schema.specs.Acceptance.{truth_value, read_data, read_items, read_members, reading_at, judged_by_reference, judged_by, judged_by_list}
 use Rattle.schemars_schema.specs.Acceptance.{judged_by_some, judged_beside, both_some}
 use Rattle.schemars_schema.specs.Acceptance.{reference_says, type_says, const_says, enum_says, items_say}
 use Rattle.schemars_schema.specs.Acceptance.{stands_schema, is_covered}
-use Rattle.schemars_schema.specs.Acceptance.{each_says, unevaluated_properties_say}
+use Rattle.schemars_schema.specs.Acceptance.{each_says}
 use Rattle.schemars_schema.proofs.Objects.{schema-judge, reading_at-members, judge-agree}
-use Rattle.schemars_builders.specs.AllowNull.{with_item}
-use Rattle.schemars_builders.specs.Properties.{with_last, changed_at}
 use Rattle.schemars_transform.specs.Built.{reference, reference_moved, without_siblings}
 use Rattle.schemars_laws.proofs.Keywords.{counts_say, members_say, last_say, fits-all, left_out, AgreeOutside, left_out-agree}
 use Rattle.schemars_laws.proofs.Seen.{judge_ext}
 use Rattle.schemars_laws.specs.Classes.{IsOnce, IsText, IsSchemaList, HasPlainReference, alone_by, beside_by}
-use Rattle.schemars_laws.proofs.Looked.{get_member-first, unequal, without-other, walked, raw-walked, once-walked, list-walked, Change}
-use Rattle.schemars_laws.proofs.Apart.{pulled, look_up, differ}
-use Rattle.schemars_schema.proofs.Verdicts.{both-yes}
-use Rattle.schemars_builders.proofs.NullKeywords.{or-false}
+use Rattle.schemars_laws.proofs.Looked.{without-other, walked, raw-walked, once-walked, list-walked, Change}
+use Rattle.schemars_laws.proofs.Apart.{pulled, look_up}
+use Rattle.schemars_schema.proofs.Verdicts.{both-yes, both-assoc}
+use Rattle.schemars_schema.proofs.Silent.{items_none, const_none, unevaluated_none}
+use Rattle.schemars_schema.proofs.Members.{differ, get_member-replaced, get_member-member, unequal}
+use Rattle.schemars_schema.proofs.Members.{get_member-replaced_other}
 use Rattle.schemars_laws.proofs.PrefixItems.{some-list}
 
 -- ---- `$ref` and `allOf` apart from the other keywords
@@ -100,7 +101,8 @@ judges-agree : (c : Context) (read reread : Readings) (v : Data) (k : Text) (lis
     → judges_say c read v k listed referred ≡ judges_say c reread v k listed referred
 judges-agree c read reread v k listed referred h =
     sym (judges-left_out c read v k listed referred)
-    ∙ (ap (λ x. judges_say c x v k listed referred) (fun_ext (left_out-agree two read reread h)) ∙ judges-left_out c reread v k listed referred)
+    ∙ (ap (λ x. judges_say c x v k listed referred) (fun_ext (left_out-agree two read reread h))
+    ∙ judges-left_out c reread v k listed referred)
 
 -- a verdict of the list that holds the reference is one of both
 with_reference : (a r x : Verdict) → both Yes (both (both a r) x) ≡ both r (both a x)
@@ -129,28 +131,7 @@ judged_with false false false false false false = refl
 -- ---- the members of one schema
 
 pub replaced-other : (k q : Text) (d : Data) (ms : Members) → q ≢ k → get_member q (replaced k d ms) ≡ get_member q ms
-replaced-other k q d no_members apart = refl
-replaced-other k q d (member l e ms) apart = go (bytes_eq k l) refl (replaced-other k q d ms apart)
-  where
-    go : (b : Bool) → bytes_eq k l ≡ b → get_member q (replaced k d ms) ≡ get_member q ms
-        → get_member q (if b then member l d ms else member l e (replaced k d ms)) ≡ get_member q (member l e ms)
-    go true is later =
-        let other : bytes_eq q l ≡ false = unequal q l (λ same. apart (same ∙ sym ((bytes_eq-Decides k l).0 is))) in
-        get_member-first q l d ms ∙ (ap (λ b. if b then Some d else get_member q ms) other
-        ∙ (ap (λ b. if b then Some e else get_member q ms) (sym other) ∙ sym (get_member-first q l e ms)))
-    go false is later =
-        get_member-first q l e (replaced k d ms) ∙ (ap (λ o. if bytes_eq q l then Some e else o) later ∙ sym (get_member-first q l e ms))
-
-pub replaced-at : (k : Text) (d e : Data) (ms : Members) → get_member k ms ≡ Some e → get_member k (replaced k d ms) ≡ Some d
-replaced-at k d e no_members is = cc
-replaced-at k d e (member l x ms) is = go (bytes_eq k l) refl (sym (get_member-first k l x ms) ∙ is) (replaced-at k d e ms)
-  where
-    go : (b : Bool) → bytes_eq k l ≡ b → (if b then Some x else get_member k ms) ≡ Some e
-        → (get_member k ms ≡ Some e → get_member k (replaced k d ms) ≡ Some d)
-        → get_member k (if b then member l d ms else member l x (replaced k d ms)) ≡ Some d
-    go true same there later = get_member-first k l d ms ∙ ap (λ b. if b then Some d else get_member k ms) same
-    go false same there later =
-        get_member-first k l x (replaced k d ms) ∙ (ap (λ b. if b then Some x else get_member k (replaced k d ms)) same ∙ later there)
+replaced-other k q d ms apart = get_member-replaced_other q k d ms (unequal q k apart)
 
 abbrev pub list_with : Option Data → Data → Data
 list_with None d = array (item d no_items)
@@ -183,7 +164,7 @@ module _ (r : Data) (ms : Members) where
         | Some e ↦ replaced (codes "allOf") (with_last (reference r) e) (without (codes "$ref") ms)
       ]) ≡ Some (list_with o (reference r))
       go None is = get_member-put (codes "allOf") (with_last (reference r) (array no_items)) (without (codes "$ref") ms)
-      go (Some e) is = replaced-at (codes "allOf") (with_last (reference r) e) e (without (codes "$ref") ms) is
+      go (Some e) is = get_member-replaced (codes "allOf") (with_last (reference r) e) e (without (codes "$ref") ms) is
 
   get-rest : (k : Text) → is_listed k two ≡ false → get_member k moved_members ≡ get_member k ms
   get-rest k out =
@@ -194,29 +175,17 @@ module _ (r : Data) (ms : Members) where
 
 -- ---- a list of schemas with one more
 
-both-assoc : (a b x : Verdict) → both (both a b) x ≡ both a (both b x)
-both-assoc Yes b x = refl
-both-assoc Open b x = refl
-both-assoc No Yes x = refl
-both-assoc No Open x = refl
-both-assoc No No Yes = refl
-both-assoc No No No = refl
-both-assoc No No Open = refl
-
 all_of-last : (ss : List Judge) (j : Judge) (v : Data)
     → all_of (map (λ s. s.fits v) (ss ++ j ∷ [])) ≡ both (all_of (map (λ s. s.fits v) ss)) (j.fits v)
 all_of-last [] j v = both-yes (j.fits v)
 all_of-last (s ∷ ss) j v =
     ap (both (s.fits v)) (all_of-last ss j v) ∙ sym (both-assoc (s.fits v) (all_of (map (λ s. s.fits v) ss)) (j.fits v))
 
-or-assoc : (a b c : Bool) → (a || b) || c ≡ a || (b || c)
-or-assoc true b c = refl
-or-assoc false b c = refl
-
-judged-last : (ss : List Judge) (j : Judge) (v : Data) (k : Text) → judged_by_some (ss ++ j ∷ []) v k ≡ judged_by_some ss v k || judged_by j v k
+judged-last : (ss : List Judge) (j : Judge) (v : Data) (k : Text)
+    → judged_by_some (ss ++ j ∷ []) v k ≡ judged_by_some ss v k || judged_by j v k
 judged-last [] j v k = or-false (judged_by j v k)
 judged-last (s ∷ ss) j v k =
-    ap (λ b. judged_by s v k || b) (judged-last ss j v k) ∙ sym (or-assoc (judged_by s v k) (judged_by_some ss v k) (judged_by j v k))
+    ap (λ b. judged_by s v k || b) (judged-last ss j v k) ∙ sym (or_assoc (judged_by s v k) (judged_by_some ss v k) (judged_by j v k))
 
 read-last : (c : Context) (ds : Items) (d : Data) (ss : List Judge) → read_items c ds ≡ Some ss → IsSchema d
     → read_items c (with_item ds d) ≡ Some (ss ++ judge c d ∷ [])
@@ -280,7 +249,8 @@ and-twice Open b = refl
 
 -- what is left of a whole, without the first two
 module _ (c : Context) (raw : Raw) (read : Readings) (v : Data) (a r : Verdict) (listed referred : Text → Bool) where
-  whole-moved : whole_say c raw read v (both a r) Yes (λ k. listed k || referred k) (λ k. false) ≡ whole_say c raw read v a r listed referred
+  whole-moved : whole_say c raw read v (both a r) Yes (λ k. listed k || referred k) (λ k. false)
+      ≡ whole_say c raw read v a r listed referred
   unfolding whole_say judged_say
   whole-moved =
       ap (λ f. both Yes (both (both a r) (all_of (before_say c raw read v ++ last_say c read f v)))) (fun_ext regrouped)
@@ -394,7 +364,8 @@ module _ (c : Context) (d : Dialect) where
         (judged_by_list (read (codes "allOf")) v) (judged_by_reference now.follow x v)) (sym here)
         ∙ sym (fits-whole now (look_up ms) read v)))))))
 
-    judges-same : (v : Data) (k : Text) → (all_keywords now (look_up rs) reread).judges v k ≡ (all_keywords now (look_up ms) read).judges v k
+    judges-same : (v : Data) (k : Text)
+        → (all_keywords now (look_up rs) reread).judges v k ≡ (all_keywords now (look_up ms) read).judges v k
     judges-same v k =
         judges-whole now (look_up rs) reread v k
         ∙ (ap (λ b. judges_say now reread v k b (judged_by_reference now.follow (get_member (codes "$ref") rs) v k)) (judged-list v k)
@@ -413,22 +384,6 @@ module _ (c : Context) (d : Dialect) where
 
 -- ---- a reference alone says the same in both
 
-pub items-none : (reads : Bool) (v : Data) → items_say reads None None None v ≡ Yes
-items-none true v = refl
-items-none false v = refl
-
-pub const-none : (reads : Bool) (v : Data) → const_says reads None v ≡ Yes
-const-none true v = refl
-const-none false v = refl
-
-pub unevaluated-none : (reads : Bool) (judged : Text → Bool) (v : Data) → unevaluated_properties_say reads judged None v ≡ Yes
-unevaluated-none true judged v = refl
-unevaluated-none false judged v = refl
-
-pub and-false : (b : Bool) → b && false ≡ false
-and-false true = refl
-and-false false = refl
-
 abbrev single : Text → Members
 single t = member (codes "$ref") (string t) no_members
 
@@ -440,9 +395,9 @@ module _ (c : Context) (d : Dialect) (t : Text) where
   unfolding all_keywords single-read read_data
   single-fits v =
       rw (
-        items-none d.reads_prefix_items v,
-        const-none d.reads_const v,
-        unevaluated-none d.reads_unevaluated (judged_beside (was c d) (look_up (single t)) single-read v) v,
+        items_none d.reads_prefix_items v,
+        const_none d.reads_const v,
+        unevaluated_none d.reads_unevaluated (judged_beside (was c d) (look_up (single t)) single-read v) v,
       ) (both-yes ((c.follow t).fits v))
 
   single-judges : (v : Data) (k : Text) → (all_keywords (was c d) (look_up (single t)) single-read).judges v k ≡ judged_by (c.follow t) v k
@@ -456,7 +411,8 @@ module _ (c : Context) (d : Dialect) (t : Text) where
 
 one_member : (t : Text) (ms : Members) → (members_len ms == 1) ≡ true → get_member (codes "$ref") ms ≡ Some (string t) → ms ≡ single t
 one_member t no_members one here = cc
-one_member t (member k e no_members) one here = go (bytes_eq (codes "$ref") k) refl (sym (get_member-first (codes "$ref") k e no_members) ∙ here)
+one_member t (member k e no_members) one here =
+    go (bytes_eq (codes "$ref") k) refl (sym (get_member-member (codes "$ref") k e no_members) ∙ here)
   where
     go : (b : Bool) → bytes_eq (codes "$ref") k ≡ b → (if b then Some e else None) ≡ Some (string t) → member k e no_members ≡ single t
     go true is there =
@@ -473,7 +429,8 @@ module _ (c : Context) (d : Dialect) where
       → judge (now c d) (object ms) ≡ keywords (was c d) (look_up ms) (reading_at (read_members (now c d) ms))
   unfolding read_data
   same-single t ms one here =
-      subst (λ ns. keywords (now c d) (look_up ns) (reading_at (read_members (now c d) ns)) ≡ keywords (was c d) (look_up ns) (reading_at (read_members (now c d) ns)))
+      subst (λ ns. keywords (now c d) (look_up ns) (reading_at (read_members (now c d) ns))
+      ≡ keywords (was c d) (look_up ns) (reading_at (read_members (now c d) ns)))
       (sym (one_member t ms one here)) (single-same c d t)
 
   same-plain : (ms : Members) → is_reference (get_member (codes "$ref") ms) ≡ false
@@ -501,7 +458,8 @@ module _ (c : Context) (d : Dialect) where
       go true one (Some (string t)) here text = same-single t ms one here
       go true one None here text = same-plain ms (ap is_reference here)
       go false one (Some (string t)) here text =
-          ap (λ o. judge (now c d) (reference_moved o (object (without (codes "$ref") ms)))) here ∙ judge-moved c d t ms plain.0 here plain.2
+          ap (λ o. judge (now c d) (reference_moved o (object (without (codes "$ref") ms)))) here
+          ∙ judge-moved c d t ms plain.0 here plain.2
       go false one None here text =
           ap (λ o. judge (now c d) (reference_moved o (object (without (codes "$ref") ms)))) here
           ∙ (without-nothing ms plain.0 here ∙ same-plain ms (ap is_reference here))
@@ -542,7 +500,8 @@ pub definitions-stay : (key : Text) (ms : Members) → key ≢ codes "$ref" → 
 definitions-stay key ms ref all = go (members_len ms == 1) (get_member (codes "$ref") ms)
   where
     go : (b : Bool) (o : Option Data) → (ns : Members)
-        × ((if b then object ms else reference_moved o (object (without (codes "$ref") ms))) ≡ object ns) × (get_member key ns ≡ get_member key ms)
+        × ((if b then object ms else reference_moved o (object (without (codes "$ref") ms))) ≡ object ns)
+        × (get_member key ns ≡ get_member key ms)
     go true o = (ms, refl, refl)
     go false None = (without (codes "$ref") ms, refl, without-other (codes "$ref") key ms ref)
     go false (Some r) = (moved_members r ms, refl, get-moved r ms key all ∙ without-other (codes "$ref") key ms ref)
@@ -557,7 +516,8 @@ ref_siblings key d ref all = record {
 }
   where
     in_dialect : (c : Context) (ms : Members) → c.dialect ≡ alone_by d → HasPlainReference ms
-        → judge c (without_siblings (object ms)) ≡ keywords (record c { dialect = beside_by d }) (look_up ms) (reading_at (read_members c ms))
+        → judge c (without_siblings (object ms))
+        ≡ keywords (record c { dialect = beside_by d }) (look_up ms) (reading_at (read_members c ms))
     in_dialect c ms is plain =
         subst (λ e. judge (record c { dialect = e }) (without_siblings (object ms))
         ≡ keywords (record c { dialect = beside_by d }) (look_up ms) (reading_at (read_members (record c { dialect = e }) ms)))

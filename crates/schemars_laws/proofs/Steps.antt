@@ -59,7 +59,11 @@ module _ {R : Type 0} (ρ : Rules R)
 
   pub first-walked : IsForOpenApi ms → IsForOpenApi ns
   first-walked is = record {
-    unevaluated = ((same (codes "unevaluatedProperties") refl refl).others ∙ is.unevaluated.0, (same (codes "unevaluatedProperties") refl refl).first ∙ is.unevaluated.1);
+    unevaluated = (
+      (same (codes "unevaluatedProperties") refl refl).others ∙ is.unevaluated.0,
+      (same (codes "unevaluatedProperties") refl refl).first
+          ∙ is.unevaluated.1,
+    );
     type = type-alike ns ms (same (codes "type") refl refl) (same (codes "nullable") refl refl) (same (codes "const") refl refl) is.type;
     values = values-alike ns ms (same (codes "type") refl refl) (same (codes "enum") refl refl) is.values;
     all_of = list-walked ρ IsEntered place schema r (codes "allOf") ms refl refl is.all_of;
@@ -96,7 +100,8 @@ by_change f N P Q schema truth kept done =
 
 pub place-bool : (r : ReplaceBoolSchemas) (k : Text) (d : Data) → IsEntered k → bool_rules.place r k d ≡ place_under k
 place-bool r k d apart =
-    ap (λ b. if r.skip_additional_properties && (b && is_some (as_bool d)) then NoSchemas else place_under k) apart ∙ go r.skip_additional_properties
+    ap (λ b. if r.skip_additional_properties && (b && is_some (as_bool d)) then NoSchemas else place_under k) apart
+    ∙ go r.skip_additional_properties
   where
     go : (b : Bool) → (if b && (false && is_some (as_bool d)) then NoSchemas else place_under k) ≡ place_under k
     go true = refl

@@ -1,29 +1,19 @@
 -- The names of types with null among them, and without.
-use Rattle.std.proofs.Common.{◌≡◌, List, [], ◌∷◌, Option, Some, None, Bool, true, false, codes, refl, sym, ap, ◌∙◌, true≢false}
+use Rattle.std.proofs.Common.{◌≡◌, List, [], ◌∷◌, Option, Some, None, Bool, true, false, codes, refl, sym, ap, ◌∙◌}
 use Rattle.std.specs.Prelude.{bytes_eq, if◌then◌else◌, ◌||◌, ◌&&◌}
 use Rattle.std.proofs.lemmas.Slice.Eq.{bytes_eq-Decides}
+use Rattle.std.proofs.lemmas.Bool.{and_parts}
+use Rattle.std.proofs.Math.Bool.{or-false, and-true}
 use Rattle.serde_json.specs.Data.{Data, null, boolean, number, string, array, object, Items, no_items, item}
 use Rattle.schemars_schema.specs.Json.{Text}
 use Rattle.schemars_schema.specs.OrderedText.{is_listed}
 use Rattle.schemars_schema.specs.Verdict.{Verdict, verdict}
 use Rattle.schemars_schema.specs.Acceptance.{type_names, is_of_type, is_of_some_type, texts_in, are_type_names, when, types_in, is_null}
 use Rattle.schemars_schema.specs.Acceptance.{type_fits, type_says, where_some}
-use Rattle.schemars_builders.specs.AllowNull.{holds_text}
+use Rattle.schemars_schema.proofs.Members.{bytes_eq_comm}
+use Rattle.schemars_schema.specs.Edits.{holds_text}
 use Rattle.schemars_transform.specs.Nullable.{all_null, without_null, one_or_list, type_without_null}
-use Rattle.schemars_builders.proofs.NullKeywords.{or-false}
-use Rattle.schemars_builders.proofs.NullMembers.{and-parts}
 use Rattle.schemars_laws.specs.Classes.{AreTexts}
-
-bytes_eq-sym : (k l : Text) → bytes_eq k l ≡ bytes_eq l k
-bytes_eq-sym k l = go (bytes_eq k l) refl
-  where
-    go : (b : Bool) → bytes_eq k l ≡ b → b ≡ bytes_eq l k
-    go true is = sym ((bytes_eq-Decides l k).1 (sym ((bytes_eq-Decides k l).0 is)))
-    go false is = other (bytes_eq l k) refl
-      where
-        other : (b : Bool) → bytes_eq l k ≡ b → false ≡ b
-        other true back = absurd (true≢false (sym ((bytes_eq-Decides k l).1 (sym ((bytes_eq-Decides l k).0 back))) ∙ is))
-        other false back = refl
 
 -- ---- texts of a list
 
@@ -55,7 +45,8 @@ without-texts (item (string s) ds) are = go (bytes_eq s (codes "null")) (without
   where
     go : (b : Bool) → AreTexts (without_null ds) × (texts (without_null ds) ≡ others (texts ds))
         → AreTexts (if b then without_null ds else item (string s) (without_null ds))
-        × (texts (if b then without_null ds else item (string s) (without_null ds)) ≡ (if b then others (texts ds) else s ∷ others (texts ds)))
+        × (texts (if b then without_null ds else item (string s) (without_null ds))
+        ≡ (if b then others (texts ds) else s ∷ others (texts ds)))
     go true rest = rest
     go false rest = ((tt, rest.0), ap (λ ss. s ∷ ss) rest.1)
 without-texts (item null ds) are = absurd are.0
@@ -67,7 +58,7 @@ without-texts (item (object ms) ds) are = absurd are.0
 holds-listed : (ds : Items) → AreTexts ds → holds_text (codes "null") ds ≡ is_listed (codes "null") (texts ds)
 holds-listed no_items are = refl
 holds-listed (item (string s) ds) are =
-    ap (λ b. b || holds_text (codes "null") ds) (bytes_eq-sym s (codes "null"))
+    ap (λ b. b || holds_text (codes "null") ds) (bytes_eq_comm s (codes "null"))
     ∙ ap (λ b. bytes_eq (codes "null") s || b) (holds-listed ds are.1)
 holds-listed (item null ds) are = absurd are.0
 holds-listed (item (boolean b) ds) are = absurd are.0
@@ -84,7 +75,7 @@ others-lack (s ∷ ss) = go (bytes_eq s (codes "null")) refl (others-lack ss)
     go : (b : Bool) → bytes_eq s (codes "null") ≡ b → is_listed (codes "null") (others ss) ≡ false
         → is_listed (codes "null") (if b then others ss else s ∷ others ss) ≡ false
     go true is rest = rest
-    go false is rest = ap (λ b. b || is_listed (codes "null") (others ss)) (bytes_eq-sym (codes "null") s ∙ is) ∙ rest
+    go false is rest = ap (λ b. b || is_listed (codes "null") (others ss)) (bytes_eq_comm (codes "null") s ∙ is) ∙ rest
 
 others-names : (ss : List Text) → are_type_names (others ss) ≡ are_type_names ss
 others-names [] = refl
@@ -123,18 +114,20 @@ others-types (s ∷ ss) v = go (bytes_eq s (codes "null")) refl (others-types ss
     go : (b : Bool) → bytes_eq s (codes "null") ≡ b
         → is_of_some_type ss v ≡ is_of_some_type (others ss) v || (is_listed (codes "null") ss && is_null v)
         → is_of_type s v || is_of_some_type ss v
-        ≡ is_of_some_type (if b then others ss else s ∷ others ss) v || ((bytes_eq (codes "null") s || is_listed (codes "null") ss) && is_null v)
+        ≡ is_of_some_type (if b then others ss else s ∷ others ss) v
+        || ((bytes_eq (codes "null") s || is_listed (codes "null") ss) && is_null v)
     go true is rest =
         let same : s ≡ codes "null" = (bytes_eq-Decides s (codes "null")).0 is in
         ap (λ b. b || is_of_some_type ss v) (ap (λ x. is_of_type x v) same ∙ null-type v)
         ∙ (ap (λ b. is_null v || b) rest
         ∙ (first-null (is_null v) (is_of_some_type (others ss) v) (is_listed (codes "null") ss)
-        ∙ ap (λ b. is_of_some_type (others ss) v || ((b || is_listed (codes "null") ss) && is_null v)) (sym (bytes_eq-sym (codes "null") s ∙ is))))
+        ∙ ap (λ b. is_of_some_type (others ss) v || ((b || is_listed (codes "null") ss) && is_null v))
+        (sym (bytes_eq_comm (codes "null") s ∙ is))))
     go false is rest =
         ap (λ b. is_of_type s v || b) rest
         ∙ (first-other (is_of_type s v) (is_of_some_type (others ss) v) (is_listed (codes "null") ss) (is_null v)
         ∙ ap (λ b. (is_of_type s v || is_of_some_type (others ss) v) || ((b || is_listed (codes "null") ss) && is_null v))
-        (sym (bytes_eq-sym (codes "null") s ∙ is)))
+        (sym (bytes_eq_comm (codes "null") s ∙ is)))
 
 -- ---- what `type` says, with null in it and without
 
@@ -152,7 +145,7 @@ names-missing true ss v lack =
 pub text-missing : (s : Text) (v : Data) → bytes_eq s (codes "null") ≡ false
     → type_says true (Some (string s)) None v ≡ type_says false (Some (string s)) None v
 text-missing s v is =
-    names-missing (is_listed s type_names) (s ∷ []) v (ap (λ b. b || false) (bytes_eq-sym (codes "null") s ∙ is))
+    names-missing (is_listed s type_names) (s ∷ []) v (ap (λ b. b || false) (bytes_eq_comm (codes "null") s ∙ is))
 
 list-names : (reads : Bool) (nullable : Option Data) (ds : Items) (v : Data) → AreTexts ds
     → type_says reads (Some (array ds)) nullable v ≡ by_names reads nullable (are_type_names (texts ds)) (texts ds) v
@@ -173,7 +166,7 @@ text-alone s v is =
 all-others : (ds : Items) → AreTexts ds → all_null ds ≡ true → others (texts ds) ≡ []
 all-others no_items are all = refl
 all-others (item (string s) ds) are all =
-    let parts = and-parts (bytes_eq s (codes "null")) (all_null ds) all in
+    let parts = and_parts (bytes_eq s (codes "null")) (all_null ds) all in
     ap (λ b. if b then others (texts ds) else s ∷ others (texts ds)) parts.0 ∙ all-others ds are.1 parts.1
 all-others (item null ds) are all = absurd are.0
 all-others (item (boolean b) ds) are all = absurd are.0
@@ -189,11 +182,6 @@ list-alone ds v are holds all =
     ∙ (ap (λ b. by_names false None b (texts ds) v) (sym (others-names (texts ds)) ∙ ap are_type_names gone)
     ∙ ap verdict (others-types (texts ds) v ∙ (ap (λ ss. is_of_some_type ss v || (is_listed (codes "null") (texts ds) && is_null v)) gone
     ∙ ap (λ b. b && is_null v) (sym (holds-listed ds are) ∙ holds))))
-
--- null among others
-and-true : (b : Bool) → b && true ≡ b
-and-true true = refl
-and-true false = refl
 
 one-or-list : (ds : Items) → AreTexts ds → types_in (one_or_list ds) ≡ when (are_type_names (texts ds)) (texts ds)
 one-or-list no_items are = refl

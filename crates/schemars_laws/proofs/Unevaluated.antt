@@ -12,12 +12,13 @@ use Rattle.schemars_schema.specs.Verdict.{Yes}
 use Rattle.schemars_schema.specs.Acceptance.{Dialect, Context, Raw, Readings, judge, keywords, all_keywords, reference_alone, is_reference}
 use Rattle.schemars_schema.specs.Acceptance.{read_data, read_members, reading_at, unevaluated_properties_say, judged_beside, stands_schema}
 use Rattle.schemars_schema.proofs.Objects.{judge-agree, reading_at-members}
+use Rattle.schemars_schema.proofs.Members.{differ}
 use Rattle.schemars_transform.specs.Unevaluated.{unevaluated_as_additional, closed_by, property_names, properties_made, properties_named, named_in, with_names}
 use Rattle.schemars_laws.specs.Classes.{HasNoUnevaluated, with_unevaluated, without_unevaluated}
 use Rattle.schemars_laws.proofs.Seen.{judge_ext}
 use Rattle.schemars_laws.proofs.Formats.{truth-judge}
 use Rattle.schemars_laws.proofs.Looked.{without-other, walked, none-walked, once-walked, Change}
-use Rattle.schemars_laws.proofs.Apart.{look_up, differ}
+use Rattle.schemars_laws.proofs.Apart.{look_up}
 
 -- what is not there is not missed
 module _ (c : Context) (d : Dialect) (raw : Raw) (read : Readings) (none : read (codes "unevaluatedProperties") ≡ None) where
@@ -40,7 +41,8 @@ module _ (c : Context) (d : Dialect) (raw : Raw) (read : Readings) (none : read 
 
   keywords-same : keywords now raw read ≡ keywords was raw read
   keywords-same =
-      ap (λ j. if not d.judges_siblings && is_reference (raw (codes "$ref")) then reference_alone c raw else j) (judge_ext _ _ fits-same judges-same)
+      ap (λ j. if not d.judges_siblings && is_reference (raw (codes "$ref")) then reference_alone c raw else j)
+      (judge_ext _ _ fits-same judges-same)
 
 judge-without : (c : Context) (ms : Members) → HasNoUnevaluated ms
     → judge c (unevaluated_as_additional (object ms)) ≡ judge c (object ms)
@@ -48,14 +50,16 @@ judge-without c ms none =
     ap (λ o. judge c (closed_by o (object (without (codes "unevaluatedProperties") ms)))) none.1
     ∙ judge-agree c (without (codes "unevaluatedProperties") ms) ms (λ k key. at k (bytes_eq k (codes "unevaluatedProperties")) refl)
   where
-    at : (k : Text) (b : Bool) → bytes_eq k (codes "unevaluatedProperties") ≡ b → get_member k (without (codes "unevaluatedProperties") ms) ≡ get_member k ms
+    at : (k : Text) (b : Bool) → bytes_eq k (codes "unevaluatedProperties") ≡ b
+        → get_member k (without (codes "unevaluatedProperties") ms) ≡ get_member k ms
     at k true is =
         let same : k ≡ codes "unevaluatedProperties" = (bytes_eq-Decides k (codes "unevaluatedProperties")).0 is in
         subst (λ l. get_member l (without (codes "unevaluatedProperties") ms) ≡ get_member l ms) (sym same) (none.0 ∙ sym none.1)
     at k false is = without-other (codes "unevaluatedProperties") k ms (differ k (codes "unevaluatedProperties") is)
 
 judge-unevaluated : (c : Context) (d : Dialect) (ms : Members) → c.dialect ≡ without_unevaluated d → HasNoUnevaluated ms
-    → judge c (unevaluated_as_additional (object ms)) ≡ keywords (record c { dialect = with_unevaluated d }) (look_up ms) (reading_at (read_members c ms))
+    → judge c (unevaluated_as_additional (object ms))
+    ≡ keywords (record c { dialect = with_unevaluated d }) (look_up ms) (reading_at (read_members c ms))
 unfolding read_data
 judge-unevaluated c d ms is none =
     judge-without c ms none
@@ -65,7 +69,8 @@ judge-unevaluated c d ms is none =
 
 -- ---- what the change makes of any schema
 
-module _ (P : Data → Type 0) (ks : List Text) (xs : Members) (stay : P (object xs)) (made : (d : Data) → P (object (put (codes "properties") d xs))) where
+module _ (P : Data → Type 0) (ks : List Text) (xs : Members) (stay : P (object xs))
+    (made : (d : Data) → P (object (put (codes "properties") d xs))) where
   by_names : (ms : Members) → P (properties_made ms (object xs))
   by_names no_members = stay
   by_names (member k d ms) = made (object (member k d ms))
@@ -84,7 +89,8 @@ module _ (P : Data → Type 0) (ms : Members) (stay : P (object (without (codes 
   by_rest None = stay
   by_rest (Some rest) =
       by_properties P (property_names (object (without (codes "properties") (closed_members rest ms))))
-      (without (codes "properties") (closed_members rest ms)) (closed rest) (named rest) (get_member (codes "properties") (closed_members rest ms))
+      (without (codes "properties") (closed_members rest ms)) (closed rest) (named rest)
+      (get_member (codes "properties") (closed_members rest ms))
 
 pub schema-unevaluated : (s : Data) → IsSchema s → IsSchema (unevaluated_as_additional s)
 schema-unevaluated (boolean b) is = tt
@@ -94,7 +100,8 @@ schema-unevaluated (number n) is = absurd is
 schema-unevaluated (string t) is = absurd is
 schema-unevaluated (array ds) is = absurd is
 
-pub definitions-stay : (key : Text) (ms : Members) → key ≢ codes "unevaluatedProperties" → key ≢ codes "additionalProperties" → key ≢ codes "properties"
+pub definitions-stay : (key : Text) (ms : Members) → key ≢ codes "unevaluatedProperties" → key ≢ codes "additionalProperties"
+    → key ≢ codes "properties"
     → (ns : Members) × (unevaluated_as_additional (object ms) ≡ object ns) × (get_member key ns ≡ get_member key ms)
 definitions-stay key ms rest additional properties =
     by_rest (λ s. (ns : Members) × (s ≡ object ns) × (get_member key ns ≡ get_member key ms)) ms

@@ -84,7 +84,8 @@ module _ {R : Type 0} (ρ : Rules R) (Enters : Text → Type 0)
     unfolding forms
     no_list-form r None is = tt
     no_list-form r (Some null) is = tt
-    no_list-form r (Some (boolean b)) is = schema-no_list (ρ.finish (ρ.inside r (boolean b)) (boolean b)) (schema (ρ.inside r (boolean b)) (boolean b) tt)
+    no_list-form r (Some (boolean b)) is =
+        schema-no_list (ρ.finish (ρ.inside r (boolean b)) (boolean b)) (schema (ρ.inside r (boolean b)) (boolean b) tt)
     no_list-form r (Some (number n)) is = tt
     no_list-form r (Some (string s)) is = tt
     no_list-form r (Some (array ds)) is = absurd is
@@ -95,14 +96,17 @@ module _ {R : Type 0} (ρ : Rules R) (Enters : Text → Type 0)
     pub list-walked : (r : R) (k : Text) (ms : Members) → Enters k → place_under k ≡ SchemaList
         → IsSchemaList (get_member k ms) → IsSchemaList (get_member k (in_keywords ρ r ms))
     list-walked r k ms enters at is =
-        subst IsSchemaList (sym (keywords_get ρ r k ms ∙ at-place r k (get_member k ms) SchemaList enters at)) (list-form r (get_member k ms) is)
+        subst IsSchemaList (sym (keywords_get ρ r k ms ∙ at-place r k (get_member k ms) SchemaList enters at))
+        (list-form r (get_member k ms) is)
 
     pub no_list-walked : (r : R) (k : Text) (ms : Members) → Enters k → place_under k ≡ SchemaOrList
         → IsNoList (get_member k ms) → IsNoList (get_member k (in_keywords ρ r ms))
     no_list-walked r k ms enters at is =
-        subst IsNoList (sym (keywords_get ρ r k ms ∙ at-place r k (get_member k ms) SchemaOrList enters at)) (no_list-form r (get_member k ms) is)
+        subst IsNoList (sym (keywords_get ρ r k ms ∙ at-place r k (get_member k ms) SchemaOrList enters at))
+        (no_list-form r (get_member k ms) is)
 
-    pub items-walked : Enters (codes "prefixItems") → Enters (codes "items") → (r : R) (ms : Members) → HasPlainItems ms → HasPlainItems (in_keywords ρ r ms)
+    pub items-walked : Enters (codes "prefixItems") → Enters (codes "items") → (r : R) (ms : Members) → HasPlainItems ms
+        → HasPlainItems (in_keywords ρ r ms)
     items-walked prefix items r ms is = (
       once-walked r (codes "prefixItems") ms is.0,
       list-walked r (codes "prefixItems") ms prefix refl is.1,

@@ -5,9 +5,8 @@ use Rattle.serde_json.specs.Events.{members_len}
 use Rattle.serde_json.specs.Find.{get_member}
 use Rattle.schemars_schema.specs.Json.{Text}
 use Rattle.schemars_schema.specs.SchemaData.{IsSchema}
-use Rattle.schemars_schema.specs.Edits.{without}
+use Rattle.schemars_schema.specs.Edits.{without, holds_text}
 use Rattle.schemars_schema.specs.Acceptance.{Dialect}
-use Rattle.schemars_builders.specs.AllowNull.{holds_text}
 use Rattle.schemars_transform.specs.Nullable.{all_null}
 use Rattle.schemars_transform.specs.declared.built_in.nullable.AddNullable.{AddNullable}
 

@@ -3,6 +3,7 @@ use Rattle.std.proofs.Common.{◌≡◌, ℕ, zero, suc, ◌<◌, ◌≤◌, Lis
 use Rattle.std.proofs.Common.{false, refl, sym, ap, ◌∙◌, arith}
 use Rattle.std.specs.Prelude.{codes, ℤ, pos, negsuc, int_le, is_some, ◌||◌, ◌&&◌, ◌==◌, not, nat_le, ◌++◌}
 use Rattle.std.proofs.lemmas.Bool.Decides.{nat_tests}
+use Rattle.std.proofs.Math.Bool.{or-false}
 use Rattle.serde_json.specs.Data.{Data, null, boolean, number, unsigned, negative, float, string, array, object, Items}
 use Rattle.serde_json.specs.Data.{no_items, item, depth, items_depth}
 use Rattle.serde_json.specs.Find.{as_integer, of_integer, as_array}
@@ -428,10 +429,6 @@ module _ (patterns : Patterns) (f : Text → Judge) (basis : Basis) (M : ℕ →
   each_byte : (vs : Items) → each_past zero (judge c (int_document U8)) vs ≡ verdict (every_item is_byte vs)
   each_byte no_items = refl
   each_byte (item v vs) = rw (int_says U8 v, each_byte vs) (both-verdict (is_byte v) (every_item is_byte vs))
-
-  or-false : (a : Bool) → a || false ≡ a
-  or-false true = refl
-  or-false false = refl
 
   bytes_of : (vs : Items) → both (each_past zero (judge c (int_document U8)) vs) Yes ≡ verdict (every_item is_byte vs || false)
   bytes_of vs = both-yes (each_past zero (judge c (int_document U8)) vs)

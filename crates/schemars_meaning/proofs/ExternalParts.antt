@@ -80,7 +80,8 @@ module _ (c : Context) (on : c.dialect.reads_unevaluated ≡ true) (contract : C
       by : (name : Text) (notes : Members) (b : Bool)
           → map units (bare_units xs) ≡ map offer (moved is_bare_unit xs)
           → map units (if b then name ∷ bare_units xs else bare_units xs)
-          ≡ map offer (if b then record { name = name; payload = no_payload; notes = notes } ∷ moved is_bare_unit xs else moved is_bare_unit xs)
+          ≡ map offer
+          (if b then record { name = name; payload = no_payload; notes = notes } ∷ moved is_bare_unit xs else moved is_bare_unit xs)
       by name notes true later = λ i. member_choice name (unit_at i) v ∷ later i
         where
           unit_at : is_null ≡ P no_payload

@@ -1,39 +1,38 @@
 -- What the document of an enum says that is told by its names, whose payloads may have enums among their members.
-use Rattle.std.proofs.Common.{◌≡◌, ◌⊎◌, ℕ, ◌<◌, List, [], ◌∷◌, ◌++◌, map, Option, Some, None, Bool, true, false, inl, inr}
-use Rattle.std.proofs.Common.{refl, sym, ap, ◌∙◌, subst, arith, true≢false}
-use Rattle.std.specs.Prelude.{bytes_eq, if◌then◌else◌, is_some, ◌&&◌, ◌||◌, codes}
+use Rattle.std.proofs.Common.{◌≡◌, ℕ, ◌<◌, List, [], ◌∷◌, ◌++◌, map, Option, Some, None, Bool, true, false}
+use Rattle.std.proofs.Common.{refl, sym, ap, ◌∙◌, subst, true≢false}
+use Rattle.std.specs.Prelude.{bytes_eq, if◌then◌else◌, is_some, ◌&&◌, ◌||◌}
 use Rattle.std.specs.List.{list_any}
 use Rattle.std.specs.Option.{option_map_or}
-use Rattle.std.proofs.Math.Bool.{and_comm}
+use Rattle.std.proofs.Math.Bool.{and_comm, and-true}
 use Rattle.std.proofs.lemmas.Bool.{and_parts}
 use Rattle.std.proofs.lemmas.Slice.Eq.{bytes_eq-Decides}
+use Rattle.std.proofs.lemmas.Option.{same_Some}
 use Rattle.serde_json.specs.Data.{Data, null, boolean, number, string, array, object, Members, no_members}
 use Rattle.serde_json.specs.Data.{member, depth}
 use Rattle.serde_json.specs.Find.{get_member}
-use Rattle.serde_json.specs.View.{items_of}
 use Rattle.schemars_schema.specs.Json.{Text, IsJson}
 use Rattle.schemars_schema.specs.SchemaData.{IsSchema}
 use Rattle.schemars_schema.specs.Annotations.{AreNotes}
 use Rattle.schemars_schema.specs.Verdict.{verdict}
-use Rattle.schemars_schema.specs.Acceptance.{Context, Judge, judge, read_data}
+use Rattle.schemars_schema.specs.Acceptance.{Context, judge, read_data}
 use Rattle.schemars_builders.specs.Variants.{unit_variant}
 use Rattle.schemars_shapes.specs.Shape.{Field, Flattened, Payload, Variant, no_payload, newtype_payload, tuple_payload, struct_payload}
 use Rattle.schemars_shapes.specs.Shape.{needed}
 use Rattle.schemars_shapes.specs.Units.{is_bare_unit}
 use Rattle.schemars_types.specs.declared.contract.Contract.{Contract}
-use Rattle.schemars_types.specs.declared.contract.Contract.TheVariants.{Deserialize, Serialize}
+use Rattle.schemars_types.specs.declared.contract.Contract.TheVariants.{Deserialize}
 use Rattle.schemars_types.specs.Meaning.{is_map_of, is_text, every_member, member_fits, has_required}
 use Rattle.schemars_types.specs.Meaning.{none, exactly_one}
 use Rattle.schemars_documents.specs.PlainTable.{IsNoVariant, AreDistinctVariants}
-use Rattle.schemars_documents.specs.Documents.{annotated}
-use Rattle.schemars_documents.specs.Template.{Ask, part, Template, noted, asks_of, asks_in, filled, filled_in}
-use Rattle.schemars_documents.specs.OfShape.{templates_of, one_of, member_template, payload_template, named_template, bare_units}
-use Rattle.schemars_documents.specs.OfShape.{other_items, units_template, choice_of, external_template}
+use Rattle.schemars_documents.specs.Template.{Ask, Template, noted, asks_of, asks_in, filled, filled_in}
+use Rattle.schemars_documents.specs.OfShape.{templates_of, member_template, payload_template, named_template, bare_units}
+use Rattle.schemars_documents.specs.OfShape.{other_items, choice_of, external_template}
 use Rattle.schemars_types.specs.Meaning.{Choice, has_fields}
 use Rattle.schemars_types.specs.Meaning.{has_payload, has_variant}
 use Rattle.schemars_types.specs.Effective.{spread_payload, spread_variant}
-use Rattle.schemars_meaning.proofs.MapDocument.{map_document, noted_by, AllNotes}
-use Rattle.schemars_meaning.proofs.MapKeywords.{noted_by-object, keywords}
+use Rattle.schemars_meaning.proofs.MapDocument.{map_document}
+use Rattle.schemars_meaning.proofs.MapKeywords.{keywords}
 use Rattle.schemars_meaning.proofs.Filling.{Fit, without_end, parted}
 use Rattle.schemars_meaning.proofs.Offers.{AllSay, one_object, object_fits}
 use Rattle.schemars_meaning.proofs.UnitMembers.{units_schema}
@@ -77,9 +76,6 @@ map_claimed k p (number n) h = absurd (true≢false (sym h))
 map_claimed k p (string s) h = absurd (true≢false (sym h))
 map_claimed k p (array ds) h = absurd (true≢false (sym h))
 
-pub some_same : {A : Type 0} {a b : A} → Some a ≡ Some b → a ≡ b
-some_same h = cc
-
 module _ (contract : Contract) (M : ℕ → Data → Bool) (C : ℕ → Data → List Choice) (v : Data) where
   abbrev pub P : Variant → Bool
   P x = has_variant contract M C v x
@@ -104,7 +100,7 @@ module _ (contract : Contract) (M : ℕ → Data → Bool) (C : ℕ → Data →
   other_false : (b : Bool) (k l : Text) → claimed v ≡ Some k → bytes_eq l k ≡ false → (b ≡ true → claimed v ≡ Some l) → b ≡ false
   other_false false k l claim apart h = refl
   other_false true k l claim apart h =
-      absurd (true≢false (sym ((bytes_eq-Decides l k).1 (some_same (sym (h refl) ∙ claim))) ∙ apart))
+      absurd (true≢false (sym ((bytes_eq-Decides l k).1 (same_Some _ _ (sym (h refl) ∙ claim))) ∙ apart))
 
   none_others : (k : Text) → claimed v ≡ Some k → (xs : List Variant) → IsNoVariant k xs
       → (none (map P (others xs)) ≡ true) × (U (bare_units xs) ≡ false)
@@ -219,11 +215,7 @@ module _ (name : Text) (p : Data → Bool) where
       go false = refl
 
   has_field : (ms : Members) → has_required Deserialize (needed name 0 ∷ []) ms ≡ is_some (get_member name ms)
-  has_field ms = go (is_some (get_member name ms))
-    where
-      go : (b : Bool) → b && true ≡ b
-      go true = refl
-      go false = refl
+  has_field ms = and-true (is_some (get_member name ms))
 
   alone_same : (v : Data) → has_fields Deserialize (λ j. p) [] (needed name 0 ∷ []) true v ≡ is_map_of name p v
   alone_same (object ms) =

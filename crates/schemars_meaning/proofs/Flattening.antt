@@ -1,38 +1,36 @@
 -- The documents of maps put into one another, and into the content of a tagged variant.
 use Rattle.std.proofs.Common.{◌≡◌, List, [], ◌∷◌, ◌++◌, Option, Some, None, Bool, true, false}
-use Rattle.std.proofs.Common.{refl, sym, ap, ◌∙◌, true≢false, append-nil}
+use Rattle.std.proofs.Common.{refl, sym, ap, ◌∙◌, true≢false}
 use Rattle.std.specs.Prelude.{◌&&◌, bytes_eq, codes, if◌then◌else◌, option_map, option_and_then}
-use Rattle.serde_json.specs.Data.{Data, string, array, object, no_items, item, Members, no_members, member, put}
+use Rattle.serde_json.specs.Data.{Data, string, array, object, no_items, Members, no_members, member, put}
 use Rattle.serde_json.specs.Find.{get, get_member, as_str, as_array}
 use Rattle.serde_json.proofs.Views.{get_member-put, get_member-put_other}
 use Rattle.schemars_schema.specs.Json.{Text}
-use Rattle.schemars_schema.specs.SchemaData.{put_all}
-use Rattle.schemars_schema.specs.Edits.{replaced, removed}
+use Rattle.schemars_schema.specs.Edits.{replaced, removed, is_text, with_member, with_first}
 use Rattle.schemars_schema.specs.Annotations.{is_annotation}
 use Rattle.schemars_schema.specs.References.{NoSchemas}
+use Rattle.schemars_schema.proofs.Members.{differ}
+use Rattle.schemars_schema.proofs.SortedMembers.{IsSorted, sorted-put, same_members}
 use Rattle.schemars_walk.specs.Rewritten.{forms, in_keywords}
-use Rattle.schemars_builders.specs.NullLaw.{text_items}
 use Rattle.schemars_builders.specs.Properties.{with_property, tagged, has_null_type, closed_where}
-use Rattle.schemars_builders.specs.Properties.{with_member, with_first, internally_tagged_variant}
+use Rattle.schemars_builders.specs.Properties.{internally_tagged_variant}
 use Rattle.schemars_builders.specs.Variants.{unit_variant}
-use Rattle.schemars_builders.specs.AllowNull.{is_text}
 use Rattle.schemars_flatten.specs.Flatten.{is_joined, is_merged}
-use Rattle.schemars_flatten.specs.Flatten.{with_keywords, moved_beside, united_all, appended, flattened}
-use Rattle.schemars_flatten.proofs.Lookups.{united_option}
+use Rattle.schemars_flatten.specs.Flatten.{with_keywords, moved_beside, united_all, flattened}
+use Rattle.schemars_flatten.proofs.Lookups.{united_option, united_none, either_option}
 use Rattle.schemars_flatten.specs.Opening.{same_object_place, opening, opened_here, opened, has_type}
 use Rattle.schemars_flatten.specs.Parts.{unit_objects, with_units, first_as_objects, items_changed, list_changed_at}
 use Rattle.schemars_flatten.specs.Parts.{units_as_objects, flattened_part}
 use Rattle.schemars_documents.specs.Documents.{Keyword, type_alone}
 use Rattle.schemars_meaning.proofs.MapDocument.{map_document}
 use Rattle.schemars_meaning.proofs.MapDocument.{noted_by, AllNotes}
-use Rattle.schemars_meaning.proofs.SortedMembers.{IsSorted, sorted-put, sorted-put_all}
-use Rattle.schemars_meaning.proofs.SortedMembers.{same_members}
-use Rattle.schemars_meaning.proofs.MapKeywords.{differ, first_of, first_of_none, put_all-append, put_members-put_all, by_name}
+use Rattle.schemars_meaning.proofs.MapKeywords.{either_none, put_all-append, by_name}
 use Rattle.schemars_meaning.proofs.MapKeywords.{noted, noted_by-object, sorted-noted, noted-at, noted-beside, keywords}
 use Rattle.schemars_meaning.proofs.MapKeywords.{properties_there, required_there, closed_there, sorted-keywords, type-at}
 use Rattle.schemars_meaning.proofs.MapKeywords.{properties-at, required-at, closed-at, keyword-lacks, value_or, changed_at-here}
-use Rattle.schemars_meaning.proofs.MapKeywords.{changed_at-beside, sorted-changed_at, lacks-first, lacks-later, united_none}
-use Rattle.schemars_meaning.proofs.MapKeywords.{sorted-with_keywords, NoChoice, with_keywords-at}
+use Rattle.schemars_meaning.proofs.MapKeywords.{changed_at-beside, sorted-changed_at, lacks-first, lacks-later}
+use Rattle.schemars_meaning.proofs.MapKeywords.{sorted-with_keywords, NoChoice, with_keywords-at, properties-united}
+use Rattle.schemars_meaning.proofs.MapKeywords.{required-united}
 
 -- ---- the content of a variant that is tagged by a member of its object
 
@@ -86,7 +84,7 @@ module _ (notes : List Members) (tag name : Text) (es : List Keyword) (r : List 
   unfolding content with_tag
   tagged-elsewhere q no_type no_properties no_required no_closed =
       tagged-beside q no_required no_properties ∙ (with_type-beside q no_type ∙ (noted-at q notes (keywords es r closed)
-      ∙ (ap (first_of (get_member q (noted notes no_members))) (keyword-lacks q no_type no_properties no_required no_closed es r closed
+      ∙ (ap (either_option (get_member q (noted notes no_members))) (keyword-lacks q no_type no_properties no_required no_closed es r closed
       ∙ sym (keyword-lacks q no_type no_properties no_required no_closed (es ++ (tag, unit_variant name) ∷ []) (tag ∷ r) closed))
       ∙ sym (noted-at q notes (keywords (es ++ (tag, unit_variant name) ∷ []) (tag ∷ r) closed)))))
 
@@ -195,28 +193,8 @@ noted-kept notes es r closed ms all =
       noted-lacks (codes "$ref") refl refl refl refl refl notes es r closed all,
     ) refl
 
-properties-united : (es fs : List Keyword)
-    → united_option (codes "properties") (properties_there es) (properties_there fs) ≡ properties_there (es ++ fs)
-unfolding properties_there
-properties-united [] fs = refl
-properties-united (e ∷ es) [] = ap properties_there (sym (append-nil (e ∷ es)))
-properties-united (e ∷ es) (f ∷ fs) = ap (λ ms. Some (object ms))
-    (put_members-put_all (f ∷ fs) (put_all (e ∷ es) no_members) (sorted-put_all (e ∷ es) no_members tt)
-    ∙ sym (put_all-append (e ∷ es) (f ∷ fs) no_members))
-
-texts-appended : (ks ls : List Text) → appended (text_items ks) (text_items ls) ≡ text_items (ks ++ ls)
-texts-appended [] ls = refl
-texts-appended (k ∷ ks) ls = ap (item (string k)) (texts-appended ks ls)
-
-required-united : (ks ls : List Text)
-    → united_option (codes "required") (required_there ks) (required_there ls) ≡ required_there (ks ++ ls)
-unfolding required_there
-required-united [] ls = refl
-required-united (k ∷ ks) [] = ap required_there (sym (append-nil (k ∷ ks)))
-required-united (k ∷ ks) (l ∷ ls) = ap (λ ds. Some (array ds)) (texts-appended (k ∷ ks) (l ∷ ls))
-
 -- of most keywords the first stays
-first-united : (q : Text) (a b : Option Data) → is_joined q ≡ false → is_merged q ≡ false → united_option q a b ≡ first_of a b
+first-united : (q : Text) (a b : Option Data) → is_joined q ≡ false → is_merged q ≡ false → united_option q a b ≡ either_option a b
 first-united q None b no_joined no_merged = refl
 first-united q (Some e) None no_joined no_merged = refl
 first-united q (Some e) (Some d) no_joined no_merged = rw (no_joined, no_merged)
@@ -287,11 +265,11 @@ module _ (n1 n2 : List Members) (es1 es2 : List Keyword) (r1 r2 : List Text) (cl
   elsewhere q no_type no_properties no_required no_closed no_all no_patterns =
       with_keywords-at q second first sorted-second no_choice-second
       ∙ (first-united q (get_member q first) (get_member q second) (rw (no_required, no_all)) (rw (no_properties, no_patterns))
-      ∙ (ap (λ o. first_of o (get_member q second)) (noted-at q n1 (keywords es1 r1 closed)
-      ∙ (ap (first_of (get_member q (noted n1 no_members)))
-      (keyword-lacks q no_type no_properties no_required no_closed es1 r1 closed) ∙ first_of_none _))
-      ∙ (ap (first_of (get_member q (noted n1 no_members))) (noted-at q n2 (keywords es2 r2 false)
-      ∙ (ap (first_of (get_member q (noted n2 no_members))) (keyword-lacks q no_type no_properties no_required no_closed es2 r2 false
+      ∙ (ap (λ o. either_option o (get_member q second)) (noted-at q n1 (keywords es1 r1 closed)
+      ∙ (ap (either_option (get_member q (noted n1 no_members)))
+      (keyword-lacks q no_type no_properties no_required no_closed es1 r1 closed) ∙ either_none _))
+      ∙ (ap (either_option (get_member q (noted n1 no_members))) (noted-at q n2 (keywords es2 r2 false)
+      ∙ (ap (either_option (get_member q (noted n2 no_members))) (keyword-lacks q no_type no_properties no_required no_closed es2 r2 false
       ∙ sym (keyword-lacks q no_type no_properties no_required no_closed (es1 ++ es2) (r1 ++ r2) closed))
       ∙ sym (noted-at q n2 (keywords (es1 ++ es2) (r1 ++ r2) closed))))
       ∙ sym (noted-at q n1 (noted n2 (keywords (es1 ++ es2) (r1 ++ r2) closed))))))

@@ -1,14 +1,15 @@
 -- What the document of an enum says that is tagged inside its maps, whose structs may have enums among their members.
-use Rattle.std.proofs.Common.{◌≡◌, ℕ, ◌<◌, List, [], ◌∷◌, ◌++◌, map, Option, Some, None, Bool, true, false, refl, sym, ap, ◌∙◌, subst}
+use Rattle.std.proofs.Common.{◌≡◌, ℕ, ◌<◌, List, [], ◌∷◌, map, Option, Some, None, Bool, true, false, refl, sym, ap, ◌∙◌, subst}
 use Rattle.std.proofs.Common.{true≢false}
 use Rattle.std.proofs.Common.{Ordering, Less, Equal, Greater, nat_cmp, is_eq}
-use Rattle.std.specs.Prelude.{bytes_eq, if◌then◌else◌, not, is_some, ◌&&◌, ◌||◌, option_and_then, codes}
+use Rattle.std.specs.Prelude.{bytes_eq, if◌then◌else◌, is_some, ◌&&◌, ◌||◌, option_and_then, codes}
 use Rattle.std.specs.List.{list_any}
 use Rattle.std.specs.Ordering.{match_ordering}
 use Rattle.std.specs.Cmp.Lexicographic.{slice_cmp}
 use Rattle.std.proofs.lemmas.Bool.{and_parts}
 use Rattle.std.proofs.lemmas.Slice.Eq.{bytes_eq-Decides}
 use Rattle.std.proofs.lemmas.Map.Text.{is_eq-slice_cmp}
+use Rattle.std.proofs.lemmas.Option.{same_Some}
 use Rattle.serde_json.specs.Data.{Data, null, boolean, number, string, array, object, Members, no_members, member, depth}
 use Rattle.serde_json.specs.Find.{get_member, as_object, as_str}
 use Rattle.schemars_schema.specs.Json.{Text, IsJson}
@@ -16,7 +17,7 @@ use Rattle.schemars_schema.specs.SchemaData.{IsSchema}
 use Rattle.schemars_schema.specs.Annotations.{AreNotes}
 use Rattle.schemars_schema.specs.Edits.{without}
 use Rattle.schemars_schema.specs.Verdict.{verdict}
-use Rattle.schemars_schema.specs.Acceptance.{Context, Judge, judge, read_data}
+use Rattle.schemars_schema.specs.Acceptance.{Context, judge, read_data}
 use Rattle.schemars_builders.specs.Variants.{unit_variant}
 use Rattle.schemars_builders.specs.Properties.{internally_tagged_variant}
 use Rattle.schemars_shapes.specs.Shape.{Field, Fields, Flattened, Payload, Variant, no_payload, newtype_payload, tuple_payload}
@@ -25,12 +26,12 @@ use Rattle.schemars_types.specs.declared.contract.Contract.{Contract}
 use Rattle.schemars_types.specs.Meaning.{holds, is_text, every_member, member_fits, tagged_fits, has_required, has_content}
 use Rattle.schemars_types.specs.Meaning.{none, exactly_one}
 use Rattle.schemars_documents.specs.PlainTable.{IsNoVariant, AreDistinctVariants, AreDistinct, AreNoted}
-use Rattle.schemars_documents.specs.Documents.{annotated, type_alone}
-use Rattle.schemars_documents.specs.Template.{Ask, part, Template, noted, tagged, asks_of, asks_in, filled, filled_in}
+use Rattle.schemars_documents.specs.Documents.{type_alone}
+use Rattle.schemars_documents.specs.Template.{Ask, part, tagged, asks_of, asks_in, filled, filled_in}
 use Rattle.schemars_documents.specs.OfShape.{templates_of, struct_template, content_template, internal_item, internal_template}
 use Rattle.schemars_types.specs.Meaning.{Choice, every_part, shut}
 use Rattle.schemars_types.specs.Meaning.{offers, has_tagged, has_internal}
-use Rattle.schemars_types.specs.Effective.{spread_fields, spread_variant, effective, flattened_enums, enum_at}
+use Rattle.schemars_types.specs.Effective.{spread_variant, effective, flattened_enums, enum_at}
 use Rattle.schemars_meaning.proofs.MapDocument.{map_document}
 use Rattle.schemars_meaning.proofs.MapKeywords.{keywords}
 use Rattle.schemars_meaning.proofs.Filling.{Fit, without_end, parted}
@@ -39,7 +40,7 @@ use Rattle.schemars_meaning.proofs.Notes.{annotated_fits}
 use Rattle.schemars_meaning.proofs.Opened.{no_parts, map_form}
 use Rattle.schemars_meaning.proofs.StructDocuments.{IsStruct}
 use Rattle.schemars_meaning.proofs.Tags.{tagged_means}
-use Rattle.schemars_meaning.proofs.ExternalSays.{AllFit, one_says, some_same}
+use Rattle.schemars_meaning.proofs.ExternalSays.{AllFit, one_says}
 
 -- ---- of variants whose names are all different one has the value at most
 
@@ -55,7 +56,7 @@ found p (member l e ms) k w every is =
     go Less same own is later = later is
     go Equal same own is later =
         let key : k ≡ l = (bytes_eq-Decides k l).0 (sym same) in
-        ap (λ d. p k d) (sym (some_same is)) ∙ (ap (λ t. p t e) key ∙ own)
+        ap (λ d. p k d) (sym (same_Some _ _ is)) ∙ (ap (λ t. p t e) key ∙ own)
     go Greater same own is later = later is
 
 -- the text under the tag
@@ -134,7 +135,7 @@ module _ (P : Variant → Bool) (claimed : Option Text) (claims : (x : Variant) 
   other_false : (b : Bool) (k l : Text) → claimed ≡ Some k → bytes_eq l k ≡ false → (b ≡ true → claimed ≡ Some l) → b ≡ false
   other_false false k l claim apart h = refl
   other_false true k l claim apart h =
-      absurd (true≢false (sym ((bytes_eq-Decides l k).1 (some_same (sym (h refl) ∙ claim))) ∙ apart))
+      absurd (true≢false (sym ((bytes_eq-Decides l k).1 (same_Some _ _ (sym (h refl) ∙ claim))) ∙ apart))
 
   none_other : (k : Text) → claimed ≡ Some k → (xs : List Variant) → IsNoVariant k xs → none (map P xs) ≡ true
   none_other k claim [] h = refl

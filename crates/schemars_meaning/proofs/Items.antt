@@ -1,35 +1,34 @@
 -- The schemas of an enum's variants where the enum is flattened: maps that let further members in.
-use Rattle.std.proofs.Common.{◌≡◌, ℕ, ◌<◌, List, [], ◌∷◌, ◌++◌, map, Option, Some, None, Bool, true, false, option_map, refl, sym, ap}
+use Rattle.std.proofs.Common.{◌≡◌, ℕ, ◌<◌, List, [], ◌∷◌, ◌++◌, map, Option, Some, None, Bool, true, false, refl, sym, ap}
 use Rattle.std.proofs.Common.{◌∙◌, subst, true≢false}
-use Rattle.std.proofs.Math.Bool.{and_comm}
+use Rattle.std.proofs.Math.Bool.{and_comm, and-true}
 use Rattle.std.proofs.lemmas.Slice.Eq.{bytes_eq-Decides}
 use Rattle.std.specs.Prelude.{codes, bytes_eq, if◌then◌else◌, is_some, ◌&&◌, ◌||◌, not}
 use Rattle.std.specs.Option.{option_map_or}
 use Rattle.serde_json.specs.Data.{Data, null, array, object, number, boolean, string, Members, no_members, member, put, depth}
-use Rattle.serde_json.specs.Find.{get_member, as_object}
+use Rattle.serde_json.specs.Find.{get_member}
 use Rattle.serde_json.proofs.Views.{get_member-put, get_member-put_other}
 use Rattle.schemars_schema.specs.Json.{Text, IsJson}
 use Rattle.schemars_schema.specs.SchemaData.{IsSchema, put_all}
 use Rattle.schemars_schema.specs.Annotations.{AreNotes}
 use Rattle.schemars_schema.specs.Verdict.{verdict}
-use Rattle.schemars_schema.specs.Acceptance.{Context, Judge, judge}
+use Rattle.schemars_schema.specs.Acceptance.{Context, judge}
 use Rattle.schemars_flatten.specs.Opening.{opened}
 use Rattle.schemars_shapes.specs.Shape.{Field, needed}
-use Rattle.schemars_types.specs.declared.contract.Contract.{Contract}
-use Rattle.schemars_types.specs.declared.contract.Contract.TheVariants.{Deserialize, Serialize}
+use Rattle.schemars_types.specs.declared.contract.Contract.TheVariants.{Deserialize}
 use Rattle.schemars_types.specs.Meaning.{every_member, member_fits, has_required}
 use Rattle.schemars_documents.specs.Documents.{Keyword, annotated}
 use Rattle.schemars_types.specs.Meaning.{Choice, has_fields, has_member, member_choice}
-use Rattle.schemars_meaning.proofs.MapDocument.{map_document, noted_by, AllNotes}
-use Rattle.schemars_meaning.proofs.MapKeywords.{noted, noted_by-object, keywords, closed_there, differ}
+use Rattle.schemars_meaning.proofs.MapDocument.{map_document}
+use Rattle.schemars_meaning.proofs.MapKeywords.{noted, noted_by-object, keywords, closed_there}
 use Rattle.schemars_meaning.proofs.Named.{AreEntries}
-use Rattle.schemars_meaning.proofs.MapForm.{Keywords, look_up, HasKeywords}
+use Rattle.schemars_meaning.proofs.MapForm.{HasKeywords}
 use Rattle.schemars_meaning.proofs.Offers.{AllSay}
 use Rattle.schemars_meaning.proofs.StructForm.{Part, Parts, struct_keywords, PartsSay, OneSays, ChoicesSay}
 use Rattle.schemars_meaning.proofs.StructMeans.{value_says, open_judges, names_judged}
-use Rattle.schemars_meaning.proofs.Uniting.{IsForm, form-keywords, part_keywords, pair, rest, join}
+use Rattle.schemars_meaning.proofs.Uniting.{IsForm, form-keywords, pair, rest, join}
 use Rattle.schemars_meaning.proofs.Opened.{no_parts, map_form, opened_form, opened_part, opened_one, opened_parts, Part_form}
-use Rattle.schemars_meaning.proofs.Fields.{Finds, field_found}
+use Rattle.schemars_meaning.proofs.Fields.{field_found}
 
 module _ (c : Context) (on : c.dialect.reads_unevaluated ≡ true) where
   -- a map whose properties and required names say what is offered of v
@@ -186,11 +185,7 @@ module _ (c : Context) (on : c.dialect.reads_unevaluated ≡ true) where
     each_field (member k w ms) = λ i. one_field k w i && each_field ms i
 
     has_field : (ms : Members) → has_required Deserialize (needed name 0 ∷ []) ms ≡ is_some (get_member name ms)
-    has_field ms = go (is_some (get_member name ms))
-      where
-        go : (b : Bool) → b && true ≡ b
-        go true = refl
-        go false = refl
+    has_field ms = and-true (is_some (get_member name ms))
 
     member_same : (v : Data) → has_fields Deserialize (λ j. p) [] (needed name 0 ∷ []) false v ≡ has_member name p v
     member_same (object ms) =

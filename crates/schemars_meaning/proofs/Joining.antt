@@ -1,46 +1,22 @@
 -- Keywords put in one after another where both sides may have choices.
-use Rattle.std.proofs.Common.{◌≡◌, List, [], ◌∷◌, ◌++◌, map, Option, Some, None, Bool, true, false, option_map, refl, sym, ap, ◌∙◌, subst}
-use Rattle.std.proofs.Common.{true≢false}
-use Rattle.std.proofs.Common.{append-nil}
+use Rattle.std.proofs.Common.{◌≡◌, Option, Some, None, Bool, true, false, refl, sym, ap, ◌∙◌, subst}
 use Rattle.std.proofs.lemmas.Slice.Eq.{bytes_eq-Decides}
-use Rattle.std.specs.Prelude.{codes, bytes_eq, if◌then◌else◌, is_some, ◌&&◌, ◌||◌, not}
-use Rattle.serde_json.specs.Data.{Data, array, object, boolean, string, Items, no_items, item, Members, no_members, member, put}
+use Rattle.std.specs.Prelude.{codes, bytes_eq, if◌then◌else◌}
+use Rattle.serde_json.specs.Data.{Data, Members, no_members, member, put}
 use Rattle.serde_json.specs.Find.{get_member}
-use Rattle.serde_json.specs.View.{items_of}
 use Rattle.serde_json.proofs.Views.{get_member-put, get_member-put_other}
-use Rattle.schemars_schema.specs.Json.{Text}
-use Rattle.schemars_schema.specs.Edits.{replaced, without}
-use Rattle.schemars_schema.specs.SchemaData.{put_all}
-use Rattle.schemars_builders.proofs.Removals.{later_member}
-use Rattle.schemars_builders.specs.NullLaw.{text_items}
-use Rattle.schemars_flatten.specs.Flatten.{is_choice, is_joined, is_merged, united, with_united, with_choice, both_choices, with_keyword}
+use Rattle.schemars_schema.specs.Json.{Text, IsAbove}
+use Rattle.schemars_schema.specs.Edits.{without}
+use Rattle.schemars_schema.proofs.Members.{get_member-later, differ, flipped, get_member-without, get_member-here}
+use Rattle.schemars_schema.proofs.SortedMembers.{IsSorted, above-trans}
+use Rattle.schemars_schema.proofs.SortedMembers.{get_member-above}
+use Rattle.schemars_flatten.specs.Flatten.{is_choice, with_united, with_choice, both_choices, with_keyword}
 use Rattle.schemars_flatten.specs.Flatten.{with_keywords}
-use Rattle.schemars_flatten.specs.Flatten.{moved, moved_beside, united_all, stands, has_subschema, appended, alone}
-use Rattle.schemars_flatten.proofs.Lookups.{united_option}
-use Rattle.schemars_documents.specs.Documents.{Keyword}
-use Rattle.schemars_meaning.proofs.SortedMembers.{IsSorted, IsBefore, IsBefore-trans, sorted-put, sorted-without, sorted-put_all}
-use Rattle.schemars_meaning.proofs.SortedMembers.{get_member-first, get_member-before}
-use Rattle.schemars_meaning.proofs.MapKeywords.{differ, first_of, flipped, united_none, united-here, united-beside, lacks-first}
+use Rattle.schemars_flatten.proofs.Lookups.{united_option, united_none, united_here, united_beside}
+use Rattle.schemars_meaning.proofs.MapKeywords.{lacks-first}
 use Rattle.schemars_meaning.proofs.MapKeywords.{lacks-later, sorted-with_keywords}
-use Rattle.schemars_meaning.proofs.MapKeywords.{properties_there, required_there, closed_there, put_members-put_all, put_all-append}
 
 -- ---- a keyword that is taken out
-
-pub without-beside : (q k : Text) (ms : Members) → bytes_eq q k ≡ false → get_member q (without k ms) ≡ get_member q ms
-without-beside q k no_members other = refl
-without-beside q k (member l e ms) other = go (bytes_eq k l) refl (without-beside q k ms other)
-  where
-    go : (b : Bool) → bytes_eq k l ≡ b → get_member q (without k ms) ≡ get_member q ms
-        → get_member q (if b then ms else member l e (without k ms)) ≡ get_member q (member l e ms)
-    go true is later = sym (later_member q l e ms (ap (bytes_eq q) (sym ((bytes_eq-Decides k l).0 is)) ∙ other))
-    go false is later = by (bytes_eq q l) refl
-      where
-        by : (b : Bool) → bytes_eq q l ≡ b → get_member q (member l e (without k ms)) ≡ get_member q (member l e ms)
-        by true at =
-            let name = (bytes_eq-Decides q l).0 at in
-            ap (λ x. get_member x (member l e (without k ms))) name ∙ (get_member-first l e (without k ms)
-            ∙ sym (ap (λ x. get_member x (member l e ms)) name ∙ get_member-first l e ms))
-        by false at = later_member q l e (without k ms) at ∙ (later ∙ sym (later_member q l e ms at))
 
 pub without-here : (k : Text) (ms : Members) → IsSorted ms → get_member k (without k ms) ≡ None
 without-here k no_members h = refl
@@ -48,8 +24,8 @@ without-here k (member l e ms) h = go (bytes_eq k l) refl (without-here k ms h.1
   where
     go : (b : Bool) → bytes_eq k l ≡ b → get_member k (without k ms) ≡ None
         → get_member k (if b then ms else member l e (without k ms)) ≡ None
-    go true is later = ap (λ x. get_member x ms) ((bytes_eq-Decides k l).0 is) ∙ get_member-before l ms h.0
-    go false is later = later_member k l e (without k ms) is ∙ later
+    go true is later = ap (λ x. get_member x ms) ((bytes_eq-Decides k l).0 is) ∙ get_member-above l ms h.0
+    go false is later = get_member-later k l e (without k ms) is ∙ later
 
 -- ---- each keyword
 
@@ -96,8 +72,8 @@ choice-beside q d ms no_one no_all = go (get_member (codes "oneOf") ms)
     ]) ≡ get_member q ms
     go None = get_member-put_other q (codes "oneOf") d ms (differ q (codes "oneOf") no_one)
     go (Some e) =
-        united-beside q (codes "allOf") (both_choices (codes "oneOf") e d) (without (codes "oneOf") ms) no_all
-        ∙ without-beside q (codes "oneOf") ms no_one
+        united_beside q (codes "allOf") (both_choices (codes "oneOf") e d) (without (codes "oneOf") ms) no_all
+        ∙ get_member-without q (codes "oneOf") ms no_one
 
 choice-one : (d : Data) (ms : Members) → IsSorted ms → get_member (codes "oneOf") (with_choice (codes "oneOf") d ms)
     ≡ one_left (get_member (codes "oneOf") ms) (Some d)
@@ -109,7 +85,7 @@ choice-one d ms h = go (get_member (codes "oneOf") ms)
     ]) ≡ one_left o (Some d)
     go None = get_member-put (codes "oneOf") d ms
     go (Some e) =
-        united-beside (codes "oneOf") (codes "allOf") (both_choices (codes "oneOf") e d) (without (codes "oneOf") ms) refl
+        united_beside (codes "oneOf") (codes "allOf") (both_choices (codes "oneOf") e d) (without (codes "oneOf") ms) refl
         ∙ without-here (codes "oneOf") ms h
 
 choice-all : (d : Data) (ms : Members) → get_member (codes "allOf") (with_choice (codes "oneOf") d ms)
@@ -122,9 +98,9 @@ choice-all d ms = go (get_member (codes "oneOf") ms)
     ]) ≡ with_both o (Some d) (get_member (codes "allOf") ms)
     go None = get_member-put_other (codes "allOf") (codes "oneOf") d ms (differ (codes "allOf") (codes "oneOf") refl)
     go (Some e) =
-        united-here (codes "allOf") (both_choices (codes "oneOf") e d) (without (codes "oneOf") ms)
+        united_here (codes "allOf") (both_choices (codes "oneOf") e d) (without (codes "oneOf") ms)
         ∙ ap (λ x. united_option (codes "allOf") x (Some (both_choices (codes "oneOf") e d)))
-        (without-beside (codes "allOf") (codes "oneOf") ms refl)
+        (get_member-without (codes "allOf") (codes "oneOf") ms refl)
 
 with_both-none : (o x : Option Data) → with_both o None x ≡ x
 with_both-none None x = refl
@@ -150,16 +126,16 @@ pub record Joined (ns ms : Members) : Type 0 where
       → get_member q (with_keywords ns ms) ≡ united_option q (get_member q ms) (get_member q ns)
 
 -- a choice among those of the second side
-choice_joined : (d : Data) (ns ms : Members) → IsBefore (codes "oneOf") ns → IsSorted ms → Joined ns (with_choice (codes "oneOf") d ms)
+choice_joined : (d : Data) (ns ms : Members) → IsAbove (codes "oneOf") ns → IsSorted ms → Joined ns (with_choice (codes "oneOf") d ms)
     → Joined (member (codes "oneOf") d ns) ms
 choice_joined d ns ms h i later =
     let new : Members = with_choice (codes "oneOf") d ms in
-    let gone : get_member (codes "oneOf") ns ≡ None = get_member-before (codes "oneOf") ns h in
+    let gone : get_member (codes "oneOf") ns ≡ None = get_member-above (codes "oneOf") ns h in
     let gone_all : get_member (codes "allOf") ns ≡ None =
-    get_member-before (codes "allOf") ns (IsBefore-trans (codes "allOf") (codes "oneOf") ns refl h) in
-    let here : get_member (codes "oneOf") (member (codes "oneOf") d ns) ≡ Some d = get_member-first (codes "oneOf") d ns in
+    get_member-above (codes "allOf") ns (above-trans (codes "allOf") (codes "oneOf") ns refl h) in
+    let here : get_member (codes "oneOf") (member (codes "oneOf") d ns) ≡ Some d = get_member-here (codes "oneOf") d ns in
     let past_all : get_member (codes "allOf") (member (codes "oneOf") d ns) ≡ get_member (codes "allOf") ns =
-    later_member (codes "allOf") (codes "oneOf") d ns refl in
+    get_member-later (codes "allOf") (codes "oneOf") d ns refl in
     record {
       at_one = later.at_one ∙ (ap (one_left (get_member (codes "oneOf") new)) gone ∙ (one_left-none (get_member (codes "oneOf") new)
           ∙ (choice-one d ms i ∙ ap (one_left (get_member (codes "oneOf") ms)) (sym here))));
@@ -172,20 +148,20 @@ choice_joined d ns ms h i later =
           (sym (ap (united_option (codes "allOf") (get_member (codes "allOf") ms)) (past_all ∙ gone_all)
           ∙ united_none (codes "allOf") (get_member (codes "allOf") ms)) j))))));
       beside = λ q no_one no_all. later.beside q no_one no_all
-          ∙ (λ j. united_option q (choice-beside q d ms no_one no_all j) (sym (later_member q (codes "oneOf") d ns no_one) j));
+          ∙ (λ j. united_option q (choice-beside q d ms no_one no_all j) (sym (get_member-later q (codes "oneOf") d ns no_one) j));
     }
 
 -- another keyword
-plain_joined : (k : Text) (d : Data) (ns ms : Members) → IsBefore k ns → bytes_eq k (codes "oneOf") ≡ false
+plain_joined : (k : Text) (d : Data) (ns ms : Members) → IsAbove k ns → bytes_eq k (codes "oneOf") ≡ false
     → with_keyword k d ms ≡ with_united k d ms → Joined ns (with_keyword k d ms) → Joined (member k d ns) ms
 plain_joined k d ns ms h no_one same later = record {
   at_one = later.at_one ∙ (λ j. one_left ((ap (get_member (codes "oneOf")) same
-      ∙ united-beside (codes "oneOf") k d ms (flipped k (codes "oneOf") no_one)) j)
-      (sym (later_member (codes "oneOf") k d ns (flipped k (codes "oneOf") no_one)) j));
+      ∙ united_beside (codes "oneOf") k d ms (flipped k (codes "oneOf") no_one)) j)
+      (sym (get_member-later (codes "oneOf") k d ns (flipped k (codes "oneOf") no_one)) j));
   at_all = later.at_all
       ∙ (λ j. with_both ((ap (get_member (codes "oneOf")) same
-      ∙ united-beside (codes "oneOf") k d ms (flipped k (codes "oneOf") no_one)) j)
-      (sym (later_member (codes "oneOf") k d ns (flipped k (codes "oneOf") no_one)) j)
+      ∙ united_beside (codes "oneOf") k d ms (flipped k (codes "oneOf") no_one)) j)
+      (sym (get_member-later (codes "oneOf") k d ns (flipped k (codes "oneOf") no_one)) j)
       (at (codes "allOf") (bytes_eq (codes "allOf") k) refl j));
   beside = λ q no_one no_all. later.beside q no_one no_all ∙ at q (bytes_eq q k) refl;
 }
@@ -195,15 +171,15 @@ plain_joined k d ns ms h no_one same later = record {
         ≡ united_option q (get_member q ms) (get_member q (member k d ns))
     by q true is =
         let name = (bytes_eq-Decides q k).0 is in
-        let gone : get_member q ns ≡ None = ap (λ x. get_member x ns) name ∙ get_member-before k ns h in
+        let gone : get_member q ns ≡ None = ap (λ x. get_member x ns) name ∙ get_member-above k ns h in
         let put_in : get_member q (with_united k d ms) ≡ united_option q (get_member q ms) (Some d) =
-        ap (λ x. get_member q (with_united x d ms)) (sym name) ∙ united-here q d ms in
-        let here : get_member q (member k d ns) ≡ Some d = ap (λ x. get_member x (member k d ns)) name ∙ get_member-first k d ns in
+        ap (λ x. get_member q (with_united x d ms)) (sym name) ∙ united_here q d ms in
+        let here : get_member q (member k d ns) ≡ Some d = ap (λ x. get_member x (member k d ns)) name ∙ get_member-here k d ns in
         ap (united_option q (get_member q (with_united k d ms))) gone
         ∙ (united_none q (get_member q (with_united k d ms)) ∙ (put_in ∙ ap (united_option q (get_member q ms)) (sym here)))
     by q false is =
-        ap (λ o. united_option q o (get_member q ns)) (united-beside q k d ms is)
-        ∙ ap (united_option q (get_member q ms)) (sym (later_member q k d ns is))
+        ap (λ o. united_option q o (get_member q ns)) (united_beside q k d ms is)
+        ∙ ap (united_option q (get_member q ms)) (sym (get_member-later q k d ns is))
 
     at : (q : Text) (b : Bool) → bytes_eq q k ≡ b
         → united_option q (get_member q (with_keyword k d ms)) (get_member q ns)
@@ -221,9 +197,9 @@ joined (member k d ns) ms h i none =
     go (bytes_eq k (codes "oneOf")) refl
     (joined ns (with_keyword k d ms) h.1 (sorted-one k d ns ms i) (lacks-later (codes "anyOf") k d ns none))
   where
-    at_one : (l : Text) → l ≡ codes "oneOf" → IsBefore l ns → Joined ns (with_keyword l d ms) → Joined (member l d ns) ms
+    at_one : (l : Text) → l ≡ codes "oneOf" → IsAbove l ns → Joined ns (with_keyword l d ms) → Joined (member l d ns) ms
     at_one l name =
-        subst (λ x. IsBefore x ns → Joined ns (with_keyword x d ms) → Joined (member x d ns) ms) (sym name)
+        subst (λ x. IsAbove x ns → Joined ns (with_keyword x d ms) → Joined (member x d ns) ms) (sym name)
         (λ h later. choice_joined d ns ms h i later)
 
     go : (b : Bool) → bytes_eq k (codes "oneOf") ≡ b → Joined ns (with_keyword k d ms) → Joined (member k d ns) ms

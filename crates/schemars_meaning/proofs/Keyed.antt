@@ -21,8 +21,9 @@ use Rattle.schemars_schema.specs.SchemaData.{IsSchema, object_of, put_all}
 use Rattle.schemars_schema.specs.Acceptance.{Patterns, Judge, Context, judge, read_data, all_keywords, matches, matches_some}
 use Rattle.schemars_schema.specs.Acceptance.{by_patterns, each_member, schema_named, where_some, Reading, type_says, properties_say}
 use Rattle.schemars_schema.specs.Acceptance.{pattern_properties_say, additional_properties_say, is_covered}
-use Rattle.schemars_schema.proofs.Verdicts.{both-yes, both-verdict}
+use Rattle.schemars_schema.proofs.Verdicts.{both-yes, both-verdict, both-middle, each_agree}
 use Rattle.schemars_schema.proofs.Objects.{schema-judge}
+use Rattle.schemars_schema.proofs.Silent.{silent}
 use Rattle.schemars_builders.specs.NullLaw.{context2020_12}
 use Rattle.schemars_builders.proofs.Nulls.{IsReady}
 use Rattle.schemars_shapes.specs.declared.shape.IntegerKeys.{IntegerKeys}
@@ -36,9 +37,8 @@ use Rattle.schemars_documents.specs.OfShape.{KeywordTemplate, templates_of, valu
 use Rattle.schemars_documents.specs.OfShape.{typed as typed_at, all_patterns, pattern_properties_at, properties_at}
 use Rattle.schemars_meaning.proofs.MapDocument.{properties_keyword}
 use Rattle.schemars_meaning.proofs.Named.{AreEntries, schema_named-judges_in, judges_in, all_named-schemas, AreSchemas-put_all}
-use Rattle.schemars_meaning.proofs.Named.{each_yes, each_agree, IsNoMap, silent}
+use Rattle.schemars_meaning.proofs.Named.{each_yes, IsNoMap}
 use Rattle.schemars_meaning.proofs.Maps.{judges_of, named_says, properties_value, named_part}
-use Rattle.schemars_meaning.proofs.Verdicts.{both-middle}
 use Rattle.schemars_meaning.proofs.Filling.{Fit, without_end, parted}
 
 -- a map with these keys, those that match one of the patterns, and others with this schema

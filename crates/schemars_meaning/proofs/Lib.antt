@@ -1,5 +1,4 @@
 pub mod MapDocument
-pub mod SortedMembers
 pub mod Mapping
 pub mod Spread
 pub mod MapKeywords

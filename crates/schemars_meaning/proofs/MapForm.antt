@@ -1,17 +1,17 @@
 -- What an object with the keywords of a map says, with choices beside them, in each dialect that reads `unevaluatedProperties`.
-use Rattle.std.proofs.Common.{◌≡◌, List, [], ◌∷◌, Option, Some, None, Bool, true, false, option_map, refl, sym, ap, ◌∙◌, true≢false}
-use Rattle.std.proofs.Math.Path.{fun_ext}
+use Rattle.std.proofs.Common.{◌≡◌, Option, Some, None, Bool, true, false, option_map, refl, sym, ap, ◌∙◌, true≢false}
 use Rattle.std.proofs.Math.Bool.{or-false}
-use Rattle.std.specs.Prelude.{codes, bytes_eq, if◌then◌else◌, is_some, ◌&&◌, ◌||◌, not}
-use Rattle.serde_json.specs.Data.{Data, null, boolean, number, string, array, object, Members}
+use Rattle.std.specs.Prelude.{codes, bytes_eq, if◌then◌else◌, ◌&&◌, ◌||◌, not}
+use Rattle.serde_json.specs.Data.{Data, string, object, Members}
 use Rattle.serde_json.specs.Find.{get_member}
 use Rattle.schemars_schema.specs.Json.{Text}
-use Rattle.schemars_schema.specs.Verdict.{Verdict, Yes, No, both, verdict, all_of, one_of}
-use Rattle.schemars_schema.specs.Acceptance.{Context, Judge, Raw, Reading, judge, read_data, all_keywords, keywords, is_covered}
-use Rattle.schemars_schema.specs.Acceptance.{type_says, const_says, items_say, required_says, properties_say, additional_properties_say}
+use Rattle.schemars_schema.specs.Verdict.{Verdict, both, verdict, all_of, one_of}
+use Rattle.schemars_schema.specs.Acceptance.{Context, Judge, Raw, Reading, judge, read_data, all_keywords, is_covered}
+use Rattle.schemars_schema.specs.Acceptance.{type_says, required_says, properties_say, additional_properties_say}
 use Rattle.schemars_schema.specs.Acceptance.{each_says, unevaluated_properties_say, judged_by_list, stands_schema, judged_beside}
 use Rattle.schemars_schema.proofs.Verdicts.{both-yes}
 use Rattle.schemars_schema.proofs.Objects.{says, judge-object, says-agree, IsKeyword}
+use Rattle.schemars_schema.proofs.Silent.{items_none, const_none}
 
 -- what stands under each keyword
 pub record Keywords : Type 0 where
@@ -58,14 +58,6 @@ module _ (c : Context) (x : Keywords) where
 alone : (b : Bool) (i j : Judge) → (if not b && false then i else j) ≡ j
 alone true i j = refl
 alone false i j = refl
-
-items_none : (b : Bool) (v : Data) → items_say b None None None v ≡ Yes
-items_none true v = refl
-items_none false v = refl
-
-const_none : (b : Bool) (v : Data) → const_says b None v ≡ Yes
-const_none true v = refl
-const_none false v = refl
 
 -- `type` is `object`, or isn't there
 abbrev pub IsObjectType : Option Data → Type 0

@@ -1,87 +1,79 @@
 -- Look-ups at keywords of a map with notes, and where members are put in, changed and united.
-use Rattle.std.proofs.Common.{◌≡◌, List, [], ◌∷◌, ◌++◌, Option, Some, None, Bool, true, false}
+use Rattle.std.proofs.Common.{◌≡◌, List, [], ◌∷◌, ◌++◌, Option, Some, None, Bool, true, false, append-nil}
 use Rattle.std.proofs.Common.{refl, sym, ap, ◌∙◌, subst, true≢false}
 use Rattle.std.proofs.lemmas.Slice.Eq.{bytes_eq-Decides}
 use Rattle.std.specs.Prelude.{bytes_eq, codes, if◌then◌else◌}
-use Rattle.serde_json.specs.Data.{Data, boolean, string, array, object, Members, no_members, member, put}
+use Rattle.serde_json.specs.Data.{Data, boolean, string, array, object, Members, no_members, member, put, item}
 use Rattle.serde_json.specs.Find.{get_member}
 use Rattle.serde_json.proofs.Views.{get_member-put, get_member-put_other}
 use Rattle.schemars_schema.specs.Json.{Text}
 use Rattle.schemars_schema.specs.SchemaData.{put_all, put_members, object_of}
-use Rattle.schemars_schema.specs.Edits.{replaced, without}
+use Rattle.schemars_schema.specs.Edits.{replaced, without, changed_at}
 use Rattle.schemars_schema.specs.Annotations.{is_annotation, AreNotes}
+use Rattle.schemars_schema.proofs.Members.{get_member-later, differ, flipped, get_member-replaced, get_member-here}
+use Rattle.schemars_schema.proofs.Members.{get_member-replaced_other}
+use Rattle.schemars_schema.proofs.SortedMembers.{IsSorted, sorted-put, sorted-put_all, sorted-put_members}
+use Rattle.schemars_schema.proofs.SortedMembers.{sorted-replaced, sorted-without, same_members, get_member-above}
 use Rattle.schemars_builders.specs.NullLaw.{text_items}
-use Rattle.schemars_builders.specs.Properties.{changed_at}
-use Rattle.schemars_builders.proofs.Removals.{later_member}
-use Rattle.schemars_flatten.specs.Flatten.{is_choice, united, with_united, with_choice, both_choices}
+use Rattle.schemars_flatten.specs.Flatten.{is_choice, united, with_united, with_choice, both_choices, appended}
 use Rattle.schemars_flatten.specs.Flatten.{with_keyword, with_keywords}
-use Rattle.schemars_flatten.proofs.Lookups.{united_option}
+use Rattle.schemars_flatten.proofs.Lookups.{united_option, united_none, united_here, united_beside, either_option}
 use Rattle.schemars_documents.specs.Documents.{Keyword, typed, annotated}
 use Rattle.schemars_meaning.proofs.MapDocument.{properties_keyword, required_keyword, closed_keyword}
 use Rattle.schemars_meaning.proofs.MapDocument.{noted_by, AllNotes}
-use Rattle.schemars_meaning.proofs.SortedMembers.{IsSorted, sorted-put, sorted-put_all, sorted-put_members}
-use Rattle.schemars_meaning.proofs.SortedMembers.{sorted-replaced, sorted-without, same_members, get_member-first, get_member-before}
 
-pub differ : (q k : Text) → bytes_eq q k ≡ false → q ≡ k → ⊥
-differ q k other same = true≢false (sym ((bytes_eq-Decides q k).1 same) ∙ other)
+pub either_none : (a : Option Data) → either_option a None ≡ a
+either_none None = refl
+either_none (Some a) = refl
 
--- the first that is there
-abbrev pub first_of : Option Data → Option Data → Option Data
-first_of None b = b
-first_of (Some a) b = Some a
-
-pub first_of_none : (a : Option Data) → first_of a None ≡ a
-first_of_none None = refl
-first_of_none (Some a) = refl
-
-first_of_grouped : (a b c : Option Data) → first_of (first_of a b) c ≡ first_of a (first_of b c)
-first_of_grouped None b c = refl
-first_of_grouped (Some a) b c = refl
+either_grouped : (a b c : Option Data) → either_option (either_option a b) c ≡ either_option a (either_option b c)
+either_grouped None b c = refl
+either_grouped (Some a) b c = refl
 
 -- ---- members that are put in
 
 -- what is put in wins
 put_members-at : (q : Text) (ns ms : Members)
-    → get_member q (put_members ns ms) ≡ first_of (get_member q (put_members ns no_members)) (get_member q ms)
+    → get_member q (put_members ns ms) ≡ either_option (get_member q (put_members ns no_members)) (get_member q ms)
 put_members-at q no_members ms = refl
 put_members-at q (member k d ns) ms = put_members-at q ns (put k d ms) ∙ (go (bytes_eq q k) refl
-    ∙ ap (λ o. first_of o (get_member q ms)) (sym (put_members-at q ns (put k d no_members))))
+    ∙ ap (λ o. either_option o (get_member q ms)) (sym (put_members-at q ns (put k d no_members))))
   where
     go : (b : Bool) → bytes_eq q k ≡ b
-        → first_of (get_member q (put_members ns no_members)) (get_member q (put k d ms))
-        ≡ first_of (first_of (get_member q (put_members ns no_members)) (get_member q (put k d no_members))) (get_member q ms)
+        → either_option (get_member q (put_members ns no_members)) (get_member q (put k d ms))
+        ≡ either_option (either_option (get_member q (put_members ns no_members)) (get_member q (put k d no_members))) (get_member q ms)
     go true is =
         let name = (bytes_eq-Decides q k).0 is in
         let first = ap (λ x. get_member x (put k d ms)) name ∙ get_member-put k d ms in
         let second = ap (λ x. get_member x (put k d no_members)) name ∙ get_member-put k d no_members in
-        rw (first, second, first_of_grouped (get_member q (put_members ns no_members)) (Some d) (get_member q ms))
+        rw (first, second, either_grouped (get_member q (put_members ns no_members)) (Some d) (get_member q ms))
     go false is =
         let first = get_member-put_other q k d ms (differ q k is) in
         let second = get_member-put_other q k d no_members (differ q k is) in
-        rw (first, second, first_of_none (get_member q (put_members ns no_members)))
+        rw (first, second, either_none (get_member q (put_members ns no_members)))
 
 pub put_all-append : (es fs : List Keyword) (ms : Members) → put_all (es ++ fs) ms ≡ put_all fs (put_all es ms)
 put_all-append [] fs ms = refl
 put_all-append (e ∷ es) fs ms = put_all-append es fs (put e.0 e.1 ms)
 
 put_all-at : (q : Text) (es : List Keyword) (ms : Members)
-    → get_member q (put_all es ms) ≡ first_of (get_member q (put_all es no_members)) (get_member q ms)
+    → get_member q (put_all es ms) ≡ either_option (get_member q (put_all es no_members)) (get_member q ms)
 put_all-at q [] ms = refl
 put_all-at q (e ∷ es) ms = put_all-at q es (put e.0 e.1 ms) ∙ (go (bytes_eq q e.0) refl
-    ∙ ap (λ o. first_of o (get_member q ms)) (sym (put_all-at q es (put e.0 e.1 no_members))))
+    ∙ ap (λ o. either_option o (get_member q ms)) (sym (put_all-at q es (put e.0 e.1 no_members))))
   where
     go : (b : Bool) → bytes_eq q e.0 ≡ b
-        → first_of (get_member q (put_all es no_members)) (get_member q (put e.0 e.1 ms))
-        ≡ first_of (first_of (get_member q (put_all es no_members)) (get_member q (put e.0 e.1 no_members))) (get_member q ms)
+        → either_option (get_member q (put_all es no_members)) (get_member q (put e.0 e.1 ms))
+        ≡ either_option (either_option (get_member q (put_all es no_members)) (get_member q (put e.0 e.1 no_members))) (get_member q ms)
     go true is =
         let name = (bytes_eq-Decides q e.0).0 is in
         let first = ap (λ x. get_member x (put e.0 e.1 ms)) name ∙ get_member-put e.0 e.1 ms in
         let second = ap (λ x. get_member x (put e.0 e.1 no_members)) name ∙ get_member-put e.0 e.1 no_members in
-        rw (first, second, first_of_grouped (get_member q (put_all es no_members)) (Some e.1) (get_member q ms))
+        rw (first, second, either_grouped (get_member q (put_all es no_members)) (Some e.1) (get_member q ms))
     go false is =
         let first = get_member-put_other q e.0 e.1 ms (differ q e.0 is) in
         let second = get_member-put_other q e.0 e.1 no_members (differ q e.0 is) in
-        rw (first, second, first_of_none (get_member q (put_all es no_members)))
+        rw (first, second, either_none (get_member q (put_all es no_members)))
 
 -- sorted members put into nothing are the same members
 put_members-alone : (ns : Members) → IsSorted ns → put_members ns no_members ≡ ns
@@ -90,22 +82,23 @@ put_members-alone ns h = same_members _ _ (sorted-put_members ns no_members tt) 
     alone : (q : Text) (ns : Members) → IsSorted ns → get_member q (put_members ns no_members) ≡ get_member q ns
     alone q no_members h = refl
     alone q (member k d ns) h =
-        put_members-at q ns (member k d no_members) ∙ (ap (λ o. first_of o (get_member q (member k d no_members))) (alone q ns h.1)
+        put_members-at q ns (member k d no_members) ∙ (ap (λ o. either_option o (get_member q (member k d no_members))) (alone q ns h.1)
         ∙ go (bytes_eq q k) refl)
       where
         go : (b : Bool) → bytes_eq q k ≡ b
-            → first_of (get_member q ns) (get_member q (member k d no_members)) ≡ get_member q (member k d ns)
+            → either_option (get_member q ns) (get_member q (member k d no_members)) ≡ get_member q (member k d ns)
         go true is =
             let name = (bytes_eq-Decides q k).0 is in
-            let none = ap (λ x. get_member x ns) name ∙ get_member-before k ns h.0 in
+            let none = ap (λ x. get_member x ns) name ∙ get_member-above k ns h.0 in
             rw none
-        go false is = rw (later_member q k d no_members is, later_member q k d ns is) (first_of_none (get_member q ns))
+        go false is = rw (get_member-later q k d no_members is, get_member-later q k d ns is) (either_none (get_member q ns))
 
 -- entries that are put in at once, or through members of their own
 pub put_members-put_all : (es : List Keyword) (ms : Members) → IsSorted ms → put_members (put_all es no_members) ms ≡ put_all es ms
 put_members-put_all es ms h = same_members _ _ (sorted-put_members (put_all es no_members) ms h) (sorted-put_all es ms h)
     (λ q. put_members-at q (put_all es no_members) ms
-    ∙ (ap (λ ns. first_of (get_member q ns) (get_member q ms)) (put_members-alone (put_all es no_members) (sorted-put_all es no_members tt))
+    ∙ (ap (λ ns. either_option (get_member q ns) (get_member q ms))
+    (put_members-alone (put_all es no_members) (sorted-put_all es no_members tt))
     ∙ sym (put_all-at q es ms)))
 
 -- ---- names of keywords
@@ -154,16 +147,16 @@ sorted-noted (notes ∷ more) ms h = sorted-put_members notes (noted more ms) (s
 
 -- notes win
 pub noted-at : (q : Text) (notes : List Members) (ms : Members)
-    → get_member q (noted notes ms) ≡ first_of (get_member q (noted notes no_members)) (get_member q ms)
+    → get_member q (noted notes ms) ≡ either_option (get_member q (noted notes no_members)) (get_member q ms)
 noted-at q [] ms = refl
 noted-at q (notes ∷ more) ms =
     put_members-at q notes (noted more ms)
-    ∙ (ap (first_of (get_member q (put_members notes no_members))) (noted-at q more ms)
-    ∙ (sym (first_of_grouped (get_member q (put_members notes no_members)) (get_member q (noted more no_members)) (get_member q ms))
-    ∙ ap (λ o. first_of o (get_member q ms)) (sym (put_members-at q notes (noted more no_members)))))
+    ∙ (ap (either_option (get_member q (put_members notes no_members))) (noted-at q more ms)
+    ∙ (sym (either_grouped (get_member q (put_members notes no_members)) (get_member q (noted more no_members)) (get_member q ms))
+    ∙ ap (λ o. either_option o (get_member q ms)) (sym (put_members-at q notes (noted more no_members)))))
 
 -- of keywords that say something, notes say nothing
-put_members-beside : (q : Text) (notes ms : Members) → is_annotation q ≡ false → AreNotes notes
+pub put_members-beside : (q : Text) (notes ms : Members) → is_annotation q ≡ false → AreNotes notes
     → get_member q (put_members notes ms) ≡ get_member q ms
 put_members-beside q no_members ms e h = refl
 put_members-beside q (member k d notes) ms e h = put_members-beside q notes (put k d ms) e h.1
@@ -232,56 +225,35 @@ pub keyword-lacks : (q : Text) → bytes_eq q (codes "type") ≡ false → bytes
     → Keywords (λ es r closed. get_member q (keywords es r closed) ≡ None)
 keyword-lacks q no_type no_properties no_required no_closed es r closed =
     put_all-at q rest (put (codes "type") (string (codes "object")) no_members)
-    ∙ rw (later_member q (codes "type") (string (codes "object")) no_members no_type) (
-    first_of_none (get_member q (put_all rest no_members))
+    ∙ rw (get_member-later q (codes "type") (string (codes "object")) no_members no_type) (
+    either_none (get_member q (put_all rest no_members))
     ∙ (ap (get_member q) (put_all-append (properties_keyword es) (required_keyword r ++ closed_keyword closed) no_members)
     ∙ (put_all-at q (required_keyword r ++ closed_keyword closed) (put_all (properties_keyword es) no_members)
-    ∙ rw (properties es) (first_of_none (get_member q (put_all (required_keyword r ++ closed_keyword closed) no_members))
+    ∙ rw (properties es) (either_none (get_member q (put_all (required_keyword r ++ closed_keyword closed) no_members))
     ∙ (ap (get_member q) (put_all-append (required_keyword r) (closed_keyword closed) no_members)
     ∙ (put_all-at q (closed_keyword closed) (put_all (required_keyword r) no_members)
-    ∙ rw (required r) (first_of_none (get_member q (put_all (closed_keyword closed) no_members)) ∙ ends closed)))))))
+    ∙ rw (required r) (either_none (get_member q (put_all (closed_keyword closed) no_members)) ∙ ends closed)))))))
   where
     rest : List Keyword
     rest = properties_keyword es ++ (required_keyword r ++ closed_keyword closed)
 
     properties : (es : List Keyword) → get_member q (put_all (properties_keyword es) no_members) ≡ None
     properties [] = refl
-    properties (e ∷ es) = later_member q (codes "properties") (object_of (e ∷ es)) no_members no_properties
+    properties (e ∷ es) = get_member-later q (codes "properties") (object_of (e ∷ es)) no_members no_properties
 
     required : (r : List Text) → get_member q (put_all (required_keyword r) no_members) ≡ None
     required [] = refl
-    required (k ∷ ks) = later_member q (codes "required") (array (text_items (k ∷ ks))) no_members no_required
+    required (k ∷ ks) = get_member-later q (codes "required") (array (text_items (k ∷ ks))) no_members no_required
 
     ends : (closed : Bool) → get_member q (put_all (closed_keyword closed) no_members) ≡ None
     ends false = refl
-    ends true = later_member q (codes "additionalProperties") (boolean false) no_members no_closed
+    ends true = get_member-later q (codes "additionalProperties") (boolean false) no_members no_closed
 
 -- ---- a member that is changed
 
 unfoldable pub value_or : Data → Option Data → Data
 value_or d None = d
 value_or d (Some e) = e
-
-pub get_member-replaced : (k : Text) (d e : Data) (ms : Members) → get_member k ms ≡ Some e → get_member k (replaced k d ms) ≡ Some d
-get_member-replaced k d e no_members h = cc
-get_member-replaced k d e (member l f ms) h = go (bytes_eq k l) refl (get_member-replaced k d e ms)
-  where
-    go : (b : Bool) → bytes_eq k l ≡ b → (get_member k ms ≡ Some e → get_member k (replaced k d ms) ≡ Some d)
-        → get_member k (if b then member l d ms else member l f (replaced k d ms)) ≡ Some d
-    go true is later = ap (λ x. get_member x (member l d ms)) ((bytes_eq-Decides k l).0 is) ∙ get_member-first l d ms
-    go false is later = later_member k l f (replaced k d ms) is ∙ later (sym (later_member k l f ms is) ∙ h)
-
-pub get_member-replaced_other : (q k : Text) (d : Data) (ms : Members) → bytes_eq q k ≡ false
-    → get_member q (replaced k d ms) ≡ get_member q ms
-get_member-replaced_other q k d no_members other = refl
-get_member-replaced_other q k d (member l f ms) other = go (bytes_eq k l) refl (get_member-replaced_other q k d ms other)
-  where
-    go : (b : Bool) → bytes_eq k l ≡ b → get_member q (replaced k d ms) ≡ get_member q ms
-        → get_member q (if b then member l d ms else member l f (replaced k d ms)) ≡ get_member q (member l f ms)
-    go true is later =
-        let apart : bytes_eq q l ≡ false = ap (bytes_eq q) (sym ((bytes_eq-Decides k l).0 is)) ∙ other in
-        later_member q l d ms apart ∙ sym (later_member q l f ms apart)
-    go false is later = rw later
 
 pub changed_at-here : (k : Text) (f : Data → Data) (d : Data) (ms : Members)
     → get_member k (changed_at k f d ms) ≡ Some (f (value_or d (get_member k ms)))
@@ -311,13 +283,6 @@ sorted-changed_at k f d ms h = go (get_member k ms)
 
 -- ---- look-ups after keywords are put in one after another
 
-pub flipped : (k q : Text) → bytes_eq k q ≡ false → bytes_eq q k ≡ false
-flipped k q is = go (bytes_eq q k) refl
-  where
-    go : (b : Bool) → bytes_eq q k ≡ b → b ≡ false
-    go true same = absurd (differ k q is (sym ((bytes_eq-Decides q k).0 same)))
-    go false same = refl
-
 -- a name that isn't there is not the first one, and isn't behind it
 pub lacks-first : (q k : Text) (d : Data) (ms : Members) → get_member q (member k d ms) ≡ None → bytes_eq k q ≡ false
 lacks-first q k d ms h = go (bytes_eq k q) refl
@@ -325,34 +290,12 @@ lacks-first q k d ms h = go (bytes_eq k q) refl
     go : (b : Bool) → bytes_eq k q ≡ b → b ≡ false
     go true is =
         let found : None ≡ Some d = sym h ∙ (ap (λ x. get_member x (member k d ms)) (sym ((bytes_eq-Decides k q).0 is))
-        ∙ get_member-first k d ms) in
+        ∙ get_member-here k d ms) in
         cc
     go false is = refl
 
 pub lacks-later : (q k : Text) (d : Data) (ms : Members) → get_member q (member k d ms) ≡ None → get_member q ms ≡ None
-lacks-later q k d ms h = sym (later_member q k d ms (flipped k q (lacks-first q k d ms h))) ∙ h
-
-pub united_none : (k : Text) (a : Option Data) → united_option k a None ≡ a
-united_none k None = refl
-united_none k (Some e) = refl
-
-pub united-here : (k : Text) (d : Data) (ms : Members)
-    → get_member k (with_united k d ms) ≡ united_option k (get_member k ms) (Some d)
-united-here k d ms = go (get_member k ms) refl
-  where
-    go : (o : Option Data) → get_member k ms ≡ o
-        → get_member k (elim o [ None ↦ put k d ms | Some e ↦ replaced k (united k e d) ms ]) ≡ united_option k o (Some d)
-    go None is = get_member-put k d ms
-    go (Some e) is = get_member-replaced k (united k e d) e ms is
-
-pub united-beside : (q k : Text) (d : Data) (ms : Members) → bytes_eq q k ≡ false
-    → get_member q (with_united k d ms) ≡ get_member q ms
-united-beside q k d ms other = go (get_member k ms)
-  where
-    go : (o : Option Data)
-        → get_member q (elim o [ None ↦ put k d ms | Some e ↦ replaced k (united k e d) ms ]) ≡ get_member q ms
-    go None = get_member-put_other q k d ms (differ q k other)
-    go (Some e) = get_member-replaced_other q k (united k e d) ms other
+lacks-later q k d ms h = sym (get_member-later q k d ms (flipped k q (lacks-first q k d ms h))) ∙ h
 
 sorted-with_united : (k : Text) (d : Data) (ms : Members) → IsSorted ms → IsSorted (with_united k d ms)
 sorted-with_united k d ms h = go (get_member k ms)
@@ -408,12 +351,34 @@ with_keywords-at q (member k d ns) ms h none =
         ≡ united_option q (get_member q ms) (get_member q (member k d ns))
     go true is =
         let name = (bytes_eq-Decides q k).0 is in
-        let gone : get_member q ns ≡ None = ap (λ x. get_member x ns) name ∙ get_member-before k ns h.0 in
+        let gone : get_member q ns ≡ None = ap (λ x. get_member x ns) name ∙ get_member-above k ns h.0 in
         let put_in : get_member q (with_united k d ms) ≡ united_option q (get_member q ms) (Some d) =
-        ap (λ x. get_member q (with_united x d ms)) (sym name) ∙ united-here q d ms in
-        let here : get_member q (member k d ns) ≡ Some d = ap (λ x. get_member x (member k d ns)) name ∙ get_member-first k d ns in
+        ap (λ x. get_member q (with_united x d ms)) (sym name) ∙ united_here q d ms in
+        let here : get_member q (member k d ns) ≡ Some d = ap (λ x. get_member x (member k d ns)) name ∙ get_member-here k d ns in
         ap (united_option q (get_member q (with_united k d ms))) gone
         ∙ (united_none q (get_member q (with_united k d ms)) ∙ (put_in ∙ ap (united_option q (get_member q ms)) (sym here)))
     go false is =
-        ap (λ o. united_option q o (get_member q ns)) (united-beside q k d ms is)
-        ∙ ap (united_option q (get_member q ms)) (sym (later_member q k d ns is))
+        ap (λ o. united_option q o (get_member q ns)) (united_beside q k d ms is)
+        ∙ ap (united_option q (get_member q ms)) (sym (get_member-later q k d ns is))
+
+-- ---- keywords of two maps together
+
+pub properties-united : (es fs : List Keyword)
+    → united_option (codes "properties") (properties_there es) (properties_there fs) ≡ properties_there (es ++ fs)
+unfolding properties_there
+properties-united [] fs = refl
+properties-united (e ∷ es) [] = ap properties_there (sym (append-nil (e ∷ es)))
+properties-united (e ∷ es) (f ∷ fs) = ap (λ ms. Some (object ms))
+    (put_members-put_all (f ∷ fs) (put_all (e ∷ es) no_members) (sorted-put_all (e ∷ es) no_members tt)
+    ∙ sym (put_all-append (e ∷ es) (f ∷ fs) no_members))
+
+texts-appended : (ks ls : List Text) → appended (text_items ks) (text_items ls) ≡ text_items (ks ++ ls)
+texts-appended [] ls = refl
+texts-appended (k ∷ ks) ls = ap (item (string k)) (texts-appended ks ls)
+
+pub required-united : (ks ls : List Text)
+    → united_option (codes "required") (required_there ks) (required_there ls) ≡ required_there (ks ++ ls)
+unfolding required_there
+required-united [] ls = refl
+required-united (k ∷ ks) [] = ap required_there (sym (append-nil (k ∷ ks)))
+required-united (k ∷ ks) (l ∷ ls) = ap (λ ds. Some (array ds)) (texts-appended (k ∷ ks) (l ∷ ls))

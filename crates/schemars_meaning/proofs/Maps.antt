@@ -1,27 +1,24 @@
 -- What the document of a map with named members says under 2020-12.
-use Rattle.std.proofs.Common.{◌≡◌, List, [], ◌∷◌, Option, Some, None, Bool, true, false, Ordering, Less, Equal, Greater}
-use Rattle.std.proofs.Common.{nat_cmp, is_eq, refl, sym, ap, ◌∙◌, option_map}
-use Rattle.std.specs.Prelude.{codes, bytes_eq, if◌then◌else◌, is_some}
-use Rattle.std.specs.Ordering.{match_ordering}
-use Rattle.std.specs.Cmp.Lexicographic.{slice_cmp}
-use Rattle.std.proofs.lemmas.Map.Text.{is_eq-slice_cmp}
-use Rattle.serde_json.specs.Data.{Data, null, boolean, number, string, array, object, Members, no_members, member, put}
-use Rattle.serde_json.specs.Find.{get_member}
+use Rattle.std.proofs.Common.{◌≡◌, List, [], ◌∷◌, Option, Some, None, Bool, true, false}
+use Rattle.std.proofs.Common.{refl, sym, ap, ◌∙◌}
+use Rattle.std.specs.Prelude.{codes, if◌then◌else◌, is_some}
+use Rattle.serde_json.specs.Data.{Data, null, boolean, number, string, array, object, Members, no_members, member}
 use Rattle.schemars_schema.specs.Verdict.{Verdict, Yes, No, both, verdict}
 use Rattle.schemars_schema.specs.Json.{Text}
-use Rattle.schemars_schema.specs.SchemaData.{IsSchema, object_of, put_all}
-use Rattle.schemars_schema.specs.Acceptance.{Patterns, Judge, Context, Reading, judge, read_data, read_members}
-use Rattle.schemars_schema.specs.Acceptance.{all_keywords, all_named, schema_named, each_member, where_some, have_all}
-use Rattle.schemars_schema.specs.Acceptance.{texts_in, type_says, required_says, properties_say}
+use Rattle.schemars_schema.specs.SchemaData.{object_of, put_all}
+use Rattle.schemars_schema.specs.Acceptance.{Patterns, Judge, Context, Reading, judge, read_data}
+use Rattle.schemars_schema.specs.Acceptance.{all_keywords, schema_named, each_member, where_some, have_all}
+use Rattle.schemars_schema.specs.Acceptance.{type_says, required_says, properties_say}
 use Rattle.schemars_schema.specs.Acceptance.{additional_properties_say, is_covered}
-use Rattle.schemars_schema.proofs.Verdicts.{both-yes}
-use Rattle.schemars_schema.proofs.Objects.{schema-judge}
+use Rattle.schemars_schema.proofs.Verdicts.{both-yes, each_agree}
+use Rattle.schemars_schema.proofs.Silent.{silent}
 use Rattle.schemars_builders.specs.NullLaw.{context2020_12, text_items}
+use Rattle.schemars_builders.proofs.NullKeywords.{texts_in-text_items}
 use Rattle.std.proofs.Math.Bool.{or-false}
 use Rattle.schemars_documents.specs.Documents.{Keyword}
 use Rattle.schemars_meaning.proofs.MapDocument.{map_document}
-use Rattle.schemars_meaning.proofs.Named.{judges_in, all_named-schemas, AreEntries, AreSchemas-put_all, texts_in-text_items, each_yes}
-use Rattle.schemars_meaning.proofs.Named.{each_agree, IsNoMap, silent}
+use Rattle.schemars_meaning.proofs.Named.{judges_in, all_named-schemas, AreEntries, AreSchemas-put_all, each_yes}
+use Rattle.schemars_meaning.proofs.Named.{IsNoMap}
 
 -- ---- the keywords that are there or not
 

@@ -1,23 +1,18 @@
 -- Schemas under names, and the judges that they make.
-use Rattle.std.proofs.Common.{◌≡◌, List, [], ◌∷◌, Option, Some, None, Bool, true, false, Ordering, Less, Equal, Greater}
-use Rattle.std.proofs.Common.{nat_cmp, is_eq, refl, sym, ap, ◌∙◌, option_map}
-use Rattle.std.specs.Prelude.{codes, bytes_eq, if◌then◌else◌, is_some}
+use Rattle.std.proofs.Common.{◌≡◌, List, [], ◌∷◌, Option, Some, Bool, Ordering, Less, Equal, Greater}
+use Rattle.std.proofs.Common.{nat_cmp, is_eq, refl, ◌∙◌, option_map}
+use Rattle.std.specs.Prelude.{bytes_eq, if◌then◌else◌}
 use Rattle.std.specs.Ordering.{match_ordering}
 use Rattle.std.specs.Cmp.Lexicographic.{slice_cmp}
 use Rattle.std.proofs.lemmas.Map.Text.{is_eq-slice_cmp}
 use Rattle.serde_json.specs.Data.{Data, null, boolean, number, string, array, object, Members, no_members, member, put}
 use Rattle.serde_json.specs.Find.{get_member}
-use Rattle.schemars_schema.specs.Verdict.{Verdict, Yes, No, both, verdict}
+use Rattle.schemars_schema.specs.Verdict.{Yes}
 use Rattle.schemars_schema.specs.Json.{Text}
-use Rattle.schemars_schema.specs.SchemaData.{IsSchema, object_of, put_all}
-use Rattle.schemars_schema.specs.Acceptance.{Patterns, Judge, Context, Reading, judge, read_data, read_members}
-use Rattle.schemars_schema.specs.Acceptance.{all_keywords, all_named, schema_named, each_member, where_some, have_all}
-use Rattle.schemars_schema.specs.Acceptance.{texts_in, type_says, required_says, properties_say}
-use Rattle.schemars_schema.specs.Acceptance.{additional_properties_say, is_covered}
-use Rattle.schemars_schema.proofs.Verdicts.{both-yes}
+use Rattle.schemars_schema.specs.SchemaData.{IsSchema, put_all}
+use Rattle.schemars_schema.specs.Acceptance.{Judge, Context, judge, read_data, read_members}
+use Rattle.schemars_schema.specs.Acceptance.{all_named, schema_named, each_member}
 use Rattle.schemars_schema.proofs.Objects.{schema-judge}
-use Rattle.schemars_builders.specs.NullLaw.{text_items}
-use Rattle.std.proofs.Math.Bool.{or-false}
 use Rattle.schemars_documents.specs.Documents.{Keyword}
 
 -- ---- the judges under names
@@ -75,18 +70,9 @@ AreSchemas-put_all (e ∷ es) ms h i = AreSchemas-put_all es (put e.0 e.1 ms) h.
 
 -- ---- texts
 
-pub texts_in-text_items : (ns : List Text) → texts_in (text_items ns) ≡ Some ns
-texts_in-text_items [] = refl
-texts_in-text_items (n ∷ ns) = rw (texts_in-text_items ns)
-
 pub each_yes : (ms : Members) → each_member (λ k w. Yes) ms ≡ Yes
 each_yes no_members = refl
 each_yes (member k w ms) = each_yes ms
-
-pub each_agree : (p q : Text → Data → Verdict) → ((k : Text) (w : Data) → p k w ≡ q k w) → (ms : Members)
-    → each_member p ms ≡ each_member q ms
-each_agree p q same no_members = refl
-each_agree p q same (member k w ms) = rw (same k w, each_agree p q same ms)
 
 -- ---- what it says
 
@@ -97,7 +83,3 @@ IsNoMap (number n) = Unit {0}
 IsNoMap (string s) = Unit {0}
 IsNoMap (array ds) = Unit {0}
 IsNoMap (object ms) = ⊥
-
-pub silent : {A : Type 0} (o : Option A) → where_some o (λ x. Yes) ≡ Yes
-silent None = refl
-silent (Some x) = refl

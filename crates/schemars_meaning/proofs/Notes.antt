@@ -4,23 +4,24 @@ use Rattle.std.specs.Prelude.{codes, is_some, bytes_eq, option_and_then, if◌th
 use Rattle.std.proofs.lemmas.Slice.Eq.{bytes_eq-Decides}
 use Rattle.serde_json.specs.Data.{Data, null, boolean, number, string, array, object, Members, no_members, member, put}
 use Rattle.serde_json.specs.Find.{get_member, as_str}
-use Rattle.serde_json.proofs.Views.{get_member-put, get_member-put_other}
+use Rattle.serde_json.proofs.Views.{get_member-put}
 use Rattle.schemars_schema.specs.Json.{Text}
 use Rattle.schemars_schema.specs.SchemaData.{put_members, IsSchema, members_in}
-use Rattle.schemars_schema.specs.Acceptance.{Context, Patterns, Judge, judge, read_data, all_keywords, items_say, const_says}
-use Rattle.schemars_schema.specs.Acceptance.{unevaluated_properties_say}
-use Rattle.schemars_schema.specs.Verdict.{Yes, verdict}
+use Rattle.schemars_schema.specs.Acceptance.{Context, Patterns, Judge, judge, read_data, all_keywords}
+use Rattle.schemars_schema.specs.Verdict.{verdict}
 use Rattle.schemars_schema.specs.Annotations.{is_annotation, AreNotes}
 use Rattle.schemars_schema.proofs.Objects.{judge-put}
 use Rattle.schemars_schema.proofs.Literals.{judge-put_members}
-use Rattle.schemars_schema.specs.Edits.{without}
-use Rattle.schemars_builders.specs.AllowNull.{is_text, is_null_choice}
+use Rattle.schemars_schema.proofs.Members.{without-put}
+use Rattle.schemars_schema.proofs.Silent.{items_none, const_none, unevaluated_none}
+use Rattle.schemars_schema.specs.Edits.{without, is_text}
+use Rattle.schemars_builders.specs.AllowNull.{is_null_choice}
 use Rattle.schemars_builders.specs.NullLaw.{context2020_12, HasPlainValues}
-use Rattle.schemars_builders.proofs.Removals.{without-put}
 use Rattle.schemars_builders.proofs.NullMembers.{choice_key}
 use Rattle.schemars_builders.proofs.Nulls.{IsReady}
 use Rattle.schemars_documents.specs.Documents.{annotated, with_title, with_meta_schema, root_document}
 use Rattle.schemars_meaning.proofs.MapDocument.{noted_by, AllNotes}
+use Rattle.schemars_meaning.proofs.MapKeywords.{put_members-beside}
 
 pub annotated-schema : (notes : Members) (s : Data) → IsSchema s → IsSchema (annotated notes s)
 annotated-schema no_members s is = is
@@ -70,13 +71,6 @@ module _ (patterns : Patterns) (f : Text → Judge) where
   judge-root name uri s is = judge-with_meta_schema uri _ ∙ (judge-with_title name (members_in s) ∙ judge-members_in s is)
 
 -- ---- null can be allowed beside notes
-
-put_members-other : (l : Text) (notes ms : Members) → is_annotation l ≡ false → AreNotes notes
-    → get_member l (put_members notes ms) ≡ get_member l ms
-put_members-other l no_members ms e h = refl
-put_members-other l (member k d notes) ms e h =
-    put_members-other l notes (put k d ms) e h.1 ∙ get_member-put_other l k d ms
-    (λ same. true≢false (sym h.0 ∙ (ap is_annotation (sym same) ∙ e)))
 
 -- a note stands there, so that no keyword stands alone
 abbrev HasNote : Members → Type 0
@@ -154,7 +148,7 @@ ready-annotated (member k d notes) s h r =
     let noted : HasNote (put_members (member k d notes) (members_in s)) =
     put_members-noted notes (put k d (members_in s)) h.1 (k, d, h.0, get_member-put k d (members_in s)) in
     ready-agree (put_members (member k d notes) (members_in s)) (members_in s) noted
-    (λ l e. put_members-other l (member k d notes) (members_in s) e h)
+    (λ l e. put_members-beside l (member k d notes) (members_in s) e h)
     (once_still (codes "const") (member k d notes) (members_in s) refl h) (ready-members_in s r)
 
 pub ready-noted_by : (notes : List Members) (s : Data) → AllNotes notes → IsReady s → IsReady (noted_by notes s)
@@ -162,18 +156,6 @@ ready-noted_by [] s h r = r
 ready-noted_by (notes ∷ more) s h r = ready-annotated notes (noted_by more s) h.0 (ready-noted_by more s h.1 r)
 
 -- ---- in each dialect
-
-items_none : (reads : Bool) (v : Data) → items_say reads None None None v ≡ Yes
-items_none true v = refl
-items_none false v = refl
-
-const_none : (reads : Bool) (v : Data) → const_says reads None v ≡ Yes
-const_none true v = refl
-const_none false v = refl
-
-unevaluated_none : (reads : Bool) (judged : Text → Bool) (v : Data) → unevaluated_properties_say reads judged None v ≡ Yes
-unevaluated_none true judged v = refl
-unevaluated_none false judged v = refl
 
 truth_fits : (patterns : Patterns) (f : Text → Judge) (v : Data) (p q r t u b : Bool)
     → (judge (record {

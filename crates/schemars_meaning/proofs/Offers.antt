@@ -1,26 +1,25 @@
 -- What choices of schemas say, and which members they judge.
-use Rattle.std.proofs.Common.{◌≡◌, List, [], ◌∷◌, ◌++◌, map, Option, Some, None, Bool, true, false, option_map, refl, sym, ap, ◌∙◌}
-use Rattle.std.proofs.Common.{true≢false, subst}
+use Rattle.std.proofs.Common.{◌≡◌, List, [], ◌∷◌, map, Option, Some, None, Bool, true, false, refl, sym, ap, ◌∙◌}
+use Rattle.std.proofs.Common.{subst}
 use Rattle.std.proofs.Math.Bool.{or-false}
 use Rattle.std.proofs.lemmas.Slice.Eq.{bytes_eq-Decides}
-use Rattle.std.specs.Prelude.{codes, bytes_eq, if◌then◌else◌, is_some, ◌&&◌, ◌||◌, not}
-use Rattle.std.specs.List.{list_any}
-use Rattle.serde_json.specs.Data.{Data, array, object, Members, no_members, member}
+use Rattle.std.specs.Prelude.{codes, bytes_eq, if◌then◌else◌, ◌&&◌, ◌||◌}
+use Rattle.serde_json.specs.Data.{Data, array, no_members, member}
 use Rattle.serde_json.specs.Find.{get_member}
 use Rattle.serde_json.specs.View.{items_of}
 use Rattle.schemars_schema.specs.Json.{Text}
 use Rattle.schemars_schema.specs.SchemaData.{IsSchema}
-use Rattle.schemars_schema.specs.Verdict.{Verdict, Yes, No, both, verdict, opposite, none_of, all_of, one_of, is_yes}
-use Rattle.schemars_schema.specs.Acceptance.{Context, Judge, Reading, judge, read_data, read_items, judged_by, judged_by_some}
+use Rattle.schemars_schema.specs.Verdict.{verdict, one_of, is_yes}
+use Rattle.schemars_schema.specs.Acceptance.{Context, Judge, judge, read_data, read_items, judged_by, judged_by_some}
 use Rattle.schemars_schema.specs.Acceptance.{judged_by_list, each_says}
-use Rattle.schemars_schema.proofs.Verdicts.{both-yes, both-verdict}
-use Rattle.schemars_schema.proofs.Objects.{schema-judge, says, IsKeyword}
-use Rattle.schemars_builders.proofs.Removals.{later_member}
+use Rattle.schemars_schema.proofs.Verdicts.{both-yes}
+use Rattle.schemars_schema.proofs.Objects.{schema-judge, says}
+use Rattle.schemars_schema.proofs.Members.{get_member-later}
 use Rattle.schemars_flatten.specs.Flatten.{alone}
 use Rattle.schemars_types.specs.Meaning.{exactly_one}
-use Rattle.schemars_types.specs.Meaning.{Choice, every_part, claimed_by, claims}
+use Rattle.schemars_types.specs.Meaning.{Choice, claimed_by}
 use Rattle.schemars_meaning.proofs.Verdicts.{one_verdict}
-use Rattle.schemars_meaning.proofs.MapForm.{Keywords, look_up, HasKeywords, object-says, says-fits, says-judges, no_type, read}
+use Rattle.schemars_meaning.proofs.MapForm.{Keywords, look_up, HasKeywords, object-says, says-fits, says-judges, no_type}
 
 -- an object with this keyword alone
 none_if : (b : Bool) (x : Option Data) → x ≡ None → (if b then None else x) ≡ None
@@ -41,7 +40,7 @@ lone-has d k key = go (bytes_eq k (codes "oneOf")) refl
         let same : codes "oneOf" ≡ k = sym ((bytes_eq-Decides k (codes "oneOf")).0 is) in
         subst (λ l. get_member l (member (codes "oneOf") d no_members) ≡ look_up (lone d) l) same at_one
     go false is =
-        later_member k (codes "oneOf") d no_members is
+        get_member-later k (codes "oneOf") d no_members is
         ∙ sym (none_if (bytes_eq k (codes "type")) _ (none_if (bytes_eq k (codes "properties")) _
         (none_if (bytes_eq k (codes "required")) _ (none_if (bytes_eq k (codes "additionalProperties")) _
         (none_if (bytes_eq k (codes "allOf")) _ (ap (λ b. if b then Some d

@@ -1,30 +1,29 @@
 -- What becomes of the documents of maps and choices where they are parts of another object.
-use Rattle.std.proofs.Common.{◌≡◌, ℕ, List, [], ◌∷◌, ◌++◌, map, Option, Some, None, Bool, true, false, option_map, refl, sym, ap, ◌∙◌}
-use Rattle.std.proofs.Common.{subst, true≢false}
+use Rattle.std.proofs.Common.{◌≡◌, List, [], ◌∷◌, map, Option, Some, None, Bool, true, false, option_map, refl, sym, ap, ◌∙◌}
+use Rattle.std.proofs.Common.{subst}
 use Rattle.std.proofs.lemmas.Slice.Eq.{bytes_eq-Decides}
-use Rattle.std.specs.Prelude.{codes, bytes_eq, if◌then◌else◌, is_some, ◌&&◌, ◌||◌, not}
-use Rattle.serde_json.specs.Data.{Data, null, array, object, number, boolean, string, Items, no_items, item, Members, no_members, member}
-use Rattle.serde_json.specs.Data.{put}
+use Rattle.std.specs.Prelude.{codes, bytes_eq}
+use Rattle.serde_json.specs.Data.{Data, array, object, item, Members, no_members, member}
 use Rattle.serde_json.specs.Find.{get_member}
 use Rattle.serde_json.specs.View.{items_of}
-use Rattle.schemars_schema.specs.Json.{Text}
+use Rattle.schemars_schema.specs.Json.{Text, IsAbove}
 use Rattle.schemars_schema.specs.Edits.{without}
-use Rattle.schemars_schema.specs.Annotations.{is_annotation, AreNotes}
-use Rattle.schemars_schema.specs.References.{Place, NoSchemas, SchemaList}
-use Rattle.schemars_builders.proofs.Removals.{later_member}
-use Rattle.schemars_walk.specs.Rewritten.{Forms, form_at, forms, in_items, in_keywords}
-use Rattle.schemars_flatten.specs.Opening.{opening, opened, opened_here, opened_at, closes_by, same_object_place}
-use Rattle.schemars_documents.specs.Documents.{Keyword, annotated}
-use Rattle.schemars_meaning.proofs.MapDocument.{map_document, noted_by, AllNotes}
-use Rattle.schemars_meaning.proofs.SortedMembers.{IsSorted, IsBefore, sorted-without, get_member-first}
-use Rattle.schemars_meaning.proofs.MapKeywords.{noted, noted_by-object, noted-beside, sorted-noted, keywords, sorted-keywords, type-at}
+use Rattle.schemars_schema.specs.Annotations.{is_annotation}
+use Rattle.schemars_schema.specs.References.{NoSchemas}
+use Rattle.schemars_schema.proofs.Members.{get_member-later, get_member-without, get_member-here}
+use Rattle.schemars_schema.proofs.SortedMembers.{IsSorted, sorted-without}
+use Rattle.schemars_walk.specs.Rewritten.{form_at, forms, in_items, in_keywords}
+use Rattle.schemars_flatten.specs.Opening.{opening, opened, opened_here, opened_at, same_object_place}
+use Rattle.schemars_documents.specs.Documents.{Keyword}
+use Rattle.schemars_meaning.proofs.MapDocument.{AllNotes}
+use Rattle.schemars_meaning.proofs.MapKeywords.{noted, noted-beside, sorted-noted, keywords, sorted-keywords, type-at}
 use Rattle.schemars_meaning.proofs.MapKeywords.{properties-at, required-at}
 use Rattle.schemars_meaning.proofs.MapKeywords.{closed-at, keyword-lacks, closed_there, properties_there, required_there}
 use Rattle.schemars_meaning.proofs.MapForm.{Keywords, look_up}
 use Rattle.schemars_meaning.proofs.Offers.{one_object}
-use Rattle.schemars_meaning.proofs.StructForm.{Part, Parts, objects, list_of, all_there, one_there, additional_there, unevaluated_there}
+use Rattle.schemars_meaning.proofs.StructForm.{Part, Parts, objects, all_there, one_there, additional_there, unevaluated_there}
 use Rattle.schemars_meaning.proofs.StructForm.{additional_beside, unevaluated_beside, struct_keywords}
-use Rattle.schemars_meaning.proofs.Joining.{without-beside, without-here}
+use Rattle.schemars_meaning.proofs.Joining.{without-here}
 use Rattle.schemars_meaning.proofs.Uniting.{IsForm, by_seven, look_up-other, part_keywords}
 
 -- ---- maps with notes
@@ -69,13 +68,13 @@ get_in_keywords k (member l d ms) = go (bytes_eq k l) refl (get_in_keywords k ms
         let name = (bytes_eq-Decides k l).0 is in
         subst (λ j. get_member j (member l (form_at (same_object_place l) d (forms opening tt d)) (in_keywords opening tt ms))
         ≡ option_map (λ d. form_at (same_object_place j) d (forms opening tt d)) (get_member j (member l d ms))) (sym name)
-        (get_member-first l (form_at (same_object_place l) d (forms opening tt d)) (in_keywords opening tt ms)
-        ∙ sym (ap (option_map (λ d. form_at (same_object_place l) d (forms opening tt d))) (get_member-first l d ms)))
+        (get_member-here l (form_at (same_object_place l) d (forms opening tt d)) (in_keywords opening tt ms)
+        ∙ sym (ap (option_map (λ d. form_at (same_object_place l) d (forms opening tt d))) (get_member-here l d ms)))
     go false is later =
-        later_member k l (form_at (same_object_place l) d (forms opening tt d)) (in_keywords opening tt ms) is
-        ∙ (later ∙ sym (ap (option_map (λ d. form_at (same_object_place k) d (forms opening tt d))) (later_member k l d ms is)))
+        get_member-later k l (form_at (same_object_place l) d (forms opening tt d)) (in_keywords opening tt ms) is
+        ∙ (later ∙ sym (ap (option_map (λ d. form_at (same_object_place k) d (forms opening tt d))) (get_member-later k l d ms is)))
 
-before_in_keywords : (j : Text) (ms : Members) → IsBefore j ms → IsBefore j (in_keywords opening tt ms)
+before_in_keywords : (j : Text) (ms : Members) → IsAbove j ms → IsAbove j (in_keywords opening tt ms)
 unfolding in_keywords
 before_in_keywords j no_members h = tt
 before_in_keywords j (member l d ms) h = (h.0, before_in_keywords j ms h.1)
@@ -111,7 +110,7 @@ gone k n true h at = record {
   is = rw at refl;
   sorted = sorted-without k n h;
   none = without-here k n h;
-  others = λ q e. without-beside q k n e;
+  others = λ q e. get_member-without q k n e;
 }
 
 opened_members : (ms : Members) → opened (object ms) ≡ opened_here (object (in_keywords opening tt ms))

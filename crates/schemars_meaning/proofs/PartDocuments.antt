@@ -1,40 +1,36 @@
 -- What rows answer where they are flattened: structs with their enums, and enums whose variants are maps.
-use Rattle.std.proofs.Common.{◌≡◌, ℕ, ◌<◌, List, [], ◌∷◌, ◌++◌, map, Option, Some, None, Bool, true, false, option_map, refl, sym, ap}
-use Rattle.std.proofs.Common.{◌∙◌, subst, true≢false}
-use Rattle.std.specs.Prelude.{codes, bytes_eq, if◌then◌else◌, is_some, ◌&&◌, ◌||◌, not, option_and_then}
-use Rattle.serde_json.specs.Data.{Data, null, array, object, number, boolean, string, Items, no_items, item, Members, no_members, member}
-use Rattle.serde_json.specs.Data.{put, depth}
-use Rattle.serde_json.specs.Find.{get, get_member, as_object, as_str, as_array}
+use Rattle.std.proofs.Common.{◌≡◌, ℕ, List, [], ◌∷◌, ◌++◌, map, Option, Some, None, Bool, true, false, option_map, refl, sym, ap}
+use Rattle.std.proofs.Common.{◌∙◌, subst}
+use Rattle.std.specs.Prelude.{codes, if◌then◌else◌, option_and_then}
+use Rattle.serde_json.specs.Data.{Data, array, object, string, Members, no_members, member}
+use Rattle.serde_json.specs.Find.{get, get_member, as_str, as_array}
 use Rattle.serde_json.specs.View.{items_of}
-use Rattle.schemars_schema.specs.Json.{Text, IsJson}
+use Rattle.schemars_schema.specs.Json.{Text}
 use Rattle.schemars_schema.specs.Annotations.{is_annotation, AreNotes}
-use Rattle.schemars_schema.specs.Acceptance.{Context, Judge, judge}
-use Rattle.schemars_builders.specs.AllowNull.{is_text}
-use Rattle.schemars_builders.proofs.Removals.{later_member}
-use Rattle.schemars_flatten.specs.Opening.{opened, has_type}
+use Rattle.schemars_schema.specs.Acceptance.{Context}
+use Rattle.schemars_flatten.specs.Opening.{opened}
 use Rattle.schemars_flatten.specs.Parts.{flattened_part, units_of, unit_objects, first_units}
 use Rattle.schemars_shapes.specs.Shape.{Field}
 use Rattle.schemars_types.specs.declared.contract.Contract.{Contract}
-use Rattle.schemars_documents.specs.Documents.{Keyword, annotated, required_names}
+use Rattle.schemars_documents.specs.Documents.{annotated, required_names}
 use Rattle.schemars_types.specs.Meaning.{Choice, every_part, claims}
-use Rattle.schemars_meaning.proofs.SortedMembers.{IsSorted, sorted-without}
-use Rattle.schemars_meaning.proofs.MapDocument.{noted_by, AllNotes}
 use Rattle.schemars_meaning.proofs.MapKeywords.{noted, noted_by-object, noted-beside, sorted-noted, closed_there, required_there}
 use Rattle.schemars_meaning.proofs.MapKeywords.{properties_there}
-use Rattle.schemars_meaning.proofs.MapForm.{Keywords, look_up}
+use Rattle.schemars_meaning.proofs.MapForm.{look_up}
 use Rattle.schemars_meaning.proofs.Offers.{one_object}
 use Rattle.schemars_meaning.proofs.StructForm.{Part, Parts, choices_in, struct_keywords, all_there, one_there, additional_there}
-use Rattle.schemars_meaning.proofs.StructForm.{unevaluated_there}
 use Rattle.schemars_meaning.proofs.Uniting.{IsForm, part_keywords, by_seven, look_up-other}
 use Rattle.schemars_meaning.proofs.Opened.{no_parts, opened_form, opened_parts, opened_part, opened_one, Part_form, any_keywords}
 use Rattle.schemars_meaning.proofs.Opened.{additional_open, unevaluated_open}
-use Rattle.schemars_meaning.proofs.Items.{IsItem, AllItems, AnyItems, any_items, opened_any, ChoicesAre, OneIs, choices_opened}
+use Rattle.schemars_meaning.proofs.Items.{IsItem, AnyItems, any_items, opened_any, OneIs, choices_opened}
 use Rattle.schemars_meaning.proofs.Spread.{field_keywords, AreWritten}
-use Rattle.schemars_meaning.proofs.StructDocuments.{IsStruct, IsPart, HasNoUnits, IsNoText, part_form, units_missing}
-use Rattle.schemars_meaning.proofs.Joining.{without-beside, without-here}
+use Rattle.schemars_meaning.proofs.StructDocuments.{IsStruct, IsPart, HasNoUnits, part_form, units_missing}
+use Rattle.schemars_meaning.proofs.Joining.{without-here}
 use Rattle.schemars_schema.specs.Edits.{without}
 use Rattle.schemars_flatten.specs.Parts.{optional, choice_or_anything, with_empty_object, one_or_anything, list_changed_at, items_changed}
-use Rattle.schemars_schema.specs.Edits.{removed, replaced}
+use Rattle.schemars_schema.specs.Edits.{removed, replaced, is_text}
+use Rattle.schemars_schema.proofs.Members.{get_member-later, get_member-without}
+use Rattle.schemars_schema.proofs.SortedMembers.{sorted-without}
 use Rattle.schemars_flatten.specs.Flatten.{flattened}
 
 -- where there is no choice, nothing but `required` goes
@@ -135,16 +131,16 @@ module _ (c : Context) (on : c.dialect.reads_unevaluated ≡ true) where
           at =
               by_seven (λ q. is_annotation q ≡ false → get_member q (without (codes "required") a.members) ≡ look_up
               (any_keywords t es [] no_parts None None) q)
-              (λ e. without-beside (codes "type") (codes "required") a.members refl ∙ old.at (codes "type") e)
-              (λ e. without-beside (codes "properties") (codes "required") a.members refl ∙ old.at (codes "properties") e)
+              (λ e. get_member-without (codes "type") (codes "required") a.members refl ∙ old.at (codes "type") e)
+              (λ e. get_member-without (codes "properties") (codes "required") a.members refl ∙ old.at (codes "properties") e)
               (λ e. without-here (codes "required") a.members old.sorted)
-              (λ e. without-beside (codes "additionalProperties") (codes "required") a.members refl ∙ old.at
+              (λ e. get_member-without (codes "additionalProperties") (codes "required") a.members refl ∙ old.at
               (codes "additionalProperties") e)
-              (λ e. without-beside (codes "allOf") (codes "required") a.members refl ∙ old.at (codes "allOf") e)
-              (λ e. without-beside (codes "oneOf") (codes "required") a.members refl ∙ old.at (codes "oneOf") e)
-              (λ e. without-beside (codes "unevaluatedProperties") (codes "required") a.members refl ∙ old.at
+              (λ e. get_member-without (codes "allOf") (codes "required") a.members refl ∙ old.at (codes "allOf") e)
+              (λ e. get_member-without (codes "oneOf") (codes "required") a.members refl ∙ old.at (codes "oneOf") e)
+              (λ e. get_member-without (codes "unevaluatedProperties") (codes "required") a.members refl ∙ old.at
               (codes "unevaluatedProperties") e)
-              (λ q y p n d k o u e. without-beside q (codes "required") a.members n ∙ (old.at q e
+              (λ q y p n d k o u e. get_member-without q (codes "required") a.members n ∙ (old.at q e
               ∙ (look_up-other (struct_keywords es (required_names contract xs) no_parts false) q y p n d k o u
               ∙ sym (look_up-other (any_keywords t es [] no_parts None None) q y p n d k o u))));
         } in
@@ -195,7 +191,7 @@ module _ (c : Context) (on : c.dialect.reads_unevaluated ≡ true) where
         at = by_seven (λ k. get_member k (member (codes "oneOf") (array (items_of ts)) no_members) ≡ look_up
             (any_keywords None [] []
             (record { all = []; one = Some (record { items = ts; choices = os }) }) None None) k) refl refl refl refl refl refl refl
-            (λ k t p n c a o u. later_member k (codes "oneOf") (array (items_of ts)) no_members o ∙ sym (look_up-other
+            (λ k t p n c a o u. get_member-later k (codes "oneOf") (array (items_of ts)) no_members o ∙ sym (look_up-other
             (any_keywords None [] [] (record { all = []; one = Some (record { items = ts; choices = os }) }) None None) k t p n c a o u))
 
         form : IsForm (any_keywords None [] [] (record { all = []; one = Some (record { items = ts; choices = os }) }) (closed_there false)

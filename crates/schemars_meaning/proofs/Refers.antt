@@ -12,12 +12,10 @@ use Rattle.serde_json.specs.Data.{Data, null, boolean, number, string, array, ob
 use Rattle.serde_json.specs.Find.{get_member}
 use Rattle.schemars_schema.specs.Json.{Text}
 use Rattle.schemars_schema.specs.SchemaData.{members_in}
-use Rattle.schemars_schema.specs.Edits.{replaced}
+use Rattle.schemars_schema.specs.Edits.{replaced, put_missing, with_member, with_first, changed_at}
 use Rattle.schemars_schema.specs.References.{found_in, found_in_members, found_in_keywords, references}
 use Rattle.schemars_schema.proofs.Contents.{found_under}
-use Rattle.schemars_builders.specs.Variants.{unit_variant}
-use Rattle.schemars_builders.specs.Properties.{with_member, with_first, changed_at, with_property, has_null_type}
-use Rattle.schemars_builders.specs.Properties.{put_missing, tagged, internally_tagged_variant}
+use Rattle.schemars_builders.specs.Properties.{tagged, internally_tagged_variant}
 use Rattle.schemars_meaning.proofs.ReferencesKept.{references-members_in}
 
 module _ (P : Data → Type 0) where

@@ -1,5 +1,5 @@
 -- What is asked in a shape's template is of the rows of the shape.
-use Rattle.std.proofs.Common.{◌≡◌, ℕ, zero, suc, List, [], ◌∷◌, Bool, true, false, map, refl, ap, arith}
+use Rattle.std.proofs.Common.{ℕ, zero, suc, List, [], ◌∷◌, Bool, true, false, map, refl, arith}
 use Rattle.std.proofs.Common.{All, Contains, ◌++◌}
 use Rattle.std.specs.Prelude.{if◌then◌else◌}
 use Rattle.std.proofs.lemmas.List.Elements.{All-nil, All-cons, All-append, Contains-append_left, Contains-append_right}
@@ -21,10 +21,6 @@ use Rattle.schemars_documents.specs.OfShape.{struct_template, template_of, paylo
 use Rattle.schemars_documents.specs.OfShape.{bare_units, other_items, choice_of, KeywordTemplate, values_template, values_of, all_patterns}
 use Rattle.schemars_documents.specs.OfShape.{pattern_properties_at, properties_at, payload_item, titled}
 use Rattle.schemars_documents.specs.OfShape.{untagged_template, internal_item, internal_template}
-
-pub rows_same : (ns : List ℕ) → asks_in (templates_of (map row ns)) ≡ map part ns
-rows_same [] = refl
-rows_same (n ∷ ns) = ap (λ xs. part n ∷ xs) (rows_same ns)
 
 abbrev pub asks_at : List Field → List Ask
 asks_at xs = asks_in (templates_of (map (λ e. e.1) (map property xs)))

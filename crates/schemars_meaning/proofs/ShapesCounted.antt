@@ -1,13 +1,12 @@
 -- In a table that is plain under its contract the document of a shape says under 2020-12 what the shape means, with steps counted down,
 -- where smaller values are told rightly.
-use Rattle.std.proofs.Common.{◌≡◌, ◌⊎◌, inl, inr, ℕ, ◌+◌, ◌*◌, ◌<◌, ◌≤◌, List, [], ◌∷◌, ◌++◌, Option, Some, None, Bool, map, refl, sym, ap}
-use Rattle.std.proofs.Common.{◌∙◌, subst, length}
+use Rattle.std.proofs.Common.{◌≡◌, inl, inr, ℕ, ◌+◌, ◌*◌, ◌<◌, ◌≤◌, List, [], ◌∷◌, ◌++◌, Some, Bool, map, refl, ap}
+use Rattle.std.proofs.Common.{◌∙◌, length}
 use Rattle.std.specs.Prelude.{◌||◌}
 use Rattle.std.specs.List.{list_any}
-use Rattle.serde_json.specs.Data.{Data, Members, depth}
+use Rattle.serde_json.specs.Data.{Data, depth}
 use Rattle.schemars_schema.specs.Json.{Text, IsJson}
 use Rattle.schemars_schema.specs.SchemaData.{IsSchema}
-use Rattle.schemars_schema.specs.Annotations.{AreNotes}
 use Rattle.schemars_schema.specs.Verdict.{verdict}
 use Rattle.schemars_schema.specs.Acceptance.{Context, Judge, Patterns, judge}
 use Rattle.schemars_builders.specs.NullLaw.{context2020_12}
@@ -24,10 +23,9 @@ use Rattle.schemars_types.specs.Meaning.{Choice, has_payload, has_shape, belongs
 use Rattle.schemars_documents.specs.PlainTable.{IsPlainPayload, ArePlainVariants, IsTagged, AreTagged, IsPlainShape, IsPlainUnder}
 use Rattle.schemars_documents.specs.PlainTable.{ArePartsUnder, parts_in, payload_parts, variant_parts}
 use Rattle.schemars_documents.specs.Basis.{Basis}
-use Rattle.schemars_documents.specs.Template.{Ask, asks_of, filled}
+use Rattle.schemars_documents.specs.Template.{Ask}
 use Rattle.schemars_documents.specs.OfShape.{template_of, payload_template}
 use Rattle.schemars_documents.specs.Describes.{Fills, IsAnswered, IsWritten, Describes}
-use Rattle.schemars_meaning.proofs.Filling.{Fit}
 use Rattle.schemars_meaning.proofs.ByShape.{others_fill}
 use Rattle.schemars_meaning.proofs.EachShape.{null_says}
 use Rattle.schemars_meaning.proofs.Choices.{unit_says, units_say}
@@ -38,10 +36,7 @@ use Rattle.schemars_meaning.proofs.ExternalSays.{AreTold, external_says}
 use Rattle.schemars_meaning.proofs.InternalSays.{IsInside, AreInside, internal_says}
 use Rattle.schemars_meaning.proofs.PartsDescribed.{under_apart}
 use Rattle.schemars_meaning.proofs.StructsCounted.{HasRoom, Told, Tell, struct_stands, struct_says, tuple_tells, tell_inside}
-
-both_empty : {A : Type 0} (xs ys : List A) → xs ++ ys ≡ [] → (xs ≡ []) × (ys ≡ [])
-both_empty [] ys e = (refl, e)
-both_empty (x ∷ xs) ys e = cc
+use Rattle.schemars_meaning.proofs.StructDocuments.{both_empty}
 
 room_apart : (ranks : ℕ) (v : Data) (m : ℕ) (ps qs : List Flattened) → HasRoom ranks v m (ps ++ qs)
     → HasRoom ranks v m ps × HasRoom ranks v m qs

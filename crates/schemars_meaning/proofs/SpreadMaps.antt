@@ -1,15 +1,15 @@
 -- The references of maps that fill templates, with the fields of flattened rows among their own.
 use Rattle.std.proofs.Common.{◌≡◌, List, [], ◌∷◌, ◌++◌, map, Bool, true, false}
-use Rattle.std.proofs.Common.{refl, sym, true≢false, ap, ◌∙◌, subst, Contains, append_assoc, append-nil}
+use Rattle.std.proofs.Common.{refl, sym, ap, ◌∙◌, subst, Contains, append_assoc, append-nil}
 use Rattle.std.specs.List.{All}
 use Rattle.std.specs.Prelude.{bytes_eq}
 use Rattle.std.proofs.lemmas.List.{map-append}
-use Rattle.std.proofs.lemmas.Slice.Eq.{bytes_eq-Decides}
 use Rattle.std.proofs.lemmas.List.Elements.{All-nil, All-contains, All-contains_itself}
 use Rattle.serde_json.specs.Data.{Data, Members, no_members, put}
 use Rattle.schemars_schema.specs.Json.{Text}
 use Rattle.schemars_schema.specs.SchemaData.{put_all}
 use Rattle.schemars_schema.specs.References.{found_in, found_in_members, references}
+use Rattle.schemars_schema.proofs.Members.{flipped}
 use Rattle.schemars_builders.specs.NullLaw.{text_items}
 use Rattle.schemars_builders.specs.Variants.{unit_variant}
 use Rattle.schemars_builders.specs.Properties.{internally_tagged_variant}
@@ -138,13 +138,6 @@ among_map es ks closed other x h =
 abbrev pub names_in : List Field → List Text
 names_in xs = map (λ x. x.name) xs
 
-turned : (k l : Text) → bytes_eq k l ≡ false → bytes_eq l k ≡ false
-turned k l other = go (bytes_eq l k) refl
-  where
-    go : (b : Bool) → bytes_eq l k ≡ b → b ≡ false
-    go true same = absurd (true≢false (sym ((bytes_eq-Decides k l).1 (sym ((bytes_eq-Decides l k).0 same))) ∙ other))
-    go false same = refl
-
 no_name-key : (k : Text) (xs : List Field) → IsNoName k xs → IsNoKey k (names_in xs)
 no_name-key k [] h = tt
 no_name-key k (x ∷ xs) h = (h.0, no_name-key k xs h.1)
@@ -159,7 +152,7 @@ no_tag-key k tag (x ∷ xs) other h = (h.0, no_tag-key k tag xs other h.1)
 
 pub tag_apart : (tag : Text) (xs : List Field) → IsNoName tag xs → AreDistinct xs → AreApart (names_in xs ++ tag ∷ [])
 tag_apart tag [] other h = (tt, tt)
-tag_apart tag (x ∷ xs) other h = (no_tag-key x.name tag xs (turned x.name tag other.0) h.0, tag_apart tag xs other.1 h.1)
+tag_apart tag (x ∷ xs) other h = (no_tag-key x.name tag xs (flipped x.name tag other.0) h.0, tag_apart tag xs other.1 h.1)
 
 no_key-first : (k : Text) (ks ls : List Text) → IsNoKey k (ks ++ ls) → IsNoKey k ks
 no_key-first k [] ls h = tt

@@ -1,45 +1,37 @@
 -- The documents of structs with flattened enums, put into one another, and what they mean.
 use Rattle.std.proofs.Common.{◌≡◌, ℕ, ◌<◌, List, [], ◌∷◌, ◌++◌, map, Option, Some, None, Bool, true, false, option_map, refl, sym, ap}
 use Rattle.std.proofs.Common.{◌∙◌, subst, true≢false}
-use Rattle.std.specs.Prelude.{codes, bytes_eq, if◌then◌else◌, is_some, ◌&&◌, ◌||◌, not, option_and_then}
-use Rattle.serde_json.specs.Data.{Data, null, array, object, number, boolean, string, Items, no_items, item, Members, no_members, member}
+use Rattle.std.specs.Prelude.{codes, bytes_eq, if◌then◌else◌, ◌&&◌, ◌||◌, not, option_and_then}
+use Rattle.serde_json.specs.Data.{Data, null, array, object, number, boolean, string, Items, Members, no_members, member}
 use Rattle.serde_json.specs.Data.{put, depth}
-use Rattle.serde_json.specs.Find.{get, get_member, as_object, as_str, as_array}
+use Rattle.serde_json.specs.Find.{get, get_member, as_str, as_array}
 use Rattle.serde_json.specs.View.{items_of}
 use Rattle.schemars_schema.specs.Json.{Text, IsJson}
-use Rattle.schemars_schema.specs.SchemaData.{IsSchema, put_all}
-use Rattle.schemars_schema.specs.Edits.{replaced, without, removed}
-use Rattle.schemars_schema.specs.Annotations.{is_annotation, AreNotes}
+use Rattle.schemars_schema.specs.SchemaData.{IsSchema}
+use Rattle.schemars_schema.specs.Edits.{replaced, removed, is_text}
+use Rattle.schemars_schema.specs.Annotations.{AreNotes}
 use Rattle.schemars_schema.specs.Verdict.{verdict}
-use Rattle.schemars_schema.specs.Acceptance.{Context, Judge, judge, have_all}
-use Rattle.schemars_builders.proofs.Removals.{later_member}
-use Rattle.schemars_builders.specs.AllowNull.{is_text}
+use Rattle.schemars_schema.specs.Acceptance.{Context, judge}
+use Rattle.schemars_schema.proofs.Members.{get_member-later, get_member-here}
 use Rattle.std.proofs.lemmas.Slice.Eq.{bytes_eq-Decides}
 use Rattle.schemars_flatten.specs.Flatten.{flattened, united_all, appended}
 use Rattle.schemars_flatten.specs.Opening.{opened, has_type}
-use Rattle.schemars_flatten.specs.Parts.{flattened_part, units_of, unit_objects, first_units, behind_first, first_as_objects, items_changed}
+use Rattle.schemars_flatten.specs.Parts.{flattened_part, unit_objects, first_units, behind_first, first_as_objects, items_changed}
 use Rattle.schemars_flatten.specs.Parts.{list_changed_at, units_as_objects}
-use Rattle.schemars_flatten.specs.Parts.{with_units, with_empty_object, choice_or_anything, optional, one_or_anything}
+use Rattle.schemars_flatten.specs.Parts.{with_units}
 use Rattle.schemars_shapes.specs.Shape.{Field}
 use Rattle.schemars_types.specs.declared.contract.Contract.{Contract}
-use Rattle.schemars_types.specs.Meaning.{every_member, member_fits, has_required, holds, is_required}
+use Rattle.schemars_types.specs.Meaning.{every_member, member_fits, has_required}
 use Rattle.schemars_documents.specs.PlainTable.{AreDistinct, AreNoted}
 use Rattle.schemars_documents.specs.Documents.{Keyword, annotated, required_names}
 use Rattle.schemars_types.specs.Meaning.{Choice, every_part, claims, shut, has_fields}
-use Rattle.schemars_meaning.proofs.MapDocument.{noted_by, AllNotes}
-use Rattle.schemars_meaning.proofs.SortedMembers.{IsSorted, get_member-first, sorted-without}
-use Rattle.schemars_meaning.proofs.MapKeywords.{noted, noted_by-object, noted-beside, sorted-noted, closed_there, required_there}
-use Rattle.schemars_meaning.proofs.MapKeywords.{properties_there}
-use Rattle.schemars_meaning.proofs.MapForm.{Keywords, look_up}
-use Rattle.schemars_meaning.proofs.StructForm.{Part, Parts, choices_in, struct_keywords, all_there, one_there, additional_there}
-use Rattle.schemars_meaning.proofs.StructForm.{unevaluated_there}
+use Rattle.schemars_meaning.proofs.MapKeywords.{noted, noted_by-object, noted-beside, sorted-noted, closed_there}
+use Rattle.schemars_meaning.proofs.StructForm.{Part, Parts, choices_in, struct_keywords, one_there}
 use Rattle.schemars_meaning.proofs.StructForm.{every_part-append, claims-append}
 use Rattle.schemars_meaning.proofs.StructMeans.{value_says}
-use Rattle.schemars_meaning.proofs.Joining.{without-beside, without-here}
-use Rattle.schemars_meaning.proofs.Uniting.{IsForm, form-keywords, part_keywords, join, join_every, join_claims, united_form, by_seven}
-use Rattle.schemars_meaning.proofs.Uniting.{look_up-other}
-use Rattle.schemars_meaning.proofs.Opened.{no_parts, opened_form, opened_parts, opened_part, Part_form, any_keywords}
-use Rattle.schemars_meaning.proofs.Items.{ChoicesAre, choices_say, choices_opened, choices_join}
+use Rattle.schemars_meaning.proofs.Uniting.{IsForm, form-keywords, part_keywords, join, join_every, join_claims, united_form}
+use Rattle.schemars_meaning.proofs.Opened.{no_parts, opened_form, opened_parts, Part_form, any_keywords}
+use Rattle.schemars_meaning.proofs.Items.{ChoicesAre, choices_say, choices_join}
 use Rattle.schemars_meaning.proofs.Spread.{field_keywords, AreWritten}
 use Rattle.schemars_meaning.proofs.Flattened.{AreWritten-append, field_keywords-append, required_names-append}
 use Rattle.schemars_meaning.proofs.Fields.{field_found, entries, required_same}
@@ -63,7 +55,7 @@ fields_alike contract M ps qs xs closed every claim (number n) = refl
 fields_alike contract M ps qs xs closed every claim (string s) = refl
 fields_alike contract M ps qs xs closed every claim (array ds) = refl
 
-both_empty : {A : Type 0} (xs ys : List A) → xs ++ ys ≡ [] → (xs ≡ []) × (ys ≡ [])
+pub both_empty : {A : Type 0} (xs ys : List A) → xs ++ ys ≡ [] → (xs ≡ []) × (ys ≡ [])
 both_empty [] ys e = (refl, e)
 both_empty (x ∷ xs) ys e = cc
 
@@ -162,10 +154,10 @@ replaced-same k d (member l e ms) h = go (bytes_eq k l) refl (replaced-same k d 
         → (if b then member l d ms else member l e (replaced k d ms)) ≡ member l e ms
     go true is later =
         let name : k ≡ l = (bytes_eq-Decides k l).0 is in
-        let here : Some e ≡ Some d = sym (get_member-first l e ms) ∙ (ap (λ x. get_member x (member l e ms)) (sym name) ∙ h) in
+        let here : Some e ≡ Some d = sym (get_member-here l e ms) ∙ (ap (λ x. get_member x (member l e ms)) (sym name) ∙ h) in
         let same : d ≡ e = cc in
         ap (λ x. member l x ms) same
-    go false is later = ap (member l e) (later (sym (later_member k l e ms is) ∙ h))
+    go false is later = ap (member l e) (later (sym (get_member-later k l e ms is) ∙ h))
 
 -- a type that is no text's
 abbrev pub IsNoText : Option Data → Type 0

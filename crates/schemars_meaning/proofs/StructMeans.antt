@@ -1,38 +1,31 @@
 -- The document of a struct with flattened enums says what the struct means.
-use Rattle.std.proofs.Common.{◌≡◌, ℕ, ◌<◌, ◌≤◌, List, [], ◌∷◌, Option, Some, None, Bool, true, false, option_map, refl, sym, ap, ◌∙◌, arith}
+use Rattle.std.proofs.Common.{◌≡◌, ℕ, ◌<◌, ◌≤◌, List, [], Option, Some, None, Bool, true, false, option_map, refl, sym, ap, ◌∙◌, arith}
 use Rattle.std.proofs.Common.{subst}
 use Rattle.std.proofs.Math.Bool.{or-false}
-use Rattle.std.specs.Prelude.{codes, bytes_eq, if◌then◌else◌, is_some, ◌&&◌, ◌||◌, not}
+use Rattle.std.specs.Prelude.{if◌then◌else◌, is_some, ◌&&◌, ◌||◌, not}
 use Rattle.std.specs.Option.{option_map_or}
 use Rattle.serde_json.specs.Data.{Data, null, boolean, number, string, array, object, Members, no_members, member, depth, members_depth}
-use Rattle.serde_json.specs.Find.{get_member, as_object}
+use Rattle.serde_json.specs.Find.{get_member}
 use Rattle.schemars_schema.specs.Json.{Text, IsJson, AreJsonMembers}
-use Rattle.schemars_schema.specs.SchemaData.{IsSchema, put_all, put_members, members_in}
-use Rattle.schemars_schema.specs.Annotations.{AreNotes}
-use Rattle.schemars_schema.specs.Verdict.{Verdict, Yes, No, Open, both, verdict, all_of, one_of}
-use Rattle.schemars_schema.specs.Acceptance.{Context, Dialect, Judge, Patterns, judge, read_data, all_keywords, each_member, each_says}
+use Rattle.schemars_schema.specs.SchemaData.{IsSchema, put_all}
+use Rattle.schemars_schema.specs.Verdict.{Verdict, Yes, No, both, verdict, all_of, one_of}
+use Rattle.schemars_schema.specs.Acceptance.{Context, Judge, judge, read_data, each_member, each_says}
 use Rattle.schemars_schema.specs.Acceptance.{where_some, have_all}
-use Rattle.schemars_schema.specs.Acceptance.{schema_named, items_say, const_says, unevaluated_properties_say, required_says, properties_say}
-use Rattle.schemars_schema.specs.Acceptance.{additional_properties_say}
-use Rattle.schemars_schema.proofs.Verdicts.{both-yes, both-verdict}
-use Rattle.schemars_schema.proofs.Objects.{says}
-use Rattle.schemars_schema.proofs.Literals.{judge-put_members}
+use Rattle.schemars_schema.specs.Acceptance.{schema_named}
+use Rattle.schemars_schema.proofs.Verdicts.{both-yes, both-verdict, both-swap, both-assoc, both-middle}
+use Rattle.schemars_schema.proofs.Silent.{silent}
 use Rattle.schemars_shapes.specs.Shape.{Field}
 use Rattle.schemars_types.specs.declared.contract.Contract.{Contract}
-use Rattle.schemars_types.specs.Meaning.{field_named, member_fits, every_member, has_required, holds}
+use Rattle.schemars_types.specs.Meaning.{field_named, member_fits, every_member, has_required}
 use Rattle.schemars_documents.specs.Documents.{Keyword, annotated}
-use Rattle.schemars_meaning.proofs.Verdicts.{both-swap, both-assoc, both-middle}
 use Rattle.schemars_meaning.proofs.Notes.{annotated_fits}
-use Rattle.schemars_types.specs.Meaning.{Choice, every_part, claims, shut, has_fields}
-use Rattle.schemars_meaning.proofs.MapKeywords.{properties_there, required_there, closed_there}
-use Rattle.schemars_meaning.proofs.Named.{judges_in, schema_named-judges_in, AreEntries, IsNoMap, silent, all_named-schemas}
-use Rattle.schemars_meaning.proofs.Named.{AreSchemas-put_all}
-use Rattle.schemars_meaning.proofs.MapForm.{Keywords, look_up, HasKeywords, object-says, says-fits, says-judges, object_type, form_fits}
-use Rattle.schemars_meaning.proofs.MapForm.{beside, covered}
-use Rattle.schemars_meaning.proofs.StructForm.{Parts, choices_in, all_in, one_in, all_there, one_there, additional_there}
-use Rattle.schemars_meaning.proofs.StructForm.{unevaluated_there, struct_keywords}
+use Rattle.schemars_types.specs.Meaning.{every_part, shut, has_fields}
+use Rattle.schemars_meaning.proofs.MapKeywords.{closed_there}
+use Rattle.schemars_meaning.proofs.Named.{schema_named-judges_in, AreEntries, IsNoMap}
+use Rattle.schemars_meaning.proofs.MapForm.{Keywords, HasKeywords, object-says, says-fits, says-judges, object_type, form_fits}
+use Rattle.schemars_meaning.proofs.StructForm.{Parts, choices_in, all_in, one_in, all_there, one_there}
+use Rattle.schemars_meaning.proofs.StructForm.{struct_keywords}
 use Rattle.schemars_meaning.proofs.StructForm.{ChoicesSay, judges_of, named_says, rest_says, object_says, all_fits, one_fit, covered_by}
-use Rattle.schemars_meaning.proofs.StructForm.{every_part-append}
 use Rattle.schemars_meaning.proofs.Fields.{Finds}
 
 -- what is required, what stands under names, the parts and what is left

@@ -1,44 +1,40 @@
 -- An enum that is told by its names, where it is flattened with units among its variants: these become maps behind the others.
-use Rattle.std.proofs.Common.{◌≡◌, ℕ, ◌<◌, List, [], ◌∷◌, ◌++◌, Option, Some, None, Bool, true, false, map, refl, sym, ap, ◌∙◌, subst}
-use Rattle.std.proofs.Common.{true≢false, append-nil}
+use Rattle.std.proofs.Common.{◌≡◌, ℕ, List, [], ◌∷◌, ◌++◌, Option, Some, None, Bool, true, false, map, refl, sym, ap, ◌∙◌, subst}
 use Rattle.std.proofs.lemmas.Slice.Eq.{bytes_eq-Decides}
-use Rattle.std.specs.Prelude.{if◌then◌else◌, bytes_eq, is_some, ◌&&◌, ◌||◌, not, codes, option_map, option_and_then}
-use Rattle.std.specs.List.{list_any}
-use Rattle.serde_json.specs.Data.{Data, null, boolean, number, string, array, object, Items, no_items, item, Members, no_members, member}
-use Rattle.serde_json.specs.Data.{put, depth}
+use Rattle.std.specs.Prelude.{if◌then◌else◌, bytes_eq, ◌&&◌, ◌||◌, not, codes, option_map, option_and_then}
+use Rattle.serde_json.specs.Data.{Data, string, array, object, Items, item, Members, no_members, member}
+use Rattle.serde_json.specs.Data.{put}
 use Rattle.serde_json.specs.Find.{get, get_member, as_str, as_array}
 use Rattle.serde_json.specs.View.{items_of}
 use Rattle.serde_json.proofs.Views.{get_member-put, get_member-put_other}
 use Rattle.schemars_schema.specs.Json.{Text, IsJson}
-use Rattle.schemars_schema.specs.SchemaData.{IsSchema}
-use Rattle.schemars_schema.specs.Edits.{without, removed, replaced}
+use Rattle.schemars_schema.specs.Edits.{without, removed, replaced, is_text}
 use Rattle.schemars_schema.specs.Annotations.{is_annotation, AreNotes}
 use Rattle.schemars_schema.specs.Verdict.{verdict}
-use Rattle.schemars_schema.specs.Acceptance.{Context, Judge, judge, is_null}
-use Rattle.schemars_builders.specs.AllowNull.{is_text, null_schema}
+use Rattle.schemars_schema.specs.Acceptance.{Context, judge, is_null}
+use Rattle.schemars_schema.proofs.Members.{get_member-later, differ, get_member-replaced, get_member-replaced_other}
+use Rattle.schemars_schema.proofs.Members.{get_member-without}
+use Rattle.schemars_schema.proofs.SortedMembers.{IsSorted, sorted-put, sorted-replaced, sorted-without}
+use Rattle.schemars_builders.specs.AllowNull.{null_schema}
 use Rattle.schemars_builders.specs.NullLaw.{text_items}
-use Rattle.schemars_builders.specs.Properties.{changed_at}
-use Rattle.schemars_builders.proofs.Removals.{later_member}
 use Rattle.schemars_flatten.specs.Flatten.{appended}
-use Rattle.schemars_flatten.specs.Opening.{opened, has_type}
-use Rattle.schemars_flatten.specs.Parts.{unit_object, unit_object_first, unit_objects, units_of, items_changed, with_items, with_units}
+use Rattle.schemars_flatten.specs.Opening.{opened}
+use Rattle.schemars_flatten.specs.Parts.{unit_object, unit_objects, items_changed, with_items, with_units}
 use Rattle.schemars_flatten.specs.Parts.{first_as_objects, list_changed_at, units_as_objects, flattened_part}
-use Rattle.schemars_shapes.specs.Shape.{Field, Payload, Variant, no_payload}
+use Rattle.schemars_shapes.specs.Shape.{Variant}
 use Rattle.schemars_types.specs.declared.contract.Contract.{Contract}
 use Rattle.schemars_types.specs.Meaning.{exactly_one, none}
-use Rattle.schemars_documents.specs.Documents.{Keyword, annotated, typed}
-use Rattle.schemars_types.specs.Meaning.{Choice, every_part, claimed_by, claims, member_choice}
-use Rattle.schemars_meaning.proofs.SortedMembers.{IsSorted, sorted-put, sorted-replaced, sorted-without}
-use Rattle.schemars_meaning.proofs.MapKeywords.{differ, noted, noted_by-object, noted-beside, sorted-noted, closed_there}
+use Rattle.schemars_documents.specs.Documents.{annotated}
+use Rattle.schemars_types.specs.Meaning.{Choice, claimed_by, member_choice}
+use Rattle.schemars_meaning.proofs.MapKeywords.{noted, noted_by-object, noted-beside, sorted-noted, closed_there}
 use Rattle.schemars_meaning.proofs.MapKeywords.{properties_there, required_there}
-use Rattle.schemars_meaning.proofs.MapKeywords.{get_member-replaced, get_member-replaced_other}
 use Rattle.schemars_meaning.proofs.MapForm.{Keywords, look_up}
 use Rattle.schemars_meaning.proofs.Offers.{one_object}
 use Rattle.schemars_meaning.proofs.StructForm.{Part, Parts, all_there, one_there}
-use Rattle.schemars_meaning.proofs.Joining.{without-beside, without-here}
+use Rattle.schemars_meaning.proofs.Joining.{without-here}
 use Rattle.schemars_meaning.proofs.Uniting.{IsForm, by_seven, look_up-other}
 use Rattle.schemars_meaning.proofs.Opened.{opened_form, opened_parts, Part_form, any_keywords}
-use Rattle.schemars_meaning.proofs.Items.{IsItem, AnyItems, any_append, opened_any, member_item}
+use Rattle.schemars_meaning.proofs.Items.{AnyItems, any_append, opened_any, member_item}
 use Rattle.schemars_meaning.proofs.StructDocuments.{IsPart}
 
 -- ---- variants in another order
@@ -207,7 +203,7 @@ module _ (notes : Members) (plain : AreNotes notes) where
           (λ e. beside (codes "allOf") refl ∙ mixed_at (codes "allOf") e)
           (λ e. get_member-replaced (codes "oneOf") _ (array (items_of (units_schema (k ∷ ks) ∷ ts))) mixed (mixed_at (codes "oneOf") e))
           (λ e. beside (codes "unevaluatedProperties") refl ∙ mixed_at (codes "unevaluatedProperties") e)
-          (λ q t p n c a o u e. beside q o ∙ (mixed_at q e ∙ (later_member q (codes "oneOf") _ no_members o
+          (λ q t p n c a o u e. beside q o ∙ (mixed_at q e ∙ (get_member-later q (codes "oneOf") _ no_members o
           ∙ sym (look_up-other (list_at (ts ++ units)) q t p n c a o u))));
     }
       where
@@ -246,14 +242,15 @@ module _ (notes : Members) (plain : AreNotes notes) where
             subst (λ x. get_member x left ≡ None) (sym ((bytes_eq-Decides q (codes "type")).0 is))
             (without-here (codes "type") (without (codes "enum") all_units) sorted_left)
         go false is true is_n =
-            without-beside q (codes "type") (without (codes "enum") all_units) is
+            get_member-without q (codes "type") (without (codes "enum") all_units) is
             ∙ subst (λ x. get_member x (without (codes "enum") all_units) ≡ None) (sym ((bytes_eq-Decides q (codes "enum")).0 is_n))
             (without-here (codes "enum") all_units sorted_units)
         go false is false is_n =
-            without-beside q (codes "type") (without (codes "enum") all_units) is
-            ∙ (without-beside q (codes "enum") all_units is_n ∙ (units_at q e ∙ (later_member q (codes "enum") (array (text_items (k ∷ ks)))
+            get_member-without q (codes "type") (without (codes "enum") all_units) is
+            ∙ (get_member-without q (codes "enum") all_units is_n
+            ∙ (units_at q e ∙ (get_member-later q (codes "enum") (array (text_items (k ∷ ks)))
             (member (codes "type") (string (codes "string")) no_members) is_n
-            ∙ later_member q (codes "type") (string (codes "string")) no_members is)))
+            ∙ get_member-later q (codes "type") (string (codes "string")) no_members is)))
 
     all_units_made : units_as_objects (object all_units) ≡ object (put (codes "oneOf") (array made) left)
     all_units_made =

@@ -1,36 +1,33 @@
 -- The keywords of a struct with those of what is flattened into it.
-use Rattle.std.proofs.Common.{◌≡◌, List, [], ◌∷◌, ◌++◌, map, Option, Some, None, Bool, true, false, option_map, refl, sym, ap, ◌∙◌, subst}
-use Rattle.std.proofs.Common.{true≢false}
+use Rattle.std.proofs.Common.{◌≡◌, List, [], ◌∷◌, ◌++◌, Option, Some, None, Bool, true, false, refl, sym, ap, ◌∙◌, subst}
 use Rattle.std.proofs.Common.{append-nil}
 use Rattle.std.proofs.Math.Bool.{and-true, or-false, and_assoc, or_assoc, and_comm, or_comm}
 use Rattle.std.proofs.lemmas.Slice.Eq.{bytes_eq-Decides}
-use Rattle.std.specs.Prelude.{codes, bytes_eq, if◌then◌else◌, is_some, ◌&&◌, ◌||◌, not}
-use Rattle.std.specs.List.{list_any}
-use Rattle.serde_json.specs.Data.{Data, array, object, boolean, string, Items, no_items, item, Members, no_members, member, put}
+use Rattle.std.specs.Prelude.{codes, bytes_eq, if◌then◌else◌, is_some, ◌&&◌, ◌||◌}
+use Rattle.serde_json.specs.Data.{Data, array, boolean, string, item, Members, put}
 use Rattle.serde_json.specs.Find.{get_member}
 use Rattle.serde_json.specs.View.{items_of}
 use Rattle.serde_json.proofs.Views.{get_member-put, get_member-put_other}
 use Rattle.schemars_schema.specs.Json.{Text}
-use Rattle.schemars_schema.specs.Edits.{replaced, without}
+use Rattle.schemars_schema.specs.Edits.{without}
 use Rattle.schemars_schema.specs.Annotations.{is_annotation}
-use Rattle.schemars_schema.specs.SchemaData.{put_all}
-use Rattle.schemars_schema.proofs.Objects.{IsKeyword, keyword-plain}
-use Rattle.schemars_builders.specs.NullLaw.{text_items}
-use Rattle.schemars_flatten.specs.Flatten.{united, both_choices, with_keywords, moved, moved_beside, united_all, stands, has_subschema}
+use Rattle.schemars_schema.proofs.Objects.{keyword-plain}
+use Rattle.schemars_schema.proofs.Members.{differ, get_member-without}
+use Rattle.schemars_schema.proofs.SortedMembers.{IsSorted, sorted-put, sorted-without}
+use Rattle.schemars_flatten.specs.Flatten.{with_keywords, moved, moved_beside, united_all, stands, has_subschema}
 use Rattle.schemars_flatten.specs.Flatten.{appended}
-use Rattle.schemars_flatten.proofs.Lookups.{united_option}
-use Rattle.schemars_types.specs.Meaning.{exactly_one}
+use Rattle.schemars_flatten.proofs.Lookups.{united_option, united_none}
 use Rattle.schemars_documents.specs.Documents.{Keyword}
-use Rattle.schemars_types.specs.Meaning.{Choice, every_part, claims, claimed_by}
-use Rattle.schemars_meaning.proofs.SortedMembers.{IsSorted, sorted-put, sorted-without, sorted-put_all}
-use Rattle.schemars_meaning.proofs.MapKeywords.{differ, united_none, sorted-with_keywords, properties_there, required_there, closed_there}
-use Rattle.schemars_meaning.proofs.MapKeywords.{put_members-put_all, put_all-append}
+use Rattle.schemars_types.specs.Meaning.{Choice, every_part, claims}
+use Rattle.schemars_meaning.proofs.MapKeywords.{sorted-with_keywords, properties_there, required_there, closed_there}
+use Rattle.schemars_meaning.proofs.MapKeywords.{properties-united}
+use Rattle.schemars_meaning.proofs.MapKeywords.{required-united}
 use Rattle.schemars_meaning.proofs.MapForm.{Keywords, look_up, HasKeywords}
 use Rattle.schemars_meaning.proofs.Offers.{one_object}
-use Rattle.schemars_meaning.proofs.StructForm.{Part, Parts, objects, all_in, one_in, choices_in, list_of, all_there, one_there}
+use Rattle.schemars_meaning.proofs.StructForm.{Part, Parts, objects, all_in, one_in, choices_in, all_there, one_there}
 use Rattle.schemars_meaning.proofs.StructForm.{additional_there, unevaluated_there}
 use Rattle.schemars_meaning.proofs.StructForm.{additional_beside, unevaluated_beside, struct_keywords, every_part-append, claims-append}
-use Rattle.schemars_meaning.proofs.Joining.{without-beside, without-here, one_left, with_both, NoAny, Joined, joined}
+use Rattle.schemars_meaning.proofs.Joining.{without-here, one_left, with_both, Joined, joined}
 
 -- members in order, with these look-ups at every name that is no annotation
 pub record IsForm (x : Keywords) (ms : Members) : Type 0 where
@@ -193,7 +190,7 @@ module _ (es : List Keyword) (ns : List Text) (ps : Parts) (closed : Bool) (ms :
           let same : (q : Text) → bytes_eq q (codes "unevaluatedProperties") ≡ false → bytes_eq q (codes "additionalProperties") ≡ false
           → is_annotation q ≡ false → get_member q new ≡ look_up (struct_keywords es ns ps closed) q =
           λ q u c e. get_member-put_other q (codes "unevaluatedProperties") d (without (codes "additionalProperties") ms)
-          (differ q (codes "unevaluatedProperties") u) ∙ (without-beside q (codes "additionalProperties") ms c ∙ form.at q e) in
+          (differ q (codes "unevaluatedProperties") u) ∙ (get_member-without q (codes "additionalProperties") ms c ∙ form.at q e) in
           record {
             sorted = sorted-put (codes "unevaluatedProperties") d _ (sorted-without (codes "additionalProperties") ms form.sorted);
             at = by_seven (λ q. is_annotation q ≡ false → get_member q new ≡ look_up (beside_choice true es ns ps closed) q)
@@ -235,26 +232,6 @@ unfolding one_there
 one_united None q = refl
 one_united (Some p) None = refl
 one_united (Some p) (Some q) = refl
-
-properties_united : (es fs : List Keyword)
-    → united_option (codes "properties") (properties_there es) (properties_there fs) ≡ properties_there (es ++ fs)
-unfolding properties_there
-properties_united [] fs = refl
-properties_united (e ∷ es) [] = ap properties_there (sym (append-nil (e ∷ es)))
-properties_united (e ∷ es) (f ∷ fs) = ap (λ ms. Some (object ms))
-    (put_members-put_all (f ∷ fs) (put_all (e ∷ es) no_members) (sorted-put_all (e ∷ es) no_members tt)
-    ∙ sym (put_all-append (e ∷ es) (f ∷ fs) no_members))
-
-texts_appended : (ks ls : List Text) → appended (text_items ks) (text_items ls) ≡ text_items (ks ++ ls)
-texts_appended [] ls = refl
-texts_appended (k ∷ ks) ls = ap (item (string k)) (texts_appended ks ls)
-
-required_united : (ks ls : List Text)
-    → united_option (codes "required") (required_there ks) (required_there ls) ≡ required_there (ks ++ ls)
-unfolding required_there
-required_united [] ls = refl
-required_united (k ∷ ks) [] = ap required_there (sym (append-nil (k ∷ ks)))
-required_united (k ∷ ks) (l ∷ ls) = ap (λ ds. Some (array ds)) (texts_appended (k ∷ ks) (l ∷ ls))
 
 type_united : (t : Option Data) → united_option (codes "type") (Some (string (codes "object"))) t ≡ Some (string (codes "object"))
 type_united None = refl
@@ -340,8 +317,8 @@ module _ (es1 : List Keyword) (ns1 : List Text) (ps1 : Parts) (closed : Bool) (m
     sorted = sorted-with_keywords m2 opened first.sorted;
     at = by_seven At
         (λ e. here (codes "type") refl refl e _ (type_united t))
-        (λ e. here (codes "properties") refl refl e _ (properties_united es1 es2))
-        (λ e. here (codes "required") refl refl e _ (required_united ns1 ns2))
+        (λ e. here (codes "properties") refl refl e _ (properties-united es1 es2))
+        (λ e. here (codes "required") refl refl e _ (required-united ns1 ns2))
         (λ e. here (codes "additionalProperties") refl refl e _
         (united_none (codes "additionalProperties") _ ∙ additional_joined ps1.all ps1.one ps2.all ps2.one closed))
         (λ e. J.at_all ∙ ((λ i. with_both (first.at (codes "oneOf") refl i) (form2.at (codes "oneOf") refl i)

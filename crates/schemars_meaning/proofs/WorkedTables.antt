@@ -1,15 +1,13 @@
 -- Tables with enums and Options among what is flattened, computed: what belongs, what the documents are, and what they accept.
-use Rattle.std.proofs.Common.{◌≡◌, ℕ, zero, suc, List, [], ◌∷◌, Some, Bool, true, false, refl}
+use Rattle.std.proofs.Common.{◌≡◌, ℕ, zero, suc, List, [], ◌∷◌, Some, true, false, refl}
 use Rattle.std.specs.Prelude.{codes}
 use Prim.Native.String.{String}
-use Rattle.serde_json.specs.Data.{Data, null, boolean, number, unsigned, string, array, object, item, no_items, Members, no_members, member}
-use Rattle.serde_json.specs.View.{items_of}
-use Rattle.schemars_schema.specs.Json.{Text}
-use Rattle.schemars_schema.specs.SchemaData.{object_of}
+use Rattle.serde_json.specs.Data.{Data, null, boolean, number, unsigned, string, array, object, item, no_items, Members, no_members}
 use Rattle.schemars_schema.specs.Verdict.{Yes, No}
 use Rattle.schemars_schema.specs.Acceptance.{Dialect, draft2020_12, draft2019_09, accepts, read_data, all_keywords, follow}
+use Rattle.schemars_schema.proofs.JsonLiterals.{entry}
 use Rattle.schemars_shapes.specs.Shape as shape
-use Rattle.schemars_shapes.specs.Shape.{Shape, Field, Flattened, Required, Fields, Variant, no_payload, newtype_payload, struct_payload}
+use Rattle.schemars_shapes.specs.Shape.{Shape, Flattened, Required, Fields, Variant, no_payload, newtype_payload}
 use Rattle.schemars_shapes.specs.Shape.{in_place, needed}
 use Rattle.schemars_types.specs.Rows.{Row}
 use Rattle.schemars_types.specs.declared.contract.Contract.{Contract}
@@ -28,9 +26,6 @@ row name s = record { id = codes name; name = codes name; entry = Some (in_place
 
 variant : String → shape.Payload → Variant
 variant name p = record { name = codes name; payload = p; notes = no_members }
-
-entry : String → Data → Members → Members
-entry k d ms = member (codes k) d ms
 
 never : Required
 never = record { deserialize = false; serialize = false }
@@ -59,7 +54,7 @@ with_another = object (entry "V" (boolean false) (entry "a" (boolean true) (entr
 
 belongs-first : (belongs first Deserialize [] 2 whole_value ≡ true) × (belongs first Deserialize [] 2 without_variant ≡ false)
     × (belongs first Deserialize [] 2 with_another ≡ false)
-unfolding row variant entry part e_variants outer first whole_value without_variant with_another belongs_within choices_within fields_within enums_within
+unfolding row variant part e_variants outer first whole_value without_variant with_another belongs_within choices_within fields_within enums_within
 belongs-first = (refl, refl, refl)
 
 boolean_document : Data
@@ -75,7 +70,7 @@ document-first : first_document ≡ object (
     (entry "properties" (object (entry "a" boolean_document no_members))
     (entry "required" (array (item (string (codes "a")) no_items)) (entry "type" (string (codes "object"))
     (entry "unevaluatedProperties" (boolean false) no_members)))))
-unfolding variant entry part e_variants outer boolean_document first_document forms
+unfolding variant part e_variants outer boolean_document first_document forms
 document-first = refl
 
 Judged : Dialect → Type 0
@@ -84,7 +79,7 @@ Judged d =
     × (accepts d first_document [] 0 first_document with_another ≡ No)
 
 accepts-first : Judged draft2020_12 × Judged draft2019_09
-unfolding variant entry part e_variants outer boolean_document first_document whole_value without_variant with_another forms read_data all_keywords follow Judged
+unfolding variant part e_variants outer boolean_document first_document whole_value without_variant with_another forms read_data all_keywords follow Judged
 accepts-first = ((refl, refl, refl), (refl, refl, refl))
 
 -- an open struct without fields, into which an enum of two units is flattened
@@ -104,7 +99,7 @@ belongs-second : (belongs second Serialize [] 1 (unit_there "U" no_members) ≡ 
     × (belongs second Serialize [] 1 (object no_members) ≡ false)
     × (belongs second Serialize [] 1 (unit_there "U" (entry "V" null no_members)) ≡ false)
     × (belongs second Serialize [] 1 (unit_there "V" (entry "z" null no_members)) ≡ true)
-unfolding row variant entry part u_variants bare second unit_there belongs_within choices_within fields_within enums_within
+unfolding row variant part u_variants bare second unit_there belongs_within choices_within fields_within enums_within
 belongs-second = (refl, refl, refl, refl)
 
 unit_document : String → Data
@@ -114,7 +109,7 @@ unit_document k = object (entry "properties" (object (entry k (type_alone (codes
 document-second : filled (struct_template Serialize bare) (flattened_part false (filled (external_template Serialize u_variants) []) ∷ [])
     ≡ object (entry "oneOf" (array (item (unit_document "U") (item (unit_document "V") no_items)))
     (entry "type" (string (codes "object")) no_members))
-unfolding variant entry part u_variants bare unit_document forms
+unfolding variant part u_variants bare unit_document forms
 document-second = refl
 
 -- an open struct with `a`, into which an Option of an open struct is flattened that need not be there
@@ -131,19 +126,19 @@ belongs-third : (belongs third Deserialize [] 3 without_variant ≡ true)
     × (belongs third Deserialize [] 3 (object (entry "a" (boolean true) (entry "x" (boolean false) no_members))) ≡ true)
     × (belongs third Deserialize [] 3 (object (entry "a" (boolean true) (entry "x" null no_members))) ≡ false)
     × (belongs third Deserialize [] 3 (object (entry "x" (boolean true) no_members)) ≡ false)
-unfolding row entry part never inner with_option third without_variant belongs_within choices_within fields_within enums_within
+unfolding row part never inner with_option third without_variant belongs_within choices_within fields_within enums_within
 belongs-third = (refl, refl, refl, refl)
 
 document-third : filled (struct_template Deserialize with_option)
     (boolean_document ∷ flattened_part true (filled (struct_template Deserialize inner) (boolean_document ∷ [])) ∷ [])
     ≡ object (entry "properties" (object (entry "a" boolean_document (entry "x" boolean_document no_members)))
     (entry "required" (array (item (string (codes "a")) no_items)) (entry "type" (string (codes "object")) no_members)))
-unfolding entry part never inner with_option boolean_document forms
+unfolding part never inner with_option boolean_document forms
 document-third = refl
 
 -- these tables are plain, the first under each contract
 plain-first : (contract : Contract) → IsPlainUnder contract first
-unfolding row variant entry part e_variants outer first fields_within enums_within
+unfolding row variant part e_variants outer first fields_within enums_within
 plain-first Deserialize zero = (tt, tt, tt, tt)
 plain-first Deserialize (suc zero) = (tt, ((tt, tt), (tt, tt, tt)), (tt, tt), tt)
 plain-first Deserialize (suc (suc zero)) =
@@ -156,7 +151,7 @@ plain-first Serialize (suc (suc zero)) =
 plain-first Serialize (suc (suc (suc n))) = tt
 
 plain-third : IsPlainUnder Deserialize third
-unfolding row entry part never inner with_option third fields_within enums_within
+unfolding row part never inner with_option third fields_within enums_within
 plain-third zero = (tt, tt, tt, tt)
 plain-third (suc zero) = (tt, ((tt, tt), (tt, tt)), tt, tt)
 plain-third (suc (suc zero)) = (tt, tt, tt, tt)

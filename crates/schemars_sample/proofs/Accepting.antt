@@ -17,6 +17,7 @@ use Rattle.schemars_schema.specs.SchemaData.{IsSchema, members_in}
 use Rattle.schemars_schema.specs.Acceptance.{Patterns, Judge, judge, read_data, all_keywords, by_position, each_past}
 use Rattle.schemars_schema.specs.Acceptance.{draft2020_12, each_member, is_null}
 use Rattle.schemars_schema.proofs.Objects.{IsSilent, judge-put}
+use Rattle.schemars_schema.proofs.SortedMembers.{IsSorted, sorted-put}
 use Rattle.schemars_builders.specs.AllowNull.{allow_null}
 use Rattle.schemars_builders.specs.NullLaw.{context2020_12}
 use Rattle.schemars_builders.proofs.Nulls.{IsReady, ready-law, ready-allow_null, ready-schema}
@@ -30,7 +31,7 @@ use Rattle.schemars_sample.specs.SampleJson.{sample_json, items_json, entries_js
 use Rattle.schemars_sample.specs.SampleSchema.{sample_schema, item_schemas, entry_schemas, value_schemas, one_beside, shared_by}
 use Rattle.schemars_sample.specs.SampleSchema.{tuple_schema, titled_schema, with_name, with_example, sample_root}
 use Rattle.schemars_sample.proofs.Characters.{one-character}
-use Rattle.schemars_sample.proofs.Members.{IsSorted, sorted-put, each-put, each-found}
+use Rattle.schemars_sample.proofs.Members.{each-put, each-found}
 use Rattle.schemars_sample.proofs.Forms.{fits, IsSound, AreSound, AreSoundMembers, AreSoundMembers-put, sound-truth, sound-type}
 use Rattle.schemars_sample.proofs.Forms.{sound-char, sound-byte, sound-list, sound-tuple, sound-struct, sound-map}
 use Rattle.schemars_sample.proofs.Forms.{char-says, byte-says, list-says, tuple-says, struct-says, map-says, property_says, property-says}

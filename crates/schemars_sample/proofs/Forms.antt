@@ -5,8 +5,6 @@ use Rattle.std.proofs.Common.{◌<◌, arith, sym}
 use Rattle.std.proofs.lemmas.Bool.{le-leb}
 use Rattle.std.proofs.lemmas.Option.{same_Some}
 use Rattle.std.proofs.lemmas.Slice.Eq.{bytes_eq-Decides}
-use Rattle.schemars_builders.proofs.Removals.{later_member}
-use Rattle.schemars_sample.proofs.Members.{first-found}
 use Rattle.std.specs.Prelude.{pos, int_le, nat_le, bytes_eq, ◌&&◌, ◌||◌, not, if◌then◌else◌, ⊤}
 use Rattle.std.specs.Ordering.{match_ordering}
 use Rattle.std.specs.Cmp.Lexicographic.{slice_cmp}
@@ -24,6 +22,7 @@ use Rattle.schemars_schema.specs.Acceptance.{all_keywords, by_position, each_pas
 use Rattle.schemars_schema.specs.Acceptance.{code_points, is_of_type, is_of_some_type, type_names}
 use Rattle.schemars_schema.proofs.Verdicts.{both-yes, both-verdict, opposite-verdict}
 use Rattle.schemars_schema.proofs.Objects.{schema-judge}
+use Rattle.schemars_schema.proofs.Members.{get_member-later, get_member-here}
 use Rattle.schemars_builders.specs.NullLaw.{context2020_12}
 use Rattle.schemars_documents.specs.Documents.{type_alone, char_document, byte_document}
 use Rattle.schemars_sample.specs.SampleSchema.{list_schema, tuple_schema, struct_schema, map_schema, choice_of}
@@ -186,9 +185,9 @@ module _ (patterns : Patterns) (follow : Text → Judge) where
           → where_some (if b then Some (judge c t) else schema_named k (judges_in ps)) (λ j. j.fits w) ≡ fits s w
       go true is later =
           let first : get_member k (member l t ps) ≡ Some t =
-          ap (λ x. get_member x (member l t ps)) ((bytes_eq-Decides k l).0 is) ∙ first-found l t ps in
+          ap (λ x. get_member x (member l t ps)) ((bytes_eq-Decides k l).0 is) ∙ get_member-here l t ps in
           ap (λ x. fits x w) (same_Some t s (sym first ∙ at))
-      go false is later = later (sym (later_member k l t ps is) ∙ at)
+      go false is later = later (sym (get_member-later k l t ps is) ∙ at)
 
   property-decided : (ps : Members) → AreSoundMembers ps → (k : Text) (w : Data) → IsDecided (property_says ps k w)
   property-decided no_members h k w = (true, refl)

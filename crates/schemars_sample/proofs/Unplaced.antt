@@ -8,9 +8,9 @@ use Rattle.schemars_schema.specs.Json.{Text}
 use Rattle.schemars_schema.specs.SchemaData.{members_in}
 use Rattle.schemars_schema.specs.Edits.{without}
 use Rattle.schemars_schema.specs.Acceptance.{is_null}
+use Rattle.schemars_schema.proofs.Members.{get_member-without}
 use Rattle.schemars_builders.specs.AllowNull.{allow_null, is_null_choice, is_combined, or_null, null_in_values, null_in_const}
 use Rattle.schemars_builders.specs.AllowNull.{null_in_enum, null_in_type, const_or_null, enum_with_null, type_with_null}
-use Rattle.schemars_builders.proofs.Removals.{without-other}
 use Rattle.schemars_documents.specs.Documents.{with_meta_schema}
 use Rattle.schemars_sample.specs.Example.{Example, truth, whole, character, text, bytes, no_value, some_value}
 use Rattle.schemars_sample.specs.Example.{unit_struct, unit_variant, newtype_struct, newtype_variant, seq, tuple}
@@ -33,8 +33,8 @@ free_put k d ms e f h = (
 free_without : (k : Text) (ms : Members) → bytes_eq (codes "$defs") k ≡ false → bytes_eq (codes "definitions") k ≡ false
     → IsFree ms → IsFree (without k ms)
 free_without k ms e f h = (
-  without-other (codes "$defs") k ms e ∙ h.0,
-  without-other (codes "definitions") k ms f ∙ h.1,
+  get_member-without (codes "$defs") k ms e ∙ h.0,
+  get_member-without (codes "definitions") k ms f ∙ h.1,
 )
 
 -- ---- null allowed

@@ -1,10 +1,9 @@
 -- What schemas say of values, computed: each keyword accepts one value and refuses another.
 use Rattle.std.proofs.Common.{◌≡◌, ℕ, suc, List, [], ◌∷◌, Some, None, Bool, true, false, refl, ap, ◌∙◌}
-use Rattle.std.specs.Prelude.{codes, negsuc, option_and_then, bytes_eq, if◌then◌else◌}
+use Rattle.std.specs.Prelude.{codes, option_and_then, bytes_eq, if◌then◌else◌}
 use Rattle.std.proofs.Math.Path.{fun_ext}
 use Rattle.std.proofs.lemmas.Slice.Eq.{bytes_eq-Decides}
-use Prim.Native.String.{String}
-use Rattle.serde_json.specs.Data.{Data, null, boolean, number, unsigned, negative, string, array, Items, no_items, item}
+use Rattle.serde_json.specs.Data.{Data, null, boolean, string}
 use Rattle.serde_json.specs.Find.{unescape, index_of, walk, pointer}
 use Rattle.schemars_schema.specs.Json.{Text, json_eq}
 use Rattle.schemars_schema.specs.SchemaData.{object_of}
@@ -13,37 +12,15 @@ use Rattle.schemars_schema.specs.Lookup.{schema_only, resolved}
 use Rattle.serde_json.proofs.OnLiterals.{serde_json_on_literals}
 use Rattle.schemars_schema.specs.OrderedText.{ordered_text, text_in}
 use Rattle.schemars_schema.proofs.Encodings.{lookup-ascii}
+use Rattle.schemars_schema.proofs.JsonLiterals.{text, whole, minus_one, at_key, list, one}
 use Rattle.schemars_schema.specs.Acceptance.{Dialect, draft2020_12, draft07, openapi3, Patterns, accepts, context}
 use Rattle.schemars_schema.specs.Acceptance.{judge, follow, read_data, all_keywords, Judge, Context}
 use Rattle.schemars_schema.specs.Acceptance.{unanswered as no_answer}
 
 -- ---- JSON in short
 
-abbrev text : String → Data
-text s = string (codes s)
-
-abbrev whole : ℕ → Data
-whole n = number (unsigned n)
-
-abbrev minus_one : Data
-minus_one = number (negative (negsuc 0))
-
-abbrev at_key : String → Data → Text × Data
-at_key k d = (codes k, d)
-
-abbrev list_of : List Data → Items
-list_of [] = no_items
-list_of (d ∷ ds) = item d (list_of ds)
-
-abbrev list : List Data → Data
-list ds = array (list_of ds)
-
 abbrev map : List (Text × Data) → Data
 map es = object_of es
-
--- a schema of one keyword
-abbrev one : String → Data → Data
-one k d = map (at_key k d ∷ [])
 
 abbrev no_patterns : Patterns
 no_patterns = []

@@ -1,10 +1,11 @@
 -- The references and the floats of an object as members are put into it.
-use Rattle.std.proofs.Common.{◌≡◌, List, [], ◌∷◌, ◌++◌, Bool, true, false, Ordering, Less, Equal, Greater, refl, sym}
-use Rattle.std.proofs.Common.{ap, ◌∙◌, nat_cmp, true≢false}
-use Rattle.std.specs.Prelude.{codes, bytes_eq, if◌then◌else◌, ◌||◌}
+use Rattle.std.proofs.Common.{◌≡◌, List, [], ◌∷◌, ◌++◌, true, false, Ordering, Less, Equal, Greater, refl, sym}
+use Rattle.std.proofs.Common.{ap, ◌∙◌, nat_cmp}
+use Rattle.std.specs.Prelude.{codes, bytes_eq, if◌then◌else◌}
 use Rattle.std.specs.Ordering.{match_ordering}
 use Rattle.std.specs.Cmp.Lexicographic.{slice_cmp}
 use Rattle.std.proofs.lemmas.Map.Lookups.{exact_bytes}
+use Rattle.std.proofs.lemmas.Bool.{or_parts}
 use Rattle.serde_json.specs.Data.{Data, Members, no_members, member, put}
 use Rattle.serde_json.specs.Written.{has_float, members_have_float}
 use Rattle.schemars_schema.specs.Json.{Text}
@@ -35,17 +36,13 @@ found_in_keywords-put k d (member l e ms) here all = go (slice_cmp nat_cmp k l) 
     go Equal is later = rw (ap (λ x. found_under x d) (sym (exact_bytes k l is)) ∙ here) parts.1
     go Greater is later = rw parts.0 later
 
-either_false : (a b : Bool) → a || b ≡ false → (a ≡ false) × (b ≡ false)
-either_false true b h = absurd (true≢false h)
-either_false false b h = (refl, h)
-
 pub members_have_float-put : (k : Text) (d : Data) (ms : Members) → has_float d ≡ false → members_have_float ms ≡ false
     → members_have_float (put k d ms) ≡ false
 members_have_float-put k d no_members here all = rw here
 members_have_float-put k d (member l e ms) here all = go (slice_cmp nat_cmp k l) (members_have_float-put k d ms here parts.1)
   where
     parts : (has_float e ≡ false) × (members_have_float ms ≡ false)
-    parts = either_false (has_float e) (members_have_float ms) all
+    parts = or_parts (has_float e) (members_have_float ms) all
 
     go : (o : Ordering) → members_have_float (put k d ms) ≡ false → members_have_float
         (match_ordering o (member k d (member l e ms)) (member l d ms) (member l e (put k d ms))) ≡ false
@@ -57,9 +54,9 @@ members_have_float-put k d (member l e ms) here all = go (slice_cmp nat_cmp k l)
 pub found_under-annotation : (k : Text) (d : Data) → is_annotation k ≡ true → found_under k d ≡ []
 found_under-annotation k d note =
     rw (
-      (either_false (bytes_eq k (codes "$ref")) false (annotation-not_listed k (codes "$ref" ∷ []) refl note)).0,
+      (or_parts (bytes_eq k (codes "$ref")) false (annotation-not_listed k (codes "$ref" ∷ []) refl note)).0,
       annotation-not_listed k with_schema refl note,
       annotation-not_listed k with_list refl note,
-      (either_false (bytes_eq k (codes "items")) false (annotation-not_listed k (codes "items" ∷ []) refl note)).0,
+      (or_parts (bytes_eq k (codes "items")) false (annotation-not_listed k (codes "items" ∷ []) refl note)).0,
       annotation-not_listed k with_names refl note,
     )

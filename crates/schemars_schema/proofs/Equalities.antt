@@ -10,7 +10,7 @@ use Rattle.serde_json.specs.Data.{Num, unsigned, negative, float, Data, null, bo
 use Rattle.serde_json.specs.Data.{Items, no_items, item, Members, no_members, member}
 use Rattle.schemars_schema.specs.Json.{IsWholeNumber, IsJson, AreJson, AreJsonMembers, num_eq, json_eq, items_eq, members_eq}
 
-truth_same : (a b : Bool) → (if a then b else not b) ≡ true → a ≡ b
+pub truth_same : (a b : Bool) → (if a then b else not b) ≡ true → a ≡ b
 truth_same true b h = sym h
 truth_same false true h = h
 truth_same false false h = refl
@@ -42,13 +42,13 @@ mutual
   json_eq-same (object ms) (object ns) h = ap object (members_eq-same ms ns h)
   json_eq-same d e h = cc
 
-  items_eq-same : (ds es : Items) → items_eq ds es ≡ true → ds ≡ es
+  pub items_eq-same : (ds es : Items) → items_eq ds es ≡ true → ds ≡ es
   items_eq-same no_items no_items h = refl
   items_eq-same (item d ds) (item e es) h =
       let parts = and_parts (json_eq d e) (items_eq ds es) h in λ i. item (json_eq-same d e parts.0 i) (items_eq-same ds es parts.1 i)
   items_eq-same ds es h = cc
 
-  members_eq-same : (ms ns : Members) → members_eq ms ns ≡ true → ms ≡ ns
+  pub members_eq-same : (ms ns : Members) → members_eq ms ns ≡ true → ms ≡ ns
   members_eq-same no_members no_members h = refl
   members_eq-same (member k d ms) (member l e ns) h =
       let keys = and_parts (bytes_eq k l) (json_eq d e && members_eq ms ns) h in

@@ -4,6 +4,12 @@ pub mod OrderedTexts
 pub mod Encodings
 pub mod Equalities
 pub mod Verdicts
+pub mod Silent
+pub mod Members
+pub mod SortedMembers
+pub mod Lists
+pub mod Changes
+pub mod JsonLiterals
 pub mod Objects
 pub mod MapEdits
 pub mod Contents

@@ -1,31 +1,12 @@
 -- Plain literals and their values, computed.
-use Rattle.std.proofs.Common.{◌≡◌, ℕ, List, [], ◌∷◌, Bool, true, false, refl, true≢false, sym}
-use Rattle.std.specs.Prelude.{codes, negsuc}
-use Prim.Native.String.{String}
-use Rattle.serde_json.specs.Data.{Data, null, boolean, number, unsigned, negative, string, array, Items, no_items, item}
-use Rattle.schemars_schema.specs.Json.{Text, json_eq}
+use Rattle.std.proofs.Common.{◌≡◌, [], ◌∷◌, Bool, true, false, refl, true≢false, sym}
+use Rattle.std.specs.Prelude.{codes}
+use Rattle.serde_json.specs.Data.{Data, null, boolean}
+use Rattle.schemars_schema.specs.Json.{json_eq}
 use Rattle.schemars_schema.specs.SchemaData.{object_of}
 use Rattle.schemars_schema.specs.Acceptance.{Patterns}
 use Rattle.schemars_schema.specs.Literal.{IsPlainLiteral, is_plain_member, has_literal}
-
-abbrev text : String → Data
-text s = string (codes s)
-
-abbrev whole : ℕ → Data
-whole n = number (unsigned n)
-
-abbrev minus_one : Data
-minus_one = number (negative (negsuc 0))
-
-abbrev list_of : List Data → Items
-list_of [] = no_items
-list_of (d ∷ ds) = item d (list_of ds)
-
-abbrev list : List Data → Data
-list ds = array (list_of ds)
-
-abbrev at_key : String → Data → Text × Data
-at_key k d = (codes k, d)
+use Rattle.schemars_schema.proofs.JsonLiterals.{text, whole, minus_one, list, at_key}
 
 -- `a` matches the pattern `^a$`, and nothing else matches anything
 abbrev a_alone : Patterns

@@ -7,18 +7,19 @@ use Rattle.std.specs.Ordering.{match_ordering}
 use Rattle.std.specs.Cmp.Lexicographic.{slice_cmp}
 use Rattle.std.proofs.lemmas.Map.Lookups.{exact_bytes}
 use Rattle.std.proofs.lemmas.Slice.Eq.{bytes_eq-Decides}
+use Rattle.std.proofs.Math.Bool.{and-false}
 use Rattle.serde_json.specs.Data.{Data, null, boolean, number, string, array, object, Members, no_members, member, put}
 use Rattle.serde_json.specs.Find.{get_member, as_str, as_array}
 use Rattle.serde_json.specs.Events.{items_len}
 use Rattle.schemars_schema.specs.Json.{Text, is_among}
 use Rattle.schemars_schema.specs.OrderedText.{is_listed}
-use Rattle.schemars_schema.specs.Verdict.{Verdict, Yes, both, verdict}
+use Rattle.schemars_schema.specs.Verdict.{Verdict, both, verdict}
 use Rattle.schemars_schema.specs.SchemaData.{IsSchema, members_in, put_members}
 use Rattle.schemars_schema.specs.Acceptance.{Context, Raw, Patterns, draft2020_12, accepts, judge, read_data}
 use Rattle.schemars_schema.specs.Acceptance.{all_keywords}
 use Rattle.schemars_schema.specs.Acceptance.{types_in, is_of_some_type, whole_number, count_of_number, code_points}
 use Rattle.schemars_schema.specs.Acceptance.{matches}
-use Rattle.schemars_schema.specs.Acceptance.{where_some, items_say, unevaluated_properties_say, context}
+use Rattle.schemars_schema.specs.Acceptance.{where_some, context}
 use Rattle.schemars_schema.specs.Annotations.{is_annotation, AreNotes}
 use Rattle.schemars_schema.specs.References.{references, found_in, found_in_keywords, with_schema, with_list}
 use Rattle.schemars_schema.specs.References.{with_names}
@@ -29,6 +30,7 @@ use Rattle.schemars_schema.proofs.Objects.{IsKeyword, says, says-agree, judge-ob
 use Rattle.schemars_schema.proofs.Objects.{annotation-silent}
 use Rattle.schemars_schema.proofs.Switched.{accepts-members_in}
 use Rattle.schemars_schema.proofs.Contents.{found_under, found_under-annotation}
+use Rattle.schemars_schema.proofs.Silent.{items_none, unevaluated_none}
 
 pub literal_is_schema : (l : Data) → IsPlainLiteral l → IsSchema l
 literal_is_schema (boolean b) plain = tt
@@ -130,25 +132,12 @@ at_keyword (Some d) f p e = e d
 joined : (x y : Verdict) (a b : Bool) → x ≡ verdict a → y ≡ verdict b → both x y ≡ verdict (a && b)
 joined x y a b e h = rw (e, h) (both-verdict a b)
 
-and_false : (b : Bool) → b && false ≡ false
-and_false true = refl
-and_false false = refl
-
-items_none : (reads : Bool) (v : Data) → items_say reads None None None v ≡ Yes
-items_none true v = refl
-items_none false v = refl
-
-unevaluated_none : (reads : Bool) (judged : Text → Bool) (v : Data)
-    → unevaluated_properties_say reads judged None v ≡ Yes
-unevaluated_none true judged v = refl
-unevaluated_none false judged v = refl
-
 module _ (c : Context) (no_nullable : c.dialect.reads_nullable ≡ false) (const : c.dialect.reads_const ≡ true) where
   literal_says : (g : Raw) (v : Data) → (says c (at_literal g)).fits v ≡ verdict (meets_each c.patterns g v)
   unfolding says all_keywords
   literal_says g v =
       rw (
-        and_false (not c.dialect.judges_siblings),
+        and-false (not c.dialect.judges_siblings),
         no_nullable,
         const,
         items_none c.dialect.reads_prefix_items v,

@@ -40,3 +40,7 @@ object-as_object (array ds) ms e = cc
 pub when_some : {T P : Type 0} (r : Option T) → P → OnSome r P
 when_some None p = tt
 when_some (Some x) p = p
+
+pub on_some : {X P : Type 0} (o : Option X) (x : X) → o ≡ Some x → OnSome o P → P
+on_some None x is h = cc
+on_some (Some y) x is h = h

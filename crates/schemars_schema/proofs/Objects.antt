@@ -8,6 +8,7 @@ use Rattle.std.specs.Cmp.Lexicographic.{slice_cmp}
 use Rattle.std.proofs.lemmas.Map.Text.{is_eq-slice_cmp}
 use Rattle.std.proofs.lemmas.Slice.Eq.{bytes_eq-Decides}
 use Rattle.std.proofs.Common.{nat_cmp}
+use Rattle.std.proofs.lemmas.Bool.{and_parts, not-true}
 use Rattle.serde_json.specs.Data.{Data, null, boolean, number, string, array, object, Members, no_members, member, put}
 use Rattle.serde_json.specs.Find.{get_member}
 use Rattle.serde_json.proofs.Views.{get_member-put_other}
@@ -90,20 +91,12 @@ abbrev pub without_annotations : List Text → Bool
 without_annotations [] = true
 without_annotations (l ∷ ls) = not (is_annotation l) && without_annotations ls
 
-and-parts : (a b : Bool) → a && b ≡ true → (a ≡ true) × (b ≡ true)
-and-parts true b h = (refl, h)
-and-parts false b h = absurd (true≢false (sym h))
-
-not-true : (a : Bool) → not a ≡ true → a ≡ false
-not-true true h = absurd (true≢false (sym h))
-not-true false h = refl
-
 pub listed_plain : (k : Text) (ls : List Text) → without_annotations ls ≡ true → is_listed k ls ≡ true → is_annotation k ≡ false
 listed_plain k [] all is = absurd (true≢false (sym is))
 listed_plain k (l ∷ ls) all is = go (bytes_eq k l) refl is (listed_plain k ls parts.1)
   where
     parts : (not (is_annotation l) ≡ true) × (without_annotations ls ≡ true)
-    parts = and-parts (not (is_annotation l)) (without_annotations ls) all
+    parts = and_parts (not (is_annotation l)) (without_annotations ls) all
 
     go : (b : Bool) → bytes_eq k l ≡ b → b || is_listed k ls ≡ true → (is_listed k ls ≡ true → is_annotation k ≡ false)
         → is_annotation k ≡ false

@@ -33,10 +33,6 @@ no_separator : (later : Bool) (t : Token) → begins t ≡ false → separator l
 no_separator true t h = rw h
 no_separator false t h = refl
 
--- a token that is a whole value
-pub value_token : (o : Output) (t : Token) → begins t ≡ true → ends t ≡ true → with_token o t ≡ with_value o (token_text t)
-value_token o t first last = λ i. record { text = o.text ++ (separator_is o.after_value t first i ++ token_text t); after_value = last i }
-
 with_values_text : (o : Output) (ts : List Text) → (with_values o ts).text ≡ o.text ++ with_commas o.after_value ts
 with_values_text o [] = sym (append-nil o.text)
 with_values_text o (t ∷ ts) =

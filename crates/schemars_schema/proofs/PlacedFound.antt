@@ -1,16 +1,13 @@
 -- What a pointer leads to once members were put at it.
 use Rattle.std.proofs.Common.{◌≡◌, ℕ, ◌<◌, List, [], ◌∷◌, ◌++◌, length, map, Option, Some, None, option_map}
-use Rattle.std.proofs.Common.{option_and_then, Bool, true, false, cond, Ordering, Less, Equal, Greater, nat_cmp, is_eq}
+use Rattle.std.proofs.Common.{option_and_then, Bool, true, false, cond}
 use Rattle.std.proofs.Common.{refl, sym, ap, ◌∙◌, arith, append-nil, append_assoc, true≢false}
-use Rattle.std.specs.Prelude.{◌==◌, if◌then◌else◌, bytes_eq, Result, Ok, Err, IfOk, IsTrue}
-use Rattle.std.specs.Cmp.Lexicographic.{slice_cmp}
-use Rattle.std.specs.Ordering.{match_ordering}
+use Rattle.std.specs.Prelude.{◌==◌, if◌then◌else◌, Result, Ok, Err, IfOk, IsTrue}
 use Rattle.std.specs.List.{slice_split, onto_first}
 use Rattle.std.proofs.lemmas.List.Splits.{length-slice_split}
-use Rattle.std.proofs.lemmas.Map.Text.{is_eq-slice_cmp}
 use borrow.Author.Tests.{eqb-true}
 use Rattle.std.specs.declared.alloc.AllocError.{AllocError}
-use Rattle.serde_json.specs.Data.{Data, null, boolean, number, string, array, object, Members, no_members, member, put}
+use Rattle.serde_json.specs.Data.{Data, null, boolean, number, string, array, object, Members, no_members, put}
 use Rattle.serde_json.specs.Find.{unescape, get_member, as_object, step, walk, pointer}
 use Rattle.serde_json.proofs.Views.{get_member-put}
 use Rattle.schemars_schema.specs.Json.{Text}
@@ -19,6 +16,7 @@ use Rattle.schemars_schema.specs.Edits.{replaced}
 use Rattle.schemars_schema.specs.Lookup.{pointed_in}
 use Rattle.schemars_schema.specs.Placing.{tokens_in, placed, placed_at}
 use Rattle.schemars_schema.proofs.Placings.{onward, placed_other}
+use Rattle.schemars_schema.proofs.Members.{get_member-replaced}
 
 -- ---- a pointer, by its parts
 
@@ -69,22 +67,6 @@ walk-follow part (x ∷ rest) d = go (x == 47) (λ e. walk-follow [] rest e) (wa
     go false now later = rw (onto_one part x (cut rest)) later
 
 -- ---- members that were put
-
-get_member-replaced : (k : Text) (x y : Data) (ms : Members) → get_member k ms ≡ Some y → get_member k (replaced k x ms) ≡ Some x
-get_member-replaced k x y no_members found = cc
-get_member-replaced k x y (member l e ms) found = go (slice_cmp nat_cmp k l) (bytes_eq k l) refl (is_eq-slice_cmp k l) found
-    (get_member-replaced k x y ms)
-  where
-    go : (o : Ordering) (b : Bool) → slice_cmp nat_cmp k l ≡ o → is_eq o ≡ b
-        → match_ordering o (get_member k ms) (Some e) (get_member k ms) ≡ Some y
-        → (get_member k ms ≡ Some y → get_member k (replaced k x ms) ≡ Some x)
-        → get_member k (if b then member l x ms else member l e (replaced k x ms)) ≡ Some x
-    go Less true is same found later = absurd (true≢false (sym same))
-    go Less false is same found later = rw is (later found)
-    go Equal true is same found later = rw is refl
-    go Equal false is same found later = absurd (true≢false same)
-    go Greater true is same found later = absurd (true≢false (sym same))
-    go Greater false is same found later = rw is (later found)
 
 followed_made : (parts : List Text) (new : Members) (d : Data) → placed (map unescape parts) new None ≡ Some d
     → follow parts d ≡ Some (object new)
@@ -144,11 +126,6 @@ pointer-placed_at (x ∷ y ∷ rest) new d e h = go (x == 47) h
     go true h = whole e ∙ followed (cut (y ∷ rest)) new d e h ∙ ap (placed [] new) (sym (whole d))
     go false h = cc
 
--- where nothing stood, they stand alone
-pub pointer-placed_new : (p : Text) (new : Members) (d e : Data) → pointer p d ≡ None → placed_at p new d ≡ Some e
-    → pointer p e ≡ Some (object new)
-pointer-placed_new p new d e none h = pointer-placed_at p new d e h ∙ rw none refl
-
 -- ---- the same of what is pointed to in an object
 
 mapped_object : (o : Option Data) (f : Data → Members) (e : Data) → option_map (λ x. object (f x)) o ≡ Some e
@@ -164,9 +141,6 @@ placed_object (t ∷ ts) new ms e h = go (get_member t ms) h
     go : (o : Option Data) → onward ts t new ms o ≡ Some e → (ns : Members) × (e ≡ object ns)
     go None h = mapped_object (placed ts new None) (λ x. put t x ms) e h
     go (Some y) h = mapped_object (placed ts new (Some y)) (λ x. replaced t x ms) e h
-
-object_pointed : (p : Text) (ms : Members) → pointed_in (47 ∷ p) (object ms) ≡ pointer (47 ∷ p) (object ms)
-object_pointed p ms = refl
 
 in_object : (p : Text) (ts : List Text) (new ms : Members) (e : Data) → placed_at (47 ∷ p) new (object ms) ≡ Some e
     → placed ts new (Some (object ms)) ≡ Some e → pointed_in (47 ∷ p) e ≡ placed [] new (pointed_in (47 ∷ p) (object ms))

@@ -8,7 +8,7 @@ use Rattle.std.proofs.lemmas.Grind.{get_or_default_zero}
 use Rattle.std.proofs.lemmas.Str.{IsUtf8-nil, IsUtf8-drop, IsCharBoundary-after_ascii}
 use Rattle.std.proofs.Math.Seq.{drop-append_seam}
 use Rattle.serde_json.specs.Data.{Data, null, boolean, number, string, array, object, Members}
-use Rattle.serde_json.specs.Find.{unescape, as_object, get, get_member, walk, pointer}
+use Rattle.serde_json.specs.Find.{unescape, get, get_member, walk, pointer}
 use Rattle.serde_json.proofs.Paths.{Lacks, walk_last, walk_part}
 use Rattle.schemars_schema.specs.Json.{Text}
 use Rattle.schemars_schema.specs.Encoding.{percent_decoded_bytes, text_of_bytes, percent_decoded, is_hex_digit, hex_value}
@@ -119,9 +119,6 @@ none_in p d h = go (is_whole p) d
     go false (array ds) = refl
     go false (object ms) = h ms
 
-pub inside-no_text : (p : Text) (d : Data) → pointer_text p ≡ None → pointed_inside p d ≡ None
-inside-no_text p d h = none_in p d (λ ms. pointed-text p (object ms) ∙ rw h refl)
-
 pub inside-other : (p t : Text) (d : Data) → pointer_text p ≡ Some t → ((rest : Text) → t ≢ 47 ∷ rest) → pointed_inside p d ≡ None
 inside-other p [] d h other = rw (text_whole p h) refl
 inside-other p (x ∷ t) d h other = none_in p d (λ ms. pointed-text p (object ms)
@@ -140,19 +137,6 @@ inside-first p tokens token below d h first = go (is_whole p) refl d
     go false is (string s) = refl
     go false is (array ds) = refl
     go false is (object ms) = pointed-text p (object ms) ∙ rw h (pointer-first tokens token below ms first)
-
--- where it is the whole that is lent, or nothing is an object
-pub pointed_in-text : (p : Text) (d : Data) (ms : Members) → d ≡ object ms
-    → pointed_in p d ≡ option_and_then (λ t. pointer t d) (pointer_text p)
-pointed_in-text p d ms is = rw is (pointed-text p (object ms))
-
-pub pointed_in-none : (p : Text) (d : Data) → as_object d ≡ None → pointed_in p d ≡ None
-pointed_in-none p null h = refl
-pointed_in-none p (boolean b) h = refl
-pointed_in-none p (number n) h = refl
-pointed_in-none p (string s) h = refl
-pointed_in-none p (array ds) h = refl
-pointed_in-none p (object ms) h = cc
 
 -- ---- unescaping
 

@@ -1,23 +1,9 @@
 -- A truth value made an object accepts what it did.
-use Rattle.std.proofs.Common.{◌≡◌, ℕ, None, Bool, true, false, refl}
+use Rattle.std.proofs.Common.{◌≡◌, ℕ, Bool, true, false, refl}
 use Rattle.serde_json.specs.Data.{Data, null, boolean, number, string, array, object}
 use Rattle.schemars_schema.specs.SchemaData.{IsSchema, members_in}
-use Rattle.schemars_schema.specs.Verdict.{Yes}
-use Rattle.schemars_schema.specs.Acceptance.{Dialect, Patterns, accepts, read_data, all_keywords, items_say, const_says}
-use Rattle.schemars_schema.specs.Acceptance.{unevaluated_properties_say}
-use Rattle.schemars_schema.specs.Json.{Text}
-
-items_none : (reads : Bool) (v : Data) → items_say reads None None None v ≡ Yes
-items_none true v = refl
-items_none false v = refl
-
-const_none : (reads : Bool) (v : Data) → const_says reads None v ≡ Yes
-const_none true v = refl
-const_none false v = refl
-
-unevaluated_none : (reads : Bool) (judged : Text → Bool) (v : Data) → unevaluated_properties_say reads judged None v ≡ Yes
-unevaluated_none true judged v = refl
-unevaluated_none false judged v = refl
+use Rattle.schemars_schema.specs.Acceptance.{Dialect, Patterns, accepts, read_data, all_keywords}
+use Rattle.schemars_schema.proofs.Silent.{items_none, const_none, unevaluated_none}
 
 pub accepts-members_in : (dialect : Dialect) (document : Data) (patterns : Patterns) (n : ℕ) (s v : Data) → IsSchema s
     → accepts dialect document patterns n (object (members_in s)) v ≡ accepts dialect document patterns n s v

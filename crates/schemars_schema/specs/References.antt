@@ -25,6 +25,13 @@ with_list = codes "allOf" ∷ codes "anyOf" ∷ codes "oneOf" ∷ codes "prefixI
 abbrev pub with_names : List Text
 with_names = codes "properties" ∷ codes "patternProperties" ∷ codes "$defs" ∷ codes "definitions" ∷ []
 
+-- the keywords with a schema, and with a list of schemas, that judge the same object
+abbrev pub with_same_object : List Text
+with_same_object = codes "if" ∷ codes "then" ∷ codes "else" ∷ []
+
+abbrev pub with_same_objects : List Text
+with_same_objects = codes "allOf" ∷ codes "anyOf" ∷ codes "oneOf" ∷ []
+
 abbrev pub place_under : Text → Place
 place_under k =
     if is_listed k with_schema then OneSchema

@@ -2,9 +2,11 @@
 #![tactic(auto)]
 
 pub mod consts;
+pub mod edits;
 pub mod encoding;
 mod equality;
 mod error;
+pub mod keywords;
 pub mod schema;
 mod text;
 

@@ -34,7 +34,8 @@ pub map_internal_variant_of_copied : (xs ys : List src-internal_variant.Internal
     → AllZip (λ x y. internal_variant_of y ≡ internal_variant_of x) xs ys → map internal_variant_of ys ≡ map internal_variant_of xs
 map_internal_variant_of_copied xs ys h = map_copied internal_variant_of xs ys h
 
-pub map_flattened_of_copied : (ps qs : List src-flattened.Flattened) → AllZip (λ p q. q ≡ p) ps qs → map flattened_of qs ≡ map flattened_of ps
+pub map_flattened_of_copied : (ps qs : List src-flattened.Flattened) → AllZip (λ p q. q ≡ p) ps qs
+    → map flattened_of qs ≡ map flattened_of ps
 map_flattened_of_copied [] [] h = refl
 map_flattened_of_copied (p ∷ ps) (q ∷ qs) h = λ i. flattened_of (h.0 i) ∷ map_flattened_of_copied ps qs h.1 i
 map_flattened_of_copied [] (q ∷ qs) h = absurd h

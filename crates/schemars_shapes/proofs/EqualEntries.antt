@@ -1,13 +1,11 @@
 -- Equal entries are the same entry.
-use Rattle.std.proofs.Common.{◌≡◌, ◌==◌, ◌&&◌, ℕ, Bool, true, false, not, if◌then◌else◌, List, [], ◌∷◌, refl, ap, sym, true≢false}
+use Rattle.std.proofs.Common.{◌≡◌, ◌==◌, ◌&&◌, ℕ, Bool, true, false, List, [], ◌∷◌, refl, ap, sym, true≢false}
 use denote.Enum.Bare.{same_true}
-use Rattle.std.specs.Cmp.{signed_Decides}
 use Rattle.std.specs.Str.{bytes_eq}
 use Rattle.std.proofs.lemmas.Bool.Decides.{Decides-eqb}
 use Rattle.std.proofs.lemmas.Slice.Eq.{bytes_eq-Decides}
-use Rattle.serde_json.specs.Data.{Num, unsigned, negative, Data, null, boolean, number, string, array, object, Items}
-use Rattle.serde_json.specs.Data.{no_items, item, Members, no_members, member}
-use Rattle.schemars_schema.specs.Json.{num_eq, json_eq, items_eq, members_eq}
+use Rattle.schemars_schema.specs.Json.{members_eq}
+use Rattle.schemars_schema.proofs.Equalities.{truth_same, json_eq-same, members_eq-same}
 use Rattle.schemars_shapes.specs.contracts.shape.IntKind.{the_type}
 use Rattle.schemars_shapes.specs.declared.shape.IntKind.{IntKind}
 use Rattle.schemars_shapes.specs.IntKind.{kind_eq}
@@ -28,51 +26,14 @@ and_right : (a b : Bool) → (a && b) ≡ true → b ≡ true
 and_right true b h = h
 and_right false b h = absurd (true≢false (sym h))
 
-same_bool : (a b : Bool) → (if a then b else not b) ≡ true → a ≡ b
-same_bool true b h = sym h
-same_bool false true h = h
-same_bool false false h = refl
-
-same_num : (m n : Num) → num_eq m n ≡ true → m ≡ n
-same_num (unsigned m) (unsigned n) h = ap unsigned ((Decides-eqb m n).0 h)
-same_num (negative m) (negative n) h = ap negative ((signed_Decides m n).0 h)
-same_num m n h = cc
-
-mutual
-  unfolding json_eq items_eq members_eq
-
-  same_data : (d e : Data) → json_eq d e ≡ true → d ≡ e
-  same_data null null h = refl
-  same_data (boolean a) (boolean b) h = ap boolean (same_bool a b h)
-  same_data (number m) (number n) h = ap number (same_num m n h)
-  same_data (string s) (string t) h = ap string ((bytes_eq-Decides s t).0 h)
-  same_data (array ds) (array es) h = ap array (same_items ds es h)
-  same_data (object ms) (object ns) h = ap object (same_members ms ns h)
-  same_data d e h = cc
-
-  same_items : (ds es : Items) → items_eq ds es ≡ true → ds ≡ es
-  same_items no_items no_items h = refl
-  same_items (item d ds) (item e es) h = λ i. item (same_data d e (and_left (json_eq d e) (items_eq ds es) h) i)
-      (same_items ds es (and_right (json_eq d e) (items_eq ds es) h) i)
-  same_items ds es h = cc
-
-  same_members : (ms ns : Members) → members_eq ms ns ≡ true → ms ≡ ns
-  same_members no_members no_members h = refl
-  same_members (member k d ms) (member l e ns) h =
-      let rest : (json_eq d e && members_eq ms ns) ≡ true = and_right (bytes_eq k l) (json_eq d e && members_eq ms ns) h in
-      λ i. member ((bytes_eq-Decides k l).0 (and_left (bytes_eq k l) (json_eq d e && members_eq ms ns) h) i)
-      (same_data d e (and_left (json_eq d e) (members_eq ms ns) rest) i)
-      (same_members ms ns (and_right (json_eq d e) (members_eq ms ns) rest) i)
-  same_members ms ns h = cc
-
 same_kind : (k l : IntKind) → kind_eq k l ≡ true → k ≡ l
 same_kind k l h = same_true the_type tt k l h
 
 same_required : (a b : Required) → required_eq a b ≡ true → a ≡ b
 same_required a b h =
-    let deserialize : a.deserialize ≡ b.deserialize = same_bool a.deserialize b.deserialize
+    let deserialize : a.deserialize ≡ b.deserialize = truth_same a.deserialize b.deserialize
     (and_left (bool_eq a.deserialize b.deserialize) (bool_eq a.serialize b.serialize) h) in
-    let serialize : a.serialize ≡ b.serialize = same_bool a.serialize b.serialize
+    let serialize : a.serialize ≡ b.serialize = truth_same a.serialize b.serialize
     (and_right (bool_eq a.deserialize b.deserialize) (bool_eq a.serialize b.serialize) h) in
     λ i. record { deserialize = deserialize i; serialize = serialize i }
 
@@ -88,7 +49,7 @@ same_field a b h =
     (required_eq a.required b.required && members_eq a.notes b.notes) rest) in
     let required : a.required ≡ b.required = same_required a.required b.required
     (and_left (required_eq a.required b.required) (members_eq a.notes b.notes) last) in
-    let notes : a.notes ≡ b.notes = same_members a.notes b.notes (and_right (required_eq a.required b.required)
+    let notes : a.notes ≡ b.notes = members_eq-same a.notes b.notes (and_right (required_eq a.required b.required)
     (members_eq a.notes b.notes) last) in
     λ i. record { name = name i; ty = ty i; required = required i; notes = notes i }
 
@@ -119,7 +80,7 @@ same_fields : (a b : Fields) → fields_eq a b ≡ true → a ≡ b
 same_fields a b h =
     let rest : (list_eq a.list b.list && pointwise flattened_eq a.flatten b.flatten) ≡ true =
     and_right (bool_eq a.closed b.closed) (list_eq a.list b.list && pointwise flattened_eq a.flatten b.flatten) h in
-    let closed : a.closed ≡ b.closed = same_bool a.closed b.closed (and_left (bool_eq a.closed b.closed)
+    let closed : a.closed ≡ b.closed = truth_same a.closed b.closed (and_left (bool_eq a.closed b.closed)
     (list_eq a.list b.list && pointwise flattened_eq a.flatten b.flatten) h) in
     let list : a.list ≡ b.list = same_list a.list b.list
     (and_left (list_eq a.list b.list) (pointwise flattened_eq a.flatten b.flatten) rest) in
@@ -142,7 +103,7 @@ same_variant x y h =
     (payload_eq x.payload y.payload && members_eq x.notes y.notes) h) in
     let payload : x.payload ≡ y.payload = same_payload x.payload y.payload
     (and_left (payload_eq x.payload y.payload) (members_eq x.notes y.notes) rest) in
-    let notes : x.notes ≡ y.notes = same_members x.notes y.notes (and_right (payload_eq x.payload y.payload)
+    let notes : x.notes ≡ y.notes = members_eq-same x.notes y.notes (and_right (payload_eq x.payload y.payload)
     (members_eq x.notes y.notes) rest) in
     λ i. record { name = name i; payload = payload i; notes = notes i }
 
@@ -183,18 +144,19 @@ same_shape (internal tag closed xs) (internal key sealed ys) h =
     let tags : tag ≡ key = (bytes_eq-Decides tag key).0 (and_left (bytes_eq tag key) (bool_eq closed sealed && variants_eq xs ys) h) in
     let rest : (bool_eq closed sealed && variants_eq xs ys) ≡ true =
     and_right (bytes_eq tag key) (bool_eq closed sealed && variants_eq xs ys) h in
-    let ends : closed ≡ sealed = same_bool closed sealed (and_left (bool_eq closed sealed) (variants_eq xs ys) rest) in
+    let ends : closed ≡ sealed = truth_same closed sealed (and_left (bool_eq closed sealed) (variants_eq xs ys) rest) in
     let same : xs ≡ ys = same_variants xs ys (and_right (bool_eq closed sealed) (variants_eq xs ys) rest) in
     λ i. internal (tags i) (ends i) (same i)
-same_shape (literal d) (literal e) h = ap literal (same_data d e h)
+same_shape (literal d) (literal e) h = ap literal (json_eq-same d e h)
 same_shape s t h = cc
 
 pub same_entry : (a b : Entry) → entry_eq a b ≡ true → a ≡ b
 same_entry a b h =
     let rest : (shape_eq a.shape b.shape && members_eq a.notes b.notes) ≡ true =
     and_right (bool_eq a.inline b.inline) (shape_eq a.shape b.shape && members_eq a.notes b.notes) h in
-    let inline : a.inline ≡ b.inline = same_bool a.inline b.inline (and_left (bool_eq a.inline b.inline)
+    let inline : a.inline ≡ b.inline = truth_same a.inline b.inline (and_left (bool_eq a.inline b.inline)
     (shape_eq a.shape b.shape && members_eq a.notes b.notes) h) in
-    let notes : a.notes ≡ b.notes = same_members a.notes b.notes (and_right (shape_eq a.shape b.shape) (members_eq a.notes b.notes) rest) in
+    let notes : a.notes ≡ b.notes =
+    members_eq-same a.notes b.notes (and_right (shape_eq a.shape b.shape) (members_eq a.notes b.notes) rest) in
     let same : a.shape ≡ b.shape = same_shape a.shape b.shape (and_left (shape_eq a.shape b.shape) (members_eq a.notes b.notes) rest) in
     λ i. record { inline = inline i; notes = notes i; shape = same i }

@@ -2,7 +2,6 @@
 use Rattle.std.proofs.Common.{◌≡◌, ◌||◌, List, [], ◌∷◌, suc, Bool, true, false, Contains, refl, sym, arith, true≢false}
 use Rattle.std.specs.List.{list_any}
 use Rattle.std.specs.Str.{bytes_eq}
-use Rattle.std.proofs.lemmas.Cmp.{nat_list_eq_equiv}
 use Rattle.std.proofs.lemmas.Slice.Eq.{bytes_eq-Decides}
 use Rattle.schemars_schema.specs.Json.{Text}
 
@@ -14,6 +13,3 @@ Contains-from_any q (x ∷ xs) h = by (bytes_eq q x) refl h (Contains-from_any q
         → Contains (x ∷ xs) q
     by true e t rest = (0, omega arith, sym ((bytes_eq-Decides q x).0 e))
     by false e t rest = let (k, below, is) = rest t in (suc k, omega arith, is)
-
-pub bytes_eq_comm : (a b : Text) → bytes_eq a b ≡ bytes_eq b a
-bytes_eq_comm a b = nat_list_eq_equiv.symm a b

@@ -11,7 +11,9 @@ use Rattle.std.proofs.lemmas.List.{take-map, map_more}
 use Rattle.std.proofs.lemmas.Map.Keys.{IsDistinct-push}
 use Rattle.std.proofs.lemmas.Map.Text.{is_eq-slice_cmp}
 use Rattle.std.proofs.lemmas.Option.{slice_get-map, slice_get-get_or}
+use Rattle.std.proofs.Math.Bool.{or-false}
 use Rattle.schemars_schema.specs.Json.{Text}
+use Rattle.schemars_schema.proofs.Members.{bytes_eq_comm}
 use Rattle.schemars_shapes.specs.declared.shape.Fields as src-fields
 use Rattle.schemars_shapes.specs.declared.variant.Payload as src-payload
 use Rattle.schemars_shapes.specs.declared.variant.Payload.TheVariants as payload
@@ -19,14 +21,10 @@ use Rattle.schemars_shapes.specs.declared.variant.InternalPayload as src-interna
 use Rattle.schemars_shapes.specs.declared.variant.InternalPayload.TheVariants as inside
 use Rattle.schemars_shapes.specs.Shape.{payload_of, internal_payload_of, payload_names}
 use Rattle.schemars_shapes.specs.Repeated.{IsRepeated}
-use Rattle.schemars_shapes.proofs.FieldLemmas.{Contains-from_any, bytes_eq_comm}
+use Rattle.schemars_shapes.proofs.FieldLemmas.{Contains-from_any}
 
 list_any-push : (test : Text → Bool) (xs : List Text) (y : Text) → list_any test (xs ++ y ∷ []) ≡ list_any test xs || test y
-list_any-push test [] y = or_false (test y)
-  where
-    or_false : (b : Bool) → b || false ≡ b
-    or_false true = refl
-    or_false false = refl
+list_any-push test [] y = or-false (test y)
 list_any-push test (x ∷ xs) y = further (test x) (list_any-push test xs y)
   where
     further : (b : Bool) → list_any test (xs ++ y ∷ []) ≡ list_any test xs || test y

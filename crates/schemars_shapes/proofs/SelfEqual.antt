@@ -4,6 +4,7 @@ use denote.Enum.Bare.{true_same}
 use Rattle.std.specs.Cmp.{signed_Decides}
 use Rattle.std.proofs.lemmas.Bool.Decides.{Decides-eqb}
 use Rattle.std.proofs.lemmas.Slice.Eq.{bytes_eq-Decides}
+use Rattle.std.proofs.lemmas.Bool.{or_parts}
 use Rattle.serde_json.specs.Data.{Num, unsigned, negative, float, Data, null, boolean, number, string, array, object}
 use Rattle.serde_json.specs.Data.{Items, no_items, item, Members, no_members, member}
 use Rattle.serde_json.specs.Find.{is_float}
@@ -20,10 +21,6 @@ use Rattle.schemars_shapes.specs.Shape.{internal, literal}
 use Rattle.schemars_shapes.specs.Shape.{Payload, Variant, no_payload, newtype_payload, tuple_payload, struct_payload}
 use Rattle.schemars_shapes.specs.Equality.{bool_eq, field_eq, flattened_eq, fields_eq, list_eq, payload_eq, variants_eq, shape_eq, entry_eq}
 use Rattle.schemars_shapes.specs.Decimals.{fields_have_float, payload_has_float, variants_have_float, shape_has_float, entry_has_float}
-
-pub neither : (a b : Bool) → a || b ≡ false → (a ≡ false) × (b ≡ false)
-neither true b h = absurd (true≢false h)
-neither false b h = (refl, h)
 
 bool_eq-refl : (a : Bool) → bool_eq a a ≡ true
 bool_eq-refl true = refl
@@ -47,13 +44,13 @@ mutual
 
   items_eq-refl : (ds : Items) → items_have_float ds ≡ false → items_eq ds ds ≡ true
   items_eq-refl no_items h = refl
-  items_eq-refl (item d ds) h = let parts = neither (has_float d) (items_have_float ds) h in
+  items_eq-refl (item d ds) h = let parts = or_parts (has_float d) (items_have_float ds) h in
       rw (json_eq-refl d parts.0, items_eq-refl ds parts.1) refl
 
   members_eq-refl : (ms : Members) → members_have_float ms ≡ false → members_eq ms ms ≡ true
   members_eq-refl no_members h = refl
   members_eq-refl (member k d ms) h =
-      let parts = neither (has_float d) (members_have_float ms) h in rw
+      let parts = or_parts (has_float d) (members_have_float ms) h in rw
       ((bytes_eq-Decides k k).1 refl, json_eq-refl d parts.0, members_eq-refl ms parts.1) refl
 
 field_eq-refl : (f : Field) → members_have_float f.notes ≡ false → field_eq f f ≡ true
@@ -67,7 +64,7 @@ field_eq-refl f h = rw (
 
 list_eq-refl : (fs : List Field) → fields_have_float fs ≡ false → list_eq fs fs ≡ true
 list_eq-refl [] h = refl
-list_eq-refl (f ∷ fs) h = let parts = neither (members_have_float f.notes) (fields_have_float fs) h in
+list_eq-refl (f ∷ fs) h = let parts = or_parts (members_have_float f.notes) (fields_have_float fs) h in
     rw (field_eq-refl f parts.0, list_eq-refl fs parts.1) refl
 
 kind_eq-refl : (k : IntKind) → kind_eq k k ≡ true
@@ -94,8 +91,8 @@ payload_eq-refl (struct_payload x) h = fields_eq-refl x h
 variants_eq-refl : (xs : List Variant) → variants_have_float xs ≡ false → variants_eq xs xs ≡ true
 variants_eq-refl [] h = refl
 variants_eq-refl (x ∷ xs) h =
-    let parts = neither (members_have_float x.notes || payload_has_float x.payload) (variants_have_float xs) h in
-    let own = neither (members_have_float x.notes) (payload_has_float x.payload) parts.0 in
+    let parts = or_parts (members_have_float x.notes || payload_has_float x.payload) (variants_have_float xs) h in
+    let own = or_parts (members_have_float x.notes) (payload_has_float x.payload) parts.0 in
     rw (
       (bytes_eq-Decides x.name x.name).1 refl,
       payload_eq-refl x.payload own.1,
@@ -135,5 +132,5 @@ shape_eq-refl (literal d) h = json_eq-refl d h
 
 pub entry_eq-refl : (e : Entry) → entry_has_float e ≡ false → entry_eq e e ≡ true
 entry_eq-refl e h =
-    let parts = neither (members_have_float e.notes) (shape_has_float e.shape) h in
+    let parts = or_parts (members_have_float e.notes) (shape_has_float e.shape) h in
     rw (bool_eq-refl e.inline, shape_eq-refl e.shape parts.1, members_eq-refl e.notes parts.0) refl

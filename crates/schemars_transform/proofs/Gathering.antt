@@ -1,16 +1,17 @@
 -- The names that a schema and those inside it add, call by call.
-use Rattle.std.proofs.Common.{◌≡◌, ℕ, zero, suc, ◌+◌, ◌<◌, ◌≤◌, max, Some, None, List, [], ◌∷◌, ◌++◌}
-use Rattle.std.proofs.Common.{length, get_or, drop, Bool, true, false, IsTrue, codes, refl, sym, ap, ◌∙◌, subst, add-one, arith}
+use Rattle.std.proofs.Common.{◌≡◌, ℕ, ◌+◌, ◌<◌, ◌≤◌, Some, None, List, [], ◌∷◌, ◌++◌}
+use Rattle.std.proofs.Common.{length, get_or, drop, Bool, true, false, IsTrue, codes, refl, sym, ap, ◌∙◌, subst}
 use Rattle.std.proofs.lemmas.Bool.{false≢true}
 use Rattle.serde_json.specs.Data.{Data, null, boolean, number, string, array, object}
-use Rattle.serde_json.specs.Data.{Items, no_items, item, Members, no_members, member, depth, items_depth}
+use Rattle.serde_json.specs.Data.{Items, no_items, item, Members, no_members, member}
 use Rattle.serde_json.specs.Find.{as_array, as_object}
 use Rattle.serde_json.specs.View.{view, items_view, members_view}
 use Rattle.serde_json.specs.declared.value.Value.{Value}
 use Rattle.serde_json.proofs.Views.{Entry}
 use Rattle.schemars_schema.specs.Json.{Text}
 use Rattle.schemars_schema.specs.SchemaData.{inserted}
-use Rattle.schemars_builders.specs.Properties.{put_missing}
+use Rattle.schemars_schema.specs.Edits.{put_missing}
+use Rattle.schemars_schema.proofs.Lists.{from_here, nothing_left as none_left}
 use Rattle.schemars_transform.specs.Unevaluated.{names_in, names_in_items, names_in_keywords, names_at, with_names, properties_made}
 
 pub with_names-append : (a b : List Text) (ms : Members) → with_names (a ++ b) ms ≡ with_names b (with_names a ms)
@@ -73,38 +74,17 @@ pub no_items_left : (ms : Members) → with_names (names_in_items no_items) ms �
 unfolding names_in_items
 no_items_left ms = refl
 
-from_here : (xs : List Value) (i : ℕ) (x : Value) → i < length xs
-    → items_view (drop i xs) ≡ item (view (get_or xs i x)) (items_view (drop (suc i) xs))
-from_here [] i x h = absurd (omega arith)
-from_here (y ∷ xs) zero x h = refl
-from_here (y ∷ xs) (suc i) x h = from_here xs i x (omega arith)
-
 pub items_turn : (xs : List Value) (i : ℕ) (x : Value) (all now next : Members) → i < length xs → x ≡ get_or xs i x
     → next ≡ with_names (names_in (view x)).in_schema now
     → with_names (names_in_items (items_view (drop i xs))) now ≡ all → with_names (names_in_items (items_view (drop (i + 1) xs))) next ≡ all
 items_turn xs i x all now next within is step before =
-    let here : items_view (drop i xs) ≡ item (view x) (items_view (drop (suc i) xs)) =
-    from_here xs i x within ∙ ap (λ y. item (view y) (items_view (drop (suc i) xs))) (sym is) in
-    rw add-one (item_done (view x) (items_view (drop (suc i) xs)) now next step ∙ ap (λ ds. with_names (names_in_items ds) now) (sym
-    here) ∙ before)
-
-pub items_shallow : (xs : List Value) (i : ℕ) (x : Value) → i < length xs
-    → items_depth (items_view (drop (i + 1) xs)) ≤ items_depth (items_view (drop i xs))
-items_shallow xs i x within =
-    let same : items_depth (items_view (drop i xs)) ≡ max (depth (view (get_or xs i x))) (items_depth (items_view (drop (suc i) xs))) =
-    ap items_depth (from_here xs i x within) in
-    rw add-one (omega arith)
+    item_done (view x) (items_view (drop (i + 1) xs)) now next step
+    ∙ ap (λ ds. with_names (names_in_items ds) now) (sym (from_here xs i x within is)) ∙ before
 
 pub items_end : (xs : List Value) (i : ℕ) (all now : Members) → length xs ≤ i
     → with_names (names_in_items (items_view (drop i xs))) now ≡ all → now ≡ all
-items_end xs i all now end before = sym (no_items_left now) ∙ ap (λ ds. with_names (names_in_items ds) now) (sym (nothing_at xs i end)) ∙
-    before
-  where
-    nothing_at : (ys : List Value) (j : ℕ) → length ys ≤ j → items_view (drop j ys) ≡ no_items
-    nothing_at [] zero h = refl
-    nothing_at [] (suc j) h = refl
-    nothing_at (y ∷ ys) zero h = absurd (omega arith)
-    nothing_at (y ∷ ys) (suc j) h = nothing_at ys j (omega arith)
+items_end xs i all now end before =
+    sym (no_items_left now) ∙ ap (λ ds. with_names (names_in_items ds) now) (sym (none_left xs i end)) ∙ before
 
 pub made : (es : List Entry) (ms : Members) (s n : Data) (b : Bool) → members_view es ≡ ms → (length es ≡ 0 → IsTrue b) → b ≡ false
     → n ≡ inserted (codes "properties") (object (members_view es)) s → n ≡ properties_made ms s

@@ -1,6 +1,6 @@
 -- A list of names without null.
-use Rattle.std.proofs.Common.{◌≡◌, Option, Some, None, Bool, true, false, List, [], ◌∷◌, length, not, codes, refl, ap, ◌∙◌}
-use Rattle.std.specs.Prelude.{OnSome, filter, if◌then◌else◌}
+use Rattle.std.proofs.Common.{◌≡◌, Some, Bool, true, false, List, [], ◌∷◌, length, not, codes, refl, ap, ◌∙◌}
+use Rattle.std.specs.Prelude.{filter, if◌then◌else◌}
 use Rattle.serde_json.specs.Data.{Data, object, array, Items, item}
 use Rattle.serde_json.specs.Find.{get}
 use Rattle.schemars_schema.specs.SchemaData.{members_in}
@@ -27,7 +27,3 @@ not_one (v ∷ w ∷ vs) h = refl
 pub type_changed : (s t u n : Data) → Some t ≡ get (codes "type") s → u ≡ type_without_null t
     → n ≡ object (replaced (codes "type") u (members_in s)) → n ≡ null_taken_out (get (codes "type") s) s
 type_changed s t u n found changed is = rw (← found) (is ∙ ap (λ d. object (replaced (codes "type") d (members_in s))) changed)
-
-pub on_some : {X P : Type 0} (o : Option X) (x : X) → o ≡ Some x → OnSome o P → P
-on_some None x is h = cc
-on_some (Some y) x is h = h

@@ -1,39 +1,18 @@
 -- What the transforms make of schemas, computed.
-use Rattle.std.proofs.Common.{◌≡◌, List, [], ◌∷◌, true, false, refl}
-use Rattle.std.specs.Prelude.{codes}
+use Rattle.std.proofs.Common.{◌≡◌, [], ◌∷◌, true, false, refl}
 use Rattle.std.specs.Global.{Global}
 use Rattle.std.specs.Prelude.{String as StringOf}
 use Prim.Native.String.{String}
-use Rattle.serde_json.specs.Data.{Data, null, boolean, number, unsigned, string, array}
-use Rattle.serde_json.specs.Data.{object, Items, no_items, item, Members, no_members, member}
+use Rattle.serde_json.specs.Data.{Data, boolean}
+use Rattle.serde_json.specs.Data.{object, no_members}
 use Rattle.schemars_walk.specs.Rewritten.{forms, in_items, in_names, in_keywords}
-use Rattle.schemars_transform.specs.Formats.{restrict_formats, format_rules}
+use Rattle.schemars_transform.specs.Formats.{format_rules}
 use Rattle.schemars_transform.specs.declared.built_in.formats.Draft.{Draft}
 use Rattle.schemars_transform.specs.declared.built_in.formats.Draft.TheVariants.{NotAsked, Missing}
 use Rattle.schemars_walk.specs.Rewritten.{rewritten}
 use Rattle.std.specs.BTreeSet.{BTreeSet}
+use Rattle.schemars_schema.proofs.JsonLiterals.{text, list, entry, one, empty}
 use Rattle.schemars_transform.specs.Unevaluated.{replace_unevaluated_properties, names_in, names_in_items, names_in_keywords}
-
--- ---- JSON in short; the keys of an object stand in order
-
-abbrev text : String → Data
-text s = string (codes s)
-
-abbrev list_of : List Data → Items
-list_of [] = no_items
-list_of (d ∷ ds) = item d (list_of ds)
-
-abbrev list : List Data → Data
-list ds = array (list_of ds)
-
-abbrev entry : String → Data → Members → Members
-entry k d ms = member (codes k) d ms
-
-abbrev one : String → Data → Data
-one k d = object (entry k d no_members)
-
-abbrev empty : Data
-empty = object no_members
 
 -- ---- `unevaluatedProperties`
 

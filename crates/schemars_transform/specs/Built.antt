@@ -3,10 +3,8 @@ use Rattle.std.specs.Prelude.{◌≡◌, ◌&&◌, Option, Some, None, is_some, 
 use Rattle.serde_json.specs.Data.{Data, null, boolean, number, string, array, object, no_items, item, no_members, member}
 use Rattle.serde_json.specs.Find.{get, as_bool}
 use Rattle.schemars_schema.specs.SchemaData.{members_in, inserted}
-use Rattle.schemars_schema.specs.Edits.{removed}
+use Rattle.schemars_schema.specs.Edits.{removed, has_one_member, with_last, changed_at}
 use Rattle.schemars_schema.specs.References.{NoSchemas, place_under}
-use Rattle.schemars_builders.specs.AllowNull.{has_one_member}
-use Rattle.schemars_builders.specs.Properties.{with_last, changed_at}
 use Rattle.schemars_walk.specs.Walk.{Answer}
 use Rattle.schemars_walk.specs.Rewritten.{Rules, rewritten, all_changed}
 use Rattle.schemars_walk.specs.declared.transform.TransformError.TheVariants.{Memory}

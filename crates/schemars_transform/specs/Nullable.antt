@@ -3,8 +3,7 @@ use Rattle.std.specs.Prelude.{◌&&◌, Bool, true, false, Option, Some, None, i
 use Rattle.serde_json.specs.Data.{Data, null, boolean, number, string, array, object, Items, no_items, item}
 use Rattle.serde_json.specs.Find.{get, as_str}
 use Rattle.schemars_schema.specs.SchemaData.{members_in, inserted}
-use Rattle.schemars_schema.specs.Edits.{removed, replaced}
-use Rattle.schemars_builders.specs.AllowNull.{is_text, holds_text}
+use Rattle.schemars_schema.specs.Edits.{removed, replaced, is_text, holds_text}
 use Rattle.schemars_walk.specs.Rewritten.{all_changed}
 use Rattle.schemars_transform.specs.declared.built_in.nullable.AddNullable.{AddNullable}
 use Rattle.schemars_transform.specs.declared.built_in.nullable.Nulls.{Nulls}

@@ -5,16 +5,9 @@ use Rattle.serde_json.specs.Find.{get}
 use Rattle.schemars_schema.specs.Json.{Text}
 use Rattle.schemars_schema.specs.OrderedText.{is_listed}
 use Rattle.schemars_schema.specs.SchemaData.{inserted}
-use Rattle.schemars_schema.specs.Edits.{removed}
-use Rattle.schemars_builders.specs.Properties.{put_missing}
+use Rattle.schemars_schema.specs.Edits.{removed, put_missing}
+use Rattle.schemars_schema.specs.References.{with_same_object, with_same_objects}
 use Rattle.schemars_walk.specs.Rewritten.{all_changed}
-
--- the keywords with a schema, and with a list of schemas, that judge the same object
-abbrev pub with_same_object : List Text
-with_same_object = codes "if" ∷ codes "then" ∷ codes "else" ∷ []
-
-abbrev pub with_same_objects : List Text
-with_same_objects = codes "allOf" ∷ codes "anyOf" ∷ codes "oneOf" ∷ []
 
 abbrev pub keys : Members → List Text
 keys no_members = []

@@ -1,5 +1,6 @@
 -- What a table without faults offers, and what each answer of the search says of the faults.
 use Rattle.std.proofs.Common.{◌≡◌, ◌<◌, inl, inr, ℕ, List, Option, Some, None, IsSome, length, Contains, MatchOption, refl}
+use Rattle.std.proofs.lemmas.Bool.{lt-ltb, ltb-true}
 use Rattle.schemars_schema.specs.Json.{Text}
 use Rattle.schemars_shapes.specs.Repeated.{AreDistinctLists, IsFirstRepeated}
 use Rattle.schemars_types.specs.Walks.{Leads, OnCycle, IsFree, IsLeast}
@@ -7,7 +8,7 @@ use Rattle.schemars_types.proofs.GraphLemmas.{walk_along}
 use Rattle.schemars_types.proofs.Heights.{IsWithin, longest-bound, longest-below, longest_falls}
 use Rattle.schemars_types.specs.EdgeKind.{targets_along}
 use Rattle.schemars_types.specs.declared.check.faults.EdgeKind.TheVariants.{Direct, SameValue}
-use Rattle.schemars_types.proofs.EdgeLemmas.{Contains-filter, Contains-filtered, to_direct, from_direct, ends_within, below-nat_lt, nat_lt-below}
+use Rattle.schemars_types.proofs.EdgeLemmas.{Contains-filter, Contains-filtered, to_direct, from_direct, ends_within}
 use Rattle.schemars_types.proofs.Names.{lists_differ_or_repeated}
 pub use Rattle.schemars_types.proofs.Names.{never_first_repeated}
 use Rattle.schemars_types.specs.Rows.{Row, entry_at}
@@ -31,11 +32,11 @@ least_repeated rows n name differ r = ((name, r), λ k below (other, s). never_f
 
 to_same_value : (rows : List Row) (n m : ℕ) → Contains (targets_along SameValue rows n) m → SameValueEdge rows n m
 to_same_value rows n m among = let (c, t) = Contains-filter (is_row rows) (same_value_numbers_at rows n) m among in
-    (c, nat_lt-below m (length rows) t)
+    (c, ltb-true m (length rows) t)
 
 from_same_value : (rows : List Row) (n m : ℕ) → SameValueEdge rows n m → Contains (targets_along SameValue rows n) m
 from_same_value rows n m e = Contains-filtered (is_row rows) (same_value_numbers_at rows n) m e.0
-    (below-nat_lt m (length rows) e.1)
+    (lt-ltb m (length rows) e.1)
 
 -- closed walks along two sets of edges, where each edge of one is an edge of the other
 alike : (E F : ℕ → ℕ → Type 0) → ((n m : ℕ) → E n m → F n m) → ((n m : ℕ) → F n m → E n m) → (r : Option ℕ)

@@ -6,6 +6,7 @@ use Rattle.std.specs.Prelude.{◌==◌, bytes_eq, nat_eq, option_map, option_and
 use Rattle.std.specs.List.{list_any}
 use Rattle.std.proofs.lemmas.Bool.{eqb-true}
 use Rattle.std.proofs.lemmas.List.Folds.{list_any-append}
+use Rattle.std.proofs.Math.Bool.{or-false, or_assoc}
 use Rattle.indexmap.specs.IndexSet.{insert_key}
 use Rattle.serde_json.specs.Data.{Data, null, boolean, number, unsigned, negative, float, string, array, object}
 use Rattle.serde_json.specs.Data.{Items, item}
@@ -24,7 +25,7 @@ use Rattle.schemars_shapes.specs.declared.shape.IntegerKeys.{IntegerKeys}
 use Rattle.schemars_shapes.specs.declared.shape.IntegerKeys.TheVariants.{Unsigned, Signed}
 use Rattle.schemars_types.specs.KeyOptions.{KeyOptions, keys, any_text, or_any_text, either_integers, either_options}
 use Rattle.schemars_types.specs.KeyOptions.{each_once, member_options, members_options, untagged_options, shape_options}
-use Rattle.schemars_types.specs.KeyOptions.{texts_options, external_options, internal_options, literal_options, typed_options}
+use Rattle.schemars_types.specs.KeyOptions.{external_options, internal_options, literal_options, typed_options}
 use Rattle.schemars_types.specs.Found.{adding, some_takes_all, options_at, AreAmong, HoldsRows}
 use Rattle.schemars_types.proofs.Texts.{listed_more, listed_own, nothing_joins, insert_all-append, once_by_joining}
 
@@ -64,14 +65,6 @@ either_kept (Some Unsigned) (Some Signed) k h = cc
 
 -- ---- others
 
-or-false : (a : Bool) → a || false ≡ a
-or-false true = refl
-or-false false = refl
-
-or-assoc : (a b d : Bool) → (a || b) || d ≡ a || (b || d)
-or-assoc true b d = refl
-or-assoc false b d = refl
-
 or-twice : (a b : Bool) → (a || b) || b ≡ a || b
 or-twice true b = refl
 or-twice false true = refl
@@ -84,12 +77,9 @@ or-kept false false d h = or-false d
 
 -- ---- adding
 
-pub adding-nothing : (o : KeyOptions) → adding o (keys false [] None []) ≡ o
-adding-nothing (keys a ts i ps) = λ x. keys (or-false a x) ts (either_none i x) ps
-
 pub adding-either : (o p q : KeyOptions) → adding (adding o p) q ≡ adding o (either_options p q)
 adding-either (keys a ts i ps) (keys b us j qs) (keys d vs k rs) = λ x.
-    keys (or-assoc a b d x) (sym (insert_all-append us vs ts) x) (either_assoc i j k x) (sym (insert_all-append qs rs ps) x)
+    keys (or_assoc a b d x) (sym (insert_all-append us vs ts) x) (either_assoc i j k x) (sym (insert_all-append qs rs ps) x)
 
 pub adding-once : (o : KeyOptions) → adding (keys false [] None []) o ≡ each_once o
 adding-once (keys b us j qs) = λ x. keys b (once_by_joining us x) j (once_by_joining qs x)
@@ -106,9 +96,6 @@ among_added (keys a ts i ps) (keys b us j qs) = (or-twice a b, listed_own us ts,
 among_more : (o p q : KeyOptions) → AreAmong p o → AreAmong p (adding o q)
 among_more (keys a ts i ps) (keys b us j qs) (keys d vs k rs) h =
     (or-kept a b d h.0, listed_more us ts vs h.1, either_kept i j k h.2, listed_more qs ps rs h.3)
-
-pub holds_none : (rows : List Row) (o : KeyOptions) → HoldsRows rows [] o
-holds_none rows o = record { holds = λ m h. cc }
 
 pub holds_more : (rows : List Row) (met : List ℕ) (o p : KeyOptions) → HoldsRows rows met o → HoldsRows rows met (adding o p)
 holds_more rows met o p h = record { holds = λ m is. among_more o (options_at rows m) p (h.holds m is) }
@@ -139,49 +126,12 @@ pub names_more : (o : KeyOptions) (t : Text) (ts : List Text)
     → adding (adding o (keys false (t ∷ []) None [])) (keys false ts None []) ≡ adding o (keys false (t ∷ ts) None [])
 names_more o t ts = adding-either o (keys false (t ∷ []) None []) (keys false ts None [])
 
-abbrev options_in : Option (List Text) → KeyOptions
-options_in r = elim r [ Some ts ↦ keys false ts None [] | None ↦ any_text ]
-
 abbrev first_text : Items → Option Text → Option (List Text)
 first_text ds first = option_and_then (λ t. option_map (λ ts. t ∷ ts) (texts_in ds)) first
-
--- a value that is a text, and those behind it
-pub text_more : (o : KeyOptions) (d : Data) (t : Text) (ds : Items) → as_str d ≡ Some t → is_some (texts_in (item d ds)) ≡ true
-    → adding (adding o (keys false (t ∷ []) None [])) (texts_options ds) ≡ adding o (texts_options (item d ds))
-text_more o d t ds is texts =
-    go (texts_in ds) (ap (λ first. is_some (first_text ds first)) (sym is) ∙ texts)
-    ∙ ap (λ first. adding o (options_in (first_text ds first))) (sym is)
-  where
-    go : (r : Option (List Text)) → is_some (option_map (λ ts. t ∷ ts) r) ≡ true
-        → adding (adding o (keys false (t ∷ []) None [])) (options_in r) ≡ adding o (options_in (option_map (λ ts. t ∷ ts) r))
-    go (Some ts) some = names_more o t ts
-    go None some = cc
-
--- those behind a text are texts too
-pub texts_behind : (d : Data) (ds : Items) → is_some (texts_in (item d ds)) ≡ true → is_some (texts_in ds) ≡ true
-texts_behind d ds texts = go (as_str d) (texts_in ds) texts
-  where
-    go : (first : Option Text) (r : Option (List Text)) → is_some (option_and_then (λ t. option_map (λ ts. t ∷ ts) r) first) ≡ true
-        → is_some r ≡ true
-    go (Some t) (Some ts) some = refl
-    go (Some t) None some = some
-    go None r some = cc
 
 -- one that is no text is not among texts
 pub no_text : (d : Data) (ds : Items) → as_str d ≡ None → is_some (texts_in (item d ds)) ≡ false
 no_text d ds is = ap (λ first. is_some (first_text ds first)) is
-
-pub no_texts : (ds : Items) → is_some (texts_in ds) ≡ false → texts_options ds ≡ any_text
-no_texts ds none = go (texts_in ds) none
-  where
-    go : (r : Option (List Text)) → is_some r ≡ false → options_in r ≡ any_text
-    go None h = refl
-    go (Some ts) h = cc
-
-pub untagged_some : (part : ℕ → Option KeyOptions) (xs : List Variant) → (length xs ≡ 0 → ⊥)
-    → untagged_options part xs ≡ Some (or_any_text (members_options part xs))
-untagged_some part [] some = absurd (some refl)
-untagged_some part (x ∷ xs) some = refl
 
 pub members_none : (part : ℕ → Option KeyOptions) (xs : List Variant) → is_none (members_options part xs) ≡ some_takes_all part xs
 members_none part [] = refl

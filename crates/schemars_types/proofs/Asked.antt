@@ -10,20 +10,18 @@ use Rattle.schemars_shapes.specs.Shape.{flattened_rows, payload_numbers, payload
 use Rattle.schemars_shapes.specs.Shape.{numbers_of, same_value_numbers, variant_of, payload_of}
 use Rattle.schemars_types.specs.Rows.{Row, entry_at}
 use Rattle.schemars_types.specs.Edges.{RefersWithin, SameValueEdge, numbers_at, same_value_numbers_at}
-
-nothing_in : (m : ℕ) → Contains [] m → ⊥
-nothing_in m (k, below, is) = omega arith
+use Rattle.schemars_types.proofs.GraphLemmas.{nothing_among}
 
 same_of_payload : (p : Payload) (m : ℕ) → Contains (payload_same p) m → Contains (payload_numbers p) m
 same_of_payload no_payload m c = c
 same_of_payload (newtype_payload n) m c = c
-same_of_payload (tuple_payload ns) m c = absurd (nothing_in m c)
+same_of_payload (tuple_payload ns) m c = absurd (nothing_among m c)
 same_of_payload (struct_payload x) m c = Contains-append_right (map (λ f. f.ty) x.list) (flattened_rows x) m c
 
 flattened_of_payload : (p : Payload) (m : ℕ) → Contains (payload_flattened p) m → Contains (payload_numbers p) m
 flattened_of_payload no_payload m c = c
-flattened_of_payload (newtype_payload n) m c = absurd (nothing_in m c)
-flattened_of_payload (tuple_payload ns) m c = absurd (nothing_in m c)
+flattened_of_payload (newtype_payload n) m c = absurd (nothing_among m c)
+flattened_of_payload (tuple_payload ns) m c = absurd (nothing_among m c)
 flattened_of_payload (struct_payload x) m c = Contains-append_right (map (λ f. f.ty) x.list) (flattened_rows x) m c
 
 -- where each payload refers to these rows, variants do
@@ -49,20 +47,20 @@ same_number (shape.formatted f) m c = c
 same_number shape.any m c = c
 same_number shape.bytes m c = c
 same_number shape.schema_itself m c = c
-same_number (shape.seq i) m c = absurd (nothing_in m c)
-same_number (shape.set i) m c = absurd (nothing_in m c)
-same_number (shape.array i len) m c = absurd (nothing_in m c)
-same_number (shape.up_to i cap) m c = absurd (nothing_in m c)
-same_number (shape.tuple ns) m c = absurd (nothing_in m c)
+same_number (shape.seq i) m c = absurd (nothing_among m c)
+same_number (shape.set i) m c = absurd (nothing_among m c)
+same_number (shape.array i len) m c = absurd (nothing_among m c)
+same_number (shape.up_to i cap) m c = absurd (nothing_among m c)
+same_number (shape.tuple ns) m c = absurd (nothing_among m c)
 same_number (shape.struct x) m c = Contains-append_right (map (λ f. f.ty) x.list) (flattened_rows x) m c
-same_number (shape.result a b) m c = absurd (nothing_in m c)
-same_number (shape.bound i) m c = absurd (nothing_in m c)
-same_number (shape.range i) m c = absurd (nothing_in m c)
-same_number (shape.either a b) m c = absurd (nothing_in m c)
-same_number (shape.map_from key value) m c = absurd (nothing_in m c)
+same_number (shape.result a b) m c = absurd (nothing_among m c)
+same_number (shape.bound i) m c = absurd (nothing_among m c)
+same_number (shape.range i) m c = absurd (nothing_among m c)
+same_number (shape.either a b) m c = absurd (nothing_among m c)
+same_number (shape.map_from key value) m c = absurd (nothing_among m c)
 same_number (shape.external xs) m c = of_variants_among payload_flattened flattened_of_payload xs m c
 same_number (shape.internal tag closed xs) m c = of_variants_among payload_same same_of_payload xs m c
-same_number (shape.literal d) m c = absurd (nothing_in m c)
+same_number (shape.literal d) m c = absurd (nothing_among m c)
 same_number (shape.untagged xs) m c = of_variants_among payload_same same_of_payload xs m c
 
 -- they are ends of edges

@@ -1,10 +1,10 @@
 -- The edges of a table lie among its rows, and a graph of targets has the same walks.
 use Rattle.std.proofs.Common.{◌≡◌, ◌<◌, ◌∙◌, ◌⊎◌, inl, inr, ℕ, zero, suc, List, [], ◌∷◌, ◌++◌, Bool, true, false, Option}
-use Rattle.std.proofs.Common.{Some, None, length, filter, cond, Contains, nat_lt, MatchOption, refl, sym, ap, subst}
+use Rattle.std.proofs.Common.{Some, None, length, filter, cond, Contains, MatchOption, refl, sym, ap, subst}
 use Rattle.std.proofs.Common.{arith, true≢false, append_assoc, append-nil}
 use Rattle.std.specs.Option.{option_map_or}
-use Rattle.std.proofs.lemmas.Bool.Decides.{Decides-ltb}
 use Rattle.std.proofs.lemmas.List.Elements.{Contains-append_left, Contains-append_right, Contains-append_cases}
+use Rattle.std.proofs.lemmas.Bool.{lt-ltb, ltb-true}
 use Rattle.schemars_shapes.specs.Shape.{Entry, numbers_of, same_value_numbers}
 use Rattle.schemars_types.specs.Rows.{Row, entry_at}
 use Rattle.schemars_types.specs.Walks.{Leads, OnCycle, IsFree, IsLeast}
@@ -55,24 +55,21 @@ inline_within [] m h = cc
 inline_within (r ∷ rows) zero h = omega arith
 inline_within (r ∷ rows) (suc m) h = omega (arith, inline_within rows m h)
 
-pub nat_lt-below : (m n : ℕ) → nat_lt m n ≡ true → m < n
-nat_lt-below m n h = (Decides-ltb m n).0 h
-
-pub below-nat_lt : (m n : ℕ) → m < n → nat_lt m n ≡ true
-below-nat_lt m n h = (Decides-ltb m n).1 h
-
 -- the ends of direct edges, one way and the other
 pub to_direct : (rows : List Row) (n m : ℕ) → Contains (targets_along Direct rows n) m → DirectEdge rows n m
-to_direct rows n m among = elim (Contains-append_cases (filter (is_inline_at rows) (numbers_at rows n)) (filter (is_row rows) (asked_at rows n)) m among) [
-  | inl c ↦ inl (Contains-filter (is_inline_at rows) (numbers_at rows n) m c)
-  | inr c ↦ let (d, t) = Contains-filter (is_row rows) (asked_at rows n) m c in inr (d, nat_lt-below m (length rows) t)
-]
+to_direct rows n m among =
+    elim (Contains-append_cases (filter (is_inline_at rows) (numbers_at rows n)) (filter (is_row rows) (asked_at rows n)) m among) [
+      | inl c ↦ inl (Contains-filter (is_inline_at rows) (numbers_at rows n) m c)
+      | inr c ↦ let (d, t) = Contains-filter (is_row rows) (asked_at rows n) m c in inr (d, ltb-true m (length rows) t)
+    ]
 
 pub from_direct : (rows : List Row) (n m : ℕ) → DirectEdge rows n m → Contains (targets_along Direct rows n) m
-from_direct rows n m (inl e) = Contains-append_left (filter (is_inline_at rows) (numbers_at rows n)) (filter (is_row rows) (asked_at rows n)) m
+from_direct rows n m (inl e) =
+    Contains-append_left (filter (is_inline_at rows) (numbers_at rows n)) (filter (is_row rows) (asked_at rows n)) m
     (Contains-filtered (is_inline_at rows) (numbers_at rows n) m e.0 e.1)
-from_direct rows n m (inr e) = Contains-append_right (filter (is_inline_at rows) (numbers_at rows n)) (filter (is_row rows) (asked_at rows n)) m
-    (Contains-filtered (is_row rows) (asked_at rows n) m e.0 (below-nat_lt m (length rows) e.1))
+from_direct rows n m (inr e) =
+    Contains-append_right (filter (is_inline_at rows) (numbers_at rows n)) (filter (is_row rows) (asked_at rows n)) m
+    (Contains-filtered (is_row rows) (asked_at rows n) m e.0 (lt-ltb m (length rows) e.1))
 
 -- both ends of an edge are rows
 pub ends_within : (kind : EdgeKind) (rows : List Row) (n m : ℕ) → Contains (targets_along kind rows n) m
@@ -83,7 +80,7 @@ ends_within Direct rows n m among = elim (to_direct rows n m among) [
 ]
 ends_within SameValue rows n m among =
     let (c, t) = Contains-filter (is_row rows) (same_value_numbers_at rows n) m among in
-    (entry_within (λ e. same_value_numbers e.shape) rows n m c, nat_lt-below m (length rows) t)
+    (entry_within (λ e. same_value_numbers e.shape) rows n m c, ltb-true m (length rows) t)
 
 -- ---- the rows below a row
 

@@ -2,7 +2,7 @@
 use Rattle.std.proofs.Common.{◌≡◌, ◌&&◌, true, false, List, [], ◌∷◌, length, take, Option, Some, None, refl, ap, sym, true≢false}
 use Rattle.std.specs.Option.{option_eq, option_map_or}
 use Rattle.std.specs.Str.{bytes_eq}
-use Rattle.std.proofs.lemmas.Bool.{and_parts}
+use Rattle.std.proofs.lemmas.Bool.{and_parts, or_parts}
 use Rattle.std.proofs.lemmas.Slice.Eq.{bytes_eq-Decides}
 use Rattle.schemars_shapes.specs.Shape.{Entry}
 use Rattle.schemars_shapes.specs.Equality.{entry_eq}
@@ -10,7 +10,7 @@ use Rattle.schemars_shapes.specs.Decimals.{entry_has_float}
 use Rattle.schemars_types.specs.Rows.{Row}
 use Rattle.schemars_types.specs.Extends.{row_eq, begins_with, rows_have_float}
 use Rattle.schemars_shapes.proofs.EqualEntries.{same_entry}
-use Rattle.schemars_shapes.proofs.SelfEqual.{neither, entry_eq-refl}
+use Rattle.schemars_shapes.proofs.SelfEqual.{entry_eq-refl}
 
 -- ---- equal rows are the same
 
@@ -50,7 +50,7 @@ pub begins-first : (rows first : List Row) → rows_have_float first ≡ false �
 begins-first rows [] plain is = refl
 begins-first [] (f ∷ first) plain is = cc
 begins-first (r ∷ rows) (f ∷ first) plain is =
-    let parts = neither (option_map_or entry_has_float f.entry false) (rows_have_float first) plain in
+    let parts = or_parts (option_map_or entry_has_float f.entry false) (rows_have_float first) plain in
     let head : r ≡ f = cc in
     let tail : take (length first) rows ≡ first = cc in
     rw (head, row_eq-refl f parts.0, begins-first rows first parts.1 tail) refl

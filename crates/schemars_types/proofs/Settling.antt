@@ -1,6 +1,6 @@
 -- Options that more steps and further rows leave as they are.
 use Rattle.std.proofs.Common.{◌≡◌, ◌<◌, ◌≤◌, ◌∙◌, inl, inr, ℕ, zero, suc, List, [], ◌∷◌, Option, Some, None, length, take}
-use Rattle.std.proofs.Common.{true, Contains, refl, ap, sym, subst, arith}
+use Rattle.std.proofs.Common.{Contains, refl, ap, sym, subst, arith}
 use Rattle.std.specs.Prelude.{option_map, option_and_then}
 use Rattle.std.specs.Option.{option_map_or}
 use Rattle.std.proofs.lemmas.Bool.{cases_eq}
@@ -10,9 +10,7 @@ use Rattle.schemars_shapes.specs.Shape.{Shape, Entry, Variant, Payload, no_paylo
 use Rattle.schemars_shapes.specs.Shape.{payload_same, of_variants, same_value_numbers}
 use Rattle.schemars_types.specs.Rows.{Row, entry_at}
 use Rattle.schemars_types.specs.Edges.{RefersWithin, rank}
-use Rattle.schemars_types.specs.Extends.{begins_with}
 use Rattle.schemars_types.specs.Faults.{IsChecked}
-use Rattle.schemars_types.proofs.Extensions.{begins-same}
 use Rattle.schemars_types.specs.KeyOptions.{KeyOptions, any_text, or_any_text, either_options, member_options, members_options}
 use Rattle.schemars_types.specs.KeyOptions.{shape_options, options_within, all_options, key_options, each_once}
 use Rattle.schemars_types.proofs.Asked.{asked, entry_low}
@@ -154,7 +152,3 @@ further_rows rows more checked first n known =
     subst (λ (rs : List Row). length rs ≤ length more) first (length-take (length rows) more) in
     ap (λ o. each_once (or_any_text o)) (further_within rows more checked.within first (length more) n known
     ∙ enough_steps rows checked n (length more) known longer)
-
-pub beginning_rows : (rows more : List Row) → IsChecked rows → begins_with more rows ≡ true → (n : ℕ) → n < length rows
-    → key_options more n ≡ key_options rows n
-beginning_rows rows more checked begins n known = further_rows rows more checked (begins-same more rows begins) n known

@@ -238,19 +238,22 @@ has_shape contract patterns keys choices part (seq n) v = holds (as_array v) (ev
 has_shape contract patterns keys choices part (set n) v = holds (as_array v) (λ vs. are_distinct vs && every_item (part n) vs)
 has_shape contract patterns keys choices part (array_shape n len) v =
     holds (as_array v) (λ vs. (items_len vs == len) && every_item (part n) vs)
-has_shape contract patterns keys choices part (up_to n cap) v = holds (as_array v) (λ vs. nat_le (items_len vs) cap && every_item (part n) vs)
+has_shape contract patterns keys choices part (up_to n cap) v =
+    holds (as_array v) (λ vs. nat_le (items_len vs) cap && every_item (part n) vs)
 has_shape contract patterns keys choices part (tuple ns) v = holds (as_array v) (each_of part ns)
 has_shape contract patterns keys choices part (struct x) v = has_fields contract part (offers choices x.flatten v) x.list x.closed v
 has_shape contract patterns keys choices part (newtype n) v = part n v
 has_shape contract patterns keys choices part (result t e) v = exactly_one
-    (has_fields contract part [] (needed (codes "Ok") t ∷ []) false v ∷ has_fields contract part [] (needed (codes "Err") e ∷ []) false v ∷ [])
+    (has_fields contract part [] (needed (codes "Ok") t ∷ []) false v ∷ has_fields contract part [] (needed (codes "Err") e ∷ []) false v
+    ∷ [])
 has_shape contract patterns keys choices part (bound n) v = exactly_one
     (has_fields contract part [] (needed (codes "Included") n ∷ []) false v ∷
     has_fields contract part [] (needed (codes "Excluded") n ∷ []) false v ∷ is_text (codes "Unbounded") v ∷ [])
 has_shape contract patterns keys choices part (range n) v =
     has_fields contract part [] (needed (codes "start") n ∷ needed (codes "end") n ∷ []) false v
 has_shape contract patterns keys choices part (either l r) v = exactly_one
-    (has_fields contract part [] (needed (codes "Left") l ∷ []) true v ∷ has_fields contract part [] (needed (codes "Right") r ∷ []) true v ∷ [])
+    (has_fields contract part [] (needed (codes "Left") l ∷ []) true v ∷ has_fields contract part [] (needed (codes "Right") r ∷ []) true v
+    ∷ [])
 has_shape contract patterns keys choices part (map_from key value) v = has_keys patterns (keys key) (part value) v
 has_shape contract patterns keys choices part (external xs) v = list_any (has_variant contract part choices v) xs
 has_shape contract patterns keys choices part (untagged xs) v = list_any (λ x. has_payload contract part choices x.payload v) xs

@@ -13,10 +13,11 @@ use Rattle.serde_json.proofs.Views.{Entry}
 use Rattle.schemars_schema.specs.Json.{Text}
 use Rattle.schemars_schema.specs.SchemaData.{IsSchema}
 use Rattle.schemars_schema.specs.References.{SchemaList, SchemaOrList, SchemasByName}
+use Rattle.schemars_schema.proofs.Lists.{nothing_left}
 use Rattle.schemars_walk.specs.Rewritten.{Rules, form_at, forms, in_items, in_names}
 use Rattle.schemars_walk.specs.Rewritten.{in_keywords, read_at, as_schema_in, rewritten, with_subschemas}
 use Rattle.schemars_walk.proofs.Walks.{then_items, then_members, then_items-none, then_members-none}
-use Rattle.schemars_walk.proofs.Walks.{member_put_back, item_written, items_from, nothing_left, all_taken}
+use Rattle.schemars_walk.proofs.Walks.{member_put_back, item_written, items_from, all_taken}
 
 -- ---- depths
 

@@ -15,6 +15,7 @@ use Rattle.serde_json.proofs.Views.{Entry}
 use Rattle.schemars_schema.specs.Json.{Text}
 use Rattle.serde_json.specs.Find.{as_array, as_object}
 use Rattle.schemars_schema.specs.References.{place_under}
+use Rattle.schemars_schema.proofs.Lists.{nothing_left}
 use Rattle.schemars_walk.specs.Walk.{Answer, Step, EachItem, EachMember, AtSchema}
 use Rattle.schemars_walk.specs.Walk.{AtList, AtSchemaOrList, AtNames, AtPlace, Walked, Recursed}
 use Rattle.schemars_walk.specs.declared.transform.TransformError.{TransformError}
@@ -213,12 +214,6 @@ module _ {S : Type 0} (Q : Step S) (start s w : S) (all : Items) (xs : List Valu
       subst (λ m. EachItem Q s m (Err x) w no_items) (sym (items_from xs i d d within)) (items_stop Q s w (view (get_or xs i d)) e _
       no_items x call) in
       items_open Q start w all (then_items (items_view (take i xs)) no_items) es x (goes (Err x) w no_items here)
-
-pub nothing_left : (xs : List Value) (i : ℕ) → length xs ≤ i → items_view (drop i xs) ≡ no_items
-nothing_left [] zero h = refl
-nothing_left [] (suc i) h = refl
-nothing_left (x ∷ xs) zero h = absurd (omega arith)
-nothing_left (x ∷ xs) (suc i) h = nothing_left xs i (omega arith)
 
 pub all_taken : (xs : List Value) (i : ℕ) → length xs ≤ i → items_view (take i xs) ≡ items_view xs
 all_taken [] zero h = refl

@@ -3,11 +3,12 @@ ghost use Rattle.std.specs.Prelude.{◌≡◌, Some, OnOk};
 ghost use Rattle.serde_json.specs.View.{view};
 ghost use Rattle.schemars_schema.specs.OrderedText.{is_listed};
 ghost use Rattle.schemars_walk.specs.Walk.{meant};
-ghost use Rattle.schemars_transform.specs.Unevaluated.{with_same_object, with_same_objects};
+ghost use Rattle.schemars_schema.specs.References.{with_same_object, with_same_objects};
 ghost use Rattle.schemars_flatten.specs.Opening.{is_false, closes_by, opened_at, opened_here};
 ghost use Rattle.schemars_flatten.specs.Opening.{same_object_place, opened, opened_inside};
 
 use schemars_schema::Schema;
+use schemars_schema::keywords::{holds_same, lists_same};
 use schemars_walk::rewrite::place::Place;
 use schemars_walk::rewrite::{Rule, rewrite};
 use serde_json::Value;
@@ -107,18 +108,4 @@ fn same_object_place(key: &str) -> Place
     } else {
         Place::Nothing
     }
-}
-
-// Whether a schema stands under a keyword that judges the same object.
-pub(crate) fn holds_same(key: &str) -> bool
-    ensures { result ≡ is_listed key.now with_same_object }
-{
-    key == "if" || key == "then" || key == "else"
-}
-
-// Whether a list of them does.
-pub(crate) fn lists_same(key: &str) -> bool
-    ensures { result ≡ is_listed key.now with_same_objects }
-{
-    key == "allOf" || key == "anyOf" || key == "oneOf"
 }

@@ -4,7 +4,7 @@ ghost use Rattle.serde_json.specs.Data.{array, no_items};
 ghost use Rattle.serde_json.specs.Find.{as_str};
 ghost use Rattle.serde_json.specs.View.{view, items_view, members_view};
 ghost use Rattle.schemars_flatten.specs.Flatten.{appended};
-ghost use Rattle.schemars_builders.specs.Properties.{changed_at};
+ghost use Rattle.schemars_schema.specs.Edits.{changed_at};
 ghost use Rattle.schemars_flatten.specs.Parts.{unit_object, unit_object_first, unit_objects};
 ghost use Rattle.schemars_flatten.specs.Parts.{units_of, with_items, with_units};
 ghost use Rattle.schemars_builders.specs.AllowNull.{null_schema};

@@ -14,6 +14,7 @@ ghost use Rattle.schemars_schema.specs.OrderedText.{item_texts, member_texts, de
 ghost use Rattle.schemars_schema.specs.OrderedText.{object_text};
 ghost use Rattle.schemars_schema.specs.Output.{with_value, with_values, meant};
 
+use crate::edits::is_listed;
 use crate::text::output::Output;
 use json::Token;
 use serde_json::{Map, Value};
@@ -44,8 +45,8 @@ pub fn definitions_to_ordered_string(
     alloc: Global,
     definitions: &Map<String, Value>,
 ) -> Result<String, AllocError>
-    ensures ordered { IfOk result (λ s. members_have_float (members_view definitions.now.entries)
-        ≡ false
+    ensures ordered { IfOk result
+        (λ s. members_have_float (members_view definitions.now.entries) ≡ false
         → string_bytes s ≡ definitions_text (members_view definitions.now.entries)) }
     ensures compact { IfOk result (λ s. string_bytes s ≡ print (tokens (string_bytes s))) }
 {
@@ -124,17 +125,6 @@ fn holds_named_schemas(key: &str) -> bool
         || key == "definitions"
 }
 
-fn is_listed(key: &str, keywords: &[&str]) -> bool
-    ensures { result ≡ is_listed key.now (map (λ k. k.now) keywords.now) }
-{
-    for keyword in keywords {
-        if key == *keyword {
-            return true;
-        }
-    }
-    false
-}
-
 pub(crate) fn has_fixed_place(key: &str) -> bool
     ensures { result ≡ is_listed key.now first_keywords || is_listed key.now last_keywords }
 {
@@ -169,8 +159,8 @@ fn write_object(
     out: &mut Output,
 ) -> Result<(), AllocError>
     ensures { OnOk result (members_have_float (members_view members.now.entries) ≡ false
-        → out.new ≡ with_value out.old
-        (object_text (meant layout) (members_view members.now.entries))) }
+        → out.new
+        ≡ with_value out.old (object_text (meant layout) (members_view members.now.entries))) }
 {
     out.token(Token::BeginObject)?;
     write_members(members, layout, out)?;

@@ -9,6 +9,7 @@ ghost use Rattle.schemars_transform.specs.Formats.{stays, format_rules};
 
 use schemars_schema::Schema;
 use schemars_schema::consts::meta_schemas;
+use schemars_schema::edits::is_listed;
 use schemars_walk::rewrite::place::{Place, place_under};
 use schemars_walk::rewrite::{Rule, rewrite};
 use schemars_walk::{Transform, TransformError};
@@ -197,14 +198,3 @@ const DRAFT07_FORMATS: [&str; 17] = [
     "relative-json-pointer",
     "regex",
 ];
-
-fn is_listed(format: &str, formats: &[&str]) -> bool
-    ensures { result ≡ is_listed format.now (map (λ f. f.now) formats.now) }
-{
-    for defined in formats {
-        if format == *defined {
-            return true;
-        }
-    }
-    false
-}

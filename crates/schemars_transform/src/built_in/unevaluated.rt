@@ -3,16 +3,15 @@ ghost use Rattle.std.specs.Prelude.{◌≡◌, IfOk, OnOk};
 ghost use Rattle.serde_json.specs.Data.{no_members};
 ghost use Rattle.serde_json.specs.View.{view, items_view, members_view};
 ghost use Rattle.schemars_schema.specs.OrderedText.{is_listed};
-ghost use Rattle.schemars_transform.specs.Unevaluated.{with_same_object, with_same_objects, keys};
-ghost use Rattle.schemars_transform.specs.Unevaluated.{keys_in};
-ghost use Rattle.schemars_transform.specs.Unevaluated.{names_in, names_in_items, names_in_keywords};
-ghost use Rattle.schemars_transform.specs.Unevaluated.{names_at, property_names};
-ghost use Rattle.schemars_transform.specs.Unevaluated.{with_names, named_in, properties_made};
-ghost use Rattle.schemars_transform.specs.Unevaluated.{with_properties};
-ghost use Rattle.schemars_builders.specs.Properties.{put_missing};
+ghost use Rattle.schemars_schema.specs.References.{with_same_object, with_same_objects};
+ghost use Rattle.schemars_transform.specs.Unevaluated.{keys, keys_in};
+ghost use Rattle.schemars_transform.specs.Unevaluated.{names_in, names_in_items, names_in_keywords, names_at, property_names};
+ghost use Rattle.schemars_transform.specs.Unevaluated.{with_names, named_in, properties_made, with_properties};
 
 use crate::built_in::keywords::put;
 use schemars_schema::Schema;
+use schemars_schema::edits::put_missing;
+use schemars_schema::keywords::{holds_same, lists_same};
 use schemars_walk::rewrite::change::{Change, change_all};
 use schemars_walk::{Transform, TransformError};
 use serde_json::{Map, Value};
@@ -204,31 +203,4 @@ fn add_each(
         put_missing(alloc, names, key.as_str(), Value::Bool(true))?;
     }
     Ok(())
-}
-
-fn put_missing(
-    alloc: Global,
-    members: &mut Map<String, Value>,
-    key: &str,
-    value: Value,
-) -> Result<(), AllocError>
-    ensures { OnOk result (members_view members.new.entries
-        ≡ put_missing key.now (view value) (members_view members.old.entries)) }
-{
-    if members.contains_key(key) {
-        return Ok(());
-    }
-    serde_json::put(members, alloc, key, value)
-}
-
-fn holds_same(key: &str) -> bool
-    ensures { result ≡ is_listed key.now with_same_object }
-{
-    key == "if" || key == "then" || key == "else"
-}
-
-fn lists_same(key: &str) -> bool
-    ensures { result ≡ is_listed key.now with_same_objects }
-{
-    key == "allOf" || key == "anyOf" || key == "oneOf"
 }

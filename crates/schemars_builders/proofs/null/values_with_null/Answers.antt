@@ -3,8 +3,9 @@ use Rattle.serde_json.specs.Data.{array, null}
 use Rattle.serde_json.specs.View.{items_view, view}
 use Rattle.serde_json.specs.declared.value.Value.{Null, the_lemmas}
 use Rattle.serde_json.proofs.Views.{view-Array}
-use Rattle.schemars_builders.specs.AllowNull.{holds_null, with_item}
-use Rattle.schemars_builders.proofs.Nulls.{items_view-push}
+use Rattle.schemars_schema.specs.Edits.{with_item}
+use Rattle.schemars_schema.proofs.Lists.{items_view-push}
+use Rattle.schemars_builders.specs.AllowNull.{holds_null}
 use Rattle.schemars_builders.proofs.null.values_with_null.Goals as goal
 
 pub returns : goal.returns

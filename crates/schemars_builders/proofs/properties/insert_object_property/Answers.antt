@@ -13,4 +13,5 @@ returns c =
     c.in_ok-put_property.ensures
     ∙ (ap (λ d. with_property name d (members_view c.in_ok-members.members.now.entries)) c.to_value.ensures.value
     ∙ ap (with_property name c.args.sub_schema) c.in_ok-members.ensures.value) in
-    on_ok_weaker c.require_unless.result (λ h. ap object (h ∙ ap (required_unless c.args.is_optional name) with_it)) c.require_unless.ensures
+    on_ok_weaker c.require_unless.result
+    (λ h. ap object (h ∙ ap (required_unless c.args.is_optional name) with_it)) c.require_unless.ensures

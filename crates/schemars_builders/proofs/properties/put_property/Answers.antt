@@ -6,8 +6,8 @@ use Rattle.serde_json.specs.Find.{get_member}
 use Rattle.serde_json.specs.View.{view, members_view}
 use Rattle.serde_json.specs.declared.value.Value.{Object}
 use Rattle.serde_json.proofs.Views.{view-Object, view-lookup}
-use Rattle.schemars_builders.specs.Properties.{with_member}
-use Rattle.schemars_builders.proofs.Changes.{changed_there, changed_missing}
+use Rattle.schemars_schema.specs.Edits.{with_member}
+use Rattle.schemars_schema.proofs.Changes.{changed_there, changed_missing}
 use Rattle.schemars_builders.proofs.properties.put_property.Goals as goal
 
 pub returns-in-Some : goal.returns-in-Some

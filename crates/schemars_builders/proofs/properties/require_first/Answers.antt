@@ -5,8 +5,8 @@ use Rattle.serde_json.specs.Data.{string, array, no_items, item, put}
 use Rattle.serde_json.specs.Find.{get_member}
 use Rattle.serde_json.specs.View.{view, members_view}
 use Rattle.serde_json.proofs.Views.{view-lookup}
-use Rattle.schemars_builders.specs.Properties.{with_first}
-use Rattle.schemars_builders.proofs.Changes.{changed_there, changed_missing}
+use Rattle.schemars_schema.specs.Edits.{with_first}
+use Rattle.schemars_schema.proofs.Changes.{changed_there, changed_missing}
 use Rattle.schemars_builders.proofs.properties.require_first.Goals as goal
 
 pub returns-in-Some : goal.returns-in-Some

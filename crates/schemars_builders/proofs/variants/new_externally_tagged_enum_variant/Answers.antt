@@ -19,7 +19,8 @@ returns c =
     ∙ ap (λ es. put name schema (members_view es)) c.new-properties.ensures.empty)) in
     let required : view (Array c.push.new.list) ≡ names =
     view-Array c.push.new.list
-    ∙ (ap (λ vs. array (items_view vs)) (c.in_ok-push.ensures.ok ∙ ap (λ vs. vs ++ c.in_ok-try_from_str.field-0 ∷ []) c.new-required.ensures.items)
+    ∙ (ap (λ vs. array (items_view vs))
+    (c.in_ok-push.ensures.ok ∙ ap (λ vs. vs ++ c.in_ok-try_from_str.field-0 ∷ []) c.new-required.ensures.items)
     ∙ ap (λ d. array (item d no_items)) c.in_ok-try_from_str.ensures) in
     let closed : view (Bool false) ≡ boolean false = search (rules, the_lemmas) in
     let first =

@@ -1,6 +1,6 @@
 -- Whether a map has a key, in the words of members.
 use Rattle.std.proofs.Common.{◌∙◌}
-use Rattle.schemars_builders.proofs.Changes.{is_there}
+use Rattle.schemars_schema.proofs.Changes.{is_there}
 use Rattle.schemars_flatten.proofs.merging.stands.Goals as goal
 
 pub returns : goal.returns

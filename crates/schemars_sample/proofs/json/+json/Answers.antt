@@ -49,7 +49,8 @@ array_of-loop-item-preserved t c =
     ap (λ vs. option_map (λ ds. vs ++ ds) rest) pushed
     ∙ (one_part before d rest
     ∙ (ap (λ o. option_map (λ ds. before ++ ds) (option_and_then (λ e. option_map (λ ds. e ∷ ds) rest) o)) same
-    ∙ (ap (λ y. option_map (λ ds. before ++ ds) (option_and_then (λ e. option_map (λ ds. e ∷ ds) rest) (sample_json (example_of y)))) c.item-item.is
+    ∙ (ap (λ y. option_map (λ ds. before ++ ds)
+    (option_and_then (λ e. option_map (λ ds. e ∷ ds) rest) (sample_json (example_of y)))) c.item-item.is
     ∙ (sym (at_drop_more (λ ys. option_map (λ ds. before ++ ds) (items_json (examples_view ys))) items i x c.loop-item-test.true)
     ∙ c.loop-item.invariant))))
 
@@ -59,7 +60,8 @@ array_of-returns t c =
     let before = map view c.loop-item.values.items in
     ap Some (seen_array c.loop-item.values ∙ ap array_of (sym (append-nil before)))
     ∙ ap (option_map array_of)
-    (sym (at_drop_all (λ ys. option_map (λ ds. before ++ ds) (items_json (examples_view ys))) items c.loop-item.item-index c.loop-item-test.false)
+    (sym (at_drop_all
+    (λ ys. option_map (λ ds. before ++ ds) (items_json (examples_view ys))) items c.loop-item.item-index c.loop-item-test.false)
     ∙ c.loop-item.invariant)
 
 pub object_of-loop-key-preserved : goal.object_of-loop-key-preserved
@@ -73,7 +75,8 @@ object_of-loop-key-preserved t c =
     let same : Some d ≡ sample_json (example_of x.1) = sym (ap (option_map view) c.in-Some.is) ∙ c.in_ok-value.ensures in
     ap (entries_json rest) (c.in_ok-put.ensures.ok ∙ ap (λ k. put k d before) c.as_str.ensures.value)
     ∙ (ap (option_and_then (λ e. entries_json rest (put (string_bytes x.0) e before))) same
-    ∙ (ap (λ y. option_and_then (λ e. entries_json rest (put (string_bytes y.0) e before)) (sample_json (example_of y.1))) c.loop-key-item.is
+    ∙ (ap (λ y. option_and_then (λ e. entries_json rest (put (string_bytes y.0) e before))
+    (sample_json (example_of y.1))) c.loop-key-item.is
     ∙ (sym (at_drop_more (λ ys. entries_json (entries_view ys) before) entries i x c.loop-key-test.true)
     ∙ c.loop-key.invariant)))
 

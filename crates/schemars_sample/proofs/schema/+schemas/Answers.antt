@@ -48,7 +48,8 @@ pub schema_of_each-returns : goal.schema_of_each-returns
 schema_of_each-returns t c =
     let items = c.args.items.now in
     let seen = map view c.loop-item.seen.items in
-    let all = sym (at_drop_all (λ ys. one_beside seen (item_schemas (examples_view ys))) items c.loop-item.item-index c.loop-item-test.false)
+    let all =
+    sym (at_drop_all (λ ys. one_beside seen (item_schemas (examples_view ys))) items c.loop-item.item-index c.loop-item-test.false)
     ∙ c.loop-item.invariant in
     subst (λ d. IfOk c.choice_of.result (λ v. view v ≡ d)) all c.choice_of.ensures
 
@@ -138,5 +139,6 @@ shared_schema-returns t c =
     let kept = option_map view c.loop-sample.shared in
     ap view c.unwrap_or.ensures
     ∙ (kept_alone c.loop-sample.shared
-    ∙ (sym (at_drop_all (λ ys. with_seen kept (value_schemas (entries_view ys))) entries c.loop-sample.sample-index c.loop-sample-test.false)
+    ∙ (sym (at_drop_all
+    (λ ys. with_seen kept (value_schemas (entries_view ys))) entries c.loop-sample.sample-index c.loop-sample-test.false)
     ∙ c.loop-sample.invariant))

@@ -109,7 +109,8 @@ add_own-returns-in_ok-add_untagged-in-Untagged-clause-added t c =
     (src.Untagged c.in-Untagged.variants)
     c.in-Untagged.is in
     c.in_ok-add_untagged-in-Untagged.ensures.added
-    ∙ (ap (λ vs. adding o (or_any_text (untagged_options part (map variant_of vs)))) c.deref-in-Untagged.ensures.value ∙ ap (adding o) (sym own))
+    ∙ (ap (λ vs. adding o (or_any_text (untagged_options part (map variant_of vs)))) c.deref-in-Untagged.ensures.value
+    ∙ ap (adding o) (sym own))
 
 pub add_own-returns-in_ok-add_literal-in-Literal-clause-added : goal.add_own-returns-in_ok-add_literal-in-Literal-clause-added
 add_own-returns-in_ok-add_literal-in-Literal-clause-added t c =

@@ -20,7 +20,8 @@ takes_all-requires t c =
     (search rules, c.requires)
 
 pub returns-in-Any : goal.returns-in-Any
-returns-in-Any t c = ap is_none (sym (of_shape c.args.types.now c.requires c.args.n c.in-Some.entry.now c.in-Some.ensures src.Any c.in-Any.is))
+returns-in-Any t c =
+    ap is_none (sym (of_shape c.args.types.now c.requires c.args.n c.in-Some.entry.now c.in-Some.ensures src.Any c.in-Any.is))
 
 pub returns-in-Newtype : goal.returns-in-Newtype
 returns-in-Newtype t c =

@@ -21,7 +21,8 @@ loop-variant-preserved c =
     let item = noted x.notes (named_template contract x.name x.payload) in
     let so_far : before ++ other_items contract (x ∷ rest) ≡ other_items contract (map variant_of variants) =
     ap (λ y. before ++ other_items contract (variant_of y ∷ rest)) c.variant-item.is
-    ∙ (sym (at_drop_more (λ ys. before ++ other_items contract (map variant_of ys)) variants i c.variant-item.result c.loop-variant-test.true)
+    ∙ (sym (at_drop_more
+    (λ ys. before ++ other_items contract (map variant_of ys)) variants i c.variant-item.result c.loop-variant-test.true)
     ∙ c.loop-variant.invariant) in
     let with_bare = λ (b : Bool). before ++ (if b then more else item ∷ more) in
     elim c.if-not-is_bare_unit.branch [

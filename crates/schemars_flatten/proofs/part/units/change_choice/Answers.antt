@@ -2,8 +2,9 @@
 use Rattle.std.proofs.Common.{codes}
 use Rattle.std.proofs.lemmas.Result.{on_ok_weaker}
 use Rattle.serde_json.specs.View.{view}
+use Rattle.schemars_schema.proofs.MapEdits.{on_some}
 use Rattle.schemars_flatten.specs.Parts.{first_as_objects}
-use Rattle.schemars_flatten.proofs.Lists.{on_some, list_changed}
+use Rattle.schemars_flatten.proofs.Lists.{list_changed}
 use Rattle.schemars_flatten.proofs.part.units.change_choice.Goals as goal
 
 pub returns-in-Some : goal.returns-in-Some

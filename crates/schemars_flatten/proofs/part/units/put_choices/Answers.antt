@@ -6,7 +6,7 @@ use Rattle.serde_json.specs.Find.{get_member}
 use Rattle.serde_json.specs.View.{view, items_view, members_view}
 use Rattle.serde_json.specs.declared.value.Value.{Array}
 use Rattle.serde_json.proofs.Views.{view-Array, view-lookup}
-use Rattle.schemars_builders.proofs.Changes.{changed_there, changed_missing}
+use Rattle.schemars_schema.proofs.Changes.{changed_there, changed_missing}
 use Rattle.schemars_flatten.specs.Parts.{with_items}
 use Rattle.schemars_flatten.proofs.part.units.put_choices.Goals as goal
 

@@ -1,6 +1,7 @@
 -- The type, without null, goes back where it stood.
 use Rattle.serde_json.specs.View.{view}
-use Rattle.schemars_transform.proofs.Names.{type_changed, on_some}
+use Rattle.schemars_schema.proofs.MapEdits.{on_some}
+use Rattle.schemars_transform.proofs.Names.{type_changed}
 use Rattle.schemars_transform.proofs.built_in.nullable.take_null_out.Goals as goal
 
 pub returns-in-Some : goal.returns-in-Some

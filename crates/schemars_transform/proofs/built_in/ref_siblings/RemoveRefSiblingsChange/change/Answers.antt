@@ -5,8 +5,7 @@ use Rattle.std.proofs.lemmas.Result.{on_ok_weaker}
 use Rattle.serde_json.specs.Data.{object, array, no_items}
 use Rattle.serde_json.specs.Find.{get}
 use Rattle.serde_json.specs.View.{view, members_view}
-use Rattle.schemars_schema.specs.Edits.{removed}
-use Rattle.schemars_builders.specs.Properties.{changed_at, with_last}
+use Rattle.schemars_schema.specs.Edits.{removed, changed_at, with_last}
 use Rattle.schemars_transform.specs.Built.{reference, reference_moved}
 use Rattle.schemars_transform.proofs.built_in.ref_siblings.RemoveRefSiblingsChange.change.Goals as goal
 
@@ -16,7 +15,7 @@ returns c =
     let key = codes "allOf" in
     let target = view c.in-Some.target in
     let old = members_view c.in_ok-members.members.now.entries in
-    on_ok_weaker c.join_all_of.result
+    on_ok_weaker c.append_at.result
     (λ h. ap object h
     ∙ (ap (λ d. object (changed_at key (with_last d) (array no_items) old)) c.in_ok-moved.ensures
     ∙ (ap (λ ms. object (changed_at key (with_last (reference target)) (array no_items) ms)) c.in_ok-members.ensures.value
@@ -24,4 +23,4 @@ returns c =
     ∙ (ap (λ o. reference_moved o (removed (codes "$ref") s)) c.in-Some.ensures.value
     ∙ ap (λ b. if b then s else reference_moved (get (codes "$ref") s) (removed (codes "$ref") s))
     (sym c.if-has_one_member.false ∙ c.has_one_member.ensures))))))
-    c.join_all_of.ensures
+    c.append_at.ensures

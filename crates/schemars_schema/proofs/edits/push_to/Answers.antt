@@ -4,10 +4,10 @@ use Rattle.std.proofs.lemmas.Result.{on_ok_weaker}
 use Rattle.serde_json.specs.Data.{array}
 use Rattle.serde_json.specs.View.{view, items_view}
 use Rattle.serde_json.proofs.Views.{view-Array}
-use Rattle.schemars_builders.specs.Properties.{with_last}
-use Rattle.schemars_builders.proofs.Changes.{array-as_array}
-use Rattle.schemars_builders.proofs.Nulls.{items_view-push}
-use Rattle.schemars_transform.proofs.built_in.ref_siblings.push_to.Goals as goal
+use Rattle.schemars_schema.specs.Edits.{with_last}
+use Rattle.schemars_schema.proofs.Changes.{array-as_array}
+use Rattle.schemars_schema.proofs.Lists.{items_view-push}
+use Rattle.schemars_schema.proofs.edits.push_to.Goals as goal
 
 pub returns-in-Some : goal.returns-in-Some
 returns-in-Some c =

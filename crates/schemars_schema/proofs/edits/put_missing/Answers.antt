@@ -2,8 +2,8 @@
 use Rattle.std.proofs.Common.{◌≡◌, true, false, is_some, sym, ◌∙◌}
 use Rattle.serde_json.specs.Find.{get_member}
 use Rattle.serde_json.specs.View.{members_view}
-use Rattle.schemars_builders.proofs.Changes.{is_there}
-use Rattle.schemars_builders.proofs.properties.put_missing.Goals as goal
+use Rattle.schemars_schema.proofs.Changes.{is_there}
+use Rattle.schemars_schema.proofs.edits.put_missing.Goals as goal
 
 pub returns-then-contains_key : goal.returns-then-contains_key
 returns-then-contains_key c =

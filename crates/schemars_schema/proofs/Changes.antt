@@ -8,9 +8,8 @@ use Rattle.serde_json.specs.Find.{get_member, as_array}
 use Rattle.serde_json.specs.View.{view, members_view}
 use Rattle.serde_json.specs.declared.value.Value.{Value}
 use Rattle.serde_json.proofs.Views.{Entry, view-lookup}
-use Rattle.schemars_schema.specs.Edits.{replaced}
+use Rattle.schemars_schema.specs.Edits.{replaced, changed_at}
 use Rattle.schemars_schema.proofs.MapEdits.{members_view-set_value}
-use Rattle.schemars_builders.specs.Properties.{changed_at}
 
 pub changed_there : (k : List ℕ) (es : List Entry) (old new : Value) (change : Data → Data) (d : Data)
     → Some (view old) ≡ get_member k (members_view es) → view new ≡ change (view old)
