@@ -3,7 +3,8 @@ ghost use Rattle.std.specs.Prelude.{◌≡◌, OnOk, map};
 ghost use Rattle.serde_json.specs.Data.{array, no_items};
 ghost use Rattle.serde_json.specs.Find.{as_str};
 ghost use Rattle.serde_json.specs.View.{view, items_view, members_view};
-ghost use Rattle.schemars_schema.specs.Edits.{is_text, holds_text, has_one_member, with_last, changed_at};
+ghost use Rattle.schemars_schema.specs.Edits.{is_text, holds_text, has_one_member, with_last};
+ghost use Rattle.schemars_schema.specs.Edits.{changed_at};
 ghost use Rattle.schemars_schema.specs.Edits.{put_missing};
 ghost use Rattle.schemars_schema.specs.OrderedText.{is_listed};
 
@@ -65,8 +66,8 @@ pub fn push_to(list: &mut Value, value: Value) -> Result<(), AllocError>
     }
 }
 
-/// Appends a value to the list at a key, which is made where it is missing. What is there and is not
-/// a list stays as it is.
+/// Appends a value to the list at a key, which is made where it is missing. What is there and is
+/// not a list stays as it is.
 pub fn append_at(
     alloc: Global,
     members: &mut Map<String, Value>,
