@@ -23,12 +23,10 @@ use Rattle.schemars_build.specs.Left.{width, places, left_of_filled, left_of_ask
 use Rattle.schemars_build.specs.Left.{asks_at, sum_below, breadth, rank, weight, unanswered, pending_around, left_waiting, left_going}
 use Rattle.schemars_build.specs.Left.{left_of_reply, IsWithin}
 use Rattle.schemars_build.specs.Making.{Wanted, IsBegun, IsTemplate, IsOpened}
-use Rattle.schemars_build.specs.Making.{IsInMaking, HasAnswered, IsRepliedBy}
+use Rattle.schemars_build.specs.Making.{IsInMaking, HasAnswered, IsRepliedBy, Reply, answer, document}
 use Rattle.schemars_build.specs.declared.build.Document.{Document}
 use Rattle.schemars_build.specs.declared.build.Purpose.{Purpose}
 use Rattle.schemars_build.specs.declared.build.Purpose.TheVariants as purpose
-use Rattle.schemars_build.specs.declared.build.Reply.{Reply}
-use Rattle.schemars_build.specs.declared.build.Reply.TheVariants as reply
 use Rattle.schemars_build.proofs.Asked.{asks_in_order}
 use Rattle.schemars_build.proofs.Placing.{left_pending}
 use Rattle.schemars_build.proofs.Members.{get_member-replaced, get_member-replaced_other}
@@ -152,8 +150,8 @@ module _ (p : Plan) where
 
   pub replied_fewer : (outside : Bool) (old : Work) (want : Wanted) (now : Work) (r : Reply) → IsRepliedBy p outside old want now r
       → missing p.rows p.contract now ≤ missing p.rows p.contract old
-  replied_fewer outside old want now (reply.Answer s) h = missing-wider p.rows p.contract old now (step_wider p old now h.0)
-  replied_fewer outside old want now (reply.Document d) h = making_fewer outside old want now d h
+  replied_fewer outside old want now (answer s) h = missing-wider p.rows p.contract old now (step_wider p old now h.0)
+  replied_fewer outside old want now (document d) h = making_fewer outside old want now d h
 
   -- ---- what a document asks lies lower
 
@@ -179,13 +177,12 @@ module _ (p : Plan) where
   -- ---- replies
 
   pub within_more : (k l : ℕ) (w : Work) (r : Reply) → k ≤ l → IsWithin p k w r → IsWithin p l w r
-  within_more k l w (reply.Answer s) less is = is
-  within_more k l w (reply.Document d) less is = omega (arith, less, is)
+  within_more k l w (answer s) less is = is
+  within_more k l w (document d) less is = omega (arith, less, is)
 
-  pub opened_within : (inside : Bool) (n : ℕ) (q : Purpose) (r : Reply) (new : Work) (k : ℕ) → IsOpened p inside n q r
-      → rank p new new.pending n q ≤ k → IsWithin p k new r
-  opened_within inside n q (reply.Answer s) new k is low = absurd is
-  opened_within inside n q (reply.Document d) new k is low =
+  pub opened_within : (inside : Bool) (n : ℕ) (q : Purpose) (d : Document) (new : Work) (k : ℕ) → IsOpened p inside n q d
+      → rank p new new.pending n q ≤ k → IsWithin p k new (document d)
+  opened_within inside n q d new k is low =
       let same : rank p new new.pending d.row d.purpose ≡ rank p new new.pending n q =
       ap (λ m. rank p new new.pending m d.purpose) is.0 ∙ ap (λ x. rank p new new.pending n x) is.1 in
       omega (arith, same, low)
@@ -229,16 +226,16 @@ module _ (p : Plan) where
   pub asking_less : (outside : Bool) (want : Wanted) (now new : Work) (d : Document) (ds : List Document) (r : Reply) (k : ℕ)
       → IsRepliedBy p outside now want new r → IsWithin p k new r → k < rank p now now.pending d.row d.purpose
       → left_of_reply p new r (d ∷ ds) < left_going p now d ds
-  asking_less outside want now new d ds (reply.Answer s) k is within low =
-      let fewer = replied_fewer outside now want new (reply.Answer s) is in
+  asking_less outside want now new d ds (answer s) k is within low =
+      let fewer = replied_fewer outside now want new (answer s) is in
       let same : new.pending ≡ now.pending = is.0.still_pending in
       let all : left_waiting p new new.pending (d ∷ ds) ≡ left_waiting p new now.pending (d ∷ ds) =
       ap (λ ps. left_waiting p new ps (d ∷ ds)) same in
       let e = waiting_fewer new now fewer now.pending (d ∷ ds) in
       let f = heavy now now.pending d in
       omega (arith, all, e, f)
-  asking_less outside want now new d ds (reply.Document x) k is within low =
-      let fewer = replied_fewer outside now want new (reply.Document x) is in
+  asking_less outside want now new d ds (document x) k is within low =
+      let fewer = replied_fewer outside now want new (document x) is in
       let same : pending_around x.purpose new.pending ≡ now.pending = making_around outside now want new x is in
       let all : left_waiting p new (pending_around x.purpose new.pending) (d ∷ ds) ≡ left_waiting p new now.pending (d ∷ ds) =
       ap (λ ps. left_waiting p new ps (d ∷ ds)) same in
@@ -251,7 +248,7 @@ module _ (p : Plan) where
   -- d is done, and is the answer
   pub closing_answered : (outside : Bool) (old : Work) (want : Wanted) (now new : Work) (d : Document) (ds : List Document) (s : Data)
       → IsInMaking p outside old want now d → missing p.rows p.contract new ≤ missing p.rows p.contract now
-      → IsRepliedBy p outside old want new (reply.Answer s) → left_of_reply p new (reply.Answer s) ds < left_going p now d ds
+      → IsRepliedBy p outside old want new (answer s) → left_of_reply p new (answer s) ds < left_going p now d ds
   closing_answered outside old want now new d ds s h fewer is =
       let same : new.pending ≡ pending_around d.purpose now.pending = is.0.still_pending ∙ sym (making_around outside old want now d h) in
       let all : left_waiting p new new.pending ds ≡ left_waiting p new (pending_around d.purpose now.pending) ds =
@@ -265,9 +262,9 @@ module _ (p : Plan) where
       → IsInMaking p outside old want now d → missing p.rows p.contract new ≤ missing p.rows p.contract now
       → IsRepliedBy p outside old want new r → IsWithin p k new r → k < rank p now now.pending d.row d.purpose
       → left_of_reply p new r ds < left_going p now d ds
-  closing_less outside old want now new d ds (reply.Answer s) k h fewer is within low =
+  closing_less outside old want now new d ds (answer s) k h fewer is within low =
       closing_answered outside old want now new d ds s h fewer is
-  closing_less outside old want now new d ds (reply.Document x) k h fewer is within low =
+  closing_less outside old want now new d ds (document x) k h fewer is within low =
       let same : pending_around x.purpose new.pending ≡ pending_around d.purpose now.pending =
       making_around outside old want new x is ∙ sym (making_around outside old want now d h) in
       let all : left_waiting p new (pending_around x.purpose new.pending) ds ≡ left_waiting p new (pending_around d.purpose now.pending) ds =

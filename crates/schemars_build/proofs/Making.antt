@@ -1,10 +1,10 @@
 -- What documents that are being made come to.
 use Rattle.std.proofs.Common.{◌≡◌, ◌≢◌, inl, inr, ◌<◌, ◌≤◌, ◌+◌, ℕ, List, [], ◌∷◌, ◌++◌, length, map, take, Bool, true, false, not}
-use Rattle.std.proofs.Common.{Some, None, refl, ap, sym, ◌∙◌, subst, arith, string_bytes, All}
+use Rattle.std.proofs.Common.{Option, Some, None, refl, ap, sym, ◌∙◌, subst, arith, string_bytes, All}
 use Rattle.std.specs.Prelude.{◌&&◌, ◌||◌, if◌then◌else◌, String}
 use Rattle.std.specs.declared.alloc.Global.{Global}
 use Rattle.std.specs.Str.{IsUtf8}
-use Rattle.std.proofs.Common.{get_or}
+use Rattle.std.proofs.Common.{get_or, reverse, slice_index_or, ◌-◌}
 use Rattle.std.proofs.lemmas.List.{take_all, length-append, length-map, get_or-map}
 use Rattle.schemars_documents.specs.declared.template.Ask as src-ask
 use Rattle.schemars_build.specs.Missing.{IsAskedIn, row_asked}
@@ -33,14 +33,14 @@ use Rattle.schemars_build.proofs.Given.{gives-keeps}
 use Rattle.schemars_build.specs.Reached.{AreReached}
 use Rattle.schemars_build.specs.Parts.{IsOwn, IsMade, IsPart, IsFilledIn, IsAnswer, AreAnswers}
 use Rattle.schemars_build.specs.Making.{Wanted, own, defined, flattened, asked, wanted_for, IsReply, IsBegun, IsTemplate, IsOpened, Leads}
-use Rattle.schemars_build.specs.Making.{IsInMaking, HasAnswered, IsNext, AreWaiting, IsRepliedBy, GoesOn, IsTaken}
-use Rattle.schemars_build.specs.Left.{left_going, left_of_reply}
-use Rattle.schemars_build.proofs.Ending.{answered_same}
+use Rattle.schemars_build.specs.Making.{IsInMaking, HasAnswered, IsNext, AreWaiting, Reply, answer, document, IsRepliedBy, IsGiven}
+use Rattle.schemars_build.specs.Making.{HasReplied, GoesOn, IsTaken, AreMaking, HasFirst}
+use Rattle.schemars_build.specs.Left.{rank, left_waiting, left_of_reply, left_making, left_of_turn, IsWithin, IsLess}
+use Rattle.schemars_build.proofs.Ending.{answered_same, asking_less}
+use Rattle.schemars_build.proofs.Innermost.{last_got}
 use Rattle.schemars_build.specs.declared.build.Document.{Document}
 use Rattle.schemars_build.specs.declared.build.Purpose.{Purpose}
 use Rattle.schemars_build.specs.declared.build.Purpose.TheVariants as purpose
-use Rattle.schemars_build.specs.declared.build.Reply.{Reply}
-use Rattle.schemars_build.specs.declared.build.Reply.TheVariants as reply
 use Rattle.schemars_build.proofs.Building.{answers_more, own_of_filled, in_place, part_answer, content_answer, content_referred, no_answers}
 use Rattle.schemars_build.proofs.Filling.{filled_by_answers, filled_in, members_answer}
 use Rattle.schemars_build.proofs.Placing.{left_pending, pending_grows}
@@ -63,9 +63,9 @@ leads_trans plan inside a p b q c r h g = record {
 
 pub replied_from : (plan : Plan) (inside : Bool) (old : Work) (want : Wanted) (mid : Work) (got : Wanted) (now : Work) (r : Reply)
     → Leads plan inside old want mid got → IsRepliedBy plan inside mid got now r → IsRepliedBy plan inside old want now r
-replied_from plan inside old want mid got now (reply.Answer s) h is =
+replied_from plan inside old want mid got now (answer s) h is =
     (step_trans plan old mid now h.step is.0, is.1 ∙ h.undone, h.gives now s is.0 is.2)
-replied_from plan inside old want mid got now (reply.Document d) h is = record {
+replied_from plan inside old want mid got now (document d) h is = record {
   template = is.template;
   mid = is.mid;
   start = is.start;
@@ -144,11 +144,10 @@ fresh plan outside old want mid start d template none leads begun =
       answers = subst P (sym none) (no_answers plan d.in_definition start);
     }
 
-pub opened_reply : (plan : Plan) (outside inside : Bool) (old : Work) (want : Wanted) (mid start : Work) (n : ℕ) (p : Purpose) (r : Reply)
-    → IsOpened plan inside n p r → Leads plan outside old want mid (wanted_for n p) → IsBegun plan outside mid start n inside p
-    → IsRepliedBy plan outside old want start r
-opened_reply plan outside inside old want mid start n p (reply.Answer s) is leads begun = absurd is
-opened_reply plan outside inside old want mid start n p (reply.Document d) is leads begun =
+pub opened_reply : (plan : Plan) (outside inside : Bool) (old : Work) (want : Wanted) (mid start : Work) (n : ℕ) (p : Purpose) (d : Document)
+    → IsOpened plan inside n p d → Leads plan outside old want mid (wanted_for n p) → IsBegun plan outside mid start n inside p
+    → IsInMaking plan outside old want start d
+opened_reply plan outside inside old want mid start n p d is leads begun =
     let L : ℕ → Purpose → Type 0 = λ m q. Leads plan outside old want mid (wanted_for m q) in
     let B : ℕ → Bool → Purpose → Type 0 = λ m b q. IsBegun plan outside mid start m b q in
     let leads_here : L d.row d.purpose = subst (λ m. L m d.purpose) (sym is.0) (subst (λ q. L n q) (sym is.1) leads) in
@@ -160,7 +159,7 @@ opened_reply plan outside inside old want mid start n p (reply.Document d) is le
 
 pub answered_making : (plan : Plan) (around : Bool) (before : Work) (more : Wanted) (old now : Work) (outside : Bool) (want : Wanted)
     (d e : Document) (s : Data) → IsInMaking plan around before more old d → IsNext d outside want
-    → IsRepliedBy plan outside old want now (reply.Answer s) → HasAnswered d s e → IsInMaking plan around before more now e
+    → IsRepliedBy plan outside old want now (answer s) → HasAnswered d s e → IsInMaking plan around before more now e
 answered_making plan around before more old now outside want d e s h next is has = record {
   template = record {
     known = subst (λ m. m < length plan.rows) (sym has.row) h.template.known;
@@ -304,38 +303,38 @@ module _ (plan : Plan) (outside : Bool) (old : Work) (want : Wanted) (now : Work
 
   pub closes_own : (entered : Bool) (new : Work) → d.purpose ≡ purpose.Own entered
       → new ≡ record now { pending = if entered then without_last now.pending else now.pending }
-      → IsRepliedBy plan outside old want new (reply.Answer s)
+      → IsRepliedBy plan outside old want new (answer s)
   closes_own entered new is left_is =
       let b = begun_for (purpose.Own entered) is in
       let after : Work = record now { pending = h.mid.pending } in
       let same : new ≡ after = left plan outside h.mid h.start now d.row entered b.1 b.2 h.step new left_is in
       let here : IsFilledIn plan outside h.start now d.row s = subst (λ x. IsFilledIn plan x h.start now d.row s) b.0 filled in
-      let made : IsRepliedBy plan outside h.mid (own d.row) after (reply.Answer s) = (
+      let made : IsRepliedBy plan outside h.mid (own d.row) after (answer s) = (
         left_step plan outside h.mid h.start now d.row entered b.1 b.2 h.step,
         un,
         left_own plan outside h.mid h.start now d.row entered b.1 b.2 h.step s here,
       ) in
-      subst (λ w. IsRepliedBy plan outside old want w (reply.Answer s)) (sym same)
-      (replied_from plan outside old want h.mid (own d.row) after (reply.Answer s) (leads_for (purpose.Own entered) is) made)
+      subst (λ w. IsRepliedBy plan outside old want w (answer s)) (sym same)
+      (replied_from plan outside old want h.mid (own d.row) after (answer s) (leads_for (purpose.Own entered) is) made)
 
   pub closes_members : (optional : Bool) (t : Data) → d.purpose ≡ purpose.Members optional → t ≡ flattened_part optional s
-      → IsRepliedBy plan outside old want now (reply.Answer t)
+      → IsRepliedBy plan outside old want now (answer t)
   closes_members optional t is same =
       let b = begun_for (purpose.Members optional) is in
       let here : IsFilledIn plan outside h.mid now d.row s = subst (λ w. IsFilledIn plan outside w now d.row s) b.1
       (subst (λ x. IsFilledIn plan x h.start now d.row s) b.0 filled) in
       let step : Step plan h.mid now = subst (λ w. Step plan w now) b.1 h.step in
-      replied_from plan outside old want h.mid (flattened d.row optional) now (reply.Answer t) (leads_for (purpose.Members optional) is)
+      replied_from plan outside old want h.mid (flattened d.row optional) now (answer t) (leads_for (purpose.Members optional) is)
       (step, un, (s, here, same))
 
   pub closes_content : (b : Bool) (t : Data) → d.purpose ≡ purpose.Content → b ≡ (is_inline_at plan.rows d.row || plan.inlines)
-      → stands_in_place b s ≡ true → t ≡ opened_inside s → IsRepliedBy plan outside old want now (reply.Answer t)
+      → stands_in_place b s ≡ true → t ≡ opened_inside s → IsRepliedBy plan outside old want now (answer t)
   closes_content b t is place stands same =
       let begun = begun_for purpose.Content is in
       let here : IsFilledIn plan outside h.mid now d.row s = subst (λ w. IsFilledIn plan outside w now d.row s) begun.1
       (subst (λ x. IsFilledIn plan x h.start now d.row s) begun.0 filled) in
       let step : Step plan h.mid now = subst (λ w. Step plan w now) begun.1 h.step in
-      replied_from plan outside old want h.mid (asked (content d.row)) now (reply.Answer t) (leads_for purpose.Content is)
+      replied_from plan outside old want h.mid (asked (content d.row)) now (answer t) (leads_for purpose.Content is)
       (step, un, content_answer plan outside h.mid now d.row b s t place here stands same)
 
   -- the row is asked once more, as a part
@@ -362,7 +361,7 @@ module _ (plan : Plan) (outside : Bool) (old : Work) (want : Wanted) (now : Work
       → IsUtf8 (string_bytes name)
       → mid ≡ record now { pending = if entered then without_last now.pending else now.pending }
       → new ≡ finished_with mid (string_bytes name) s → t ≡ reference (reference_to plan.path (string_bytes name))
-      → IsRepliedBy plan outside old want new (reply.Answer t)
+      → IsRepliedBy plan outside old want new (answer t)
   closes_definition name entered mid new t is text left_is finished same =
       let b = begun_for (purpose.Definition name entered) is in
       let k = string_bytes name in
@@ -373,13 +372,13 @@ module _ (plan : Plan) (outside : Bool) (old : Work) (want : Wanted) (now : Work
       let step : Step plan start after = left_step plan true start h.start now d.row entered b.1 b.4 h.step in
       let own_is : IsOwn plan true start after d.row s = left_own plan true start h.start now d.row entered b.1 b.4 h.step s here in
       let undone_after : undone after ≡ undone start = un ∙ sym (undone-begun h.mid k b.2) in
-      let made : IsRepliedBy plan outside h.mid (defined k) (finished_with after k s) (reply.Answer t) = (
+      let made : IsRepliedBy plan outside h.mid (defined k) (finished_with after k s) (answer t) = (
         defined_step plan h.mid d.row k b.2 text b.3 after s step own_is,
         defined_undone plan h.mid d.row k b.2 text b.3 after s step own_is undone_after,
         (defined_made plan h.mid d.row k b.2 text b.3 after s step own_is, same),
       ) in
-      subst (λ w. IsRepliedBy plan outside old want w (reply.Answer t)) (sym (finished ∙ ap (λ w. finished_with w k s) back))
-      (replied_from plan outside old want h.mid (defined k) (finished_with after k s) (reply.Answer t)
+      subst (λ w. IsRepliedBy plan outside old want w (answer t)) (sym (finished ∙ ap (λ w. finished_with w k s) back))
+      (replied_from plan outside old want h.mid (defined k) (finished_with after k s) (answer t)
       (leads_for (purpose.Definition name entered) is) made)
 
 -- ---- what waits
@@ -392,50 +391,202 @@ waiting_undone plan first start all outside old want (d ∷ ds) h =
 
 replied_undone : (plan : Plan) (outside : Bool) (old : Work) (want : Wanted) (now : Work) (r : Reply)
     → IsRepliedBy plan outside old want now r → undone now ≡ undone old
-replied_undone plan outside old want now (reply.Answer s) h = h.1
-replied_undone plan outside old want now (reply.Document d) h = making_undone plan outside old want now d h
+replied_undone plan outside old want now (answer s) h = h.1
+replied_undone plan outside old want now (document d) h = making_undone plan outside old want now d h
 
-pub goes_on_undone : (plan : Plan) (first : Bool) (start : Work) (all : Wanted) (now : Work) (ds : List Document) (r : Reply)
-    → GoesOn plan first start all now ds r → undone now ≡ undone start
-goes_on_undone plan first start all now ds r h = replied_undone plan h.outside h.old h.want now r h.replied
-    ∙ waiting_undone plan first start all h.outside h.old h.want ds h.waiting
+pub goes_on_undone : (plan : Plan) (first : Bool) (start : Work) (all : Wanted) (now : Work) (es : List Document) (o : Option Data)
+    → GoesOn plan first start all now es o → undone now ≡ undone start
+goes_on_undone plan first start all now es o h = replied_undone plan h.outside h.old h.want now h.reply h.replied
+    ∙ waiting_undone plan first start all h.outside h.old h.want h.around h.waiting
 
--- where nothing waits
-goes_home : (plan : Plan) (first : Bool) (start : Work) (all : Wanted) (now : Work) (s : Data)
-    → GoesOn plan first start all now [] (reply.Answer s) → Step plan start now × IsReply plan first start now all s
-goes_home plan first start all now s h =
-    let P : Bool → Work → Wanted → Type 0 = λ b w x. IsRepliedBy plan b w x now (reply.Answer s) in
-    let is : P first start all = subst (λ x. P first start x) h.waiting.2 (subst (λ w. P first w h.want) h.waiting.1
-    (subst (λ b. P b h.old h.want) h.waiting.0 h.replied)) in
-    (is.0, is.2)
+-- ---- an answer is taken
 
--- what is taken
-abbrev pub Goes : Plan → Bool → Work → Wanted → Work → List Document → Reply → Type 0
-Goes plan first start all now ds (reply.Answer s) = Step plan start now × IsReply plan first start now all s
-Goes plan first start all now ds (reply.Document d) = (around : Bool) × (before : Work) × (more : Wanted)
-    × IsInMaking plan around before more now d × AreWaiting plan first start all around before more ds
+same_answer : (s t : Data) → Some s ≡ Some t → s ≡ t
+same_answer s t e = cc
 
-pub taken_goes : (plan : Plan) (first : Bool) (start : Work) (all : Wanted) (now : Work) (ds : List Document) (q : Reply)
-    (es : List Document) (r : Reply) → IsTaken ds q es r → GoesOn plan first start all now ds q → Goes plan first start all now es r
-taken_goes plan first start all now ds (reply.Document d) es r is h =
-    let P : List Document → Reply → Type 0 = λ xs x. Goes plan first start all now xs x in
-    subst (λ x. P es x) (sym is.0) (subst (λ xs. P xs (reply.Document d)) (sym is.1) (h.outside, h.old, h.want, h.replied, h.waiting))
-taken_goes plan first start all now [] (reply.Answer s) es r is h =
-    let P : List Document → Reply → Type 0 = λ xs x. Goes plan first start all now xs x in
-    subst (λ x. P es x) (sym is.0) (goes_home plan first start all now s h)
-taken_goes plan first start all now (d ∷ ds) (reply.Answer s) es r is h =
-    let P : List Document → Reply → Type 0 = λ xs x. Goes plan first start all now xs x in
-    let at = h.waiting in
-    let made = answered_making plan at.0 at.1 at.2 h.old now h.outside h.want d is.0 s at.3 at.4 h.replied is.3 in
-    subst (λ x. P es x) (sym is.1) (subst (λ xs. P xs (reply.Document is.0)) (sym is.2) (at.0, at.1, at.2, made, at.5))
+module _ (plan : Plan) (first : Bool) (start : Work) (all : Wanted) (now : Work) where
+  home : (outside : Bool) (old : Work) (want : Wanted) (ds : List Document) (r : Reply) (t : Data) → IsGiven r ds [] (Some t)
+      → AreWaiting plan first start all outside old want ds → IsRepliedBy plan outside old want now r
+      → Step plan start now × IsReply plan first start now all t
+  home outside old want ds (answer u) t given waiting replied =
+      let same : t ≡ u = same_answer t u given.0 in
+      let none : AreWaiting plan first start all outside old want [] =
+      subst (λ xs. AreWaiting plan first start all outside old want xs) (sym given.1) waiting in
+      let P : Bool → Work → Wanted → Type 0 = λ b w x. IsRepliedBy plan b w x now (answer t) in
+      let here : P outside old want = subst (λ v. IsRepliedBy plan outside old want now (answer v)) (sym same) replied in
+      let is : P first start all = subst (λ x. P first start x) none.2 (subst (λ w. P first w want) none.1
+      (subst (λ b. P b old want) none.0 here)) in
+      (is.0, is.2)
+  home outside old want ds (document d) t given waiting replied = absurd (is_none given.0)
+    where
+      is_none : Some t ≡ None → ⊥
+      is_none e = cc
 
--- and has as much to go
-pub taken_left : (plan : Plan) (first : Bool) (start : Work) (all : Wanted) (now : Work) (ds : List Document) (q : Reply)
-    (es : List Document) (d : Document) → IsTaken ds q es (reply.Document d) → GoesOn plan first start all now ds q
-    → left_going plan now d es ≡ left_of_reply plan now q ds
-taken_left plan first start all now ds (reply.Document x) es d is h =
-    ap (λ xs. left_of_reply plan now (reply.Document d) xs) is.1 ∙ ap (λ y. left_of_reply plan now y ds) is.0
-taken_left plan first start all now [] (reply.Answer s) es d is h = cc
-taken_left plan first start all now (x ∷ ds) (reply.Answer s) es d is h =
-    ap (λ xs. left_of_reply plan now (reply.Document d) xs) is.2
-    ∙ (ap (λ y. left_of_reply plan now y ds) is.1 ∙ answered_same plan now x is.0 s ds h.waiting.4.less is.3)
+  -- where nothing waits, the answer is what was wanted first
+  pub taken_home : (es : List Document) (o : Option Data) (fs : List Document) (s : Data) → IsTaken es o fs (Some s)
+      → GoesOn plan first start all now es o → Step plan start now × IsReply plan first start now all s
+  taken_home es None fs s is h = absurd (not_none is.0)
+    where
+      not_none : Some s ≡ None → ⊥
+      not_none e = cc
+  taken_home [] (Some t) fs s is h =
+      subst (λ v. Step plan start now × IsReply plan first start now all v) (sym (same_answer s t is))
+      (home h.outside h.old h.want h.around h.reply t h.given h.waiting h.replied)
+  taken_home (d ∷ ds) (Some t) fs s is h = absurd (not_none is.0)
+    where
+      not_none : Some s ≡ None → ⊥
+      not_none e = cc
+
+  going : (outside : Bool) (old : Work) (want : Wanted) (around es : List Document) (r : Reply) → IsGiven r around es None
+      → AreWaiting plan first start all outside old want around → IsRepliedBy plan outside old want now r
+      → AreMaking plan first start all now es
+  going outside old want around es (answer s) given waiting replied = absurd (not_none given.0)
+    where
+      not_none : None ≡ Some s → ⊥
+      not_none e = cc
+  going outside old want around es (document d) given waiting replied = record {
+    outside = outside;
+    old = old;
+    want = want;
+    inner = d;
+    around = around;
+    are = given.1;
+    making = replied;
+    waiting = waiting;
+  }
+
+  -- the first document waits for an answer that is at hand
+  waits : (outside : Bool) (old : Work) (want : Wanted) (around es : List Document) (r : Reply) (t : Data) → IsGiven r around es (Some t)
+      → AreWaiting plan first start all outside old want around → IsRepliedBy plan outside old want now r
+      → AreWaiting plan first start all outside old want es × IsRepliedBy plan outside old want now (answer t)
+  waits outside old want around es (answer u) t given waiting replied = (
+    subst (λ xs. AreWaiting plan first start all outside old want xs) (sym given.1) waiting,
+    subst (λ v. IsRepliedBy plan outside old want now (answer v)) (sym (same_answer t u given.0)) replied,
+  )
+  waits outside old want around es (document d) t given waiting replied = absurd (not_none given.0)
+    where
+      not_none : Some t ≡ None → ⊥
+      not_none e = cc
+
+  -- the document that had waited goes on, or the one that was begun
+  pub taken_goes : (es : List Document) (o : Option Data) (fs : List Document) → IsTaken es o fs None
+      → GoesOn plan first start all now es o → AreMaking plan first start all now fs
+  taken_goes es None fs is h = subst (λ xs. AreMaking plan first start all now xs) (sym is.1)
+      (going h.outside h.old h.want h.around es h.reply h.given h.waiting h.replied)
+  taken_goes [] (Some t) fs is h = absurd (not_none is)
+    where
+      not_none : None ≡ Some t → ⊥
+      not_none e = cc
+  taken_goes (d ∷ ds) (Some t) fs is h =
+      let both = waits h.outside h.old h.want h.around (d ∷ ds) h.reply t h.given h.waiting h.replied in
+      let at = both.0 in
+      record {
+        outside = at.0;
+        old = at.1;
+        want = at.2;
+        inner = is.1;
+        around = ds;
+        are = is.2;
+        making = answered_making plan at.0 at.1 at.2 h.old now h.outside h.want d is.1 t at.3 at.4 both.1 is.3;
+        waiting = at.5;
+      }
+
+  -- and has as much to go
+  pub taken_left : (es : List Document) (o : Option Data) (fs : List Document) → IsTaken es o fs None
+      → GoesOn plan first start all now es o → left_making plan now fs ≡ left_of_turn plan now es o
+  taken_left es None fs is h = ap (left_making plan now) is.1
+  taken_left [] (Some t) fs is h = absurd (not_none is)
+    where
+      not_none : None ≡ Some t → ⊥
+      not_none e = cc
+  taken_left (d ∷ ds) (Some t) fs is h =
+      let both = waits h.outside h.old h.want h.around (d ∷ ds) h.reply t h.given h.waiting h.replied in
+      ap (left_making plan now) is.2 ∙ answered_same plan now d is.1 t ds both.0.4.less is.3
+
+pub making_first : (plan : Plan) (first : Bool) (start : Work) (all : Wanted) (now : Work) (es : List Document)
+    → AreMaking plan first start all now es → HasFirst (IsTemplate plan) es
+making_first plan first start all now es h = subst (λ xs. HasFirst (IsTemplate plan) xs) (sym h.are) h.making.template
+
+-- ---- a call has replied
+
+pub turn_left : (p : Plan) (w : Work) (r : Reply) (ds es : List Document) (o : Option Data) → IsGiven r ds es o
+    → left_of_turn p w es o ≡ left_of_reply p w r ds
+turn_left p w (answer s) ds es o given = ap (λ x. left_of_turn p w es x) given.0 ∙ ap (left_waiting p w w.pending) given.1
+turn_left p w (document d) ds es o given = ap (λ x. left_of_turn p w es x) given.0 ∙ ap (left_making p w) given.1
+
+-- what leads to what a call has replied to
+pub replied_through : (plan : Plan) (inside : Bool) (old : Work) (want : Wanted) (mid : Work) (got : Wanted) (ds : List Document)
+    (L M : Reply → Type 0) (now : Work) (es : List Document) (o : Option Data) → Leads plan inside old want mid got
+    → ((r : Reply) → L r → M r) → HasReplied plan inside mid got ds L now es o → HasReplied plan inside old want ds M now es o
+replied_through plan inside old want mid got ds L M now es o leads like h = record {
+  reply = h.reply;
+  given = h.given;
+  replied = replied_from plan inside old want mid got now h.reply leads h.replied;
+  is_like = like h.reply h.is_like;
+}
+
+-- ---- one turn
+
+-- the last of the list
+pub last_is_first : (P : Document → Type 0) (xs zs : List Document) (x : Document) (n : ℕ) → n ≡ length xs → reverse xs ≡ zs
+    → x ≡ slice_index_or xs (n - 1) x → HasFirst P zs → P x
+last_is_first P xs [] x n long is at has = absurd has
+last_is_first P xs (d ∷ ds) x n long is at has = subst P (sym (at ∙ last_got xs ds d x n long is)) has
+
+first_same : (x y : Document) (xs ys : List Document) → x ∷ xs ≡ y ∷ ys → (x ≡ y) × (xs ≡ ys)
+first_same x y xs ys e = (cc, cc)
+
+module _ (plan : Plan) (first : Bool) (start : Work) (all : Wanted) (now new : Work) (es fs : List Document) (o : Option Data)
+    (at : AreMaking plan first start all now es) where
+  -- the first document asks
+  pub asking_goes_on : (inside : Bool) (a : Ask) (L : Reply → Type 0) → IsNext at.inner inside (asked a)
+      → HasReplied plan inside now (asked a) es L new fs o → GoesOn plan first start all new fs o
+  asking_goes_on inside a L next h =
+      let P : List Document → Type 0 = λ xs. AreWaiting plan first start all inside now (asked a) xs in
+      record {
+        outside = inside;
+        old = now;
+        want = asked a;
+        around = es;
+        reply = h.reply;
+        given = h.given;
+        waiting = subst P (sym at.are) (at.outside, at.old, at.want, at.making, next, at.waiting);
+        replied = h.replied;
+      }
+
+  pub asking_goes_less : (inside : Bool) (a : Ask) (k : ℕ) → k < rank plan now now.pending at.inner.row at.inner.purpose
+      → HasReplied plan inside now (asked a) es (IsWithin plan k new) new fs o → left_of_turn plan new fs o < left_making plan now es
+  asking_goes_less inside a k low h =
+      let P : List Document → Type 0 = λ xs. left_of_reply plan new h.reply xs < left_making plan now xs in
+      let less : P es = subst P (sym at.are)
+      (asking_less plan inside (asked a) now new at.inner at.around h.reply k h.replied h.is_like low) in
+      let same = turn_left plan new h.reply es fs o h.given in
+      subst (λ m. m < left_making plan now es) (sym same) less
+
+  -- the first document is done
+  module _ (d : Document) (ds : List Document) (are : es ≡ d ∷ ds)
+      (closes : (outside : Bool) (old : Work) (want : Wanted) → IsInMaking plan outside old want now d
+      → HasReplied plan outside old want ds (IsLess plan now d ds new) new fs o) where
+    same : (at.inner ≡ d) × (at.around ≡ ds)
+    same = first_same at.inner d at.around ds (sym at.are ∙ are)
+
+    closed : HasReplied plan at.outside at.old at.want ds (IsLess plan now d ds new) new fs o
+    closed = closes at.outside at.old at.want (subst (λ x. IsInMaking plan at.outside at.old at.want now x) same.0 at.making)
+
+    pub closing_goes_on : GoesOn plan first start all new fs o
+    closing_goes_on = record {
+      outside = at.outside;
+      old = at.old;
+      want = at.want;
+      around = ds;
+      reply = closed.reply;
+      given = closed.given;
+      waiting = subst (λ xs. AreWaiting plan first start all at.outside at.old at.want xs) same.1 at.waiting;
+      replied = closed.replied;
+    }
+
+    pub closing_goes_less : left_of_turn plan new fs o < left_making plan now es
+    closing_goes_less =
+        let left = turn_left plan new closed.reply ds fs o closed.given in
+        subst (λ m. left_of_turn plan new fs o < m) (sym (ap (left_making plan now) are))
+        (subst (λ m. m < left_making plan now (d ∷ ds)) (sym left) closed.is_like)

@@ -1,6 +1,7 @@
 -- How far the making of documents still has to go.
-use Rattle.std.specs.Prelude.{◌≤◌, ◌+◌, ◌*◌, ◌-◌, ◌^◌, ℕ, zero, suc, List, [], ◌∷◌, length, if◌then◌else◌}
+use Rattle.std.specs.Prelude.{◌≤◌, ◌<◌, ◌+◌, ◌*◌, ◌-◌, ◌^◌, ℕ, zero, suc, List, [], ◌∷◌, length, Option, Some, None, if◌then◌else◌}
 use Rattle.std.specs.Option.{option_map_or}
+use Rattle.serde_json.specs.Data.{Data}
 use Rattle.schemars_types.specs.Rows.{Row, entry_at}
 use Rattle.schemars_types.specs.Edges.{height}
 use Rattle.schemars_build.specs.Placed.{pending_in}
@@ -12,8 +13,7 @@ use Rattle.schemars_build.specs.Missing.{missing, fresh, depth_in_place}
 use Rattle.schemars_build.specs.declared.build.Document.{Document}
 use Rattle.schemars_build.specs.declared.build.Purpose.{Purpose}
 use Rattle.schemars_build.specs.declared.build.Purpose.TheVariants as purpose
-use Rattle.schemars_build.specs.declared.build.Reply.{Reply}
-use Rattle.schemars_build.specs.declared.build.Reply.TheVariants as reply
+use Rattle.schemars_build.specs.Making.{Reply, answer, document}
 
 abbrev pub width : List Row → ℕ
 width rows = 8 * length rows + 12
@@ -89,10 +89,23 @@ abbrev pub left_going : Plan → Work → Document → List Document → ℕ
 left_going p w d ds = suc (unanswered d) * weight p w w.pending d + left_waiting p w (pending_around d.purpose w.pending) ds
 
 abbrev pub left_of_reply : Plan → Work → Reply → List Document → ℕ
-left_of_reply p w (reply.Answer s) ds = left_waiting p w w.pending ds
-left_of_reply p w (reply.Document d) ds = left_going p w d ds
+left_of_reply p w (answer s) ds = left_waiting p w w.pending ds
+left_of_reply p w (document d) ds = left_going p w d ds
+
+abbrev pub left_making : Plan → Work → List Document → ℕ
+left_making p w [] = 0
+left_making p w (d ∷ ds) = left_going p w d ds
+
+-- with an answer at hand, or without one
+abbrev pub left_of_turn : Plan → Work → List Document → Option Data → ℕ
+left_of_turn p w es (Some s) = left_waiting p w w.pending es
+left_of_turn p w es None = left_making p w es
 
 -- a reply that has less to go than this
 abbrev pub IsWithin : Plan → ℕ → Work → Reply → Type 0
-IsWithin p k w (reply.Answer s) = Unit {0}
-IsWithin p k w (reply.Document d) = rank p w w.pending d.row d.purpose ≤ k
+IsWithin p k w (answer s) = Unit {0}
+IsWithin p k w (document d) = rank p w w.pending d.row d.purpose ≤ k
+
+-- a reply with less to go than a document that was being made
+abbrev pub IsLess : Plan → Work → Document → List Document → Work → Reply → Type 0
+IsLess p old d ds new r = left_of_reply p new r ds < left_going p old d ds

@@ -1,5 +1,5 @@
 -- Documents that are being made: what is wanted, how far they have come, and what waits for them.
-use Rattle.std.specs.Prelude.{◌≡◌, ◌<◌, ◌&&◌, ◌++◌, ◌+◌, ℕ, List, [], ◌∷◌, Bool, true, false, not, Some, None, length, map, take}
+use Rattle.std.specs.Prelude.{◌≡◌, ◌<◌, ◌&&◌, ◌++◌, ◌+◌, ℕ, List, [], ◌∷◌, Bool, true, false, not, Option, Some, None, length, map, take}
 use Rattle.std.specs.Prelude.{string_bytes}
 use Rattle.serde_json.specs.Data.{Data, boolean, put}
 use Rattle.serde_json.specs.Find.{get_member}
@@ -10,6 +10,7 @@ use Rattle.schemars_flatten.specs.Parts.{flattened_part}
 use Rattle.schemars_documents.specs.Documents.{reference}
 use Rattle.schemars_documents.specs.Template.{Ask, content, asks_of}
 use Rattle.schemars_documents.specs.View.{ask_of, template_view}
+use Rattle.schemars_documents.specs.declared.template.Template.{Template}
 use Rattle.schemars_documents.specs.OfShape.{entry_template}
 use Rattle.schemars_build.specs.Naming.{name_of}
 use Rattle.schemars_build.specs.Placed.{is_pending, pending_in}
@@ -21,8 +22,6 @@ use Rattle.schemars_build.specs.declared.build.Purpose.{Purpose}
 use Rattle.schemars_build.specs.declared.build.Purpose.TheVariants as purpose
 use Rattle.schemars_build.specs.declared.build.Request.{Request}
 use Rattle.schemars_build.specs.declared.build.Request.TheVariants as request
-use Rattle.schemars_build.specs.declared.build.Reply.{Reply}
-use Rattle.schemars_build.specs.declared.build.Reply.TheVariants as reply
 
 -- ---- what is wanted
 
@@ -86,11 +85,12 @@ pub record IsTemplate (plan : Plan) (d : Document) : Type 0 where
   pub template : template_view d.template ≡ entry_template (basis_of plan) entry
   pub asks : map ask_of d.asks.items ≡ asks_of (entry_template (basis_of plan) entry)
 
+abbrev pub IsTemplateAt : Plan → ℕ → Template → Type 0
+IsTemplateAt plan n t = (entry : Entry) × (entry_at plan.rows n ≡ Some entry) × (template_view t ≡ entry_template (basis_of plan) entry)
+
 -- a document of which nothing has been answered
-abbrev pub IsOpened : Plan → Bool → ℕ → Purpose → Reply → Type 0
-IsOpened plan inside n p (reply.Answer s) = ⊥
-IsOpened plan inside n p (reply.Document d) =
-    (d.row ≡ n) × (d.purpose ≡ p) × (d.in_definition ≡ inside) × (d.answers.items ≡ []) × IsTemplate plan d
+abbrev pub IsOpened : Plan → Bool → ℕ → Purpose → Document → Type 0
+IsOpened plan inside n p d = (d.row ≡ n) × (d.purpose ≡ p) × (d.in_definition ≡ inside) × (d.answers.items ≡ []) × IsTemplate plan d
 
 -- what is wanted at `old` is given by what is got, later on, of what is wanted at `mid`
 pub record Leads (plan : Plan) (inside : Bool) (old : Work) (want : Wanted) (mid : Work) (got : Wanted) : Type 0 where
@@ -141,24 +141,64 @@ AreWaiting plan first start all outside old want (d ∷ ds) =
     × IsNext d outside want
     × AreWaiting plan first start all around before more ds
 
+-- ---- replies
+
+pub data Reply : Type 0 where
+  answer : Data → Reply
+  document : Document → Reply
+
 -- a reply to what is wanted at `old`: what is wanted, or a document for it
 abbrev pub IsRepliedBy : Plan → Bool → Work → Wanted → Work → Reply → Type 0
-IsRepliedBy plan outside old want now (reply.Answer s) =
+IsRepliedBy plan outside old want now (answer s) =
     Step plan old now
     × (undone now ≡ undone old)
     × IsReply plan outside old now want s
-IsRepliedBy plan outside old want now (reply.Document d) = IsInMaking plan outside old want now d
+IsRepliedBy plan outside old want now (document d) = IsInMaking plan outside old want now d
+
+-- a reply where documents wait: an answer stands apart from them, and a document becomes the first of them
+abbrev pub IsGiven : Reply → List Document → List Document → Option Data → Type 0
+IsGiven (answer s) ds es o = (o ≡ Some s) × (es ≡ ds)
+IsGiven (document d) ds es o = (o ≡ None) × (es ≡ d ∷ ds)
+
+-- there is a reply like that to what is wanted
+pub record HasReplied (plan : Plan) (outside : Bool) (old : Work) (want : Wanted) (ds : List Document) (IsLike : Reply → Type 0) (now : Work)
+    (es : List Document) (o : Option Data) : Type 0 where
+  pub reply : Reply
+  pub given : IsGiven reply ds es o
+  pub replied : IsRepliedBy plan outside old want now reply
+  pub is_like : IsLike reply
 
 -- a reply to what is waited for
-pub record GoesOn (plan : Plan) (first : Bool) (start : Work) (all : Wanted) (now : Work) (ds : List Document) (r : Reply) : Type 0 where
+pub record GoesOn (plan : Plan) (first : Bool) (start : Work) (all : Wanted) (now : Work) (es : List Document) (o : Option Data) : Type 0 where
   pub outside : Bool
   pub old : Work
   pub want : Wanted
-  pub waiting : AreWaiting plan first start all outside old want ds
-  pub replied : IsRepliedBy plan outside old want now r
+  pub around : List Document
+  pub reply : Reply
+  pub given : IsGiven reply around es o
+  pub waiting : AreWaiting plan first start all outside old want around
+  pub replied : IsRepliedBy plan outside old want now reply
 
--- what goes on after a reply: the document, or the one that waited for the answer; an answer for which none waits
-abbrev pub IsTaken : List Document → Reply → List Document → Reply → Type 0
-IsTaken ds (reply.Document d) es r = (r ≡ reply.Document d) × (es ≡ ds)
-IsTaken [] (reply.Answer s) es r = (r ≡ reply.Answer s) × (es ≡ [])
-IsTaken (d ∷ ds) (reply.Answer s) es r = (x : Document) × (r ≡ reply.Document x) × (es ≡ ds) × HasAnswered d s x
+-- an answer goes to the first document, and where there is none it is left
+abbrev pub IsTaken : List Document → Option Data → List Document → Option Data → Type 0
+IsTaken ds None es left = (left ≡ None) × (es ≡ ds)
+IsTaken [] (Some s) es left = left ≡ Some s
+IsTaken (d ∷ ds) (Some s) es left = (left ≡ None) × (x : Document) × (es ≡ x ∷ ds) × HasAnswered d s x
+
+-- ---- what is being made
+
+-- there is a first document, and it is like that
+abbrev pub HasFirst : (Document → Type 0) → List Document → Type 0
+HasFirst IsLike [] = ⊥
+HasFirst IsLike (d ∷ ds) = IsLike d
+
+-- the first document is being made, and the others wait
+pub record AreMaking (plan : Plan) (first : Bool) (start : Work) (all : Wanted) (now : Work) (es : List Document) : Type 0 where
+  pub outside : Bool
+  pub old : Work
+  pub want : Wanted
+  pub inner : Document
+  pub around : List Document
+  pub are : es ≡ inner ∷ around
+  pub making : IsInMaking plan outside old want now inner
+  pub waiting : AreWaiting plan first start all outside old want around

@@ -1,5 +1,5 @@
 //! The documents of rows, with parts in place or by reference.
-ghost use Rattle.std.specs.Prelude.{Bool, List, codes, ◌≡◌, ◌<◌, ◌≤◌, length, IfOk, OnOk, OnErr};
+ghost use Rattle.std.specs.Prelude.{Bool, codes, reverse, ◌≡◌, ◌<◌, ◌≤◌, length, IfOk, OnOk, OnErr};
 ghost use Rattle.schemars_types.specs.Faults.{IsChecked};
 ghost use Rattle.schemars_documents.specs.Documents.{reference};
 ghost use Rattle.schemars_build.specs.Placed.{is_in_place};
@@ -13,10 +13,11 @@ ghost use Rattle.schemars_documents.specs.Describes.{without_options};
 ghost use Rattle.schemars_build.specs.Missing.{row_asked};
 ghost use Rattle.schemars_build.specs.Parts.{IsAnswer, IsOwn};
 ghost use Rattle.schemars_build.specs.Making.{Wanted, own, asked, wanted, row_wanted, IsReply};
-ghost use Rattle.schemars_build.specs.Making.{IsTemplate, IsOpened, IsInMaking, HasAnswered};
-ghost use Rattle.schemars_build.specs.Making.{AreWaiting, IsRepliedBy, GoesOn, IsTaken};
+ghost use Rattle.schemars_build.specs.Making.{IsTemplate, IsTemplateAt, IsOpened, IsInMaking};
+ghost use Rattle.schemars_build.specs.Making.{document, IsGiven, HasReplied, GoesOn, IsTaken};
+ghost use Rattle.schemars_build.specs.Making.{HasFirst, AreMaking};
 ghost use Rattle.schemars_build.specs.Left.{left_of_asked, left_of_own_document, left_of_part};
-ghost use Rattle.schemars_build.specs.Left.{left_of_reply, left_going, IsWithin};
+ghost use Rattle.schemars_build.specs.Left.{left_making, left_of_turn, IsWithin, IsLess};
 ghost use Rattle.schemars_build.specs.declared.build.Document as src;
 
 use crate::work::Work;
@@ -71,13 +72,6 @@ struct Document<'t> {
     answers: VecDeque<Schema>,
 }
 
-// An answer, or the document that has to be made for it.
-#[derive(Drop)]
-enum Reply<'t> {
-    Answer(Schema),
-    Document(Document<'t>),
-}
-
 // What is asked first: a row's own document, or an answer.
 #[derive(Clone, Copy)]
 enum Request {
@@ -123,8 +117,8 @@ pub fn answer(
     Ok(answer)
 }
 
-// Makes what is asked. Documents that wait for answers stand in a list, the innermost first: each
-// waits for the one before it, and no call stands in another one for it.
+// Makes what is asked. The documents that are being made stand in a list, the innermost last: each
+// waits for the one after it, and no call stands in another one for it.
 fn made(
     alloc: Global,
     plan: &Plan<'_>,
@@ -139,186 +133,202 @@ fn made(
     ensures is { IfOk result
         (IsReply (plan_of plan.now) in_definition work.old work.new (wanted request)) }
 {
-    let mut waiting = VecDeque::new(alloc);
-    let mut reply = begun(alloc, plan, work, in_definition, request)?;
+    let mut making = Vec::new(alloc);
+    let mut answer = begun(alloc, plan, work, &mut making, in_definition, request)?;
     'going: loop {
-        let document = match taken(&mut waiting, reply)? {
-            Reply::Answer(schema) => return Ok(schema),
-            Reply::Document(document) => document,
-        };
-        reply = resumed(alloc, plan, work, &mut waiting, document)?;
+        let last = taken(&mut making, answer)?;
+        if let Some(schema) = last {
+            return Ok(schema);
+        }
+        answer = resumed(alloc, plan, work, &mut making)?;
     }
 }
 
-// What goes on after a reply: the document that has to be made, or the one that waited for the
-// answer. Where none waits, the answer is what was asked first.
-fn taken<'t>(
-    waiting: &mut VecDeque<Document<'t>>,
-    reply: Reply<'t>,
-) -> Result<Reply<'t>, AllocError>
-    ensures { IfOk result (IsTaken waiting.old.items reply.entry waiting.new.items) }
+// Gives an answer to the document that waits for it. Where none waits, it is what was asked first.
+fn taken(
+    making: &mut Vec<Document<'_>>,
+    answer: Option<Schema>,
+) -> Result<Option<Schema>, AllocError>
+    ensures { IfOk result (IsTaken (reverse making.old.items) answer (reverse making.new.items)) }
 {
-    match reply {
-        Reply::Document(document) => Ok(Reply::Document(document)),
-        Reply::Answer(schema) => match waiting.pop_front() {
-            None => Ok(Reply::Answer(schema)),
-            Some(document) => {
-                let document = answered(document, schema)?;
-                Ok(Reply::Document(document))
-            }
-        },
-    }
-}
-
-// The document with one answer more.
-fn answered<'t>(document: Document<'t>, schema: Schema) -> Result<Document<'t>, AllocError>
-    ensures { IfOk result (HasAnswered document.entry schema) }
-{
-    let mut document = document;
+    let Some(schema) = answer else {
+        return Ok(None);
+    };
+    let Some(document) = making.last_mut() else {
+        return Ok(Some(schema));
+    };
     document.answers.push_back(schema)?;
-    Ok(document)
+    Ok(None)
 }
 
-// Goes on with a document: it asks the next row and waits, or, where all have answered, it is done.
+// Goes on with the innermost document: it asks the next row, or, where all have answered, it is done.
 fn resumed<'t>(
     alloc: Global,
     plan: &Plan<'t>,
     work: &mut Work,
-    waiting: &mut VecDeque<Document<'t>>,
-    document: Document<'t>,
-) -> Result<Reply<'t>, AllocError>
+    making: &mut Vec<Document<'t>>,
+) -> Result<Option<Schema>, AllocError>
     requires checked { IsChecked (plan_of plan.now).rows }
-    requires template { IsTemplate (plan_of plan.now) document }
+    requires first { HasFirst (IsTemplate (plan_of plan.now)) (reverse making.old.items) }
     ensures undone { OnErr result (undone work.new ≡ undone work.old) }
-    ensures goes_on { IfOk result (λ r.
-        (first outside : Bool) (start old : specs.Work) (all want : Wanted)
-        → IsInMaking (plan_of plan.now) outside old want work.old document.entry
-        → AreWaiting (plan_of plan.now) first start all outside old want waiting.old.items
-        → GoesOn (plan_of plan.now) first start all work.new waiting.new.items r) }
-    ensures less { IfOk result (λ r. (outside : Bool) (old : specs.Work) (want : Wanted)
-        → IsInMaking (plan_of plan.now) outside old want work.old document.entry
-        → left_of_reply (plan_of plan.now) work.new r waiting.new.items
-        < left_going (plan_of plan.now) work.old document.entry waiting.old.items) }
+    ensures goes_on { IfOk result (λ o. (first : Bool) (start : specs.Work) (all : Wanted)
+        → AreMaking (plan_of plan.now) first start all work.old (reverse making.old.items)
+        → GoesOn (plan_of plan.now) first start all work.new (reverse making.new.items) o) }
+    ensures less { IfOk result (λ o. (first : Bool) (start : specs.Work) (all : Wanted)
+        → AreMaking (plan_of plan.now) first start all work.old (reverse making.old.items)
+        → left_of_turn (plan_of plan.now) work.new (reverse making.new.items) o
+        < left_making (plan_of plan.now) work.old (reverse making.old.items)) }
 {
-    let next = document.asks.get(document.answers.len()).copied();
-    let Some(ask) = next else {
-        let reply = closed(alloc, plan, work, document)?;
-        return Ok(reply);
+    let (in_definition, next) = match making.last() {
+        Some(document) => (
+            document.in_definition,
+            document.asks.get(document.answers.len()).copied(),
+        ),
+        None => unreachable!(),
     };
-    let in_definition = document.in_definition;
-    waiting.push_front(document)?;
-    let reply = reply_to(alloc, plan, work, in_definition, ask)?;
-    Ok(reply)
+    if let Some(ask) = next {
+        return reply_to(alloc, plan, work, making, in_definition, ask);
+    }
+    match making.pop() {
+        Some(document) => closed(alloc, plan, work, making, document),
+        None => unreachable!(),
+    }
 }
 
-// The reply to what is asked first.
+// Replies to what is asked first.
 fn begun<'t>(
     alloc: Global,
     plan: &Plan<'t>,
     work: &mut Work,
+    making: &mut Vec<Document<'t>>,
     in_definition: bool,
     request: Request,
-) -> Result<Reply<'t>, AllocError>
+) -> Result<Option<Schema>, AllocError>
     requires checked { IsChecked (plan_of plan.now).rows }
     requires known { row_wanted (wanted request) < length (plan_of plan.now).rows }
     ensures undone { undone work.new ≡ undone work.old }
     ensures replies { IfOk result
-        (IsRepliedBy (plan_of plan.now) in_definition work.old (wanted request) work.new) }
+        (HasReplied (plan_of plan.now) in_definition work.old (wanted request)
+        (reverse making.old.items) (λ r. Unit {0}) work.new (reverse making.new.items)) }
 {
     match request {
-        Request::Own(n) => own(alloc, plan, work, in_definition, n),
-        Request::Asked(ask) => reply_to(alloc, plan, work, in_definition, ask),
+        Request::Own(n) => own(alloc, plan, work, making, in_definition, n),
+        Request::Asked(ask) => reply_to(alloc, plan, work, making, in_definition, ask),
     }
 }
 
-// The reply to what is asked of a row.
+// Replies to what is asked of a row: with an answer, or with a document that has to be made first and
+// stands in the list.
 fn reply_to<'t>(
     alloc: Global,
     plan: &Plan<'t>,
     work: &mut Work,
+    making: &mut Vec<Document<'t>>,
     in_definition: bool,
     ask: Ask,
-) -> Result<Reply<'t>, AllocError>
+) -> Result<Option<Schema>, AllocError>
     requires checked { IsChecked (plan_of plan.now).rows }
     requires known { row_asked (ask_of ask) < length (plan_of plan.now).rows }
     ensures undone { undone work.new ≡ undone work.old }
     ensures replies { IfOk result
-        (IsRepliedBy (plan_of plan.now) in_definition work.old (asked (ask_of ask)) work.new) }
-    ensures within { IfOk result (IsWithin (plan_of plan.now)
-        (left_of_asked (plan_of plan.now) work.old (ask_of ask)) work.new) }
+        (HasReplied (plan_of plan.now) in_definition work.old (asked (ask_of ask))
+        (reverse making.old.items) (IsWithin (plan_of plan.now)
+        (left_of_asked (plan_of plan.now) work.old (ask_of ask)) work.new)
+        work.new (reverse making.new.items)) }
 {
     match ask {
-        Ask::Part(n) => part(alloc, plan, work, in_definition, n),
+        Ask::Part(n) => part(alloc, plan, work, making, in_definition, n),
         Ask::MembersOf(n, required) => {
             let inner = without_options(plan.types, n);
             let is_optional = !required && option(plan.types, n).is_some();
             let purpose = Purpose::Members(is_optional);
-            let document = opened(alloc, plan, in_definition, inner, purpose)?;
-            Ok(document)
+            opened(alloc, plan, making, in_definition, inner, purpose)
         }
-        Ask::Content(n) => {
-            let document = opened(alloc, plan, in_definition, n, Purpose::Content)?;
-            Ok(document)
-        }
+        Ask::Content(n) => opened(alloc, plan, making, in_definition, n, Purpose::Content),
     }
 }
 
-// The row's own document, begun. Where rows are inlined, the row is pending until it is done.
+// The row's own document: done, where it asks nothing, or begun. Where rows are inlined, the row is
+// pending until it is done.
 fn own<'t>(
     alloc: Global,
     plan: &Plan<'t>,
     work: &mut Work,
+    making: &mut Vec<Document<'t>>,
     in_definition: bool,
     n: TypeNo,
-) -> Result<Reply<'t>, AllocError>
+) -> Result<Option<Schema>, AllocError>
     requires checked { IsChecked (plan_of plan.now).rows }
     requires known { n < length (plan_of plan.now).rows }
     ensures undone { undone work.new ≡ undone work.old }
     ensures replies { IfOk result
-        (IsRepliedBy (plan_of plan.now) in_definition work.old (own n) work.new) }
-    ensures within { IfOk result (IsWithin (plan_of plan.now)
-        (left_of_own_document (plan_of plan.now) work.old n) work.new) }
+        (HasReplied (plan_of plan.now) in_definition work.old (own n)
+        (reverse making.old.items) (IsWithin (plan_of plan.now)
+        (left_of_own_document (plan_of plan.now) work.old n) work.new)
+        work.new (reverse making.new.items)) }
 {
     let entered = work.enter(plan.inlines, n)?;
-    let document = opened(alloc, plan, in_definition, n, Purpose::Own(entered))?;
-    Ok(document)
+    let template = template_at(alloc, plan, n)?;
+    let asks = template.asks(alloc)?;
+    if asks.is_empty() {
+        let schema = fill(alloc, template, VecDeque::new(alloc))?;
+        work.leave(entered);
+        return Ok(Some(schema));
+    }
+    let answers = VecDeque::with_capacity(alloc, asks.len())?;
+    making.push(Document {
+        row: n,
+        purpose: Purpose::Own(entered),
+        in_definition,
+        template,
+        asks,
+        answers,
+    })?;
+    Ok(None)
 }
 
-// Row `n` as a part: a reference to its definition or to the root, or the document that is to stand
-// in its place or in its definition.
+// Replies with row `n` as a part: with a reference to its definition or to the root, or with what is to
+// stand in its place or in its definition.
 fn part<'t>(
     alloc: Global,
     plan: &Plan<'t>,
     work: &mut Work,
+    making: &mut Vec<Document<'t>>,
     in_definition: bool,
     n: TypeNo,
-) -> Result<Reply<'t>, AllocError>
+) -> Result<Option<Schema>, AllocError>
     requires checked { IsChecked (plan_of plan.now).rows }
     requires known { n < length (plan_of plan.now).rows }
     ensures undone { undone work.new ≡ undone work.old }
     ensures replies { IfOk result
-        (IsRepliedBy (plan_of plan.now) in_definition work.old (asked (spec.part n)) work.new) }
-    ensures within { IfOk result (IsWithin (plan_of plan.now)
-        (left_of_part (plan_of plan.now) work.old n) work.new) }
+        (HasReplied (plan_of plan.now) in_definition work.old (asked (spec.part n))
+        (reverse making.old.items) (IsWithin (plan_of plan.now)
+        (left_of_part (plan_of plan.now) work.old n) work.new)
+        work.new (reverse making.new.items)) }
 {
     if is_in_place(plan, work, n) {
-        let in_place = own(alloc, plan, work, in_definition, n)?;
-        return Ok(in_place);
+        return own(alloc, plan, work, making, in_definition, n);
     }
     if plan.root == Some(n) {
         work.meet_root(in_definition);
         let root = root_reference(alloc)?;
-        return Ok(Reply::Answer(root));
+        return Ok(Some(root));
     }
     let name = work.name_for(alloc, plan.types, plan.contract, n)?;
     if work.has_definition(name.as_str()) {
         let reference = reference_to(alloc, plan.path, name.as_str())?;
-        return Ok(Reply::Answer(reference));
+        return Ok(Some(reference));
     }
     work.begin(alloc, name.as_str())?;
     let entered = work.enter(plan.inlines, n)?;
-    let definition = opened(alloc, plan, true, n, Purpose::Definition(name, entered))?;
-    Ok(definition)
+    opened(
+        alloc,
+        plan,
+        making,
+        true,
+        n,
+        Purpose::Definition(name, entered),
+    )
 }
 
 // Whether row `n` stands in place where it is a part.
@@ -328,17 +338,39 @@ fn is_in_place(plan: &Plan<'_>, work: &Work, n: TypeNo) -> bool
     is_inline(plan.types, n) || (plan.inlines && !work.is_pending(n))
 }
 
-// The document of row `n`, with its notes, of which nothing has been answered.
+// Begins the document of row `n`, with its notes, of which nothing has been answered.
 fn opened<'t>(
     alloc: Global,
     plan: &Plan<'t>,
+    making: &mut Vec<Document<'t>>,
     in_definition: bool,
     n: TypeNo,
     purpose: Purpose,
-) -> Result<Reply<'t>, AllocError>
+) -> Result<Option<Schema>, AllocError>
     requires checked { IsChecked (plan_of plan.now).rows }
     requires known { n < length (plan_of plan.now).rows }
-    ensures { IfOk result (IsOpened (plan_of plan.now) in_definition n purpose) }
+    ensures { IfOk result (λ o. (d : src.Document) × IsOpened (plan_of plan.now) in_definition n purpose d
+        × IsGiven (document d) (reverse making.old.items) (reverse making.new.items) o) }
+{
+    let template = template_at(alloc, plan, n)?;
+    let asks = template.asks(alloc)?;
+    let answers = VecDeque::with_capacity(alloc, asks.len())?;
+    making.push(Document {
+        row: n,
+        purpose,
+        in_definition,
+        template,
+        asks,
+        answers,
+    })?;
+    Ok(None)
+}
+
+// The template of row `n`'s document, with its notes.
+fn template_at<'t>(alloc: Global, plan: &Plan<'t>, n: TypeNo) -> Result<Template<'t>, AllocError>
+    requires checked { IsChecked (plan_of plan.now).rows }
+    requires known { n < length (plan_of plan.now).rows }
+    ensures { IfOk result (IsTemplateAt (plan_of plan.now) n) }
 {
     let entry = match plan.types.entry(n) {
         Some(entry) => entry,
@@ -349,36 +381,26 @@ fn opened<'t>(
         contract: plan.contract,
         titles: plan.titles,
     };
-    let template = entry_template(alloc, &basis, entry)?;
-    let asks = template.asks(alloc)?;
-    Ok(Reply::Document(Document {
-        row: n,
-        purpose,
-        in_definition,
-        template,
-        asks,
-        answers: VecDeque::new(alloc),
-    }))
+    entry_template(alloc, &basis, entry)
 }
 
-// What is made of a document whose parts have all answered.
+// Replies with what is made of a document whose parts have all answered.
 fn closed<'t>(
     alloc: Global,
     plan: &Plan<'t>,
     work: &mut Work,
+    making: &mut Vec<Document<'t>>,
     document: Document<'t>,
-) -> Result<Reply<'t>, AllocError>
+) -> Result<Option<Schema>, AllocError>
     requires checked { IsChecked (plan_of plan.now).rows }
     requires template { IsTemplate (plan_of plan.now) document }
     requires all_answered { length document.asks.items ≤ length document.answers.items }
     ensures undone { OnErr result (undone work.new ≡ undone work.old) }
-    ensures replies { IfOk result (λ r. (outside : Bool) (old : specs.Work) (want : Wanted)
+    ensures replies { IfOk result (λ o. (outside : Bool) (old : specs.Work) (want : Wanted)
         → IsInMaking (plan_of plan.now) outside old want work.old document.entry
-        → IsRepliedBy (plan_of plan.now) outside old want work.new r) }
-    ensures less { IfOk result (λ r. (outside : Bool) (old : specs.Work) (want : Wanted)
-        → IsInMaking (plan_of plan.now) outside old want work.old document.entry
-        → (ds : List src.Document) → left_of_reply (plan_of plan.now) work.new r ds
-        < left_going (plan_of plan.now) work.old document.entry ds) }
+        → HasReplied (plan_of plan.now) outside old want (reverse making.old.items)
+        (IsLess (plan_of plan.now) work.old document.entry (reverse making.old.items) work.new)
+        work.new (reverse making.new.items) o) }
 {
     let Document {
         row,
@@ -392,25 +414,24 @@ fn closed<'t>(
     match purpose {
         Purpose::Own(entered) => {
             work.leave(entered);
-            Ok(Reply::Answer(schema))
+            Ok(Some(schema))
         }
         Purpose::Definition(name, entered) => {
             let reference = reference_to(alloc, plan.path, name.as_str())?;
             work.leave(entered);
             work.finish(name.as_str(), schema);
-            Ok(Reply::Answer(reference))
+            Ok(Some(reference))
         }
         Purpose::Members(is_optional) => {
             as_flattened(alloc, &mut schema, is_optional)?;
-            Ok(Reply::Answer(schema))
+            Ok(Some(schema))
         }
         Purpose::Content => {
             if !stands_in_place(&schema, is_inline(plan.types, row) || plan.inlines) {
-                let part = part(alloc, plan, work, in_definition, row)?;
-                return Ok(part);
+                return part(alloc, plan, work, making, in_definition, row);
             }
             open_inside(alloc, &mut schema)?;
-            Ok(Reply::Answer(schema))
+            Ok(Some(schema))
         }
     }
 }

@@ -8,9 +8,11 @@ use Rattle.schemars_types.specs.Edges.{is_inline_at}
 use Rattle.schemars_documents.specs.Template.{part}
 use Rattle.schemars_build.specs.Work.{reference_to}
 use Rattle.schemars_build.specs.Plans.{plan_of}
-use Rattle.schemars_build.specs.Making.{asked, IsBegun}
+use Rattle.schemars_build.specs.Making.{asked, IsBegun, answer}
 use Rattle.schemars_build.specs.declared.build.Purpose.TheVariants as purpose
 use Rattle.std.proofs.lemmas.Str.{IsUtf8-string_bytes}
+use Rattle.std.proofs.lemmas.Result.{IfOk-weaker}
+use Rattle.std.proofs.Common.{reverse}
 use Rattle.schemars_build.proofs.Making.{filled_made, closes_own, closes_members, closes_content, closes_referred, closes_definition}
 use Rattle.schemars_build.proofs.Steps.{finished_with}
 use Rattle.serde_json.proofs.Views.{get_member-put}
@@ -24,72 +26,36 @@ pub returns-in-Own-clause-replies : goal.returns-in-Own-clause-replies
 returns-in-Own-clause-replies c = λ outside old want h.
     let plan = plan_of c.args.plan.now in
     let now = c.args.work.now in
+    let new = c.leave.new.self in
     let d = c.args.document in
     let s = c.in_ok-schema.schema in
     let filled = filled_made plan outside old want now d h c.requires.all_answered s c.requires.checked c.in_ok-schema.ensures in
-    closes_own plan outside old want now d h s filled c.in-Own.entered c.leave.new.self c.in-Own.is c.leave.ensures
+    let replied = closes_own plan outside old want now d h s filled c.in-Own.entered new c.in-Own.is c.leave.ensures in
+    record {
+      reply = answer s;
+      given = (refl, refl);
+      replied = replied;
+      is_like = closing_answered plan outside old want now new d (reverse c.args.making.now.items) s h
+          (left_fewer plan now new _ c.leave.ensures) replied;
+    }
 
 pub returns-in-Definition-clause-replies : goal.returns-in-Definition-clause-replies
 returns-in-Definition-clause-replies c = λ outside old want h.
     let plan = plan_of c.args.plan.now in
     let now = c.args.work.now in
-    let d = c.args.document in
-    let s = c.in_ok-schema.schema in
-    let filled = filled_made plan outside old want now d h c.requires.all_answered s c.requires.checked c.in_ok-schema.ensures in
-    closes_definition plan outside old want now d h s filled c.in-Definition.name c.in-Definition.entered
-    c.leave-in-Definition.new.self c.finish.new.self c.in_ok-reference-in-Definition.reference c.in-Definition.is
-    (IsUtf8-string_bytes c.in-Definition.name) c.leave-in-Definition.ensures
-    (c.finish.ensures ∙ ap (λ k. finished_with c.leave-in-Definition.new.self k s) c.as_str-in-Definition.ensures.value)
-    (c.in_ok-reference-in-Definition.ensures ∙ ap (λ k. reference (reference_to plan.path k)) c.as_str.ensures.value)
-
-pub returns-in-Members-clause-replies : goal.returns-in-Members-clause-replies
-returns-in-Members-clause-replies c = λ outside old want h.
-    let plan = plan_of c.args.plan.now in
-    let now = c.args.work.now in
-    let d = c.args.document in
-    let s = c.in_ok-schema.schema in
-    let filled = filled_made plan outside old want now d h c.requires.all_answered s c.requires.checked c.in_ok-schema.ensures in
-    closes_members plan outside old want now d h s filled c.in-Members.is_optional c.as_flattened.new.schema c.in-Members.is
-    c.in_ok-as_flattened-in-Members.ensures
-
-pub returns-then-not-stands_in_place-clause-replies : goal.returns-then-not-stands_in_place-clause-replies
-returns-then-not-stands_in_place-clause-replies c = λ outside old want h.
-    let plan = plan_of c.args.plan.now in
-    let now = c.args.work.now in
-    let d = c.args.document in
-    let s = c.in_ok-schema.schema in
-    let filled = filled_made plan outside old want now d h c.requires.all_answered s c.requires.checked c.in_ok-schema.ensures in
-    closes_referred plan outside old want now d h s filled (is_inline_at plan.rows d.row || plan.inlines) c.part.new.work
-    c.in_ok-part-in-Content.part c.in-Content.is refl (search rules) c.in_ok-part-in-Content.ensures.replies
-
-pub returns-clause-replies : goal.returns-clause-replies
-returns-clause-replies c = λ outside old want h.
-    let plan = plan_of c.args.plan.now in
-    let now = c.args.work.now in
-    let d = c.args.document in
-    let s = c.in_ok-schema.schema in
-    let filled = filled_made plan outside old want now d h c.requires.all_answered s c.requires.checked c.in_ok-schema.ensures in
-    closes_content plan outside old want now d h s filled (is_inline_at plan.rows d.row || plan.inlines) c.open_inside.new.schema
-    c.in-Content.is refl (search rules) (search rules)
-
-pub returns-in-Own-clause-less : goal.returns-in-Own-clause-less
-returns-in-Own-clause-less c = λ outside old want h ds.
-    let plan = plan_of c.args.plan.now in
-    closing_answered plan outside old want c.args.work.now c.leave.new.self c.args.document ds c.in_ok-schema.schema h
-    (left_fewer plan c.args.work.now c.leave.new.self _ c.leave.ensures) (returns-in-Own-clause-replies c outside old want h)
-
-pub returns-in-Definition-clause-less : goal.returns-in-Definition-clause-less
-returns-in-Definition-clause-less c = λ outside old want h ds.
-    let plan = plan_of c.args.plan.now in
-    let now = c.args.work.now in
     let mid = c.leave-in-Definition.new.self in
+    let new = c.finish.new.self in
+    let d = c.args.document in
     let k = string_bytes c.in-Definition.name in
     let s = c.in_ok-schema.schema in
-    let finished : c.finish.new.self ≡ finished_with mid k s =
-    c.finish.ensures ∙ ap (λ x. finished_with mid x s) c.as_str-in-Definition.ensures.value in
-    let b : IsBegun plan outside h.mid h.start c.args.document.row c.args.document.in_definition
-    (purpose.Definition c.in-Definition.name c.in-Definition.entered) =
-    subst (λ q. IsBegun plan outside h.mid h.start c.args.document.row c.args.document.in_definition q) c.in-Definition.is h.begun in
+    let t = c.in_ok-reference-in-Definition.reference in
+    let filled = filled_made plan outside old want now d h c.requires.all_answered s c.requires.checked c.in_ok-schema.ensures in
+    let finished : new ≡ finished_with mid k s = c.finish.ensures ∙ ap (λ x. finished_with mid x s) c.as_str-in-Definition.ensures.value in
+    let replied = closes_definition plan outside old want now d h s filled c.in-Definition.name c.in-Definition.entered mid new t
+    c.in-Definition.is (IsUtf8-string_bytes c.in-Definition.name) c.leave-in-Definition.ensures finished
+    (c.in_ok-reference-in-Definition.ensures ∙ ap (λ x. reference (reference_to plan.path x)) c.as_str.ensures.value) in
+    let b : IsBegun plan outside h.mid h.start d.row d.in_definition (purpose.Definition c.in-Definition.name c.in-Definition.entered) =
+    subst (λ q. IsBegun plan outside h.mid h.start d.row d.in_definition q) c.in-Definition.is h.begun in
     let first : get_member k h.start.definitions ≡ Some (boolean false) =
     ap (λ w. get_member k w.definitions) b.4 ∙ get_member-put k (boolean false) h.mid.definitions in
     let there : get_member k now.definitions ≡ Some (boolean false) = h.step.stays k (boolean false) first in
@@ -97,29 +63,68 @@ returns-in-Definition-clause-less c = λ outside old want h ds.
     let x = left_fewer plan now mid _ c.leave-in-Definition.ensures in
     let y = finished_fewer plan mid k s (boolean false) here in
     let z = ap (missing plan.rows plan.contract) finished in
-    closing_answered plan outside old want now c.finish.new.self c.args.document ds c.in_ok-reference-in-Definition.reference h
-    (omega (arith, x, y, z)) (returns-in-Definition-clause-replies c outside old want h)
+    record {
+      reply = answer t;
+      given = (refl, refl);
+      replied = replied;
+      is_like = closing_answered plan outside old want now new d (reverse c.args.making.now.items) t h (omega (arith, x, y, z)) replied;
+    }
 
-pub returns-in-Members-clause-less : goal.returns-in-Members-clause-less
-returns-in-Members-clause-less c = λ outside old want h ds.
-    closing_answered (plan_of c.args.plan.now) outside old want c.args.work.now c.args.work.now c.args.document ds
-    c.as_flattened.new.schema h (omega arith) (returns-in-Members-clause-replies c outside old want h)
-
-pub returns-then-not-stands_in_place-clause-less : goal.returns-then-not-stands_in_place-clause-less
-returns-then-not-stands_in_place-clause-less c = λ outside old want h ds.
+pub returns-in-Members-clause-replies : goal.returns-in-Members-clause-replies
+returns-in-Members-clause-replies c = λ outside old want h.
     let plan = plan_of c.args.plan.now in
     let now = c.args.work.now in
     let d = c.args.document in
-    let same : missing plan.rows plan.contract now ≤ missing plan.rows plan.contract now = omega arith in
+    let s = c.in_ok-schema.schema in
+    let t = c.as_flattened.new.schema in
+    let filled = filled_made plan outside old want now d h c.requires.all_answered s c.requires.checked c.in_ok-schema.ensures in
+    let replied = closes_members plan outside old want now d h s filled c.in-Members.is_optional t c.in-Members.is
+    c.in_ok-as_flattened-in-Members.ensures in
+    record {
+      reply = answer t;
+      given = (refl, refl);
+      replied = replied;
+      is_like = closing_answered plan outside old want now now d (reverse c.args.making.now.items) t h (omega arith) replied;
+    }
+
+pub returns-then-not-stands_in_place-clause-replies : goal.returns-then-not-stands_in_place-clause-replies
+returns-then-not-stands_in_place-clause-replies c =
+    let plan = plan_of c.args.plan.now in
+    let now = c.args.work.now in
+    let new = c.part.new.work in
+    let d = c.args.document in
+    let s = c.in_ok-schema.schema in
+    let ds = reverse c.args.making.now.items in
+    let es = reverse c.part.new.making.items in
+    let fewer : missing plan.rows plan.contract now ≤ missing plan.rows plan.contract now = omega arith in
     let low : left_of_part plan now d.row < rank plan now now.pending d.row d.purpose =
     subst (λ q. left_of_part plan now d.row < rank plan now now.pending d.row q) (sym c.in-Content.is)
-    (content_to_part plan now now d.row same refl) in
-    closing_less plan outside old want now c.part.new.work d ds c.in_ok-part-in-Content.part (left_of_part plan now d.row) h
-    (replied_fewer plan d.in_definition now (asked (part d.row)) c.part.new.work c.in_ok-part-in-Content.part
-    c.in_ok-part-in-Content.ensures.replies)
-    (returns-then-not-stands_in_place-clause-replies c outside old want h) c.in_ok-part-in-Content.ensures.within low
+    (content_to_part plan now now d.row fewer refl) in
+    IfOk-weaker c.part.result _ _ (λ o x outside old want h.
+    let filled = filled_made plan outside old want now d h c.requires.all_answered s c.requires.checked c.in_ok-schema.ensures in
+    let replied = closes_referred plan outside old want now d h s filled (is_inline_at plan.rows d.row || plan.inlines) new x.reply
+    c.in-Content.is refl (search rules) x.replied in
+    record {
+      reply = x.reply;
+      given = x.given;
+      replied = replied;
+      is_like = closing_less plan outside old want now new d ds x.reply (left_of_part plan now d.row) h
+          (replied_fewer plan d.in_definition now (asked (part d.row)) new x.reply x.replied) replied x.is_like low;
+    }) c.part.ensures.replies
 
-pub returns-clause-less : goal.returns-clause-less
-returns-clause-less c = λ outside old want h ds.
-    closing_answered (plan_of c.args.plan.now) outside old want c.args.work.now c.args.work.now c.args.document ds
-    c.open_inside.new.schema h (omega arith) (returns-clause-replies c outside old want h)
+pub returns-clause-replies : goal.returns-clause-replies
+returns-clause-replies c = λ outside old want h.
+    let plan = plan_of c.args.plan.now in
+    let now = c.args.work.now in
+    let d = c.args.document in
+    let s = c.in_ok-schema.schema in
+    let t = c.open_inside.new.schema in
+    let filled = filled_made plan outside old want now d h c.requires.all_answered s c.requires.checked c.in_ok-schema.ensures in
+    let replied = closes_content plan outside old want now d h s filled (is_inline_at plan.rows d.row || plan.inlines) t c.in-Content.is refl
+    (search rules) (search rules) in
+    record {
+      reply = answer t;
+      given = (refl, refl);
+      replied = replied;
+      is_like = closing_answered plan outside old want now now d (reverse c.args.making.now.items) t h (omega arith) replied;
+    }

@@ -1,13 +1,11 @@
-use Rattle.std.proofs.Common.{◌≡◌, ◌<◌, [], List}
-use Rattle.std.proofs.Common.{refl, sym, ◌∙◌, subst, rules}
+use Rattle.std.proofs.Common.{◌≡◌, ◌<◌, [], List, reverse, None, Some}
+use Rattle.std.proofs.Common.{refl, ap, sym, ◌∙◌, subst}
 use Rattle.schemars_build.specs.Plans.{plan_of}
-use Rattle.schemars_build.specs.Making.{wanted}
-use Rattle.schemars_build.specs.Making.{AreWaiting}
+use Rattle.schemars_build.specs.Making.{wanted, AreWaiting, AreMaking, IsTaken, IsReply}
+use Rattle.schemars_build.specs.Work.{Step}
 use Rattle.schemars_build.specs.declared.build.Document.{Document}
-use Rattle.schemars_build.specs.declared.build.Reply.TheVariants as reply
-use Rattle.schemars_build.specs.Left.{left_going, left_of_reply}
-use Rattle.schemars_build.specs.Making.{IsTaken}
-use Rattle.schemars_build.proofs.Making.{Goes, taken_goes, taken_left, goes_on_undone}
+use Rattle.schemars_build.specs.Left.{left_making, left_of_turn}
+use Rattle.schemars_build.proofs.Making.{taken_goes, taken_home, taken_left, goes_on_undone, making_first}
 use Rattle.schemars_build.proofs.build.made.Goals as goal
 
 pub going-init : goal.going-init
@@ -16,46 +14,74 @@ going-init c =
     let first = c.args.in_definition in
     let start = c.args.work.now in
     let all = wanted c.args.request in
-    let none : c.new-waiting.result.items ≡ [] = search rules in
+    let replied = c.in_ok-answer.ensures.replies in
+    let none : reverse c.new-making.result.items ≡ [] = ap reverse c.new-making.ensures.items in
     let P : List Document → Type 0 = λ ds. AreWaiting plan first start all first start all ds in
     record {
       outside = first;
       old = start;
       want = all;
+      around = reverse c.new-making.result.items;
+      reply = replied.reply;
+      given = replied.given;
       waiting = subst P (sym none) (refl, refl, refl);
-      replied = c.in_ok-reply.ensures.replies;
+      replied = replied.replied;
     }
 
-pub returns-in_err-schema-clause-undone : goal.returns-in_err-schema-clause-undone
-returns-in_err-schema-clause-undone c = goes_on_undone (plan_of c.args.plan.now) c.args.in_definition c.args.work.now (wanted c.args.request)
-    c.going.work c.going.waiting.items c.going.reply c.going.invariant
+pub returns-in_err-last-clause-undone : goal.returns-in_err-last-clause-undone
+returns-in_err-last-clause-undone c = goes_on_undone (plan_of c.args.plan.now) c.args.in_definition c.args.work.now (wanted c.args.request)
+    c.going.work (reverse c.going.making.items) c.going.answer c.going.invariant
 
-pub returns-in_err-reply-2-clause-undone : goal.returns-in_err-reply-2-clause-undone
-returns-in_err-reply-2-clause-undone c = c.in_err-reply-2.ensures.undone ∙ goes_on_undone (plan_of c.args.plan.now) c.args.in_definition
-    c.args.work.now (wanted c.args.request) c.going.work c.going.waiting.items c.going.reply c.going.invariant
+pub returns-in_err-answer-2-clause-undone : goal.returns-in_err-answer-2-clause-undone
+returns-in_err-answer-2-clause-undone c = c.in_err-answer-2.ensures.undone ∙ goes_on_undone (plan_of c.args.plan.now) c.args.in_definition
+    c.args.work.now (wanted c.args.request) c.going.work (reverse c.going.making.items) c.going.answer c.going.invariant
 
-taken_document : (t : goal.In_ok-reply-2) → IsTaken t.going.waiting.items t.going.reply t.taken.new.waiting.items
-    (reply.Document t.in-Document.document)
-taken_document c = subst (λ r. IsTaken c.going.waiting.items c.going.reply c.taken.new.waiting.items r) c.in-Document.is c.in_ok-schema.ensures
+-- nothing waits
+home : (c : goal.After-drop-making-in-Some) → Step (plan_of c.args.plan.now) c.args.work.now c.going.work
+    × IsReply (plan_of c.args.plan.now) c.args.in_definition c.args.work.now c.going.work (wanted c.args.request) c.in-Some.schema
+home c =
+    let fs = reverse c.taken.new.making.items in
+    let taken : IsTaken (reverse c.going.making.items) c.going.answer fs (Some c.in-Some.schema) =
+    subst (λ o. IsTaken (reverse c.going.making.items) c.going.answer fs o) c.in-Some.is c.in_ok-last.ensures in
+    taken_home (plan_of c.args.plan.now) c.args.in_definition c.args.work.now (wanted c.args.request) c.going.work
+    (reverse c.going.making.items) c.going.answer fs c.in-Some.schema taken c.going.invariant
 
-goes : (c : goal.In_ok-reply-2) → Goes (plan_of c.args.plan.now) c.args.in_definition c.args.work.now (wanted c.args.request) c.going.work
-    c.taken.new.waiting.items (reply.Document c.in-Document.document)
-goes c = taken_goes (plan_of c.args.plan.now) c.args.in_definition c.args.work.now (wanted c.args.request) c.going.work
-    c.going.waiting.items c.going.reply c.taken.new.waiting.items (reply.Document c.in-Document.document) (taken_document c) c.going.invariant
+pub returns-in-Some-clause-step : goal.returns-in-Some-clause-step
+returns-in-Some-clause-step c = (home c).0
+
+pub returns-in-Some-clause-is : goal.returns-in-Some-clause-is
+returns-in-Some-clause-is c = (home c).1
+
+pub resumed-requires-clause-first : goal.resumed-requires-clause-first
+resumed-requires-clause-first c =
+    let plan = plan_of c.args.plan.now in
+    let all = wanted c.args.request in
+    let es = reverse c.taken.new.making.items in
+    let taken : IsTaken (reverse c.going.making.items) c.going.answer es None =
+    subst (λ o. IsTaken (reverse c.going.making.items) c.going.answer es o) c.in_default.is c.in_ok-last.ensures in
+    making_first plan c.args.in_definition c.args.work.now all c.going.work es
+    (taken_goes plan c.args.in_definition c.args.work.now all c.going.work (reverse c.going.making.items) c.going.answer es taken
+    c.going.invariant)
+
+-- what is taken
+are_taken : (c : goal.In_ok-answer-2) → IsTaken (reverse c.going.making.items) c.going.answer (reverse c.taken.new.making.items) None
+are_taken c = subst (λ o. IsTaken (reverse c.going.making.items) c.going.answer (reverse c.taken.new.making.items) o) c.in_default.is
+    c.in_ok-last.ensures
+
+at : (c : goal.In_ok-answer-2) → AreMaking (plan_of c.args.plan.now) c.args.in_definition c.args.work.now (wanted c.args.request) c.going.work
+    (reverse c.taken.new.making.items)
+at c = taken_goes (plan_of c.args.plan.now) c.args.in_definition c.args.work.now (wanted c.args.request) c.going.work
+    (reverse c.going.making.items) c.going.answer (reverse c.taken.new.making.items) (are_taken c) c.going.invariant
 
 pub going-smaller : goal.going-smaller
 going-smaller c =
     let plan = plan_of c.args.plan.now in
-    let at = goes c in
-    let d = c.in-Document.document in
-    let less : left_of_reply plan c.resumed.new.work c.in_ok-reply-2.reply c.resumed.new.waiting.items
-    < left_going plan c.going.work d c.taken.new.waiting.items = c.in_ok-reply-2.ensures.less at.0 at.1 at.2 at.3 in
-    let same : left_going plan c.going.work d c.taken.new.waiting.items ≡ left_of_reply plan c.going.work c.going.reply c.going.waiting.items =
-    taken_left plan c.args.in_definition c.args.work.now (wanted c.args.request) c.going.work c.going.waiting.items c.going.reply
-    c.taken.new.waiting.items d (taken_document c) c.going.invariant in
-    subst (λ k. left_of_reply plan c.resumed.new.work c.in_ok-reply-2.reply c.resumed.new.waiting.items < k) same less
+    let es = reverse c.taken.new.making.items in
+    let same : left_making plan c.going.work es ≡ left_of_turn plan c.going.work (reverse c.going.making.items) c.going.answer =
+    taken_left plan c.args.in_definition c.args.work.now (wanted c.args.request) c.going.work (reverse c.going.making.items) c.going.answer es
+    (are_taken c) c.going.invariant in
+    subst (λ k. left_of_turn plan c.resumed.new.work (reverse c.resumed.new.making.items) c.in_ok-answer-2.answer < k) same
+    (c.in_ok-answer-2.ensures.less c.args.in_definition c.args.work.now (wanted c.args.request) (at c))
 
 pub going-preserved : goal.going-preserved
-going-preserved c =
-    let at = goes c in
-    c.in_ok-reply-2.ensures.goes_on c.args.in_definition at.0 c.args.work.now at.1 (wanted c.args.request) at.2 at.3 at.4
+going-preserved c = c.in_ok-answer-2.ensures.goes_on c.args.in_definition c.args.work.now (wanted c.args.request) (at c)

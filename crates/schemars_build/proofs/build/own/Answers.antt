@@ -1,9 +1,12 @@
-use Rattle.std.proofs.Common.{refl}
+use Rattle.std.proofs.Common.{◌≡◌, ◌≤◌, length, reverse, refl, ap, ◌∙◌, arith, rules}
 use Rattle.schemars_build.specs.Plans.{plan_of}
-use Rattle.schemars_build.specs.Making.{own}
-use Rattle.schemars_build.specs.declared.build.Purpose.TheVariants as purpose
-use Rattle.schemars_build.proofs.Making.{leads_at_once, opened_reply}
+use Rattle.schemars_build.specs.Making.{own, IsTemplate, IsInMaking, IsOpened, answer, document}
 use Rattle.schemars_build.specs.Left.{left_of_own_document}
+use Rattle.schemars_build.specs.declared.build.Document.{Document}
+use Rattle.schemars_build.specs.declared.build.Purpose.TheVariants as purpose
+use Rattle.schemars_documents.specs.Template.{asks_of}
+use Rattle.schemars_build.proofs.Innermost.{reverse_added}
+use Rattle.schemars_build.proofs.Making.{leads_at_once, opened_reply, filled_made, closes_own}
 use Rattle.schemars_build.proofs.Ending.{opened_within, own_within}
 use Rattle.schemars_build.proofs.build.own.Goals as goal
 
@@ -13,13 +16,67 @@ returns-clause-replies c =
     let inside = c.args.in_definition in
     let old = c.args.work.now in
     let n = c.args.n in
-    opened_reply plan inside inside old (own n) old c.enter.new.self n (purpose.Own c.in_ok-entered.entered) c.in_ok-document.document
-    c.in_ok-document.ensures (leads_at_once plan inside old (own n)) (refl, c.in_ok-entered.ensures.is_new, c.in_ok-entered.ensures.ok)
+    let p = purpose.Own c.in_ok-entered.entered in
+    let t = c.in_ok-template.ensures in
+    let d : Document = record {
+      row = n;
+      purpose = p;
+      in_definition = inside;
+      template = c.in_ok-template.template;
+      asks = c.in_ok-asks.asks;
+      answers = c.in_ok-answers.answers;
+    } in
+    let template : IsTemplate plan d = record {
+      known = c.requires.known;
+      entry = t.0;
+      at = t.1;
+      template = t.2;
+      asks = c.in_ok-asks.ensures ∙ ap asks_of t.2;
+    } in
+    let opened : IsOpened plan inside n p d = (refl, refl, refl, c.in_ok-answers.ensures.items, template) in
+    record {
+      reply = document d;
+      given = (refl, ap reverse c.in_ok-push.ensures.items ∙ reverse_added c.args.making.now.items d);
+      replied = opened_reply plan inside inside old (own n) old c.enter.new.self n p d opened (leads_at_once plan inside old (own n))
+          (refl, c.in_ok-entered.ensures.is_new, c.in_ok-entered.ensures.ok);
+      is_like = opened_within plan inside n p d c.enter.new.self (left_of_own_document plan old n) opened
+          (own_within plan old c.enter.new.self n c.in_ok-entered.ensures.ok);
+    }
 
-pub returns-clause-within : goal.returns-clause-within
-returns-clause-within c =
+pub returns-then-is_empty-clause-replies : goal.returns-then-is_empty-clause-replies
+returns-then-is_empty-clause-replies c =
     let plan = plan_of c.args.plan.now in
+    let inside = c.args.in_definition in
     let old = c.args.work.now in
-    opened_within plan c.args.in_definition c.args.n (purpose.Own c.in_ok-entered.entered) c.in_ok-document.document c.enter.new.self
-    (left_of_own_document plan old c.args.n) c.in_ok-document.ensures
-    (own_within plan old c.enter.new.self c.args.n c.in_ok-entered.ensures.ok)
+    let mid = c.enter.new.self in
+    let n = c.args.n in
+    let p = purpose.Own c.in_ok-entered.entered in
+    let t = c.in_ok-template.ensures in
+    let d : Document = record {
+      row = n;
+      purpose = p;
+      in_definition = inside;
+      template = c.in_ok-template.template;
+      asks = c.in_ok-asks.asks;
+      answers = c.new.result;
+    } in
+    let template : IsTemplate plan d = record {
+      known = c.requires.known;
+      entry = t.0;
+      at = t.1;
+      template = t.2;
+      asks = c.in_ok-asks.ensures ∙ ap asks_of t.2;
+    } in
+    let none : length d.asks.items ≡ 0 = search rules in
+    let all : length d.asks.items ≤ length d.answers.items = omega (arith, none) in
+    let h : IsInMaking plan inside old (own n) mid d = opened_reply plan inside inside old (own n) old mid n p d
+    (refl, refl, refl, c.new.ensures.items, template) (leads_at_once plan inside old (own n))
+    (refl, c.in_ok-entered.ensures.is_new, c.in_ok-entered.ensures.ok) in
+    let s = c.in_ok-schema.schema in
+    let filled = filled_made plan inside old (own n) mid d h all s c.requires.checked c.in_ok-schema.ensures in
+    record {
+      reply = answer s;
+      given = (refl, refl);
+      replied = closes_own plan inside old (own n) mid d h s filled c.in_ok-entered.entered c.leave.new.self refl c.leave.ensures;
+      is_like = tt;
+    }

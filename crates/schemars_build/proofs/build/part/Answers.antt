@@ -1,4 +1,4 @@
-use Rattle.std.proofs.Common.{◌≡◌, ◌≢◌, ℕ, Option, Bool, false, true, inl}
+use Rattle.std.proofs.Common.{◌≡◌, ◌≢◌, ◌≤◌, ℕ, Option, Bool, false, true, inl}
 use Rattle.std.proofs.Common.{Some, None, refl, ap, sym, ◌∙◌, subst, arith, rules, string_bytes, not, is_some, eqb}
 use Rattle.std.proofs.Common.{true≢false}
 use Rattle.std.specs.Prelude.{◌||◌, ◌&&◌, codes}
@@ -14,17 +14,18 @@ use Rattle.schemars_build.specs.Parts.{IsPart, IsMade}
 use Rattle.schemars_build.specs.Plans.{plan_of}
 use Rattle.schemars_build.specs.Reached.{AreReached}
 use Rattle.schemars_build.specs.Making.{own, defined, asked}
-use Rattle.schemars_build.specs.Making.{IsRepliedBy}
+use Rattle.schemars_build.specs.Making.{IsRepliedBy, HasReplied, answer, document}
 use Rattle.schemars_build.specs.declared.build.Purpose.TheVariants as purpose
-use Rattle.schemars_build.specs.declared.build.Reply.TheVariants as reply
 use Rattle.std.specs.Option.{option_eq}
+use Rattle.std.proofs.Common.{reverse}
+use Rattle.std.proofs.lemmas.Result.{IfOk-weaker}
 use Rattle.std.proofs.lemmas.Bool.{eqb-true}
 use Rattle.std.proofs.lemmas.Bool.Decides.{nat_tests}
 use Rattle.schemars_build.proofs.Building.{part_answer}
 use Rattle.schemars_build.proofs.Reaching.{reached_root, nothing_added}
 use Rattle.schemars_build.proofs.Steps.{begun_with, undone-begun, key-found, step_refl, step_meet, step_names}
-use Rattle.schemars_build.proofs.Making.{leads_in_place, leads_defined, opened_reply, replied_from}
-use Rattle.schemars_build.specs.Left.{left_of_own_document, left_of_part}
+use Rattle.schemars_build.proofs.Making.{leads_in_place, leads_defined, opened_reply, replied_from, replied_through}
+use Rattle.schemars_build.specs.Left.{left_of_own_document, left_of_part, IsWithin}
 use Rattle.schemars_build.proofs.Descending.{to_own}
 use Rattle.schemars_build.proofs.Ending.{opened_within, within_more, definition_within}
 use Rattle.schemars_build.proofs.build.part.Goals as goal
@@ -57,8 +58,16 @@ returns-then-is_in_place-clause-replies c =
     let inside = c.args.in_definition in
     let old = c.args.work.now in
     let n = c.args.n in
-    replied_from plan inside old (asked (part n)) old (own n) c.own.new.work c.in_ok-in_place.in_place
-    (leads_in_place plan inside old n (sym c.is_in_place.ensures ∙ c.if-is_in_place.true)) c.in_ok-in_place.ensures.replies
+    let new = c.own.new.work in
+    let ds = reverse c.args.making.now.items in
+    let es = reverse c.own.new.making.items in
+    let placed = sym c.is_in_place.ensures ∙ c.if-is_in_place.true in
+    let less = to_own plan old n c.requires.checked c.requires.known placed in
+    let low : left_of_own_document plan old n ≤ left_of_part plan old n = omega (arith, less) in
+    IfOk-weaker c.own.result _ (HasReplied plan inside old (asked (part n)) ds (IsWithin plan (left_of_part plan old n) new) new es)
+    (λ o h. replied_through plan inside old (asked (part n)) old (own n) ds _ (IsWithin plan (left_of_part plan old n) new) new es o
+    (leads_in_place plan inside old n placed)
+    (λ r like. within_more plan (left_of_own_document plan old n) (left_of_part plan old n) new r low like) h) c.own.ensures.replies
 
 pub returns-then-eq-clause-replies : goal.returns-then-eq-clause-replies
 returns-then-eq-clause-replies c =
@@ -79,8 +88,13 @@ returns-then-eq-clause-replies c =
       );
       reached = λ plain. subst Q (sym c.in_ok-root.ensures) (reached_root plan inside old);
     } in
-    subst (λ w. IsRepliedBy plan inside old (asked (part c.args.n)) w (reply.Answer c.in_ok-root.root)) (sym c.meet_root.ensures)
-    (step_meet plan old inside, refl, part_answer plan inside old met c.args.n c.in_ok-root.root one)
+    record {
+      reply = answer c.in_ok-root.root;
+      given = (refl, refl);
+      replied = subst (λ w. IsRepliedBy plan inside old (asked (part c.args.n)) w (answer c.in_ok-root.root)) (sym c.meet_root.ensures)
+          (step_meet plan old inside, refl, part_answer plan inside old met c.args.n c.in_ok-root.root one);
+      is_like = tt;
+    }
 
 pub returns-then-has_definition-clause-replies : goal.returns-then-has_definition-clause-replies
 returns-then-has_definition-clause-replies c =
@@ -96,18 +110,15 @@ returns-then-has_definition-clause-replies c =
     let made : IsMade plan mid mid k = record { defined = key-found k mid.definitions found; reached = λ plain. nothing_added plan false mid _ } in
     let same : c.in_ok-reference.reference ≡ reference (reference_to plan.path k) =
     c.in_ok-reference.ensures ∙ ap (λ x. reference (reference_to plan.path x)) c.as_str-then-has_definition.ensures.value in
-    replied_from plan inside old (asked (part n)) mid (defined k) mid (reply.Answer c.in_ok-reference.reference)
-    (leads_defined plan inside old mid n k c.in_ok-name.ensures.rest c.in_ok-name.ensures.given c.in_ok-name.ensures.no_other
-    c.in_ok-name.ensures.named placed apart (other_row plan.root n c.if-eq.ensures) c.requires.known c.in_ok-name.ensures.undone)
-    (step_refl plan mid, refl, (made, same))
-
-pub returns-in_err-definition-clause-undone : goal.returns-in_err-definition-clause-undone
-returns-in_err-definition-clause-undone c =
-    let mid = c.name_for.new.self in
-    let k = string_bytes c.in_ok-name.name in
-    let none : get_member k mid.definitions ≡ None = search rules in
-    let begun : c.begin.new.self ≡ begun_with mid k = c.in_ok-begin.ensures.ok ∙ ap (begun_with mid) c.as_str-2.ensures.value in
-    ap undone c.in_ok-entered.ensures.ok ∙ (ap undone begun ∙ (undone-begun mid k none ∙ c.in_ok-name.ensures.undone))
+    record {
+      reply = answer c.in_ok-reference.reference;
+      given = (refl, refl);
+      replied = replied_from plan inside old (asked (part n)) mid (defined k) mid (answer c.in_ok-reference.reference)
+          (leads_defined plan inside old mid n k c.in_ok-name.ensures.rest c.in_ok-name.ensures.given c.in_ok-name.ensures.no_other
+          c.in_ok-name.ensures.named placed apart (other_row plan.root n c.if-eq.ensures) c.requires.known c.in_ok-name.ensures.undone)
+          (step_refl plan mid, refl, (made, same));
+      is_like = tt;
+    }
 
 pub returns-in_err-entered-clause-undone : goal.returns-in_err-entered-clause-undone
 returns-in_err-entered-clause-undone c =
@@ -142,35 +153,20 @@ returns-clause-replies c =
     let while_made : Work → Work = λ w. record w { pending = pending_in plan.inlines w.pending n } in
     let entered : c.enter.new.self ≡ record (begun_with mid k) { pending = pending_in plan.inlines mid.pending n } =
     c.in_ok-entered.ensures.ok ∙ ap while_made begun in
-    opened_reply plan inside true old (asked (part n)) mid c.enter.new.self n (purpose.Definition c.in_ok-name.name c.in_ok-entered.entered)
-    c.in_ok-definition.definition c.in_ok-definition.ensures
-    (leads_defined plan inside old mid n k c.in_ok-name.ensures.rest c.in_ok-name.ensures.given c.in_ok-name.ensures.no_other
-    c.in_ok-name.ensures.named placed apart (other_row plan.root n c.if-eq.ensures) c.requires.known c.in_ok-name.ensures.undone)
-    (refl, is_new, none, c.in_ok-name.ensures.named, entered)
-
-pub returns-then-is_in_place-clause-within : goal.returns-then-is_in_place-clause-within
-returns-then-is_in_place-clause-within c =
-    let plan = plan_of c.args.plan.now in
-    let old = c.args.work.now in
-    let n = c.args.n in
-    let less = to_own plan old n c.requires.checked c.requires.known (sym c.is_in_place.ensures ∙ c.if-is_in_place.true) in
-    within_more plan (left_of_own_document plan old n) (left_of_part plan old n) c.own.new.work c.in_ok-in_place.in_place
-    (omega (arith, less)) c.in_ok-in_place.ensures.within
-
-pub returns-clause-within : goal.returns-clause-within
-returns-clause-within c =
-    let plan = plan_of c.args.plan.now in
-    let old = c.args.work.now in
-    let n = c.args.n in
-    let mid = c.name_for.new.self in
-    let k = string_bytes c.in_ok-name.name in
-    let none : get_member k mid.definitions ≡ None = search rules in
-    let begun : c.begin.new.self ≡ begun_with mid k = c.in_ok-begin.ensures.ok ∙ ap (begun_with mid) c.as_str-2.ensures.value in
-    let while_made : Work → Work = λ w. record w { pending = pending_in plan.inlines w.pending n } in
-    let entered : c.enter.new.self ≡ record (begun_with mid k) { pending = pending_in plan.inlines mid.pending n } =
-    c.in_ok-entered.ensures.ok ∙ ap while_made begun in
     let step : Step plan old mid = subst (λ w. Step plan old w) (sym c.in_ok-name.ensures.rest)
     (step_names plan old mid.names c.in_ok-name.ensures.given) in
-    opened_within plan true n (purpose.Definition c.in_ok-name.name c.in_ok-entered.entered) c.in_ok-definition.definition
-    c.enter.new.self (left_of_part plan old n) c.in_ok-definition.ensures
-    (definition_within plan old mid c.enter.new.self n k c.requires.checked c.requires.known step c.in_ok-name.ensures.named none entered)
+    let p = purpose.Definition c.in_ok-name.name c.in_ok-entered.entered in
+    let new = c.enter.new.self in
+    let ds = reverse c.args.making.now.items in
+    let es = reverse c.opened.new.making.items in
+    let leads = leads_defined plan inside old mid n k c.in_ok-name.ensures.rest c.in_ok-name.ensures.given c.in_ok-name.ensures.no_other
+    c.in_ok-name.ensures.named placed apart (other_row plan.root n c.if-eq.ensures) c.requires.known c.in_ok-name.ensures.undone in
+    IfOk-weaker c.opened.result _ (HasReplied plan inside old (asked (part n)) ds (IsWithin plan (left_of_part plan old n) new) new es)
+    (λ o x. record {
+      reply = document x.0;
+      given = x.2;
+      replied = opened_reply plan inside true old (asked (part n)) mid new n p x.0 x.1 leads
+          (refl, is_new, none, c.in_ok-name.ensures.named, entered);
+      is_like = opened_within plan true n p x.0 new (left_of_part plan old n) x.1
+          (definition_within plan old mid new n k c.requires.checked c.requires.known step c.in_ok-name.ensures.named none entered);
+    }) c.opened.ensures

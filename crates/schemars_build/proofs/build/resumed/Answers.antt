@@ -1,69 +1,111 @@
-use Rattle.std.proofs.Common.{◌≡◌, ◌<◌, ◌+◌, ◌++◌, ◌∷◌, [], map, List, length, take}
-use Rattle.std.proofs.Common.{refl, ap, sym, ◌∙◌, subst, arith, get_or}
+use Rattle.std.proofs.Common.{◌≡◌, ◌<◌, ◌≤◌, ◌+◌, ◌-◌, ◌++◌, ◌∷◌, [], map, length, take, reverse}
+use Rattle.std.proofs.Common.{refl, ap, ◌∙◌, subst, arith, rules, get_or, slice_index_or}
+use Rattle.std.proofs.lemmas.Result.{IfOk-weaker}
 use Rattle.schemars_documents.specs.View.{ask_of}
 use Rattle.schemars_build.specs.Plans.{plan_of}
-use Rattle.schemars_build.specs.Making.{asked}
-use Rattle.schemars_build.specs.Making.{IsNext, AreWaiting}
-use Rattle.schemars_build.specs.declared.build.Document.{Document}
+use Rattle.schemars_build.specs.Making.{asked, IsNext, IsTemplate, HasFirst}
 use Rattle.std.proofs.lemmas.List.{map_more}
 use Rattle.std.proofs.lemmas.Grind.{common_steps}
 use Rattle.schemars_build.specs.Missing.{row_asked}
-use Rattle.schemars_build.specs.Left.{rank, left_of_asked, left_going, left_of_reply}
-use Rattle.schemars_build.proofs.Making.{asks_known}
-use Rattle.schemars_build.proofs.Ending.{asks_lower, asking_less}
+use Rattle.schemars_build.specs.Left.{rank, left_of_asked}
+use Rattle.schemars_build.proofs.Innermost.{last_got, reverse_added}
+use Rattle.schemars_build.proofs.Making.{asks_known, last_is_first, asking_goes_on, asking_goes_less, closing_goes_on, closing_goes_less}
+use Rattle.schemars_build.proofs.Ending.{asks_lower}
 use Rattle.schemars_build.proofs.build.resumed.Goals as goal
 
 pub reply_to-requires-clause-known : goal.reply_to-requires-clause-known
 reply_to-requires-clause-known c =
     let plan = plan_of c.args.plan.now in
-    let d = c.args.document in
-    let i = length d.answers.items in
-    let a = c.in-Some.ask in
-    let less : i < length d.asks.items = grind (arith, common_steps) in
-    let here : get_or d.asks.items i a ≡ a = grind (arith, common_steps) in
-    subst (λ x. row_asked (ask_of x) < length plan.rows) here (asks_known plan d c.requires.checked c.requires.template i a less)
+    let xs = c.args.making.now.items in
+    let x = c.in-Some.document.now in
+    let here : x ≡ slice_index_or xs (length xs - 1) x = search rules in
+    let template : IsTemplate plan x = last_is_first (IsTemplate plan) xs (reverse xs) x (length xs) refl refl here c.requires.first in
+    let i = length x.answers.items in
+    let a = c.in-Some-next.ask in
+    let less : i < length x.asks.items = grind (arith, common_steps) in
+    let asks : get_or x.asks.items i a ≡ a = grind (arith, common_steps) in
+    subst (λ q. row_asked (ask_of q) < length plan.rows) asks (asks_known plan x c.requires.checked template i a less)
 
 -- the rows have all answered
-pub closed-requires-clause-all_answered : goal.closed-requires-clause-all_answered
-closed-requires-clause-all_answered c = grind (arith, common_steps)
-
-pub returns-clause-goes_on : goal.returns-clause-goes_on
-returns-clause-goes_on c = λ first outside start old all want h waits.
+pub closed-requires : goal.closed-requires
+closed-requires c =
     let plan = plan_of c.args.plan.now in
-    let d = c.args.document in
-    let i = length d.answers.items in
-    let a = c.in-Some.ask in
-    let less : i < length d.asks.items = grind (arith, common_steps) in
-    let here : get_or d.asks.items i a ≡ a = grind (arith, common_steps) in
-    let more : map ask_of (take (i + 1) d.asks.items) ≡ map ask_of (take i d.asks.items) ++ ask_of a ∷ [] =
-    map_more ask_of d.asks.items i a less ∙ ap (λ x. map ask_of (take i d.asks.items) ++ ask_of x ∷ []) here in
-    let next : IsNext d d.in_definition (asked (ask_of a)) = record { ask = ask_of a; is = refl; inside = refl; less = less; next = more } in
-    let P : List Document → Type 0 = λ ds. AreWaiting plan first start all d.in_definition c.args.work.now (asked (ask_of a)) ds in
+    let xs = c.args.making.now.items in
+    let y = c.in-Some-pop.document in
+    let x = c.in-Some.document.now in
+    let here : x ≡ slice_index_or xs (length xs - 1) x = search rules in
+    let ds = reverse c.pop.new.self.items in
+    let are : reverse xs ≡ y ∷ ds = ap reverse c.in-Some-pop.ensures.items ∙ reverse_added c.pop.new.self.items y in
+    let same : x ≡ y = here ∙ last_got xs ds y x (length xs) refl are in
+    let answered : length x.asks.items ≤ length x.answers.items = grind (arith, common_steps) in
     record {
-      outside = d.in_definition;
-      old = c.args.work.now;
-      want = asked (ask_of a);
-      waiting = subst P (sym {A = List Document} c.in_ok-push_front.ensures.items) (outside, old, want, h, next, waits);
-      replied = c.in_ok-reply-2.ensures.replies;
+      checked = c.requires.checked;
+      template = subst (λ zs. HasFirst (IsTemplate plan) zs) are c.requires.first;
+      all_answered = subst (λ d. length d.asks.items ≤ length d.answers.items) same answered;
     }
 
-pub returns-clause-less : goal.returns-clause-less
-returns-clause-less c = λ outside old want h.
+pub returns-in-Some-next-clause-goes_on : goal.returns-in-Some-next-clause-goes_on
+returns-in-Some-next-clause-goes_on c =
     let plan = plan_of c.args.plan.now in
-    let d = c.args.document in
-    let i = length d.answers.items in
-    let a = c.in-Some.ask in
+    let xs = c.args.making.now.items in
+    let x = c.in-Some.document.now in
+    let here : x ≡ slice_index_or xs (length xs - 1) x = search rules in
+    let template : IsTemplate plan x = last_is_first (IsTemplate plan) xs (reverse xs) x (length xs) refl refl here c.requires.first in
+    let i = length x.answers.items in
+    let a = c.in-Some-next.ask in
+    let less : i < length x.asks.items = grind (arith, common_steps) in
+    let asks : get_or x.asks.items i a ≡ a = grind (arith, common_steps) in
     let now = c.args.work.now in
     let new = c.reply_to.new.work in
-    let less : i < length d.asks.items = grind (arith, common_steps) in
-    let here : get_or d.asks.items i a ≡ a = grind (arith, common_steps) in
-    let low : left_of_asked plan now (ask_of a) < rank plan now now.pending d.row d.purpose =
-    subst (λ x. left_of_asked plan now (ask_of x) < rank plan now now.pending d.row d.purpose) here
-    (asks_lower plan now d c.requires.checked c.requires.template i a less) in
-    let ds = c.args.waiting.now.items in
-    let P : List Document → Type 0 = λ es. left_of_reply plan new c.in_ok-reply-2.reply es < left_going plan now d ds in
-    subst P (sym {A = List Document} c.in_ok-push_front.ensures.items) (asking_less plan d.in_definition (asked (ask_of a)) now new d ds
-    c.in_ok-reply-2.reply (left_of_asked plan now (ask_of a)) c.in_ok-reply-2.ensures.replies c.in_ok-reply-2.ensures.within low)
+    let es = reverse xs in
+    let fs = reverse c.reply_to.new.making.items in
+    let more : map ask_of (take (i + 1) x.asks.items) ≡ map ask_of (take i x.asks.items) ++ ask_of a ∷ [] =
+    map_more ask_of x.asks.items i a less ∙ ap (λ q. map ask_of (take i x.asks.items) ++ ask_of q ∷ []) asks in
+    let next : IsNext x x.in_definition (asked (ask_of a)) = record { ask = ask_of a; is = refl; inside = refl; less = less; next = more } in
+    IfOk-weaker c.reply_to.result _ _ (λ o h first start all at.
+    let same : x ≡ at.inner = here ∙ last_got xs at.around at.inner x (length xs) refl at.are in
+    asking_goes_on plan first start all now new es fs o at x.in_definition (ask_of a) _
+    (subst (λ d. IsNext d x.in_definition (asked (ask_of a))) same next) h) c.reply_to.ensures.replies
 
-pub returns-in_default-clause-less : goal.returns-in_default-clause-less
-returns-in_default-clause-less c = λ outside old want h. c.in_ok-reply.ensures.less outside old want h c.args.waiting.now.items
+pub returns-in-Some-next-clause-less : goal.returns-in-Some-next-clause-less
+returns-in-Some-next-clause-less c =
+    let plan = plan_of c.args.plan.now in
+    let xs = c.args.making.now.items in
+    let x = c.in-Some.document.now in
+    let here : x ≡ slice_index_or xs (length xs - 1) x = search rules in
+    let template : IsTemplate plan x = last_is_first (IsTemplate plan) xs (reverse xs) x (length xs) refl refl here c.requires.first in
+    let i = length x.answers.items in
+    let a = c.in-Some-next.ask in
+    let less : i < length x.asks.items = grind (arith, common_steps) in
+    let asks : get_or x.asks.items i a ≡ a = grind (arith, common_steps) in
+    let now = c.args.work.now in
+    let new = c.reply_to.new.work in
+    let es = reverse xs in
+    let fs = reverse c.reply_to.new.making.items in
+    let low : left_of_asked plan now (ask_of a) < rank plan now now.pending x.row x.purpose =
+    subst (λ q. left_of_asked plan now (ask_of q) < rank plan now now.pending x.row x.purpose) asks
+    (asks_lower plan now x c.requires.checked template i a less) in
+    IfOk-weaker c.reply_to.result _ _ (λ o h first start all at.
+    let same : x ≡ at.inner = here ∙ last_got xs at.around at.inner x (length xs) refl at.are in
+    asking_goes_less plan first start all now new es fs o at x.in_definition (ask_of a) (left_of_asked plan now (ask_of a))
+    (subst (λ d. left_of_asked plan now (ask_of a) < rank plan now now.pending d.row d.purpose) same low) h) c.reply_to.ensures.replies
+
+pub returns-clause-goes_on : goal.returns-clause-goes_on
+returns-clause-goes_on c =
+    let plan = plan_of c.args.plan.now in
+    let xs = c.args.making.now.items in
+    let y = c.in-Some-pop.document in
+    let ds = reverse c.pop.new.self.items in
+    let are : reverse xs ≡ y ∷ ds = ap reverse c.in-Some-pop.ensures.items ∙ reverse_added c.pop.new.self.items y in
+    IfOk-weaker c.closed.result _ _ (λ o h first start all at. closing_goes_on plan first start all c.args.work.now c.closed.new.work
+    (reverse xs) (reverse c.closed.new.making.items) o at y ds are h) c.closed.ensures.replies
+
+pub returns-clause-less : goal.returns-clause-less
+returns-clause-less c =
+    let plan = plan_of c.args.plan.now in
+    let xs = c.args.making.now.items in
+    let y = c.in-Some-pop.document in
+    let ds = reverse c.pop.new.self.items in
+    let are : reverse xs ≡ y ∷ ds = ap reverse c.in-Some-pop.ensures.items ∙ reverse_added c.pop.new.self.items y in
+    IfOk-weaker c.closed.result _ _ (λ o h first start all at. closing_goes_less plan first start all c.args.work.now c.closed.new.work
+    (reverse xs) (reverse c.closed.new.making.items) o at y ds are h) c.closed.ensures.replies
