@@ -161,7 +161,7 @@ fn taken(
     Ok(None)
 }
 
-// Goes on with the innermost document: it asks the next row, or, where all have answered, it is done.
+// Goes on with the innermost document: it asks the next row, or is done where all have answered.
 fn resumed<'t>(
     alloc: Global,
     plan: &Plan<'t>,
@@ -217,8 +217,8 @@ fn begun<'t>(
     }
 }
 
-// Replies to what is asked of a row: with an answer, or with a document that has to be made first and
-// stands in the list.
+// Replies to what is asked of a row: with an answer, or with a document that joins those that are
+// being made.
 fn reply_to<'t>(
     alloc: Global,
     plan: &Plan<'t>,
@@ -287,8 +287,8 @@ fn own<'t>(
     Ok(None)
 }
 
-// Replies with row `n` as a part: with a reference to its definition or to the root, or with what is to
-// stand in its place or in its definition.
+// Replies with row `n` as a part: with a reference to its definition or to the root, or with what is
+// to stand in its place or in its definition.
 fn part<'t>(
     alloc: Global,
     plan: &Plan<'t>,
@@ -349,7 +349,8 @@ fn opened<'t>(
 ) -> Result<Option<Schema>, AllocError>
     requires checked { IsChecked (plan_of plan.now).rows }
     requires known { n < length (plan_of plan.now).rows }
-    ensures { IfOk result (λ o. (d : src.Document) × IsOpened (plan_of plan.now) in_definition n purpose d
+    ensures { IfOk result (λ o. (d : src.Document)
+        × IsOpened (plan_of plan.now) in_definition n purpose d
         × IsGiven (document d) (reverse making.old.items) (reverse making.new.items) o) }
 {
     let template = template_at(alloc, plan, n)?;
@@ -482,7 +483,9 @@ fn reference_to(alloc: Global, path: &str, name: &str) -> Result<Schema, AllocEr
     ensures { IfOk result (λ s. s ≡ reference (reference_to path.now name.now)) }
 {
     let token = encode_ref_name(alloc, name)?;
-    let mut text = String::from_str(alloc, "#")?;
+    let room = path.len().saturating_add(token.len()).saturating_add(2);
+    let mut text = String::with_capacity(alloc, room)?;
+    text.push('#')?;
     text.push_str(path)?;
     text.push('/')?;
     text.push_str(token.as_str())?;
