@@ -10,22 +10,24 @@ use Rattle.schemars_schema.specs.Json.{Text}
 use Rattle.schemars_schema.specs.OrderedText.{is_listed}
 use Rattle.schemars_schema.specs.SchemaData.{IsSchema, members_in, put_members}
 use Rattle.schemars_schema.specs.Annotations.{is_annotation, AreNotes}
-use Rattle.schemars_schema.specs.Edits.{without, holds_text, with_item}
+use Rattle.schemars_schema.specs.Edits.{without, replaced, holds_text, with_item}
 use Rattle.schemars_schema.specs.References.{NoSchemas, place_under, with_schema, with_list, with_names}
 use Rattle.schemars_schema.specs.Acceptance.{is_null}
 use Rattle.schemars_schema.proofs.Objects.{annotation-not_listed}
-use Rattle.schemars_schema.proofs.Members.{differ}
+use Rattle.schemars_schema.proofs.Members.{differ, unequal}
 use Rattle.schemars_builders.specs.AllowNull.{is_null_choice, is_combined, or_null, allow_null, type_with_null, null_in_type}
 use Rattle.schemars_builders.specs.AllowNull.{enum_with_null, null_in_enum, const_or_null, null_in_const, null_in_values}
 use Rattle.schemars_documents.specs.Documents.{annotated}
 use Rattle.schemars_meaning.proofs.MapDocument.{noted_by, AllNotes}
 use Rattle.schemars_laws.specs.Everywhere.{Everywhere, asked, asked_at, asked_of_keywords}
-use Rattle.schemars_laws.specs.Classes.{IsSchemaList, AreTexts, is_null_alone, IsConstAlone}
-use Rattle.schemars_laws.specs.Stages.{Stands, IsForOpenApi, AreSomeTypes}
-use Rattle.schemars_laws.proofs.Editing.{without-put, alike-put, once-put, absent-once, type-alike, values-alike, const-alike, stands-alike}
+use Rattle.schemars_laws.specs.Names.{IsNoObject}
+use Rattle.schemars_laws.specs.Classes.{IsOnce, IsSchemaList, AreTexts, is_null_alone, IsConstAlone, HasPlainItems, HasNoUnevaluated}
+use Rattle.schemars_laws.specs.Stages.{IsTextOf, Stands, IsForOpenApi, AreSomeTypes, HasSomeTypes, Anything}
+use Rattle.schemars_laws.proofs.Editing.{without-put, alike-put, alike-replaced, once-put, absent-once, type-alike, values-alike}
+use Rattle.schemars_laws.proofs.Editing.{const-alike, stands-alike}
 use Rattle.schemars_laws.proofs.Looked.{without-other}
 use Rattle.schemars_laws.proofs.Plain.{Alike, items-alike, without-swap}
-use Rattle.schemars_laws.proofs.Preserved.{asked-without, asked-put}
+use Rattle.schemars_laws.proofs.Preserved.{asked-without, asked-put, asked-replaced, weaker}
 
 -- ---- keywords
 
@@ -65,20 +67,73 @@ pub asked-nothing : (P : Members → Type 0) (k : Text) (d : Data) → place_und
     → asked_at (place_under k) (asked P d)
 asked-nothing P k d is = subst (λ p. asked_at p (asked P d)) (sym is) tt
 
+-- ---- classes of schema objects
+
+-- what a class asks of references, and of `unevaluatedProperties`
+pub record Demand : Type 1 where
+  pub refers : Text → Type 0
+  pub rest : Members → Type 0
+  pub stays : (ns ms : Members) → Alike (codes "unevaluatedProperties") ns ms → rest ms → rest ns
+  pub lacking : (ms : Members) → HasNoUnevaluated ms → rest ms
+
+-- there are no `unevaluatedProperties`: so OpenAPI and Draft 7 ask
+abbrev pub without_rest : (Text → Type 0) → Demand
+without_rest N = record {
+  refers = N;
+  rest = HasNoUnevaluated;
+  stays = λ ns ms a is. (a.others ∙ is.0, a.first ∙ is.1);
+  lacking = λ ms is. is;
+}
+
+-- they may stand there: 2019-09 reads them
+abbrev pub with_rest : (Text → Type 0) → Demand
+with_rest N = record { refers = N; rest = Anything; stays = λ ns ms a is. tt; lacking = λ ms is. tt }
+
+-- what the laws of the drafts and of OpenAPI ask for beside the reference
+pub record HasPlainKeywords (R : Demand) (ms : Members) : Type 0 where
+  pub rest : R.rest ms
+  pub type : HasSomeTypes ms
+  pub values : (is_null_alone (get_member (codes "type") ms) ≡ false) ⊎ (get_member (codes "enum") ms ≡ None)
+  pub all_of : IsSchemaList (get_member (codes "allOf") ms)
+  pub const : IsConstAlone ms
+  pub items : HasPlainItems ms
+
+-- members of which the laws speak
+abbrev pub Class : Demand → Members → Type 0
+Class R = Stands R.refers (HasPlainKeywords R)
+
+-- those of OpenAPI and of Draft 7
+pub for_openapi : (N : Text → Type 0) (s : Data) → Everywhere (Class (without_rest N)) s → Everywhere (Stands N IsForOpenApi) s
+for_openapi N s is = weaker (Class (without_rest N)) (Stands N IsForOpenApi) (λ ms h. record {
+  reference = h.reference;
+  once = h.once;
+  closed = h.closed;
+  own = record {
+    unevaluated = h.own.rest;
+    type = h.own.type;
+    values = h.own.values;
+    all_of = h.own.all_of;
+    const = h.own.const;
+    items = h.own.items;
+  };
+}) s is
+
+-- that of 2019-09
+pub for_items : (R : Demand) (s : Data) → Everywhere (Class R) s → Everywhere (Stands R.refers HasPlainItems) s
+for_items R s is = weaker (Class R) (Stands R.refers HasPlainItems) (λ ms h. record {
+  reference = h.reference;
+  once = h.once;
+  closed = h.closed;
+  own = h.own.items;
+}) s is
+
 -- ---- members put in, and taken out
 
-module _ (R : Text → Type 0) where
-  -- what the laws of OpenAPI's transforms, and those of Draft 7, ask for, where references are texts of which R holds
-  abbrev pub Class : Members → Type 0
-  Class = Stands R IsForOpenApi
-
-  class-alike : (ns ms : Members) → ((k : Text) → is_listed k watched ≡ true → Alike k ns ms) → Class ms → Class ns
+module _ (R : Demand) where
+  class-alike : (ns ms : Members) → ((k : Text) → is_listed k watched ≡ true → Alike k ns ms) → Class R ms → Class R ns
   class-alike ns ms a is =
-      stands-alike R IsForOpenApi IsForOpenApi ns ms (a (codes "$ref") refl) (a (codes "unevaluatedProperties") refl) (record {
-        unevaluated = (
-          (a (codes "unevaluatedProperties") refl).others ∙ is.own.unevaluated.0,
-          (a (codes "unevaluatedProperties") refl).first ∙ is.own.unevaluated.1,
-        );
+      stands-alike R.refers (HasPlainKeywords R) (HasPlainKeywords R) ns ms (a (codes "$ref") refl) (a (codes "unevaluatedProperties") refl) (record {
+        rest = R.stays ns ms (a (codes "unevaluatedProperties") refl) is.own.rest;
         type = type-alike ns ms (a (codes "type") refl) (a (codes "nullable") refl) (a (codes "const") refl) is.own.type;
         values = values-alike ns ms (a (codes "type") refl) (a (codes "enum") refl) is.own.values;
         all_of = subst IsSchemaList (sym (a (codes "allOf") refl).first) is.own.all_of;
@@ -86,37 +141,43 @@ module _ (R : Text → Type 0) where
         items = items-alike ns ms (a (codes "prefixItems") refl) (a (codes "items") refl) (a (codes "additionalItems") refl) is.own.items;
       }) is
 
-  class-put : (l : Text) (d : Data) (ms : Members) → IsUnwatched l → Class ms → Class (put l d ms)
+  class-put : (l : Text) (d : Data) (ms : Members) → IsUnwatched l → Class R ms → Class R (put l d ms)
   class-put l d ms out is = class-alike (put l d ms) ms (λ k at. record {
     first = get_member-put_other k l d ms (watched-apart k l at out);
     others = without-put k l d ms (watched-apart k l at out);
   }) is
 
+  class-replaced : (l : Text) (d : Data) (ms : Members) → IsUnwatched l → Class R ms → Class R (replaced l d ms)
+  class-replaced l d ms out is =
+      class-alike (replaced l d ms) ms (λ k at. alike-replaced k l d ms (unequal k l (watched-apart k l at out))) is
+
   -- members of the class, and schemas of it inside them
   pub record AreGood (ms : Members) : Type 0 where
-    pub own : Class ms
-    pub inside : asked_of_keywords Class ms
+    pub own : Class R ms
+    pub inside : asked_of_keywords (Class R) ms
 
-  pub are-put : (l : Text) (d : Data) (ms : Members) → IsUnwatched l → asked_at (place_under l) (asked Class d) → AreGood ms
+  pub are-put : (l : Text) (d : Data) (ms : Members) → IsUnwatched l → asked_at (place_under l) (asked (Class R) d) → AreGood ms
       → AreGood (put l d ms)
-  are-put l d ms out here is = record { own = class-put l d ms out is.own; inside = asked-put Class l d ms here is.inside }
+  are-put l d ms out here is = record { own = class-put l d ms out is.own; inside = asked-put (Class R) l d ms here is.inside }
+
+  pub are-replaced : (l : Text) (d : Data) (ms : Members) → IsUnwatched l → asked_at (place_under l) (asked (Class R) d) → AreGood ms
+      → AreGood (replaced l d ms)
+  are-replaced l d ms out here is =
+      record { own = class-replaced l d ms out is.own; inside = asked-replaced (Class R) l d ms here is.inside }
 
   -- `type`, `const` and `enum`, as they may stand beside one another
   other : (l k : Text) (d : Data) (ms : Members) → bytes_eq k l ≡ false → Alike k (put l d ms) ms
   other l k d ms out = alike-put k l d ms out
 
   class-type : (t : Data) (ms : Members) → AreSomeTypes (Some t)
-      → (is_null_alone (Some t) ≡ false) ⊎ ((get_member (codes "const") ms ≡ None) × (get_member (codes "enum") ms ≡ None)) → Class ms
-      → Class (put (codes "type") t ms)
+      → (is_null_alone (Some t) ≡ false) ⊎ ((get_member (codes "const") ms ≡ None) × (get_member (codes "enum") ms ≡ None)) → Class R ms
+      → Class R (put (codes "type") t ms)
   class-type t ms types alone is =
       let ns = put (codes "type") t ms in
       let here : get_member (codes "type") (put (codes "type") t ms) ≡ Some t = get_member-put (codes "type") t ms in
-      stands-alike R IsForOpenApi IsForOpenApi (put (codes "type") t ms) ms (other (codes "type") (codes "$ref") t ms refl) (other (codes "type") (codes "unevaluatedProperties") t ms refl)
+      stands-alike R.refers (HasPlainKeywords R) (HasPlainKeywords R) (put (codes "type") t ms) ms (other (codes "type") (codes "$ref") t ms refl) (other (codes "type") (codes "unevaluatedProperties") t ms refl)
       (record {
-        unevaluated = (
-          (other (codes "type") (codes "unevaluatedProperties") t ms refl).others ∙ is.own.unevaluated.0,
-          (other (codes "type") (codes "unevaluatedProperties") t ms refl).first ∙ is.own.unevaluated.1,
-        );
+        rest = R.stays (put (codes "type") t ms) ms (other (codes "type") (codes "unevaluatedProperties") t ms refl) is.own.rest;
         type = (subst AreSomeTypes (sym here) types, (other (codes "type") (codes "nullable") t ms refl).first ∙ is.own.type.1, no_const here alone);
         values = no_enum here alone;
         all_of = subst IsSchemaList (sym (other (codes "type") (codes "allOf") t ms refl).first) is.own.all_of;
@@ -139,13 +200,10 @@ module _ (R : Text → Type 0) where
 
   -- a change of `const` and `enum` beside a type that is not null alone
   class-values : (ns ms : Members) → ((k : Text) → is_listed k (codes "const" ∷ codes "enum" ∷ []) ≡ false → is_listed k watched ≡ true → Alike k ns ms)
-      → IsConstAlone ns → is_null_alone (get_member (codes "type") ms) ≡ false → Class ms → Class ns
+      → IsConstAlone ns → is_null_alone (get_member (codes "type") ms) ≡ false → Class R ms → Class R ns
   class-values ns ms a const alone is =
-      stands-alike R IsForOpenApi IsForOpenApi ns ms (a (codes "$ref") refl refl) (a (codes "unevaluatedProperties") refl refl) (record {
-        unevaluated = (
-          (a (codes "unevaluatedProperties") refl refl).others ∙ is.own.unevaluated.0,
-          (a (codes "unevaluatedProperties") refl refl).first ∙ is.own.unevaluated.1,
-        );
+      stands-alike R.refers (HasPlainKeywords R) (HasPlainKeywords R) ns ms (a (codes "$ref") refl refl) (a (codes "unevaluatedProperties") refl refl) (record {
+        rest = R.stays ns ms (a (codes "unevaluatedProperties") refl refl) is.own.rest;
         type = (
           subst AreSomeTypes (sym (a (codes "type") refl refl).first) is.own.type.0,
           (a (codes "nullable") refl refl).first ∙ is.own.type.1,
@@ -171,14 +229,14 @@ module _ (R : Text → Type 0) where
   pub are-types : (t : Data) (ms : Members) → AreSomeTypes (Some t)
       → (is_null_alone (Some t) ≡ false) ⊎ ((get_member (codes "const") ms ≡ None) × (get_member (codes "enum") ms ≡ None)) → AreGood ms
       → AreGood (put (codes "type") t ms)
-  are-types t ms types alone is = record { own = class-type t ms types alone is.own; inside = asked-put Class (codes "type") t ms tt is.inside }
+  are-types t ms types alone is = record { own = class-type t ms types alone is.own; inside = asked-put (Class R) (codes "type") t ms tt is.inside }
 
   pub are-const : (c : Data) (ms : Members) → get_member (codes "const") ms ≡ None → get_member (codes "enum") ms ≡ None
       → is_null_alone (get_member (codes "type") ms) ≡ false → AreGood ms → AreGood (put (codes "const") c ms)
   are-const c ms const enum alone is = record {
     own = class-values (put (codes "const") c ms) ms (λ k out at. alike-value (codes "const") k c ms refl out)
         (once-put (codes "const") c ms const, inr ((other (codes "const") (codes "enum") c ms refl).first ∙ enum)) alone is.own;
-    inside = asked-put Class (codes "const") c ms tt is.inside;
+    inside = asked-put (Class R) (codes "const") c ms tt is.inside;
   }
 
   pub are-enum : (e : Data) (ms : Members) → get_member (codes "const") ms ≡ None
@@ -186,7 +244,7 @@ module _ (R : Text → Type 0) where
   are-enum e ms const alone is = record {
     own = class-values (put (codes "enum") e ms) ms (λ k out at. alike-value (codes "enum") k e ms refl out)
         ((other (codes "enum") (codes "const") e ms refl).others ∙ is.own.own.const.0, inl ((other (codes "enum") (codes "const") e ms refl).first ∙ const)) alone is.own;
-    inside = asked-put Class (codes "enum") e ms tt is.inside;
+    inside = asked-put (Class R) (codes "enum") e ms tt is.inside;
   }
 
   without-const : (ms : Members) → is_null_alone (get_member (codes "type") ms) ≡ false → AreGood ms → AreGood (without (codes "const") ms)
@@ -195,25 +253,32 @@ module _ (R : Text → Type 0) where
       first = without-other (codes "const") k ms (apart-from k (codes "const") out refl);
       others = without-swap k (codes "const") ms (apart-from k (codes "const") out refl);
     }) (absent-once (codes "const") (without (codes "const") ms) is.own.own.const.0, inl is.own.own.const.0) alone is.own;
-    inside = asked-without Class (codes "const") ms is.inside;
+    inside = asked-without (Class R) (codes "const") ms is.inside;
+  }
+
+  -- members are of the class where there is neither `nullable`, `const` nor `enum`, and what else it asks about is as it asks
+  pub class-of : (ms : Members) → IsTextOf R.refers (get_member (codes "$ref") ms) → IsOnce (codes "$ref") ms
+      → IsNoObject (get_member (codes "unevaluatedProperties") ms) → R.rest ms → AreSomeTypes (get_member (codes "type") ms)
+      → get_member (codes "nullable") ms ≡ None → get_member (codes "const") ms ≡ None → get_member (codes "enum") ms ≡ None
+      → IsSchemaList (get_member (codes "allOf") ms) → HasPlainItems ms → Class R ms
+  class-of ms reference once closed rest types nullable const enum all items = record {
+    reference = reference;
+    once = once;
+    closed = closed;
+    own = record {
+      rest = rest;
+      type = (types, nullable, inr const);
+      values = inr enum;
+      all_of = all;
+      const = (absent-once (codes "const") ms const, inl const);
+      items = items;
+    };
   }
 
   pub nothing : AreGood no_members
   unfolding asked_of_keywords
   nothing = record {
-    own = record {
-      reference = tt;
-      once = refl;
-      closed = tt;
-      own = record {
-        unevaluated = (refl, refl);
-        type = (tt, refl, inl refl);
-        values = inl refl;
-        all_of = tt;
-        const = (refl, inl refl);
-        items = (refl, tt, tt, refl);
-      };
-    };
+    own = class-of no_members tt refl tt (R.lacking no_members (refl, refl)) tt refl refl refl tt (refl, tt, tt, refl);
     inside = tt;
   }
 
@@ -222,7 +287,7 @@ module _ (R : Text → Type 0) where
   -- a schema that is of the class everywhere
   pub record IsGood (s : Data) : Type 0 where
     pub schema : IsSchema s
-    pub everywhere : Everywhere Class s
+    pub everywhere : Everywhere (Class R) s
 
   pub good : (ms : Members) → AreGood ms → IsGood (object ms)
   unfolding asked
@@ -249,7 +314,7 @@ module _ (R : Text → Type 0) where
   are-noted no_members ms noted is = is
   are-noted (member k d notes) ms noted is =
       are-noted notes (put k d ms) noted.1
-      (are-put k d ms (note-unwatched k noted.0) (asked-nothing Class k d (note-place k noted.0)) is)
+      (are-put k d ms (note-unwatched k noted.0) (asked-nothing (Class R) k d (note-place k noted.0)) is)
 
   pub good-annotated : (notes : Members) (s : Data) → AreNotes notes → IsGood s → IsGood (annotated notes s)
   good-annotated no_members s noted is = is

@@ -1,7 +1,7 @@
 -- In a plain table each document of a row is one that the laws of the drafts speak of.
-use Rattle.std.proofs.Common.{ℕ, zero, suc, inl, inr, List, [], ◌∷◌, map, Option, Some, None, Bool, true, false, codes, refl, sym, ◌∙◌}
+use Rattle.std.proofs.Common.{◌≡◌, ℕ, zero, suc, inl, inr, List, [], ◌∷◌, ◌++◌, map, Option, Some, None, Bool, true, false, codes, refl}
+use Rattle.std.proofs.Common.{sym, ◌∙◌, subst}
 use Rattle.std.specs.Prelude.{is_some, if◌then◌else◌}
-use Rattle.std.proofs.Common.{subst}
 use Rattle.std.specs.Option.{option_map_or}
 use Rattle.serde_json.specs.Data.{Data}
 use Rattle.schemars_schema.specs.Json.{Text}
@@ -9,95 +9,114 @@ use Rattle.serde_json.specs.Data.{Members}
 use Rattle.serde_json.specs.Find.{get_member}
 use Rattle.schemars_laws.specs.Everywhere.{Everywhere}
 use Rattle.schemars_laws.specs.Names.{IsName, Named}
-use Rattle.schemars_laws.specs.Classes.{IsDraft07}
+use Rattle.schemars_laws.specs.Classes.{IsDraft07, HasPlainItems}
 use Rattle.schemars_laws.proofs.Preserved.{weaker}
 use Rattle.schemars_laws.proofs.Steps.{text-alone, text-named}
 use Rattle.schemars_laws.specs.Stages.{Stands, IsForOpenApi}
-use Rattle.schemars_headline.proofs.Changes.{Class}
+use Rattle.schemars_schema.specs.Annotations.{AreNotes}
 use Rattle.schemars_schema.proofs.Literals.{literal_is_schema}
 use Rattle.schemars_builders.specs.Variants.{unit_variant}
 use Rattle.schemars_shapes.specs.Shape as shape
-use Rattle.schemars_shapes.specs.Shape.{Shape, Required, Field, Flattened, Entry}
+use Rattle.schemars_shapes.specs.Shape.{Shape, Required, Field, Fields, Flattened, Entry}
 use Rattle.schemars_types.specs.Rows.{Row, entry_at}
 use Rattle.schemars_types.specs.Edges.{option_at}
 use Rattle.schemars_types.specs.Effective.{effective, shape_fields, fields_within, without_options, weakened, part_fields, flattened_in}
-use Rattle.schemars_types.specs.Effective.{part_enums, spread}
+use Rattle.schemars_types.specs.Effective.{part_enums, spread, spread_in}
 use Rattle.schemars_types.specs.KeyOptions.{key_options}
 use Rattle.schemars_documents.specs.PlainTable.{AreNoted, IsPlainShape, ArePlainParts, parts_in, IsPlainEntry, IsPlainTable}
 use Rattle.schemars_documents.specs.Basis.{Basis}
-use Rattle.schemars_documents.specs.Template.{Ask, part}
-use Rattle.schemars_documents.specs.Describes.{IsOwnDocument, IsAnswered, IsWritten, Describes}
+use Rattle.schemars_documents.specs.Template.{Ask, part, asks_of, filled}
+use Rattle.schemars_documents.specs.OfShape.{struct_template, template_of}
+use Rattle.schemars_documents.specs.Describes.{Fills, IsOwnDocument, IsAnswered, IsWritten, Describes}
 use Rattle.schemars_documents.proofs.Literals.{literal_document-schema}
+use Rattle.schemars_documents.proofs.OpenStructs.{parts_apart}
 use Rattle.schemars_meaning.proofs.Spread.{AnswersFields}
-use Rattle.schemars_meaning.proofs.ByShape.{IsDocument, own_document, member_document}
+use Rattle.schemars_meaning.proofs.Filling.{Fit}
+use Rattle.schemars_meaning.proofs.Flattened.{struct_fills}
+use Rattle.schemars_meaning.proofs.ByShape.{IsDocument, others_fill, member_document}
 use Rattle.schemars_meaning.proofs.References.{IsNotedShape}
 use Rattle.schemars_meaning.proofs.Referring.{IsNotedRow, AreNotedRows, plain_rows}
 use Rattle.schemars_meaning.proofs.FieldsDescribed.{described_fields}
-use Rattle.schemars_headline.proofs.Changes.{IsGood, good_truth, good-annotated, good-allow_null}
+use Rattle.schemars_headline.proofs.Changes.{Demand, IsGood, good_truth, good-annotated, good-allow_null}
 use Rattle.schemars_headline.proofs.Documents.{type-good, int-good, non_zero-good, char-good, formatted-good, bytes-good}
 use Rattle.schemars_headline.proofs.Documents.{schema_itself-good, reference-good, empty_list-good, seq-good, set-good}
 use Rattle.schemars_headline.proofs.Documents.{array-good, up_to-good, tuple-good, parts-good, fields-good, one_of-good}
 use Rattle.schemars_headline.proofs.Documents.{member-good, map-good, unit-good, literal-good}
 use Rattle.schemars_headline.proofs.Filled.{noted-effective, external-makes, untagged-makes, internal-makes, values-make}
 
-module _ (R : Text → Type 0) (A : Ask → Data → Type 0) (has : Flattened → List Field) (basis : Basis)
-    (fields : AnswersFields has basis.rows basis.contract A) (noted_rows : (p : Flattened) → AreNoted (has p))
+-- all shapes but structs
+abbrev IsNoStruct : Shape → Type 0
+IsNoStruct (shape.struct x) = ⊥
+IsNoStruct kind = Unit {0}
+
+-- `Under` says what may be flattened, so that the documents of structs are of the class
+module _ (R : Demand) (A : Ask → Data → Type 0) (basis : Basis) (Under : List Flattened → Type 0)
+    (apart : (ps qs : List Flattened) → Under (ps ++ qs) → Under ps × Under qs)
+    (structs : (y : Fields) → AreNoted y.list → Under y.flatten → (us : List Data)
+    → Fit A (asks_of (struct_template basis.contract y)) us → IsGood R (filled (struct_template basis.contract y) us))
     (parts : (j : ℕ) (t : Data) → A (part j) t → IsGood R t) where
-  shape-good : (kind : Shape) (s : Data) (others : Flattened → List Field) (enums : Flattened → List ℕ)
-      → IsPlainShape (spread others enums kind) → IsNotedShape kind
-      → ArePlainParts basis.rows (parts_in kind) → IsDocument A has basis kind s → IsGood R s
-  shape-good shape.null s others enums p own flat is = rw is (type-good R (codes "null"))
-  shape-good shape.bool s others enums p own flat is = rw is (type-good R (codes "boolean"))
-  shape-good (shape.int k) s others enums p own flat is = rw is (int-good R k)
-  shape-good (shape.non_zero k) s others enums p own flat is = rw is (non_zero-good R k)
-  shape-good shape.number s others enums p own flat is = rw is (type-good R (codes "number"))
-  shape-good shape.text s others enums p own flat is = rw is (type-good R (codes "string"))
-  shape-good shape.char s others enums p own flat is = rw is (char-good R)
-  shape-good (shape.formatted f) s others enums p own flat is = rw is (formatted-good R f)
-  shape-good shape.any s others enums p own flat is = rw is (good_truth R true)
-  shape-good shape.bytes s others enums p own flat is = rw is (bytes-good R basis.contract)
-  shape-good shape.schema_itself s others enums p own flat is = rw is (schema_itself-good R)
-  shape-good (shape.option n) s others enums p own flat is = rw is.2 (good-allow_null R is.0 (parts n is.0 is.1))
-  shape-good (shape.seq n) s others enums p own flat is = rw is.2 (seq-good R is.0 (parts n is.0 is.1))
-  shape-good (shape.set n) s others enums p own flat is = rw is.2 (set-good R is.0 (parts n is.0 is.1))
-  shape-good (shape.array n zero) s others enums p own flat is = rw is (empty_list-good R)
-  shape-good (shape.array n (suc len)) s others enums p own flat is = rw is.2 (array-good R (suc len) is.0 (parts n is.0 is.1))
-  shape-good (shape.up_to n cap) s others enums p own flat is = rw is.2 (up_to-good R cap is.0 (parts n is.0 is.1))
-  shape-good (shape.tuple ns) s others enums p own flat is =
+  abbrev no_fields : Flattened → List Field
+  no_fields p = []
+
+  other-good : (kind : Shape) (s : Data) (others : Flattened → List Field) (enums : Flattened → List ℕ) → IsNoStruct kind
+      → IsPlainShape (spread others enums kind) → IsNotedShape kind → Under (parts_in kind) → IsDocument A no_fields basis kind s → IsGood R s
+  other-good shape.null s others enums other p own flat is = rw is (type-good R (codes "null"))
+  other-good shape.bool s others enums other p own flat is = rw is (type-good R (codes "boolean"))
+  other-good (shape.int k) s others enums other p own flat is = rw is (int-good R k)
+  other-good (shape.non_zero k) s others enums other p own flat is = rw is (non_zero-good R k)
+  other-good shape.number s others enums other p own flat is = rw is (type-good R (codes "number"))
+  other-good shape.text s others enums other p own flat is = rw is (type-good R (codes "string"))
+  other-good shape.char s others enums other p own flat is = rw is (char-good R)
+  other-good (shape.formatted f) s others enums other p own flat is = rw is (formatted-good R f)
+  other-good shape.any s others enums other p own flat is = rw is (good_truth R true)
+  other-good shape.bytes s others enums other p own flat is = rw is (bytes-good R basis.contract)
+  other-good shape.schema_itself s others enums other p own flat is = rw is (schema_itself-good R)
+  other-good (shape.option n) s others enums other p own flat is = rw is.2 (good-allow_null R is.0 (parts n is.0 is.1))
+  other-good (shape.seq n) s others enums other p own flat is = rw is.2 (seq-good R is.0 (parts n is.0 is.1))
+  other-good (shape.set n) s others enums other p own flat is = rw is.2 (set-good R is.0 (parts n is.0 is.1))
+  other-good (shape.array n zero) s others enums other p own flat is = rw is (empty_list-good R)
+  other-good (shape.array n (suc len)) s others enums other p own flat is = rw is.2 (array-good R (suc len) is.0 (parts n is.0 is.1))
+  other-good (shape.up_to n cap) s others enums other p own flat is = rw is.2 (up_to-good R cap is.0 (parts n is.0 is.1))
+  other-good (shape.tuple ns) s others enums other p own flat is =
       rw is.2 (tuple-good R is.0 (parts-good R (λ j. A (part j)) parts ns is.0 is.1))
-  shape-good (shape.struct x) s others enums p own flat is =
-      fields-good R (λ j. A (part j)) parts basis.contract (effective has x) x.closed s (noted-effective has noted_rows x own) is
-  shape-good (shape.newtype n) s others enums p own flat is = parts n s is
-  shape-good (shape.result a b) s others enums p own flat is =
+  other-good (shape.struct x) s others enums other p own flat is = absurd other
+  other-good (shape.newtype n) s others enums other p own flat is = parts n s is
+  other-good (shape.result a b) s others enums other p own flat is =
       rw is.4 (one_of-good R (member_document false (codes "Ok") is.0 ∷ member_document false (codes "Err") is.1 ∷ []) (
         member-good R false (codes "Ok") is.0
             (parts a is.0 is.2),
         (member-good R false (codes "Err") is.1 (parts b is.1 is.3), tt),
       ))
-  shape-good (shape.bound n) s others enums p own flat is =
+  other-good (shape.bound n) s others enums other p own flat is =
       rw is.4 (one_of-good R (member_document false (codes "Included") is.0 ∷ member_document false (codes "Excluded") is.1
       ∷ unit_variant (codes "Unbounded") ∷ []) (
         member-good R false (codes "Included") is.0 (parts n is.0 is.2),
         (member-good R false (codes "Excluded") is.1 (parts n is.1 is.3), (unit-good R (codes "Unbounded"), tt)),
       ))
-  shape-good (shape.range n) s others enums p own flat is =
+  other-good (shape.range n) s others enums other p own flat is =
       rw is.4 (map-good R ((codes "start", is.0) ∷ (codes "end", is.1) ∷ []) (codes "start" ∷ codes "end" ∷ []) false
       (parts n is.0 is.2, (parts n is.1 is.3, tt)))
-  shape-good (shape.either a b) s others enums p own flat is =
+  other-good (shape.either a b) s others enums other p own flat is =
       rw is.4 (one_of-good R (member_document true (codes "Left") is.0 ∷ member_document true (codes "Right") is.1 ∷ []) (
         member-good R true (codes "Left") is.0 (parts a is.0 is.2),
         (member-good R true (codes "Right") is.1 (parts b is.1 is.3), tt),
       ))
-  shape-good (shape.map_from from value) s others enums p own flat is =
+  other-good (shape.map_from from value) s others enums other p own flat is =
       rw is.is (values-make R A parts (key_options basis.rows from) value is.parts is.answered)
-  shape-good (shape.external xs) s others enums p own flat is =
-      rw is.is (external-makes R A has basis fields noted_rows parts xs own flat is.parts is.answered)
-  shape-good (shape.untagged xs) s others enums p own flat is =
-      rw is.is (untagged-makes R A has basis fields noted_rows parts xs own flat is.parts is.answered)
-  shape-good (shape.internal tag closed xs) s others enums p own flat is =
-      rw is.is (internal-makes R A has basis fields noted_rows parts others enums tag closed xs p.2 own flat is.parts is.answered)
-  shape-good (shape.literal d) s others enums p own flat is =
+  other-good (shape.external xs) s others enums other p own flat is =
+      rw is.is (external-makes R A basis Under apart structs parts xs own flat is.parts is.answered)
+  other-good (shape.untagged xs) s others enums other p own flat is =
+      rw is.is (untagged-makes R A basis Under apart structs parts xs own flat is.parts is.answered)
+  other-good (shape.internal tag closed xs) s others enums other p own flat is =
+      rw is.is (internal-makes R A basis Under apart structs parts others enums tag closed xs p.2 own flat is.parts is.answered)
+  other-good (shape.literal d) s others enums other p own flat is =
       rw (is ∙ literal_document-schema d (literal_is_schema d p)) (literal-good R d p)
+
+  shape-good : (kind : Shape) (s : Data) (others : Flattened → List Field) (enums : Flattened → List ℕ)
+      → IsPlainShape (spread others enums kind) → IsNotedShape kind → Under (parts_in kind) → Fills A (template_of basis kind) s → IsGood R s
+  shape-good (shape.struct x) s others enums p own flat h = subst (IsGood R) (sym h.is) (structs x own flat h.parts h.answered)
+  shape-good kind s others enums p own flat h =
+      other-good kind s others enums tt p own flat (others_fill A no_fields basis kind s h.parts tt h.answered h.is)
 
 -- ---- fields
 
@@ -134,43 +153,76 @@ module _ (rows : List Row) (noted : AreNotedRows rows) where
 
 -- ---- the documents of rows
 
-module _ (R : Text → Type 0) (basis : Basis) (Refers : ℕ → Text → Type 0) (plain : IsPlainTable basis.rows)
-    (names : (j : ℕ) (r : Text) → Refers j r → R r) where
-  abbrev In : ℕ → ℕ → Data → Type 0
+-- what a table says of a row that it has
+abbrev pub IsNotedUnder : List Row → (List Flattened → Type 0) → Entry → Type 0
+IsNotedUnder rows Under e =
+    AreNotes e.notes × IsPlainShape (spread_in rows e.shape) × IsNotedShape e.shape × Under (parts_in e.shape)
+
+module _ (R : Demand) (basis : Basis) (Refers : ℕ → Text → Type 0) (names : (j : ℕ) (r : Text) → Refers j r → R.refers r) where
+  abbrev pub In : ℕ → ℕ → Data → Type 0
   In d = IsWritten Refers (Describes basis Refers d)
 
-  abbrev Answer : ℕ → Ask → Data → Type 0
+  abbrev pub Answer : ℕ → Ask → Data → Type 0
   Answer d = IsAnswered basis.rows (λ m b. Unit {0}) (In d) (Describes basis Refers d)
 
-  abbrev fields_at : ℕ → Flattened → List Field
-  fields_at d = part_fields basis.rows (fields_within basis.rows d)
+  abbrev pub PartsGood : ℕ → Type 0
+  PartsGood d = (j : ℕ) (t : Data) → In d j t → IsGood R t
 
-  fields_down : (d : ℕ) → AnswersFields (fields_at d) basis.rows basis.contract (Answer d)
-  unfolding fields_within
-  fields_down d = described_fields basis Refers plain (fields_within basis.rows) (λ e n. refl) d
+  -- what fills the template of a struct is of the class, where its parts are
+  abbrev pub StructsGood : (List Flattened → Type 0) → ℕ → Type 0
+  StructsGood Under d =
+      PartsGood d → (y : Fields) → AreNoted y.list → Under y.flatten → (us : List Data)
+      → Fit (Answer d) (asks_of (struct_template basis.contract y)) us → IsGood R (filled (struct_template basis.contract y) us)
 
-  own-good : (d : ℕ) → ((j : ℕ) (t : Data) → In d j t → IsGood R t) → (o : Option Entry) → IsPlainEntry basis.rows o
-      → IsNotedRow o → (t : Data) → IsOwnDocument (Answer d) basis o t → IsGood R t
-  own-good d parts None entry noted t is = absurd is
-  own-good d parts (Some e) entry noted t is =
-      let has = fields_at d in
-      let own = own_document (Answer d) has basis (fields_down d) e t entry.2 is in
-      rw own.2 (good-annotated R e.notes own.0 entry.0
-      (shape-good R (Answer d) has basis (fields_down d)
-      (noted-part basis.rows (plain_rows basis.rows plain) (fields_within basis.rows d)
-      (noted-within basis.rows (plain_rows basis.rows plain) d)) parts e.shape own.0
-      (flattened_in basis.rows) (part_enums basis.rows) entry.1 noted.1 entry.2 own.1))
+  module _ (Under : List Flattened → Type 0) (apart : (ps qs : List Flattened) → Under (ps ++ qs) → Under ps × Under qs)
+      (entries : (n : ℕ) (e : Entry) → entry_at basis.rows n ≡ Some e → IsNotedUnder basis.rows Under e)
+      (structs : (d : ℕ) → StructsGood Under d) where
+    own-good : (d : ℕ) → PartsGood d → (o : Option Entry) → ((e : Entry) → o ≡ Some e → IsNotedUnder basis.rows Under e) → (t : Data)
+        → IsOwnDocument (Answer d) basis o t → IsGood R t
+    own-good d parts None entry t h = absurd h
+    own-good d parts (Some e) entry t h =
+        let told = entry e refl in
+        let bare = filled (template_of basis e.shape) h.parts in
+        subst (IsGood R) (sym h.is) (good-annotated R e.notes bare told.0
+        (shape-good R (Answer d) basis Under apart (structs d parts) parts e.shape bare (flattened_in basis.rows) (part_enums basis.rows)
+        told.1 told.2 told.3 (record { parts = h.parts; answered = h.answered; is = refl })))
 
-  written-by : (d : ℕ) → ((j : ℕ) (t : Data) → Describes basis Refers d j t → IsGood R t) → (j : ℕ) (t : Data) → In d j t
-      → IsGood R t
-  written-by d own j t (inl h) = subst (IsGood R) (sym h.2) (reference-good R h.0 (names j h.0 h.1))
-  written-by d own j t (inr h) = own j t h
+    written-by : (d : ℕ) → ((j : ℕ) (t : Data) → Describes basis Refers d j t → IsGood R t) → PartsGood d
+    written-by d own j t (inl h) = subst (IsGood R) (sym h.2) (reference-good R h.0 (names j h.0 h.1))
+    written-by d own j t (inr h) = own j t h
 
-  pub described-good : (d n : ℕ) (t : Data) → Describes basis Refers d n t → IsGood R t
-  unfolding Describes
-  described-good zero n t h = absurd h
-  described-good (suc d) n t h =
-      own-good d (written-by d (described-good d)) (entry_at basis.rows n) (plain n) (plain_rows basis.rows plain n) t h
+    pub each-good : (d n : ℕ) (t : Data) → Describes basis Refers d n t → IsGood R t
+    unfolding Describes
+    each-good zero n t h = absurd h
+    each-good (suc d) n t h = own-good d (written-by d (each-good d)) (entry_at basis.rows n) (entries n) t h
+
+  -- ---- in a plain table
+
+  module _ (plain : IsPlainTable basis.rows) where
+    abbrev fields_at : ℕ → Flattened → List Field
+    fields_at d = part_fields basis.rows (fields_within basis.rows d)
+
+    fields_down : (d : ℕ) → AnswersFields (fields_at d) basis.rows basis.contract (Answer d)
+    unfolding fields_within
+    fields_down d = described_fields basis Refers plain (fields_within basis.rows) (λ e n. refl) d
+
+    plain-entry : (n : ℕ) (e : Entry) → entry_at basis.rows n ≡ Some e → IsNotedUnder basis.rows (ArePlainParts basis.rows) e
+    plain-entry n e at =
+        let entry : IsPlainEntry basis.rows (Some e) = subst (IsPlainEntry basis.rows) at (plain n) in
+        let own : IsNotedRow (Some e) = subst IsNotedRow at (plain_rows basis.rows plain n) in
+        (entry.0, entry.1, own.1, entry.2)
+
+    plain-structs : (d : ℕ) → StructsGood (ArePlainParts basis.rows) d
+    plain-structs d parts y own flat us fit =
+        fields-good R (In d) parts basis.contract (effective (fields_at d) y) y.closed _
+        (noted-effective (fields_at d) (noted-part basis.rows (plain_rows basis.rows plain) (fields_within basis.rows d)
+        (noted-within basis.rows (plain_rows basis.rows plain) d)) y own)
+        (struct_fills (Answer d) (fields_at d) basis.rows basis.contract (fields_down d) y flat us fit)
+
+    pub described-good : (d n : ℕ) (t : Data) → Describes basis Refers d n t → IsGood R t
+    described-good = each-good (ArePlainParts basis.rows) (parts_apart basis.rows) plain-entry plain-structs
+
+-- ---- where references are names
 
 pub class-named : (key : Text) (ms : Members) → Stands (IsName key) IsForOpenApi ms → Named key IsDraft07 ms
 class-named key ms is = (
@@ -179,20 +231,10 @@ class-named key ms is = (
   (is.own.unevaluated, (is.once, text-alone (IsName key) (get_member (codes "$ref") ms) is.reference, is.own.all_of), is.own.items),
 )
 
--- where references are names
-pub good-named : (key : Text) (s : Data) → Everywhere (Class (IsName key)) s → Everywhere (Named key IsDraft07) s
-good-named key s is = weaker (Class (IsName key)) (Named key IsDraft07) (class-named key) s is
+pub good-named : (key : Text) (s : Data) → Everywhere (Stands (IsName key) IsForOpenApi) s → Everywhere (Named key IsDraft07) s
+good-named key s is = weaker (Stands (IsName key) IsForOpenApi) (Named key IsDraft07) (class-named key) s is
 
-module _ (key : Text) where
-  pub described-class : (basis : Basis) (Refers : ℕ → Text → Type 0) → IsPlainTable basis.rows
-      → ((j : ℕ) (r : Text) → Refers j r → IsName key r)
-      → (d n : ℕ) (s : Data) → Describes basis Refers d n s → Everywhere (Named key IsDraft07) s
-  described-class basis Refers plain names d n s h =
-      good-named key s (described-good (IsName key) basis Refers plain names d n s h).everywhere
-
-  pub written-class : (basis : Basis) (Refers : ℕ → Text → Type 0) → IsPlainTable basis.rows
-      → ((j : ℕ) (r : Text) → Refers j r → IsName key r)
-      → (d n : ℕ) (t : Data) → IsWritten Refers (Describes basis Refers d) n t → Everywhere (Named key IsDraft07) t
-  written-class basis Refers plain names d n t h =
-      good-named key t (written-by (IsName key) basis Refers plain names d
-      (described-good (IsName key) basis Refers plain names d) n t h).everywhere
+pub items-named : (key : Text) (s : Data) → Everywhere (Stands (IsName key) HasPlainItems) s → Everywhere (Named key HasPlainItems) s
+items-named key s is =
+    weaker (Stands (IsName key) HasPlainItems) (Named key HasPlainItems)
+    (λ ms h. (text-named (IsName key) (get_member (codes "$ref") ms) h.reference, h.closed, h.own)) s is

@@ -1,6 +1,7 @@
 -- Root documents mean their types in Draft 7 and 2019-09 too, after the transforms of these drafts.
-use Rattle.std.proofs.Common.{◌≡◌, ◌⊎◌, ℕ, inl, inr, Option, Some, None, true, codes, refl, sym, ap, ◌∙◌, subst}
+use Rattle.std.proofs.Common.{◌≡◌, ◌⊎◌, ℕ, inl, inr, [], Option, Some, None, true, codes, refl, sym, ap, ◌∙◌, subst}
 use Rattle.std.specs.Prelude.{is_some, option_and_then}
+use Rattle.std.specs.Option.{option_map_or}
 use Rattle.serde_json.specs.Data.{Data, null, boolean, number, string, array, object, Members, no_members, put}
 use Rattle.serde_json.specs.Find.{get_member}
 use Rattle.serde_json.proofs.Views.{get_member-put}
@@ -8,23 +9,34 @@ use Rattle.schemars_schema.specs.Json.{Text}
 use Rattle.schemars_schema.specs.Encoding.{lookup}
 use Rattle.schemars_schema.specs.SchemaData.{IsSchema}
 use Rattle.schemars_schema.specs.Lookup.{schema_only, resolved}
-use Rattle.schemars_schema.specs.References.{ReferencesResolve, resolves}
+use Rattle.schemars_schema.specs.References.{resolves}
 use Rattle.schemars_schema.proofs.Placings.{schema_only-schema, resolved-whole}
+use Rattle.schemars_schema.specs.Acceptance.{draft07, draft2019_09}
+use Rattle.schemars_types.specs.Effective.{flattened_in, shape_fields}
+use Rattle.schemars_types.specs.declared.contract.Contract.{Contract}
 use Rattle.schemars_types.specs.Faults.{IsChecked}
-use Rattle.schemars_documents.specs.PlainTable.{IsPlainTable}
+use Rattle.schemars_documents.specs.PlainTable.{IsPlainTable, IsPlainUnder}
 use Rattle.schemars_build.specs.Naming.{IsOneToOne}
 use Rattle.schemars_build.specs.Work.{Plan, Work, Refers, reference_to, basis_of}
 use Rattle.schemars_meaning.proofs.Schemas.{described}
+use Rattle.schemars_meaning.proofs.Referring.{plain_rows, under_rows}
+use Rattle.schemars_build.proofs.Settled.{fields_settled, enums_settled}
 use Rattle.schemars_headline.specs.State.{State, path_of, plan_of, HasOwnDefinitions}
-use Rattle.schemars_headline.specs.Headline.{IsRootOf}
+use Rattle.schemars_headline.specs.Headline.{MeansItsType, IsRootOf}
 use Rattle.schemars_headline.specs.Keys.{HasKeysOnce}
-use Rattle.schemars_headline.proofs.Standing.{MayRefer, Stands, AllStand}
+use Rattle.schemars_headline.proofs.Standing.{MayRefer, AllStand}
+use Rattle.schemars_headline.proofs.Standing as standings
 use Rattle.schemars_headline.proofs.Placed.{StandsAt, holds_put}
-use Rattle.schemars_headline.proofs.Calls.{definitions_in}
+use Rattle.schemars_headline.proofs.Calls.{definitions_in, root_means, root_means_wide}
 use Rattle.schemars_laws.specs.Names.{IsNameOf, IsName, IsMap}
 use Rattle.schemars_laws.specs.Laws.{for_draft07, for_draft2019_09}
-use Rattle.schemars_headline.specs.Dialects.{Draft07Headline, Draft2019_09Headline}
-use Rattle.schemars_headline.proofs.RootClass.{IsReady, entries, root_call-ready, stands-place, to-name}
+use Rattle.schemars_laws.specs.Classes.{HasPlainItems}
+use Rattle.schemars_laws.specs.Stages.{Stands, IsForOpenApi}
+use Rattle.schemars_headline.specs.Dialects.{MeansItsTypeUnder, Draft07Headline, Draft2019_09Headline, Draft2019_09WideHeadline}
+use Rattle.schemars_headline.proofs.Changes.{Class, without_rest, with_rest, for_openapi, for_items}
+use Rattle.schemars_headline.proofs.Classes.{described-good}
+use Rattle.schemars_headline.proofs.StructClass.{described-under}
+use Rattle.schemars_headline.proofs.RootClass.{IsReady, ready-as, entries, root_call-ready, may_refer-name, stands-place, to-name}
 use Rattle.schemars_headline.proofs.Definitions.{Has, prefix-has}
 use Rattle.schemars_headline.proofs.Accepting.{ready-has, draft07-has, draft07_accepts, draft2019_09_accepts}
 use Rattle.schemars_headline.proofs.ReferencesKept.{draft07-refers, draft2019_09-refers}
@@ -35,8 +47,7 @@ abbrev NamesOne : Text → Members → Text → Type 0
 NamesOne key definitions t =
     (t ≡ codes "#") ⊎ ((k : Text) × IsNameOf key k t × ((d : Data) × (get_member k definitions ≡ Some d) × IsSchema d))
 
-module _ (plan : Plan) (w : Work) (key : Text) (at : StandsAt plan.path key) (plain : IsPlainTable plan.rows)
-    (definitions : AllStand plan w) where
+module _ (plan : Plan) (w : Work) (key : Text) (at : StandsAt plan.path key) (definitions : AllStand plan w) where
   -- the definitions by themselves
   abbrev alone : Members
   alone = put key (object w.definitions) no_members
@@ -46,7 +57,7 @@ module _ (plan : Plan) (w : Work) (key : Text) (at : StandsAt plan.path key) (pl
   refers-one root j r (inl is) = inl is.2
   refers-one root j r (inr is) = go (to-name plan.path key is.0 at stands.is_text)
     where
-      stands : Stands plan w is.0 is.2.0
+      stands : standings.Stands plan w is.0 is.2.0
       stands = definitions is.0 is.2.0 is.2.1
 
       go : IsName key (reference_to plan.path is.0) → NamesOne key w.definitions r
@@ -93,48 +104,95 @@ one-resolves key definitions document has t is = subst (λ d. is_some (resolved 
         let e = has.stay.keys k d here schema in
         ap (λ o. is_some (option_and_then schema_only o)) (found k name e.0 e.1) ∙ ap is_some (schema_only-schema e.0 e.2)
 
+-- ---- what a root call makes
+
 module _ (s : State) (n : ℕ) (w : Work) (document : Data) (root : IsRootOf s n w document) (once : HasKeysOnce w.definitions)
-    (own : HasOwnDefinitions s) (plain : IsPlainTable s.rows) (key : Text) (at : StandsAt (path_of s) key) where
+    (own : HasOwnDefinitions s) (key : Text) (at : StandsAt (path_of s) key) where
+  abbrev plan : Plan
+  plan = plan_of s (Some n)
+
+  abbrev standing : AllStand plan w
+  standing = definitions_in s (Some n) w root.step own
+
   abbrev One : Text → Type 0
   One = NamesOne key w.definitions
 
-  ready : IsReady One key w.definitions document
-  ready =
-      let standing = definitions_in s (Some n) w root.step own in
-      root_call-ready s n w document key root plain once standing at One
-      (may_refer-one (plan_of s (Some n)) w key at plain standing)
+  abbrev contract : Contract
+  contract = s.settings.contract
 
-  has : Has key w.definitions document
-  has = ready-has One key w.definitions document ready
+  -- it is of the class, whatever holds of its references
+  abbrev IsReadyAs : (Members → Type 0) → Type 1
+  IsReadyAs Q =
+      (N : Text → Type 0) → ((j : ℕ) (r : Text) → MayRefer plan w j r → N r) → IsReady (Stands N Q) key w.definitions document
 
-  draft07_resolve : ReferencesResolve (for_draft07 document)
-  draft07_resolve =
-      each-resolves One (for_draft07 document)
-      (one-resolves key w.definitions (for_draft07 document) (draft07-has (path_of s) key at w.definitions document has))
-      (for_draft07 document) (draft07-refers One document ready.everywhere)
+  has : (Q : Members → Type 0) → IsReadyAs Q → Has key w.definitions document
+  has Q ready = ready-has (Stands One Q) key w.definitions document (ready One (may_refer-one plan w key at standing))
 
-  draft2019_09_resolve : ReferencesResolve (for_draft2019_09 document)
-  draft2019_09_resolve =
-      each-resolves One (for_draft2019_09 document)
-      (one-resolves key w.definitions (for_draft2019_09 document)
-      (prefix-has key (stands-place (path_of s) key at) w.definitions document has))
-      (for_draft2019_09 document) (draft2019_09-refers One document ready.everywhere)
+  -- so it means its type after the transforms, where it did before
+  draft07_from : IsReadyAs IsForOpenApi → MeansItsType s.rows contract (path_of s) n document
+      → MeansItsTypeUnder draft07 s.rows contract (path_of s) n (for_draft07 document)
+  draft07_from ready means = record {
+    accepts_its_values = draft07_accepts s.rows contract (path_of s) n key at w.definitions document means
+        (ready (IsName key) (may_refer-name plan w key at standing));
+    references_resolve = each-resolves One (for_draft07 document)
+        (one-resolves key w.definitions (for_draft07 document)
+        (draft07-has (path_of s) key at w.definitions document (has IsForOpenApi ready)))
+        (for_draft07 document) (draft07-refers One document (ready One (may_refer-one plan w key at standing)).everywhere);
+  }
+
+  draft2019_09_from : IsReadyAs HasPlainItems → MeansItsType s.rows contract (path_of s) n document
+      → MeansItsTypeUnder draft2019_09 s.rows contract (path_of s) n (for_draft2019_09 document)
+  draft2019_09_from ready means = record {
+    accepts_its_values = draft2019_09_accepts s.rows contract (path_of s) n key at w.definitions document means
+        (ready (IsName key) (may_refer-name plan w key at standing));
+    references_resolve = each-resolves One (for_draft2019_09 document)
+        (one-resolves key w.definitions (for_draft2019_09 document)
+        (prefix-has key (stands-place (path_of s) key at) w.definitions document (has HasPlainItems ready)))
+        (for_draft2019_09 document) (draft2019_09-refers One document (ready One (may_refer-one plan w key at standing)).everywhere);
+  }
+
+  -- in a plain table
+  plain-ready : IsPlainTable s.rows → (N : Text → Type 0) → ((j : ℕ) (r : Text) → MayRefer plan w j r → N r)
+      → IsReady (Class (without_rest N)) key w.definitions document
+  plain-ready plain N refer =
+      root_call-ready s n w document key root (plain_rows s.rows plain) once standing at (without_rest N)
+      (described-good (without_rest N) (basis_of plan) (MayRefer plan w) refer plain)
+
+  draft07_ready : IsPlainTable s.rows → IsReadyAs IsForOpenApi
+  draft07_ready plain N refer =
+      ready-as (Class (without_rest N)) (Stands N IsForOpenApi) (for_openapi N) key w.definitions document (plain-ready plain N refer)
+
+  draft2019_09_ready : IsPlainTable s.rows → IsReadyAs HasPlainItems
+  draft2019_09_ready plain N refer =
+      ready-as (Class (without_rest N)) (Stands N HasPlainItems) (for_items (without_rest N)) key w.definitions document
+      (plain-ready plain N refer)
+
+  -- and in one that is plain under the contract
+  wide_ready : IsChecked s.rows → IsPlainUnder contract s.rows → IsReadyAs HasPlainItems
+  wide_ready checked plain N refer =
+      ready-as (Class (with_rest N)) (Stands N HasPlainItems) (for_items (with_rest N)) key w.definitions document
+      (root_call-ready s n w document key root (under_rows contract s.rows plain) once standing at (with_rest N)
+      (described-under N (basis_of plan) (MayRefer plan w) refer plain (λ j e found. fields_settled s.rows checked j
+      ∙ ap (λ o. option_map_or (λ e. shape_fields (flattened_in s.rows) e.shape) o []) found) (enums_settled s.rows checked)))
 
 -- what a root call makes means its type in each draft, at the draft's path
 pub draft07_means : (s : State) (n : ℕ) (w : Work) (d : Data) → IsChecked s.rows → IsRootOf s n w d → HasKeysOnce w.definitions
     → IsOneToOne w.names → Draft07Headline s n d
 draft07_means s n w d checked root once one own path plain =
     let at : StandsAt (path_of s) (codes "definitions") = inr (path, refl) in
-    record {
-      accepts_its_values = draft07_accepts s n w d checked root once one own plain (codes "definitions") at;
-      references_resolve = draft07_resolve s n w d root once own plain (codes "definitions") at;
-    }
+    draft07_from s n w d root once own (codes "definitions") at (draft07_ready s n w d root once own (codes "definitions") at plain)
+    (root_means s n w d checked root once one own (inr path) plain)
 
 pub draft2019_09_means : (s : State) (n : ℕ) (w : Work) (d : Data) → IsChecked s.rows → IsRootOf s n w d
     → HasKeysOnce w.definitions → IsOneToOne w.names → Draft2019_09Headline s n d
 draft2019_09_means s n w d checked root once one own path plain =
     let at : StandsAt (path_of s) (codes "$defs") = inl (path, refl) in
-    record {
-      accepts_its_values = draft2019_09_accepts s n w d checked root once one own plain (codes "$defs") at;
-      references_resolve = draft2019_09_resolve s n w d root once own plain (codes "$defs") at;
-    }
+    draft2019_09_from s n w d root once own (codes "$defs") at (draft2019_09_ready s n w d root once own (codes "$defs") at plain)
+    (root_means s n w d checked root once one own (inl path) plain)
+
+pub draft2019_09_means_wide : (s : State) (n : ℕ) (w : Work) (d : Data) → IsChecked s.rows → IsRootOf s n w d
+    → HasKeysOnce w.definitions → IsOneToOne w.names → Draft2019_09WideHeadline s n d
+draft2019_09_means_wide s n w d checked root once one own path plain =
+    let at : StandsAt (path_of s) (codes "$defs") = inl (path, refl) in
+    draft2019_09_from s n w d root once own (codes "$defs") at (wide_ready s n w d root once own (codes "$defs") at checked plain)
+    (root_means_wide s n w d checked root once one own (inl path) plain)

@@ -11,13 +11,15 @@ use Rattle.serde_json.specs.Find.{get_member}
 use Rattle.serde_json.specs.View.{items_of}
 use Rattle.schemars_schema.specs.Json.{Text}
 use Rattle.schemars_schema.specs.OrderedText.{is_listed}
-use Rattle.schemars_schema.specs.SchemaData.{IsSchema, object_of, put_all}
-use Rattle.schemars_schema.specs.Edits.{without, holds_text}
+use Rattle.schemars_schema.specs.SchemaData.{IsSchema, members_in, object_of, put_all}
+use Rattle.schemars_schema.specs.Edits.{without, replaced, holds_text, with_member, with_first}
 use Rattle.schemars_schema.specs.Literal.{is_plain_member, ArePlainMembers, IsPlainLiteral, IsPlainObject, names_types, is_null_type}
 use Rattle.schemars_schema.specs.References.{NoSchemas, place_under, with_schema, with_list, with_names}
 use Rattle.schemars_schema.proofs.Literals.{plain_at}
 use Rattle.schemars_schema.proofs.Members.{get_member-member as get_member-first}
 use Rattle.schemars_builders.specs.NullLaw.{zero_schema}
+use Rattle.schemars_builders.specs.Properties.{with_property, required_first, closed_where, has_null_type, tagged}
+use Rattle.schemars_builders.specs.Properties.{internally_tagged_variant}
 use Rattle.schemars_builders.specs.Variants.{unit_variant}
 use Rattle.schemars_shapes.specs.IntKind.{format_of}
 use Rattle.schemars_shapes.specs.declared.shape.IntKind.{IntKind}
@@ -36,8 +38,7 @@ use Rattle.schemars_meaning.proofs.Filling.{ArePartsWritten}
 use Rattle.schemars_meaning.proofs.Spread.{field_keywords, AreWritten, IsFieldsDocument}
 use Rattle.schemars_meaning.proofs.ByShape.{seq_document, set_document, array_document, up_to_document, tuple_document}
 use Rattle.schemars_meaning.proofs.ByShape.{items_from, one_of_document, any_of_document, units_document, member_document}
-use Rattle.schemars_meaning.proofs.ByShape.{tagged_document}
-use Rattle.schemars_laws.specs.Everywhere.{asked, asked_of_items, asked_of_members, asked_of_keywords}
+use Rattle.schemars_laws.specs.Everywhere.{Everywhere, asked, asked_of_items, asked_of_members, asked_of_keywords}
 use Rattle.schemars_laws.specs.Names.{IsNoObject}
 use Rattle.schemars_laws.specs.Classes.{IsOnce, IsNoList, AreSchemas, IsSchemaList, AreTexts, is_null_alone, HasPlainItems}
 use Rattle.schemars_laws.specs.Stages.{IsTextOf, AreSomeTypes}
@@ -49,11 +50,12 @@ use Rattle.serde_json.specs.Events.{items_len}
 use Rattle.schemars_schema.specs.Json.{are_distinct}
 use Rattle.schemars_schema.specs.Acceptance.{texts_in, when, are_type_names}
 use Rattle.schemars_transform.specs.Nullable.{all_null}
-use Rattle.schemars_laws.proofs.Preserved.{schema-no_list}
-use Rattle.schemars_headline.proofs.Changes.{place-none, asked-nothing, Class, AreGood, are-put, are-types, are-const, are-enum}
-use Rattle.schemars_headline.proofs.Changes.{nothing, IsGood, good, good_truth, good-annotated, good-noted_by}
+use Rattle.schemars_laws.proofs.Preserved.{schema-no_list, asked-get}
+use Rattle.schemars_headline.proofs.Changes.{place-none, asked-nothing, Demand, Class, class-of, AreGood, are-put, are-replaced}
+use Rattle.schemars_headline.proofs.Changes.{are-types, are-const, are-enum, nothing, IsGood, good, good_truth, good-members}
+use Rattle.schemars_headline.proofs.Changes.{good-annotated, good-noted_by}
 
-module _ (R : Text → Type 0) where
+module _ (R : Demand) where
   -- ---- without parts
 
   pub are-typed : (name : Text) → AreGood R (put (codes "type") (string name) no_members)
@@ -63,41 +65,22 @@ module _ (R : Text → Type 0) where
   pub own-items : (ms : Members) (types : AreSomeTypes (get_member (codes "type") ms)) → get_member (codes "$ref") ms ≡ None
       → get_member (codes "unevaluatedProperties") ms ≡ None → get_member (codes "nullable") ms ≡ None → get_member (codes "const") ms ≡ None
       → get_member (codes "enum") ms ≡ None → get_member (codes "allOf") ms ≡ None → HasPlainItems ms → Class R ms
-  own-items ms types ref rest nullable const enum all items = record {
-    reference = subst (IsTextOf R) (sym ref) tt;
-    once = absent-once (codes "$ref") ms ref;
-    closed = subst IsNoObject (sym rest) tt;
-    own = record {
-      unevaluated = (absent-once (codes "unevaluatedProperties") ms rest, rest);
-      type = (types, nullable, inr const);
-      values = inr enum;
-      all_of = subst IsSchemaList (sym all) tt;
-      const = (absent-once (codes "const") ms const, inl const);
-      items = items;
-    };
-  }
+  own-items ms types ref rest nullable const enum all items =
+      class-of R ms (subst (IsTextOf R.refers) (sym ref) tt) (absent-once (codes "$ref") ms ref) (subst IsNoObject (sym rest) tt)
+      (R.lacking ms (absent-once (codes "unevaluatedProperties") ms rest, rest)) types nullable const enum
+      (subst IsSchemaList (sym all) tt) items
 
   pub type-good : (name : Text) → IsGood R (type_alone name)
   type-good name = good R _ (are-typed name)
 
-  pub reference-good : (r : Text) → R r → IsGood R (reference r)
+  pub reference-good : (r : Text) → R.refers r → IsGood R (reference r)
   unfolding asked
-  reference-good r is = good R _ (record {
-    own = record {
-      reference = is;
-      once = refl;
-      closed = tt;
-      own = record {
-        unevaluated = (refl, refl);
-        type = (tt, refl, inl refl);
-        values = inl refl;
-        all_of = tt;
-        const = (refl, inl refl);
-        items = (refl, tt, tt, refl);
-      };
-    };
-    inside = (tt, tt);
-  })
+  reference-good r is =
+      let ms : Members = member (codes "$ref") (string r) no_members in
+      good R ms (record {
+        own = class-of R ms is refl tt (R.lacking ms (refl, refl)) tt refl refl refl tt (refl, tt, tt, refl);
+        inside = (tt, tt);
+      })
 
   pub formatted-good : (format : Text) → IsGood R (formatted_document format)
   formatted-good format =
@@ -235,16 +218,16 @@ module _ (R : Text → Type 0) where
   -- ---- maps
 
   -- schemas by name, in place of any under these names
-  pub asked-named : (k : Text) (d : Data) (ms : Members) → IsGood R d → asked_of_members (Class R) ms
+  pub asked-named : (k : Text) (d : Data) (ms : Members) → Everywhere (Class R) d → asked_of_members (Class R) ms
       → asked_of_members (Class R) (put k d ms)
   unfolding asked
-  asked-named k d no_members is all = (is.everywhere, tt)
+  asked-named k d no_members is all = (is, tt)
   asked-named k d (member l e ms) is all = go (slice_cmp nat_cmp k l) (asked-named k d ms is all.1)
     where
       go : (o : Ordering) → asked_of_members (Class R) (put k d ms)
           → asked_of_members (Class R) (match_ordering o (member k d (member l e ms)) (member l d ms) (member l e (put k d ms)))
-      go Less later = (is.everywhere, all)
-      go Equal later = (is.everywhere, all.1)
+      go Less later = (is, all)
+      go Equal later = (is, all.1)
       go Greater later = (all.0, later)
 
   abbrev pub AllNamed : List Keyword → Type 0
@@ -254,7 +237,7 @@ module _ (R : Text → Type 0) where
   pub asked-all : (es : List Keyword) (ms : Members) → AllNamed es → asked_of_members (Class R) ms
       → asked_of_members (Class R) (put_all es ms)
   asked-all [] ms is all = all
-  asked-all (e ∷ es) ms is all = asked-all es (put e.0 e.1 ms) is.1 (asked-named e.0 e.1 ms is.0 all)
+  asked-all (e ∷ es) ms is all = asked-all es (put e.0 e.1 ms) is.1 (asked-named e.0 e.1 ms is.0.everywhere all)
 
   asked-new : (es : List Keyword) → AllNamed es → asked_of_members (Class R) (put_all es no_members)
   unfolding asked
@@ -288,10 +271,60 @@ module _ (R : Text → Type 0) where
   pub member-good : (closed : Bool) (name : Text) (t : Data) → IsGood R t → IsGood R (member_document closed name t)
   member-good closed name t is = map-good ((name, t) ∷ []) (name ∷ []) closed (is, tt)
 
+  -- ---- tags
+
+  with-property : (name : Text) (d : Data) (ms : Members) → IsGood R d → AreGood R ms → AreGood R (with_property name d ms)
+  unfolding asked
+  with-property name d ms new is = go (get_member (codes "properties") ms) refl
+    where
+      named : (e : Data) → (asked (Class R) e).by_name → (asked (Class R) (with_member name d e)).by_name
+      named null all = tt
+      named (boolean b) all = tt
+      named (number n) all = tt
+      named (string s) all = tt
+      named (array ds) all = tt
+      named (object es) all = asked-named name d es new.everywhere all
+
+      go : (o : Option Data) → get_member (codes "properties") ms ≡ o → AreGood R (elim o [
+        | None ↦ put (codes "properties") (with_member name d (object no_members)) ms
+        | Some e ↦ replaced (codes "properties") (with_member name d e) ms
+      ])
+      go None here = are-put R (codes "properties") _ ms refl (new.everywhere, tt) is
+      go (Some e) here =
+          are-replaced R (codes "properties") _ ms refl (named e (asked-get (Class R) (codes "properties") ms e here is.inside)) is
+
+  required-first : (name : Text) (ms : Members) → AreGood R ms → AreGood R (required_first name ms)
+  required-first name ms is = go (get_member (codes "required") ms)
+    where
+      go : (o : Option Data) → AreGood R (elim o [
+        | None ↦ put (codes "required") (with_first (string name) (array no_items)) ms
+        | Some e ↦ replaced (codes "required") (with_first (string name) e) ms
+      ])
+      go None = are-put R (codes "required") _ ms refl tt is
+      go (Some e) = are-replaced R (codes "required") _ ms refl tt is
+
+  closed-where : (b : Bool) (ms : Members) → AreGood R ms → AreGood R (closed_where b ms)
+  unfolding asked
+  closed-where false ms is = is
+  closed-where true ms is = go (is_some (get_member (codes "additionalProperties") ms))
+    where
+      go : (b : Bool) → AreGood R (if b then ms else put (codes "additionalProperties") (boolean false) ms)
+      go true = is
+      go false = are-put R (codes "additionalProperties") (boolean false) ms refl tt is
+
+  -- a variant with a tag among the members of its objects
+  pub tagged-good : (tag name : Text) (closed : Bool) (s : Data) → IsGood R s → IsGood R (internally_tagged_variant tag name closed s)
+  tagged-good tag name closed s is =
+      let ms : Members = put (codes "type") (string (codes "object")) (members_in s) in
+      let typed : AreGood R ms = are-types R (string (codes "object")) (members_in s) tt (inl refl) (good-members R s is) in
+      let with_tag : AreGood R (tagged tag name (members_in s)) =
+      required-first tag (with_property tag (unit_variant name) ms) (with-property tag (unit_variant name) ms (unit-good name) typed) in
+      good R _ (closed-where (closed && has_null_type s) (tagged tag name (members_in s)) with_tag)
+
   -- ---- structs
 
   module _ (W : ℕ → Data → Type 0) (parts : (j : ℕ) (t : Data) → W j t → IsGood R t) where
-    fields-named : (xs : List Field) (ts : List Data) → AreNoted xs → AreWritten W xs ts → AllNamed (field_keywords xs ts)
+    pub fields-named : (xs : List Field) (ts : List Data) → AreNoted xs → AreWritten W xs ts → AllNamed (field_keywords xs ts)
     fields-named [] ts noted is = tt
     fields-named (x ∷ xs) [] noted is = absurd is
     fields-named (x ∷ xs) (t ∷ ts) noted is =
@@ -303,16 +336,6 @@ module _ (R : Text → Type 0) where
         subst (IsGood R) (sym is.is) (good-noted_by R is.notes _ is.are_notes
         (map-good (field_keywords list is.parts) (required_names contract list) closed
         (fields-named list is.parts noted is.written)))
-
-    pub tagged-good : (contract : Contract) (tag name : Text) (list : List Field) (ts : List Data) (closed : Bool) → AreNoted list
-        → AreWritten W list ts → IsGood R (tagged_document contract tag name list ts closed)
-    tagged-good contract tag name list ts closed noted is =
-        map-good (field_keywords list ts ++ (tag, unit_variant name) ∷ []) (tag ∷ required_names contract list) closed
-        (behind (field_keywords list ts) (fields-named list ts noted is))
-      where
-        behind : (es : List Keyword) → AllNamed es → AllNamed (es ++ (tag, unit_variant name) ∷ [])
-        behind [] all = (unit-good name, tt)
-        behind (e ∷ es) all = (all.0, behind es all.1)
 
     pub parts-good : (ns : List ℕ) (ts : List Data) → ArePartsWritten W ns ts → AllGood ts
     parts-good [] ts is = subst AllGood (sym is) tt
@@ -431,7 +454,7 @@ null-alone (array ds) named is = go (texts_in ds) refl named
             && (nat_le 1 (items_len ds) && are_distinct ds)) here
             ∙ ap (λ b. is_some (when b ts) && (nat_le 1 (items_len ds) && are_distinct ds)) at)))
 
-module _ (R : Text → Type 0) where
+module _ (R : Demand) where
   asked-plain : (ms : Members) → ArePlainMembers ms → asked_of_keywords (Class R) ms
   unfolding asked
   asked-plain no_members plain = tt
@@ -463,11 +486,11 @@ module _ (R : Text → Type 0) where
 
   literal-class : (ms : Members) → IsPlainObject ms → Class R ms
   literal-class ms plain = record {
-    reference = subst (IsTextOf R) (sym (none (codes "$ref") refl)) tt;
+    reference = subst (IsTextOf R.refers) (sym (none (codes "$ref") refl)) tt;
     once = each-once (codes "$ref") ms plain.members;
     closed = subst IsNoObject (sym (none (codes "unevaluatedProperties") refl)) tt;
     own = record {
-      unevaluated = (each-once (codes "unevaluatedProperties") ms plain.members, none (codes "unevaluatedProperties") refl);
+      rest = R.lacking ms (each-once (codes "unevaluatedProperties") ms plain.members, none (codes "unevaluatedProperties") refl);
       type = (types (get_member (codes "type") ms) refl, none (codes "nullable") refl, beside (is_null_alone (get_member (codes "type") ms)) refl);
       values = beside_enum (is_null_alone (get_member (codes "type") ms)) refl;
       all_of = subst IsSchemaList (sym (none (codes "allOf") refl)) tt;

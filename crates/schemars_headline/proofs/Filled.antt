@@ -1,41 +1,34 @@
 -- What fills the templates of enums and maps is what the laws of the drafts speak of, where the answers are.
-use Rattle.std.proofs.Common.{◌≡◌, ℕ, List, [], ◌∷◌, ◌++◌, map, Bool, true, false, codes, refl, sym, ap, ◌∙◌, subst}
+use Rattle.std.proofs.Common.{ℕ, List, [], ◌∷◌, ◌++◌, map, Bool, true, false, codes, refl, sym, subst}
 use Rattle.std.specs.Prelude.{if◌then◌else◌}
 use Rattle.serde_json.specs.Data.{Data, string, Members, no_members, put}
 use Rattle.schemars_schema.specs.Json.{Text}
 use Rattle.schemars_schema.specs.SchemaData.{put_all}
 use Rattle.schemars_schema.specs.Annotations.{AreNotes}
-use Rattle.schemars_builders.specs.Properties.{internally_tagged_variant}
 use Rattle.schemars_shapes.specs.Shape.{Field, Fields, Flattened, Payload, Variant, no_payload, newtype_payload, tuple_payload}
 use Rattle.schemars_shapes.specs.Shape.{struct_payload}
 use Rattle.schemars_shapes.specs.Units.{is_bare_unit}
 use Rattle.schemars_types.specs.declared.contract.Contract.{Contract}
 use Rattle.schemars_types.specs.Effective.{flattened_fields, effective, spread_payload, spread_variant}
 use Rattle.schemars_types.specs.KeyOptions.{KeyOptions, keys}
-use Rattle.schemars_documents.specs.PlainTable.{AreNoted, IsTagged, AreTagged, ArePlainParts, payload_parts, variant_parts}
-use Rattle.schemars_documents.specs.Documents.{Keyword, required_names}
+use Rattle.schemars_documents.specs.PlainTable.{AreNoted, IsTagged, AreTagged, payload_parts, variant_parts}
+use Rattle.schemars_documents.specs.Documents.{Keyword}
 use Rattle.schemars_documents.specs.Basis.{Basis}
 use Rattle.schemars_documents.specs.Template.{Ask, part, members_of, content, Template, noted, tagged, row, asks_of, asks_in}
 use Rattle.schemars_documents.specs.Template.{filled, filled_in, keyed, left, Templates}
 use Rattle.schemars_documents.specs.OfShape.{templates_of, one_of, any_of, payload_template, named_template, member_template}
 use Rattle.schemars_documents.specs.OfShape.{bare_units, other_items, units_template, choice_of, external_template, title_alone}
-use Rattle.schemars_documents.specs.OfShape.{titled, payload_item, untagged_template, content_template, internal_item}
+use Rattle.schemars_documents.specs.OfShape.{titled, payload_item, untagged_template, content_template, struct_template, internal_item}
 use Rattle.schemars_documents.specs.OfShape.{internal_template, KeywordTemplate, typed, object_with, values_of, all_patterns}
 use Rattle.schemars_documents.specs.OfShape.{pattern_properties_at, properties_at, other_values, values_template}
 use Rattle.schemars_meaning.proofs.Parts.{first_all, left_all}
-use Rattle.schemars_meaning.proofs.Spread.{AnswersFields, field_keywords}
 use Rattle.schemars_meaning.proofs.Filling.{Fit, without_end, parted}
-use Rattle.schemars_documents.proofs.OpenStructs.{parts_apart}
-use Rattle.schemars_meaning.proofs.Flattened.{struct_fills}
-use Rattle.schemars_meaning.proofs.Flattening.{tagged-map, tagged-null}
-use Rattle.schemars_meaning.proofs.ByShape.{tuple_fills, tagged_document}
+use Rattle.schemars_meaning.proofs.ByShape.{tuple_fills}
 use Rattle.schemars_meaning.proofs.Enums.{title_noted}
-use Rattle.schemars_meaning.proofs.MapDocument.{noted_by}
 use Rattle.schemars_meaning.proofs.References.{IsNotedPayload, AreNotedVariants}
 use Rattle.schemars_laws.specs.Everywhere.{asked, asked_of_members}
-use Rattle.schemars_headline.proofs.Changes.{Class, AreGood, are-put, IsGood, good, good_truth, good-annotated}
-use Rattle.schemars_headline.proofs.Changes.{good-noted_by}
-use Rattle.schemars_headline.proofs.Documents.{AllGood, are-typed, type-good, tuple-good, parts-good, fields-good, tagged-good, unit-good}
+use Rattle.schemars_headline.proofs.Changes.{Demand, Class, AreGood, are-put, IsGood, good, good_truth, good-annotated}
+use Rattle.schemars_headline.proofs.Documents.{AllGood, are-typed, type-good, tuple-good, parts-good, tagged-good, unit-good}
 use Rattle.schemars_headline.proofs.Documents.{units-good, one_of-good, any_of-good, member-good, AllNamed, asked-all}
 
 noted-append : (xs ys : List Field) → AreNoted xs → AreNoted ys → AreNoted (xs ++ ys)
@@ -50,8 +43,11 @@ module _ (has : Flattened → List Field) (noted_rows : (p : Flattened) → AreN
   pub noted-effective : (x : Fields) → AreNoted x.list → AreNoted (effective has x)
   noted-effective x own = noted-append x.list (flattened_fields has x.flatten) own (noted-flattened x.flatten)
 
-module _ (R : Text → Type 0) (A : Ask → Data → Type 0) (has : Flattened → List Field) (basis : Basis)
-    (fields : AnswersFields has basis.rows basis.contract A) (noted_rows : (p : Flattened) → AreNoted (has p))
+-- `Under` says what may be flattened, so that the documents of structs are ones
+module _ (R : Demand) (A : Ask → Data → Type 0) (basis : Basis) (Under : List Flattened → Type 0)
+    (apart : (ps qs : List Flattened) → Under (ps ++ qs) → Under ps × Under qs)
+    (structs : (y : Fields) → AreNoted y.list → Under y.flatten → (us : List Data)
+    → Fit A (asks_of (struct_template basis.contract y)) us → IsGood R (filled (struct_template basis.contract y) us))
     (parts : (j : ℕ) (t : Data) → A (part j) t → IsGood R t) where
   abbrev contract : Contract
   contract = basis.contract
@@ -87,16 +83,14 @@ module _ (R : Text → Type 0) (A : Ask → Data → Type 0) (has : Flattened �
   noted-makes : (notes : Members) (t : Template) → AreNotes notes → Makes t → Makes (noted notes t)
   noted-makes notes t plain make us fit = good-annotated R notes (filled t us) plain (make us fit)
 
-  payload-makes : (p : Payload) → IsNotedPayload p → ArePlainParts basis.rows (payload_parts p)
+  payload-makes : (p : Payload) → IsNotedPayload p → Under (payload_parts p)
       → Makes (payload_template contract p)
   payload-makes no_payload own flat us fit = type-good R (codes "null")
   payload-makes (newtype_payload n) own flat [] fit = absurd fit
   payload-makes (newtype_payload n) own flat (t ∷ us) fit = parts n t fit.0
   payload-makes (tuple_payload ns) own flat us fit =
       let d = tuple_fills A ns us fit in subst (IsGood R) (sym d.2) (tuple-good R d.0 (parts-good R W parts ns d.0 d.1))
-  payload-makes (struct_payload x) own flat us fit =
-      fields-good R W parts contract (effective has x) x.closed _ (noted-effective has noted_rows x own)
-      (struct_fills A has basis.rows contract fields x flat us fit)
+  payload-makes (struct_payload x) own flat us fit = structs x own flat us fit
 
   -- ---- by names outside
 
@@ -105,7 +99,7 @@ module _ (R : Text → Type 0) (A : Ask → Data → Type 0) (has : Flattened �
       member-good R true name (filled t us)
       (make us (without_end A (asks_of t) us (without_end A (asks_of t ++ []) us fit)))
 
-  named-makes : (name : Text) (p : Payload) → IsNotedPayload p → ArePlainParts basis.rows (payload_parts p)
+  named-makes : (name : Text) (p : Payload) → IsNotedPayload p → Under (payload_parts p)
       → Makes (named_template contract name p)
   named-makes name no_payload own flat us fit = unit-good R name
   named-makes name (newtype_payload n) own flat us fit =
@@ -115,13 +109,13 @@ module _ (R : Text → Type 0) (A : Ask → Data → Type 0) (has : Flattened �
   named-makes name (struct_payload x) own flat us fit =
       member-makes name (payload_template contract (struct_payload x)) (payload-makes (struct_payload x) own flat) us fit
 
-  others-make : (xs : List Variant) → AreNotedVariants xs → ArePlainParts basis.rows (variant_parts xs)
+  others-make : (xs : List Variant) → AreNotedVariants xs → Under (variant_parts xs)
       → AllMake (other_items contract xs)
   others-make [] own flat = tt
   others-make (x ∷ xs) own flat = go (is_bare_unit x) (others-make xs own.2 flats.1)
     where
-      flats : ArePlainParts basis.rows (payload_parts x.payload) × ArePlainParts basis.rows (variant_parts xs)
-      flats = parts_apart basis.rows (payload_parts x.payload) (variant_parts xs) flat
+      flats : Under (payload_parts x.payload) × Under (variant_parts xs)
+      flats = apart (payload_parts x.payload) (variant_parts xs) flat
 
       go : (b : Bool) → AllMake (other_items contract xs)
           → AllMake (if b then other_items contract xs else noted x.notes (named_template contract x.name x.payload)
@@ -140,7 +134,7 @@ module _ (R : Text → Type 0) (A : Ask → Data → Type 0) (has : Flattened �
   choice-makes (k ∷ ks) (t ∷ ts) make us fit =
       one-makes (units_template (k ∷ ks) ∷ t ∷ ts) (λ us fit. units-good R (k ∷ ks), make) us fit
 
-  pub external-makes : (xs : List Variant) → AreNotedVariants xs → ArePlainParts basis.rows (variant_parts xs)
+  pub external-makes : (xs : List Variant) → AreNotedVariants xs → Under (variant_parts xs)
       → Makes (external_template contract xs)
   external-makes xs own flat us fit =
       choice-makes (bare_units xs) (other_items contract xs) (others-make xs own flat) us fit
@@ -151,17 +145,17 @@ module _ (R : Text → Type 0) (A : Ask → Data → Type 0) (has : Flattened �
   titled-makes false name t make us fit = make us fit
   titled-makes true name t make us fit = noted-makes (title_alone name) t (title_noted name) make us fit
 
-  payloads-make : (xs : List Variant) → AreNotedVariants xs → ArePlainParts basis.rows (variant_parts xs)
+  payloads-make : (xs : List Variant) → AreNotedVariants xs → Under (variant_parts xs)
       → AllMake (map (payload_item contract basis.titles) xs)
   payloads-make [] own flat = tt
   payloads-make (x ∷ xs) own flat =
-      let flats = parts_apart basis.rows (payload_parts x.payload) (variant_parts xs) flat in (
+      let flats = apart (payload_parts x.payload) (variant_parts xs) flat in (
         noted-makes x.notes (titled basis.titles x.name (payload_template contract x.payload)) own.0
             (titled-makes basis.titles x.name (payload_template contract x.payload) (payload-makes x.payload own.1 flats.0)),
         payloads-make xs own.2 flats.1,
       )
 
-  pub untagged-makes : (xs : List Variant) → AreNotedVariants xs → ArePlainParts basis.rows (variant_parts xs)
+  pub untagged-makes : (xs : List Variant) → AreNotedVariants xs → Under (variant_parts xs)
       → Makes (untagged_template contract basis.titles xs)
   untagged-makes [] own flat us fit = good_truth R false
   untagged-makes (x ∷ xs) own flat us fit =
@@ -171,43 +165,31 @@ module _ (R : Text → Type 0) (A : Ask → Data → Type 0) (has : Flattened �
 
   module _ (others : Flattened → List Field) (enums : Flattened → List ℕ) (tag : Text) (closed : Bool) where
     tag-makes : (name : Text) (p : Payload) → IsTagged tag (spread_payload others enums p) → IsNotedPayload p
-        → ArePlainParts basis.rows (payload_parts p) → Makes (tagged tag name closed (content_template contract p))
-    tag-makes name no_payload is own flat us fit =
-        subst (IsGood R) (sym (tagged-null tag name closed)) (tagged-good R W parts contract tag name [] [] closed tt refl)
+        → Under (payload_parts p) → Makes (tagged tag name closed (content_template contract p))
+    tag-makes name no_payload is own flat us fit = tagged-good R tag name closed _ (type-good R (codes "null"))
     tag-makes name (newtype_payload n) is own flat us fit = absurd is
     tag-makes name (tuple_payload ns) is own flat us fit = absurd is
-    tag-makes name (struct_payload x) is own flat us fit =
-        let d = struct_fills A has basis.rows contract fields x flat us fit in
-        let same : filled (tagged tag name closed (content_template contract (struct_payload x))) us
-        ≡ noted_by d.notes (tagged_document contract tag name (effective has x) d.parts x.closed) =
-        ap (internally_tagged_variant tag name closed) d.is
-        ∙ tagged-map d.notes tag name closed (field_keywords (effective has x) d.parts)
-        (required_names contract (effective has x))
-        x.closed d.are_notes in
-        subst (IsGood R) (sym same)
-        (good-noted_by R d.notes (tagged_document contract tag name (effective has x) d.parts x.closed) d.are_notes
-        (tagged-good R W parts contract tag name (effective has x) d.parts x.closed
-        (noted-effective has noted_rows x own) d.written))
+    tag-makes name (struct_payload x) is own flat us fit = tagged-good R tag name closed _ (structs x own flat us fit)
 
     internals-make : (xs : List Variant) → AreTagged tag (map (spread_variant others enums) xs) → AreNotedVariants xs
-        → ArePlainParts basis.rows (variant_parts xs) → AllMake (map (internal_item contract tag closed) xs)
+        → Under (variant_parts xs) → AllMake (map (internal_item contract tag closed) xs)
     internals-make [] are own flat = tt
     internals-make (x ∷ xs) are own flat =
-        let flats = parts_apart basis.rows (payload_parts x.payload) (variant_parts xs) flat in (
+        let flats = apart (payload_parts x.payload) (variant_parts xs) flat in (
           noted-makes x.notes (tagged tag x.name closed (content_template contract x.payload)) own.0
               (tag-makes x.name x.payload are.0 own.1 flats.0),
           internals-make xs are.1 own.2 flats.1,
         )
 
     pub internal-makes : (xs : List Variant) → AreTagged tag (map (spread_variant others enums) xs) → AreNotedVariants xs
-        → ArePlainParts basis.rows (variant_parts xs) → Makes (internal_template contract tag closed xs)
+        → Under (variant_parts xs) → Makes (internal_template contract tag closed xs)
     internal-makes [] are own flat us fit = good_truth R false
     internal-makes (x ∷ xs) are own flat us fit =
         one-makes (map (internal_item contract tag closed) (x ∷ xs)) (internals-make (x ∷ xs) are own flat) us fit
 
 -- ---- maps
 
-module _ (R : Text → Type 0) where
+module _ (R : Demand) where
   abbrev rows_at : ℕ → List Text → Templates
   rows_at value ks = templates_of (map (λ (e : KeywordTemplate). e.1) (values_of value ks))
 
@@ -306,7 +288,7 @@ parts-values : (options : KeyOptions) (value : ℕ) → AreParts (asks_of (value
 parts-values (keys others texts integers ps) value =
     parts-keyed (other_values others value) value texts (all_patterns integers ps) (parts-other others value)
 
-module _ (R : Text → Type 0) (A : Ask → Data → Type 0) (parts : (j : ℕ) (t : Data) → A (part j) t → IsGood R t) where
+module _ (R : Demand) (A : Ask → Data → Type 0) (parts : (j : ℕ) (t : Data) → A (part j) t → IsGood R t) where
   parts-answered : (asks : List Ask) (us : List Data) → AreParts asks → Fit A asks us → AllGood R us
   parts-answered [] us are fit = subst (AllGood R) (sym fit) tt
   parts-answered (part n ∷ asks) [] are fit = absurd fit

@@ -17,8 +17,10 @@ pub mod Endless
 pub mod Paths
 pub mod Changes
 pub mod Documents
+pub mod Held
 pub mod Filled
 pub mod Classes
+pub mod StructClass
 pub mod RootClass
 pub mod Definitions
 pub mod Accepting

@@ -14,7 +14,7 @@ use Rattle.schemars_transform.specs.Built.{reference_moved, without_siblings, re
 use Rattle.schemars_transform.specs.Built.{prefix_as_items}
 use Rattle.schemars_transform.specs.Unevaluated.{unevaluated_as_additional, closed_by, replace_unevaluated_properties}
 use Rattle.schemars_laws.specs.Everywhere.{Everywhere, asked, asked_of_keywords}
-use Rattle.schemars_laws.specs.Classes.{IsOnce, IsSchemaList, HasPlainReference}
+use Rattle.schemars_laws.specs.Classes.{IsOnce, IsSchemaList, HasPlainReference, HasPlainItems}
 use Rattle.schemars_laws.proofs.Looked.{change_rules, walked, list-walked, raw-walked, once-walked, without-other}
 use Rattle.schemars_laws.proofs.Siblings.{schema-siblings, moved_members, get-moved}
 use Rattle.schemars_laws.proofs.PrefixItems.{prefix_items}
@@ -23,8 +23,7 @@ use Rattle.schemars_laws.proofs.Preserved.{Preserves, after, change-preserves, w
 use Rattle.schemars_laws.proofs.Editing.{without-put, absent-once, asked-moved}
 use Rattle.schemars_laws.proofs.Plain.{Alike, reference-walked, reference-alike, alike-without, without-swap}
 use Rattle.schemars_laws.specs.Laws.{for_draft07, for_draft2019_09}
-use Rattle.schemars_laws.specs.Stages.{IsTextOf}
-use Rattle.schemars_headline.proofs.Changes.{Class}
+use Rattle.schemars_laws.specs.Stages.{IsTextOf, Stands, IsForOpenApi}
 use Rattle.schemars_laws.proofs.Steps.{text-alone}
 
 module _ (R : Text → Type 0) where
@@ -57,11 +56,11 @@ module _ (R : Text → Type 0) where
 
   -- ---- without `unevaluatedProperties`
 
-  after-unevaluated : Preserves (change_rules unevaluated_as_additional) (Class R) WithPlain
+  after-unevaluated : Preserves (change_rules unevaluated_as_additional) (Stands R IsForOpenApi) WithPlain
   unfolding asked
-  after-unevaluated = change-preserves unevaluated_as_additional (Class R) WithPlain schema-unevaluated (λ b. tt) go
+  after-unevaluated = change-preserves unevaluated_as_additional (Stands R IsForOpenApi) WithPlain schema-unevaluated (λ b. tt) go
     where
-      kept : (ms : Members) → Class R ms
+      kept : (ms : Members) → Stands R IsForOpenApi ms
           → WithPlain (without (codes "unevaluatedProperties") (walked unevaluated_as_additional ms))
       kept ms is =
           let ns = walked unevaluated_as_additional ms in
@@ -76,7 +75,7 @@ module _ (R : Text → Type 0) where
                 (list-walked unevaluated_as_additional schema-unevaluated (codes "prefixItems") ms refl is.own.items.1),
           )
 
-      go : (ms : Members) → Class R ms → asked_of_keywords WithPlain (walked unevaluated_as_additional ms)
+      go : (ms : Members) → Stands R IsForOpenApi ms → asked_of_keywords WithPlain (walked unevaluated_as_additional ms)
           → (asked WithPlain (unevaluated_as_additional (object (walked unevaluated_as_additional ms)))).as_schema
       go ms is a =
           let ns = walked unevaluated_as_additional ms in
@@ -211,13 +210,13 @@ module _ (R : Text → Type 0) where
 
   -- ---- whole documents
 
-  pub draft2019_09-refers : (d : Data) → Everywhere (Class R) d → Everywhere RefersOnce (for_draft2019_09 d)
+  pub draft2019_09-refers : (d : Data) → Everywhere (Stands R HasPlainItems) d → Everywhere RefersOnce (for_draft2019_09 d)
   draft2019_09-refers d is =
       after (change_rules prefix_as_items) WithItems RefersOnce after-prefix tt d
-      (weaker (Class R) WithItems (λ ms h. (h.reference, h.once, h.own.items.1)) d is)
+      (weaker (Stands R HasPlainItems) WithItems (λ ms h. (h.reference, h.once, h.own.1)) d is)
 
-  pub draft07-refers : (d : Data) → Everywhere (Class R) d → Everywhere RefersOnce (for_draft07 d)
+  pub draft07-refers : (d : Data) → Everywhere (Stands R IsForOpenApi) d → Everywhere RefersOnce (for_draft07 d)
   draft07-refers d is =
-      let one = after (change_rules unevaluated_as_additional) (Class R) WithPlain after-unevaluated tt d is in
+      let one = after (change_rules unevaluated_as_additional) (Stands R IsForOpenApi) WithPlain after-unevaluated tt d is in
       let two = after (change_rules without_siblings) WithPlain WithItems after-siblings tt (replace_unevaluated_properties d) one in
       after (change_rules prefix_as_items) WithItems RefersOnce after-prefix tt (remove_ref_siblings (replace_unevaluated_properties d)) two

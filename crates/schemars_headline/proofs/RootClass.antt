@@ -1,4 +1,4 @@
--- Root documents of plain tables are ones that the laws of the drafts speak of, with their definitions.
+-- Root documents are ones that the laws of the drafts speak of, with their definitions, where the documents of rows are.
 use Rattle.std.proofs.Common.{◌≡◌, ℕ, List, [], inl, inr, Option, Some, None, Bool, true, false, codes, refl, sym, ap, ◌∙◌, subst}
 use Rattle.std.proofs.Common.{arith, true≢false}
 use Rattle.std.specs.Prelude.{is_some, if◌then◌else◌, bytes_eq}
@@ -14,26 +14,24 @@ use Rattle.schemars_shapes.specs.Shape as shape
 use Rattle.schemars_shapes.specs.Shape.{Shape, Entry}
 use Rattle.schemars_types.specs.Rows.{Row, name_at, entry_at}
 use Rattle.schemars_documents.specs.Documents.{with_title, with_meta_schema, root_document}
-use Rattle.schemars_documents.specs.PlainTable.{IsPlainTable, HasPlainLiteral, IsNotedEntry, HasPlainNotes}
+use Rattle.schemars_documents.specs.PlainTable.{HasPlainLiteral, IsNotedEntry, HasPlainNotes}
 use Rattle.schemars_documents.specs.Describes.{Describes}
 use Rattle.schemars_build.specs.Work.{Plan, Work, Refers, reference_to, basis_of}
 use Rattle.schemars_meaning.proofs.Mapping.{describes-wider}
 use Rattle.schemars_meaning.proofs.References.{IsNotedShape}
-use Rattle.schemars_meaning.proofs.Referring.{IsNotedRow, plain_rows}
+use Rattle.schemars_meaning.proofs.Referring.{IsNotedRow, AreNotedRows}
 use Rattle.schemars_build.proofs.Placing.{document_describes}
 use Rattle.schemars_headline.specs.State.{State, path_of, plan_of}
-use Rattle.schemars_headline.specs.Headline.{IsRootOf, IsDraftPath, with_definitions}
+use Rattle.schemars_headline.specs.Headline.{IsRootOf, IsDraftPath}
 use Rattle.schemars_headline.specs.Keys.{HasKeysOnce}
 use Rattle.schemars_headline.proofs.Keys.{AllMembers, all_members, IsDefinitionsKey}
 use Rattle.schemars_headline.proofs.OwnKeys.{no_definitions_in}
 use Rattle.schemars_headline.proofs.Standing.{MayRefer, AllStand, refers_may}
 use Rattle.schemars_headline.proofs.Placed.{StandsAt, IsPlaced, stands_key, placed_in}
 use Rattle.schemars_laws.specs.Everywhere.{Everywhere, asked, asked_at, asked_of_members}
-use Rattle.schemars_laws.specs.Names.{IsName, Named, IsMap}
-use Rattle.schemars_laws.specs.Classes.{IsDraft07}
+use Rattle.schemars_laws.specs.Names.{IsName, IsMap}
 use Rattle.schemars_laws.proofs.References.{defs-name, definitions-name}
-use Rattle.schemars_headline.proofs.Changes.{IsUnwatched, Class, AreGood, are-put, IsGood, good, good-members, watched}
-use Rattle.schemars_headline.proofs.Classes.{described-good, good-named}
+use Rattle.schemars_headline.proofs.Changes.{IsUnwatched, Demand, Class, AreGood, are-put, IsGood, good, good-members, watched}
 
 -- ---- where definitions stand
 
@@ -91,7 +89,7 @@ module _ (plan : Plan) (w : Work) (key : Text) (at : StandsAt plan.path key) (de
 
 -- ---- root documents
 
-module _ (R : Text → Type 0) where
+module _ (R : Demand) where
   are-titled : (name : Text) (ms : Members) → AreGood R ms → AreGood R (with_title name ms)
   are-titled name ms is = go (is_some (get_member (codes "title") ms))
     where
@@ -121,19 +119,30 @@ module _ (R : Text → Type 0) where
       (subst (λ p. asked_at p (asked (Class R) (object definitions))) (sym (stands-place path key at))
       (definitions-asked definitions all)) is
 
--- an object of the class, with these definitions under a key, if there are any
-pub record IsReady (R : Text → Type 0) (key : Text) (definitions : Members) (document : Data) : Type 0 where
-  pub everywhere : Everywhere (Class R) document
+-- an object of such schema objects, with these definitions under a key, if there are any
+pub record IsReady (C : Members → Type 0) (key : Text) (definitions : Members) (document : Data) : Type 0 where
+  pub everywhere : Everywhere C document
   pub inside : Members
   pub is_object : document ≡ object inside
   pub is_map : IsMap (get_member key inside)
   pub stands : entries (get_member key inside) ≡ definitions
 
-pub placed-ready : (R : Text → Type 0) (path key : Text) (definitions ms : Members) (document : Data) → StandsAt path key
+-- and so of what these are all
+pub ready-as : (C D : Members → Type 0) → ((s : Data) → Everywhere C s → Everywhere D s) → (key : Text) (definitions : Members)
+    (document : Data) → IsReady C key definitions document → IsReady D key definitions document
+ready-as C D all key definitions document ready = record {
+  everywhere = all document ready.everywhere;
+  inside = ready.inside;
+  is_object = ready.is_object;
+  is_map = ready.is_map;
+  stands = ready.stands;
+}
+
+pub placed-ready : (R : Demand) (path key : Text) (definitions ms : Members) (document : Data) → StandsAt path key
     → AllMembers (IsGood R) definitions → AreGood R ms → get_member key ms ≡ None → IsPlaced path definitions (object ms) document
-    → IsReady R key definitions document
+    → IsReady (Class R) key definitions document
 placed-ready R path key definitions ms document at all is none (inl placed) =
-    subst (IsReady R key definitions) (sym placed.1) (record {
+    subst (IsReady (Class R) key definitions) (sym placed.1) (record {
       everywhere = (good R ms is).everywhere;
       inside = ms;
       is_object = refl;
@@ -143,7 +152,7 @@ placed-ready R path key definitions ms document at all is none (inl placed) =
 placed-ready R path key definitions ms document at all is none (inr placed) =
     let same : document ≡ object (put key (object definitions) ms) =
     placed.2 ∙ ap (λ k. object (put k (object definitions) ms)) (same_key path placed.0 key placed.1 at) in
-    subst (IsReady R key definitions) (sym same) (record {
+    subst (IsReady (Class R) key definitions) (sym same) (record {
       everywhere = (good R (put key (object definitions) ms) (with-definitions R path key at definitions ms all is)).everywhere;
       inside = put key (object definitions) ms;
       is_object = refl;
@@ -155,56 +164,46 @@ noted-literal : (kind : Shape) → IsNotedShape kind → HasPlainLiteral kind
 noted-literal (shape.literal d) own = own
 noted-literal kind own = tt
 
-plain_notes : (rows : List Row) → IsPlainTable rows → HasPlainNotes rows
-plain_notes rows plain n = go (entry_at rows n) (plain_rows rows plain n)
+noted_notes : (rows : List Row) → AreNotedRows rows → HasPlainNotes rows
+noted_notes rows noted n = go (entry_at rows n) (noted n)
   where
     go : (o : Option Entry) → IsNotedRow o → IsNotedEntry o
     go None own = tt
     go (Some e) own = (own.0, noted-literal e.shape own.1)
 
--- a root document with its definitions
-root-ready : (plan : Plan) (w : Work) (n : ℕ) (name : Text) (uri : Option Text) (depth : ℕ) (own document : Data) (key : Text)
-    → StandsAt plan.path key → IsPlainTable plan.rows → HasKeysOnce w.definitions → AllStand plan w
-    → Describes (basis_of plan) (MayRefer plan w) depth n own
-    → with_definitions plan.path w.definitions (root_document name uri own) ≡ Some document
-    → (R : Text → Type 0) → ((j : ℕ) (r : Text) → MayRefer plan w j r → R r) → IsReady R key w.definitions document
-root-ready plan w n name uri depth own document key at plain once definitions h made R refer =
-    placed-ready R plan.path key w.definitions ms document at all (root-are R name uri own (each depth n own h))
-    (room key (stands_key plan.path key at))
-    (placed_in plan.path w.definitions ms document (stands-draft plan.path key at) room made)
-  where
-    ms : Members
-    ms = members_in (root_document name uri own)
+module _ (old : State) (n : ℕ) (w : Work) (document : Data) (key : Text) (h : IsRootOf old n w document) (noted : AreNotedRows old.rows)
+    (once : HasKeysOnce w.definitions) (definitions : AllStand (plan_of old (Some n)) w) (at : StandsAt (path_of old) key) where
+  abbrev plan : Plan
+  plan = plan_of old (Some n)
 
-    each : (d n : ℕ) (t : Data) → Describes (basis_of plan) (MayRefer plan w) d n t → IsGood R t
-    each = described-good R (basis_of plan) (MayRefer plan w) plain refer
+  abbrev Describe : ℕ → ℕ → Data → Type 0
+  Describe = Describes (basis_of plan) (MayRefer plan w)
 
-    all : AllMembers (IsGood R) w.definitions
-    all = all_members (IsGood R) w.definitions once (λ k d found.
-        let definition = definitions k d found in each definition.depth definition.row d definition.describes)
+  described : Describe h.is_document.0 n h.own
+  described =
+      describes-wider (basis_of plan) (Refers plan true w) (MayRefer plan w) (refers_may plan w true) h.is_document.0 h.is_document.0
+      (omega arith) n h.own (document_describes (basis_of plan) plan.inlines (Refers plan true w) [] n h.own h.is_document)
 
-    room : (k : Text) → IsDefinitionsKey k → get_member k ms ≡ None
-    room k is = no_definitions_in k is (basis_of plan) (MayRefer plan w) (plain_notes plan.rows plain) name uri depth n own h
+  -- what a root call makes, where the documents of rows are of the class, and its definitions stand at a draft's path
+  pub root_call-ready : (R : Demand) → ((d j : ℕ) (t : Data) → Describe d j t → IsGood R t) → IsReady (Class R) key w.definitions document
+  root_call-ready R each =
+      placed-ready R plan.path key w.definitions ms document at all
+      (root-are R name uri h.own (each h.is_document.0 n h.own described)) (room key (stands_key plan.path key at))
+      (placed_in plan.path w.definitions ms document (stands-draft plan.path key at) room h.is_root)
+    where
+      name : Text
+      name = name_at old.rows n
 
--- what a root call makes, in a plain table, where its definitions stand at a draft's path
-pub root_call-ready : (old : State) (n : ℕ) (w : Work) (document : Data) (key : Text) → IsRootOf old n w document
-    → IsPlainTable old.rows → HasKeysOnce w.definitions → AllStand (plan_of old (Some n)) w → StandsAt (path_of old) key
-    → (R : Text → Type 0) → ((j : ℕ) (r : Text) → MayRefer (plan_of old (Some n)) w j r → R r)
-    → IsReady R key w.definitions document
-root_call-ready old n w document key h plain once definitions at R refer =
-    let plan = plan_of old (Some n) in
-    let depth = h.is_document.0 in
-    let described = describes-wider (basis_of plan) (Refers plan true w) (MayRefer plan w) (refers_may plan w true)
-    depth depth (omega arith) n h.own
-    (document_describes (basis_of plan) plan.inlines (Refers plan true w) [] n h.own h.is_document) in
-    root-ready plan w n (name_at old.rows n) old.settings.meta_schema depth h.own document key at plain once definitions described
-    h.is_root R refer
+      uri : Option Text
+      uri = old.settings.meta_schema
 
--- so it is of the class that the laws ask for, and its definitions are a map
-pub root_call-class : (old : State) (n : ℕ) (w : Work) (document : Data) (key : Text) → IsRootOf old n w document
-    → IsPlainTable old.rows → HasKeysOnce w.definitions → AllStand (plan_of old (Some n)) w → StandsAt (path_of old) key
-    → Everywhere (Named key IsDraft07) document × ((ms : Members) × (document ≡ object ms) × IsMap (get_member key ms))
-root_call-class old n w document key h plain once definitions at =
-    let ready = root_call-ready old n w document key h plain once definitions at (IsName key)
-    (may_refer-name (plan_of old (Some n)) w key at definitions) in
-    (good-named key document ready.everywhere, (ready.inside, ready.is_object, ready.is_map))
+      ms : Members
+      ms = members_in (root_document name uri h.own)
+
+      all : AllMembers (IsGood R) w.definitions
+      all = all_members (IsGood R) w.definitions once (λ k d found.
+          let definition = definitions k d found in each definition.depth definition.row d definition.describes)
+
+      room : (k : Text) → IsDefinitionsKey k → get_member k ms ≡ None
+      room k is =
+          no_definitions_in k is (basis_of plan) (MayRefer plan w) (noted_notes plan.rows noted) name uri h.is_document.0 n h.own described

@@ -26,24 +26,24 @@ use Rattle.schemars_headline.specs.Keys.{HasKeysOnce}
 use Rattle.schemars_headline.proofs.Keys.{AllMembers, all_members, IsDefinitionsKey}
 use Rattle.schemars_headline.proofs.Standing.{MayRefer, AllStand, stands_now}
 use Rattle.schemars_headline.proofs.Placed.{StandsAt, stands_key, placed_in}
-use Rattle.schemars_laws.specs.Everywhere.{Everywhere, asked, asked_of_members}
-use Rattle.schemars_laws.specs.Names.{IsName, Named}
+use Rattle.schemars_laws.specs.Everywhere.{asked, asked_of_members}
+use Rattle.schemars_laws.specs.Names.{IsName}
 use Rattle.schemars_laws.specs.Classes.{AreSchemas, IsDraft07, HasPlainItems}
-use Rattle.schemars_laws.proofs.Preserved.{weaker}
 use Rattle.schemars_laws.proofs.Drafts.{draft07-law, draft2019_09-law}
 use Rattle.schemars_laws.specs.Laws.{for_draft07, for_draft2019_09}
 use Rattle.schemars_headline.specs.Dialects.{HasPlainDefinitions, AcceptsExampleUnder}
 use Rattle.schemars_headline.specs.Dialects.{Draft07Sample, Draft2019_09Sample}
-use Rattle.schemars_headline.proofs.Changes.{Class, AreGood, are-put, IsGood, good, good_truth, good-members, good-allow_null}
+use Rattle.schemars_headline.proofs.Changes.{Demand, without_rest, Class, for_openapi, for_items, AreGood, are-put, IsGood, good}
+use Rattle.schemars_headline.proofs.Changes.{good_truth, good-members, good-allow_null}
 use Rattle.schemars_headline.proofs.Documents.{own-items, type-good, are-typed, char-good, bytes-good, seq-good, AllGood, asked-items}
 use Rattle.schemars_headline.proofs.Documents.{any_of-good, asked-named}
-use Rattle.schemars_headline.proofs.Classes.{described-good, good-named}
+use Rattle.schemars_headline.proofs.Classes.{described-good, good-named, items-named}
 use Rattle.schemars_headline.proofs.RootClass.{IsReady, are-with_meta_schema, placed-ready, may_refer-name, stands-place, stands-draft}
 use Rattle.schemars_headline.proofs.Accepting.{moved, not-properties}
 
 -- ---- the schema of an example
 
-module _ (R : Text → Type 0) where
+module _ (R : Demand) where
   schemas-of : (ts : List Data) → AllGood R ts → AreSchemas (items_of ts)
   schemas-of [] is = tt
   schemas-of (t ∷ ts) is = (is.0.schema, schemas-of ts is.1)
@@ -111,7 +111,7 @@ module _ (R : Text → Type 0) where
         → asked_of_members (Class R) (entry_schemas xs ms)
     entries-good no_entries ms is = is
     entries-good (entry k x xs) ms is =
-        entries-good xs (put k (sample_schema x) ms) (asked-named R k (sample_schema x) ms (schema-good x) is)
+        entries-good xs (put k (sample_schema x) ms) (asked-named R k (sample_schema x) ms (schema-good x).everywhere is)
 
     values-good : (xs : Entries) → AllGood R (value_schemas xs)
     values-good no_entries = tt
@@ -164,12 +164,12 @@ definitions_free meta_schema x key (inr is) =
 
 -- plain definitions are of the class
 definitions-good : (s : State) (key : Text) → StandsAt (path_of s) key → HasKeysOnce s.definitions → HasPlainDefinitions s
-    → AllMembers (IsGood (IsName key)) s.definitions
-definitions-good s key at once (inl none) = subst (AllMembers (IsGood (IsName key))) (sym none) tt
+    → AllMembers (IsGood (without_rest (IsName key))) s.definitions
+definitions-good s key at once (inl none) = subst (AllMembers (IsGood (without_rest (IsName key)))) (sym none) tt
 definitions-good s key at once (inr (own, plain)) =
-    all_members (IsGood (IsName key)) s.definitions once (λ k d found.
+    all_members (IsGood (without_rest (IsName key))) s.definitions once (λ k d found.
     let definition = standing k d found in
-    described-good (IsName key) (basis_of plan) (MayRefer plan w) plain (may_refer-name plan w key at standing)
+    described-good (without_rest (IsName key)) (basis_of plan) (MayRefer plan w) (may_refer-name plan w key at standing) plain
     definition.depth definition.row d definition.describes)
   where
     plan : Plan
@@ -185,16 +185,16 @@ module _ (s : State) (x : Example) (document : Data) (key : Text) (at : StandsAt
     (once : HasKeysOnce s.definitions) (plain : HasPlainDefinitions s)
     (made : with_definitions (path_of s) s.definitions (sample_root s.settings.meta_schema x) ≡ Some document)
     (fits : AcceptsExample x document) where
-  ready : IsReady (IsName key) key s.definitions document
+  abbrev names : Demand
+  names = without_rest (IsName key)
+
+  ready : IsReady (Class names) key s.definitions document
   ready =
       let free = definitions_free s.settings.meta_schema x in
       let ms = members_in (sample_root s.settings.meta_schema x) in
-      placed-ready (IsName key) (path_of s) key s.definitions ms document at (definitions-good s key at once plain)
-      (root-good (IsName key) s.settings.meta_schema x) (free key (stands_key (path_of s) key at))
+      placed-ready names (path_of s) key s.definitions ms document at (definitions-good s key at once plain)
+      (root-good names s.settings.meta_schema x) (free key (stands_key (path_of s) key at))
       (placed_in (path_of s) s.definitions ms document (stands-draft (path_of s) key at) free made)
-
-  all : Everywhere (Named key IsDraft07) document
-  all = good-named key document ready.everywhere
 
   before : (patterns : Patterns) (followed : ℕ) (json : Data) → sample_json x ≡ Some json
       → accepts draft2020_12 document patterns followed document json ≡ Yes
@@ -204,7 +204,8 @@ module _ (s : State) (x : Example) (document : Data) (key : Text) (at : StandsAt
   after07 patterns followed json is =
       moved for_draft07 draft07 key IsDraft07
       (draft07-law key (stands-place (path_of s) key at) (not-properties (path_of s) key at))
-      document ready.inside ready.is_object ready.is_map all patterns followed json
+      document ready.inside ready.is_object ready.is_map
+      (good-named key document (for_openapi (IsName key) document ready.everywhere)) patterns followed json
       ∙ before patterns followed json is
 
   after2019_09 : AcceptsExampleUnder draft2019_09 x (for_draft2019_09 document)
@@ -212,8 +213,7 @@ module _ (s : State) (x : Example) (document : Data) (key : Text) (at : StandsAt
       moved for_draft2019_09 draft2019_09 key HasPlainItems
       (draft2019_09-law key (stands-place (path_of s) key at) (not-properties (path_of s) key at))
       document ready.inside ready.is_object ready.is_map
-      (weaker (Named key IsDraft07) (Named key HasPlainItems) (λ ms class. (class.0, class.1, class.2.2)) document all)
-      patterns followed json
+      (items-named key document (for_items names document ready.everywhere)) patterns followed json
       ∙ before patterns followed json is
 
 -- what is made of an example accepts it in each draft, at the draft's path

@@ -32,6 +32,7 @@ use Rattle.schemars_laws.proofs.Chain.{found-at_end, missing-at_end, seven-each}
 use Rattle.schemars_headline.specs.Taken.{MeansItsRow, MeanTheirRows, OpenApiHeadline}
 use Rattle.schemars_headline.proofs.ReferencesKept.{RefersOnce}
 use Rattle.schemars_headline.proofs.DialectsResolving.{each-resolves}
+use Rattle.schemars_headline.proofs.Changes.{without_rest, for_openapi}
 use Rattle.schemars_headline.proofs.Classes.{described-good}
 
 -- ---- names of these definitions
@@ -83,8 +84,9 @@ module _ (s : State) (own : HasOwnDefinitions s) (at : path_of s ≡ components)
 
   pub own-class : EachEverywhere (Stands (NamesOne s.definitions) IsForOpenApi) s.definitions
   own-class name d found =
-      (described-good (NamesOne s.definitions) (basis_of (plan_of s None)) (MayRefer (plan_of s None) (work_of s)) plain may_refer-one
-      (standing name d found).depth (standing name d found).row d (standing name d found).describes).everywhere
+      for_openapi (NamesOne s.definitions) d
+      (described-good (without_rest (NamesOne s.definitions)) (basis_of (plan_of s None)) (MayRefer (plan_of s None) (work_of s))
+      may_refer-one plain (standing name d found).depth (standing name d found).row d (standing name d found).describes).everywhere
 
 -- ---- what they mean
 

@@ -10,7 +10,7 @@ use Rattle.schemars_laws.specs.Laws.{for_draft07, for_draft2019_09}
 use Rattle.schemars_types.specs.Rows.{Row}
 use Rattle.schemars_types.specs.declared.contract.Contract.{Contract}
 use Rattle.schemars_types.specs.Meaning.{belongs}
-use Rattle.schemars_documents.specs.PlainTable.{IsPlainTable}
+use Rattle.schemars_documents.specs.PlainTable.{IsPlainTable, IsPlainUnder}
 use Rattle.schemars_sample.specs.Example.{Example}
 use Rattle.schemars_sample.specs.SampleJson.{sample_json}
 use Rattle.schemars_headline.specs.State.{State, path_of, HasOwnDefinitions}
@@ -34,12 +34,22 @@ RootHeadlineUnder dialect path s n document =
     HasOwnDefinitions s → path_of s ≡ path → IsPlainTable s.rows
     → MeansItsTypeUnder dialect s.rows s.settings.contract (path_of s) n document
 
+-- and over the wider tables that are plain under the contract, with enums and Options among what is flattened
+abbrev pub RootWideHeadlineUnder : Dialect → Text → State → ℕ → Data → Type 0
+RootWideHeadlineUnder dialect path s n document =
+    HasOwnDefinitions s → path_of s ≡ path → IsPlainUnder s.settings.contract s.rows
+    → MeansItsTypeUnder dialect s.rows s.settings.contract (path_of s) n document
+
 -- what is made for the drafts of a root document of row n
 abbrev pub Draft07Headline : State → ℕ → Data → Type 0
 Draft07Headline s n document = RootHeadlineUnder draft07 (codes "/definitions") s n (for_draft07 document)
 
 abbrev pub Draft2019_09Headline : State → ℕ → Data → Type 0
 Draft2019_09Headline s n document = RootHeadlineUnder draft2019_09 (codes "/$defs") s n (for_draft2019_09 document)
+
+abbrev pub Draft2019_09WideHeadline : State → ℕ → Data → Type 0
+Draft2019_09WideHeadline s n document =
+    RootWideHeadlineUnder draft2019_09 (codes "/$defs") s n (for_draft2019_09 document)
 
 -- ---- examples
 

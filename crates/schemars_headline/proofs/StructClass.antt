@@ -1,0 +1,284 @@
+-- In a table that is plain under its contract the document of each row is one that the law of 2019-09 speaks of, those of structs with
+-- flattened enums too.
+use Rattle.std.proofs.Common.{◌≡◌, ℕ, zero, inr, List, [], ◌∷◌, Option, Some, None, Bool, true, false, codes, refl, sym, ap}
+use Rattle.std.proofs.Common.{◌∙◌, subst, length, arith}
+use Rattle.std.proofs.lemmas.Slice.Eq.{bytes_eq-Decides}
+use Rattle.std.specs.Prelude.{bytes_eq, if◌then◌else◌}
+use Rattle.serde_json.specs.Data.{Data, null, array, object, Members, no_members, member}
+use Rattle.serde_json.specs.Find.{get_member}
+use Rattle.serde_json.specs.View.{items_of}
+use Rattle.schemars_schema.specs.Json.{Text}
+use Rattle.schemars_schema.specs.OrderedText.{is_listed}
+use Rattle.schemars_schema.specs.References.{NoSchemas, OneSchema, SchemaList, place_under}
+use Rattle.schemars_schema.specs.Acceptance.{Context, Judge, draft2020_12, follow}
+use Rattle.schemars_builders.specs.NullLaw.{context2020_12}
+use Rattle.schemars_schema.proofs.Members.{get_member-here, get_member-later}
+use Rattle.schemars_flatten.specs.Flatten.{flattened}
+use Rattle.schemars_flatten.proofs.Kept as kept
+use Rattle.schemars_schema.specs.References.{with_same_object, with_same_objects}
+use Rattle.schemars_laws.specs.Everywhere.{Everywhere, asked, asked_at, asked_of_items, asked_of_keywords}
+use Rattle.schemars_laws.specs.Names.{IsNoObject}
+use Rattle.schemars_laws.specs.Classes.{AreSchemas, IsSchemaList, IsNoList}
+use Rattle.schemars_laws.specs.Stages.{IsTextOf, AreSomeTypes}
+use Rattle.schemars_laws.proofs.Editing.{absent-once}
+use Rattle.schemars_shapes.specs.Shape.{Field, Flattened, Fields, Entry}
+use Rattle.schemars_types.specs.Rows.{Row, entry_at}
+use Rattle.schemars_types.specs.Effective.{row_fields, flattened_in, shape_fields, part_enums, enums_within, shape_enums}
+use Rattle.schemars_types.specs.declared.contract.Contract.{Contract}
+use Rattle.schemars_types.specs.Meaning.{Choice, is_required}
+use Rattle.schemars_documents.specs.Documents.{Keyword, required_names}
+use Rattle.schemars_documents.specs.PlainTable.{AreNoted, ArePartsUnder, IsEntryUnder, IsPlainUnder}
+use Rattle.schemars_documents.specs.Basis.{Basis}
+use Rattle.schemars_documents.specs.Template.{Ask, part, members_of, Template, asked as asked_for, with_keywords, asks_of, filled, first}
+use Rattle.schemars_documents.specs.OfShape.{fields_template, with_flattened, struct_template}
+use Rattle.schemars_documents.specs.Describes.{Describes}
+use Rattle.schemars_meaning.proofs.Filling.{Fit, parted}
+use Rattle.schemars_meaning.proofs.Flattened.{map_fills}
+use Rattle.schemars_meaning.proofs.Spread.{field_keywords}
+use Rattle.schemars_schema.proofs.SortedMembers.{IsSorted, get_member-above}
+use Rattle.schemars_meaning.proofs.MapKeywords.{closed_there}
+use Rattle.schemars_meaning.proofs.StructForm.{Part, Parts, objects, all_there, one_there, unevaluated_beside, unevaluated_there}
+use Rattle.schemars_meaning.proofs.StructForm.{struct_keywords}
+use Rattle.schemars_meaning.proofs.Uniting.{IsForm}
+use Rattle.schemars_meaning.proofs.Opened.{no_parts}
+use Rattle.schemars_meaning.proofs.Items.{IsItem, AllItems, PartsAre, OneIs}
+use Rattle.schemars_meaning.proofs.StructDocuments.{IsStruct}
+use Rattle.schemars_meaning.proofs.PartsDescribed.{under_apart}
+use Rattle.schemars_meaning.proofs.StructsCounted.{struct_stands, tell_inside}
+use Rattle.schemars_meaning.proofs.Referring.{IsNotedRow, under_rows}
+use Rattle.schemars_headline.proofs.Changes.{Demand, with_rest, Class, class-of, nothing, are-put, IsGood, good}
+use Rattle.schemars_headline.proofs.Documents.{map-good, fields-named}
+use Rattle.schemars_headline.proofs.Held.{by_listed, by_place, Holds, HoldsList, HoldsEach, HoldsAt, holds-everywhere, held-members}
+use Rattle.schemars_headline.proofs.Held.{flattened-holds, part-holds}
+use Rattle.schemars_headline.proofs.Classes.{In, Answer, StructsGood, IsNotedUnder, each-good}
+
+-- ---- what stands under each key of members in order
+
+asked-each : (P : Members → Type 0) (ms : Members) → IsSorted ms
+    → ((k : Text) (d : Data) → get_member k ms ≡ Some d → asked_at (place_under k) (asked P d)) → asked_of_keywords P ms
+unfolding asked
+asked-each P no_members sorted each = tt
+asked-each P (member k d ms) sorted each = (
+  each k d (get_member-here k d ms),
+  asked-each P ms sorted.1 (λ j e found. each j e (past j e found (bytes_eq j k) refl)),
+)
+  where
+    past : (j : Text) (e : Data) → get_member j ms ≡ Some e → (b : Bool) → bytes_eq j k ≡ b → get_member j (member k d ms) ≡ Some e
+    past j e found true is =
+        let name : j ≡ k = (bytes_eq-Decides j k).0 is in
+        let none : None ≡ Some e = sym (ap (λ x. get_member x ms) name ∙ get_member-above k ms sorted.0) ∙ found in
+        cc
+    past j e found false is = get_member-later j k d ms is ∙ found
+
+-- ---- what stands beside the choices of a struct
+
+truth_there : (b : Bool) → IsNoObject (closed_there b)
+unfolding closed_there
+truth_there false = tt
+truth_there true = tt
+
+no_object : (ps : Parts) (closed : Bool) → IsNoObject (unevaluated_there ps closed)
+no_object ps closed = go ps.all ps.one
+  where
+    go : (a : List Part) (o : Option Part) → IsNoObject (unevaluated_beside a o closed)
+    go [] None = tt
+    go [] (Some p) = truth_there closed
+    go (q ∷ a) o = truth_there closed
+
+schemas_in : (ps : List Part) → AreSchemas (items_of (objects ps))
+schemas_in [] = tt
+schemas_in (p ∷ ps) = (tt, schemas_in ps)
+
+all_list : (ps : List Part) → IsSchemaList (all_there ps)
+unfolding all_there
+all_list [] = tt
+all_list (p ∷ ps) = schemas_in (p ∷ ps)
+
+module _ (N : Text → Type 0) where
+  abbrev R : Demand
+  R = with_rest N
+
+  abbrev C : Members → Type 0
+  C = Class R
+
+  -- what stands there is of the class, where what stands in it is
+  abbrev IsSound : Option Data → Type 0
+  IsSound o = (d : Data) → o ≡ Some d → HoldsList C d → (asked C d).as_list
+
+  -- ---- maps with choices
+
+  module _ (es : List Keyword) (ns : List Text) (ps : Parts) (closed : Bool) (ms : Members)
+      (form : IsForm (struct_keywords es ns ps closed) ms) (all : IsSound (all_there ps.all)) (one : IsSound (one_there ps.one)) where
+    own : Class R ms
+    own =
+        class-of R ms (subst (IsTextOf N) (sym (form.at (codes "$ref") refl)) tt) (absent-once (codes "$ref") ms (form.at (codes "$ref") refl))
+        (subst IsNoObject (sym (form.at (codes "unevaluatedProperties") refl)) (no_object ps closed)) tt
+        (subst AreSomeTypes (sym (form.at (codes "type") refl)) tt) (form.at (codes "nullable") refl) (form.at (codes "const") refl)
+        (form.at (codes "enum") refl) (subst IsSchemaList (sym (form.at (codes "allOf") refl)) (all_list ps.all)) (
+          absent-once (codes "prefixItems") ms (form.at (codes "prefixItems") refl),
+          subst IsSchemaList (sym (form.at (codes "prefixItems") refl)) tt,
+          subst IsNoList (sym (form.at (codes "items") refl)) tt,
+          form.at (codes "additionalItems") refl,
+        )
+
+    abbrev Asked : Text → Data → Type 0
+    Asked k d = asked_at (place_under k) (asked C d)
+
+    missing : (k : Text) (d : Data) (Q : Type 0) → get_member k ms ≡ None → get_member k ms ≡ Some d → Q
+    missing k d Q none found = let never : None ≡ Some d = sym none ∙ found in cc
+
+    -- of the keywords with schemas of the same object, `allOf` and `oneOf` may stand there
+    keyword : (k : Text) (d : Data) → get_member k ms ≡ Some d → HoldsAt C k d → Asked k d
+    keyword k d found held = go (is_listed k with_same_object) (is_listed k with_same_objects) refl refl held
+      where
+        go : (holds lists : Bool) → is_listed k with_same_object ≡ holds → is_listed k with_same_objects ≡ lists
+            → by_place (if holds then OneSchema else if lists then SchemaList else NoSchemas) (Holds C d) (HoldsList C d) (Asked k d)
+            → Asked k d
+        go true lists is also held =
+            by_listed (λ x. get_member x ms ≡ Some d → Asked x d) k with_same_object (
+              missing (codes "if") d _ (form.at (codes "if") refl),
+              (missing (codes "then") d _ (form.at (codes "then") refl), (missing (codes "else") d _ (form.at (codes "else") refl), tt)),
+            ) is found
+        go false true is also held =
+            by_listed (λ x. get_member x ms ≡ Some d → HoldsList C d → Asked x d) k with_same_objects (
+              λ there h. all d (sym (form.at (codes "allOf") refl) ∙ there) h,
+              (
+                missing (codes "anyOf") d _ (form.at (codes "anyOf") refl),
+                (λ there h. one d (sym (form.at (codes "oneOf") refl) ∙ there) h, tt),
+              ),
+            ) also found held
+        go false false is also held = held
+
+    form-good : Holds C (object ms) → Everywhere C (object ms)
+    unfolding asked
+    form-good held =
+        (own, asked-each C ms form.sorted (λ k d found. keyword k d found (kept.at (HoldsAt C) k ms d (held-members C ms held) found)))
+
+  -- ---- choices
+
+  no_part : IsSound (all_there [])
+  unfolding all_there
+  no_part d is = cc
+
+  no_choice : IsSound (one_there None)
+  unfolding one_there
+  no_choice d is = cc
+
+  module _ (c : Context) (on : c.dialect.reads_unevaluated ≡ true) (v : Data) where
+    item-good : (closed : Bool) (t : Data) (o : Choice) → IsItem c on closed t o v → Holds C t → Everywhere C t
+    item-good closed t o i held =
+        subst (Everywhere C) (sym i.is) (form-good i.es i.ns no_parts closed i.members i.form no_part no_choice (subst (Holds C) i.is held))
+
+    items-good : (ts : List Data) (os : List Choice) → AllItems c on false ts os v → HoldsEach C (items_of ts)
+        → asked_of_items C (items_of ts)
+    unfolding asked Holds
+    items-good [] [] h held = tt
+    items-good [] (o ∷ os) h held = absurd h
+    items-good (t ∷ ts) [] h held = absurd h
+    items-good (t ∷ ts) (o ∷ os) h held = (item-good false t o h.0 held.0, items-good ts os h.1 held.1)
+
+    -- each under `allOf`
+    objects-good : (ps : List Part) → PartsAre c on ps v → HoldsEach C (items_of (objects ps)) → asked_of_items C (items_of (objects ps))
+    unfolding asked Holds
+    objects-good [] h held = tt
+    objects-good (p ∷ ps) h held = (
+      (good R _ (are-put R (codes "oneOf") (array (items_of p.items)) no_members refl
+          (items-good p.items p.choices h.0 held.0.0) (nothing R))).everywhere,
+      objects-good ps h.1 held.1,
+    )
+
+    all-sound : (ps : List Part) → PartsAre c on ps v → IsSound (all_there ps)
+    unfolding all_there asked Holds
+    all-sound [] h d is = cc
+    all-sound (p ∷ ps) h d is =
+        let same : array (items_of (objects (p ∷ ps))) ≡ d = cc in
+        subst (λ e. HoldsList C e → (asked C e).as_list) same (objects-good (p ∷ ps) h)
+
+    one-sound : (o : Option Part) → OneIs c on o v → IsSound (one_there o)
+    unfolding one_there asked Holds
+    one-sound None h d is = cc
+    one-sound (Some p) h d is =
+        let same : array (items_of p.items) ≡ d = cc in
+        subst (λ e. HoldsList C e → (asked C e).as_list) same (items-good p.items p.choices h)
+
+    struct-good : (contract : Contract) (W : ℕ → Data → Type 0) (list : List Field) (offers : List (List Choice)) (closed : Bool) (s : Data)
+        → IsStruct c on contract W v list offers closed s → Holds C s → IsGood R s
+    struct-good contract W list offers closed s a held =
+        subst (IsGood R) (sym a.is) (record {
+          schema = tt;
+          everywhere = form-good (field_keywords list a.written) (required_names contract list) a.parts closed a.members a.form
+              (all-sound a.parts.all a.choices.0) (one-sound a.parts.one a.choices.1) (subst (Holds C) a.is held);
+        })
+
+  -- ---- what fills templates of structs
+
+  module _ (A : Ask → Data → Type 0) (contract : Contract) (parts : (j : ℕ) (t : Data) → A (part j) t → IsGood R t)
+      (answers : (n : ℕ) (required : Bool) (t : Data) → A (members_of n required) t → Holds C t) where
+    abbrev AllHold : Template → Type 0
+    AllHold t = (us : List Data) → Fit A (asks_of t) us → Holds C (filled t us)
+
+    fields-hold : (xs : List Field) (closed : Bool) → AreNoted xs → AllHold (fields_template contract xs closed)
+    fields-hold xs closed noted us fit =
+        let all = map_fills A xs (required_names contract xs) closed us fit in
+        subst (Holds C) (sym all.2) (holds-everywhere C _
+        (map-good R (field_keywords xs all.0) (required_names contract xs) closed
+        (fields-named R (λ j. A (part j)) parts xs all.0 noted all.1)).everywhere)
+
+    part-joins : (p : Flattened) (t : Template) → AllHold t
+        → AllHold (with_keywords t (asked_for (members_of p.ty (is_required contract p.required))))
+    part-joins p t own us fit =
+        let ask : Ask = members_of p.ty (is_required contract p.required) in
+        let s = parted A t (ask ∷ []) us fit in
+        subst (Holds C) (λ i. flattened (sym s.4 i) (first (sym s.5 i)))
+        (flattened-holds R (filled t s.0) (first s.1) (own s.0 s.2) (answered s.1 s.3))
+      where
+        answered : (b : List Data) → Fit A (members_of p.ty (is_required contract p.required) ∷ []) b → Holds C (first b)
+        answered [] h = absurd h
+        answered (u ∷ b) h = answers p.ty (is_required contract p.required) u h.0
+
+    parts-join : (ps : List Flattened) (t : Template) → AllHold t → AllHold (with_flattened contract ps t)
+    parts-join [] t own us fit = own us fit
+    parts-join (p ∷ ps) t own us fit =
+        parts-join ps (with_keywords t (asked_for (members_of p.ty (is_required contract p.required)))) (part-joins p t own) us fit
+
+    struct-holds : (y : Fields) → AreNoted y.list → AllHold (struct_template contract y)
+    struct-holds y noted = parts-join y.flatten (fields_template contract y.list y.closed) (fields-hold y.list y.closed noted)
+
+-- ---- the documents of rows
+
+module _ (N : Text → Type 0) (basis : Basis) (Refers : ℕ → Text → Type 0) (names : (j : ℕ) (r : Text) → Refers j r → N r)
+    (plain : IsPlainUnder basis.contract basis.rows)
+    (fields_settled : (n : ℕ) (e : Entry) → entry_at basis.rows n ≡ Some e
+    → row_fields basis.rows n ≡ shape_fields (flattened_in basis.rows) e.shape)
+    (enums_settled : (n : ℕ) (e : Entry) → entry_at basis.rows n ≡ Some e
+    → enums_within basis.rows (length basis.rows) n ≡ shape_enums (part_enums basis.rows) n e.shape) where
+  abbrev rows : List Row
+  rows = basis.rows
+
+  abbrev contract : Contract
+  contract = basis.contract
+
+  under-entry : (n : ℕ) (e : Entry) → entry_at rows n ≡ Some e → IsNotedUnder rows (ArePartsUnder contract rows) e
+  under-entry n e at =
+      let entry : IsEntryUnder contract rows (Some e) = subst (IsEntryUnder contract rows) at (plain n) in
+      let own : IsNotedRow (Some e) = subst IsNotedRow at (under_rows contract rows plain n) in
+      (entry.0, entry.1, own.1, entry.3)
+
+  -- its form is the same whatever value is looked at, and wherever references lead
+  nowhere : Text → Judge
+  nowhere = follow draft2020_12 null [] zero
+
+  under-structs : (d : ℕ) → StructsGood (with_rest N) basis Refers names (ArePartsUnder contract rows) d
+  under-structs d parts y noted under us fit =
+      struct-good N (context2020_12 [] nowhere) refl null contract (In (with_rest N) basis Refers names d) _ _ y.closed _
+      (struct_stands [] nowhere basis Refers plain fields_settled enums_settled 1 (omega arith) zero
+      (λ d j t w is js less. absurd (omega arith)) null tt (omega arith) 1 (omega arith) d y (inr (omega arith)) under
+      (tell_inside [] nowhere basis Refers plain fields_settled enums_settled 1 (omega arith) zero
+      (λ d j t w is js less. absurd (omega arith)) null (omega arith)) us fit)
+      (struct-holds N (Answer (with_rest N) basis Refers names d) contract parts
+      (λ n required t h. subst (Holds (Class (with_rest N))) (sym h.2)
+      (part-holds (with_rest N) _ h.0 (holds-everywhere (Class (with_rest N)) h.0 (parts _ h.0 (inr h.1)).everywhere))) y noted us fit)
+
+  pub described-under : (d n : ℕ) (t : Data) → Describes basis Refers d n t → IsGood (with_rest N) t
+  described-under =
+      each-good (with_rest N) basis Refers names (ArePartsUnder contract rows) (under_apart contract rows) under-entry under-structs
