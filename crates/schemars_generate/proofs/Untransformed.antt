@@ -11,7 +11,7 @@ use Rattle.schemars_headline.specs.Keys.{HasKeysOnce}
 use Rattle.schemars_headline.specs.State.{State, path_of}
 use Rattle.schemars_headline.proofs.Calls.{root_means, root_means_wide, root_is_whole, always_placed}
 use Rattle.schemars_headline.proofs.Inlined.{root_inlined}
-use Rattle.schemars_headline.proofs.DialectRoots.{draft07_means, draft2019_09_means}
+use Rattle.schemars_headline.proofs.DialectRoots.{draft07_means, draft2019_09_means, draft2019_09_means_wide}
 use Rattle.schemars_walk.specs.Walk.{Step}
 use Rattle.schemars_generate.specs.Through.{IsUntransformed, IsRefused, IsRefusedThrough, IsTurnedDown}
 use Rattle.schemars_generate.specs.declared.error.GenerateError.{GenerateError}
@@ -25,6 +25,7 @@ untransformed s n w d checked root once one = record {
   wide = λ own path. root_means_wide s n w d checked root once one own path;
   draft07 = draft07_means s n w d checked root once one;
   draft2019_09 = draft2019_09_means s n w d checked root once one;
+  draft2019_09_wide = draft2019_09_means_wide s n w d checked root once one;
   inlined = root_inlined s n w d root;
   whole = λ none own. root_is_whole s n w d root once none own;
 }

@@ -8,7 +8,7 @@ use Rattle.schemars_headline.specs.Keys.{HasKeysOnce}
 use Rattle.schemars_build.specs.Naming.{IsOneToOne}
 use Rattle.schemars_headline.specs.Headline.{RootHeadline, RootWideHeadline, IsRootOf, CannotPlace, IsInlined}
 use Rattle.schemars_headline.specs.Calls.{IsRootCall, IsLastRootCall}
-use Rattle.schemars_headline.specs.Dialects.{Draft07Headline, Draft2019_09Headline}
+use Rattle.schemars_headline.specs.Dialects.{Draft07Headline, Draft2019_09Headline, Draft2019_09WideHeadline}
 use Rattle.schemars_build.specs.Work.{Work}
 use Rattle.schemars_walk.specs.Walk.{Step, EachMember, AtSchema}
 use Rattle.schemars_walk.specs.declared.transform.TransformError.{TransformError}
@@ -43,6 +43,7 @@ pub record IsUntransformed (old : State) (n : ℕ) (d : Data) : Type 0 where
   pub wide : RootWideHeadline old n d
   pub draft07 : Draft07Headline old n d
   pub draft2019_09 : Draft2019_09Headline old n d
+  pub draft2019_09_wide : Draft2019_09WideHeadline old n d
   pub inlined : old.definitions ≡ no_members → IsInlined old d
   pub whole : HasNoFloat old.rows → HasOwnDefinitions old → has_float d ≡ false
 

@@ -16,7 +16,7 @@ ghost use Rattle.schemars_headline.specs.State.{path_of, settings2020_12, HasOwn
 ghost use Rattle.schemars_headline.specs.State.{ReferencesNameKeys};
 ghost use Rattle.schemars_build.specs.Naming.{IsOneToOne};
 ghost use Rattle.schemars_documents.specs.PlainTable.{IsPlainTable, HasPlainNotes};
-ghost use Rattle.schemars_headline.specs.Dialects.{RootHeadlineUnder};
+ghost use Rattle.schemars_headline.specs.Dialects.{RootHeadlineUnder, RootWideHeadlineUnder};
 ghost use Rattle.schemars_headline.specs.Taken.{TakenHeadline, HasSameKeys};
 ghost use Rattle.schemars_generate.specs.Refusals.{HasFault};
 ghost use Rattle.schemars_generate.specs.Through.{IsThrough, AreThrough, AreTurnedDown};
@@ -333,6 +333,8 @@ impl<O: Transform + Drop> SchemaGenerator<O> {
             → IfOk result (RootHeadlineUnder draft07 (codes "/definitions") (state self.old) n) }
         ensures draft2019_09 { self.old.settings.transforms.items ≡ transforms2019_09
             → IfOk result (RootHeadlineUnder draft2019_09 (codes "/$defs") (state self.old) n) }
+        ensures draft2019_09_wide { self.old.settings.transforms.items ≡ transforms2019_09
+            → IfOk result (RootWideHeadlineUnder draft2019_09 (codes "/$defs") (state self.old) n) }
         ensures built_in { some_own self.old.settings.transforms.items ≡ false
             → IfOk result (IsMadeBy self.old.settings.transforms.items
             (IsUntransformedCall (state self.old) n (state self.new))) }
@@ -380,6 +382,8 @@ impl<O: Transform + Drop> SchemaGenerator<O> {
             → IfOk result (RootHeadlineUnder draft07 (codes "/definitions") (state self) n) }
         ensures draft2019_09 { self.settings.transforms.items ≡ transforms2019_09
             → IfOk result (RootHeadlineUnder draft2019_09 (codes "/$defs") (state self) n) }
+        ensures draft2019_09_wide { self.settings.transforms.items ≡ transforms2019_09
+            → IfOk result (RootWideHeadlineUnder draft2019_09 (codes "/$defs") (state self) n) }
         ensures built_in { some_own self.settings.transforms.items ≡ false
             → IfOk result (IsMadeBy self.settings.transforms.items
             (IsUntransformed (state self) n)) }

@@ -1,7 +1,7 @@
 use Rattle.std.proofs.Common.{◌≡◌, ◌<◌, ◌⊎◌, [], length, codes, Vec, Global, IfOk, IfErr, ap, subst}
 use Rattle.schemars_schema.specs.Acceptance.{draft07, draft2019_09}
 use Rattle.schemars_documents.specs.PlainTable.{HasPlainNotes}
-use Rattle.schemars_headline.specs.Dialects.{RootHeadlineUnder}
+use Rattle.schemars_headline.specs.Dialects.{RootHeadlineUnder, RootWideHeadlineUnder}
 use Rattle.schemars_headline.specs.Calls.{IsLastRootCall}
 use Rattle.schemars_headline.specs.Headline.{RootHeadline, RootWideHeadline, IsDraftPath}
 use Rattle.schemars_headline.specs.State.{Settings, path_of, HasOwnDefinitions}
@@ -104,6 +104,16 @@ returns-clause-draft2019_09 g c =
     let s = state_with (settings_of c.args.self.now.settings) c.args.self.now.contents in
     λ is.
     IfOk-weaker r _ _ (λ d h. made_by_these ts transforms2019_09 _ (RootHeadlineUnder draft2019_09 (codes "/$defs") s c.args.n) d is (λ e i. i.0.draft2019_09) h)
+    (returns-clause-built_in g c (ap some_own is))
+
+pub returns-clause-draft2019_09_wide : goal.returns-clause-draft2019_09_wide
+returns-clause-draft2019_09_wide g c =
+    let r = c.root_schema-answer.result in
+    let ts = c.args.self.now.settings.transforms.items in
+    let s = state_with (settings_of c.args.self.now.settings) c.args.self.now.contents in
+    λ is.
+    IfOk-weaker r _ _ (λ d h. made_by_these ts transforms2019_09 _ (RootWideHeadlineUnder draft2019_09 (codes "/$defs") s c.args.n) d is
+    (λ e i. i.0.draft2019_09_wide) h)
     (returns-clause-built_in g c (ap some_own is))
 
 pub returns-clause-only_memory : goal.returns-clause-only_memory
