@@ -130,9 +130,13 @@ for_items R s is = weaker (Class R) (Stands R.refers HasPlainItems) (λ ms h. re
 -- ---- members put in, and taken out
 
 module _ (R : Demand) where
+  keeps : (ns ms : Members) → Alike (codes "$ref") ns ms → Alike (codes "unevaluatedProperties") ns ms → HasPlainKeywords R ns
+      → Class R ms → Class R ns
+  keeps = stands-alike R.refers (HasPlainKeywords R) (HasPlainKeywords R)
+
   class-alike : (ns ms : Members) → ((k : Text) → is_listed k watched ≡ true → Alike k ns ms) → Class R ms → Class R ns
   class-alike ns ms a is =
-      stands-alike R.refers (HasPlainKeywords R) (HasPlainKeywords R) ns ms (a (codes "$ref") refl) (a (codes "unevaluatedProperties") refl) (record {
+      keeps ns ms (a (codes "$ref") refl) (a (codes "unevaluatedProperties") refl) (record {
         rest = R.stays ns ms (a (codes "unevaluatedProperties") refl) is.own.rest;
         type = type-alike ns ms (a (codes "type") refl) (a (codes "nullable") refl) (a (codes "const") refl) is.own.type;
         values = values-alike ns ms (a (codes "type") refl) (a (codes "enum") refl) is.own.values;
@@ -175,7 +179,8 @@ module _ (R : Demand) where
   class-type t ms types alone is =
       let ns = put (codes "type") t ms in
       let here : get_member (codes "type") (put (codes "type") t ms) ≡ Some t = get_member-put (codes "type") t ms in
-      stands-alike R.refers (HasPlainKeywords R) (HasPlainKeywords R) (put (codes "type") t ms) ms (other (codes "type") (codes "$ref") t ms refl) (other (codes "type") (codes "unevaluatedProperties") t ms refl)
+      keeps (put (codes "type") t ms) ms (other (codes "type") (codes "$ref") t ms refl)
+      (other (codes "type") (codes "unevaluatedProperties") t ms refl)
       (record {
         rest = R.stays (put (codes "type") t ms) ms (other (codes "type") (codes "unevaluatedProperties") t ms refl) is.own.rest;
         type = (subst AreSomeTypes (sym here) types, (other (codes "type") (codes "nullable") t ms refl).first ∙ is.own.type.1, no_const here alone);
@@ -202,7 +207,7 @@ module _ (R : Demand) where
   class-values : (ns ms : Members) → ((k : Text) → is_listed k (codes "const" ∷ codes "enum" ∷ []) ≡ false → is_listed k watched ≡ true → Alike k ns ms)
       → IsConstAlone ns → is_null_alone (get_member (codes "type") ms) ≡ false → Class R ms → Class R ns
   class-values ns ms a const alone is =
-      stands-alike R.refers (HasPlainKeywords R) (HasPlainKeywords R) ns ms (a (codes "$ref") refl refl) (a (codes "unevaluatedProperties") refl refl) (record {
+      keeps ns ms (a (codes "$ref") refl refl) (a (codes "unevaluatedProperties") refl refl) (record {
         rest = R.stays ns ms (a (codes "unevaluatedProperties") refl refl) is.own.rest;
         type = (
           subst AreSomeTypes (sym (a (codes "type") refl refl).first) is.own.type.0,
@@ -229,7 +234,8 @@ module _ (R : Demand) where
   pub are-types : (t : Data) (ms : Members) → AreSomeTypes (Some t)
       → (is_null_alone (Some t) ≡ false) ⊎ ((get_member (codes "const") ms ≡ None) × (get_member (codes "enum") ms ≡ None)) → AreGood ms
       → AreGood (put (codes "type") t ms)
-  are-types t ms types alone is = record { own = class-type t ms types alone is.own; inside = asked-put (Class R) (codes "type") t ms tt is.inside }
+  are-types t ms types alone is =
+      record { own = class-type t ms types alone is.own; inside = asked-put (Class R) (codes "type") t ms tt is.inside }
 
   pub are-const : (c : Data) (ms : Members) → get_member (codes "const") ms ≡ None → get_member (codes "enum") ms ≡ None
       → is_null_alone (get_member (codes "type") ms) ≡ false → AreGood ms → AreGood (put (codes "const") c ms)

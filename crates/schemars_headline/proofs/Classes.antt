@@ -59,7 +59,8 @@ module _ (R : Demand) (A : Ask → Data → Type 0) (basis : Basis) (Under : Lis
   no_fields p = []
 
   other-good : (kind : Shape) (s : Data) (others : Flattened → List Field) (enums : Flattened → List ℕ) → IsNoStruct kind
-      → IsPlainShape (spread others enums kind) → IsNotedShape kind → Under (parts_in kind) → IsDocument A no_fields basis kind s → IsGood R s
+      → IsPlainShape (spread others enums kind) → IsNotedShape kind → Under (parts_in kind) → IsDocument A no_fields basis kind s
+      → IsGood R s
   other-good shape.null s others enums other p own flat is = rw is (type-good R (codes "null"))
   other-good shape.bool s others enums other p own flat is = rw is (type-good R (codes "boolean"))
   other-good (shape.int k) s others enums other p own flat is = rw is (int-good R k)
@@ -113,7 +114,8 @@ module _ (R : Demand) (A : Ask → Data → Type 0) (basis : Basis) (Under : Lis
       rw (is ∙ literal_document-schema d (literal_is_schema d p)) (literal-good R d p)
 
   shape-good : (kind : Shape) (s : Data) (others : Flattened → List Field) (enums : Flattened → List ℕ)
-      → IsPlainShape (spread others enums kind) → IsNotedShape kind → Under (parts_in kind) → Fills A (template_of basis kind) s → IsGood R s
+      → IsPlainShape (spread others enums kind) → IsNotedShape kind → Under (parts_in kind) → Fills A (template_of basis kind) s
+      → IsGood R s
   shape-good (shape.struct x) s others enums p own flat h = subst (IsGood R) (sym h.is) (structs x own flat h.parts h.answered)
   shape-good kind s others enums p own flat h =
       other-good kind s others enums tt p own flat (others_fill A no_fields basis kind s h.parts tt h.answered h.is)

@@ -111,7 +111,8 @@ module _ (N : Text → Type 0) where
       (form : IsForm (struct_keywords es ns ps closed) ms) (all : IsSound (all_there ps.all)) (one : IsSound (one_there ps.one)) where
     own : Class R ms
     own =
-        class-of R ms (subst (IsTextOf N) (sym (form.at (codes "$ref") refl)) tt) (absent-once (codes "$ref") ms (form.at (codes "$ref") refl))
+        class-of R ms (subst (IsTextOf N) (sym (form.at (codes "$ref") refl)) tt)
+        (absent-once (codes "$ref") ms (form.at (codes "$ref") refl))
         (subst IsNoObject (sym (form.at (codes "unevaluatedProperties") refl)) (no_object ps closed)) tt
         (subst AreSomeTypes (sym (form.at (codes "type") refl)) tt) (form.at (codes "nullable") refl) (form.at (codes "const") refl)
         (form.at (codes "enum") refl) (subst IsSchemaList (sym (form.at (codes "allOf") refl)) (all_list ps.all)) (
