@@ -111,7 +111,9 @@ means_wide : (dialect : Dialect) (c : Contract) (inlines : Bool) (rows : List Ro
 means_wide Draft2020_12 c inlines rows root d document told same = λ plain.
     subst (MeansItsType rows c (codes "/$defs") root) (sym same)
     (told.wide (has_own_definitions (asks Draft2020_12 c inlines) rows) (inl refl) plain)
-means_wide Draft2019_09 c inlines rows root d document told same = tt
+means_wide Draft2019_09 c inlines rows root d document told same = λ plain.
+    subst (MeansItsTypeUnder draft2019_09 rows c (codes "/$defs") root) (sym same)
+    (told.draft2019_09_wide (has_own_definitions (asks Draft2019_09 c inlines) rows) refl plain)
 means_wide Draft07 c inlines rows root d document told same = tt
 means_wide OpenApi3 c inlines rows root d document told same = tt
 

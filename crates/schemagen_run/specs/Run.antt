@@ -107,11 +107,12 @@ Means Draft2019_09 rows contract root document = MeansItsTypeUnder draft2019_09 
 Means Draft07 rows contract root document = MeansItsTypeUnder draft07 rows contract (codes "/definitions") root document
 Means OpenApi3 rows contract root document = Unit {0}
 
--- so it does under 2020-12 over the wider tables that are plain under the contract; of the others nothing more is told
+-- so it does under 2020-12 and 2019-09 over the wider tables that are plain under the contract; of the others nothing more is told
 abbrev pub MeansWide : Dialect → List Row → Contract → ℕ → Data → Type 0
 MeansWide Draft2020_12 rows contract root document =
     IsPlainUnder contract rows → MeansItsType rows contract (codes "/$defs") root document
-MeansWide Draft2019_09 rows contract root document = Unit {0}
+MeansWide Draft2019_09 rows contract root document =
+    IsPlainUnder contract rows → MeansItsTypeUnder draft2019_09 rows contract (codes "/$defs") root document
 MeansWide Draft07 rows contract root document = Unit {0}
 MeansWide OpenApi3 rows contract root document = Unit {0}
 
