@@ -1,5 +1,5 @@
 -- What a list of built-in transforms makes of documents, and that it refuses for want of memory alone.
-use Rattle.std.proofs.Common.{◌≡◌, ◌⊎◌, inl, inr, ℕ, List, [], Vec, Ok, Err, Global, false, refl, sym, ap, ◌∙◌, subst}
+use Rattle.std.proofs.Common.{◌≡◌, ◌⊎◌, inl, inr, ℕ, List, Vec, Ok, Err, Global, Result, IfOk, false, refl, sym, ap, ◌∙◌, subst}
 use Rattle.std.proofs.Common.{Option, Some, None, option_map, Ordering, Less, Equal, Greater, nat_cmp}
 use Rattle.std.specs.Prelude.{is_some}
 use Rattle.std.specs.Cmp.Lexicographic.{slice_cmp}
@@ -7,6 +7,7 @@ use Rattle.std.specs.Ordering.{match_ordering}
 use Rattle.serde_json.specs.Data.{Data, null, boolean, number, string, array, object, Members, no_members, member}
 use Rattle.serde_json.specs.Find.{get_member}
 use Rattle.schemars_schema.specs.Json.{Text}
+use Rattle.std.proofs.lemmas.Result.{IfOk-weaker}
 use Rattle.schemars_headline.specs.Headline.{IsDraftPath}
 use Rattle.schemars_headline.specs.State.{State, Settings, stripped}
 use Rattle.schemars_walk.specs.Walk.{Step}
@@ -26,10 +27,21 @@ use Rattle.schemars_generate.specs.declared.error.GenerateError.{GenerateError}
 use Rattle.schemars_generate.specs.declared.error.GenerateError.TheVariants.{OutOfMemory, UnknownType}
 use Rattle.schemars_generate.specs.Settings.{ApplyInOrder, transforms_openapi3}
 
+-- what holds with the settings and the transforms that a call was handed holds with those of the generator
+pub of_generator : {A B : Type 0} (P : A → B → Type 0) (x y : A) (t u : B) → x ≡ y → t ≡ u → P x t → P y u
+of_generator P x y t u same held h = subst (λ b. P y b) held (subst (λ a. P a t) same h)
+
 -- what holds of what these transforms make of each such document holds of theirs
-pub made_by_these : {O : Type 0} (ts fs : List (GenTransform O)) (R P : Data → Type 0) (document : Data) → ts ≡ fs
+made_by_these : {O : Type 0} (ts fs : List (GenTransform O)) (R P : Data → Type 0) (document : Data) → ts ≡ fs
     → ((d : Data) → R d → P (made_by fs d)) → IsMadeBy ts R document → P document
 made_by_these ts fs R P document is all (d, here, same) = subst P (sym (same ∙ ap (λ xs. made_by xs d) is)) (all d here)
+
+-- and so it holds of the answered document, where the transforms are these built-in ones
+pub answered : {O E : Type 0} (ts fs : List (GenTransform O)) (R P : Data → Type 0) (r : Result Data E)
+    → (some_own ts ≡ false → IfOk r (IsMadeBy ts R)) → some_own fs ≡ false → ((d : Data) → R d → P (made_by fs d))
+    → ts ≡ fs → IfOk r P
+answered ts fs R P r made none all is =
+    IfOk-weaker r _ _ (λ d h. made_by_these ts fs R P d is all h) (made (ap some_own is ∙ none))
 
 module _ {O : Type 0} (Q : Step O) (ts us : Vec (GenTransform O) Global) (none : some_own ts.items ≡ false) where
   pub built_in : (R : Data → Type 0) (document : Data) → IsThrough (ApplyInOrder Q) ts us R document → IsMadeBy ts.items R document

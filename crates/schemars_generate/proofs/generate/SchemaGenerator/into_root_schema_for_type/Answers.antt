@@ -1,11 +1,10 @@
-use Rattle.std.proofs.Common.{◌≡◌, ◌<◌, ◌⊎◌, [], length, codes, Vec, Global, IfOk, IfErr, ap, subst}
+use Rattle.std.proofs.Common.{◌≡◌, ◌<◌, ◌⊎◌, [], length, codes, Vec, Global, IfOk, IfErr, refl}
 use Rattle.schemars_schema.specs.Acceptance.{draft07, draft2019_09}
 use Rattle.schemars_documents.specs.PlainTable.{HasPlainNotes}
 use Rattle.schemars_headline.specs.Dialects.{RootHeadlineUnder, RootWideHeadlineUnder}
 use Rattle.schemars_headline.specs.Calls.{IsLastRootCall}
 use Rattle.schemars_headline.specs.Headline.{RootHeadline, RootWideHeadline, IsDraftPath}
 use Rattle.schemars_headline.specs.State.{Settings, path_of}
-use Rattle.schemars_transform.specs.Member.{some_own}
 use Rattle.schemars_transform.specs.declared.gen_transform.GenTransform.{GenTransform}
 use Rattle.schemars_generate.specs.DocumentSettings.{state_with}
 use Rattle.schemars_generate.specs.Through.{IsThrough, IsTurnedDown, IsRootRefused, IsUntransformed}
@@ -13,7 +12,7 @@ use Rattle.schemars_generate.specs.declared.error.GenerateError.TheVariants.{Out
 use Rattle.std.proofs.lemmas.Result.{IfOk-weaker, IfErr-weaker}
 use Rattle.schemars_generate.specs.Settings.{settings_of, ApplyInOrder}
 use Rattle.schemars_generate.specs.Settings.{transforms07, transforms2019_09}
-use Rattle.schemars_generate.proofs.BuiltIns.{built_in, made_by_these, not_turned_down, refused_built_in}
+use Rattle.schemars_generate.proofs.BuiltIns.{built_in, answered, of_generator, not_turned_down, refused_built_in}
 use Rattle.schemars_generate.proofs.generate.SchemaGenerator.into_root_schema_for_type.Goals as goal
 
 abbrev Ts : Type 0 → Type 0
@@ -28,9 +27,8 @@ returns-clause-root g c =
     let before = c.args.self.settings in
     let P : Settings → Ts g.row.O.Denot → Type 0 =
     λ x t. IfOk r (IsThrough (ApplyInOrder Q) t u (IsUntransformed (state_with x old) c.args.n)) in
-    let told = subst (λ x. P x c.replace-transforms.result) c.document-document.ensures c.into_root_schema.ensures.root in
     IfOk-weaker r _ _ (λ d h. (u, h))
-    (subst (λ t. P (settings_of before) t) c.replace-transforms.ensures.value told)
+    (of_generator P _ _ _ _ c.document-document.ensures c.replace-transforms.ensures.value c.into_root_schema.ensures.root)
 
 pub returns-clause-refused : goal.returns-clause-refused
 returns-clause-refused g c =
@@ -41,9 +39,8 @@ returns-clause-refused g c =
     let before = c.args.self.settings in
     let P : Settings → Ts g.row.O.Denot → Type 0 =
     λ x t. IfErr r (IsRootRefused (ApplyInOrder Q) t u (state_with x old) c.args.n) in
-    let told = subst (λ x. P x c.replace-transforms.result) c.document-document.ensures c.into_root_schema.ensures.refused in
     IfErr-weaker r _ _ (λ e h. (u, h))
-    (subst (λ t. P (settings_of before) t) c.replace-transforms.ensures.value told)
+    (of_generator P _ _ _ _ c.document-document.ensures c.replace-transforms.ensures.value c.into_root_schema.ensures.refused)
 
 pub returns-clause-built_in : goal.returns-clause-built_in
 returns-clause-built_in g c =
@@ -55,49 +52,33 @@ returns-clause-built_in g c =
 
 pub returns-clause-headline : goal.returns-clause-headline
 returns-clause-headline g c =
-    let r = c.into_root_schema.result in
-    let ts = c.args.self.settings.transforms.items in
     let s = state_with (settings_of c.args.self.settings) c.args.self.contents in
-    λ is.
-    IfOk-weaker r _ _ (λ d h. made_by_these ts [] _ (RootHeadline s c.args.n) d is (λ e i. i.headline) h)
-    (returns-clause-built_in g c (ap some_own is))
+    answered _ [] _ (RootHeadline s c.args.n) c.into_root_schema.result
+    (returns-clause-built_in g c) refl (λ e i. i.headline)
 
 pub returns-clause-wide : goal.returns-clause-wide
 returns-clause-wide g c =
-    let r = c.into_root_schema.result in
-    let ts = c.args.self.settings.transforms.items in
     let s = state_with (settings_of c.args.self.settings) c.args.self.contents in
-    λ is.
-    IfOk-weaker r _ _ (λ d h. made_by_these ts [] _ (RootWideHeadline s c.args.n) d is (λ e i. i.wide) h)
-    (returns-clause-built_in g c (ap some_own is))
+    answered _ [] _ (RootWideHeadline s c.args.n) c.into_root_schema.result
+    (returns-clause-built_in g c) refl (λ e i. i.wide)
 
 pub returns-clause-draft07 : goal.returns-clause-draft07
 returns-clause-draft07 g c =
-    let r = c.into_root_schema.result in
-    let ts = c.args.self.settings.transforms.items in
     let s = state_with (settings_of c.args.self.settings) c.args.self.contents in
-    λ is.
-    IfOk-weaker r _ _ (λ d h. made_by_these ts transforms07 _ (RootHeadlineUnder draft07 (codes "/definitions") s c.args.n) d is (λ e i. i.draft07) h)
-    (returns-clause-built_in g c (ap some_own is))
+    answered _ transforms07 _ (RootHeadlineUnder draft07 (codes "/definitions") s c.args.n) c.into_root_schema.result
+    (returns-clause-built_in g c) refl (λ e i. i.draft07)
 
 pub returns-clause-draft2019_09 : goal.returns-clause-draft2019_09
 returns-clause-draft2019_09 g c =
-    let r = c.into_root_schema.result in
-    let ts = c.args.self.settings.transforms.items in
     let s = state_with (settings_of c.args.self.settings) c.args.self.contents in
-    λ is.
-    IfOk-weaker r _ _ (λ d h. made_by_these ts transforms2019_09 _ (RootHeadlineUnder draft2019_09 (codes "/$defs") s c.args.n) d is (λ e i. i.draft2019_09) h)
-    (returns-clause-built_in g c (ap some_own is))
+    answered _ transforms2019_09 _ (RootHeadlineUnder draft2019_09 (codes "/$defs") s c.args.n) c.into_root_schema.result
+    (returns-clause-built_in g c) refl (λ e i. i.draft2019_09)
 
 pub returns-clause-draft2019_09_wide : goal.returns-clause-draft2019_09_wide
 returns-clause-draft2019_09_wide g c =
-    let r = c.into_root_schema.result in
-    let ts = c.args.self.settings.transforms.items in
     let s = state_with (settings_of c.args.self.settings) c.args.self.contents in
-    λ is.
-    IfOk-weaker r _ _ (λ d h. made_by_these ts transforms2019_09 _ (RootWideHeadlineUnder draft2019_09 (codes "/$defs") s c.args.n) d is
-    (λ e i. i.draft2019_09_wide) h)
-    (returns-clause-built_in g c (ap some_own is))
+    answered _ transforms2019_09 _ (RootWideHeadlineUnder draft2019_09 (codes "/$defs") s c.args.n) c.into_root_schema.result
+    (returns-clause-built_in g c) refl (λ e i. i.draft2019_09_wide)
 
 pub returns-clause-only_memory : goal.returns-clause-only_memory
 returns-clause-only_memory g c =
@@ -111,8 +92,7 @@ returns-clause-only_memory g c =
     λ x t. HasPlainNotes old.rows → IsDraftPath (path_of (state_with x old))
     → c.args.n < length old.rows → IfErr r (λ e. (e ≡ OutOfMemory)
     ⊎ IsTurnedDown (ApplyInOrder Q) t u (IsLastRootCall (state_with x old) c.args.n) e) in
-    let told = subst (λ x. P x c.replace-transforms.result) c.document-document.ensures c.into_root_schema.ensures.only_memory in
-    let all = subst (λ t. P (settings_of before) t) c.replace-transforms.ensures.value told in
+    let all = of_generator P _ _ _ _ c.document-document.ensures c.replace-transforms.ensures.value c.into_root_schema.ensures.only_memory in
     λ none plain path known.
     IfErr-weaker r _ _ (λ e h. not_turned_down Q before.transforms u none
     (IsLastRootCall s c.args.n) e h) (all plain path known)

@@ -1,18 +1,16 @@
-use Rattle.std.proofs.Common.{◌≡◌, [], codes, Vec, Global, IfOk, IfErr, ap, subst}
+use Rattle.std.proofs.Common.{[], codes, Vec, Global, IfOk, IfErr, refl}
 use Rattle.schemars_schema.specs.Acceptance.{draft07, draft2019_09}
 use Rattle.schemars_headline.specs.Dialects.{SampleHeadlineUnder}
-use Rattle.schemars_headline.specs.Headline.{IsDraftPath}
 use Rattle.schemars_headline.specs.State.{Settings}
 use Rattle.schemars_sample.specs.Accepted.{AcceptsExample}
 use Rattle.schemars_sample.specs.Example.{example_of}
-use Rattle.schemars_transform.specs.Member.{some_own}
 use Rattle.schemars_transform.specs.declared.gen_transform.GenTransform.{GenTransform}
 use Rattle.schemars_generate.specs.DocumentSettings.{state_with}
 use Rattle.schemars_generate.specs.Samples.{IsSampleRoot, IsSampleRefusedThrough}
 use Rattle.schemars_generate.specs.Through.{IsThrough}
 use Rattle.std.proofs.lemmas.Result.{IfOk-weaker, IfErr-weaker}
 use Rattle.schemars_generate.specs.Settings.{settings_of, ApplyInOrder, transforms07, transforms2019_09}
-use Rattle.schemars_generate.proofs.BuiltIns.{built_in, made_by_these, sample_built_in, sample_memory}
+use Rattle.schemars_generate.proofs.BuiltIns.{built_in, answered, of_generator, sample_built_in, sample_memory}
 use Rattle.schemars_generate.proofs.generate.SchemaGenerator.into_root_schema_for_value.Goals as goal
 
 abbrev Ts : Type 0 → Type 0
@@ -27,9 +25,8 @@ returns-clause-root g c =
     let before = c.args.self.settings in
     let P : Settings → Ts g.row.O.Denot → Type 0 =
     λ x t. IfOk r (IsThrough (ApplyInOrder Q) t u (IsSampleRoot x old.definitions (example_of c.args.value.now))) in
-    let told = subst (λ x. P x c.replace-transforms.result) c.document-document.ensures c.into_sample_root.ensures.root in
     IfOk-weaker r _ _ (λ d h. (u, h))
-    (subst (λ t. P (settings_of before) t) c.replace-transforms.ensures.value told)
+    (of_generator P _ _ _ _ c.document-document.ensures c.replace-transforms.ensures.value c.into_sample_root.ensures.root)
 
 pub returns-clause-refused : goal.returns-clause-refused
 returns-clause-refused g c =
@@ -40,9 +37,8 @@ returns-clause-refused g c =
     let before = c.args.self.settings in
     let P : Settings → Ts g.row.O.Denot → Type 0 =
     λ x t. IfErr r (IsSampleRefusedThrough (ApplyInOrder Q) t u x old.definitions (example_of c.args.value.now)) in
-    let told = subst (λ x. P x c.replace-transforms.result) c.document-document.ensures c.into_sample_root.ensures.refused in
     IfErr-weaker r _ _ (λ e h. (u, h))
-    (subst (λ t. P (settings_of before) t) c.replace-transforms.ensures.value told)
+    (of_generator P _ _ _ _ c.document-document.ensures c.replace-transforms.ensures.value c.into_sample_root.ensures.refused)
 
 pub returns-clause-built_in : goal.returns-clause-built_in
 returns-clause-built_in g c =
@@ -73,33 +69,20 @@ returns-clause-only_memory g c =
 
 pub returns-clause-accepts : goal.returns-clause-accepts
 returns-clause-accepts g c =
-    let r = c.into_sample_root.result in
-    let ts = c.args.self.settings.transforms.items in
-    let x = example_of c.args.value.now in
     λ is path.
-    IfOk-weaker r _ _ (λ d h. made_by_these ts [] _ (AcceptsExample x) d is (λ e i. i.accepts path) h)
-    (returns-clause-built_in g c (ap some_own is))
+    answered _ [] _ (AcceptsExample (example_of c.args.value.now)) c.into_sample_root.result
+    (returns-clause-built_in g c) refl (λ e i. i.accepts path) is
 
 pub returns-clause-draft07 : goal.returns-clause-draft07
 returns-clause-draft07 g c =
-    let r = c.into_sample_root.result in
-    let ts = c.args.self.settings.transforms.items in
     let held = c.args.self.contents in
     let s = state_with (settings_of c.args.self.settings) held in
-    let x = example_of c.args.value.now in
-    λ is.
-    IfOk-weaker r _ _ (λ d h. made_by_these ts transforms07 _ (SampleHeadlineUnder draft07 (codes "/definitions") s x) d is
-    (λ e i. i.draft07 held.rows held.names) h)
-    (returns-clause-built_in g c (ap some_own is))
+    answered _ transforms07 _ (SampleHeadlineUnder draft07 (codes "/definitions") s (example_of c.args.value.now)) c.into_sample_root.result
+    (returns-clause-built_in g c) refl (λ e i. i.draft07 held.rows held.names)
 
 pub returns-clause-draft2019_09 : goal.returns-clause-draft2019_09
 returns-clause-draft2019_09 g c =
-    let r = c.into_sample_root.result in
-    let ts = c.args.self.settings.transforms.items in
     let held = c.args.self.contents in
     let s = state_with (settings_of c.args.self.settings) held in
-    let x = example_of c.args.value.now in
-    λ is.
-    IfOk-weaker r _ _ (λ d h. made_by_these ts transforms2019_09 _ (SampleHeadlineUnder draft2019_09 (codes "/$defs") s x) d is
-    (λ e i. i.draft2019_09 held.rows held.names) h)
-    (returns-clause-built_in g c (ap some_own is))
+    answered _ transforms2019_09 _ (SampleHeadlineUnder draft2019_09 (codes "/$defs") s (example_of c.args.value.now)) c.into_sample_root.result
+    (returns-clause-built_in g c) refl (λ e i. i.draft2019_09 held.rows held.names)
