@@ -1,5 +1,6 @@
 //! How documents are made, and the settings of the drafts.
-ghost use Rattle.std.specs.Prelude.{◌≡◌, ◌∷◌, ◌++◌, ◌↔◌, [], true, false, Some, Err, IfOk, IsTrue};
+ghost use Rattle.std.specs.Prelude.{◌≡◌, ◌∷◌, ◌++◌, ◌↔◌, ◌⊎◌, [], true, false, Some, Err};
+ghost use Rattle.std.specs.Prelude.{IfOk, IfErr, IsTrue};
 ghost use Rattle.serde_json.specs.Data.{no_members};
 ghost use Rattle.schemars_types.specs.declared.contract.Contract.TheVariants as contracts;
 ghost use Rattle.schemars_headline.specs.State.{settings2020_12};
@@ -148,8 +149,9 @@ impl<O> SchemaSettings<O> {
     pub fn for_own<P: Drop>(&self, alloc: Global) -> Result<SchemaSettings<P>, GenerateError>
         ensures copied { IfOk result (λ s. AreSettingsCopied self.now s) }
         ensures none_own { IfOk result (λ s. some_own s.transforms.items ≡ false) }
-        ensures own { (result ≡ Err GenerateError.OwnTransform)
-            ↔ IsTrue (some_own self.now.transforms.items) }
+        ensures own { (result ≡ Err GenerateError.OwnTransform) ↔ IsTrue (some_own self.now.transforms.items) }
+        ensures refused { IfErr result (λ e. (e ≡ GenerateError.OutOfMemory)
+            ⊎ (e ≡ GenerateError.OwnTransform)) }
     {
         let transforms = try_clone_all(alloc, &self.transforms)?;
         let definitions_path = self.definitions_path.clone()?;
@@ -204,8 +206,9 @@ impl<O: Drop> SchemaSettings<O> {
     /// `OwnTransform` if and only if they have a user-defined transform; `OutOfMemory`.
     pub fn try_clone(&self, alloc: Global) -> Result<SchemaSettings<O>, GenerateError>
         ensures copied { IfOk result (λ s. AreSettingsCopied self.now s) }
-        ensures own { (result ≡ Err GenerateError.OwnTransform)
-            ↔ IsTrue (some_own self.now.transforms.items) }
+        ensures own { (result ≡ Err GenerateError.OwnTransform) ↔ IsTrue (some_own self.now.transforms.items) }
+        ensures refused { IfErr result (λ e. (e ≡ GenerateError.OutOfMemory)
+            ⊎ (e ≡ GenerateError.OwnTransform)) }
     {
         self.for_own(alloc)
     }

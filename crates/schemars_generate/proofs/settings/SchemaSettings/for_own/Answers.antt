@@ -1,5 +1,5 @@
 -- Where the transforms are not copied, it is for the reason that is told of them.
-use Rattle.std.proofs.Common.{◌≡◌, ◌↔◌, ◌∙◌, Result, Err, IsTrue, ap, subst, rules}
+use Rattle.std.proofs.Common.{◌≡◌, ◌↔◌, ◌⊎◌, inl, inr, ◌∙◌, refl, Result, Err, IsTrue, ap, subst, rules}
 use Rattle.std.proofs.lemmas.Result.{err_from_is_err_and}
 use Rattle.std.specs.Result.{result_from_control_flow}
 use Rattle.schemars_transform.specs.declared.error.CloneError.{CloneError}
@@ -21,6 +21,16 @@ returns-in_err-transforms-clause-own g c =
     let was = c.branch-transforms.ensures ∙ ap result_from_control_flow c.in_err-transforms.is in
     passed_on c.from_residual.result c.try_clone_all.result c.in_err-transforms.field-0.0 was (p.1 ∙ ap Err p.2)
     (subst (λ ts. (c.try_clone_all.result ≡ Err clone.OwnTransform) ↔ IsTrue (some_own ts)) c.deref.ensures.value c.try_clone_all.ensures.own)
+
+-- a copy of transforms fails for want of memory, or since one of them is user-defined
+which : (e : CloneError) → (copy_error e ≡ refusal.OutOfMemory) ⊎ (copy_error e ≡ refusal.OwnTransform)
+which clone.Memory = inl refl
+which clone.OwnTransform = inr refl
+
+pub returns-in_err-transforms-clause-refused : goal.returns-in_err-transforms-clause-refused
+returns-in_err-transforms-clause-refused g c =
+    let p = err_from_is_err_and c.from_residual.result c.from_residual.ensures.1 in
+    rw (p.1, p.2) (which c.in_err-transforms.field-0.0)
 
 pub returns-clause-copied : goal.returns-clause-copied
 returns-clause-copied g c = search rules
