@@ -15,7 +15,8 @@ use Rattle.schemars_schema.specs.SchemaData.{members_in}
 use Rattle.schemars_schema.specs.Edits.{replaced, put_missing, with_member, with_first, changed_at}
 use Rattle.schemars_schema.specs.References.{found_in, found_in_members, found_in_keywords, references}
 use Rattle.schemars_schema.proofs.Contents.{found_under}
-use Rattle.schemars_builders.specs.Properties.{tagged, internally_tagged_variant}
+use Rattle.schemars_builders.specs.Variants.{unit_variant}
+use Rattle.schemars_builders.specs.Properties.{with_property, has_null_type, tagged, internally_tagged_variant}
 use Rattle.schemars_meaning.proofs.ReferencesKept.{references-members_in}
 
 module _ (P : Data → Type 0) where
