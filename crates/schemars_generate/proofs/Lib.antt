@@ -1,5 +1,5 @@
 pub mod Answered
 pub mod Untransformed
-mod Samples
+mod SampleRoots
 mod SampleWhole
 pub mod BuiltIns

@@ -8,7 +8,7 @@ use Rattle.schemars_headline.proofs.Calls.{err_told}
 use Rattle.schemars_generate.specs.declared.error.GenerateError.{GenerateError}
 use Rattle.schemars_generate.specs.DocumentSettings.{settings_of}
 use Rattle.schemars_generate.specs.Samples.{IsSampleRefused}
-use Rattle.schemars_generate.proofs.Samples.{sample_made, sample_unplaced}
+use Rattle.schemars_generate.proofs.SampleRoots.{sample_made, sample_unplaced}
 use Rattle.schemars_generate.proofs.document.sample_document.Goals as goal
 
 pub returns-in_err-document-clause-refused : goal.returns-in_err-document-clause-refused
