@@ -30,9 +30,9 @@ accepts_under : (dialect : Dialect) (x : Example) (d document : Data) → IsSamp
     → document ≡ made_by (transforms_of_dialect dialect) d → AcceptsUnder dialect x document
 accepts_under Draft2020_12 x d document root same = subst (AcceptsExample x) (sym same) (root.accepts (inl refl))
 accepts_under Draft2019_09 x d document root same =
-    subst (AcceptsExampleUnder draft2019_09 x) (sym same) (root.draft2019_09 [] [] refl (inl refl))
+    subst (AcceptsExampleUnder draft2019_09 x) (sym same) (root.draft2019_09 [] [] (inl refl) (inl refl))
 accepts_under Draft07 x d document root same =
-    subst (AcceptsExampleUnder draft07 x) (sym same) (root.draft07 [] [] refl (inl refl))
+    subst (AcceptsExampleUnder draft07 x) (sym same) (root.draft07 [] [] (inr refl) (inl refl))
 accepts_under OpenApi3 x d document root same = tt
 
 same_inside : {d e : Data} → Some d ≡ Some e → e ≡ d

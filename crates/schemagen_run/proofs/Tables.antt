@@ -99,10 +99,10 @@ means Draft2020_12 c inlines rows root d document told same plain =
     (told.headline (has_own_definitions (asks Draft2020_12 c inlines) rows) (inl refl) plain)
 means Draft2019_09 c inlines rows root d document told same plain =
     subst (MeansItsTypeUnder draft2019_09 rows c (codes "/$defs") root) (sym same)
-    (told.draft2019_09 (has_own_definitions (asks Draft2019_09 c inlines) rows) refl plain)
+    (told.draft2019_09 (has_own_definitions (asks Draft2019_09 c inlines) rows) (inl refl) plain)
 means Draft07 c inlines rows root d document told same plain =
     subst (MeansItsTypeUnder draft07 rows c (codes "/definitions") root) (sym same)
-    (told.draft07 (has_own_definitions (asks Draft07 c inlines) rows) refl plain)
+    (told.draft07 (has_own_definitions (asks Draft07 c inlines) rows) (inr refl) plain)
 means OpenApi3 c inlines rows root d document told same plain = tt
 
 means_wide : (dialect : Dialect) (c : Contract) (inlines : Bool) (rows : List Row) (root : ℕ) (d document : Data)
@@ -113,7 +113,7 @@ means_wide Draft2020_12 c inlines rows root d document told same = λ plain.
     (told.wide (has_own_definitions (asks Draft2020_12 c inlines) rows) (inl refl) plain)
 means_wide Draft2019_09 c inlines rows root d document told same = λ plain.
     subst (MeansItsTypeUnder draft2019_09 rows c (codes "/$defs") root) (sym same)
-    (told.draft2019_09_wide (has_own_definitions (asks Draft2019_09 c inlines) rows) refl plain)
+    (told.draft2019_09_wide (has_own_definitions (asks Draft2019_09 c inlines) rows) (inl refl) plain)
 means_wide Draft07 c inlines rows root d document told same = tt
 means_wide OpenApi3 c inlines rows root d document told same = tt
 

@@ -331,11 +331,11 @@ impl<O: Transform + Drop> SchemaGenerator<O> {
         ensures wide { self.old.settings.transforms.items ≡ []
             → IfOk result (RootWideHeadline (state self.old) n) }
         ensures draft07 { self.old.settings.transforms.items ≡ transforms07
-            → IfOk result (RootHeadlineUnder draft07 (codes "/definitions") (state self.old) n) }
+            → IfOk result (RootHeadlineUnder draft07 (state self.old) n) }
         ensures draft2019_09 { self.old.settings.transforms.items ≡ transforms2019_09
-            → IfOk result (RootHeadlineUnder draft2019_09 (codes "/$defs") (state self.old) n) }
+            → IfOk result (RootHeadlineUnder draft2019_09 (state self.old) n) }
         ensures draft2019_09_wide { self.old.settings.transforms.items ≡ transforms2019_09
-            → IfOk result (RootWideHeadlineUnder draft2019_09 (codes "/$defs") (state self.old) n) }
+            → IfOk result (RootWideHeadlineUnder draft2019_09 (state self.old) n) }
         ensures built_in { some_own self.old.settings.transforms.items ≡ false
             → IfOk result (IsMadeBy self.old.settings.transforms.items
             (IsUntransformedCall (state self.old) n (state self.new))) }
@@ -380,11 +380,11 @@ impl<O: Transform + Drop> SchemaGenerator<O> {
         ensures wide { self.settings.transforms.items ≡ []
             → IfOk result (RootWideHeadline (state self) n) }
         ensures draft07 { self.settings.transforms.items ≡ transforms07
-            → IfOk result (RootHeadlineUnder draft07 (codes "/definitions") (state self) n) }
+            → IfOk result (RootHeadlineUnder draft07 (state self) n) }
         ensures draft2019_09 { self.settings.transforms.items ≡ transforms2019_09
-            → IfOk result (RootHeadlineUnder draft2019_09 (codes "/$defs") (state self) n) }
+            → IfOk result (RootHeadlineUnder draft2019_09 (state self) n) }
         ensures draft2019_09_wide { self.settings.transforms.items ≡ transforms2019_09
-            → IfOk result (RootWideHeadlineUnder draft2019_09 (codes "/$defs") (state self) n) }
+            → IfOk result (RootWideHeadlineUnder draft2019_09 (state self) n) }
         ensures built_in { some_own self.settings.transforms.items ≡ false
             → IfOk result (IsMadeBy self.settings.transforms.items
             (IsUntransformed (state self) n)) }

@@ -43,10 +43,10 @@ impl<O: Transform + Drop> SchemaGenerator<O> {
             → IsDraftPath (path_of (state self.old))
             → IfOk result (AcceptsExample (example_of value.now)) }
         ensures draft07 { self.old.settings.transforms.items ≡ transforms07
-            → IfOk result (SampleHeadlineUnder draft07 (codes "/definitions") (state self.old)
+            → IfOk result (SampleHeadlineUnder draft07 (state self.old)
             (example_of value.now)) }
         ensures draft2019_09 { self.old.settings.transforms.items ≡ transforms2019_09
-            → IfOk result (SampleHeadlineUnder draft2019_09 (codes "/$defs") (state self.old)
+            → IfOk result (SampleHeadlineUnder draft2019_09 (state self.old)
             (example_of value.now)) }
         ensures built_in { some_own self.old.settings.transforms.items ≡ false
             → IfOk result (IsMadeBy self.old.settings.transforms.items
@@ -87,10 +87,10 @@ impl<O: Transform + Drop> SchemaGenerator<O> {
         ensures accepts { self.settings.transforms.items ≡ [] → IsDraftPath (path_of (state self))
             → IfOk result (AcceptsExample (example_of value.now)) }
         ensures draft07 { self.settings.transforms.items ≡ transforms07
-            → IfOk result (SampleHeadlineUnder draft07 (codes "/definitions") (state self)
+            → IfOk result (SampleHeadlineUnder draft07 (state self)
             (example_of value.now)) }
         ensures draft2019_09 { self.settings.transforms.items ≡ transforms2019_09
-            → IfOk result (SampleHeadlineUnder draft2019_09 (codes "/$defs") (state self)
+            → IfOk result (SampleHeadlineUnder draft2019_09 (state self)
             (example_of value.now)) }
         ensures built_in { some_own self.settings.transforms.items ≡ false
             → IfOk result (IsMadeBy self.settings.transforms.items

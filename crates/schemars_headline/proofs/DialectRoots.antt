@@ -22,7 +22,7 @@ use Rattle.schemars_meaning.proofs.Schemas.{described}
 use Rattle.schemars_meaning.proofs.Referring.{plain_rows, under_rows}
 use Rattle.schemars_build.proofs.Settled.{fields_settled, enums_settled}
 use Rattle.schemars_headline.specs.State.{State, path_of, plan_of, HasOwnDefinitions}
-use Rattle.schemars_headline.specs.Headline.{MeansItsType, IsRootOf}
+use Rattle.schemars_headline.specs.Headline.{MeansItsType, IsDraftPath, IsRootOf}
 use Rattle.schemars_headline.specs.Keys.{HasKeysOnce}
 use Rattle.schemars_headline.proofs.Standing.{MayRefer, AllStand}
 use Rattle.schemars_headline.proofs.Standing as standings
@@ -175,24 +175,29 @@ module _ (s : State) (n : ℕ) (w : Work) (document : Data) (root : IsRootOf s n
       (described-under N (basis_of plan) (MayRefer plan w) refer plain (λ j e found. fields_settled s.rows checked j
       ∙ ap (λ o. option_map_or (λ e. shape_fields (flattened_in s.rows) e.shape) o []) found) (enums_settled s.rows checked)))
 
--- what a root call makes means its type in each draft, at the draft's path
+-- the key of the definitions, at the path of a draft
+pub key_at : (path : Text) → IsDraftPath path → (key : Text) × StandsAt path key
+key_at path (inl is) = (codes "$defs", inl (is, refl))
+key_at path (inr is) = (codes "definitions", inr (is, refl))
+
+-- what a root call makes means its type in each draft
 pub draft07_means : (s : State) (n : ℕ) (w : Work) (d : Data) → IsChecked s.rows → IsRootOf s n w d → HasKeysOnce w.definitions
     → IsOneToOne w.names → Draft07Headline s n d
 draft07_means s n w d checked root once one own path plain =
-    let at : StandsAt (path_of s) (codes "definitions") = inr (path, refl) in
-    draft07_from s n w d root once own (codes "definitions") at (draft07_ready s n w d root once own (codes "definitions") at plain)
-    (root_means s n w d checked root once one own (inr path) plain)
+    let place = key_at (path_of s) path in
+    draft07_from s n w d root once own place.0 place.1 (draft07_ready s n w d root once own place.0 place.1 plain)
+    (root_means s n w d checked root once one own path plain)
 
 pub draft2019_09_means : (s : State) (n : ℕ) (w : Work) (d : Data) → IsChecked s.rows → IsRootOf s n w d
     → HasKeysOnce w.definitions → IsOneToOne w.names → Draft2019_09Headline s n d
 draft2019_09_means s n w d checked root once one own path plain =
-    let at : StandsAt (path_of s) (codes "$defs") = inl (path, refl) in
-    draft2019_09_from s n w d root once own (codes "$defs") at (draft2019_09_ready s n w d root once own (codes "$defs") at plain)
-    (root_means s n w d checked root once one own (inl path) plain)
+    let place = key_at (path_of s) path in
+    draft2019_09_from s n w d root once own place.0 place.1 (draft2019_09_ready s n w d root once own place.0 place.1 plain)
+    (root_means s n w d checked root once one own path plain)
 
 pub draft2019_09_means_wide : (s : State) (n : ℕ) (w : Work) (d : Data) → IsChecked s.rows → IsRootOf s n w d
     → HasKeysOnce w.definitions → IsOneToOne w.names → Draft2019_09WideHeadline s n d
 draft2019_09_means_wide s n w d checked root once one own path plain =
-    let at : StandsAt (path_of s) (codes "$defs") = inl (path, refl) in
-    draft2019_09_from s n w d root once own (codes "$defs") at (wide_ready s n w d root once own (codes "$defs") at checked plain)
-    (root_means_wide s n w d checked root once one own (inl path) plain)
+    let place = key_at (path_of s) path in
+    draft2019_09_from s n w d root once own place.0 place.1 (wide_ready s n w d root once own place.0 place.1 checked plain)
+    (root_means_wide s n w d checked root once one own path plain)

@@ -1,5 +1,5 @@
 -- All root documents of a row accept the same values: those with rows in place, and those with references.
-use Rattle.std.proofs.Common.{◌≡◌, ◌∙◌, ℕ, List, sym, ap, subst}
+use Rattle.std.proofs.Common.{◌≡◌, ◌∙◌, ℕ, List, sym, subst}
 use Rattle.serde_json.specs.Data.{Data}
 use Rattle.schemars_schema.specs.Json.{Text}
 use Rattle.schemars_types.specs.Rows.{Row}

@@ -40,6 +40,7 @@ use Rattle.schemars_headline.proofs.Documents.{any_of-good, asked-named}
 use Rattle.schemars_headline.proofs.Classes.{described-good, good-named, items-named}
 use Rattle.schemars_headline.proofs.RootClass.{IsReady, are-with_meta_schema, placed-ready, may_refer-name, stands-place, stands-draft}
 use Rattle.schemars_headline.proofs.Accepting.{moved, not-properties}
+use Rattle.schemars_headline.proofs.DialectRoots.{key_at}
 
 -- ---- the schema of an example
 
@@ -216,15 +217,17 @@ module _ (s : State) (x : Example) (document : Data) (key : Text) (at : StandsAt
       (items-named key document (for_items names document ready.everywhere)) patterns followed json
       ∙ before patterns followed json is
 
--- what is made of an example accepts it in each draft, at the draft's path
+-- what is made of an example accepts it in each draft
 pub draft07_sample : (s : State) (x : Example) (d : Data) → HasKeysOnce s.definitions
     → with_definitions (path_of s) s.definitions (sample_root s.settings.meta_schema x) ≡ Some d
     → (IsDraftPath (path_of s) → AcceptsExample x d) → Draft07Sample s x d
 draft07_sample s x d once made fits path plain =
-    after07 s x d (codes "definitions") (inr (path, refl)) once plain made (fits (inr path))
+    let place = key_at (path_of s) path in
+    after07 s x d place.0 place.1 once plain made (fits path)
 
 pub draft2019_09_sample : (s : State) (x : Example) (d : Data) → HasKeysOnce s.definitions
     → with_definitions (path_of s) s.definitions (sample_root s.settings.meta_schema x) ≡ Some d
     → (IsDraftPath (path_of s) → AcceptsExample x d) → Draft2019_09Sample s x d
 draft2019_09_sample s x d once made fits path plain =
-    after2019_09 s x d (codes "$defs") (inl (path, refl)) once plain made (fits (inl path))
+    let place = key_at (path_of s) path in
+    after2019_09 s x d place.0 place.1 once plain made (fits path)

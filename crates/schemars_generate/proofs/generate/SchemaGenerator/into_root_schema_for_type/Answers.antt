@@ -1,4 +1,4 @@
-use Rattle.std.proofs.Common.{◌≡◌, ◌<◌, ◌⊎◌, [], length, codes, Vec, Global, IfOk, IfErr, refl}
+use Rattle.std.proofs.Common.{◌≡◌, ◌<◌, ◌⊎◌, [], length, Vec, Global, IfOk, IfErr, refl}
 use Rattle.schemars_schema.specs.Acceptance.{draft07, draft2019_09}
 use Rattle.schemars_documents.specs.PlainTable.{HasPlainNotes}
 use Rattle.schemars_headline.specs.Dialects.{RootHeadlineUnder, RootWideHeadlineUnder}
@@ -65,19 +65,19 @@ returns-clause-wide g c =
 pub returns-clause-draft07 : goal.returns-clause-draft07
 returns-clause-draft07 g c =
     let s = state_with (settings_of c.args.self.settings) c.args.self.contents in
-    answered _ transforms07 _ (RootHeadlineUnder draft07 (codes "/definitions") s c.args.n) c.into_root_schema.result
+    answered _ transforms07 _ (RootHeadlineUnder draft07 s c.args.n) c.into_root_schema.result
     (returns-clause-built_in g c) refl (λ e i. i.draft07)
 
 pub returns-clause-draft2019_09 : goal.returns-clause-draft2019_09
 returns-clause-draft2019_09 g c =
     let s = state_with (settings_of c.args.self.settings) c.args.self.contents in
-    answered _ transforms2019_09 _ (RootHeadlineUnder draft2019_09 (codes "/$defs") s c.args.n) c.into_root_schema.result
+    answered _ transforms2019_09 _ (RootHeadlineUnder draft2019_09 s c.args.n) c.into_root_schema.result
     (returns-clause-built_in g c) refl (λ e i. i.draft2019_09)
 
 pub returns-clause-draft2019_09_wide : goal.returns-clause-draft2019_09_wide
 returns-clause-draft2019_09_wide g c =
     let s = state_with (settings_of c.args.self.settings) c.args.self.contents in
-    answered _ transforms2019_09 _ (RootWideHeadlineUnder draft2019_09 (codes "/$defs") s c.args.n) c.into_root_schema.result
+    answered _ transforms2019_09 _ (RootWideHeadlineUnder draft2019_09 s c.args.n) c.into_root_schema.result
     (returns-clause-built_in g c) refl (λ e i. i.draft2019_09_wide)
 
 pub returns-clause-only_memory : goal.returns-clause-only_memory

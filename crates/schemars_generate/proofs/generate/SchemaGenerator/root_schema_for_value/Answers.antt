@@ -1,4 +1,4 @@
-use Rattle.std.proofs.Common.{[], codes, Vec, Global, IfOk, IfErr, refl}
+use Rattle.std.proofs.Common.{[], Vec, Global, IfOk, IfErr, refl}
 use Rattle.schemars_schema.specs.Acceptance.{draft07, draft2019_09}
 use Rattle.schemars_headline.specs.Dialects.{SampleHeadlineUnder}
 use Rattle.schemars_headline.specs.State.{Settings}
@@ -77,12 +77,12 @@ pub returns-clause-draft07 : goal.returns-clause-draft07
 returns-clause-draft07 g c =
     let held = c.args.self.now.contents in
     let s = state_with (settings_of c.args.self.now.settings) held in
-    answered _ transforms07 _ (SampleHeadlineUnder draft07 (codes "/definitions") s (example_of c.args.value.now)) c.sample_root-answer.result
+    answered _ transforms07 _ (SampleHeadlineUnder draft07 s (example_of c.args.value.now)) c.sample_root-answer.result
     (returns-clause-built_in g c) refl (λ e i. i.draft07 held.rows held.names)
 
 pub returns-clause-draft2019_09 : goal.returns-clause-draft2019_09
 returns-clause-draft2019_09 g c =
     let held = c.args.self.now.contents in
     let s = state_with (settings_of c.args.self.now.settings) held in
-    answered _ transforms2019_09 _ (SampleHeadlineUnder draft2019_09 (codes "/$defs") s (example_of c.args.value.now)) c.sample_root-answer.result
+    answered _ transforms2019_09 _ (SampleHeadlineUnder draft2019_09 s (example_of c.args.value.now)) c.sample_root-answer.result
     (returns-clause-built_in g c) refl (λ e i. i.draft2019_09 held.rows held.names)
