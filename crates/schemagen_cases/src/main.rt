@@ -1,8 +1,8 @@
 //! Works the cases in the files beside it, and tells how many of each file are wrong.
 //!
 //! A case is a line of four parts with a tab between them: a name, the words, the input and the
-//! answer that is wanted. A wrong case stands on a line of its own. A further case is a line in a
-//! file, and nothing to prove.
+//! answer that is wanted. A wrong case is printed on a line of its own. A further case is a line in
+//! a file, and nothing to prove.
 #![tactic(auto)]
 
 mod calls;

@@ -184,7 +184,7 @@ fn with_number(kind: &str, number: &Value) -> Result<Sample, NoAnswer> {
     }
 }
 
-// Numbers of more than 64 bits stand in quotes.
+// Numbers of more than 64 bits are in quotes.
 fn of_text(alloc: Global, kind: &str, text: &str) -> Result<Sample, NoAnswer> {
     match kind {
         "Str" => Ok(Sample::Str(String::from_str(alloc, text)?)),

@@ -9,7 +9,7 @@ use Rattle.schemars_schema.specs.Json.{Text}
 use Rattle.schemars_shapes.specs.Shape.{Payload, no_payload, newtype_payload, tuple_payload, struct_payload, Variant, Entry, internal}
 use Rattle.schemars_types.specs.Rows.{Row, with_entry}
 use Rattle.schemagen_input.specs.Forms.{variant_in, variant_inside, payload_inside, internals_in, internals_said, internal_in, lone_in}
-use Rattle.schemagen_input.specs.Forms.{needed}
+use Rattle.schemagen_input.specs.Forms.{needed_member}
 use Rattle.schemagen_input.specs.Input.{shape_named, shape_under, plain_under, list_under, fixed_under, literal_in, shape_in}
 use Rattle.schemagen_input.specs.Input.{entry_in, heading_in, row_in, rows_in}
 use Rattle.schemagen_input.specs.Written.{is_library_shape, has_library_shape}
@@ -132,10 +132,10 @@ entry_passes : (d : Data) → Passes entry_has_library_shape (entry_in d)
 entry_passes d = search (then_passes, inside)
   where
     inside : (inline : Bool) (notes : Members) → Passes entry_has_library_shape
-        (option_map (λ shape. record { inline = inline; notes = notes; shape = shape }) (needed shape_in (codes "shape") d))
+        (option_map (λ shape. record { inline = inline; notes = notes; shape = shape }) (needed_member shape_in (codes "shape") d))
     inside inline notes =
         map_keeps is_library_shape entry_has_library_shape (λ shape. record { inline = inline; notes = notes; shape = shape })
-        (needed shape_in (codes "shape") d) (λ s one. one) (then_passes is_library_shape shape_in (get (codes "shape") d) shape_passes)
+        (needed_member shape_in (codes "shape") d) (λ s one. one) (then_passes is_library_shape shape_in (get (codes "shape") d) shape_passes)
 
 row_passes : (d : Data) → Passes has_library_shape (row_in d)
 row_passes d =

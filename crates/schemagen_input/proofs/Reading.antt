@@ -25,7 +25,7 @@ use Rattle.schemars_types.specs.Refusals.{refusal_of}
 use Rattle.schemars_types.specs.declared.error.TypesError.{TypesError}
 use Rattle.schemars_types.specs.declared.error.TypesError.TheVariants.{UnknownType, AlreadyDefined}
 use Rattle.schemars_types.proofs.Within.{length-defined}
-use Rattle.schemagen_input.specs.Forms.{number_in, has_only, needed}
+use Rattle.schemagen_input.specs.Forms.{number_in, has_only, needed_member}
 use Rattle.schemagen_input.specs.Input.{table_in, unentered, row_names, heading_in}
 use Rattle.schemagen_input.specs.Input.{entry_in, row_in, rows_in, all_differ, ids_of, refers_within}
 use Rattle.schemagen_input.specs.Input.{all_fit, is_complete}
@@ -251,7 +251,7 @@ no_entry_at true None name r h = cc
 no_entry_at false id name r h = cc
 
 no_entry : (d : Data) (r : Row) → heading_in d ≡ Some r → r.entry ≡ None
-no_entry d r h = no_entry_at (has_only row_names d) (needed as_str (codes "id") d) (needed as_str (codes "name") d) r h
+no_entry d r h = no_entry_at (has_only row_names d) (needed_member as_str (codes "id") d) (needed_member as_str (codes "name") d) r h
 
 -- what it refuses for a row without an entry does not
 refused_is_not_within : (done after : List Row) (r : Row) (e : Entry) (x : TypesError) → r.entry ≡ None
@@ -448,7 +448,7 @@ tabled-done ds root rows done = rw (done.0, done.1)
 
 -- the parts of an input
 pub table_in-parts : (d : Data) (ds : Items) (root : ℕ) → has_only (codes "types" ∷ codes "root" ∷ []) d ≡ true
-    → needed as_array (codes "types") d ≡ Some ds → needed number_in (codes "root") d ≡ Some root
+    → needed_member as_array (codes "types") d ≡ Some ds → needed_member number_in (codes "root") d ≡ Some root
     → table_in d ≡ tabled ds root
 table_in-parts d ds root only rows number = rw (only, number) (rows_of (get (codes "types") d) rows)
   where

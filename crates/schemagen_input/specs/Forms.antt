@@ -22,12 +22,12 @@ abbrev pub has_only : List Text → Data → Bool
 has_only names d = option_map_or (are_listed names) (as_object d) false
 
 -- what a member says that has to be there
-abbrev pub needed : {T : Type 0} → (Data → Option T) → Text → Data → Option T
-needed says name d = option_and_then says (get name d)
+abbrev pub needed_member : {T : Type 0} → (Data → Option T) → Text → Data → Option T
+needed_member says name d = option_and_then says (get name d)
 
 -- what a member says, or this where it is missing
-abbrev pub optional : {T : Type 0} → T → (Data → Option T) → Text → Data → Option T
-optional missing says name d = option_map_or says (get name d) (Some missing)
+abbrev pub optional_member : {T : Type 0} → T → (Data → Option T) → Text → Data → Option T
+optional_member missing says name d = option_map_or says (get name d) (Some missing)
 
 -- the name and the value of a member that stands alone
 abbrev pub lone_in : Members → Option (Text × Data)
@@ -43,7 +43,7 @@ number_in d = option_and_then as_u64 (as_number d)
 
 -- the notes of a row, a field or a variant: an object with any members, and none where they are missing
 abbrev pub notes_in : Data → Option Members
-notes_in d = optional no_members as_object (codes "notes") d
+notes_in d = optional_member no_members as_object (codes "notes") d
 
 abbrev pub kind_named : Text → Option IntKind
 kind_named t =
@@ -67,8 +67,8 @@ required read written = record { deserialize = read; serialize = written }
 abbrev pub required_each : Data → Option Required
 required_each d =
     if has_only (codes "deserialize" ∷ codes "serialize" ∷ []) d
-    then option_and_then (λ read. option_map (required read) (needed as_bool (codes "serialize") d))
-    (needed as_bool (codes "deserialize") d)
+    then option_and_then (λ read. option_map (required read) (needed_member as_bool (codes "serialize") d))
+    (needed_member as_bool (codes "deserialize") d)
     else None
 
 -- a truth value says it for both
@@ -83,7 +83,7 @@ abbrev pub field_of_members : Data → Option Field
 field_of_members d =
     option_and_then (λ name. option_and_then (λ ty. option_and_then (λ need.
     option_map (λ notes. record { name = name; ty = ty; required = need; notes = notes }) (notes_in d))
-    (optional (required true true) required_in (codes "required") d)) (needed number_in (codes "type") d)) (needed as_str (codes "name") d)
+    (optional_member (required true true) required_in (codes "required") d)) (needed_member number_in (codes "type") d)) (needed_member as_str (codes "name") d)
 
 abbrev pub field_in : Data → Option Field
 field_in d = if has_only field_names d then field_of_members d else None
@@ -94,31 +94,31 @@ fields_in (item d ds) = option_and_then (λ f. option_map (λ fs. f ∷ fs) (fie
 
 -- the fields of a struct: none where they are missing
 abbrev pub list_in : Data → Option (List Field)
-list_in d = optional [] (λ e. option_and_then fields_in (as_array e)) (codes "fields") d
+list_in d = optional_member [] (λ e. option_and_then fields_in (as_array e)) (codes "fields") d
 
 -- a row whose members are known by name
 abbrev pub flattened_of_members : Data → Option Flattened
 flattened_of_members d =
     option_and_then (λ ty. option_map (λ need. record { ty = ty; required = need })
-    (optional (required true true) required_in (codes "required") d)) (needed number_in (codes "type") d)
+    (optional_member (required true true) required_in (codes "required") d)) (needed_member number_in (codes "type") d)
 
 -- a row whose members stand in the map itself
-abbrev pub flattened_in : Data → Option Flattened
-flattened_in d = if has_only (codes "type" ∷ codes "required" ∷ []) d then flattened_of_members d else None
+abbrev pub flattened_from : Data → Option Flattened
+flattened_from d = if has_only (codes "type" ∷ codes "required" ∷ []) d then flattened_of_members d else None
 
 abbrev pub all_flattened_in : Items → Option (List Flattened)
 all_flattened_in no_items = Some []
-all_flattened_in (item d ds) = option_and_then (λ p. option_map (λ ps. p ∷ ps) (all_flattened_in ds)) (flattened_in d)
+all_flattened_in (item d ds) = option_and_then (λ p. option_map (λ ps. p ∷ ps) (all_flattened_in ds)) (flattened_from d)
 
 -- the rows flattened into a struct: none where they are missing
 abbrev pub flatten_in : Data → Option (List Flattened)
-flatten_in d = optional [] (λ e. option_and_then all_flattened_in (as_array e)) (codes "flatten") d
+flatten_in d = optional_member [] (λ e. option_and_then all_flattened_in (as_array e)) (codes "flatten") d
 
 -- the fields, the rows that are flattened, and whether other keys are excluded
 abbrev pub fields_of_members : Data → Option Fields
 fields_of_members d =
     option_and_then (λ closed. option_and_then (λ list. option_map (λ flatten. record { list = list; flatten = flatten; closed = closed })
-    (flatten_in d)) (list_in d)) (optional false as_bool (codes "closed") d)
+    (flatten_in d)) (list_in d)) (optional_member false as_bool (codes "closed") d)
 
 abbrev pub fields_said : Data → Option Fields
 fields_said d = if has_only (codes "fields" ∷ codes "flatten" ∷ codes "closed" ∷ []) d then fields_of_members d else None
@@ -132,8 +132,8 @@ abbrev pub numbers_in : Items → Option (List ℕ)
 numbers_in no_items = Some []
 numbers_in (item d ds) = option_and_then (λ n. option_map (λ ns. n ∷ ns) (numbers_in ds)) (number_in d)
 
-abbrev pub parts_in : Data → Option (List ℕ)
-parts_in d = option_and_then numbers_in (as_array d)
+abbrev pub parts_from : Data → Option (List ℕ)
+parts_from d = option_and_then numbers_in (as_array d)
 
 -- ---- variants
 
@@ -145,7 +145,7 @@ payload_named t = if bytes_eq t (codes "unit") then Some no_payload else None
 abbrev pub payload_under : Text → Data → Option Payload
 payload_under name d =
     if bytes_eq name (codes "newtype") then option_map newtype_payload (number_in d) else
-    (if bytes_eq name (codes "tuple") then option_map tuple_payload (parts_in d)
+    (if bytes_eq name (codes "tuple") then option_map tuple_payload (parts_from d)
     else (if bytes_eq name (codes "struct") then option_map struct_payload (fields_said d) else None))
 
 abbrev pub payload_in : Data → Option Payload
@@ -163,7 +163,7 @@ variant_keys = codes "name" ∷ codes "notes" ∷ codes "payload" ∷ []
 abbrev pub variant_of_members : Data → Option Variant
 variant_of_members d =
     option_and_then (λ name. option_and_then (λ payload. option_map (λ notes. record { name = name; payload = payload; notes = notes })
-    (notes_in d)) (optional no_payload payload_in (codes "payload") d)) (needed as_str (codes "name") d)
+    (notes_in d)) (optional_member no_payload payload_in (codes "payload") d)) (needed_member as_str (codes "name") d)
 
 abbrev pub variant_in : Data → Option Variant
 variant_in d = if has_only variant_keys d then variant_of_members d else None
@@ -176,7 +176,7 @@ variants_in (item d ds) = option_and_then (λ x. option_map (λ xs. x ∷ xs) (v
 abbrev pub enum_in : Data → Option (List Variant)
 enum_in d =
     if has_only (codes "variants" ∷ []) d
-    then optional [] (λ e. option_and_then variants_in (as_array e)) (codes "variants") d
+    then optional_member [] (λ e. option_and_then variants_in (as_array e)) (codes "variants") d
     else None
 
 abbrev pub external_in : Data → Option Shape
@@ -202,11 +202,11 @@ internals_in (item d ds) =
 
 -- the variants beside a tag: none where they are missing
 abbrev pub internals_said : Data → Option (List Variant)
-internals_said d = optional [] (λ e. option_and_then internals_in (as_array e)) (codes "variants") d
+internals_said d = optional_member [] (λ e. option_and_then internals_in (as_array e)) (codes "variants") d
 
 abbrev pub internal_in : Data → Option Shape
 internal_in d =
     if has_only (codes "tag" ∷ codes "closed" ∷ codes "variants" ∷ []) d
     then option_and_then (λ tag. option_and_then (λ closed. option_map (internal tag closed) (internals_said d))
-    (optional false as_bool (codes "closed") d)) (needed as_str (codes "tag") d)
+    (optional_member false as_bool (codes "closed") d)) (needed_member as_str (codes "tag") d)
     else None

@@ -13,7 +13,7 @@ use Rattle.schemars_shapes.specs.Shape.{option, seq, set, array as array_shape, 
 use Rattle.schemars_shapes.specs.Shape.{result, bound, range, literal}
 use Rattle.schemars_schema.specs.Lookup.{schema_only}
 use Rattle.schemars_types.specs.Rows.{Row, with_entry}
-use Rattle.schemagen_input.specs.Forms.{has_only, needed, optional, lone_in, number_in, notes_in, kind_in, struct_in, parts_in}
+use Rattle.schemagen_input.specs.Forms.{has_only, needed_member, optional_member, lone_in, number_in, notes_in, kind_in, struct_in, parts_from}
 use Rattle.schemagen_input.specs.Forms.{external_in, untagged_in, internal_in}
 
 -- ---- shapes
@@ -28,13 +28,13 @@ shape_named t =
     else (if bytes_eq t (codes "bytes") then Some bytes else (if bytes_eq t (codes "schema") then Some schema_itself else None)))))))
 
 abbrev pub tuple_in : Data → Option Shape
-tuple_in d = option_map tuple (parts_in d)
+tuple_in d = option_map tuple (parts_from d)
 
 -- the row of a list's items, and their number under this name
 abbrev pub counted_in : Text → Data → Option (ℕ × ℕ)
 counted_in count d =
     if has_only (codes "of" ∷ count ∷ []) d
-    then option_and_then (λ n. option_map (λ k. (n, k)) (needed number_in count d)) (needed number_in (codes "of") d)
+    then option_and_then (λ n. option_map (λ k. (n, k)) (needed_member number_in count d)) (needed_member number_in (codes "of") d)
     else None
 
 abbrev pub array_in : Data → Option Shape
@@ -47,7 +47,7 @@ up_to_in d = option_map (λ p. up_to p.0 p.1) (counted_in (codes "cap") d)
 abbrev pub two_in : Text → Text → Data → Option (ℕ × ℕ)
 two_in first second d =
     if has_only (first ∷ second ∷ []) d
-    then option_and_then (λ m. option_map (λ n. (m, n)) (needed number_in second d)) (needed number_in first d)
+    then option_and_then (λ m. option_map (λ n. (m, n)) (needed_member number_in second d)) (needed_member number_in first d)
     else None
 
 abbrev pub result_in : Data → Option Shape
@@ -112,8 +112,8 @@ row_names = codes "id" ∷ codes "name" ∷ codes "inline" ∷ codes "notes" ∷
 abbrev pub entry_in : Data → Option Entry
 entry_in d =
     option_and_then (λ inline. option_and_then (λ notes. option_map (λ shape. record { inline = inline; notes = notes; shape = shape })
-    (needed shape_in (codes "shape") d))
-    (notes_in d)) (optional false as_bool (codes "inline") d)
+    (needed_member shape_in (codes "shape") d))
+    (notes_in d)) (optional_member false as_bool (codes "inline") d)
 
 -- a row that has no entry yet
 abbrev pub unentered : Text → Text → Row
@@ -123,7 +123,7 @@ unentered id name = record { id = id; name = name; entry = None }
 abbrev pub heading_in : Data → Option Row
 heading_in d =
     if has_only row_names d
-    then option_and_then (λ id. option_map (unentered id) (needed as_str (codes "name") d)) (needed as_str (codes "id") d)
+    then option_and_then (λ id. option_map (unentered id) (needed_member as_str (codes "name") d)) (needed_member as_str (codes "id") d)
     else None
 
 -- the row that an object says
@@ -161,7 +161,7 @@ abbrev pub table_in : Data → Option (List Row × ℕ)
 table_in d =
     if has_only (codes "types" ∷ codes "root" ∷ []) d
     then option_and_then (λ rows. option_and_then (λ root. if is_complete rows then Some (rows, root) else None)
-    (needed number_in (codes "root") d)) (needed (λ e. option_and_then rows_in (as_array e)) (codes "types") d)
+    (needed_member number_in (codes "root") d)) (needed_member (λ e. option_and_then rows_in (as_array e)) (codes "types") d)
     else None
 
 -- a table that has the root

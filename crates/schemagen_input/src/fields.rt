@@ -5,7 +5,8 @@ ghost use Rattle.schemars_shapes.specs.Shape.{shape_of, field_of, flattened_of, 
 ghost use Rattle.schemars_shapes.specs.Shape.{required_of};
 ghost use Rattle.schemagen_input.specs.Forms.{required, required_each, required_in, field_in};
 ghost use Rattle.schemagen_input.specs.Forms.{fields_in, list_in, fields_said, struct_in};
-ghost use Rattle.schemagen_input.specs.Forms.{optional, flattened_in, all_flattened_in, flatten_in};
+ghost use Rattle.schemagen_input.specs.Forms.{optional_member, flattened_from, all_flattened_in};
+ghost use Rattle.schemagen_input.specs.Forms.{flatten_in};
 
 use crate::error::InputError;
 use crate::members::{flag_in, has_only, notes_in, number_of, text_in};
@@ -43,7 +44,7 @@ fn required_in(value: &Value) -> Option<Required>
 // What a field says under `required`; where that is missing, it has to be there.
 fn need_in(value: &Value) -> Option<Required>
     ensures { option_map required_of result
-        ≡ optional (required true true) required_in (codes "required") (view value.now) }
+        ≡ optional_member (required true true) required_in (codes "required") (view value.now) }
 {
     match value.get("required") {
         None => Some(Required {
@@ -109,7 +110,7 @@ fn list_in(alloc: Global, value: &Value) -> Result<Vec<Field>, InputError>
 }
 
 fn flattened_in(value: &Value) -> Option<Flattened>
-    ensures { option_map flattened_of result ≡ flattened_in (view value.now) }
+    ensures { option_map flattened_of result ≡ flattened_from (view value.now) }
 {
     if !has_only(value, &["type", "required"]) {
         return None;

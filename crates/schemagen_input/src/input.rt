@@ -2,7 +2,7 @@
 ghost use Rattle.std.specs.Prelude.{◌≡◌, ◌≢◌, ◌<◌, ℕ, List, [], true, None, Some, IfOk, IfErr};
 ghost use Rattle.std.specs.Prelude.{option_map, length};
 ghost use Rattle.serde_json.specs.View.{view, items_view};
-ghost use Rattle.schemagen_input.specs.Forms.{needed};
+ghost use Rattle.schemagen_input.specs.Forms.{needed_member};
 ghost use Rattle.schemagen_input.specs.Input.{heading_in, unentered, is_complete, table_in};
 ghost use Rattle.schemagen_input.specs.Input.{input_of};
 ghost use Rattle.schemagen_input.specs.Written.{json_of, CanBeWritten};
@@ -68,7 +68,7 @@ fn define_rows(alloc: Global, mut types: Types, rows: &[Value]) -> Result<Types,
 
 fn items_in<'v>(value: &'v Value, name: &str) -> Option<&'v Vec<Value>>
     ensures { option_map (λ v. items_view v.now.items) result
-        ≡ needed as_array name.now (view value.now) }
+        ≡ needed_member as_array name.now (view value.now) }
 {
     value.get(name)?.as_array()
 }

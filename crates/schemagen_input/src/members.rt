@@ -4,8 +4,8 @@ ghost use Rattle.std.specs.Prelude.{map};
 ghost use Rattle.serde_json.specs.View.{view, items_view, members_view};
 ghost use Rattle.schemars_schema.specs.OrderedText.{is_listed};
 ghost use Rattle.schemagen_input.specs.Forms.{has_only, lone_in, number_in, notes_in, kind_named};
-ghost use Rattle.schemagen_input.specs.Forms.{kind_in, parts_in, numbers_in};
-ghost use Rattle.schemagen_input.specs.Forms.{optional, needed};
+ghost use Rattle.schemagen_input.specs.Forms.{kind_in, parts_from, numbers_in};
+ghost use Rattle.schemagen_input.specs.Forms.{optional_member, needed_member};
 ghost use Rattle.serde_json.specs.Find.{as_bool, as_str};
 
 use crate::error::InputError;
@@ -64,7 +64,7 @@ fn numbers_in(alloc: Global, values: &[Value]) -> Result<Option<Vec<TypeNo>>, Al
 
 /// The rows that a list says.
 pub fn parts_in(alloc: Global, value: &Value) -> Result<Option<Vec<TypeNo>>, AllocError>
-    ensures { IfOk result (λ r. option_map (λ v. v.items) r ≡ parts_in (view value.now)) }
+    ensures { IfOk result (λ r. option_map (λ v. v.items) r ≡ parts_from (view value.now)) }
 {
     match value.as_array() {
         Some(values) => numbers_in(alloc, values),
@@ -101,21 +101,21 @@ pub fn kind_in(value: &Value) -> Option<IntKind>
 
 /// The text of a member that has to be there.
 pub fn text_in<'v>(value: &'v Value, name: &str) -> Option<&'v str>
-    ensures { option_map (λ t. t.now) result ≡ needed as_str name.now (view value.now) }
+    ensures { option_map (λ t. t.now) result ≡ needed_member as_str name.now (view value.now) }
 {
     value.get(name)?.as_str()
 }
 
 /// The number of a member that has to be there.
 pub fn number_of(value: &Value, name: &str) -> Option<TypeNo>
-    ensures { result ≡ needed number_in name.now (view value.now) }
+    ensures { result ≡ needed_member number_in name.now (view value.now) }
 {
     number_in(value.get(name)?)
 }
 
 /// The truth value of a member; one that is missing is false.
 pub fn flag_in(value: &Value, name: &str) -> Option<bool>
-    ensures { result ≡ optional false as_bool name.now (view value.now) }
+    ensures { result ≡ optional_member false as_bool name.now (view value.now) }
 {
     match value.get(name) {
         None => Some(false),

@@ -8,7 +8,7 @@ ghost use Rattle.schemagen_input.specs.Forms.{payload_named, payload_under, payl
 ghost use Rattle.schemagen_input.specs.Forms.{variants_in};
 ghost use Rattle.schemagen_input.specs.Forms.{enum_in, external_in, untagged_in};
 ghost use Rattle.schemagen_input.specs.Forms.{payload_inside, variant_inside, internals_in};
-ghost use Rattle.schemagen_input.specs.Forms.{internals_said, internal_in, optional};
+ghost use Rattle.schemagen_input.specs.Forms.{internals_said, internal_in, optional_member};
 
 use crate::error::InputError;
 use crate::fields::fields_said;
@@ -67,10 +67,11 @@ fn payload_in(alloc: Global, value: &Value) -> Result<Payload, InputError>
 
 // What a variant says under `payload`; where that is missing, it is a unit.
 fn payload_said(alloc: Global, value: &Value) -> Result<Payload, InputError>
-    ensures ok { IfOk result (λ p. optional no_payload payload_in (codes "payload") (view value.now)
+    ensures ok { IfOk result (λ p. optional_member no_payload payload_in (codes "payload")
+        (view value.now)
         ≡ Some (payload_of p)) }
     ensures bad { IfErr result (λ e. e ≡ InputError.BadTable
-        → optional no_payload payload_in (codes "payload") (view value.now) ≡ None) }
+        → optional_member no_payload payload_in (codes "payload") (view value.now) ≡ None) }
 {
     match value.get("payload") {
         None => Ok(Payload::Unit),

@@ -270,7 +270,7 @@ line_refused asked rows root e f why same = record {
   only_memory = λ accepted plain. of_code e OutOfMemory f same (why.only_memory accepted plain);
 }
 
--- so does want of memory
+-- so does out of memory
 pub line_wants_memory : (asked : Asked) (rows : List Row) (root : ℕ) (f : Fault) → f ≡ Refused OUT_OF_MEMORY
     → IsLineRefusal asked rows root f
 line_wants_memory asked rows root f memory = record {

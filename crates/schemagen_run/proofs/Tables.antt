@@ -28,7 +28,7 @@ use Rattle.schemars_headline.specs.State.{Settings, State, stripped, path_of, Ha
 use Rattle.schemars_laws.specs.Paths.{components}
 use Rattle.schemars_generate.specs.Settings.{transforms_openapi3}
 use Rattle.schemagen_input.specs.Input.{is_complete, is_table, table_in, input_of}
-use Rattle.schemagen_run.specs.Run.{settings_for, transforms_of_dialect, fresh, Means, MeansWide, IsDocumentOf, IsUnplaced, IsRefusal}
+use Rattle.schemagen_run.specs.Run.{settings_for, transforms_of_dialect, fresh, Means, MeansWide, IsWrittenDocument, IsUnplaced, IsRefusal}
 use Rattle.schemagen_run.specs.Run.{settings_of_dialect, AreTakenAt, AreTaken, AreDefinitionsOf}
 
 pub both : (a b : Bool) → a && b ≡ true → (a ≡ true) × (b ≡ true)
@@ -120,12 +120,13 @@ means_wide OpenApi3 c inlines rows root d document told same = tt
 -- what the generator answers is the root document of the row
 pub is_document : {E : Type 0} (r : Result Data E) (s : State) (asked : Asked) (rows : List Row) (root : ℕ)
     (ts : List (GenTransform NoTransform)) → s ≡ fresh asked rows → ts ≡ transforms_of_dialect asked.dialect
-    → (some_own ts ≡ false → IfOk r (IsMadeBy ts (IsUntransformed s root))) → IfOk r (IsDocumentOf asked rows root)
+    → (some_own ts ≡ false → IfOk r (IsMadeBy ts (IsUntransformed s root))) → IfOk r (IsWrittenDocument asked rows root)
 is_document (Err e) s asked rows root ts same is made = tt
 is_document (Ok document) s asked rows root ts same is made =
     let (d, told, of) = made (ap some_own is ∙ none_own asked.dialect) in
     let here : IsUntransformed (fresh asked rows) root d = subst (λ (t : State). IsUntransformed t root d) same told in
-    let by : document ≡ made_by (transforms_of_dialect asked.dialect) d = of ∙ ap (λ (xs : List (GenTransform NoTransform)). made_by xs d) is in (
+    let by : document ≡ made_by (transforms_of_dialect asked.dialect) d =
+    of ∙ ap (λ (xs : List (GenTransform NoTransform)). made_by xs d) is in (
       (d, here.last, by),
       means asked.dialect asked.contract asked.inlines rows root d document here by,
       means_wide asked.dialect asked.contract asked.inlines rows root d document here by,
@@ -140,7 +141,7 @@ draft_path Draft2019_09 c inlines rows draft = inl refl
 draft_path Draft07 c inlines rows draft = inr refl
 draft_path OpenApi3 c inlines rows draft = absurd (draft refl)
 
--- it refuses for want of memory, or where there is no place for the definitions
+-- it refuses if out of memory, or where there is no place for the definitions
 is_refused : (r : Result Data GenerateError) (s : State) (asked : Asked) (rows : List Row) (root : ℕ)
     → is_table rows root ≡ true → IsAccepted rows → s ≡ fresh asked rows
     → ((r ≡ Err (UnknownType root)) ↔ (length s.rows ≤ root))
@@ -180,7 +181,7 @@ is_refusal (Err e) s asked rows root draft table accepted same unknown why only 
       only_memory = λ _ plain. wants_only_memory s asked rows root draft table same only plain;
     }
 
--- the table's own refusal, or want of memory
+-- the table's own refusal, or out of memory
 pub faulty_refusal : (asked : Asked) (rows : List Row) (root : ℕ) (e : GenerateError) → (e ≡ OutOfMemory) ⊎ HasFault rows e
     → (IsAccepted rows → e ≡ OutOfMemory) → IsRefusal asked rows root e
 faulty_refusal asked rows root e why only = record {

@@ -1,4 +1,4 @@
--- The faults that a run may end in, and the exit status that stands for each.
+-- The faults that a run may end in, and the exit status of each.
 use Rattle.std.specs.Prelude.{◌≡◌, ◌⊎◌, ℕ}
 use Rattle.schemagen_run.specs.declared.fault.Fault.{Fault}
 use Rattle.schemagen_run.specs.declared.fault.Fault.TheVariants.{Usage, Refused}
@@ -26,7 +26,7 @@ IsTableFault e = (e ≡ Refused UNDEFINED_TYPE) ⊎ (e ≡ Refused REPEATED_NAME
 abbrev pub IsLineFault : Fault → Type 0
 IsLineFault e = (e ≡ Refused OUT_OF_MEMORY) ⊎ IsTableFault e ⊎ (e ≡ Refused DEFINITIONS_PATH)
 
--- for want of memory, or of the source or the sink
+-- of memory, of the source, or of the sink
 abbrev pub IsOutside : Fault → Type 0
 IsOutside e = (e ≡ Refused OUT_OF_MEMORY) ⊎ (e ≡ Refused READ) ⊎ (e ≡ Refused WRITE)
 

@@ -65,16 +65,16 @@ IsTableText rows root bytes = (d : Data) × IsTextOf d bytes × (input_of d ≡ 
 abbrev pub IsAcceptedText : List ℕ → Type 0
 IsAcceptedText bytes = (rows : List Row) × ((root : ℕ) × IsTableText rows root bytes × IsAccepted rows)
 
--- and one whose rows have annotations alone for notes
+-- and one whose rows have only annotations for notes
 abbrev pub IsNotedText : List ℕ → Type 0
 IsNotedText bytes =
     (rows : List Row) × ((root : ℕ) × IsTableText rows root bytes × IsAccepted rows × HasPlainNotes rows)
 
--- the refusal tells the fault of this table
+-- the error names the fault of this table
 abbrev pub Tells : List Row → Fault → Type 0
 Tells rows fault = (e : GenerateError) × HasFault rows e × (fault ≡ Refused (code_of e))
 
--- the JSON text of a table with the fault that the refusal tells
+-- the JSON text of a table with the fault that the error names
 abbrev pub IsFaultyTable : Fault → List ℕ → Type 0
 IsFaultyTable fault bytes = (rows : List Row) × ((root : ℕ) × IsTableText rows root bytes × Tells rows fault)
 
@@ -100,14 +100,14 @@ settings_for asked = record (settings_of_dialect asked.dialect) { contract = ask
 abbrev pub fresh : Asked → List Row → State
 fresh asked rows = record { settings = settings_for asked; rows = rows; names = []; definitions = no_members }
 
--- under the keywords of a draft the document accepts just the values of the row; of a root document for OpenAPI nothing is told
+-- under the keywords of a draft the document accepts exactly the values of the row; of a root document for OpenAPI nothing is promised
 abbrev pub Means : Dialect → List Row → Contract → ℕ → Data → Type 0
 Means Draft2020_12 rows contract root document = MeansItsType rows contract (codes "/$defs") root document
 Means Draft2019_09 rows contract root document = MeansItsTypeUnder draft2019_09 rows contract (codes "/$defs") root document
 Means Draft07 rows contract root document = MeansItsTypeUnder draft07 rows contract (codes "/definitions") root document
 Means OpenApi3 rows contract root document = Unit {0}
 
--- so it does under 2020-12 and 2019-09 over the wider tables that are plain under the contract; of the others nothing more is told
+-- so it does under 2020-12 and 2019-09 over the wider tables that are plain under the contract; of the others nothing more is promised
 abbrev pub MeansWide : Dialect → List Row → Contract → ℕ → Data → Type 0
 MeansWide Draft2020_12 rows contract root document =
     IsPlainUnder contract rows → MeansItsType rows contract (codes "/$defs") root document
@@ -117,9 +117,9 @@ MeansWide Draft07 rows contract root document = Unit {0}
 MeansWide OpenApi3 rows contract root document = Unit {0}
 
 -- the root document of this row: the transforms of the dialect make it of the one that is made by the rules, and where the
--- table is plain it accepts just the values of the type; without transforms the numbers in it are whole, where those in notes are
-abbrev pub IsDocumentOf : Asked → List Row → ℕ → Data → Type 0
-IsDocumentOf asked rows root document =
+-- table is plain it accepts exactly the values of the type; without transforms the numbers in it are whole, where those in notes are
+abbrev pub IsWrittenDocument : Asked → List Row → ℕ → Data → Type 0
+IsWrittenDocument asked rows root document =
     IsMadeBy (transforms_of_dialect asked.dialect) (IsLastRootCall (fresh asked rows) root) document
     × (IsPlainTable rows → Means asked.dialect rows asked.contract root document)
     × MeansWide asked.dialect rows asked.contract root document
@@ -136,7 +136,7 @@ abbrev pub AreTaken : List (GenTransform NoTransform) → State → ℕ → Memb
 AreTaken ts old root taken = (s : State) × AreTakenAt ts old root s taken × (ts ≡ transforms_openapi3 → TakenHeadline s taken)
 
 -- those that it leads to, through the transforms of OpenAPI: where the table is plain, under `components.schemas` each accepts
--- under OpenAPI just the values of the row of its name, and its references resolve
+-- under OpenAPI exactly the values of the row of its name, and its references resolve
 abbrev pub AreDefinitionsOf : Asked → List Row → ℕ → Members → Type 0
 AreDefinitionsOf asked rows root taken =
     (s : State) × AreTakenAt transforms_openapi3 (fresh asked rows) root s taken × (IsPlainTable rows → MeanTheirRows s taken)
@@ -152,7 +152,7 @@ IsDefinitionsLine taken line =
     (text : Text) × (members_have_float taken ≡ false → text ≡ definitions_text taken) × (line ≡ text ++ 10 ∷ [])
 
 abbrev pub IsDocumentLine : Asked → List Row → ℕ → Text → Type 0
-IsDocumentLine asked rows root line = (document : Data) × IsDocumentOf asked rows root document × IsTextLine document line
+IsDocumentLine asked rows root line = (document : Data) × IsWrittenDocument asked rows root document × IsTextLine document line
 
 -- the line of this row in a dialect: of its root document, or, for OpenAPI, of the definitions that it leads to
 abbrev pub IsLineIn : Dialect → Asked → List Row → ℕ → Text → Type 0
@@ -197,7 +197,7 @@ IsUnplacedFor words bytes = (asked : Asked) × AskFor words asked × IsUnplacedT
 
 -- ---- examples
 
--- JSON, but with a number that is no whole one from -2^63 to 2^64 - 1
+-- JSON, but with a number that is not a whole number from -2^63 to 2^64 - 1
 abbrev pub IsNotWhole : List ℕ → Type 0
 IsNotWhole bytes = (d : Data) × IsTextOf d bytes × (sample_input d ≡ None)
 
@@ -205,7 +205,7 @@ IsNotWhole bytes = (d : Data) × IsTextOf d bytes × (sample_input d ≡ None)
 abbrev pub IsSampleText : List ℕ → Type 0
 IsSampleText bytes = (d : Data) × IsTextOf d bytes × ((x : Example) × (sample_input d ≡ Some x))
 
--- under 2020-12 the document accepts the example; of OpenAPI nothing is told
+-- under 2020-12 the document accepts the example; of OpenAPI nothing is promised
 abbrev pub AcceptsIn : Dialect → Example → Data → Type 0
 AcceptsIn Draft2020_12 x document = AcceptsExample x document
 AcceptsIn Draft2019_09 x document = AcceptsExample x document
@@ -217,7 +217,7 @@ abbrev pub IsUntransformedExample : Dialect → Example → Data → Type 0
 IsUntransformedExample dialect x document =
     (document ≡ sample_root (settings_of_dialect dialect).meta_schema x) × AcceptsIn dialect x document × (has_float document ≡ false)
 
--- under the keywords of a draft the document accepts the example; of OpenAPI nothing is told
+-- under the keywords of a draft the document accepts the example; of OpenAPI nothing is promised
 abbrev pub AcceptsUnder : Dialect → Example → Data → Type 0
 AcceptsUnder Draft2020_12 x document = AcceptsExample x document
 AcceptsUnder Draft2019_09 x document = AcceptsExampleUnder draft2019_09 x document

@@ -17,7 +17,7 @@ pub const DIRECT_CYCLE: u32 = 4;
 /// A row is on a cycle of rows that have the values of the next.
 pub const EMPTY_CYCLE: u32 = 5;
 
-/// Another entry stands in a row.
+/// A row has another entry already.
 pub const ALREADY_DEFINED: u32 = 6;
 
 /// A table does not begin with the rows of another.
@@ -26,16 +26,16 @@ pub const NOT_AN_EXTENSION: u32 = 7;
 /// A table has no row of a number.
 pub const UNKNOWN_TYPE: u32 = 8;
 
-/// Definitions can't be placed where they are to stand.
+/// Definitions cannot be placed.
 pub const DEFINITIONS_PATH: u32 = 9;
 
-/// What was read is no JSON.
+/// What was read is not JSON.
 pub const NOT_JSON: u32 = 20;
 
-/// What was read is no table with a root.
+/// What was read is not a table with a root.
 pub const BAD_TABLE: u32 = 21;
 
-/// A number of an example is no whole number from -2^63 to 2^64 - 1.
+/// A number of an example is not a whole number from -2^63 to 2^64 - 1.
 pub const NOT_WHOLE: u32 = 22;
 
 /// The source has failed.

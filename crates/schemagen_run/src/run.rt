@@ -21,7 +21,7 @@ ghost use Rattle.schemagen_run.specs.Run.{IsAcceptedText, IsNotedText, IsFaultyT
 ghost use Rattle.schemagen_run.specs.Run.{IsLineRefusal};
 ghost use Rattle.schemagen_run.specs.Run.{settings_for, settings_of_dialect, transforms_of_dialect};
 ghost use Rattle.schemagen_run.specs.Run.{fresh};
-ghost use Rattle.schemagen_run.specs.Run.{IsDocumentOf, IsTextLine, IsDocumentLine, IsLineOf};
+ghost use Rattle.schemagen_run.specs.Run.{IsWrittenDocument, IsTextLine, IsDocumentLine, IsLineOf};
 ghost use Rattle.schemagen_run.specs.Run.{IsTableLine, IsUnplacedText};
 ghost use Rattle.schemagen_run.specs.Run.{AreDefinitionsOf, AreTaken, IsDefinitionsLine};
 ghost use Rattle.schemagen_run.specs.Run.{IsNotWhole, IsSampleText, IsSampleDocument};
@@ -52,10 +52,10 @@ use std::alloc::{AllocError, Global};
 /// `--inline` where rows are to be written in place and `--serialize` where the document is to be
 /// for the values that are written; or `sample` and a dialect. The dialects are `2020-12`,
 /// `2019-09`, `draft-07` and `openapi3`. Other words are refused first, with nothing read. Then a
-/// run is refused where the source fails, where the bytes are no JSON, where the value is no table
-/// with a root, where the table has a fault, where the notes of its rows leave no place for the
-/// definitions, where a number of an example is no 64-bit whole number, and where the sink fails,
-/// in this order. It may also be refused for want of memory.
+/// run is refused where the source fails, where the bytes are not JSON, where the value is not a
+/// table with a root, where the table has a fault, where the notes of its rows leave no place for
+/// the definitions, where a number of an example is not a 64-bit whole number, and where the sink
+/// fails, in this order. It may also run out of memory.
 ///
 /// A run that is refused has written nothing, unless the sink has failed: that has taken a
 /// beginning of the text.
@@ -380,7 +380,7 @@ fn document_of(
 ) -> Result<Schema, GenerateError>
     requires table { is_table types root ≡ true }
     requires draft { asked.dialect ≢ OpenApi3 }
-    ensures ok { IfOk result (λ d. IsDocumentOf asked types root d) }
+    ensures ok { IfOk result (λ d. IsWrittenDocument asked types root d) }
     ensures accepted { OnOk result (IsAccepted types) }
     ensures refused { IfErr result (IsRefusal asked types root) }
 {

@@ -36,7 +36,7 @@ pub(crate) struct Asked {
     pub(crate) inlines: bool,
 }
 
-// The dialect that a word stands for.
+// The dialect that a word names.
 fn dialect_of(word: &str) -> Option<Dialect>
     ensures { MatchOption result (¬ (IsDialect word.now)) (λ dialect. word.now ≡ word_for dialect) }
 {
@@ -129,7 +129,7 @@ fn asked_by_one(dialect: &str, flag: &str) -> Option<Asked>
     None
 }
 
-// What two flags ask for, which stand in either order.
+// What two flags ask for, which may be in either order.
 fn asked_by_two(dialect: &str, first: &str, second: &str) -> Option<Asked>
     ensures { MatchOption result (¬ (IsKnown dialect.now (first.now ∷ second.now ∷ [])))
         (IsAskedBy dialect.now (first.now ∷ second.now ∷ [])) }

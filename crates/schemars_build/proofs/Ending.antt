@@ -12,7 +12,7 @@ use Rattle.schemars_schema.specs.Json.{Text}
 use Rattle.schemars_types.specs.Faults.{IsChecked}
 use Rattle.schemars_build.specs.Naming.{name_of}
 use Rattle.schemars_build.specs.Placed.{pending_in}
-use Rattle.schemars_build.specs.Work.{Plan, Work, Step, basis_of, without_last}
+use Rattle.schemars_build.specs.Work.{Plan, Work, Step, basis_of_plan, without_last}
 use Rattle.schemars_documents.specs.Template.{Ask, asks_of}
 use Rattle.schemars_documents.specs.View.{ask_of}
 use Rattle.schemars_documents.specs.OfShape.{entry_template}
@@ -20,7 +20,7 @@ use Rattle.schemars_documents.specs.declared.template.Ask as src-ask
 use Rattle.schemars_build.specs.Missing.{missing, IsAskedIn}
 use Rattle.schemars_build.specs.Left.{left_of_own_document, left_of_part}
 use Rattle.schemars_build.specs.Left.{width, places, left_of_filled, left_of_asked}
-use Rattle.schemars_build.specs.Left.{asks_at, sum_below, breadth, rank, weight, unanswered, pending_around, left_waiting, left_going}
+use Rattle.schemars_build.specs.Left.{asks_at, sum_below, breadth, document_rank, weight, unanswered_in, pending_around, left_waiting, left_going}
 use Rattle.schemars_build.specs.Left.{left_of_reply, IsWithin}
 use Rattle.schemars_build.specs.Making.{Wanted, IsBegun, IsTemplate, IsOpened}
 use Rattle.schemars_build.specs.Making.{IsInMaking, HasAnswered, IsRepliedBy, Reply, answer, document}
@@ -70,15 +70,15 @@ module _ (p : Plan) where
   unfolding breadth
   asks_below n less = let e = below_sum (asks_at p) (length p.rows) n less in omega (arith, e)
 
-  few_asks : (d : Document) → IsTemplate p d → suc (suc (unanswered d)) ≤ breadth p
+  few_asks : (d : Document) → IsTemplate p d → suc (suc (unanswered_in d)) ≤ breadth p
   few_asks d t =
       let counted : length d.asks.items ≡ asks_at p d.row = sym (length-map d.asks.items ask_of) ∙ (ap length t.asks
-      ∙ sym (ap (λ o. option_map_or (λ e. length (asks_of (entry_template (basis_of p) e))) o 0) t.at)) in
+      ∙ sym (ap (λ o. option_map_or (λ e. length (asks_of (entry_template (basis_of_plan p) e))) o 0) t.at)) in
       let e = asks_below d.row t.known in
       omega (arith, counted, e)
 
   heavy : (w : Work) (pending : List ℕ) (d : Document) → 1 ≤ weight p w pending d
-  heavy w pending d = one-le-pow (rank p w pending d.row d.purpose) (breadth p) (let m = many in omega (arith, m))
+  heavy w pending d = one-le-pow (document_rank p w pending d.row d.purpose) (breadth p) (let m = many in omega (arith, m))
 
   -- ---- as definitions join
 
@@ -87,7 +87,8 @@ module _ (p : Plan) where
   missing_pending w pending = refl
 
   module _ (v w : Work) (fewer : missing p.rows p.contract v ≤ missing p.rows p.contract w) where
-    places_fewer : (pending : List ℕ) → places p (record v { pending = pending }) pending ≤ places p (record w { pending = pending }) pending
+    places_fewer : (pending : List ℕ)
+        → places p (record v { pending = pending }) pending ≤ places p (record w { pending = pending }) pending
     places_fewer pending =
         let a = missing_pending v pending in
         let b = missing_pending w pending in
@@ -96,7 +97,7 @@ module _ (p : Plan) where
         let e = mul-le-mul_right (suc (length p.rows)) less in
         omega (arith, e)
 
-    rank_fewer : (pending : List ℕ) (n : ℕ) (q : Purpose) → rank p v pending n q ≤ rank p w pending n q
+    rank_fewer : (pending : List ℕ) (n : ℕ) (q : Purpose) → document_rank p v pending n q ≤ document_rank p w pending n q
     rank_fewer pending n (purpose.Own entered) = let e = mul-le-mul_right (width p.rows) (places_fewer pending) in omega (arith, e)
     rank_fewer pending n (purpose.Definition name entered) =
         let e = mul-le-mul_right (width p.rows) (places_fewer pending) in omega (arith, e)
@@ -109,7 +110,7 @@ module _ (p : Plan) where
     waiting_fewer : (pending : List ℕ) (ds : List Document) → left_waiting p v pending ds ≤ left_waiting p w pending ds
     waiting_fewer pending [] = omega arith
     waiting_fewer pending (d ∷ ds) =
-        let e = mul-le-mul_left (unanswered d) (weight_fewer pending d) in
+        let e = mul-le-mul_left (unanswered_in d) (weight_fewer pending d) in
         let f = waiting_fewer (pending_around d.purpose pending) ds in
         omega (arith, e, f)
 
@@ -156,10 +157,10 @@ module _ (p : Plan) where
   -- ---- what a document asks lies lower
 
   pub asks_lower : (now : Work) (d : Document) → IsChecked p.rows → IsTemplate p d → (i : ℕ) (a : src-ask.Ask) → i < length d.asks.items
-      → left_of_asked p now (ask_of (get_or d.asks.items i a)) < rank p now now.pending d.row d.purpose
+      → left_of_asked p now (ask_of (get_or d.asks.items i a)) < document_rank p now now.pending d.row d.purpose
   asks_lower now d checked t i a less =
       let P : List Ask → Type 0 = λ asks. All (IsAskedIn p.rows d.row) asks in
-      let every : P (map ask_of d.asks.items) = subst P (sym t.asks) (asks_in_order (basis_of p) d.row t.entry checked t.at) in
+      let every : P (map ask_of d.asks.items) = subst P (sym t.asks) (asks_in_order (basis_of_plan p) d.row t.entry checked t.at) in
       let counted : length (map ask_of d.asks.items) ≡ length d.asks.items = length-map d.asks.items ask_of in
       let one = every i (ask_of a) (omega (arith, counted, less)) in
       let there : IsAskedIn p.rows d.row (ask_of (get_or d.asks.items i a)) =
@@ -168,7 +169,7 @@ module _ (p : Plan) where
       by d.purpose (to_asked p now now d.row (ask_of (get_or d.asks.items i a)) there.1 same refl)
     where
       by : (q : Purpose) → left_of_asked p now (ask_of (get_or d.asks.items i a)) < left_of_filled p now d.row
-          → left_of_asked p now (ask_of (get_or d.asks.items i a)) < rank p now now.pending d.row q
+          → left_of_asked p now (ask_of (get_or d.asks.items i a)) < document_rank p now now.pending d.row q
       by (purpose.Own entered) e = e
       by (purpose.Definition name entered) e = e
       by (purpose.Members optional) e = e
@@ -181,10 +182,10 @@ module _ (p : Plan) where
   within_more k l w (document d) less is = omega (arith, less, is)
 
   pub opened_within : (inside : Bool) (n : ℕ) (q : Purpose) (d : Document) (new : Work) (k : ℕ) → IsOpened p inside n q d
-      → rank p new new.pending n q ≤ k → IsWithin p k new (document d)
+      → document_rank p new new.pending n q ≤ k → IsWithin p k new (document d)
   opened_within inside n q d new k is low =
-      let same : rank p new new.pending d.row d.purpose ≡ rank p new new.pending n q =
-      ap (λ m. rank p new new.pending m d.purpose) is.0 ∙ ap (λ x. rank p new new.pending n x) is.1 in
+      let same : document_rank p new new.pending d.row d.purpose ≡ document_rank p new new.pending n q =
+      ap (λ m. document_rank p new new.pending m d.purpose) is.0 ∙ ap (λ x. document_rank p new new.pending n x) is.1 in
       omega (arith, same, low)
 
   pub own_within : (old new : Work) (n : ℕ) → new ≡ record old { pending = pending_in p.inlines old.pending n }
@@ -224,7 +225,7 @@ module _ (p : Plan) where
 
   -- d asks, and waits
   pub asking_less : (outside : Bool) (want : Wanted) (now new : Work) (d : Document) (ds : List Document) (r : Reply) (k : ℕ)
-      → IsRepliedBy p outside now want new r → IsWithin p k new r → k < rank p now now.pending d.row d.purpose
+      → IsRepliedBy p outside now want new r → IsWithin p k new r → k < document_rank p now now.pending d.row d.purpose
       → left_of_reply p new r (d ∷ ds) < left_going p now d ds
   asking_less outside want now new d ds (answer s) k is within low =
       let fewer = replied_fewer outside now want new (answer s) is in
@@ -240,8 +241,9 @@ module _ (p : Plan) where
       let all : left_waiting p new (pending_around x.purpose new.pending) (d ∷ ds) ≡ left_waiting p new now.pending (d ∷ ds) =
       ap (λ ps. left_waiting p new ps (d ∷ ds)) same in
       let e = waiting_fewer new now fewer now.pending (d ∷ ds) in
-      let f : suc (unanswered x) * weight p new new.pending x < weight p now now.pending d =
-      lighter (unanswered x) (breadth p) (rank p new new.pending x.row x.purpose) (rank p now now.pending d.row d.purpose)
+      let f : suc (unanswered_in x) * weight p new new.pending x < weight p now now.pending d =
+      lighter (unanswered_in x) (breadth p) (document_rank p new new.pending x.row x.purpose)
+      (document_rank p now now.pending d.row d.purpose)
       (few_asks x is.template) (omega (arith, within, low)) in
       omega (arith, all, e, f)
 
@@ -260,18 +262,20 @@ module _ (p : Plan) where
   -- d is done
   pub closing_less : (outside : Bool) (old : Work) (want : Wanted) (now new : Work) (d : Document) (ds : List Document) (r : Reply) (k : ℕ)
       → IsInMaking p outside old want now d → missing p.rows p.contract new ≤ missing p.rows p.contract now
-      → IsRepliedBy p outside old want new r → IsWithin p k new r → k < rank p now now.pending d.row d.purpose
+      → IsRepliedBy p outside old want new r → IsWithin p k new r → k < document_rank p now now.pending d.row d.purpose
       → left_of_reply p new r ds < left_going p now d ds
   closing_less outside old want now new d ds (answer s) k h fewer is within low =
       closing_answered outside old want now new d ds s h fewer is
   closing_less outside old want now new d ds (document x) k h fewer is within low =
       let same : pending_around x.purpose new.pending ≡ pending_around d.purpose now.pending =
       making_around outside old want new x is ∙ sym (making_around outside old want now d h) in
-      let all : left_waiting p new (pending_around x.purpose new.pending) ds ≡ left_waiting p new (pending_around d.purpose now.pending) ds =
+      let all : left_waiting p new (pending_around x.purpose new.pending) ds
+      ≡ left_waiting p new (pending_around d.purpose now.pending) ds =
       ap (λ ps. left_waiting p new ps ds) same in
       let e = waiting_fewer new now fewer (pending_around d.purpose now.pending) ds in
-      let f : suc (unanswered x) * weight p new new.pending x < weight p now now.pending d =
-      lighter (unanswered x) (breadth p) (rank p new new.pending x.row x.purpose) (rank p now now.pending d.row d.purpose)
+      let f : suc (unanswered_in x) * weight p new new.pending x < weight p now now.pending d =
+      lighter (unanswered_in x) (breadth p) (document_rank p new new.pending x.row x.purpose)
+      (document_rank p now now.pending d.row d.purpose)
       (few_asks x is.template) (omega (arith, within, low)) in
       omega (arith, all, e, f)
 
@@ -281,9 +285,10 @@ module _ (p : Plan) where
   answered_same w d x s ds less has =
       let counted : length x.answers.items ≡ length d.answers.items + 1 = ap length has.answers ∙ length-append d.answers.items (s ∷ []) in
       let asks : length x.asks.items ≡ length d.asks.items = ap (λ v. length v.items) has.asks in
-      let one_less : suc (unanswered x) ≡ unanswered d = omega (arith, counted, asks, less) in
+      let one_less : suc (unanswered_in x) ≡ unanswered_in d = omega (arith, counted, asks, less) in
       let heavy_same : weight p w w.pending x ≡ weight p w w.pending d =
-      ap (λ n. breadth p ^ rank p w w.pending n x.purpose) has.row ∙ ap (λ q. breadth p ^ rank p w w.pending d.row q) has.purpose in
+      ap (λ n. breadth p ^ document_rank p w w.pending n x.purpose) has.row
+      ∙ ap (λ q. breadth p ^ document_rank p w w.pending d.row q) has.purpose in
       let rest : left_waiting p w (pending_around x.purpose w.pending) ds ≡ left_waiting p w (pending_around d.purpose w.pending) ds =
       ap (λ q. left_waiting p w (pending_around q w.pending) ds) has.purpose in
       λ i. one_less i * heavy_same i + rest i

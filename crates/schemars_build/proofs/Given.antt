@@ -8,7 +8,7 @@ use Rattle.schemars_types.specs.Rows.{Row}
 use Rattle.schemars_types.specs.declared.contract.Contract.{Contract}
 use Rattle.schemars_types.specs.declared.contract.Contract.TheVariants.{Deserialize, Serialize}
 use Rattle.schemars_types.specs.SameContract.{is_same_contract}
-use Rattle.schemars_build.specs.Naming.{Named, Naming, is_of, name_of}
+use Rattle.schemars_build.specs.Naming.{NamedRow, Naming, is_of, name_of}
 use Rattle.schemars_build.specs.Work.{IsGiven, AreGiven, GivesNames}
 
 pub name_of-joined : (n : ℕ) (c : Contract) (old more : Naming) (name : Text) → name_of n c old ≡ Some name
@@ -48,7 +48,7 @@ same_contract-equal Deserialize Serialize h = cc
 same_contract-equal Serialize Deserialize h = cc
 
 -- no other row gets a name
-pub name_of-given_alone : (m : ℕ) (c : Contract) (old : Naming) (x : Named) (name : Text) → name_of m c old ≡ None
+pub name_of-given_alone : (m : ℕ) (c : Contract) (old : Naming) (x : NamedRow) (name : Text) → name_of m c old ≡ None
     → name_of m c (old ++ x ∷ []) ≡ Some name → (m ≡ x.row) × (c ≡ x.contract)
 name_of-given_alone m c [] x name none some = go (x.row == m) (is_same_contract x.contract c) refl refl some
   where
@@ -78,7 +78,7 @@ given-append rows old (x ∷ first) second h g =
 pub gives-none : (rows : List Row) (names : Naming) → GivesNames rows names names
 gives-none rows names = record { more = []; joined = sym (append-nil names); given = tt }
 
-pub gives-one : (rows : List Row) (names : Naming) (x : Named) (new : Naming) → IsGiven rows names x → new ≡ names ++ x ∷ []
+pub gives-one : (rows : List Row) (names : Naming) (x : NamedRow) (new : Naming) → IsGiven rows names x → new ≡ names ++ x ∷ []
     → GivesNames rows names new
 gives-one rows names x new h e = record { more = x ∷ []; joined = e; given = (h, tt) }
 

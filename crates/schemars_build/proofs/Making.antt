@@ -28,14 +28,14 @@ use Rattle.schemars_documents.specs.Describes.{without_options, are_optional}
 use Rattle.schemars_documents.specs.OfShape.{entry_template}
 use Rattle.schemars_build.specs.Naming.{name_of}
 use Rattle.schemars_build.specs.Placed.{is_pending, pending_in, is_in_place}
-use Rattle.schemars_build.specs.Work.{Plan, Work, Step, GivesNames, undone, reference_to, basis_of, without_last}
+use Rattle.schemars_build.specs.Work.{Plan, Work, Step, GivesNames, undone, reference_to, basis_of_plan, without_last}
 use Rattle.schemars_build.proofs.Given.{gives-keeps}
 use Rattle.schemars_build.specs.Reached.{AreReached}
 use Rattle.schemars_build.specs.Parts.{IsOwn, IsMade, IsPart, IsFilledIn, IsAnswer, AreAnswers}
-use Rattle.schemars_build.specs.Making.{Wanted, own, defined, flattened, asked, wanted_for, IsReply, IsBegun, IsTemplate, IsOpened, Leads}
-use Rattle.schemars_build.specs.Making.{IsInMaking, HasAnswered, IsNext, AreWaiting, Reply, answer, document, IsRepliedBy, IsGiven}
+use Rattle.schemars_build.specs.Making.{Wanted, own, defined, flattened, asked, wanted_for, IsReply, IsBegun, IsTemplate, IsOpened, ComesFrom}
+use Rattle.schemars_build.specs.Making.{IsInMaking, HasAnswered, IsNext, AreWaiting, Reply, answer, document, IsRepliedBy, IsGivenBack}
 use Rattle.schemars_build.specs.Making.{HasReplied, GoesOn, IsTaken, AreMaking, HasFirst}
-use Rattle.schemars_build.specs.Left.{rank, left_waiting, left_of_reply, left_making, left_of_turn, IsWithin, IsLess}
+use Rattle.schemars_build.specs.Left.{document_rank, left_waiting, left_of_reply, left_making, left_of_turn, IsWithin, IsLess}
 use Rattle.schemars_build.proofs.Ending.{answered_same, asking_less}
 use Rattle.schemars_build.proofs.Innermost.{last_got}
 use Rattle.schemars_build.specs.declared.build.Document.{Document}
@@ -50,11 +50,11 @@ use Rattle.schemars_build.proofs.Steps.{step_trans, step_names, step_defines, st
 
 -- ---- what leads where
 
-pub leads_at_once : (plan : Plan) (inside : Bool) (w : Work) (want : Wanted) → Leads plan inside w want w want
+pub leads_at_once : (plan : Plan) (inside : Bool) (w : Work) (want : Wanted) → ComesFrom plan inside w want w want
 leads_at_once plan inside w want = record { step = step_refl plan w; undone = refl; gives = λ new s step is. is }
 
 pub leads_trans : (plan : Plan) (inside : Bool) (a : Work) (p : Wanted) (b : Work) (q : Wanted) (c : Work) (r : Wanted)
-    → Leads plan inside a p b q → Leads plan inside b q c r → Leads plan inside a p c r
+    → ComesFrom plan inside a p b q → ComesFrom plan inside b q c r → ComesFrom plan inside a p c r
 leads_trans plan inside a p b q c r h g = record {
   step = step_trans plan a b c h.step g.step;
   undone = g.undone ∙ h.undone;
@@ -62,7 +62,7 @@ leads_trans plan inside a p b q c r h g = record {
 }
 
 pub replied_from : (plan : Plan) (inside : Bool) (old : Work) (want : Wanted) (mid : Work) (got : Wanted) (now : Work) (r : Reply)
-    → Leads plan inside old want mid got → IsRepliedBy plan inside mid got now r → IsRepliedBy plan inside old want now r
+    → ComesFrom plan inside old want mid got → IsRepliedBy plan inside mid got now r → IsRepliedBy plan inside old want now r
 replied_from plan inside old want mid got now (answer s) h is =
     (step_trans plan old mid now h.step is.0, is.1 ∙ h.undone, h.gives now s is.0 is.2)
 replied_from plan inside old want mid got now (document d) h is = record {
@@ -78,7 +78,7 @@ replied_from plan inside old want mid got now (document d) h is = record {
 
 -- a row in place
 pub leads_in_place : (plan : Plan) (inside : Bool) (old : Work) (n : ℕ) → is_in_place plan.rows plan.inlines old.pending n ≡ true
-    → Leads plan inside old (asked (part n)) old (own n)
+    → ComesFrom plan inside old (asked (part n)) old (own n)
 leads_in_place plan inside old n placed = record {
   step = step_refl plan old;
   undone = refl;
@@ -91,7 +91,7 @@ pub leads_defined : (plan : Plan) (inside : Bool) (old mid : Work) (n : ℕ) (k 
     → ((m : ℕ) (c : Contract) (q : Text) → name_of m c old.names ≡ None → name_of m c mid.names ≡ Some q → (m ≡ n) × (c ≡ plan.contract))
     → name_of n plan.contract mid.names ≡ Some k → is_in_place plan.rows plan.inlines old.pending n ≡ false
     → is_inline_at plan.rows n ≡ false → plan.root ≢ Some n → n < length plan.rows → undone mid ≡ undone old
-    → Leads plan inside old (asked (part n)) mid (defined k)
+    → ComesFrom plan inside old (asked (part n)) mid (defined k)
 leads_defined plan inside old mid n k given names alone named placed apart other known un = record {
   step = step;
   undone = un;
@@ -118,7 +118,7 @@ leads_defined plan inside old mid n k given names alone named placed apart other
 
 -- the members of a row
 pub leads_members : (plan : Plan) (inside : Bool) (old : Work) (n : ℕ) (required : Bool)
-    → Leads plan inside old (asked (members_of n required)) old
+    → ComesFrom plan inside old (asked (members_of n required)) old
     (flattened (without_options plan.rows n) (are_optional plan.rows n required))
 leads_members plan inside old n required = record {
   step = step_refl plan old;
@@ -129,7 +129,7 @@ leads_members plan inside old n required = record {
 -- ---- a document that was just opened
 
 fresh : (plan : Plan) (outside : Bool) (old : Work) (want : Wanted) (mid start : Work) (d : Document) → IsTemplate plan d
-    → d.answers.items ≡ [] → Leads plan outside old want mid (wanted_for d.row d.purpose)
+    → d.answers.items ≡ [] → ComesFrom plan outside old want mid (wanted_for d.row d.purpose)
     → IsBegun plan outside mid start d.row d.in_definition d.purpose → IsInMaking plan outside old want start d
 fresh plan outside old want mid start d template none leads begun =
     let P : List Data → Type 0 = λ ts. AreAnswers plan d.in_definition start start (map ask_of (take (length ts) d.asks.items)) ts in
@@ -144,11 +144,12 @@ fresh plan outside old want mid start d template none leads begun =
       answers = subst P (sym none) (no_answers plan d.in_definition start);
     }
 
-pub opened_reply : (plan : Plan) (outside inside : Bool) (old : Work) (want : Wanted) (mid start : Work) (n : ℕ) (p : Purpose) (d : Document)
-    → IsOpened plan inside n p d → Leads plan outside old want mid (wanted_for n p) → IsBegun plan outside mid start n inside p
+pub opened_reply : (plan : Plan) (outside inside : Bool) (old : Work) (want : Wanted) (mid start : Work) (n : ℕ) (p : Purpose)
+    (d : Document)
+    → IsOpened plan inside n p d → ComesFrom plan outside old want mid (wanted_for n p) → IsBegun plan outside mid start n inside p
     → IsInMaking plan outside old want start d
 opened_reply plan outside inside old want mid start n p d is leads begun =
-    let L : ℕ → Purpose → Type 0 = λ m q. Leads plan outside old want mid (wanted_for m q) in
+    let L : ℕ → Purpose → Type 0 = λ m q. ComesFrom plan outside old want mid (wanted_for m q) in
     let B : ℕ → Bool → Purpose → Type 0 = λ m b q. IsBegun plan outside mid start m b q in
     let leads_here : L d.row d.purpose = subst (λ m. L m d.purpose) (sym is.0) (subst (λ q. L n q) (sym is.1) leads) in
     let begun_here : B d.row d.in_definition d.purpose = subst (λ m. B m d.in_definition d.purpose) (sym is.0)
@@ -170,8 +171,8 @@ answered_making plan around before more old now outside want d e s h next is has
   };
   mid = h.mid;
   start = h.start;
-  leads = subst (λ q. Leads plan around before more h.mid (wanted_for e.row q)) (sym has.purpose)
-      (subst (λ m. Leads plan around before more h.mid (wanted_for m d.purpose)) (sym has.row) h.leads);
+  leads = subst (λ q. ComesFrom plan around before more h.mid (wanted_for e.row q)) (sym has.purpose)
+      (subst (λ m. ComesFrom plan around before more h.mid (wanted_for m d.purpose)) (sym has.row) h.leads);
   begun = subst (λ q. IsBegun plan around h.mid h.start e.row e.in_definition q) (sym has.purpose)
       (subst (λ b. IsBegun plan around h.mid h.start e.row b d.purpose) (sym has.in_definition)
       (subst (λ m. IsBegun plan around h.mid h.start m d.in_definition d.purpose) (sym has.row) h.begun));
@@ -210,7 +211,7 @@ pub asks_known : (plan : Plan) (d : Document) → IsChecked plan.rows → IsTemp
     → i < length d.asks.items → row_asked (ask_of (get_or d.asks.items i a)) < length plan.rows
 asks_known plan d checked t i a less =
     let P : List Ask → Type 0 = λ asks. All (IsAskedIn plan.rows d.row) asks in
-    let every : P (map ask_of d.asks.items) = subst P (sym t.asks) (asks_in_order (basis_of plan) d.row t.entry checked t.at) in
+    let every : P (map ask_of d.asks.items) = subst P (sym t.asks) (asks_in_order (basis_of_plan plan) d.row t.entry checked t.at) in
     let counted : length (map ask_of d.asks.items) ≡ length d.asks.items = length-map d.asks.items ask_of in
     let one = every i (ask_of a) (omega (arith, counted, less)) in
     subst (λ x. row_asked x < length plan.rows) (get_or-map ask_of d.asks.items i a (ask_of a) less) one.0
@@ -219,7 +220,7 @@ asks_known plan d checked t i a less =
 
 module _ (plan : Plan) (outside : Bool) (old : Work) (want : Wanted) (now : Work) (d : Document)
     (h : IsInMaking plan outside old want now d) (all : length d.asks.items ≤ length d.answers.items) where
-  whole : AreAnswers plan d.in_definition h.start now (asks_of (entry_template (basis_of plan) h.template.entry)) d.answers.items
+  whole : AreAnswers plan d.in_definition h.start now (asks_of (entry_template (basis_of_plan plan) h.template.entry)) d.answers.items
   whole = subst (λ asks. AreAnswers plan d.in_definition h.start now asks d.answers.items)
       (ap (map ask_of) (take_all (length d.answers.items) d.asks.items all) ∙ h.template.asks) h.answers
 
@@ -292,8 +293,8 @@ making_undone plan outside old want now d h =
 
 module _ (plan : Plan) (outside : Bool) (old : Work) (want : Wanted) (now : Work) (d : Document) (h : IsInMaking plan outside old want now d)
     (s : Data) (filled : IsFilledIn plan d.in_definition h.start now d.row s) where
-  leads_for : (p : Purpose) → d.purpose ≡ p → Leads plan outside old want h.mid (wanted_for d.row p)
-  leads_for p is = subst (λ q. Leads plan outside old want h.mid (wanted_for d.row q)) is h.leads
+  leads_for : (p : Purpose) → d.purpose ≡ p → ComesFrom plan outside old want h.mid (wanted_for d.row p)
+  leads_for p is = subst (λ q. ComesFrom plan outside old want h.mid (wanted_for d.row q)) is h.leads
 
   pub begun_for : (p : Purpose) → d.purpose ≡ p → IsBegun plan outside h.mid h.start d.row d.in_definition p
   begun_for p is = subst (λ q. IsBegun plan outside h.mid h.start d.row d.in_definition q) is h.begun
@@ -346,7 +347,7 @@ module _ (plan : Plan) (outside : Bool) (old : Work) (want : Wanted) (now : Work
       let here : IsFilledIn plan outside h.mid now d.row s = subst (λ w. IsFilledIn plan outside w now d.row s) begun.1
       (subst (λ x. IsFilledIn plan x h.start now d.row s) begun.0 filled) in
       let step : Step plan h.mid now = subst (λ w. Step plan w now) begun.1 h.step in
-      let referred : Leads plan outside h.mid (asked (content d.row)) now (asked (part d.row)) = record {
+      let referred : ComesFrom plan outside h.mid (asked (content d.row)) now (asked (part d.row)) = record {
         step = step;
         undone = un;
         gives = λ later t next one. content_referred plan outside h.mid now later d.row b s t place step next here stands
@@ -405,7 +406,7 @@ same_answer : (s t : Data) → Some s ≡ Some t → s ≡ t
 same_answer s t e = cc
 
 module _ (plan : Plan) (first : Bool) (start : Work) (all : Wanted) (now : Work) where
-  home : (outside : Bool) (old : Work) (want : Wanted) (ds : List Document) (r : Reply) (t : Data) → IsGiven r ds [] (Some t)
+  home : (outside : Bool) (old : Work) (want : Wanted) (ds : List Document) (r : Reply) (t : Data) → IsGivenBack r ds [] (Some t)
       → AreWaiting plan first start all outside old want ds → IsRepliedBy plan outside old want now r
       → Step plan start now × IsReply plan first start now all t
   home outside old want ds (answer u) t given waiting replied =
@@ -437,7 +438,7 @@ module _ (plan : Plan) (first : Bool) (start : Work) (all : Wanted) (now : Work)
       not_none : Some s ≡ None → ⊥
       not_none e = cc
 
-  going : (outside : Bool) (old : Work) (want : Wanted) (around es : List Document) (r : Reply) → IsGiven r around es None
+  going : (outside : Bool) (old : Work) (want : Wanted) (around es : List Document) (r : Reply) → IsGivenBack r around es None
       → AreWaiting plan first start all outside old want around → IsRepliedBy plan outside old want now r
       → AreMaking plan first start all now es
   going outside old want around es (answer s) given waiting replied = absurd (not_none given.0)
@@ -456,7 +457,8 @@ module _ (plan : Plan) (first : Bool) (start : Work) (all : Wanted) (now : Work)
   }
 
   -- the first document waits for an answer that is at hand
-  waits : (outside : Bool) (old : Work) (want : Wanted) (around es : List Document) (r : Reply) (t : Data) → IsGiven r around es (Some t)
+  waits : (outside : Bool) (old : Work) (want : Wanted) (around es : List Document) (r : Reply) (t : Data)
+      → IsGivenBack r around es (Some t)
       → AreWaiting plan first start all outside old want around → IsRepliedBy plan outside old want now r
       → AreWaiting plan first start all outside old want es × IsRepliedBy plan outside old want now (answer t)
   waits outside old want around es (answer u) t given waiting replied = (
@@ -509,14 +511,14 @@ making_first plan first start all now es h = subst (λ xs. HasFirst (IsTemplate 
 
 -- ---- a call has replied
 
-pub turn_left : (p : Plan) (w : Work) (r : Reply) (ds es : List Document) (o : Option Data) → IsGiven r ds es o
+pub turn_left : (p : Plan) (w : Work) (r : Reply) (ds es : List Document) (o : Option Data) → IsGivenBack r ds es o
     → left_of_turn p w es o ≡ left_of_reply p w r ds
 turn_left p w (answer s) ds es o given = ap (λ x. left_of_turn p w es x) given.0 ∙ ap (left_waiting p w w.pending) given.1
 turn_left p w (document d) ds es o given = ap (λ x. left_of_turn p w es x) given.0 ∙ ap (left_making p w) given.1
 
 -- what leads to what a call has replied to
 pub replied_through : (plan : Plan) (inside : Bool) (old : Work) (want : Wanted) (mid : Work) (got : Wanted) (ds : List Document)
-    (L M : Reply → Type 0) (now : Work) (es : List Document) (o : Option Data) → Leads plan inside old want mid got
+    (L M : Reply → Type 0) (now : Work) (es : List Document) (o : Option Data) → ComesFrom plan inside old want mid got
     → ((r : Reply) → L r → M r) → HasReplied plan inside mid got ds L now es o → HasReplied plan inside old want ds M now es o
 replied_through plan inside old want mid got ds L M now es o leads like h = record {
   reply = h.reply;
@@ -554,7 +556,7 @@ module _ (plan : Plan) (first : Bool) (start : Work) (all : Wanted) (now new : W
         replied = h.replied;
       }
 
-  pub asking_goes_less : (inside : Bool) (a : Ask) (k : ℕ) → k < rank plan now now.pending at.inner.row at.inner.purpose
+  pub asking_goes_less : (inside : Bool) (a : Ask) (k : ℕ) → k < document_rank plan now now.pending at.inner.row at.inner.purpose
       → HasReplied plan inside now (asked a) es (IsWithin plan k new) new fs o → left_of_turn plan new fs o < left_making plan now es
   asking_goes_less inside a k low h =
       let P : List Document → Type 0 = λ xs. left_of_reply plan new h.reply xs < left_making plan now xs in

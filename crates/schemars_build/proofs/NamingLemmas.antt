@@ -22,8 +22,8 @@ use Rattle.schemars_types.specs.declared.contract.Contract.TheVariants.{Deserial
 use Rattle.schemars_build.specs.declared.names.Owner.{Owner}
 use Rattle.schemars_build.specs.contracts.names.OwnerPartialEq.TheImpl as owner_eq
 use Rattle.schemars_types.specs.SameContract.{is_same_contract}
-use Rattle.schemars_build.specs.Naming.{Named, Naming, is_of, name_of, is_used, candidate, IsOneToOne}
-use Rattle.schemars_build.specs.Owners.{named, naming_of}
+use Rattle.schemars_build.specs.Naming.{NamedRow, Naming, is_of, name_of, is_used, candidate, IsOneToOne}
+use Rattle.schemars_build.specs.Owners.{named_row, naming_of}
 
 -- ---- tests
 
@@ -37,10 +37,11 @@ abbrev pub is_owner : ℕ → Contract → Owner → Bool
 is_owner n contract = (owner_eq.ghosts).eq (record { row = n; contract = contract })
 
 -- an owner is equal to another exactly where a name of it is that row's under that contract
-pub same_test : (n : ℕ) (contract : Contract) (o : Owner) (s : String Global) → is_owner n contract o ≡ is_of n contract (named o s)
+pub same_test : (n : ℕ) (contract : Contract) (o : Owner) (s : String Global) → is_owner n contract o ≡ is_of n contract (named_row o s)
 same_test n contract o s = by contract o.contract
   where
-    by : (c d : Contract) → is_owner n c (record { row = o.row; contract = d }) ≡ is_of n c (named (record { row = o.row; contract = d }) s)
+    by : (c d : Contract) → is_owner n c (record { row = o.row; contract = d })
+        ≡ is_of n c (named_row (record { row = o.row; contract = d }) s)
     by Deserialize Deserialize = ap (λ b. b && true) (eqb_comm n o.row)
     by Deserialize Serialize = ap (λ b. b && false) (eqb_comm n o.row)
     by Serialize Deserialize = ap (λ b. b && false) (eqb_comm n o.row)
@@ -65,20 +66,20 @@ length-naming_of (o ∷ owners) (s ∷ given) same = let rest : length owners �
     ap suc (length-naming_of owners given rest)
 
 pub naming_of-push : (owners : List Owner) (given : List (String Global)) (o : Owner) (s : String Global) → length owners ≡ length given
-    → naming_of (owners ++ o ∷ []) (given ++ s ∷ []) ≡ naming_of owners given ++ named o s ∷ []
+    → naming_of (owners ++ o ∷ []) (given ++ s ∷ []) ≡ naming_of owners given ++ named_row o s ∷ []
 naming_of-push [] [] o s same = refl
 naming_of-push [] (t ∷ given) o s same = absurd (omega arith)
 naming_of-push (p ∷ owners) [] o s same = absurd (omega arith)
 naming_of-push (p ∷ owners) (t ∷ given) o s same =
     let rest : length owners ≡ length given = omega arith in
-    ap (λ names. named p t ∷ names) (naming_of-push owners given o s rest)
+    ap (λ names. named_row p t ∷ names) (naming_of-push owners given o s rest)
 
 pub naming_of-take : (n : ℕ) (owners : List Owner) (given : List (String Global))
     → naming_of (take n owners) (take n given) ≡ take n (naming_of owners given)
 naming_of-take zero owners given = refl
 naming_of-take (suc n) [] given = refl
 naming_of-take (suc n) (o ∷ owners) [] = refl
-naming_of-take (suc n) (o ∷ owners) (s ∷ given) = ap (λ names. named o s ∷ names) (naming_of-take n owners given)
+naming_of-take (suc n) (o ∷ owners) (s ∷ given) = ap (λ names. named_row o s ∷ names) (naming_of-take n owners given)
 
 -- a row that has no name is no owner
 pub no_owner : (n : ℕ) (contract : Contract) (owners : List Owner) (given : List (String Global)) → length owners ≡ length given
@@ -87,10 +88,10 @@ no_owner n contract [] given same none = refl
 no_owner n contract (o ∷ owners) [] same none = absurd (omega arith)
 no_owner n contract (o ∷ owners) (s ∷ given) same none =
     let rest : length owners ≡ length given = omega arith in
-    by (is_of n contract (named o s)) refl none (no_owner n contract owners given rest)
+    by (is_of n contract (named_row o s)) refl none (no_owner n contract owners given rest)
   where
-    by : (b : Bool) → is_of n contract (named o s) ≡ b → option_map (λ x. x.name)
-        (cond b (Some (named o s)) (find (is_of n contract) (naming_of owners given))) ≡ None
+    by : (b : Bool) → is_of n contract (named_row o s) ≡ b → option_map (λ x. x.name)
+        (cond b (Some (named_row o s)) (find (is_of n contract) (naming_of owners given))) ≡ None
         → (name_of n contract (naming_of owners given) ≡ None → list_any (is_owner n contract) owners ≡ false)
         → list_any (is_owner n contract) (o ∷ owners) ≡ false
     by true e h rest = cc
@@ -109,7 +110,7 @@ same_contract Deserialize Serialize e = absurd (true≢false (sym e))
 same_contract Serialize Deserialize e = absurd (true≢false (sym e))
 same_contract Serialize Serialize e = refl
 
-whose : (n : ℕ) (contract : Contract) (x : Named) → is_of n contract x ≡ true → (x.row ≡ n) × (x.contract ≡ contract)
+whose : (n : ℕ) (contract : Contract) (x : NamedRow) → is_of n contract x ≡ true → (x.row ≡ n) × (x.contract ≡ contract)
 whose n contract x e =
     let (row, same) = both_true _ _ e in
     ((Decides-eqb x.row n).0 row, same_contract x.contract contract same)
@@ -139,7 +140,7 @@ none_among : (q : Text) (ts : List Text) → AllByRecursion (λ t. bytes_eq q t 
 none_among q [] none = refl
 none_among q (t ∷ ts) none = ap (λ b. b || list_any (bytes_eq q) ts) none.0 ∙ none_among q ts none.1
 
-only_once : (x : Named) (names : Naming) → IsDistinct bytes_eq (texts (x ∷ names)) → (n : ℕ) (contract : Contract)
+only_once : (x : NamedRow) (names : Naming) → IsDistinct bytes_eq (texts (x ∷ names)) → (n : ℕ) (contract : Contract)
     → name_of n contract names ≡ Some x.name → ⊥
 only_once x names distinct n contract e =
     true≢false (sym (name_among n contract names x.name e) ∙ none_among x.name (texts names)

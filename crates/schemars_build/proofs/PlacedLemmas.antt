@@ -10,7 +10,7 @@ use Rattle.schemars_types.specs.declared.contract.Contract.{Contract}
 use Rattle.schemars_types.specs.declared.contract.Contract.TheVariants.{Deserialize, Serialize}
 use Rattle.schemars_build.specs.declared.names.Owner.{Owner}
 use Rattle.schemars_build.specs.Naming.{is_of, name_of}
-use Rattle.schemars_build.specs.Owners.{named, naming_of, ArePlaced}
+use Rattle.schemars_build.specs.Owners.{named_row, naming_of, ArePlaced}
 use Rattle.schemars_build.proofs.Elements.{at_in_take, last_or_before, never_among}
 use Rattle.schemars_build.proofs.NamingLemmas.{is_owner, same_test, both_true}
 
@@ -40,9 +40,9 @@ module _ (n : ℕ) (c : Contract) where
   absent [] given same h = refl
   absent (o ∷ owners) [] same h = absurd (omega arith)
   absent (o ∷ owners) (s ∷ given) same h =
-      by (is_of n c (named o s)) refl (absent owners given (omega arith) (λ i p at is. h (suc i) p at is))
+      by (is_of n c (named_row o s)) refl (absent owners given (omega arith) (λ i p at is. h (suc i) p at is))
     where
-      by : (b : Bool) → is_of n c (named o s) ≡ b → name_of n c (naming_of owners given) ≡ None
+      by : (b : Bool) → is_of n c (named_row o s) ≡ b → name_of n c (naming_of owners given) ≡ None
           → name_of n c (naming_of (o ∷ owners) (s ∷ given)) ≡ None
       by true is rest = absurd (h zero o refl (same_test n c o s ∙ is))
       by false is rest = rw is rest
@@ -55,13 +55,13 @@ module _ (n : ℕ) (c : Contract) where
   found_at (p ∷ owners) [] same i o at is one = absurd (omega arith)
   found_at (p ∷ owners) (s ∷ given) same zero o at is one =
       let here : is_owner n c p ≡ true = (let e : p ≡ o = cc in ap (is_owner n c) e ∙ is) in
-      let test : is_of n c (named p s) ≡ true = sym (same_test n c p s) ∙ here in
+      let test : is_of n c (named_row p s) ≡ true = sym (same_test n c p s) ∙ here in
       rw test refl
   found_at (p ∷ owners) (s ∷ given) same (suc j) o at is one =
-      by (is_of n c (named p s)) refl
+      by (is_of n c (named_row p s)) refl
       (found_at owners given (omega arith) j o at is (λ k q there owns. let e = one (suc k) q there owns in omega (arith, e)))
     where
-      by : (b : Bool) → is_of n c (named p s) ≡ b → name_of n c (naming_of owners given) ≡ option_map string_bytes (slice_get given j)
+      by : (b : Bool) → is_of n c (named_row p s) ≡ b → name_of n c (naming_of owners given) ≡ option_map string_bytes (slice_get given j)
           → name_of n c (naming_of (p ∷ owners) (s ∷ given)) ≡ option_map string_bytes (slice_get given j)
       by true test rest = let e = one zero p refl (same_test n c p s ∙ test) in absurd (omega (arith, e))
       by false test rest = rw test rest

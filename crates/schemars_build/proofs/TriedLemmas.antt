@@ -13,7 +13,7 @@ use Rattle.std.proofs.lemmas.List.Folds.{list_any-append}
 use Rattle.std.proofs.lemmas.Map.Text.{hash_map_updates_text}
 use Rattle.std.proofs.lemmas.Slice.Eq.{bytes_eq-Decides}
 use Rattle.schemars_schema.specs.Json.{Text}
-use Rattle.schemars_build.specs.Naming.{Named, Naming, is_used, candidate}
+use Rattle.schemars_build.specs.Naming.{NamedRow, Naming, is_used, candidate}
 use Rattle.schemars_build.specs.Owners.{AreUsed, IsFirst, IsNoted}
 
 -- ---- more names
@@ -24,13 +24,13 @@ used_more q names more h = list_any-append (λ x. bytes_eq x.name q) names more 
 itself : (q : Text) → bytes_eq q q ≡ true
 itself q = (bytes_eq-Decides q q).1 refl
 
-pub used_now : (q : Text) (names : Naming) (x : Named) → x.name ≡ q → is_used q (names ++ x ∷ []) ≡ true
+pub used_now : (q : Text) (names : Naming) (x : NamedRow) → x.name ≡ q → is_used q (names ++ x ∷ []) ≡ true
 used_now q names x same =
     let here : is_used q (x ∷ []) ≡ true = ap (λ y. bytes_eq y q || false) same ∙ ap (λ b. b || false) (itself q) in
     list_any-append (λ y. bytes_eq y.name q) names (x ∷ []) ∙ (ap (λ b. is_used q names || b) here ∙ or-true (is_used q names))
 
 -- the candidates up to the one that is given
-pub used_with : (names : Naming) (base : Text) (tries : ℕ) (name : Text) (x : Named) → IsFirst names base tries name → x.name ≡ name
+pub used_with : (names : Naming) (base : Text) (tries : ℕ) (name : Text) (x : NamedRow) → IsFirst names base tries name → x.name ≡ name
     → AreUsed (names ++ x ∷ []) base (tries + 1)
 used_with names base tries name x h same j less = by (nat_eq j tries) refl
   where

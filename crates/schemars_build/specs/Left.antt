@@ -5,7 +5,7 @@ use Rattle.serde_json.specs.Data.{Data}
 use Rattle.schemars_types.specs.Rows.{Row, entry_at}
 use Rattle.schemars_types.specs.Edges.{height}
 use Rattle.schemars_build.specs.Placed.{pending_in}
-use Rattle.schemars_build.specs.Work.{Plan, Work, basis_of, without_last}
+use Rattle.schemars_build.specs.Work.{Plan, Work, basis_of_plan, without_last}
 use Rattle.schemars_documents.specs.Template.{Ask, part, members_of, content, asks_of}
 use Rattle.schemars_documents.specs.OfShape.{entry_template}
 use Rattle.schemars_documents.specs.Describes.{without_options}
@@ -49,7 +49,7 @@ left_of_asked p w (content n) = left_of_content p w n
 
 -- how many rows the document of row n asks
 abbrev pub asks_at : Plan → ℕ → ℕ
-asks_at p n = option_map_or (λ e. length (asks_of (entry_template (basis_of p) e))) (entry_at p.rows n) 0
+asks_at p n = option_map_or (λ e. length (asks_of (entry_template (basis_of_plan p) e))) (entry_at p.rows n) 0
 
 abbrev pub sum_below : (ℕ → ℕ) → ℕ → ℕ
 sum_below f zero = 0
@@ -60,18 +60,18 @@ unfoldable pub breadth : Plan → ℕ
 breadth p = sum_below (asks_at p) (length p.rows) + 2
 
 -- a document that is made while these rows are pending
-abbrev pub rank : Plan → Work → List ℕ → ℕ → Purpose → ℕ
-rank p w pending n (purpose.Own entered) = left_of_filled p (record w { pending = pending }) n
-rank p w pending n (purpose.Definition name entered) = left_of_filled p (record w { pending = pending }) n
-rank p w pending n (purpose.Members optional) = left_of_filled p (record w { pending = pending }) n
-rank p w pending n purpose.Content = left_of_content p (record w { pending = pending }) n
+abbrev pub document_rank : Plan → Work → List ℕ → ℕ → Purpose → ℕ
+document_rank p w pending n (purpose.Own entered) = left_of_filled p (record w { pending = pending }) n
+document_rank p w pending n (purpose.Definition name entered) = left_of_filled p (record w { pending = pending }) n
+document_rank p w pending n (purpose.Members optional) = left_of_filled p (record w { pending = pending }) n
+document_rank p w pending n purpose.Content = left_of_content p (record w { pending = pending }) n
 
 abbrev pub weight : Plan → Work → List ℕ → Document → ℕ
-weight p w pending d = breadth p ^ rank p w pending d.row d.purpose
+weight p w pending d = breadth p ^ document_rank p w pending d.row d.purpose
 
 -- the rows that have not answered in it
-abbrev pub unanswered : Document → ℕ
-unanswered d = length d.asks.items - length d.answers.items
+abbrev pub unanswered_in : Document → ℕ
+unanswered_in d = length d.asks.items - length d.answers.items
 
 -- the rows that are pending around it
 abbrev pub pending_around : Purpose → List ℕ → List ℕ
@@ -82,11 +82,11 @@ pending_around purpose.Content pending = pending
 
 abbrev pub left_waiting : Plan → Work → List ℕ → List Document → ℕ
 left_waiting p w pending [] = 0
-left_waiting p w pending (d ∷ ds) = unanswered d * weight p w pending d + left_waiting p w (pending_around d.purpose pending) ds
+left_waiting p w pending (d ∷ ds) = unanswered_in d * weight p w pending d + left_waiting p w (pending_around d.purpose pending) ds
 
 -- with a document that goes on
 abbrev pub left_going : Plan → Work → Document → List Document → ℕ
-left_going p w d ds = suc (unanswered d) * weight p w w.pending d + left_waiting p w (pending_around d.purpose w.pending) ds
+left_going p w d ds = suc (unanswered_in d) * weight p w w.pending d + left_waiting p w (pending_around d.purpose w.pending) ds
 
 abbrev pub left_of_reply : Plan → Work → Reply → List Document → ℕ
 left_of_reply p w (answer s) ds = left_waiting p w w.pending ds
@@ -104,7 +104,7 @@ left_of_turn p w es None = left_making p w es
 -- a reply that has less to go than this
 abbrev pub IsWithin : Plan → ℕ → Work → Reply → Type 0
 IsWithin p k w (answer s) = Unit {0}
-IsWithin p k w (document d) = rank p w w.pending d.row d.purpose ≤ k
+IsWithin p k w (document d) = document_rank p w w.pending d.row d.purpose ≤ k
 
 -- a reply with less to go than a document that was being made
 abbrev pub IsLess : Plan → Work → Document → List Document → Work → Reply → Type 0

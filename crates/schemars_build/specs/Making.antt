@@ -14,7 +14,7 @@ use Rattle.schemars_documents.specs.declared.template.Template.{Template}
 use Rattle.schemars_documents.specs.OfShape.{entry_template}
 use Rattle.schemars_build.specs.Naming.{name_of}
 use Rattle.schemars_build.specs.Placed.{is_pending, pending_in}
-use Rattle.schemars_build.specs.Work.{Plan, Work, Step, undone, reference_to, basis_of}
+use Rattle.schemars_build.specs.Work.{Plan, Work, Step, undone, reference_to, basis_of_plan}
 use Rattle.schemars_build.specs.Missing.{row_asked}
 use Rattle.schemars_build.specs.Parts.{IsOwn, IsMade, IsFilledIn, IsAnswer, AreAnswers}
 use Rattle.schemars_build.specs.declared.build.Document.{Document}
@@ -82,18 +82,19 @@ pub record IsTemplate (plan : Plan) (d : Document) : Type 0 where
   pub known : d.row < length plan.rows
   pub entry : Entry
   pub at : entry_at plan.rows d.row ≡ Some entry
-  pub template : template_view d.template ≡ entry_template (basis_of plan) entry
-  pub asks : map ask_of d.asks.items ≡ asks_of (entry_template (basis_of plan) entry)
+  pub template : template_view d.template ≡ entry_template (basis_of_plan plan) entry
+  pub asks : map ask_of d.asks.items ≡ asks_of (entry_template (basis_of_plan plan) entry)
 
 abbrev pub IsTemplateAt : Plan → ℕ → Template → Type 0
-IsTemplateAt plan n t = (entry : Entry) × (entry_at plan.rows n ≡ Some entry) × (template_view t ≡ entry_template (basis_of plan) entry)
+IsTemplateAt plan n t = (entry : Entry) × (entry_at plan.rows n ≡ Some entry)
+    × (template_view t ≡ entry_template (basis_of_plan plan) entry)
 
 -- a document of which nothing has been answered
 abbrev pub IsOpened : Plan → Bool → ℕ → Purpose → Document → Type 0
 IsOpened plan inside n p d = (d.row ≡ n) × (d.purpose ≡ p) × (d.in_definition ≡ inside) × (d.answers.items ≡ []) × IsTemplate plan d
 
 -- what is wanted at `old` is given by what is got, later on, of what is wanted at `mid`
-pub record Leads (plan : Plan) (inside : Bool) (old : Work) (want : Wanted) (mid : Work) (got : Wanted) : Type 0 where
+pub record ComesFrom (plan : Plan) (inside : Bool) (old : Work) (want : Wanted) (mid : Work) (got : Wanted) : Type 0 where
   pub step : Step plan old mid
   pub undone : undone mid ≡ undone old
   pub gives : (new : Work) (s : Data) → Step plan mid new → IsReply plan inside mid new got s → IsReply plan inside old new want s
@@ -103,7 +104,7 @@ pub record IsInMaking (plan : Plan) (outside : Bool) (old : Work) (want : Wanted
   pub template : IsTemplate plan d
   pub mid : Work
   pub start : Work
-  pub leads : Leads plan outside old want mid (wanted_for d.row d.purpose)
+  pub leads : ComesFrom plan outside old want mid (wanted_for d.row d.purpose)
   pub begun : IsBegun plan outside mid start d.row d.in_definition d.purpose
   pub step : Step plan start now
   pub undone : undone now ≡ undone start
@@ -155,27 +156,29 @@ IsRepliedBy plan outside old want now (answer s) =
     × IsReply plan outside old now want s
 IsRepliedBy plan outside old want now (document d) = IsInMaking plan outside old want now d
 
--- a reply where documents wait: an answer stands apart from them, and a document becomes the first of them
-abbrev pub IsGiven : Reply → List Document → List Document → Option Data → Type 0
-IsGiven (answer s) ds es o = (o ≡ Some s) × (es ≡ ds)
-IsGiven (document d) ds es o = (o ≡ None) × (es ≡ d ∷ ds)
+-- a reply where documents wait: an answer is apart from them, and a document becomes the first of them
+abbrev pub IsGivenBack : Reply → List Document → List Document → Option Data → Type 0
+IsGivenBack (answer s) ds es o = (o ≡ Some s) × (es ≡ ds)
+IsGivenBack (document d) ds es o = (o ≡ None) × (es ≡ d ∷ ds)
 
 -- there is a reply like that to what is wanted
-pub record HasReplied (plan : Plan) (outside : Bool) (old : Work) (want : Wanted) (ds : List Document) (IsLike : Reply → Type 0) (now : Work)
+pub record HasReplied (plan : Plan) (outside : Bool) (old : Work) (want : Wanted) (ds : List Document) (IsLike : Reply → Type 0)
+    (now : Work)
     (es : List Document) (o : Option Data) : Type 0 where
   pub reply : Reply
-  pub given : IsGiven reply ds es o
+  pub given : IsGivenBack reply ds es o
   pub replied : IsRepliedBy plan outside old want now reply
   pub is_like : IsLike reply
 
 -- a reply to what is waited for
-pub record GoesOn (plan : Plan) (first : Bool) (start : Work) (all : Wanted) (now : Work) (es : List Document) (o : Option Data) : Type 0 where
+pub record GoesOn (plan : Plan) (first : Bool) (start : Work) (all : Wanted) (now : Work) (es : List Document)
+    (o : Option Data) : Type 0 where
   pub outside : Bool
   pub old : Work
   pub want : Wanted
   pub around : List Document
   pub reply : Reply
-  pub given : IsGiven reply around es o
+  pub given : IsGivenBack reply around es o
   pub waiting : AreWaiting plan first start all outside old want around
   pub replied : IsRepliedBy plan outside old want now reply
 

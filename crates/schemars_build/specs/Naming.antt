@@ -7,16 +7,16 @@ use Rattle.schemars_schema.specs.Json.{Text}
 use Rattle.schemars_types.specs.declared.contract.Contract.{Contract}
 use Rattle.schemars_types.specs.SameContract.{is_same_contract}
 
-pub record Named : Type 0 where
+pub record NamedRow : Type 0 where
   pub row : ℕ
   pub contract : Contract
   pub name : Text
 
 -- in the order in which the names were given
 abbrev pub Naming : Type 0
-Naming = List Named
+Naming = List NamedRow
 
-abbrev pub is_of : ℕ → Contract → Named → Bool
+abbrev pub is_of : ℕ → Contract → NamedRow → Bool
 is_of n contract x = (x.row == n) && is_same_contract x.contract contract
 
 -- the name of row n under this contract

@@ -8,16 +8,16 @@ use Rattle.schemars_types.specs.declared.contract.Contract.{Contract}
 use Rattle.schemars_types.specs.declared.contract.Contract.TheVariants.{Deserialize, Serialize}
 use Rattle.schemars_build.specs.declared.names.Places.{Places}
 use Rattle.schemars_build.specs.declared.names.Owner.{Owner}
-use Rattle.schemars_build.specs.Naming.{Named, Naming, is_used, candidate, IsFirstUnused}
+use Rattle.schemars_build.specs.Naming.{NamedRow, Naming, is_used, candidate, IsFirstUnused}
 
-abbrev pub named : Owner → String Global → Named
-named o s = record { row = o.row; contract = o.contract; name = string_bytes s }
+abbrev pub named_row : Owner → String Global → NamedRow
+named_row o s = record { row = o.row; contract = o.contract; name = string_bytes s }
 
 -- each owner has the name of its place
 abbrev pub naming_of : List Owner → List (String Global) → Naming
 naming_of [] given = []
 naming_of (o ∷ owners) [] = []
-naming_of (o ∷ owners) (s ∷ given) = named o s ∷ naming_of owners given
+naming_of (o ∷ owners) (s ∷ given) = named_row o s ∷ naming_of owners given
 
 -- ---- places
 
@@ -26,8 +26,8 @@ place_for Deserialize p = p.deserialize
 place_for Serialize p = p.serialize
 
 -- the place that is noted for row n under this contract
-abbrev pub place_of : ℕ → Contract → List Places → Option ℕ
-place_of n c ps = option_and_then (place_for c) (slice_get ps n)
+abbrev pub place_of_owner : ℕ → Contract → List Places → Option ℕ
+place_of_owner n c ps = option_and_then (place_for c) (slice_get ps n)
 
 -- the place of each owner is noted; what is noted for others may be anything
 abbrev pub ArePlaced : List Owner → (ℕ → Contract → Option ℕ) → Type 0
@@ -56,5 +56,5 @@ IsNoted old base count new = (other : Text) (n : ℕ) → get_by_text new other 
 pub record IsHeld {S : Type 0} (owners : List Owner) (given : List (String Global)) (places : List Places)
     (tried : HashMap (String Global) ℕ S) : Type 0 where
   pub same : length owners ≡ length given
-  pub placed : ArePlaced owners (λ n c. place_of n c places)
+  pub placed : ArePlaced owners (λ n c. place_of_owner n c places)
   pub used : (base : Text) (count : ℕ) → get_by_text tried base ≡ Some count → AreUsed (naming_of owners given) base count

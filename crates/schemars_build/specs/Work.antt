@@ -10,12 +10,12 @@ use Rattle.schemars_schema.specs.Encoding.{encoded}
 use Rattle.schemars_types.specs.Rows.{Row, name_at}
 use Rattle.schemars_types.specs.Edges.{is_inline_at}
 use Rattle.schemars_types.specs.declared.contract.Contract.{Contract}
-use Rattle.schemars_build.specs.Naming.{Named, Naming, name_of, IsFirstUnused}
+use Rattle.schemars_build.specs.Naming.{NamedRow, Naming, name_of, IsFirstUnused}
 use Rattle.schemars_documents.specs.Basis.{Basis}
 use Rattle.schemars_build.specs.Placed.{IsDocument}
 
--- what stays the same during a call: the table, whose values the documents are for, whether the variants of untagged enums have titles,
--- whether rows are inlined, where the definitions stand, and the row whose root document is made
+-- what stays the same during a call: the table, the contract, whether the variants of untagged enums have titles,
+-- whether rows are inlined, where the definitions are, and the row whose root document is made
 pub record Plan : Type 0 where
   pub rows : List Row
   pub contract : Contract
@@ -44,12 +44,12 @@ IsKey k ms = (d : Data) × (get_member k ms ≡ Some d)
 abbrev pub reference_to : Text → Text → Text
 reference_to path name = 35 ∷ (path ++ 47 ∷ encoded name)
 
--- row n stands in the table, and is not written in place
+-- row n is in the table, and is not written in place
 abbrev pub StandsApart : List Row → ℕ → Type 0
 StandsApart rows n = (n < length rows) × (is_inline_at rows n ≡ false)
 
 -- a row that is not written in place: the root by `#` alone, where that is free or has been met; another by the name
--- under which its definition stands
+-- of its definition
 abbrev pub Refers : Plan → Bool → Work → ℕ → Text → Type 0
 Refers plan free w n r =
     ((plan.root ≡ Some n) × (free || w.meets_root ≡ true) × (r ≡ codes "#") × StandsApart plan.rows n)
@@ -60,8 +60,8 @@ Refers plan free w n r =
 -- ---- definitions
 
 -- what the documents are made from
-abbrev pub basis_of : Plan → Basis
-basis_of plan = record { rows = plan.rows; contract = plan.contract; titles = plan.titles }
+abbrev pub basis_of_plan : Plan → Basis
+basis_of_plan plan = record { rows = plan.rows; contract = plan.contract; titles = plan.titles }
 
 -- d is the document of the row of this name, made while some rows were pending
 pub record IsDefinition (plan : Plan) (w : Work) (name : Text) (d : Data) : Type 0 where
@@ -69,7 +69,7 @@ pub record IsDefinition (plan : Plan) (w : Work) (name : Text) (d : Data) : Type
   pub is_named : name_of row plan.contract w.names ≡ Some name
   pub is_text : IsUtf8 name
   pub pending : List ℕ
-  pub document : IsDocument (basis_of plan) plan.inlines (Refers plan false w) pending row d
+  pub document : IsDocument (basis_of_plan plan) plan.inlines (Refers plan false w) pending row d
 
 abbrev pub AreDefinitions : Plan → Work → Type 0
 AreDefinitions plan w = (name : Text) (d : Data) → get_member name w.definitions ≡ Some d → IsDefinition plan w name d
@@ -77,21 +77,21 @@ AreDefinitions plan w = (name : Text) (d : Data) → get_member name w.definitio
 -- ---- what a part of a call adds
 
 -- a row without a name gets the first of its candidates that is not used
-pub record IsGiven (rows : List Row) (names : Naming) (x : Named) : Type 0 where
+pub record IsGiven (rows : List Row) (names : Naming) (x : NamedRow) : Type 0 where
   pub is_new : name_of x.row x.contract names ≡ None
   pub is_first : IsFirstUnused names (name_at rows x.row) x.name
 
-abbrev pub AreGiven : List Row → Naming → List Named → Type 0
+abbrev pub AreGiven : List Row → Naming → List NamedRow → Type 0
 AreGiven rows names [] = Unit {0}
 AreGiven rows names (x ∷ more) = IsGiven rows names x × AreGiven rows (names ++ x ∷ []) more
 
--- names join those that are there
+-- names are added to those that are there
 pub record GivesNames (rows : List Row) (old new : Naming) : Type 0 where
-  pub more : List Named
+  pub more : List NamedRow
   pub joined : new ≡ old ++ more
   pub given : AreGiven rows old more
 
--- d joins as a definition, which was made while these rows were pending, and perhaps more
+-- d is added as a definition, which was made while these rows were pending, and perhaps more
 pub record IsAdded (plan : Plan) (outer : List ℕ) (w : Work) (name : Text) (d : Data) : Type 0 where
   pub definition : IsDefinition plan w name d
   pub more : List ℕ

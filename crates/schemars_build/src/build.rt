@@ -14,7 +14,7 @@ ghost use Rattle.schemars_build.specs.Missing.{row_asked};
 ghost use Rattle.schemars_build.specs.Parts.{IsAnswer, IsOwn};
 ghost use Rattle.schemars_build.specs.Making.{Wanted, own, asked, wanted, row_wanted, IsReply};
 ghost use Rattle.schemars_build.specs.Making.{IsTemplate, IsTemplateAt, IsOpened, IsInMaking};
-ghost use Rattle.schemars_build.specs.Making.{document, IsGiven, HasReplied, GoesOn, IsTaken};
+ghost use Rattle.schemars_build.specs.Making.{document, IsGivenBack, HasReplied, GoesOn, IsTaken};
 ghost use Rattle.schemars_build.specs.Making.{HasFirst, AreMaking};
 ghost use Rattle.schemars_build.specs.Left.{left_of_asked, left_of_own_document, left_of_part};
 ghost use Rattle.schemars_build.specs.Left.{left_making, left_of_turn, IsWithin, IsLess};
@@ -40,7 +40,7 @@ pub struct Plan<'t> {
     pub titles: bool,
     /// whether rows are written in place wherever they are not pending
     pub inlines: bool,
-    /// where the definitions stand
+    /// where the definitions are
     pub path: &'t str,
     /// the row whose root document is made
     pub root: Option<TypeNo>,
@@ -56,7 +56,7 @@ enum Purpose {
     Definition(String, bool),
     // for the members of the row, which may be missing or not
     Members(bool),
-    // for what stands beside a tag
+    // for the content beside a tag
     Content,
 }
 
@@ -65,7 +65,7 @@ enum Purpose {
 struct Document<'t> {
     row: TypeNo,
     purpose: Purpose,
-    // whether it stands in a definition
+    // whether it is in a definition
     in_definition: bool,
     template: Template<'t>,
     asks: Vec<Ask>,
@@ -117,8 +117,8 @@ pub fn answer(
     Ok(answer)
 }
 
-// Makes what is asked. The documents that are being made stand in a list, the innermost last: each
-// waits for the one after it, and no call stands in another one for it.
+// Makes what is asked. The documents that are being made are in a list, the innermost last: each
+// waits for the one after it, and no call waits in another call for it.
 fn made(
     alloc: Global,
     plan: &Plan<'_>,
@@ -217,8 +217,8 @@ fn begun<'t>(
     }
 }
 
-// Replies to what is asked of a row: with an answer, or with a document that joins those that are
-// being made.
+// Replies to what is asked of a row: with an answer, or with a document that is added to those that
+// are being made.
 fn reply_to<'t>(
     alloc: Global,
     plan: &Plan<'t>,
@@ -287,8 +287,8 @@ fn own<'t>(
     Ok(None)
 }
 
-// Replies with row `n` as a part: with a reference to its definition or to the root, or with what is
-// to stand in its place or in its definition.
+// Replies with row `n` as a part: with a reference to its definition or to the root, or with what
+// is to stand in its place or in its definition.
 fn part<'t>(
     alloc: Global,
     plan: &Plan<'t>,
@@ -331,7 +331,7 @@ fn part<'t>(
     )
 }
 
-// Whether row `n` stands in place where it is a part.
+// Whether row `n` is in place where it is a part.
 fn is_in_place(plan: &Plan<'_>, work: &Work, n: TypeNo) -> bool
     ensures { result ≡ is_in_place (plan_of plan.now).rows plan.now.inlines work.now.pending n }
 {
@@ -351,7 +351,7 @@ fn opened<'t>(
     requires known { n < length (plan_of plan.now).rows }
     ensures { IfOk result (λ o. (d : src.Document)
         × IsOpened (plan_of plan.now) in_definition n purpose d
-        × IsGiven (document d) (reverse making.old.items) (reverse making.new.items) o) }
+        × IsGivenBack (document d) (reverse making.old.items) (reverse making.new.items) o) }
 {
     let template = template_at(alloc, plan, n)?;
     let asks = template.asks(alloc)?;

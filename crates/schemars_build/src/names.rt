@@ -4,7 +4,7 @@ ghost use Rattle.std.specs.Prelude.{OnOk, OnErr};
 ghost use Rattle.std.specs.Prelude.{Some, None, option_map, string_bytes, take};
 ghost use Rattle.schemars_build.specs.Naming.{name_of, is_used, candidate, IsOneToOne};
 ghost use Rattle.schemars_build.specs.Naming.{IsFirstUnused};
-ghost use Rattle.schemars_build.specs.Owners.{AreUsed, IsFirst, IsNoted, place_of};
+ghost use Rattle.schemars_build.specs.Owners.{AreUsed, IsFirst, IsNoted, place_of_owner};
 ghost use Rattle.schemars_types.specs.declared.contract.Contract.{Contract};
 
 use indexmap::IndexSet;
@@ -20,7 +20,7 @@ struct Owner {
     contract: Contract,
 }
 
-/// The places where the names of a row may stand, by contract.
+/// The places where the names of a row may be, by contract.
 #[derive(Clone, Copy)]
 struct Places {
     deserialize: Option<usize>,
@@ -39,7 +39,7 @@ const NOWHERE: Places = Places {
 pub struct Names {
     owners: Vec<Owner>,
     given: IndexSet<String>,
-    // for each row, where its names stand; a place whose owner is another counts for nothing
+    // for each row, where its names are; a place whose owner is another counts for nothing
     places: Vec<Places>,
     // for each base that was asked for, how many of its first candidates are known to be used
     tried: HashMap<String, usize>,
@@ -231,7 +231,7 @@ fn note(tried: &mut HashMap<String, usize>, alloc: Global, base: &str, count: us
 
 // The place that is noted for row `n` under this contract.
 fn place_of(places: &[Places], n: TypeNo, contract: Contract) -> Option<usize>
-    ensures { result ≡ place_of n contract places.now }
+    ensures { result ≡ place_of_owner n contract places.now }
 {
     let of = places.get(n)?;
     match contract {
@@ -243,9 +243,9 @@ fn place_of(places: &[Places], n: TypeNo, contract: Contract) -> Option<usize>
 // Notes a place for row `n` under this contract.
 fn put_place(places: &mut Vec<Places>, n: TypeNo, contract: Contract, place: usize)
     requires { n < length places.old.items }
-    ensures here { place_of n contract places.new.items ≡ Some place }
+    ensures here { place_of_owner n contract places.new.items ≡ Some place }
     ensures others { (m : ℕ) (d : Contract) → (n ≡ m → contract ≡ d → ⊥)
-        → place_of m d places.new.items ≡ place_of m d places.old.items }
+        → place_of_owner m d places.new.items ≡ place_of_owner m d places.old.items }
 {
     match contract {
         Contract::Deserialize => places[n].deserialize = Some(place),
@@ -257,7 +257,7 @@ fn put_place(places: &mut Vec<Places>, n: TypeNo, contract: Contract, place: usi
 fn extend(places: &mut Vec<Places>, n: TypeNo) -> Result<(), AllocError>
     ensures ok { OnOk result (n < length places.new.items) }
     ensures same { (m : ℕ) (d : Contract)
-        → place_of m d places.new.items ≡ place_of m d places.old.items }
+        → place_of_owner m d places.new.items ≡ place_of_owner m d places.old.items }
 {
     'growing: while places.len() <= n {
         places.push(NOWHERE)?;

@@ -13,7 +13,7 @@ use std::marker::Model;
 #[derive(Drop)]
 pub struct Pending {
     rows: Vec<TypeNo>,
-    // for each row its place among these; a place where another row stands counts for nothing
+    // for each row its place among these; a place of another row counts for nothing
     marks: Vec<usize>,
 }
 

@@ -21,12 +21,12 @@ names_type name (Some (string t)) = bytes_eq t name
 names_type name (Some (array ds)) = holds_text name ds
 names_type name (Some (object ms)) = false
 
-abbrev pub has_type : Text → Data → Bool
-has_type name schema = names_type name (get (codes "type") schema)
+abbrev pub includes_type : Text → Data → Bool
+includes_type name schema = names_type name (get (codes "type") schema)
 
 -- whole numbers are numbers
 abbrev pub validates : Text → Data → Bool
-validates name schema = has_type name schema || (bytes_eq name (codes "number") && has_type (codes "integer") schema)
+validates name schema = includes_type name schema || (bytes_eq name (codes "number") && includes_type (codes "integer") schema)
 
 -- with d at k, where the schema is one of values of this type
 abbrev pub with_validation : Text → Text → Data → Data → Data

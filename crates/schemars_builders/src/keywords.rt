@@ -4,7 +4,7 @@ ghost use Rattle.serde_json.specs.Data.{string};
 ghost use Rattle.serde_json.specs.View.{view};
 ghost use Rattle.schemars_schema.specs.SchemaData.{inserted};
 ghost use Rattle.schemars_builders.specs.Keywords.{with_metadata, with_validation};
-ghost use Rattle.schemars_builders.specs.Keywords.{names_type, has_type, validates};
+ghost use Rattle.schemars_builders.specs.Keywords.{names_type, includes_type, validates};
 ghost use Rattle.schemars_builders.specs.Pattern.{escaped};
 
 use crate::pattern::escape;
@@ -94,7 +94,7 @@ fn validates(schema: &Schema, required_type: &str) -> bool
 }
 
 fn has_type(schema: &Schema, name: &str) -> bool
-    ensures { result ≡ has_type name.now schema.now }
+    ensures { result ≡ includes_type name.now schema.now }
 {
     match schema.get("type") {
         Some(names) => names_type(names, name),

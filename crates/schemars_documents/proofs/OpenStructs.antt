@@ -20,7 +20,7 @@ use Rattle.schemars_types.specs.Effective.{spread_fields, spread_payload, spread
 use Rattle.schemars_types.specs.declared.contract.Contract.{Contract}
 use Rattle.schemars_types.specs.Meaning.{Choice, is_required, has_payload, has_variant, has_internal, has_shape, belongs_within}
 use Rattle.schemars_types.specs.Meaning.{choices_within, belongs}
-use Rattle.schemars_types.specs.OpenStructs.{joined_fields, joined_payload, joined_variant, joined, struct_fields_within, joined_in}
+use Rattle.schemars_types.specs.OpenStructs.{joined_fields, joined_payload, joined_variant, joined_shape, struct_fields_within, joined_in}
 use Rattle.schemars_types.specs.OpenStructs.{no_choices, belongs_plainly_within, belongs_plainly}
 use Rattle.schemars_documents.specs.PlainTable.{IsNoName, IsPlainPayload, IsTagged, AreTagged, IsPlainShape, IsOpenStruct, IsPlainPart}
 use Rattle.schemars_documents.specs.PlainTable.{ArePlainParts, IsPlainEntry, IsPlainTable, parts_in, payload_parts, variant_parts}
@@ -125,7 +125,7 @@ module _ (rows : List Row) where
         λ i. record { name = x.name; payload = payload_join x.payload each.0 i; notes = x.notes } ∷ variants_join xs each.1 i
 
     -- nothing is left to flatten
-    pub spread_joins : (s : Shape) → ArePlainParts rows (parts_in s) → spread_in rows s ≡ joined F s
+    pub spread_joins : (s : Shape) → ArePlainParts rows (parts_in s) → spread_in rows s ≡ joined_shape F s
     spread_joins (shape.struct x) h = ap shape.struct (fields_join x h)
     spread_joins (shape.external xs) h = ap shape.external (variants_join xs h)
     spread_joins (shape.untagged xs) h = ap shape.untagged (variants_join xs h)
@@ -152,7 +152,7 @@ module _ (rows : List Row) where
         let each = parts_apart rows (payload_parts x.payload) (variant_parts xs) h in
         λ i. record { name = x.name; payload = payload_plainly x.payload each.0 i; notes = x.notes } ∷ variants_plainly xs each.1 i
 
-    shape_plainly : (s : Shape) → ArePlainParts rows (parts_in s) → joined F s ≡ joined_in rows s
+    shape_plainly : (s : Shape) → ArePlainParts rows (parts_in s) → joined_shape F s ≡ joined_in rows s
     shape_plainly (shape.struct x) h = ap shape.struct (fields_plainly x h)
     shape_plainly (shape.external xs) h = ap shape.external (variants_plainly xs h)
     shape_plainly (shape.untagged xs) h = ap shape.untagged (variants_plainly xs h)
@@ -204,7 +204,7 @@ module _ (contract : Contract) (C : ℕ → Data → List Choice) (P : ℕ → D
       λ i. internal_means tag closed x.name x.payload x.notes v i || any_internal tag closed xs v i
 
   pub shape_means : (patterns : Patterns) (keys : ℕ → KeyOptions) (s : Shape) (v : Data)
-      → has_shape contract patterns keys C P (joined part s) v ≡ has_shape contract patterns keys no_choices P (joined part s) v
+      → has_shape contract patterns keys C P (joined_shape part s) v ≡ has_shape contract patterns keys no_choices P (joined_shape part s) v
   shape_means patterns keys (shape.external xs) v = any_variant xs v
   shape_means patterns keys (shape.untagged xs) v = any_payload xs v
   shape_means patterns keys (shape.internal tag closed xs) v = any_internal tag closed xs v
@@ -269,7 +269,7 @@ module _ (names : ℕ → List Text) (part : Flattened → List Field) where
   tags_apart tag [] h = tt
   tags_apart tag (x ∷ xs) h = (tag_apart tag x.payload h.0, tags_apart tag xs h.1)
 
-  shape_apart : (s : Shape) → IsPlainShape (joined part s) → ShapeHasNamesApart names (joined part s)
+  shape_apart : (s : Shape) → IsPlainShape (joined_shape part s) → ShapeHasNamesApart names (joined_shape part s)
   shape_apart (shape.struct x) h = tt
   shape_apart (shape.external xs) h = variants_apart xs
   shape_apart (shape.untagged xs) h = variants_apart xs

@@ -13,7 +13,7 @@ use Rattle.schemars_schema.specs.Edits.{is_text}
 use Rattle.schemars_builders.specs.Properties.{has_null_type, closed_where, tagged, internally_tagged_variant}
 use Rattle.schemars_flatten.specs.Flatten.{flattened, united_all}
 use Rattle.schemars_documents.specs.Template.{finished, keyed}
-use Rattle.schemars_documents.specs.OfShape.{KeywordTemplate, said, required_at, closed_at}
+use Rattle.schemars_documents.specs.OfShape.{KeywordTemplate, said, required_at, closed_keyword}
 use Rattle.schemars_documents.specs.View.{template_view}
 use Rattle.schemars_documents.specs.declared.template.Template.{Value as Value', the_lemmas}
 
@@ -54,7 +54,7 @@ in_order e xs ys zs = ap (λ es. e ∷ es) (append_assoc xs ys zs)
 view-false : view (Bool' false) ≡ boolean false
 view-false = search (rules, value_lemmas)
 
-pub closed_true : (b : Bool) → b ≡ true → (codes "additionalProperties", template_view (Value' (Bool' false))) ∷ [] ≡ closed_at b
+pub closed_true : (b : Bool) → b ≡ true → (codes "additionalProperties", template_view (Value' (Bool' false))) ∷ [] ≡ closed_keyword b
 closed_true true e = ap (λ t. (codes "additionalProperties", t) ∷ []) (template_view-Value (Bool' false) ∙ ap finished view-false)
 closed_true false e = absurd (true≢false (sym e))
 

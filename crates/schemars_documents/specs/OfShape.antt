@@ -38,26 +38,26 @@ object_with es = members (map (λ e. e.0) es) (templates_of (map (λ e. e.1) es)
 abbrev pub said : Text → Data → KeywordTemplate
 said key d = (key, finished d)
 
-abbrev pub typed : Text → KeywordTemplate
-typed name = said (codes "type") (string name)
+abbrev pub typed_template : Text → KeywordTemplate
+typed_template name = said (codes "type") (string name)
 
-abbrev pub count_at : Text → ℕ → KeywordTemplate
-count_at key n = said key (number (unsigned n))
+abbrev pub count_template : Text → ℕ → KeywordTemplate
+count_template key n = said key (number (unsigned n))
 
 -- ---- lists
 
 -- a list with these items, and what else is said of it
 abbrev pub list_template : ℕ → List KeywordTemplate → Template
-list_template n rest = object_with (typed (codes "array") ∷ (codes "items", row n) ∷ rest)
+list_template n rest = object_with (typed_template (codes "array") ∷ (codes "items", row n) ∷ rest)
 
 abbrev pub set_template : ℕ → Template
 set_template n = list_template n (said (codes "uniqueItems") (boolean true) ∷ [])
 
 abbrev pub up_to_template : ℕ → ℕ → Template
-up_to_template n cap = list_template n (count_at (codes "maxItems") cap ∷ [])
+up_to_template n cap = list_template n (count_template (codes "maxItems") cap ∷ [])
 
 abbrev pub exactly : ℕ → List KeywordTemplate
-exactly n = count_at (codes "minItems") n ∷ count_at (codes "maxItems") n ∷ []
+exactly n = count_template (codes "minItems") n ∷ count_template (codes "maxItems") n ∷ []
 
 -- a list of no items is so whatever they would be
 abbrev pub array_template : ℕ → ℕ → Template
@@ -68,7 +68,7 @@ array_template n (suc len) = list_template n (exactly (suc len))
 abbrev pub tuple_template : List ℕ → Template
 tuple_template [] = finished empty_list_document
 tuple_template (n ∷ ns) =
-    object_with (typed (codes "array") ∷ (codes "prefixItems", list (templates_of (map row (n ∷ ns)))) ∷ exactly (length (n ∷ ns)))
+    object_with (typed_template (codes "array") ∷ (codes "prefixItems", list (templates_of (map row (n ∷ ns)))) ∷ exactly (length (n ∷ ns)))
 
 -- ---- structs
 
@@ -83,14 +83,14 @@ abbrev pub required_at : Items → List KeywordTemplate
 required_at no_items = []
 required_at (item d ds) = said (codes "required") (array (item d ds)) ∷ []
 
-abbrev pub closed_at : Bool → List KeywordTemplate
-closed_at false = []
-closed_at true = said (codes "additionalProperties") (boolean false) ∷ []
+abbrev pub closed_keyword : Bool → List KeywordTemplate
+closed_keyword false = []
+closed_keyword true = said (codes "additionalProperties") (boolean false) ∷ []
 
 -- a map with these properties
 abbrev pub map_template : List KeywordTemplate → Items → Bool → Template
 map_template properties required closed =
-    object_with (typed (codes "object") ∷ (properties_at properties ++ (required_at required ++ closed_at closed)))
+    object_with (typed_template (codes "object") ∷ (properties_at properties ++ (required_at required ++ closed_keyword closed)))
 
 -- a map with these fields
 abbrev pub fields_template : Contract → List Field → Bool → Template
@@ -108,29 +108,29 @@ struct_template contract x = with_flattened contract x.flatten (fields_template 
 -- ---- choices
 
 -- just one of these
-abbrev pub one_of : List Template → Template
-one_of ts = object_with ((codes "oneOf", list (templates_of ts)) ∷ [])
+abbrev pub one_of_template : List Template → Template
+one_of_template ts = object_with ((codes "oneOf", list (templates_of ts)) ∷ [])
 
 -- one of these at least
-abbrev pub any_of : List Template → Template
-any_of ts = object_with ((codes "anyOf", list (templates_of ts)) ∷ [])
+abbrev pub any_of_template : List Template → Template
+any_of_template ts = object_with ((codes "anyOf", list (templates_of ts)) ∷ [])
 
 -- a map with this member, which has to be there
 abbrev pub member_template : Bool → Text → Template → Template
 member_template closed name t = map_template ((name, t) ∷ []) (text_items (name ∷ [])) closed
 
 abbrev pub result_template : ℕ → ℕ → Template
-result_template t e = one_of (member_template false (codes "Ok") (row t) ∷ member_template false (codes "Err") (row e) ∷ [])
+result_template t e = one_of_template (member_template false (codes "Ok") (row t) ∷ member_template false (codes "Err") (row e) ∷ [])
 
 abbrev pub bound_template : ℕ → Template
-bound_template n = one_of (member_template false (codes "Included") (row n) ∷ member_template false (codes "Excluded") (row n)
+bound_template n = one_of_template (member_template false (codes "Included") (row n) ∷ member_template false (codes "Excluded") (row n)
     ∷ finished (unit_variant (codes "Unbounded")) ∷ [])
 
 abbrev pub range_template : ℕ → Template
 range_template n = map_template ((codes "start", row n) ∷ (codes "end", row n) ∷ []) (text_items (codes "start" ∷ codes "end" ∷ [])) false
 
 abbrev pub either_template : ℕ → ℕ → Template
-either_template l r = one_of (member_template true (codes "Left") (row l) ∷ member_template true (codes "Right") (row r) ∷ [])
+either_template l r = one_of_template (member_template true (codes "Left") (row l) ∷ member_template true (codes "Right") (row r) ∷ [])
 
 -- ---- enums
 
@@ -158,14 +158,14 @@ other_items contract (x ∷ xs) =
     if is_bare_unit x then other_items contract xs else noted x.notes (named_template contract x.name x.payload) ∷ other_items contract xs
 
 abbrev pub units_template : List Text → Template
-units_template ks = object_with (typed (codes "string") ∷ said (codes "enum") (array (text_items ks)) ∷ [])
+units_template ks = object_with (typed_template (codes "string") ∷ said (codes "enum") (array (text_items ks)) ∷ [])
 
 -- the shared item stands first, and alone where there is no other
 abbrev pub choice_of : List Text → List Template → Template
 choice_of [] [] = finished (boolean false)
-choice_of [] (t ∷ ts) = one_of (t ∷ ts)
+choice_of [] (t ∷ ts) = one_of_template (t ∷ ts)
 choice_of (k ∷ ks) [] = units_template (k ∷ ks)
-choice_of (k ∷ ks) (t ∷ ts) = one_of (units_template (k ∷ ks) ∷ t ∷ ts)
+choice_of (k ∷ ks) (t ∷ ts) = one_of_template (units_template (k ∷ ks) ∷ t ∷ ts)
 
 abbrev pub external_template : Contract → List Variant → Template
 external_template contract xs = choice_of (bare_units xs) (other_items contract xs)
@@ -183,7 +183,7 @@ payload_item contract titles x = noted x.notes (titled titles x.name (payload_te
 -- a variant may have its name as title; its notes come after that
 abbrev pub untagged_template : Contract → Bool → List Variant → Template
 untagged_template contract titles [] = finished (boolean false)
-untagged_template contract titles (x ∷ xs) = any_of (map (payload_item contract titles) (x ∷ xs))
+untagged_template contract titles (x ∷ xs) = any_of_template (map (payload_item contract titles) (x ∷ xs))
 
 -- what stands beside a tag; null where there is nothing
 abbrev pub content_template : Contract → Payload → Template
@@ -197,7 +197,7 @@ internal_item contract tag closed x = noted x.notes (tagged tag x.name closed (c
 
 abbrev pub internal_template : Contract → Text → Bool → List Variant → Template
 internal_template contract tag closed [] = finished (boolean false)
-internal_template contract tag closed (x ∷ xs) = one_of (map (internal_item contract tag closed) (x ∷ xs))
+internal_template contract tag closed (x ∷ xs) = one_of_template (map (internal_item contract tag closed) (x ∷ xs))
 
 -- ---- maps
 
@@ -221,7 +221,7 @@ other_values false value = finished (boolean false)
 -- a map with the keys that are allowed, and values of this row
 abbrev pub values_template : KeyOptions → ℕ → Template
 values_template (keys others texts integers patterns) value =
-    object_with (typed (codes "object") ∷ (codes "additionalProperties", other_values others value)
+    object_with (typed_template (codes "object") ∷ (codes "additionalProperties", other_values others value)
     ∷ (pattern_properties_at (values_of value (all_patterns integers patterns))
     ++ properties_at (values_of value texts)))
 

@@ -263,7 +263,7 @@ module _ (S : Data → Type 0) (Q : Text → Data → Type 0) (h : IsByKeyword S
       go true = all_moved ms all
       go false = all
 
-  all_opened : (ms : Members) → AllMembers Q ms → AllMembers Q (flatten.opened ms)
+  all_opened : (ms : Members) → AllMembers Q ms → AllMembers Q (flatten.opened_keywords ms)
   all_opened ms all = go (stands (codes "additionalProperties") ms || stands (codes "unevaluatedProperties") ms)
       (has_subschema ms)
     where
@@ -284,7 +284,7 @@ module _ (S : Data → Type 0) (Q : Text → Data → Type 0) (h : IsByKeyword S
       go (number n) f = f
       go (string t) f = f
       go (array ds) f = f
-      go (object ms) f = h.whole (flatten.opened ms) (all_opened ms (h.parts ms f))
+      go (object ms) f = h.whole (flatten.opened_keywords ms) (all_opened ms (h.parts ms f))
   flattened_kept s (number n) first second = first
   flattened_kept s (string t) first second = first
   flattened_kept s (array ds) first second = first

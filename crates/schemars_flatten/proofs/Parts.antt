@@ -22,7 +22,7 @@ use Rattle.schemars_schema.specs.Acceptance.{both_some}
 use Rattle.schemars_schema.proofs.MapEdits.{members_view-set_value}
 use Rattle.schemars_flatten.specs.Flatten.{moved, appended, is_joined, joined, is_merged, merged, united, with_united}
 use Rattle.schemars_flatten.specs.Flatten.{both_choices, with_choice}
-use Rattle.schemars_flatten.specs.Flatten.{opened, opened_schema, united_all, flattened}
+use Rattle.schemars_flatten.specs.Flatten.{opened_keywords, opened_schema, united_all, flattened}
 
 -- what isn't there can't be taken out
 pub without_missing : (k : Text) (ms : Members) → None ≡ get_member k ms → without k ms ≡ ms
@@ -160,11 +160,11 @@ flattened_object s o new old left others start is united made = rw is (made
     ∙ ap object (united ∙ ap (λ ms. united_all ms others) start))
 
 pub flattened_opened : (s o new : Data) (old left : Members) → Some old ≡ as_object s → o ≡ boolean true
-    → left ≡ opened old → new ≡ object left → new ≡ flattened s o
+    → left ≡ opened_keywords old → new ≡ object left → new ≡ flattened s o
 flattened_opened s o new old left found is opens made = rw is (made ∙ (ap object opens ∙ go s found))
   where
-    go : (d : Data) → Some old ≡ as_object d → object (opened old) ≡ opened_schema d
-    go (object ms) h = let same : old ≡ ms = cc in ap (λ x. object (opened x)) same
+    go : (d : Data) → Some old ≡ as_object d → object (opened_keywords old) ≡ opened_schema d
+    go (object ms) h = let same : old ≡ ms = cc in ap (λ x. object (opened_keywords x)) same
     go null h = cc
     go (boolean b) h = cc
     go (number n) h = cc

@@ -37,8 +37,8 @@ abbrev pub rest_keyword : Members → Text
 rest_keyword ms = if has_subschema ms then codes "unevaluatedProperties" else codes "additionalProperties"
 
 -- further members of the object are let in, unless a keyword speaks of them
-abbrev pub opened : Members → Members
-opened ms =
+abbrev pub opened_keywords : Members → Members
+opened_keywords ms =
     if stands (codes "additionalProperties") ms || stands (codes "unevaluatedProperties") ms then ms
     else put (rest_keyword ms) (boolean true) ms
 
@@ -112,7 +112,7 @@ opened_schema (boolean b) = boolean b
 opened_schema (number n) = number n
 opened_schema (string s) = string s
 opened_schema (array ds) = array ds
-opened_schema (object ms) = object (opened ms)
+opened_schema (object ms) = object (opened_keywords ms)
 
 -- the first schema with the second put in
 abbrev pub flattened : Data → Data → Data

@@ -3,7 +3,8 @@ ghost use Rattle.std.specs.Prelude.{◌≡◌, codes, OnOk};
 ghost use Rattle.serde_json.specs.Data.{put};
 ghost use Rattle.serde_json.specs.View.{view, members_view};
 ghost use Rattle.schemars_flatten.specs.Flatten.{stands, has_subschema, moved, moved_beside};
-ghost use Rattle.schemars_flatten.specs.Flatten.{rest_keyword, opened, united_all, flattened};
+ghost use Rattle.schemars_flatten.specs.Flatten.{rest_keyword, opened_keywords, united_all};
+ghost use Rattle.schemars_flatten.specs.Flatten.{flattened};
 ghost use Rattle.schemars_flatten.specs.FlattenLaw.{AreJoinable, AcceptsBoth};
 
 use crate::union::{put_keywords, remove};
@@ -91,7 +92,7 @@ fn move_additional(alloc: Global, members: &mut Map<String, Value>) -> Result<()
 // Lets further members of the object in, unless a keyword speaks of them.
 fn open(alloc: Global, members: &mut Map<String, Value>) -> Result<(), AllocError>
     ensures { OnOk result (members_view members.new.entries
-        ≡ opened (members_view members.old.entries)) }
+        ≡ opened_keywords (members_view members.old.entries)) }
 {
     if stands(members, "additionalProperties") || stands(members, "unevaluatedProperties") {
         return Ok(());

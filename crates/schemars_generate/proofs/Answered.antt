@@ -6,49 +6,49 @@ use Rattle.schemars_schema.specs.References.{references}
 use Rattle.schemars_documents.specs.Template.{Ask, part, members_of, content}
 use Rattle.schemars_documents.specs.Describes.{without_options}
 use Rattle.schemars_meaning.proofs.Mapping.{answered_map}
-use Rattle.schemars_build.specs.Work.{Work, Refers, basis_of}
+use Rattle.schemars_build.specs.Work.{Work, Refers, basis_of_plan}
 use Rattle.schemars_build.specs.Parts.{IsSaid, IsFilledOf, IsSubschema, AreNeededFor}
 use Rattle.schemars_build.proofs.Placing.{Always, filled-wider}
-use Rattle.schemars_headline.specs.State.{State, plan_of, work_of}
+use Rattle.schemars_headline.specs.State.{State, state_plan, work_of}
 use Rattle.schemars_headline.proofs.Calls.{part_kept, reached_kept}
 use Rattle.schemars_generate.specs.Answers.{IsAnswerOf}
 
 abbrev kept : State → Work → State
 kept s w = record s { names = w.names; definitions = w.definitions }
 
-refers_kept : (s : State) (w : Work) (j : ℕ) (r : Text) → Refers (plan_of s None) false w j r
-    → Refers (plan_of s None) false (work_of (kept s w)) j r
+refers_kept : (s : State) (w : Work) (j : ℕ) (r : Text) → Refers (state_plan s None) false w j r
+    → Refers (state_plan s None) false (work_of (kept s w)) j r
 refers_kept s w j r (inl h) = cc
 refers_kept s w j r (inr h) = inr h
 
-filled_kept : (s : State) (w : Work) → w.pending ≡ [] → (j : ℕ) (t : Data) → IsFilledOf (plan_of s None) false w w.pending j t
-    → IsFilledOf (plan_of s None) false (work_of (kept s w)) [] j t
+filled_kept : (s : State) (w : Work) → w.pending ≡ [] → (j : ℕ) (t : Data) → IsFilledOf (state_plan s None) false w w.pending j t
+    → IsFilledOf (state_plan s None) false (work_of (kept s w)) [] j t
 filled_kept s w none j t own =
-    let plan = plan_of s None in
-    filled-wider (basis_of plan) plan.inlines (Refers plan false w) (Refers plan false (work_of (kept s w))) (refers_kept s w) [] j t
+    let plan = state_plan s None in
+    filled-wider (basis_of_plan plan) plan.inlines (Refers plan false w) (Refers plan false (work_of (kept s w))) (refers_kept s w) [] j t
     (subst (λ p. IsFilledOf plan false w p j t) none own)
 
 -- what the running call has marked doesn't matter without a root
 pub answer_kept : (s new : State) (w : Work) (a : Ask) (d : Data) → new ≡ record s { names = w.names; definitions = w.definitions }
-    → w.pending ≡ [] → IsSaid (plan_of s None) false w a d → IsAnswerOf new a d
+    → w.pending ≡ [] → IsSaid (state_plan s None) false w a d → IsAnswerOf new a d
 answer_kept s new w a d same none h =
-    let plan = plan_of s None in
+    let plan = state_plan s None in
     let v = work_of (kept s w) in
     subst (λ x. IsAnswerOf x a d) (sym same) (answered_map s.rows (Always s.rows s.settings.inlines) (Always s.rows s.settings.inlines)
     (IsSubschema plan false w) (IsSubschema plan false v) (IsFilledOf plan false w w.pending) (IsFilledOf plan false v [])
     (λ j b is. is) (λ j t one. part_kept s (kept s w) w j t refl none one) (filled_kept s w none) a d h)
 
 -- and what leads to what joined stays
-pub needed_kept : (s : State) (old w : Work) (a : Ask) (d : Data) → w.pending ≡ [] → AreNeededFor (plan_of s None) true old w a d
-    → AreNeededFor (plan_of s None) true old (work_of (kept s w)) a d
-needed_kept s old w (part n) d none h = λ plain. reached_kept (plan_of s None) true s old w (references d) (h plain)
+pub needed_kept : (s : State) (old w : Work) (a : Ask) (d : Data) → w.pending ≡ [] → AreNeededFor (state_plan s None) true old w a d
+    → AreNeededFor (state_plan s None) true old (work_of (kept s w)) a d
+needed_kept s old w (part n) d none h = λ plain. reached_kept (state_plan s None) true s old w (references d) (h plain)
 needed_kept s old w (members_of n required) d none h = (
   h.0,
   filled_kept s w none (without_options s.rows n) h.0 h.1,
-  λ plain. reached_kept (plan_of s None) true s old w (references h.0) (h.2 plain),
+  λ plain. reached_kept (state_plan s None) true s old w (references h.0) (h.2 plain),
 )
 needed_kept s old w (content n) d none h = (
   h.0,
   filled_kept s w none n h.0 h.1,
-  λ plain. reached_kept (plan_of s None) true s old w (references h.0 ++ references d) (h.2 plain),
+  λ plain. reached_kept (state_plan s None) true s old w (references h.0 ++ references d) (h.2 plain),
 )

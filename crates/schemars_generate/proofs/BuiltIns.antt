@@ -1,4 +1,4 @@
--- What a list of built-in transforms makes of documents, and that it refuses for want of memory alone.
+-- What a list of built-in transforms makes of documents, and that it fails only if out of memory.
 use Rattle.std.proofs.Common.{◌≡◌, ◌⊎◌, inl, inr, ℕ, List, Vec, Ok, Err, Global, Result, IfOk, false, refl, sym, ap, ◌∙◌, subst}
 use Rattle.std.proofs.Common.{Option, Some, None, option_map, Ordering, Less, Equal, Greater, nat_cmp}
 use Rattle.std.specs.Prelude.{is_some}
@@ -10,7 +10,7 @@ use Rattle.schemars_schema.specs.Json.{Text}
 use Rattle.std.proofs.lemmas.Result.{IfOk-weaker}
 use Rattle.schemars_headline.specs.Headline.{IsDraftPath}
 use Rattle.schemars_headline.specs.State.{State, Settings, stripped}
-use Rattle.schemars_walk.specs.Walk.{Step}
+use Rattle.schemars_walk.specs.Walk.{TransformStep}
 use Rattle.schemars_walk.specs.Rewritten.{forms}
 use Rattle.schemars_laws.specs.Paths.{each_changed}
 use Rattle.schemars_laws.specs.Laws.{for_openapi3}
@@ -43,7 +43,7 @@ pub answered : {O E : Type 0} (ts fs : List (GenTransform O)) (R P : Data → Ty
 answered ts fs R P r made none all is =
     IfOk-weaker r _ _ (λ d h. made_by_these ts fs R P d is all h) (made (ap some_own is ∙ none))
 
-module _ {O : Type 0} (Q : Step O) (ts us : Vec (GenTransform O) Global) (none : some_own ts.items ≡ false) where
+module _ {O : Type 0} (Q : TransformStep O) (ts us : Vec (GenTransform O) Global) (none : some_own ts.items ≡ false) where
   pub built_in : (R : Data → Type 0) (document : Data) → IsThrough (ApplyInOrder Q) ts us R document → IsMadeBy ts.items R document
   built_in R document (d, here, made) = (d, here, built_ins_make Q ts.items us.items d document (Ok tt) none made)
 

@@ -14,9 +14,9 @@ use Rattle.schemars_sample.specs.Example.{Example, truth, whole, character, text
 use Rattle.schemars_sample.specs.Example.{unit_struct, unit_variant, newtype_struct, newtype_variant, seq, tuple}
 use Rattle.schemars_sample.specs.Example.{tuple_variant, struct, collected_map, struct_variant}
 use Rattle.schemars_sample.specs.Example.{Examples, no_examples, example, Entries, no_entries, entry}
-use Rattle.schemars_sample.specs.SampleJson.{sample_json, items_json, entries_json, array_of, named, are_bytes}
+use Rattle.schemars_sample.specs.SampleJson.{sample_json, items_json, entries_json, json_array, json_named, are_bytes}
 use Rattle.schemars_sample.specs.SampleSchema.{sample_schema, item_schemas, entry_schemas, value_schemas}
-use Rattle.schemars_sample.specs.SampleSchema.{choice_of, one_beside, shared_by}
+use Rattle.schemars_sample.specs.SampleSchema.{choice_among, one_beside, shared_by}
 use Rattle.schemars_sample.specs.SampleSchema.{titled_schema, with_name, with_example, sample_root}
 use Rattle.schemars_sample.proofs.Choices.{one_beside-holds, shared_by-holds}
 use Rattle.schemars_headline.proofs.Floats.{bound_whole, whole_items, whole_allow_null, whole_members_in, whole_with_meta_schema}
@@ -45,7 +45,7 @@ bytes_whole : (bs : List ℕ) → AreWhole (map (λ b. number (unsigned b)) bs)
 bytes_whole [] = tt
 bytes_whole (b ∷ bs) = (refl, bytes_whole bs)
 
-named_whole : (variant : Text) (d : Data) → IsWhole d → IsWhole (named variant d)
+named_whole : (variant : Text) (d : Data) → IsWhole d → IsWhole (json_named variant d)
 named_whole variant d h = rw h refl
 
 mutual
@@ -55,22 +55,23 @@ mutual
   json_whole (character c) = refl
   json_whole (text s) = refl
   json_whole (bytes bs) = let bytes = map (λ b. number (unsigned b)) bs in
-      cond_both (are_bytes bs) (Some (array_of bytes)) None (λ o. IfSome o IsWhole) (λ _. whole_items bytes (bytes_whole bs)) (λ _. tt)
+      cond_both (are_bytes bs) (Some (json_array bytes)) None (λ o. IfSome o IsWhole) (λ _. whole_items bytes (bytes_whole bs)) (λ _. tt)
   json_whole no_value = refl
   json_whole (some_value x) = json_whole x
   json_whole unit_struct = refl
   json_whole (unit_variant variant) = refl
   json_whole (newtype_struct name x) = json_whole x
-  json_whole (newtype_variant variant x) = if_mapped IsWhole IsWhole (named variant) (sample_json x) (named_whole variant) (json_whole x)
-  json_whole (seq xs) = if_mapped AreWhole IsWhole array_of (items_json xs) whole_items (items_whole xs)
-  json_whole (tuple name xs) = if_mapped AreWhole IsWhole array_of (items_json xs) whole_items (items_whole xs)
-  json_whole (tuple_variant variant xs) = if_mapped AreWhole IsWhole (λ ds. named variant (array_of ds)) (items_json xs)
-      (λ ds h. named_whole variant (array_of ds) (whole_items ds h)) (items_whole xs)
+  json_whole (newtype_variant variant x) =
+      if_mapped IsWhole IsWhole (json_named variant) (sample_json x) (named_whole variant) (json_whole x)
+  json_whole (seq xs) = if_mapped AreWhole IsWhole json_array (items_json xs) whole_items (items_whole xs)
+  json_whole (tuple name xs) = if_mapped AreWhole IsWhole json_array (items_json xs) whole_items (items_whole xs)
+  json_whole (tuple_variant variant xs) = if_mapped AreWhole IsWhole (λ ds. json_named variant (json_array ds)) (items_json xs)
+      (λ ds h. named_whole variant (json_array ds) (whole_items ds h)) (items_whole xs)
   json_whole (struct name xs) = if_mapped AreWholeMembers IsWhole object (entries_json xs no_members) (λ ms h. h)
       (entries_whole xs no_members refl)
   json_whole (collected_map xs) = if_mapped AreWholeMembers IsWhole object (entries_json xs no_members) (λ ms h. h)
       (entries_whole xs no_members refl)
-  json_whole (struct_variant variant xs) = if_mapped AreWholeMembers IsWhole (λ ms. named variant (object ms))
+  json_whole (struct_variant variant xs) = if_mapped AreWholeMembers IsWhole (λ ms. json_named variant (object ms))
       (entries_json xs no_members) (λ ms. named_whole variant (object ms)) (entries_whole xs no_members refl)
 
   items_whole : (xs : Examples) → IfSome (items_json xs) AreWhole
@@ -85,7 +86,7 @@ mutual
 
 -- ---- its schema
 
-choice_whole : (ds : List Data) → AreWhole ds → IsWhole (choice_of ds)
+choice_whole : (ds : List Data) → AreWhole ds → IsWhole (choice_among ds)
 choice_whole [] h = refl
 choice_whole (d ∷ []) h = h.0
 choice_whole (d ∷ e ∷ ds) h = rw (whole_items (d ∷ e ∷ ds) h) refl

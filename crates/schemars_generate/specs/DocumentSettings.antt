@@ -7,8 +7,8 @@ use Rattle.schemars_build.specs.Naming.{Naming}
 use Rattle.schemars_build.specs.Work.{Work}
 use Rattle.schemars_generate.specs.declared.document_settings.DocumentSettings as src
 
-abbrev pub settings_of : src.DocumentSettings → Settings
-settings_of s = record {
+abbrev pub document_settings_of : src.DocumentSettings → Settings
+document_settings_of s = record {
   definitions_path = s.definitions_path.now;
   meta_schema = option_map (λ uri. uri.now) s.meta_schema;
   contract = s.contract;
@@ -27,7 +27,7 @@ abbrev pub state_with : Settings → Held → State
 state_with s h = record { settings = s; rows = h.rows; names = h.names; definitions = h.definitions }
 
 abbrev pub state_of : src.DocumentSettings → List Row → Work → State
-state_of s rows w = record { settings = settings_of s; rows = rows; names = w.names; definitions = w.definitions }
+state_of s rows w = record { settings = document_settings_of s; rows = rows; names = w.names; definitions = w.definitions }
 
 -- between calls, with these names and definitions
 abbrev pub held_work : Naming → Members → Work

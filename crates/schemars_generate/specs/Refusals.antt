@@ -48,7 +48,7 @@ abbrev pub copy_error : clones.CloneError → GenerateError
 copy_error clone.Memory = OutOfMemory
 copy_error clone.OwnTransform = OwnTransform
 
--- the fault that is told of a table
+-- the fault that is reported of a table
 pub record HasFault (rows : List Row) (e : GenerateError) : Type 0 where
   pub fault : types.TypesError
   pub refusal : Refusal rows fault

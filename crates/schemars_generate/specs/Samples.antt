@@ -2,7 +2,7 @@
 use Rattle.std.specs.Prelude.{◌≡◌, ◌⊎◌, List, false, Some, None}
 use Rattle.serde_json.specs.Data.{Data, Members}
 use Rattle.serde_json.specs.Written.{has_float, members_have_float}
-use Rattle.schemars_walk.specs.Walk.{Step}
+use Rattle.schemars_walk.specs.Walk.{TransformStep}
 use Rattle.schemars_sample.specs.Example.{Example}
 use Rattle.schemars_sample.specs.SampleSchema.{sample_root}
 use Rattle.schemars_sample.specs.Accepted.{AcceptsExample}
@@ -29,7 +29,7 @@ pub record IsSampleRoot (s : Settings) (definitions : Members) (x : Example) (d 
   pub draft2019_09 : (rows : List Row) (names : Naming) → Draft2019_09Sample (holding s definitions rows names) x d
   pub whole : members_have_float definitions ≡ false → has_float d ≡ false
 
--- the definitions can't be placed in the document of an example; at a draft's path they can
+-- the definitions cannot be placed in the document of an example; at a draft's path they can
 pub record CannotPlaceSample (s : Settings) (definitions : Members) (x : Example) : Type 0 where
   pub no_place : with_definitions (stripped s.definitions_path) definitions (sample_root s.meta_schema x) ≡ None
   pub other_path : ¬ (IsDraftPath (stripped s.definitions_path))
@@ -39,6 +39,6 @@ abbrev pub IsSampleRefused : Settings → Members → Example → GenerateError 
 IsSampleRefused s definitions x e = (e ≡ OutOfMemory) ⊎ ((e ≡ DefinitionsPath) × CannotPlaceSample s definitions x)
 
 -- before transforms, which then stay as they are, or by them
-abbrev pub IsSampleRefusedThrough : {T : Type 0} → Step T → T → T → Settings → Members → Example → GenerateError → Type 0
+abbrev pub IsSampleRefusedThrough : {T : Type 0} → TransformStep T → T → T → Settings → Members → Example → GenerateError → Type 0
 IsSampleRefusedThrough Q t u s definitions x e =
     (IsSampleRefused s definitions x e × (u ≡ t)) ⊎ IsTurnedDown Q t u (IsSampleRoot s definitions x) e

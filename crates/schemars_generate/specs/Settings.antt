@@ -3,7 +3,7 @@ use Rattle.std.specs.Prelude.{◌≡◌, List, [], ◌∷◌, Vec, Some, true, c
 use Rattle.std.specs.Cow.{cow_str_bytes}
 use Rattle.std.specs.declared.alloc.Global.{Global}
 use Rattle.schemars_headline.specs.State.{State, Settings, settings2020_12}
-use Rattle.schemars_walk.specs.Walk.{Step}
+use Rattle.schemars_walk.specs.Walk.{TransformStep}
 use Rattle.schemars_walk.specs.Order.{InOrder}
 use Rattle.schemars_transform.specs.Member.{OfMember, AreCopies}
 use Rattle.schemars_transform.specs.declared.gen_transform.GenTransform.{GenTransform}
@@ -31,7 +31,7 @@ state g = state_with (settings_of g.settings) g.contents
 -- ---- transforms
 
 -- the transforms of settings, one after another
-abbrev pub ApplyInOrder : {O : Type 0} → Step O → Step (Vec (GenTransform O) Global)
+abbrev pub ApplyInOrder : {O : Type 0} → TransformStep O → TransformStep (Vec (GenTransform O) Global)
 ApplyInOrder Q ts s r us v = InOrder (OfMember Q) ts.items s r us.items v
 
 -- the same settings, with a copy of each transform

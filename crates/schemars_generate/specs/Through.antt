@@ -10,33 +10,33 @@ use Rattle.schemars_headline.specs.Headline.{RootHeadline, RootWideHeadline, IsR
 use Rattle.schemars_headline.specs.Calls.{IsRootCall, IsLastRootCall}
 use Rattle.schemars_headline.specs.Dialects.{Draft07Headline, Draft2019_09Headline, Draft2019_09WideHeadline}
 use Rattle.schemars_build.specs.Work.{Work}
-use Rattle.schemars_walk.specs.Walk.{Step, EachMember, AtSchema}
+use Rattle.schemars_walk.specs.Walk.{TransformStep, EachMember, AtSchema}
 use Rattle.schemars_walk.specs.declared.transform.TransformError.{TransformError}
 use Rattle.schemars_generate.specs.Refusals.{told}
 use Rattle.schemars_generate.specs.declared.error.GenerateError.{GenerateError}
 use Rattle.schemars_generate.specs.declared.error.GenerateError.TheVariants.{OutOfMemory, UnknownType, DefinitionsPath}
 
 -- the transforms, from their old state to their new one, made this document of one of which R holds
-abbrev pub IsThrough : {T : Type 0} → Step T → T → T → (Data → Type 0) → Data → Type 0
+abbrev pub IsThrough : {T : Type 0} → TransformStep T → T → T → (Data → Type 0) → Data → Type 0
 IsThrough Q t u R document = (d : Data) × R d × Q t d (Ok tt) u document
 
--- the transforms refused a document of which R holds, and the refusal is told
-abbrev pub IsTurnedDown : {T : Type 0} → Step T → T → T → (Data → Type 0) → GenerateError → Type 0
+-- the transforms refused a document of which R holds, and the error is returned
+abbrev pub IsTurnedDown : {T : Type 0} → TransformStep T → T → T → (Data → Type 0) → GenerateError → Type 0
 IsTurnedDown Q t u R e = (a : TransformError) × (d : Data) × (v : Data) × R d × Q t d (Err a) u v × (e ≡ told a)
 
--- the transforms, from their old state to their new one, made this of each definition, in map order; what is no schema
+-- the transforms, from their old state to their new one, made this of each definition, in map order; a value that is not a schema
 -- stays
-abbrev pub AreThrough : {T : Type 0} → Step T → T → T → Members → Members → Type 0
+abbrev pub AreThrough : {T : Type 0} → TransformStep T → T → T → Members → Members → Type 0
 AreThrough Q t u definitions taken = EachMember (λ k. AtSchema Q) t definitions (Ok tt) u taken
 
--- the transforms refused a definition, or memory ran out on the way, and the refusal is told
-abbrev pub AreTurnedDown : {T : Type 0} → Step T → T → T → Members → GenerateError → Type 0
+-- the transforms refused a definition, or memory ran out on the way, and the error is returned
+abbrev pub AreTurnedDown : {T : Type 0} → TransformStep T → T → T → Members → GenerateError → Type 0
 AreTurnedDown Q t u definitions e =
     (a : TransformError) × (taken : Members) × EachMember (λ k. AtSchema Q) t definitions (Err a) u taken × (e ≡ told a)
 
 -- ---- root documents before transforms
 
--- what is told of the root document of row n
+-- what is promised of the root document of row n
 pub record IsUntransformed (old : State) (n : ℕ) (d : Data) : Type 0 where
   pub last : IsLastRootCall old n d
   pub headline : RootHeadline old n d
@@ -56,14 +56,14 @@ abbrev pub IsRefused : State → ℕ → GenerateError → Type 0
 IsRefused s n e = (e ≡ OutOfMemory) ⊎ ((e ≡ DefinitionsPath) × CannotPlace s n)
 
 -- before transforms, which then stay as they are, or by them
-abbrev pub IsRefusedThrough : {T : Type 0} → Step T → T → T → State → ℕ → GenerateError → Type 0
+abbrev pub IsRefusedThrough : {T : Type 0} → TransformStep T → T → T → State → ℕ → GenerateError → Type 0
 IsRefusedThrough Q t u s n e = (IsRefused s n e × (u ≡ t)) ⊎ IsTurnedDown Q t u (IsLastRootCall s n) e
 
 -- there is no such row, or its root document is refused
-abbrev pub IsRootRefused : {T : Type 0} → Step T → T → T → State → ℕ → GenerateError → Type 0
+abbrev pub IsRootRefused : {T : Type 0} → TransformStep T → T → T → State → ℕ → GenerateError → Type 0
 IsRootRefused Q t u s n e = ((e ≡ UnknownType n) × (u ≡ t)) ⊎ IsRefusedThrough Q t u s n e
 
--- the root document of row n, and what stands after the call that made it
-abbrev pub IsMade : State → ℕ → Work → Data → Type 0
-IsMade s n new d =
+-- the root document of row n, and the state after the call that made it
+abbrev pub IsRootMade : State → ℕ → Work → Data → Type 0
+IsRootMade s n new d =
     (w : Work) × IsRootOf s n w d × HasKeysOnce w.definitions × IsOneToOne w.names × (new ≡ work_of (after_root s w))

@@ -25,7 +25,7 @@ ghost use Rattle.schemars_headline.specs.State.{ReferencesNameKeys};
 ghost use Rattle.schemars_generate.specs.Answers.{IsAnswerOf, IsNeededFor};
 ghost use Rattle.schemars_generate.specs.Refusals.{HasFault};
 ghost use Rattle.schemars_generate.specs.Samples.{IsSampleRoot, IsSampleRefusedThrough};
-ghost use Rattle.schemars_generate.specs.DocumentSettings.{settings_of, state_with};
+ghost use Rattle.schemars_generate.specs.DocumentSettings.{document_settings_of, state_with};
 ghost use Rattle.schemars_sample.specs.Example.{example_of};
 ghost use Rattle.schemars_generate.specs.Through.{IsThrough, IsTurnedDown, AreThrough};
 ghost use Rattle.schemars_generate.specs.Through.{AreTurnedDown};
@@ -90,7 +90,7 @@ impl Contents {
 
     /// This table, without names.
     ///
-    /// Refusals: those of the table's `check`, and want of memory.
+    /// Errors: those of `Types::check`; `OutOfMemory`.
     pub fn with_types(alloc: Global, types: Types) -> Result<Contents, GenerateError>
         ensures made { IfOk result (λ c. c
             ≡ record { rows = types; names = []; definitions = no_members }) }
@@ -107,8 +107,8 @@ impl Contents {
 
     /// Takes a table whose first rows are those of the present one in its place.
     ///
-    /// Refusals: `NotAnExtension` where they are not, those of the table's `check`, and want of
-    /// memory. Entries are compared as by `Types::define`.
+    /// Errors: `NotAnExtension` if they are not, those of `Types::check`; `OutOfMemory`.
+    /// Entries are compared as by `Types::define`.
     pub fn add_types(&mut self, alloc: Global, types: Types) -> Result<(), GenerateError>
         ensures ok { OnOk result (self.new ≡ record self.old { rows = types }) }
         ensures extends { OnOk result (begins_with types self.old.rows ≡ true) }
@@ -164,10 +164,10 @@ impl Contents {
         self.work.take_definitions(alloc)
     }
 
-    /// Takes the definitions, each through the transforms, in map order. What is no schema stays as
-    /// it is. Names stay.
+    /// Takes the definitions, each through the transforms, in map order. A value that is not a
+    /// schema stays as it is. Names stay.
     ///
-    /// Refusals: those of the transforms, and want of memory.
+    /// Errors: those of the transforms; `OutOfMemory`.
     pub fn take_transformed<T: Transform>(
         &mut self,
         alloc: Global,
@@ -191,7 +191,7 @@ impl Contents {
     /// The schema of row `n` as a part of a document that holds the definitions: the row's document
     /// in place, or the `$ref` of its name, with the definitions that this leads to.
     ///
-    /// Refusals: `UnknownType(n)` where the table has no row `n`, and want of memory.
+    /// Errors: `UnknownType(n)` if the table has no row `n`; `OutOfMemory`.
     pub fn subschema(
         &mut self,
         alloc: Global,
@@ -199,20 +199,22 @@ impl Contents {
         n: TypeNo,
     ) -> Result<Schema, GenerateError>
         ensures means { IfOk result (λ d. HasOwnDefinitions
-            (state_with (settings_of settings.now) self.old)
-            → SubschemaHeadline (state_with (settings_of settings.now) self.new) n d) }
-        ensures part { IfOk result (IsPartOf (state_with (settings_of settings.now) self.new) n) }
+            (state_with (document_settings_of settings.now) self.old)
+            → SubschemaHeadline (state_with (document_settings_of settings.now) self.new) n d) }
+        ensures part { IfOk result (IsPartOf
+            (state_with (document_settings_of settings.now) self.new) n) }
         ensures reference { IfOk result
-            (IsReferenceOf (state_with (settings_of settings.now) self.old)
-            (state_with (settings_of settings.now) self.new) n) }
-        ensures inlined { IfOk result (IsInlined (state_with (settings_of settings.now) self.old)) }
-        ensures step { OnOk result (Adds (state_with (settings_of settings.now) self.old)
-            (state_with (settings_of settings.now) self.new)) }
+            (IsReferenceOf (state_with (document_settings_of settings.now) self.old)
+            (state_with (document_settings_of settings.now) self.new) n) }
+        ensures inlined { IfOk result (IsInlined
+            (state_with (document_settings_of settings.now) self.old)) }
+        ensures step { OnOk result (Adds (state_with (document_settings_of settings.now) self.old)
+            (state_with (document_settings_of settings.now) self.new)) }
         ensures reached { IfOk result (λ d. IsNeeded
-            (state_with (settings_of settings.now) self.old)
-            (state_with (settings_of settings.now) self.new) (references d)) }
-        ensures own { HasOwnDefinitions (state_with (settings_of settings.now) self.old)
-            → HasOwnDefinitions (state_with (settings_of settings.now) self.new) }
+            (state_with (document_settings_of settings.now) self.old)
+            (state_with (document_settings_of settings.now) self.new) (references d)) }
+        ensures own { HasOwnDefinitions (state_with (document_settings_of settings.now) self.old)
+            → HasOwnDefinitions (state_with (document_settings_of settings.now) self.new) }
         ensures rest { self.new ≡ record self.old { names = self.new.names; definitions = self.new.definitions } }
         ensures unknown { (result ≡ Err (GenerateError.UnknownType n))
             ↔ (length self.old.rows ≤ n) }
@@ -223,11 +225,11 @@ impl Contents {
         self.answer(alloc, settings, Ask::Part(n))
     }
 
-    /// A schema of the members of row `n`, as they stand in the map of a struct: the document of
+    /// A schema of the members of row `n`, as they are in the map of a struct: the document of
     /// the row inside the Options around it, as it is flattened, with the definitions that this
     /// leads to. The members of an Option may be missing, unless `required`.
     ///
-    /// Refusals: `UnknownType(n)` where the table has no row `n`, and want of memory.
+    /// Errors: `UnknownType(n)` if the table has no row `n`; `OutOfMemory`.
     pub fn members_of(
         &mut self,
         alloc: Global,
@@ -236,17 +238,19 @@ impl Contents {
         required: bool,
     ) -> Result<Schema, GenerateError>
         ensures members { IfOk result
-            (IsAnswerOf (state_with (settings_of settings.now) self.new)
+            (IsAnswerOf (state_with (document_settings_of settings.now) self.new)
             (spec.members_of n required)) }
-        ensures step { OnOk result (Adds (state_with (settings_of settings.now) self.old)
-            (state_with (settings_of settings.now) self.new)) }
-        ensures needed { IfOk result (IsNeededFor (state_with (settings_of settings.now) self.old)
-            (state_with (settings_of settings.now) self.new) (spec.members_of n required)) }
+        ensures step { OnOk result (Adds (state_with (document_settings_of settings.now) self.old)
+            (state_with (document_settings_of settings.now) self.new)) }
+        ensures needed { IfOk result (IsNeededFor
+            (state_with (document_settings_of settings.now) self.old)
+            (state_with (document_settings_of settings.now) self.new)
+            (spec.members_of n required)) }
         ensures reached { IfOk result (λ d. IsOpenStruct (entry_at self.old.rows n)
-            → IsNeeded (state_with (settings_of settings.now) self.old)
-            (state_with (settings_of settings.now) self.new) (references d)) }
-        ensures own { HasOwnDefinitions (state_with (settings_of settings.now) self.old)
-            → HasOwnDefinitions (state_with (settings_of settings.now) self.new) }
+            → IsNeeded (state_with (document_settings_of settings.now) self.old)
+            (state_with (document_settings_of settings.now) self.new) (references d)) }
+        ensures own { HasOwnDefinitions (state_with (document_settings_of settings.now) self.old)
+            → HasOwnDefinitions (state_with (document_settings_of settings.now) self.new) }
         ensures rest { self.new ≡ record self.old { names = self.new.names; definitions = self.new.definitions } }
         ensures unknown { (result ≡ Err (GenerateError.UnknownType n))
             ↔ (length self.old.rows ≤ n) }
@@ -257,11 +261,11 @@ impl Contents {
         self.answer(alloc, settings, Ask::MembersOf(n, required))
     }
 
-    /// The schema of what stands beside a tag, for row `n`: the row's own document, opened inside,
-    /// where it has to stand in place, and elsewhere the row as a part, with the definitions that
+    /// The schema of the content beside a tag, for row `n`: the row's own document, opened inside,
+    /// where it has to be in place, and elsewhere the row as a part, with the definitions that
     /// this leads to.
     ///
-    /// Refusals: `UnknownType(n)` where the table has no row `n`, and want of memory.
+    /// Errors: `UnknownType(n)` if the table has no row `n`; `OutOfMemory`.
     pub fn content(
         &mut self,
         alloc: Global,
@@ -269,13 +273,15 @@ impl Contents {
         n: TypeNo,
     ) -> Result<Schema, GenerateError>
         ensures content { IfOk result
-            (IsAnswerOf (state_with (settings_of settings.now) self.new) (spec.content n)) }
-        ensures step { OnOk result (Adds (state_with (settings_of settings.now) self.old)
-            (state_with (settings_of settings.now) self.new)) }
-        ensures needed { IfOk result (IsNeededFor (state_with (settings_of settings.now) self.old)
-            (state_with (settings_of settings.now) self.new) (spec.content n)) }
-        ensures own { HasOwnDefinitions (state_with (settings_of settings.now) self.old)
-            → HasOwnDefinitions (state_with (settings_of settings.now) self.new) }
+            (IsAnswerOf (state_with (document_settings_of settings.now) self.new)
+            (spec.content n)) }
+        ensures step { OnOk result (Adds (state_with (document_settings_of settings.now) self.old)
+            (state_with (document_settings_of settings.now) self.new)) }
+        ensures needed { IfOk result (IsNeededFor
+            (state_with (document_settings_of settings.now) self.old)
+            (state_with (document_settings_of settings.now) self.new) (spec.content n)) }
+        ensures own { HasOwnDefinitions (state_with (document_settings_of settings.now) self.old)
+            → HasOwnDefinitions (state_with (document_settings_of settings.now) self.new) }
         ensures rest { self.new ≡ record self.old { names = self.new.names; definitions = self.new.definitions } }
         ensures unknown { (result ≡ Err (GenerateError.UnknownType n))
             ↔ (length self.old.rows ≤ n) }
@@ -293,17 +299,19 @@ impl Contents {
         settings: &DocumentSettings<'_>,
         ask: Ask,
     ) -> Result<Schema, GenerateError>
-        ensures said { IfOk result (IsAnswerOf (state_with (settings_of settings.now) self.new)
+        ensures said { IfOk result (IsAnswerOf
+            (state_with (document_settings_of settings.now) self.new)
             (ask_of ask)) }
-        ensures step { OnOk result (Adds (state_with (settings_of settings.now) self.old)
-            (state_with (settings_of settings.now) self.new)) }
-        ensures needed { IfOk result (IsNeededFor (state_with (settings_of settings.now) self.old)
-            (state_with (settings_of settings.now) self.new) (ask_of ask)) }
+        ensures step { OnOk result (Adds (state_with (document_settings_of settings.now) self.old)
+            (state_with (document_settings_of settings.now) self.new)) }
+        ensures needed { IfOk result (IsNeededFor
+            (state_with (document_settings_of settings.now) self.old)
+            (state_with (document_settings_of settings.now) self.new) (ask_of ask)) }
         ensures reached { IfOk result (λ d. IsPlainAsk self.old.rows (ask_of ask)
-            → IsNeeded (state_with (settings_of settings.now) self.old)
-            (state_with (settings_of settings.now) self.new) (references d)) }
-        ensures own { HasOwnDefinitions (state_with (settings_of settings.now) self.old)
-            → HasOwnDefinitions (state_with (settings_of settings.now) self.new) }
+            → IsNeeded (state_with (document_settings_of settings.now) self.old)
+            (state_with (document_settings_of settings.now) self.new) (references d)) }
+        ensures own { HasOwnDefinitions (state_with (document_settings_of settings.now) self.old)
+            → HasOwnDefinitions (state_with (document_settings_of settings.now) self.new) }
         ensures checked { IsChecked self.new.rows }
         ensures one_to_one { IsOneToOne self.new.names }
         ensures rest { self.new ≡ record self.old { names = self.new.names; definitions = self.new.definitions } }
@@ -320,8 +328,8 @@ impl Contents {
 
     /// The root document of row `n`, through the transforms.
     ///
-    /// Refusals: `UnknownType(n)` where the table has no row `n`, `DefinitionsPath` where there are
-    /// definitions that can't be placed at the path, those of the transforms, and want of memory.
+    /// Errors: `UnknownType(n)` where the table has no row `n`, `DefinitionsPath` if there are
+    /// definitions that cannot be placed at the path, the errors of the transforms; `OutOfMemory`.
     pub fn root_schema<T: Transform>(
         &mut self,
         alloc: Global,
@@ -330,19 +338,19 @@ impl Contents {
         n: TypeNo,
     ) -> Result<Schema, GenerateError>
         ensures root { IfOk result (IsThrough T.makes transforms.old transforms.new
-            (IsUntransformedCall (state_with (settings_of settings.now) self.old) n
-            (state_with (settings_of settings.now) self.new))) }
-        ensures own { HasOwnDefinitions (state_with (settings_of settings.now) self.old)
-            → HasOwnDefinitions (state_with (settings_of settings.now) self.new) }
+            (IsUntransformedCall (state_with (document_settings_of settings.now) self.old) n
+            (state_with (document_settings_of settings.now) self.new))) }
+        ensures own { HasOwnDefinitions (state_with (document_settings_of settings.now) self.old)
+            → HasOwnDefinitions (state_with (document_settings_of settings.now) self.new) }
         ensures unknown { (result ≡ Err (GenerateError.UnknownType n))
             ↔ (length self.old.rows ≤ n) }
         ensures refused { IfErr result (IsRootRefused T.makes transforms.old transforms.new
-            (state_with (settings_of settings.now) self.old) n) }
+            (state_with (document_settings_of settings.now) self.old) n) }
         ensures only_memory { HasPlainNotes self.old.rows
-            → IsDraftPath (path_of (state_with (settings_of settings.now) self.old))
+            → IsDraftPath (path_of (state_with (document_settings_of settings.now) self.old))
             → n < length self.old.rows → IfErr result (λ e. (e ≡ GenerateError.OutOfMemory)
             ⊎ IsTurnedDown T.makes transforms.old transforms.new
-            (IsLastRootCall (state_with (settings_of settings.now) self.old) n) e) }
+            (IsLastRootCall (state_with (document_settings_of settings.now) self.old) n) e) }
         ensures err { OnErr result (self.new ≡ self.old) }
     {
         self.known(n)?;
@@ -359,15 +367,15 @@ impl Contents {
         n: TypeNo,
     ) -> Result<Schema, GenerateError>
         ensures root { IfOk result (IsThrough T.makes transforms.old transforms.new
-            (IsUntransformed (state_with (settings_of settings.now) self) n)) }
+            (IsUntransformed (state_with (document_settings_of settings.now) self) n)) }
         ensures unknown { (result ≡ Err (GenerateError.UnknownType n)) ↔ (length self.rows ≤ n) }
         ensures refused { IfErr result (IsRootRefused T.makes transforms.old transforms.new
-            (state_with (settings_of settings.now) self) n) }
+            (state_with (document_settings_of settings.now) self) n) }
         ensures only_memory { HasPlainNotes self.rows
-            → IsDraftPath (path_of (state_with (settings_of settings.now) self))
+            → IsDraftPath (path_of (state_with (document_settings_of settings.now) self))
             → n < length self.rows → IfErr result (λ e. (e ≡ GenerateError.OutOfMemory)
             ⊎ IsTurnedDown T.makes transforms.old transforms.new
-            (IsLastRootCall (state_with (settings_of settings.now) self) n) e) }
+            (IsLastRootCall (state_with (document_settings_of settings.now) self) n) e) }
     {
         self.known(n)?;
         let mut document = self.last_root(alloc, settings, n)?;
@@ -377,8 +385,8 @@ impl Contents {
 
     /// The root document of an example, with the definitions, through the transforms.
     ///
-    /// Refusals: `DefinitionsPath` where there are definitions that can't be placed at the path,
-    /// those of the transforms, and want of memory.
+    /// Errors: `DefinitionsPath` if there are definitions that cannot be placed at the path,
+    /// the errors of the transforms; `OutOfMemory`.
     pub fn sample_root<T: Transform>(
         &self,
         alloc: Global,
@@ -387,10 +395,10 @@ impl Contents {
         sample: &Sample,
     ) -> Result<Schema, GenerateError>
         ensures root { IfOk result (IsThrough T.makes transforms.old transforms.new
-            (IsSampleRoot (settings_of settings.now) self.now.definitions
+            (IsSampleRoot (document_settings_of settings.now) self.now.definitions
             (example_of sample.now))) }
         ensures refused { IfErr result (IsSampleRefusedThrough T.makes transforms.old transforms.new
-            (settings_of settings.now) self.now.definitions (example_of sample.now)) }
+            (document_settings_of settings.now) self.now.definitions (example_of sample.now)) }
     {
         let definitions = self.work.copy_definitions()?;
         let mut document = sample_document(alloc, settings, sample, definitions)?;
@@ -407,9 +415,10 @@ impl Contents {
         sample: &Sample,
     ) -> Result<Schema, GenerateError>
         ensures root { IfOk result (IsThrough T.makes transforms.old transforms.new
-            (IsSampleRoot (settings_of settings.now) self.definitions (example_of sample.now))) }
+            (IsSampleRoot (document_settings_of settings.now) self.definitions
+            (example_of sample.now))) }
         ensures refused { IfErr result (IsSampleRefusedThrough T.makes transforms.old transforms.new
-            (settings_of settings.now) self.definitions (example_of sample.now)) }
+            (document_settings_of settings.now) self.definitions (example_of sample.now)) }
     {
         let Contents { mut work, .. } = self;
         let definitions = work.take_definitions(alloc);
@@ -427,10 +436,10 @@ impl Contents {
     ) -> Result<Schema, GenerateError>
         requires { n < length self.rows }
         ensures root { IfOk result (IsUntransformed
-            (state_with (settings_of settings.now) self) n) }
+            (state_with (document_settings_of settings.now) self) n) }
         ensures refused { IfErr result (λ e. (e ≡ GenerateError.OutOfMemory)
             ⊎ ((e ≡ GenerateError.DefinitionsPath)
-            × CannotPlace (state_with (settings_of settings.now) self) n)) }
+            × CannotPlace (state_with (document_settings_of settings.now) self) n)) }
     {
         let Contents { types, work } = self;
         last_document(alloc, settings, &types, work, n)

@@ -12,11 +12,11 @@ ghost use Rattle.schemars_build.specs.Naming.{IsOneToOne};
 ghost use Rattle.schemars_documents.specs.PlainTable.{IsPlainTable};
 ghost use Rattle.schemars_build.specs.Reached.{AreReached};
 ghost use Rattle.schemars_headline.specs.Keys.{HasKeysOnce};
-ghost use Rattle.schemars_generate.specs.DocumentSettings.{settings_of, state_of};
+ghost use Rattle.schemars_generate.specs.DocumentSettings.{document_settings_of, state_of};
 ghost use Rattle.schemars_generate.specs.Samples.{IsSampleRoot, IsSampleRefused};
 ghost use Rattle.schemars_sample.specs.Example.{example_of};
-ghost use Rattle.schemars_generate.specs.Through.{IsThrough, IsRefusedThrough, IsMade};
-ghost use Rattle.schemars_headline.specs.State.{plan_of as state_plan, work_of};
+ghost use Rattle.schemars_generate.specs.Through.{IsThrough, IsRefusedThrough, IsRootMade};
+ghost use Rattle.schemars_headline.specs.State.{state_plan, work_of};
 ghost use Rattle.schemars_documents.specs.View.{ask_of};
 ghost use Rattle.schemars_build.specs.Work as specs;
 ghost use Rattle.schemars_build.specs.Work.{Step, undone};
@@ -105,7 +105,7 @@ pub(crate) fn root_document<T: Transform>(
     requires known { n < length types.now }
     requires between { work.old ≡ work_of (state_of settings.now types.now work.old) }
     ensures root { IfOk result (IsThrough T.makes transforms.old transforms.new
-        (IsMade (state_of settings.now types.now work.old) n work.new)) }
+        (IsRootMade (state_of settings.now types.now work.old) n work.new)) }
     ensures refused { IfErr result
         (IsRefusedThrough T.makes transforms.old transforms.new
         (state_of settings.now types.now work.old) n) }
@@ -246,10 +246,10 @@ pub(crate) fn sample_document(
     definitions: Map<String, Value>,
 ) -> Result<Schema, GenerateError>
     ensures root { IfOk result
-        (IsSampleRoot (settings_of settings.now) (members_view definitions.entries)
+        (IsSampleRoot (document_settings_of settings.now) (members_view definitions.entries)
         (example_of sample.now)) }
     ensures refused { IfErr result
-        (IsSampleRefused (settings_of settings.now) (members_view definitions.entries)
+        (IsSampleRefused (document_settings_of settings.now) (members_view definitions.entries)
         (example_of sample.now)) }
 {
     let own = schemars_sample::root_document(alloc, sample, settings.meta_schema)?;

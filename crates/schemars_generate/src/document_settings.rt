@@ -4,7 +4,7 @@ use schemars_types::Contract;
 /// How documents are made.
 #[derive(Clone, Copy)]
 pub struct DocumentSettings<'s> {
-    /// A JSON Pointer to where the definitions stand.
+    /// A JSON Pointer to where the definitions are.
     pub definitions_path: &'s str,
     /// What a root document says of itself under `$schema`.
     pub meta_schema: Option<&'s str>,

@@ -134,7 +134,8 @@ impl<O: Drop> SchemaGenerator<O> {
     pub fn try_clone(&self, alloc: Global) -> Result<SchemaGenerator<O>, GenerateError>
         ensures copied { IfOk result (λ g. AreSettingsCopied self.now.settings g.settings) }
         ensures same { IfOk result (λ g. g.contents ≡ self.now.contents) }
-        ensures own { (result ≡ Err GenerateError.OwnTransform) ↔ IsTrue (some_own self.now.settings.transforms.items) }
+        ensures own { (result ≡ Err GenerateError.OwnTransform)
+            ↔ IsTrue (some_own self.now.settings.transforms.items) }
         ensures refused { IfErr result (λ e. (e ≡ GenerateError.OutOfMemory)
             ⊎ (e ≡ GenerateError.OwnTransform)) }
     {

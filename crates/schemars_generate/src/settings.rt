@@ -149,7 +149,8 @@ impl<O> SchemaSettings<O> {
     pub fn for_own<P: Drop>(&self, alloc: Global) -> Result<SchemaSettings<P>, GenerateError>
         ensures copied { IfOk result (λ s. AreSettingsCopied self.now s) }
         ensures none_own { IfOk result (λ s. some_own s.transforms.items ≡ false) }
-        ensures own { (result ≡ Err GenerateError.OwnTransform) ↔ IsTrue (some_own self.now.transforms.items) }
+        ensures own { (result ≡ Err GenerateError.OwnTransform)
+            ↔ IsTrue (some_own self.now.transforms.items) }
         ensures refused { IfErr result (λ e. (e ≡ GenerateError.OutOfMemory)
             ⊎ (e ≡ GenerateError.OwnTransform)) }
     {
@@ -168,7 +169,7 @@ impl<O> SchemaSettings<O> {
 
     // What the documents of these settings rest on.
     pub(crate) fn document(&self) -> DocumentSettings<'_>
-        ensures { roots.settings_of result ≡ settings_of self.now }
+        ensures { roots.document_settings_of result ≡ settings_of self.now }
     {
         DocumentSettings {
             definitions_path: self.definitions_path.as_str(),
@@ -206,7 +207,8 @@ impl<O: Drop> SchemaSettings<O> {
     /// `OwnTransform` if and only if they have a user-defined transform; `OutOfMemory`.
     pub fn try_clone(&self, alloc: Global) -> Result<SchemaSettings<O>, GenerateError>
         ensures copied { IfOk result (λ s. AreSettingsCopied self.now s) }
-        ensures own { (result ≡ Err GenerateError.OwnTransform) ↔ IsTrue (some_own self.now.transforms.items) }
+        ensures own { (result ≡ Err GenerateError.OwnTransform)
+            ↔ IsTrue (some_own self.now.transforms.items) }
         ensures refused { IfErr result (λ e. (e ≡ GenerateError.OutOfMemory)
             ⊎ (e ≡ GenerateError.OwnTransform)) }
     {

@@ -20,8 +20,8 @@ use Rattle.schemars_documents.specs.Documents.{reference, root_document}
 use Rattle.schemars_documents.specs.Basis.{Basis}
 use Rattle.schemars_headline.specs.Keys.{HasKeysOnce}
 use Rattle.schemars_documents.specs.PlainTable.{HasPlainNotes, HasNoFloat}
-use Rattle.schemars_build.specs.Work.{Plan, Work, IsKey, Refers, IsDefinition, Step, reference_to, basis_of}
-use Rattle.schemars_headline.specs.State.{State, plan_of, work_of, after_root, HasOwnDefinitions}
+use Rattle.schemars_build.specs.Work.{Plan, Work, IsKey, Refers, IsDefinition, Step, reference_to, basis_of_plan}
+use Rattle.schemars_headline.specs.State.{State, state_plan, work_of, after_root, HasOwnDefinitions}
 use Rattle.schemars_headline.specs.Headline.{Headline, WideHeadline, IsDraftPath, IsRootOf, IsTitledRoot, CannotPlace, with_definitions}
 use Rattle.schemars_build.specs.Placed.{is_in_place, IsPlaced, IsDocument}
 use Rattle.schemars_build.specs.Parts.{IsSubschema, IsDocumentOf}
@@ -47,69 +47,70 @@ definition-moved plan other old new rows contract titles inlines names refers k 
   is_text = h.is_text;
   pending = h.pending;
   document =
-      let wide = document-wider (basis_of plan) plan.inlines (Refers plan false old) (Refers other false new) refers h.pending h.row d
+      let wide = document-wider (basis_of_plan plan) plan.inlines (Refers plan false old) (Refers other false new) refers h.pending h.row d
       h.document in
-      let same : basis_of plan ≡ basis_of other =
+      let same : basis_of_plan plan ≡ basis_of_plan other =
       λ i. record { rows = rows i; contract = (contract i); titles = titles i } in
       let P : Basis → Type 0 = λ b. IsDocument b plan.inlines (Refers other false new) h.pending h.row d in
-      let Q : Bool → Type 0 = λ b. IsDocument (basis_of other) b (Refers other false new) h.pending h.row d in
+      let Q : Bool → Type 0 = λ b. IsDocument (basis_of_plan other) b (Refers other false new) h.pending h.row d in
       subst Q inlines (subst P same wide);
 }
 
 -- what a root call has, of what was there and what it adds
-pub definitions_in : (s : State) (root : Option ℕ) (w : Work) → Step (plan_of s root) (work_of s) w → HasOwnDefinitions s
-    → AllStand (plan_of s root) w
+pub definitions_in : (s : State) (root : Option ℕ) (w : Work) → Step (state_plan s root) (work_of s) w → HasOwnDefinitions s
+    → AllStand (state_plan s root) w
 definitions_in s root w step own k d found = go (get_member k s.definitions) refl
   where
-    go : (o : Option Data) → get_member k s.definitions ≡ o → Stands (plan_of s root) w k d
-    go None is = stands_now (plan_of s root) w k d (step.adds k d is found).definition
+    go : (o : Option Data) → get_member k s.definitions ≡ o → Stands (state_plan s root) w k d
+    go None is = stands_now (state_plan s root) w k d (step.adds k d is found).definition
     go (Some e) is =
         let kept : get_member k w.definitions ≡ Some e = step.stays k e is in
         let same : e ≡ d = cc in
-        let P : Data → Type 0 = λ x. Stands (plan_of s root) w k x in
-        subst P same (stands_before (plan_of s root) w k e (definition-wider (plan_of s None) (work_of s) w
-        (step_wider (plan_of s root) (work_of s) w step) k e (own k e is)))
+        let P : Data → Type 0 = λ x. Stands (state_plan s root) w k x in
+        subst P same (stands_before (state_plan s root) w k e (definition-wider (state_plan s None) (work_of s) w
+        (step_wider (state_plan s root) (work_of s) w step) k e (own k e is)))
 
 -- no definition refers to the root, so they can stay
-pub definitions_kept : (s : State) (root : Option ℕ) (w : Work) → w.meets_root ≡ false → Step (plan_of s root) (work_of s) w
+pub definitions_kept : (s : State) (root : Option ℕ) (w : Work) → w.meets_root ≡ false → Step (state_plan s root) (work_of s) w
     → HasOwnDefinitions s → HasOwnDefinitions (record s { names = w.names; definitions = w.definitions })
 definitions_kept s root w none step own k d found = go (get_member k s.definitions) refl
   where
     new : State
     new = record s { names = w.names; definitions = w.definitions }
 
-    from_root : (n : ℕ) (r : Text) → Refers (plan_of s root) false w n r → Refers (plan_of new None) false (work_of new) n r
+    from_root : (n : ℕ) (r : Text) → Refers (state_plan s root) false w n r → Refers (state_plan new None) false (work_of new) n r
     from_root n r (inl h) = absurd (true≢false (sym h.1 ∙ none))
     from_root n r (inr h) = inr (h.0, h.1, h.2, h.3, h.4, λ e. cc)
 
     wider : Wider s.settings.contract (work_of s) (work_of new)
     wider = record {
-      names = (step_wider (plan_of s root) (work_of s) w step).names;
-      keys = (step_wider (plan_of s root) (work_of s) w step).keys;
+      names = (step_wider (state_plan s root) (work_of s) w step).names;
+      keys = (step_wider (state_plan s root) (work_of s) w step).keys;
       meets = λ e. e;
     }
 
-    go : (o : Option Data) → get_member k s.definitions ≡ o → IsDefinition (plan_of new None) (work_of new) k d
-    go None is = definition-moved (plan_of s root) (plan_of new None) w (work_of new) refl refl refl refl (λ n name e. e) from_root k d
+    go : (o : Option Data) → get_member k s.definitions ≡ o → IsDefinition (state_plan new None) (work_of new) k d
+    go None is = definition-moved (state_plan s root) (state_plan new None) w (work_of new) refl refl refl refl
+        (λ n name e. e) from_root k d
         (step.adds k d is found).definition
     go (Some e) is =
         let kept : get_member k w.definitions ≡ Some e = step.stays k e is in
         let same : e ≡ d = cc in
-        let P : Data → Type 0 = λ x. IsDefinition (plan_of new None) (work_of new) k x in
-        subst P same (definition-wider (plan_of s None) (work_of s) (work_of new) wider k e (own k e is))
+        let P : Data → Type 0 = λ x. IsDefinition (state_plan new None) (work_of new) k x in
+        subst P same (definition-wider (state_plan s None) (work_of s) (work_of new) wider k e (own k e is))
 
 -- the old ones stay the generator's own as names join
-names_joined : (s : State) (w : Work) (root : Option ℕ) → Step (plan_of s root) (work_of s) w → HasOwnDefinitions s
+names_joined : (s : State) (w : Work) (root : Option ℕ) → Step (state_plan s root) (work_of s) w → HasOwnDefinitions s
     → HasOwnDefinitions (record s { names = w.names })
 names_joined s w root step own k d found =
     let new = record s { names = w.names } in
-    definition-wider (plan_of s None) (work_of s) (work_of new) (record {
-      names = λ n name e. (step_wider (plan_of s root) (work_of s) w step).names n name e;
+    definition-wider (state_plan s None) (work_of s) (work_of new) (record {
+      names = λ n name e. (step_wider (state_plan s root) (work_of s) w step).names n name e;
       keys = λ q is. is;
       meets = λ e. e;
     }) k d (own k d found)
 
-pub after_root_own : (s : State) (n : ℕ) (w : Work) → Step (plan_of s (Some n)) (work_of s) w → HasOwnDefinitions s
+pub after_root_own : (s : State) (n : ℕ) (w : Work) → Step (state_plan s (Some n)) (work_of s) w → HasOwnDefinitions s
     → HasOwnDefinitions (after_root s w)
 after_root_own s n w step own = go w.meets_root refl
   where
@@ -122,76 +123,77 @@ after_root_own s n w step own = go w.meets_root refl
     go false is = definitions_kept s (Some n) w is step own
 
 pub part_own : (s new : State) → new ≡ record s { names = new.names; definitions = new.definitions }
-    → Step (plan_of s None) (work_of s) (work_of new) → HasOwnDefinitions s → HasOwnDefinitions new
+    → Step (state_plan s None) (work_of s) (work_of new) → HasOwnDefinitions s → HasOwnDefinitions new
 part_own s new same step own =
     subst HasOwnDefinitions (sym same) (definitions_kept s None (work_of new) refl step own)
 
 -- ---- root documents
 
 pub root_means_wide : (s : State) (n : ℕ) (w : Work) (d : Data) → IsChecked s.rows → IsRootOf s n w d → HasKeysOnce w.definitions
-    → IsOneToOne w.names → HasOwnDefinitions s → IsDraftPath (plan_of s None).path
-    → WideHeadline s.rows s.settings.contract (plan_of s None).path n d
+    → IsOneToOne w.names → HasOwnDefinitions s → IsDraftPath (state_plan s None).path
+    → WideHeadline s.rows s.settings.contract (state_plan s None).path n d
 root_means_wide s n w d checked root once one own path = root_call_means s n w d root checked one once
     (definitions_in s (Some n) w root.step own) path
 
 -- a plain table is plain under each contract
 pub root_means : (s : State) (n : ℕ) (w : Work) (d : Data) → IsChecked s.rows → IsRootOf s n w d → HasKeysOnce w.definitions
-    → IsOneToOne w.names → HasOwnDefinitions s → IsDraftPath (plan_of s None).path
-    → Headline s.rows s.settings.contract (plan_of s None).path n d
+    → IsOneToOne w.names → HasOwnDefinitions s → IsDraftPath (state_plan s None).path
+    → Headline s.rows s.settings.contract (state_plan s None).path n d
 root_means s n w d checked root once one own path plain =
     root_means_wide s n w d checked root once one own path (plain_under s.rows s.settings.contract plain)
 
 pub root_is_whole : (s : State) (n : ℕ) (w : Work) (d : Data) → IsRootOf s n w d → HasKeysOnce w.definitions → HasNoFloat s.rows
     → HasOwnDefinitions s → has_float d ≡ false
 root_is_whole s n w d root once none own =
-    whole_with_definitions (plan_of s (Some n)).path w.definitions (root_document (name_at s.rows n) s.settings.meta_schema root.own) d
-    (definitions_whole (plan_of s (Some n)) w none (definitions_in s (Some n) w root.step own) once)
-    (root_whole (name_at s.rows n) s.settings.meta_schema root.own (described_whole (basis_of (plan_of s None))
-    (Refers (plan_of s (Some n)) true w) none root.is_document.0 n root.own
-    (document_describes (basis_of (plan_of s None)) s.settings.inlines (Refers (plan_of s (Some n)) true w) [] n root.own
+    whole_with_definitions (state_plan s (Some n)).path w.definitions (root_document (name_at s.rows n) s.settings.meta_schema root.own) d
+    (definitions_whole (state_plan s (Some n)) w none (definitions_in s (Some n) w root.step own) once)
+    (root_whole (name_at s.rows n) s.settings.meta_schema root.own (described_whole (basis_of_plan (state_plan s None))
+    (Refers (state_plan s (Some n)) true w) none root.is_document.0 n root.own
+    (document_describes (basis_of_plan (state_plan s None)) s.settings.inlines (Refers (state_plan s (Some n)) true w) [] n root.own
     root.is_document)))
     root.is_root
 
-pub always_placed : (s : State) (n : ℕ) → HasPlainNotes s.rows → IsDraftPath (plan_of s None).path → CannotPlace s n → ⊥
+pub always_placed : (s : State) (n : ℕ) → HasPlainNotes s.rows → IsDraftPath (state_plan s None).path → CannotPlace s n → ⊥
 always_placed s n plain path h =
-    let R = Refers (plan_of s (Some n)) true h.work in
-    let there = root_placed (plan_of s (Some n)) h.work n (name_at s.rows n) s.settings.meta_schema h.is_document.0 h.own plain R
-    (document_describes (basis_of (plan_of s (Some n))) s.settings.inlines R [] n h.own h.is_document) path in
+    let R = Refers (state_plan s (Some n)) true h.work in
+    let there = root_placed (state_plan s (Some n)) h.work n (name_at s.rows n) s.settings.meta_schema h.is_document.0 h.own plain R
+    (document_describes (basis_of_plan (state_plan s (Some n))) s.settings.inlines R [] n h.own h.is_document) path in
     let some = there.1 in
     let none = h.no_place in
     cc
 
 -- ---- parts
 
-pub reference_of_part : (s : State) (n : ℕ) (d : Data) → IsSubschema (plan_of s None) false (work_of s) n d
+pub reference_of_part : (s : State) (n : ℕ) (d : Data) → IsSubschema (state_plan s None) false (work_of s) n d
     → is_in_place s.rows s.settings.inlines [] n ≡ false
     → (name : Text) × (name_of n s.settings.contract s.names ≡ Some name) × IsKey name s.definitions
-    × (d ≡ reference (reference_to (plan_of s None).path name))
+    × (d ≡ reference (reference_to (state_plan s None).path name))
 reference_of_part s n d (inl (r, (inl h, e), same)) apart = cc
 reference_of_part s n d (inl (r, (inr h, e), same)) apart = (h.0, h.1, h.2, same ∙ ap reference h.3)
 reference_of_part s n d (inr h) apart = absurd (true≢false (sym h.1 ∙ apart))
 
 -- what the running call has marked doesn't matter without a root
 pub part_kept : (s new : State) (w : Work) (n : ℕ) (d : Data) → new ≡ record s { names = w.names; definitions = w.definitions }
-    → w.pending ≡ [] → IsSubschema (plan_of s None) false w n d → IsSubschema (plan_of new None) false (work_of new) n d
+    → w.pending ≡ [] → IsSubschema (state_plan s None) false w n d → IsSubschema (state_plan new None) false (work_of new) n d
 part_kept s new w n d same none h =
-    let plan = plan_of s None in
-    let P : State → Type 0 = λ x. IsSubschema (plan_of x None) false (work_of x) n d in
+    let plan = state_plan s None in
+    let P : State → Type 0 = λ x. IsSubschema (state_plan x None) false (work_of x) n d in
     let Q : List ℕ → Type 0 = λ p. IsPlaced plan.rows plan.inlines p (Refers plan false w)
-    (IsDocument (basis_of plan) plan.inlines (Refers plan false w) p) n d in
+    (IsDocument (basis_of_plan plan) plan.inlines (Refers plan false w) p) n d in
     subst P (sym same) (placed_map plan.rows plan.inlines [] (Refers plan false w) (Refers plan false v)
-    (IsDocument (basis_of plan) plan.inlines (Refers plan false w) []) (IsDocument (basis_of plan) plan.inlines (Refers plan false v) [])
-    moved (document-wider (basis_of plan) plan.inlines (Refers plan false w) (Refers plan false v) moved []) n d (subst Q none h))
+    (IsDocument (basis_of_plan plan) plan.inlines (Refers plan false w) [])
+    (IsDocument (basis_of_plan plan) plan.inlines (Refers plan false v) [])
+    moved (document-wider (basis_of_plan plan) plan.inlines (Refers plan false w) (Refers plan false v) moved []) n d (subst Q none h))
   where
     v : Work
     v = work_of (record s { names = w.names; definitions = w.definitions })
 
-    moved : (j : ℕ) (r : Text) → Refers (plan_of s None) false w j r → Refers (plan_of s None) false v j r
+    moved : (j : ℕ) (r : Text) → Refers (state_plan s None) false w j r → Refers (state_plan s None) false v j r
     moved j r (inl h) = cc
     moved j r (inr h) = inr h
 
-pub step_kept : (s : State) (w : Work) → Step (plan_of s None) (work_of s) w
-    → Step (plan_of s None) (work_of s) (work_of (record s { names = w.names; definitions = w.definitions }))
+pub step_kept : (s : State) (w : Work) → Step (state_plan s None) (work_of s) w
+    → Step (state_plan s None) (work_of s) (work_of (record s { names = w.names; definitions = w.definitions }))
 unfolding definition-moved
 step_kept s w h = record {
   names = h.names;
@@ -199,7 +201,7 @@ step_kept s w h = record {
   adds = λ k d none some.
       let added = h.adds k d none some in
       record {
-        definition = definition-moved (plan_of s None) (plan_of s None) w v refl refl refl refl (λ n name e. e) moved k d
+        definition = definition-moved (state_plan s None) (state_plan s None) w v refl refl refl refl (λ n name e. e) moved k d
             added.definition;
         more = added.more;
         within = added.within;
@@ -212,7 +214,7 @@ step_kept s w h = record {
     v : Work
     v = work_of (record s { names = w.names; definitions = w.definitions })
 
-    moved : (j : ℕ) (r : Text) → Refers (plan_of s None) false w j r → Refers (plan_of s None) false v j r
+    moved : (j : ℕ) (r : Text) → Refers (state_plan s None) false w j r → Refers (state_plan s None) false v j r
     moved j r (inl h) = cc
     moved j r (inr h) = inr h
 
@@ -261,24 +263,24 @@ pub one_to_one-none : IsOneToOne []
 one_to_one-none = record { one_row = λ m n c d name a b. cc }
 
 pub cannot_place : (s : State) (n : ℕ) (old w : Work) (t : Data) (path : Text) (ms : Members) → old ≡ work_of s
-    → Step (plan_of s (Some n)) old w → IsTitledRoot s old n w t → path ≡ (plan_of s None).path → ms ≡ w.definitions
+    → Step (state_plan s (Some n)) old w → IsTitledRoot s old n w t → path ≡ (state_plan s None).path → ms ≡ w.definitions
     → with_definitions path ms t ≡ None → CannotPlace s n
 cannot_place s n old w t path ms between step titled same_path same none = record {
   work = w;
-  step = subst (λ x. Step (plan_of s (Some n)) x w) between step;
+  step = subst (λ x. Step (state_plan s (Some n)) x w) between step;
   own = titled.own;
-  is_document = subst (λ p. IsDocumentOf (plan_of s (Some n)) true w p n titled.own) (ap (λ x. x.pending) between) titled.is_document;
+  is_document = subst (λ p. IsDocumentOf (state_plan s (Some n)) true w p n titled.own) (ap (λ x. x.pending) between) titled.is_document;
   no_place = sym (λ i. with_definitions (same_path i) (same i) (titled.is_root i)) ∙ none;
-  reached = λ plain. subst (λ x. AreReached (plan_of s (Some n)) false x w (references titled.own)) between (titled.reached plain);
+  reached = λ plain. subst (λ x. AreReached (state_plan s (Some n)) false x w (references titled.own)) between (titled.reached plain);
 }
 
 pub root_of : (s : State) (n : ℕ) (old w : Work) (t d : Data) (path : Text) (ms : Members) → old ≡ work_of s
-    → Step (plan_of s (Some n)) old w → IsTitledRoot s old n w t → path ≡ (plan_of s None).path → ms ≡ w.definitions
+    → Step (state_plan s (Some n)) old w → IsTitledRoot s old n w t → path ≡ (state_plan s None).path → ms ≡ w.definitions
     → with_definitions path ms t ≡ Some d → IsRootOf s n w d
 root_of s n old w t d path ms between step titled same_path same made = record {
-  step = subst (λ x. Step (plan_of s (Some n)) x w) between step;
+  step = subst (λ x. Step (state_plan s (Some n)) x w) between step;
   own = titled.own;
-  is_document = subst (λ p. IsDocumentOf (plan_of s (Some n)) true w p n titled.own) (ap (λ x. x.pending) between) titled.is_document;
+  is_document = subst (λ p. IsDocumentOf (state_plan s (Some n)) true w p n titled.own) (ap (λ x. x.pending) between) titled.is_document;
   is_root = sym (λ i. with_definitions (same_path i) (same i) (titled.is_root i)) ∙ made;
-  reached = λ plain. subst (λ x. AreReached (plan_of s (Some n)) false x w (references titled.own)) between (titled.reached plain);
+  reached = λ plain. subst (λ x. AreReached (state_plan s (Some n)) false x w (references titled.own)) between (titled.reached plain);
 }

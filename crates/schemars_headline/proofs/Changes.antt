@@ -11,7 +11,7 @@ use Rattle.schemars_schema.specs.OrderedText.{is_listed}
 use Rattle.schemars_schema.specs.SchemaData.{IsSchema, members_in, put_members}
 use Rattle.schemars_schema.specs.Annotations.{is_annotation, AreNotes}
 use Rattle.schemars_schema.specs.Edits.{without, replaced, holds_text, with_item}
-use Rattle.schemars_schema.specs.References.{NoSchemas, place_under, with_schema, with_list, with_names}
+use Rattle.schemars_schema.specs.References.{NoSchemas, place_under, with_schema, with_list, keywords_with_names}
 use Rattle.schemars_schema.specs.Acceptance.{is_null}
 use Rattle.schemars_schema.proofs.Objects.{annotation-not_listed}
 use Rattle.schemars_schema.proofs.Members.{differ, unequal}
@@ -22,7 +22,7 @@ use Rattle.schemars_meaning.proofs.MapDocument.{noted_by, AllNotes}
 use Rattle.schemars_laws.specs.Everywhere.{Everywhere, asked, asked_at, asked_of_keywords}
 use Rattle.schemars_laws.specs.Names.{IsNoObject}
 use Rattle.schemars_laws.specs.Classes.{IsOnce, IsSchemaList, AreTexts, is_null_alone, IsConstAlone, HasPlainItems, HasNoUnevaluated}
-use Rattle.schemars_laws.specs.Stages.{IsTextOf, Stands, IsForOpenApi, AreSomeTypes, HasSomeTypes, Anything}
+use Rattle.schemars_laws.specs.Stages.{IsTextWith, Stands, IsForOpenApi, AreSomeTypes, HasSomeTypes, Anything}
 use Rattle.schemars_laws.proofs.Editing.{without-put, alike-put, alike-replaced, once-put, absent-once, type-alike, values-alike}
 use Rattle.schemars_laws.proofs.Editing.{const-alike, stands-alike}
 use Rattle.schemars_laws.proofs.Looked.{without-other}
@@ -51,7 +51,7 @@ either_false false h = h
 
 -- no schema stands under a keyword of no list
 pub place-none : (k : Text) → is_listed k with_schema ≡ false → is_listed k with_list ≡ false
-    → is_listed k (codes "items" ∷ []) ≡ false → is_listed k with_names ≡ false → place_under k ≡ NoSchemas
+    → is_listed k (codes "items" ∷ []) ≡ false → is_listed k keywords_with_names ≡ false → place_under k ≡ NoSchemas
 place-none k one list items names = rw (one, list, either_false (bytes_eq k (codes "items")) items, names) refl
 
 note-unwatched : (k : Text) → is_annotation k ≡ true → IsUnwatched k
@@ -60,7 +60,7 @@ note-unwatched k note = annotation-not_listed k watched refl note
 note-place : (k : Text) → is_annotation k ≡ true → place_under k ≡ NoSchemas
 note-place k note =
     place-none k (annotation-not_listed k with_schema refl note) (annotation-not_listed k with_list refl note)
-    (annotation-not_listed k (codes "items" ∷ []) refl note) (annotation-not_listed k with_names refl note)
+    (annotation-not_listed k (codes "items" ∷ []) refl note) (annotation-not_listed k keywords_with_names refl note)
 
 -- where no schema stands, nothing is asked
 pub asked-nothing : (P : Members → Type 0) (k : Text) (d : Data) → place_under k ≡ NoSchemas
@@ -263,7 +263,7 @@ module _ (R : Demand) where
   }
 
   -- members are of the class where there is neither `nullable`, `const` nor `enum`, and what else it asks about is as it asks
-  pub class-of : (ms : Members) → IsTextOf R.refers (get_member (codes "$ref") ms) → IsOnce (codes "$ref") ms
+  pub class-of : (ms : Members) → IsTextWith R.refers (get_member (codes "$ref") ms) → IsOnce (codes "$ref") ms
       → IsNoObject (get_member (codes "unevaluatedProperties") ms) → R.rest ms → AreSomeTypes (get_member (codes "type") ms)
       → get_member (codes "nullable") ms ≡ None → get_member (codes "const") ms ≡ None → get_member (codes "enum") ms ≡ None
       → IsSchemaList (get_member (codes "allOf") ms) → HasPlainItems ms → Class R ms
@@ -333,7 +333,7 @@ module _ (R : Demand) where
 
   -- ---- null
 
-  -- what joins to other types leaves them others
+  -- what is added to other types leaves them others
   types-with : (t : Data) → AreSomeTypes (Some t) → AreSomeTypes (Some (type_with_null t))
   types-with null is = tt
   types-with (boolean b) is = tt

@@ -17,11 +17,11 @@ use Rattle.schemars_types.specs.declared.contract.Contract.{Contract}
 use Rattle.schemars_types.specs.Faults.{IsChecked}
 use Rattle.schemars_documents.specs.PlainTable.{IsPlainTable, IsPlainUnder}
 use Rattle.schemars_build.specs.Naming.{IsOneToOne}
-use Rattle.schemars_build.specs.Work.{Plan, Work, Refers, reference_to, basis_of}
+use Rattle.schemars_build.specs.Work.{Plan, Work, Refers, reference_to, basis_of_plan}
 use Rattle.schemars_meaning.proofs.Schemas.{described}
 use Rattle.schemars_meaning.proofs.Referring.{plain_rows, under_rows}
 use Rattle.schemars_build.proofs.Settled.{fields_settled, enums_settled}
-use Rattle.schemars_headline.specs.State.{State, path_of, plan_of, HasOwnDefinitions}
+use Rattle.schemars_headline.specs.State.{State, path_of, state_plan, HasOwnDefinitions}
 use Rattle.schemars_headline.specs.Headline.{MeansItsType, IsDraftPath, IsRootOf}
 use Rattle.schemars_headline.specs.Keys.{HasKeysOnce}
 use Rattle.schemars_headline.proofs.Standing.{MayRefer, AllStand}
@@ -69,7 +69,7 @@ module _ (plan : Plan) (w : Work) (key : Text) (at : StandsAt plan.path key) (de
           is.2.0,
           sym (name.there alone w.definitions (get_member-put key (object w.definitions) no_members))
               ∙ (holds_put plan.path key at w.definitions no_members).leads is.0 is.2.0 stands.is_text is.2.1,
-          described (basis_of plan) (MayRefer plan w) stands.depth stands.row is.2.0 stands.describes,
+          described (basis_of_plan plan) (MayRefer plan w) stands.depth stands.row is.2.0 stands.describes,
         ),
       )
 
@@ -109,7 +109,7 @@ one-resolves key definitions document has t is = subst (λ d. is_some (resolved 
 module _ (s : State) (n : ℕ) (w : Work) (document : Data) (root : IsRootOf s n w document) (once : HasKeysOnce w.definitions)
     (own : HasOwnDefinitions s) (key : Text) (at : StandsAt (path_of s) key) where
   abbrev plan : Plan
-  plan = plan_of s (Some n)
+  plan = state_plan s (Some n)
 
   abbrev standing : AllStand plan w
   standing = definitions_in s (Some n) w root.step own
@@ -156,7 +156,7 @@ module _ (s : State) (n : ℕ) (w : Work) (document : Data) (root : IsRootOf s n
       → IsReady (Class (without_rest N)) key w.definitions document
   plain-ready plain N refer =
       root_call-ready s n w document key root (plain_rows s.rows plain) once standing at (without_rest N)
-      (described-good (without_rest N) (basis_of plan) (MayRefer plan w) refer plain)
+      (described-good (without_rest N) (basis_of_plan plan) (MayRefer plan w) refer plain)
 
   draft07_ready : IsPlainTable s.rows → IsReadyAs IsForOpenApi
   draft07_ready plain N refer =
@@ -172,7 +172,7 @@ module _ (s : State) (n : ℕ) (w : Work) (document : Data) (root : IsRootOf s n
   wide_ready checked plain N refer =
       ready-as (Class (with_rest N)) (Stands N HasPlainItems) (for_items (with_rest N)) key w.definitions document
       (root_call-ready s n w document key root (under_rows contract s.rows plain) once standing at (with_rest N)
-      (described-under N (basis_of plan) (MayRefer plan w) refer plain (λ j e found. fields_settled s.rows checked j
+      (described-under N (basis_of_plan plan) (MayRefer plan w) refer plain (λ j e found. fields_settled s.rows checked j
       ∙ ap (λ o. option_map_or (λ e. shape_fields (flattened_in s.rows) e.shape) o []) found) (enums_settled s.rows checked)))
 
 -- the key of the definitions, at the path of a draft

@@ -13,7 +13,7 @@ use Rattle.schemars_schema.specs.References.{at_place, found_in, found_in_items,
 use Rattle.schemars_schema.specs.References.{resolves, all_resolve}
 use Rattle.schemars_schema.proofs.Members.{get_member-member as get_member-first}
 use Rattle.schemars_laws.specs.Everywhere.{asked, asked_at, asked_of_items, asked_of_members, asked_of_keywords}
-use Rattle.schemars_laws.specs.Stages.{IsTextOf}
+use Rattle.schemars_laws.specs.Stages.{IsTextWith}
 use Rattle.schemars_headline.proofs.ReferencesKept.{RefersOnce}
 
 -- ---- each reference, where those that stand once are as R says
@@ -37,7 +37,7 @@ module _ (R : Text → Type 0) (document : Data) (leads : (t : Text) → R t →
   -- each member at `$ref`
   abbrev EachRefers : Members → Type 0
   EachRefers no_members = Unit {0}
-  EachRefers (member k d ms) = (bytes_eq k (codes "$ref") ≡ true → IsTextOf R (Some d)) × EachRefers ms
+  EachRefers (member k d ms) = (bytes_eq k (codes "$ref") ≡ true → IsTextWith R (Some d)) × EachRefers ms
 
   none-refers : (ms : Members) → get_member (codes "$ref") ms ≡ None → EachRefers ms
   none-refers no_members none = tt
@@ -69,18 +69,18 @@ module _ (R : Text → Type 0) (document : Data) (leads : (t : Text) → R t →
       others b at = sym (ap (λ x. get_member (codes "$ref") (if x then ms else member k d (without (codes "$ref") ms))) at) ∙ is.1
 
       go : (b : Bool) → bytes_eq (codes "$ref") k ≡ b → (P ms → EachRefers ms) → EachRefers (member k d ms)
-      go true at later = (λ same. subst (IsTextOf R) (found true at) is.0, none-refers ms (others true at))
+      go true at later = (λ same. subst (IsTextWith R) (found true at) is.0, none-refers ms (others true at))
       go false at later = (
         λ same. absurd (true≢false
             (sym ((bytes_eq-Decides (codes "$ref") k).1 (sym ((bytes_eq-Decides k (codes "$ref")).0 same))) ∙ at)),
         later (
-          subst (IsTextOf R) (found false at) is.0,
+          subst (IsTextWith R) (found false at) is.0,
           sym (get_member-first (codes "$ref") k d (without (codes "$ref") ms)
               ∙ ap (λ x. if x then Some d else get_member (codes "$ref") (without (codes "$ref") ms)) at) ∙ others false at,
         ),
       )
 
-  referring-leads : (d : Data) → IsTextOf R (Some d) → resolves document d ≡ true
+  referring-leads : (d : Data) → IsTextWith R (Some d) → resolves document d ≡ true
   referring-leads (string t) is = leads t is
   referring-leads null is = absurd is
   referring-leads (boolean b) is = absurd is
@@ -97,12 +97,12 @@ module _ (R : Text → Type 0) (document : Data) (leads : (t : Text) → R t →
   at SchemaOrList d one list names a = resolve-append (references d) (found_in d).in_list (one a.0) (list a.1)
   at SchemasByName d one list names a = names a
 
-  under : (k : Text) (d : Data) → (bytes_eq k (codes "$ref") ≡ true → IsTextOf R (Some d))
+  under : (k : Text) (d : Data) → (bytes_eq k (codes "$ref") ≡ true → IsTextWith R (Some d))
       → Resolve (at_place (place_under k) (found_in d))
       → Resolve (if bytes_eq k (codes "$ref") then d ∷ [] else at_place (place_under k) (found_in d))
   under k d here inside = go (bytes_eq k (codes "$ref")) here
     where
-      go : (b : Bool) → (b ≡ true → IsTextOf R (Some d))
+      go : (b : Bool) → (b ≡ true → IsTextWith R (Some d))
           → Resolve (if b then d ∷ [] else at_place (place_under k) (found_in d))
       go true here = rw (referring-leads d (here refl)) refl
       go false here = inside

@@ -14,7 +14,7 @@ use Rattle.schemars_schema.specs.OrderedText.{is_listed}
 use Rattle.schemars_schema.specs.SchemaData.{IsSchema, members_in, object_of, put_all}
 use Rattle.schemars_schema.specs.Edits.{without, replaced, holds_text, with_member, with_first}
 use Rattle.schemars_schema.specs.Literal.{is_plain_member, ArePlainMembers, IsPlainLiteral, IsPlainObject, names_types, is_null_type}
-use Rattle.schemars_schema.specs.References.{NoSchemas, place_under, with_schema, with_list, with_names}
+use Rattle.schemars_schema.specs.References.{NoSchemas, place_under, with_schema, with_list, keywords_with_names}
 use Rattle.schemars_schema.proofs.Literals.{plain_at}
 use Rattle.schemars_schema.proofs.Members.{get_member-member as get_member-first}
 use Rattle.schemars_builders.specs.NullLaw.{zero_schema}
@@ -41,7 +41,7 @@ use Rattle.schemars_meaning.proofs.ByShape.{items_from, one_of_document, any_of_
 use Rattle.schemars_laws.specs.Everywhere.{Everywhere, asked, asked_of_items, asked_of_members, asked_of_keywords}
 use Rattle.schemars_laws.specs.Names.{IsNoObject}
 use Rattle.schemars_laws.specs.Classes.{IsOnce, IsNoList, AreSchemas, IsSchemaList, AreTexts, is_null_alone, HasPlainItems}
-use Rattle.schemars_laws.specs.Stages.{IsTextOf, AreSomeTypes}
+use Rattle.schemars_laws.specs.Stages.{IsTextWith, AreSomeTypes}
 use Rattle.schemars_laws.proofs.Editing.{absent-once}
 use Rattle.std.specs.Prelude.{is_some, option_and_then, option_map, nat_le}
 use Rattle.std.specs.Option.{option_map_or}
@@ -66,7 +66,7 @@ module _ (R : Demand) where
       → get_member (codes "unevaluatedProperties") ms ≡ None → get_member (codes "nullable") ms ≡ None → get_member (codes "const") ms ≡ None
       → get_member (codes "enum") ms ≡ None → get_member (codes "allOf") ms ≡ None → HasPlainItems ms → Class R ms
   own-items ms types ref rest nullable const enum all items =
-      class-of R ms (subst (IsTextOf R.refers) (sym ref) tt) (absent-once (codes "$ref") ms ref) (subst IsNoObject (sym rest) tt)
+      class-of R ms (subst (IsTextWith R.refers) (sym ref) tt) (absent-once (codes "$ref") ms ref) (subst IsNoObject (sym rest) tt)
       (R.lacking ms (absent-once (codes "unevaluatedProperties") ms rest, rest)) types nullable const enum
       (subst IsSchemaList (sym all) tt) items
 
@@ -367,7 +367,7 @@ plain-not_listed k d (l ∷ ls) none plain = go (bytes_eq k l) refl (plain-not_l
 plain-place : (k : Text) (d : Data) → is_plain_member k d ≡ true → place_under k ≡ NoSchemas
 plain-place k d plain =
     place-none k (plain-not_listed k d with_schema refl plain) (plain-not_listed k d with_list refl plain)
-    (plain-not_listed k d (codes "items" ∷ []) refl plain) (plain-not_listed k d with_names refl plain)
+    (plain-not_listed k d (codes "items" ∷ []) refl plain) (plain-not_listed k d keywords_with_names refl plain)
 
 -- ---- the types of literals
 
@@ -486,7 +486,7 @@ module _ (R : Demand) where
 
   literal-class : (ms : Members) → IsPlainObject ms → Class R ms
   literal-class ms plain = record {
-    reference = subst (IsTextOf R.refers) (sym (none (codes "$ref") refl)) tt;
+    reference = subst (IsTextWith R.refers) (sym (none (codes "$ref") refl)) tt;
     once = each-once (codes "$ref") ms plain.members;
     closed = subst IsNoObject (sym (none (codes "unevaluatedProperties") refl)) tt;
     own = record {

@@ -16,10 +16,10 @@ use Rattle.schemars_documents.specs.Documents.{Keyword}
 use Rattle.schemars_documents.specs.Basis.{Basis}
 use Rattle.schemars_documents.specs.Template.{Ask, part, members_of, content, Template, noted, tagged, row, asks_of, asks_in}
 use Rattle.schemars_documents.specs.Template.{filled, filled_in, keyed, left, Templates}
-use Rattle.schemars_documents.specs.OfShape.{templates_of, one_of, any_of, payload_template, named_template, member_template}
+use Rattle.schemars_documents.specs.OfShape.{templates_of, one_of_template, any_of_template, payload_template, named_template, member_template}
 use Rattle.schemars_documents.specs.OfShape.{bare_units, other_items, units_template, choice_of, external_template, title_alone}
 use Rattle.schemars_documents.specs.OfShape.{titled, payload_item, untagged_template, content_template, struct_template, internal_item}
-use Rattle.schemars_documents.specs.OfShape.{internal_template, KeywordTemplate, typed, object_with, values_of, all_patterns}
+use Rattle.schemars_documents.specs.OfShape.{internal_template, KeywordTemplate, typed_template, object_with, values_of, all_patterns}
 use Rattle.schemars_documents.specs.OfShape.{pattern_properties_at, properties_at, other_values, values_template}
 use Rattle.schemars_meaning.proofs.Parts.{first_all, left_all}
 use Rattle.schemars_meaning.proofs.Filling.{Fit, without_end, parted}
@@ -72,11 +72,11 @@ module _ (R : Demand) (A : Ask → Data → Type 0) (basis : Basis) (Under : Lis
         subst (λ ws. AllGood R (filled_in (templates_of ts) ws)) (sym p.5) (all-filled ts make.1 p.1 p.3),
       )
 
-  one-makes : (ts : List Template) → AllMake ts → Makes (one_of ts)
+  one-makes : (ts : List Template) → AllMake ts → Makes (one_of_template ts)
   one-makes ts make us fit =
       one_of-good R (filled_in (templates_of ts) us) (all-filled ts make us (without_end A (asks_in (templates_of ts)) us fit))
 
-  any-makes : (ts : List Template) → AllMake ts → Makes (any_of ts)
+  any-makes : (ts : List Template) → AllMake ts → Makes (any_of_template ts)
   any-makes ts make us fit =
       any_of-good R (filled_in (templates_of ts) us) (all-filled ts make us (without_end A (asks_in (templates_of ts)) us fit))
 
@@ -208,7 +208,7 @@ module _ (R : Demand) where
   named-asked value ks us all = asked-all R (keywords_at value ks us) no_members (rows-named value ks us all) tt
 
   keyed-good : (other : Template) (value : ℕ) (texts qs : List Text) (us : List Data) → IsGood R (filled other us) → AllGood R us
-      → IsGood R (filled (object_with (typed (codes "object") ∷ (codes "additionalProperties", other)
+      → IsGood R (filled (object_with (typed_template (codes "object") ∷ (codes "additionalProperties", other)
       ∷ (pattern_properties_at (values_of value qs) ++ properties_at (values_of value texts)))) us)
   unfolding asked
   keyed-good other value texts qs us is all = go texts qs
@@ -223,7 +223,7 @@ module _ (R : Demand) where
       behind : AllGood R (left other us)
       behind = left_all (IsGood R) other us all
 
-      go : (texts qs : List Text) → IsGood R (filled (object_with (typed (codes "object") ∷ (codes "additionalProperties", other)
+      go : (texts qs : List Text) → IsGood R (filled (object_with (typed_template (codes "object") ∷ (codes "additionalProperties", other)
           ∷ (pattern_properties_at (values_of value qs) ++ properties_at (values_of value texts)))) us)
       go [] [] = good R _ start
       go (t ∷ texts) [] =
@@ -268,7 +268,7 @@ parts-last : (value : ℕ) (ks : List Text) → AreParts (row_asks value ks ++ [
 parts-last value ks = parts-append (row_asks value ks) [] (parts-rows value ks) tt
 
 parts-keyed : (other : Template) (value : ℕ) (texts qs : List Text) → AreParts (asks_of other)
-    → AreParts (asks_of (object_with (typed (codes "object") ∷ (codes "additionalProperties", other)
+    → AreParts (asks_of (object_with (typed_template (codes "object") ∷ (codes "additionalProperties", other)
     ∷ (pattern_properties_at (values_of value qs) ++ properties_at (values_of value texts)))))
 parts-keyed other value [] [] are = parts-append (asks_of other) [] are tt
 parts-keyed other value (t ∷ texts) [] are =

@@ -36,7 +36,7 @@ use Rattle.schemars_documents.specs.Documents.{is_signed, bytes_document, requir
 use Rattle.schemars_documents.specs.Basis.{Basis}
 use Rattle.schemars_documents.specs.Template.{Template, finished, asked, row, list, members, nullable, noted, with_keywords, tagged}
 use Rattle.schemars_documents.specs.Template.{Templates, no_templates, template, left, keyed, filled, filled_in}
-use Rattle.schemars_documents.specs.OfShape.{object_with, typed, values_of, all_patterns, pattern_properties_at, other_values}
+use Rattle.schemars_documents.specs.OfShape.{object_with, typed_template, values_of, all_patterns, pattern_properties_at, other_values}
 use Rattle.schemars_documents.specs.OfShape.{properties_at}
 use Rattle.schemars_schema.specs.SchemaData.{is_schema}
 use Rattle.schemars_documents.specs.OfShape.{KeywordTemplate, templates_of, property, map_template, tuple_template}
@@ -51,7 +51,7 @@ use Rattle.schemars_documents.specs.PlainTable.{EntryHasNoFloat, HasNoFloat}
 use Rattle.schemars_schema.specs.Edits.{without, replaced, with_item, holds_text, with_member, with_first, changed_at, put_missing}
 use Rattle.schemars_schema.specs.Placing.{placed, placed_at, tokens_of}
 use Rattle.schemars_shapes.specs.Units.{is_bare_unit}
-use Rattle.schemars_build.specs.Work.{Plan, Work, basis_of}
+use Rattle.schemars_build.specs.Work.{Plan, Work, basis_of_plan}
 use Rattle.schemars_headline.proofs.Standing.{MayRefer, AllStand}
 use Rattle.schemars_headline.specs.Headline.{with_definitions}
 use Rattle.schemars_headline.specs.Keys.{HasKeysOnce}
@@ -171,17 +171,17 @@ whole_allow_null (boolean true) h = refl
 whole_allow_null (boolean false) h = refl
 whole_allow_null (object ms) h = go (is_null_choice (object ms)) (is_combined (object ms))
   where
-    typed : Members
-    typed = null_in_type (get_member (codes "type") ms) ms
+    typed_template : Members
+    typed_template = null_in_type (get_member (codes "type") ms) ms
 
-    whole : members_have_float typed ≡ false
+    whole : members_have_float typed_template ≡ false
     whole = whole_null_in_type (get_member (codes "type") ms) ms (whole_member (codes "type") ms h) h
 
     go : (stays b : Bool) → IsWhole (if stays then object ms else if b then or_null (object ms) else
         object (null_in_values (null_in_type (get_member (codes "type") ms) ms)))
     go true b = h
     go false true = rw h
-    go false false = whole_null_in_const (get_member (codes "const") typed) typed (whole_member (codes "const") typed whole) whole
+    go false false = whole_null_in_const (get_member (codes "const") typed_template) typed_template (whole_member (codes "const") typed_template whole) whole
 whole_allow_null null h = h
 whole_allow_null (number n) h = h
 whole_allow_null (string t) h = h
@@ -239,11 +239,11 @@ whole_with_first d (object ms) new h = h
 
 whole_tagged : (tag name : Text) (ms : Members) → members_have_float ms ≡ false → members_have_float (properties.tagged tag name ms) ≡ false
 whole_tagged tag name ms h =
-    let typed = put (codes "type") (string (codes "object")) ms in
-    let is_typed : members_have_float typed ≡ false = members_have_float-put (codes "type") (string (codes "object")) ms refl h in
-    let with_tag = changed_at (codes "properties") (with_member tag (unit_variant name)) (object no_members) typed in
+    let typed_template = put (codes "type") (string (codes "object")) ms in
+    let is_typed : members_have_float typed_template ≡ false = members_have_float-put (codes "type") (string (codes "object")) ms refl h in
+    let with_tag = changed_at (codes "properties") (with_member tag (unit_variant name)) (object no_members) typed_template in
     let has_tag : members_have_float with_tag ≡ false =
-    whole_changed_at (codes "properties") (with_member tag (unit_variant name)) (object no_members) typed
+    whole_changed_at (codes "properties") (with_member tag (unit_variant name)) (object no_members) typed_template
     (λ e. whole_with_member tag (unit_variant name) e refl) refl is_typed in
     whole_changed_at (codes "required") (with_first (string tag)) (array no_items) with_tag (λ e. whole_with_first (string tag) e refl)
     refl has_tag
@@ -432,7 +432,7 @@ other_whole true value = tt
 other_whole false value = refl
 
 keyed_whole : (other : Template) (texts qs : List Text) (value : ℕ) → SaysWhole other
-    → SaysWhole (object_with (typed (codes "object") ∷ (codes "additionalProperties", other)
+    → SaysWhole (object_with (typed_template (codes "object") ∷ (codes "additionalProperties", other)
     ∷ (pattern_properties_at (values_of value qs) ++ properties_at (values_of value texts))))
 keyed_whole other [] [] value h = search h
 keyed_whole other (t ∷ texts) [] value h = search (h, texts_whole_at value (t ∷ texts))
@@ -523,7 +523,7 @@ pub definitions_whole : (plan : Plan) (w : Work) → HasNoFloat plan.rows → Al
 definitions_whole plan w none definitions once =
     found_whole w.definitions once (λ k d found.
     let definition = definitions k d found in
-    described_whole (basis_of plan) (MayRefer plan w) none definition.depth definition.row d definition.describes)
+    described_whole (basis_of_plan plan) (MayRefer plan w) none definition.depth definition.row d definition.describes)
 
 -- ---- placed at a path
 

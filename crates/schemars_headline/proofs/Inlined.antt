@@ -29,11 +29,11 @@ use Rattle.schemars_build.proofs.Placing.{Answers}
 use Rattle.schemars_build.specs.Missing.{row_asked}
 use Rattle.schemars_build.proofs.Asked.{option_edges}
 use Rattle.schemars_headline.proofs.AskedRows.{own_asked}
-use Rattle.schemars_build.specs.Work.{Work, Refers, basis_of}
+use Rattle.schemars_build.specs.Work.{Work, Refers, basis_of_plan}
 use Rattle.schemars_build.specs.Parts.{IsSubschema}
 use Rattle.schemars_build.specs.Reached.{IsReached, by_reference, by_definition}
 use Rattle.schemars_meaning.proofs.ReferencesKept.{references-root}
-use Rattle.schemars_headline.specs.State.{State, plan_of, work_of}
+use Rattle.schemars_headline.specs.State.{State, state_plan, work_of}
 use Rattle.schemars_headline.specs.Headline.{Edge, HasNoCycle, IsInlined, IsRootOf, with_definitions}
 use Rattle.schemars_headline.proofs.Resolving.{all_pass, described_resolved}
 
@@ -169,8 +169,8 @@ bare basis R n s plain free h =
     no_item (references s)
     (described_resolved (λ x. false) basis Nothing (plain_rows basis.rows plain) (λ j r never. absurd never) h.0 n s described).1
 
--- where rows are inlined and none is pending, each stands in place
-pub part_inlined : (s : State) (n : ℕ) (d : Data) → IsSubschema (plan_of s None) false (work_of s) n d → IsInlined s d
+-- where rows are inlined and none is pending, each is in place
+pub part_inlined : (s : State) (n : ℕ) (d : Data) → IsSubschema (state_plan s None) false (work_of s) n d → IsInlined s d
 part_inlined s n d (inl h) inlines plain free = absurd (true≢false (sym (inlined s.settings.inlines inlines) ∙ h.1.1))
   where
     or_true : (b : Bool) → b || true ≡ true
@@ -180,9 +180,9 @@ part_inlined s n d (inl h) inlines plain free = absurd (true≢false (sym (inlin
     inlined : (b : Bool) → b ≡ true → is_in_place s.rows b [] n ≡ true
     inlined b is = ap (λ x. is_in_place s.rows x [] n) is ∙ or_true (is_inline_at s.rows n)
 part_inlined s n d (inr h) inlines plain free =
-    let plan = plan_of s None in
+    let plan = state_plan s None in
     let R = Refers plan false (work_of s) in
-    bare (basis_of plan) R n d plain free (subst (λ b. IsDocument (basis_of plan) b R [] n d) inlines h.0)
+    bare (basis_of_plan plan) R n d plain free (subst (λ b. IsDocument (basis_of_plan plan) b R [] n d) inlines h.0)
 
 -- ---- root documents
 
@@ -200,10 +200,11 @@ no_definition path (member k d ms) all =
 
 pub root_inlined : (s : State) (n : ℕ) (w : Work) (d : Data) → IsRootOf s n w d → s.definitions ≡ no_members → IsInlined s d
 root_inlined s n w d root none inlines plain free =
-    let plan = plan_of s (Some n) in
+    let plan = state_plan s (Some n) in
     let R = Refers plan true w in
     let own : references root.own ≡ [] =
-    bare (basis_of plan) R n root.own plain free (subst (λ b. IsDocument (basis_of plan) b R [] n root.own) inlines root.is_document) in
+    bare (basis_of_plan plan) R n root.own plain free
+    (subst (λ b. IsDocument (basis_of_plan plan) b R [] n root.own) inlines root.is_document) in
     let P : List Data → Type 0 = λ from. (k : Text) (e : Data) → get_member k s.definitions ≡ None → get_member k w.definitions ≡ Some e
     → IsReached plan.path w.definitions from k in
     let reached : P [] = subst P own (root.reached plain).definitions in

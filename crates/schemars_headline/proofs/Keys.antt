@@ -92,7 +92,7 @@ unfolding IsStrictlySortedBy
 map_once [] sorted = tt
 map_once (e ∷ es) sorted = (absent_above e.0 es sorted.0, map_once es sorted.1)
 
--- ---- where definitions stand in a root document
+-- ---- where definitions are in a root document
 
 abbrev pub IsDefinitionsKey : Text → Type 0
 IsDefinitionsKey key = (key ≡ codes "$defs") ⊎ (key ≡ codes "definitions")

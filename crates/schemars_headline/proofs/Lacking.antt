@@ -164,7 +164,7 @@ module _ (key : Text) (is_key : IsDefinitionsKey key) where
       go true = lacks_moved ms h
       go false = h
 
-  lacks_let_in : (ms : Members) → Lacks ms → Lacks (flatten.opened ms)
+  lacks_let_in : (ms : Members) → Lacks ms → Lacks (flatten.opened_keywords ms)
   lacks_let_in ms h = go (stands (codes "additionalProperties") ms || stands (codes "unevaluatedProperties") ms) (has_subschema ms)
     where
       go : (stays combined : Bool) → Lacks (if stays then ms else

@@ -27,7 +27,7 @@ use Rattle.schemars_types.proofs.Asked.{asked, entry_low}
 use Rattle.schemars_documents.specs.Describes.{IsWritten, Describes}
 use Rattle.schemars_documents.specs.PlainTable.{IsPlainUnder, parts_in, payload_parts, variant_parts}
 use Rattle.schemars_build.specs.Naming.{Naming, IsOneToOne, name_of}
-use Rattle.schemars_build.specs.Work.{Plan, Work, IsKey, reference_to, basis_of}
+use Rattle.schemars_build.specs.Work.{Plan, Work, IsKey, reference_to, basis_of_plan}
 use Rattle.schemars_headline.specs.Headline.{AcceptsItsValues}
 use Rattle.schemars_headline.proofs.Keys.{key_here, key_later, key_cases}
 use Rattle.schemars_meaning.proofs.Mapping.{describes-wider, written_map}
@@ -139,7 +139,7 @@ module _ (plan : Plan) (names : Naming) where
   references_len no_members row = refl
   references_len (member k d ms) row = ap suc (references_len ms (λ j is. row j (key_later j k d ms is)))
 
-  -- a row's reference by the name under which its definition stands
+  -- a row's reference by the name of its definition
   abbrev NamedReference : Members → ℕ → Text → Type 0
   NamedReference ms j r = (name : Text) × (name_of j plan.contract names ≡ Some name) × IsKey name ms × (r ≡ reference_to plan.path name)
 
@@ -213,7 +213,7 @@ IsItsRoot plan w document =
     (n : ℕ) → plan.root ≡ Some n
     → (own : Data) × (depth : ℕ) × ((patterns : Patterns) (f : Text → Judge)
     → judge (context2020_12 patterns f) document ≡ judge (context2020_12 patterns f) own) × IsSchema document
-    × Describes (basis_of plan) (MayRefer plan w) depth n own
+    × Describes (basis_of_plan plan) (MayRefer plan w) depth n own
 
 bound_enough : (a len defs counted n : ℕ) → len ≤ defs + 1 → defs ≤ counted → (a + 1) * (counted + 2) ≤ n → (a + 1) * (len + 1) ≤ n
 bound_enough a len defs counted n few less h = grind (arith, mul-le-mul_left)
@@ -265,7 +265,7 @@ module _ (plan : Plan) (w : Work) (document : Data) (checked : IsChecked plan.ro
   refers_leads j r (inr (inr h)) = inr (h.0, h.1, h.2, h.3)
 
   abbrev D : ℕ → ℕ → Data → Type 0
-  D = Describes (basis_of plan) (MayRefer plan w)
+  D = Describes (basis_of_plan plan) (MayRefer plan w)
 
   -- found, and what it says the same as, which describes the row
   abbrev LeadsTo : ℕ → Text → Type 0
@@ -295,7 +295,7 @@ module _ (plan : Plan) (w : Work) (document : Data) (checked : IsChecked plan.ro
         d,
         definition.depth,
         resolved_found document (reference_to plan.path name) d (holds.leads name d definition.is_text found)
-            (described (basis_of plan) (MayRefer plan w) definition.depth j d describes),
+            (described (basis_of_plan plan) (MayRefer plan w) definition.depth j d describes),
         λ patterns f. refl,
         describes,
       )
@@ -309,7 +309,7 @@ module _ (plan : Plan) (w : Work) (document : Data) (checked : IsChecked plan.ro
 
   setting : Patterns → Setting
   setting patterns = record {
-    basis = basis_of plan;
+    basis = basis_of_plan plan;
     patterns = patterns;
     document = document;
     refs = refs;
@@ -320,7 +320,7 @@ module _ (plan : Plan) (w : Work) (document : Data) (checked : IsChecked plan.ro
           to.2,
           to.3,
           to.4 patterns,
-          describes-wider (basis_of plan) (MayRefer plan w) (InList refs)
+          describes-wider (basis_of_plan plan) (MayRefer plan w) (InList refs)
               refers_listed to.2 to.2 (omega arith) j to.1 to.5,
         );
     plain = plain;
@@ -339,8 +339,8 @@ module _ (plan : Plan) (w : Work) (document : Data) (checked : IsChecked plan.ro
       → AcceptsItsValues plan.rows plan.contract plan.path n document t
   unfolding setting
   written_accepts d n t h patterns v json followed bounded =
-      let listed = written_map (MayRefer plan w) (InList refs) (D d) (Describes (basis_of plan) (InList refs) d)
-      refers_listed (describes-wider (basis_of plan) (MayRefer plan w) (InList refs) refers_listed d d
+      let listed = written_map (MayRefer plan w) (InList refs) (D d) (Describes (basis_of_plan plan) (InList refs) d)
+      refers_listed (describes-wider (basis_of_plan plan) (MayRefer plan w) (InList refs) refers_listed d d
       (omega arith)) n t h in
       written_says (setting patterns) d n t listed v json followed ((depth v + 1) * length plan.rows)
       (bound_enough (depth v) (length refs) (members_len w.definitions) (count_of_definitions plan.path document) followed refs_len

@@ -33,7 +33,7 @@ use Rattle.schemars_documents.specs.Describes.{Describes}
 use Rattle.schemars_documents.specs.PlainTable.{HasPlainLiteral, IsNotedEntry, HasPlainNotes}
 use Rattle.schemars_schema.specs.Literal.{IsPlainLiteral}
 use Rattle.schemars_schema.proofs.Literals.{plain_absent}
-use Rattle.schemars_documents.specs.OfShape.{typed, object_with, values_of, all_patterns, pattern_properties_at, other_values}
+use Rattle.schemars_documents.specs.OfShape.{typed_template, object_with, values_of, all_patterns, pattern_properties_at, other_values}
 use Rattle.schemars_documents.specs.OfShape.{properties_at}
 use Rattle.schemars_documents.specs.OfShape.{literal_document}
 use Rattle.schemars_headline.proofs.Keys.{IsDefinitionsKey, IsOther, annotation_other}
@@ -85,7 +85,7 @@ choice_other (k ∷ ks) [] = search
 choice_other (k ∷ ks) (t ∷ ts) = search
 
 keyed_other : (other : Template) (texts qs : List Text) (value : ℕ)
-    → SaysOther (object_with (typed (codes "object") ∷ (codes "additionalProperties", other)
+    → SaysOther (object_with (typed_template (codes "object") ∷ (codes "additionalProperties", other)
     ∷ (pattern_properties_at (values_of value qs) ++ properties_at (values_of value texts))))
 keyed_other other [] [] value = search
 keyed_other other (t ∷ texts) [] value = search

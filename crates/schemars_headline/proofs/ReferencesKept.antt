@@ -23,12 +23,12 @@ use Rattle.schemars_laws.proofs.Preserved.{Preserves, after, change-preserves, w
 use Rattle.schemars_laws.proofs.Editing.{without-put, absent-once, asked-moved}
 use Rattle.schemars_laws.proofs.Plain.{Alike, reference-walked, reference-alike, alike-without, without-swap}
 use Rattle.schemars_laws.specs.Laws.{for_draft07, for_draft2019_09}
-use Rattle.schemars_laws.specs.Stages.{IsTextOf, Stands, IsForOpenApi}
+use Rattle.schemars_laws.specs.Stages.{IsTextWith, Stands, IsForOpenApi}
 use Rattle.schemars_laws.proofs.Steps.{text-alone}
 
 module _ (R : Text → Type 0) where
   abbrev Refers : Members → Type 0
-  Refers ms = IsTextOf R (get_member (codes "$ref") ms)
+  Refers ms = IsTextWith R (get_member (codes "$ref") ms)
 
   -- with plain references, and then with references that stand once
   abbrev WithPlain : Members → Type 0
@@ -42,10 +42,10 @@ module _ (R : Text → Type 0) where
   RefersOnce ms = Refers ms × IsOnce (codes "$ref") ms
 
   refers-alike : (ns ms : Members) → Alike (codes "$ref") ns ms → Refers ms → Refers ns
-  refers-alike ns ms a is = subst (IsTextOf R) (sym a.first) is
+  refers-alike ns ms a is = subst (IsTextWith R) (sym a.first) is
 
   refers-walked : (f : Data → Data) (ms : Members) → Refers ms → Refers (walked f ms)
-  refers-walked f ms is = subst (IsTextOf R) (sym (raw-walked f (codes "$ref") ms refl)) is
+  refers-walked f ms is = subst (IsTextWith R) (sym (raw-walked f (codes "$ref") ms refl)) is
 
   abbrev IsListed : Members → Type 0
   IsListed ms = IsSchemaList (get_member (codes "prefixItems") ms)
@@ -90,11 +90,11 @@ module _ (R : Text → Type 0) where
     where
       alone : (r : Data) (ns : Members) → get_member (codes "$ref") ns ≡ Some r → Refers ns
           → WithItems (member (codes "$ref") r no_members)
-      alone r ns here is = (subst (IsTextOf R) here is, refl, tt)
+      alone r ns here is = (subst (IsTextWith R) here is, refl, tt)
 
       gone : (ns : Members) → IsOnce (codes "$ref") ns → IsListed ns → WithItems (without (codes "$ref") ns)
       gone ns once items = (
-        subst (IsTextOf R) (sym once) tt,
+        subst (IsTextWith R) (sym once) tt,
         absent-once (codes "$ref") (without (codes "$ref") ns) once,
         listed-alike (without (codes "$ref") ns) ns (alike-without (codes "prefixItems") (codes "$ref") ns refl).first items,
       )
@@ -103,7 +103,7 @@ module _ (R : Text → Type 0) where
       moved r ns once items =
           let none : get_member (codes "$ref") (moved_members r ns) ≡ None =
           get-moved r ns (codes "$ref") (differ (codes "$ref") (codes "allOf") refl) ∙ once in (
-            subst (IsTextOf R) (sym none) tt,
+            subst (IsTextWith R) (sym none) tt,
             absent-once (codes "$ref") (moved_members r ns) none,
             listed-alike (moved_members r ns) ns (
                 get-moved r ns (codes "prefixItems") (differ (codes "prefixItems") (codes "allOf") refl)
@@ -142,7 +142,7 @@ module _ (R : Text → Type 0) where
 
   refers-put : (l : Text) (d : Data) (ms : Members) → codes "$ref" ≢ l → RefersOnce ms → RefersOnce (put l d ms)
   refers-put l d ms apart is = (
-    subst (IsTextOf R) (sym (get_member-put_other (codes "$ref") l d ms apart)) is.0,
+    subst (IsTextWith R) (sym (get_member-put_other (codes "$ref") l d ms apart)) is.0,
     without-put (codes "$ref") l d ms apart ∙ is.1,
   )
 
@@ -173,7 +173,7 @@ module _ (R : Text → Type 0) where
 
           rest_is : RefersOnce rest
           rest_is = (
-            subst (IsTextOf R) (sym (without-other (codes "prefixItems") (codes "$ref") ns apart))
+            subst (IsTextWith R) (sym (without-other (codes "prefixItems") (codes "$ref") ns apart))
                 (refers-walked prefix_as_items ms is.0),
             without-swap (codes "$ref") (codes "prefixItems") ns apart ∙ once-walked prefix_as_items (codes "$ref") ms is.1,
           )

@@ -16,12 +16,12 @@ use Rattle.schemars_types.specs.Rows.{Row, name_at, entry_at}
 use Rattle.schemars_documents.specs.Documents.{with_title, with_meta_schema, root_document}
 use Rattle.schemars_documents.specs.PlainTable.{HasPlainLiteral, IsNotedEntry, HasPlainNotes}
 use Rattle.schemars_documents.specs.Describes.{Describes}
-use Rattle.schemars_build.specs.Work.{Plan, Work, Refers, reference_to, basis_of}
+use Rattle.schemars_build.specs.Work.{Plan, Work, Refers, reference_to, basis_of_plan}
 use Rattle.schemars_meaning.proofs.Mapping.{describes-wider}
 use Rattle.schemars_meaning.proofs.References.{IsNotedShape}
 use Rattle.schemars_meaning.proofs.Referring.{IsNotedRow, AreNotedRows}
 use Rattle.schemars_build.proofs.Placing.{document_describes}
-use Rattle.schemars_headline.specs.State.{State, path_of, plan_of}
+use Rattle.schemars_headline.specs.State.{State, path_of, state_plan}
 use Rattle.schemars_headline.specs.Headline.{IsRootOf, IsDraftPath}
 use Rattle.schemars_headline.specs.Keys.{HasKeysOnce}
 use Rattle.schemars_headline.proofs.Keys.{AllMembers, all_members, IsDefinitionsKey}
@@ -33,7 +33,7 @@ use Rattle.schemars_laws.specs.Names.{IsName, IsMap}
 use Rattle.schemars_laws.proofs.References.{defs-name, definitions-name}
 use Rattle.schemars_headline.proofs.Changes.{IsUnwatched, Demand, Class, AreGood, are-put, IsGood, good, good-members, watched}
 
--- ---- where definitions stand
+-- ---- where definitions are
 
 -- those of a map that stands there; none where none does
 abbrev pub entries : Option Data → Members
@@ -172,19 +172,19 @@ noted_notes rows noted n = go (entry_at rows n) (noted n)
     go (Some e) own = (own.0, noted-literal e.shape own.1)
 
 module _ (old : State) (n : ℕ) (w : Work) (document : Data) (key : Text) (h : IsRootOf old n w document) (noted : AreNotedRows old.rows)
-    (once : HasKeysOnce w.definitions) (definitions : AllStand (plan_of old (Some n)) w) (at : StandsAt (path_of old) key) where
+    (once : HasKeysOnce w.definitions) (definitions : AllStand (state_plan old (Some n)) w) (at : StandsAt (path_of old) key) where
   abbrev plan : Plan
-  plan = plan_of old (Some n)
+  plan = state_plan old (Some n)
 
   abbrev Describe : ℕ → ℕ → Data → Type 0
-  Describe = Describes (basis_of plan) (MayRefer plan w)
+  Describe = Describes (basis_of_plan plan) (MayRefer plan w)
 
   described : Describe h.is_document.0 n h.own
   described =
-      describes-wider (basis_of plan) (Refers plan true w) (MayRefer plan w) (refers_may plan w true) h.is_document.0 h.is_document.0
-      (omega arith) n h.own (document_describes (basis_of plan) plan.inlines (Refers plan true w) [] n h.own h.is_document)
+      describes-wider (basis_of_plan plan) (Refers plan true w) (MayRefer plan w) (refers_may plan w true) h.is_document.0 h.is_document.0
+      (omega arith) n h.own (document_describes (basis_of_plan plan) plan.inlines (Refers plan true w) [] n h.own h.is_document)
 
-  -- what a root call makes, where the documents of rows are of the class, and its definitions stand at a draft's path
+  -- what a root call makes, where the documents of rows are of the class, and its definitions are at a draft's path
   pub root_call-ready : (R : Demand) → ((d j : ℕ) (t : Data) → Describe d j t → IsGood R t) → IsReady (Class R) key w.definitions document
   root_call-ready R each =
       placed-ready R plan.path key w.definitions ms document at all
@@ -206,4 +206,5 @@ module _ (old : State) (n : ℕ) (w : Work) (document : Data) (key : Text) (h : 
 
       room : (k : Text) → IsDefinitionsKey k → get_member k ms ≡ None
       room k is =
-          no_definitions_in k is (basis_of plan) (MayRefer plan w) (noted_notes plan.rows noted) name uri h.is_document.0 n h.own described
+          no_definitions_in k is (basis_of_plan plan) (MayRefer plan w)
+          (noted_notes plan.rows noted) name uri h.is_document.0 n h.own described

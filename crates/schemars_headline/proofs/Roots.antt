@@ -23,8 +23,8 @@ use Rattle.schemars_documents.specs.PlainTable.{IsPlainShape, HasPlainLiteral, I
 use Rattle.schemars_documents.specs.PlainTable.{IsNotedEntry, HasPlainNotes}
 use Rattle.schemars_documents.proofs.OpenStructs.{plain_under}
 use Rattle.schemars_build.specs.Naming.{IsOneToOne}
-use Rattle.schemars_build.specs.Work.{Plan, Work, Refers, basis_of}
-use Rattle.schemars_headline.specs.State.{State, plan_of, work_of, HasOwnDefinitions}
+use Rattle.schemars_build.specs.Work.{Plan, Work, Refers, basis_of_plan}
+use Rattle.schemars_headline.specs.State.{State, state_plan, work_of, HasOwnDefinitions}
 use Rattle.schemars_headline.specs.Headline.{IsRootOf, MeansItsTypeIn, WideHeadline, SubschemaHeadline, IsDraftPath, with_definitions}
 use Rattle.schemars_meaning.proofs.Notes.{judge-root}
 use Rattle.schemars_headline.specs.Keys.{HasKeysOnce}
@@ -60,12 +60,12 @@ module _ (plan : Plan) (w : Work) (document : Data) (checked : IsChecked plan.ro
   definition_resolved : (name : Text) (d : Data) → get_member name w.definitions ≡ Some d → Resolve (resolves document) (references d)
   definition_resolved name d found =
       let definition = definitions name d found in
-      (described_resolved (resolves document) (basis_of plan) (MayRefer plan w) noted leads definition.depth
+      (described_resolved (resolves document) (basis_of_plan plan) (MayRefer plan w) noted leads definition.depth
       definition.row d definition.describes).1
 
   schema_resolved : (d n : ℕ) (t : Data) → IsWritten (MayRefer plan w)
-      (Describes (basis_of plan) (MayRefer plan w) d) n t → Resolve (resolves document) (references t)
-  schema_resolved d n t h = (written_resolved (resolves document) (basis_of plan) (MayRefer plan w) noted leads d n
+      (Describes (basis_of_plan plan) (MayRefer plan w) d) n t → Resolve (resolves document) (references t)
+  schema_resolved d n t h = (written_resolved (resolves document) (basis_of_plan plan) (MayRefer plan w) noted leads d n
       t h).1
 
 -- ---- root documents
@@ -100,23 +100,23 @@ resolved_placed path definitions ms document (inr (key, at, is)) all h =
 -- a root document with its definitions means its type
 pub root_means : (plan : Plan) (w : Work) (n : ℕ) (name : Text) (uri : Option Text) (depth : ℕ) (own document : Data)
     → IsChecked plan.rows → IsOneToOne w.names → HasKeysOnce w.definitions → plan.root ≡ Some n
-    → AllStand plan w → Describes (basis_of plan) (MayRefer plan w) depth n own
+    → AllStand plan w → Describes (basis_of_plan plan) (MayRefer plan w) depth n own
     → IsPlaced plan.path w.definitions (root_document name uri own) document
     → WideHeadline plan.rows plan.contract plan.path n document
 root_means plan w n name uri depth own document checked one once root definitions h placed plain =
     let members : Members = members_in (root_document name uri own) in
-    let is_schema : IsSchema own = described (basis_of plan) (MayRefer plan w) depth n own h in
+    let is_schema : IsSchema own = described (basis_of_plan plan) (MayRefer plan w) depth n own h in
     let same : (patterns : Patterns) (f : Text → Judge) → judge (context2020_12 patterns f) document
     ≡ judge (context2020_12 patterns f) own =
     λ patterns f. judge_placed plan.path w.definitions (root_document name uri own) document placed refl patterns f
     ∙ judge-root patterns f name uri own is_schema in
-    let P : ℕ → Type 0 = λ i. Describes (basis_of plan) (MayRefer plan w) depth i own in
+    let P : ℕ → Type 0 = λ i. Describes (basis_of_plan plan) (MayRefer plan w) depth i own in
     let is_root : IsItsRoot plan w document = λ m is. let alike : n ≡ m = cc in
     (own, depth, same, schema_placed plan.path w.definitions members document placed, subst P alike h) in
     let holds : HoldsDefinitions plan.path w.definitions document = holds_placed plan.path w.definitions members document placed in
     let all : AllResolve (resolves document) w.definitions = all_members (λ d. Resolve (resolves document) (references d)) w.definitions
     once (definition_resolved plan w document checked plain one definitions holds is_root) in
-    let resolved_own = described_resolved (resolves document) (basis_of plan) (MayRefer plan w)
+    let resolved_own = described_resolved (resolves document) (basis_of_plan plan) (MayRefer plan w)
     (under_rows plan.contract plan.rows plain)
     (refers_resolve plan w document checked plain one definitions holds is_root) depth n own h in
     record {
@@ -129,7 +129,8 @@ root_means plan w n name uri depth own document checked one once root definition
           (root_resolved (resolves document) name uri own resolved_own);
     }
 
-plain_literal : (has : Flattened → List Field) (enums : Flattened → List ℕ) (s : Shape) → IsPlainShape (spread has enums s) → HasPlainLiteral s
+plain_literal : (has : Flattened → List Field) (enums : Flattened → List ℕ) (s : Shape) → IsPlainShape (spread has enums s)
+    → HasPlainLiteral s
 plain_literal has enums (shape.literal d) h = h
 plain_literal has enums s h = tt
 
@@ -141,9 +142,9 @@ plain_notes contract rows plain n = by (entry_at rows n) (plain n)
     by (Some e) h = (h.0, plain_literal (flattened_in rows) (part_enums rows) e.shape h.1)
 
 module _ (plan : Plan) (w : Work) (n : ℕ) (name : Text) (uri : Option Text) (depth : ℕ) (own : Data) (plain : HasPlainNotes plan.rows)
-    (R : ℕ → Text → Type 0) (h : Describes (basis_of plan) R depth n own) where
+    (R : ℕ → Text → Type 0) (h : Describes (basis_of_plan plan) R depth n own) where
   room : (key : Text) → IsDefinitionsKey key → get_member key (members_in (root_document name uri own)) ≡ None
-  room key is = no_definitions_in key is (basis_of plan) R plain name uri depth n own h
+  room key is = no_definitions_in key is (basis_of_plan plan) R plain name uri depth n own h
 
   -- at a draft's path definitions can always be placed
   pub root_placed : IsDraftPath plan.path → (document : Data) × (with_definitions plan.path w.definitions (root_document name uri own)
@@ -153,7 +154,7 @@ module _ (plan : Plan) (w : Work) (n : ℕ) (name : Text) (uri : Option Text) (d
 -- so does what is made of it by placing the definitions
 pub root_headline : (plan : Plan) (w : Work) (n : ℕ) (name : Text) (uri : Option Text) (depth : ℕ) (own document : Data)
     → IsChecked plan.rows → IsOneToOne w.names → HasKeysOnce w.definitions → plan.root ≡ Some n
-    → AllStand plan w → Describes (basis_of plan) (MayRefer plan w) depth n own → IsDraftPath plan.path
+    → AllStand plan w → Describes (basis_of_plan plan) (MayRefer plan w) depth n own → IsDraftPath plan.path
     → with_definitions plan.path w.definitions (root_document name uri own) ≡ Some document
     → WideHeadline plan.rows plan.contract plan.path n document
 root_headline plan w n name uri depth own document checked one once root definitions h draft made plain =
@@ -163,14 +164,15 @@ root_headline plan w n name uri depth own document checked one once root definit
 
 -- so does what a root call makes
 pub root_call_means : (old : State) (n : ℕ) (w : Work) (document : Data) → IsRootOf old n w document → IsChecked old.rows
-    → IsOneToOne w.names → HasKeysOnce w.definitions → AllStand (plan_of old (Some n)) w
-    → IsDraftPath (plan_of old (Some n)).path
-    → WideHeadline old.rows old.settings.contract (plan_of old (Some n)).path n document
+    → IsOneToOne w.names → HasKeysOnce w.definitions → AllStand (state_plan old (Some n)) w
+    → IsDraftPath (state_plan old (Some n)).path
+    → WideHeadline old.rows old.settings.contract (state_plan old (Some n)).path n document
 root_call_means old n w document h checked one once definitions draft =
-    let plan = plan_of old (Some n) in
+    let plan = state_plan old (Some n) in
     let depth = h.is_document.0 in
-    let described = describes-wider (basis_of plan) (Refers plan true w) (MayRefer plan w) (refers_may plan w true)
-    depth depth (omega arith) n h.own (document_describes (basis_of plan) plan.inlines (Refers plan true w) [] n h.own h.is_document) in
+    let described = describes-wider (basis_of_plan plan) (Refers plan true w) (MayRefer plan w) (refers_may plan w true)
+    depth depth (omega arith) n h.own (document_describes (basis_of_plan plan) plan.inlines
+    (Refers plan true w) [] n h.own h.is_document) in
     root_headline plan w n (name_at old.rows n) old.settings.meta_schema depth h.own document checked one once refl definitions described
     draft h.is_root
 
@@ -179,15 +181,15 @@ root_call_means old n w document h checked one once definitions draft =
 -- a subschema means its type in each document that holds its definitions
 pub subschema_means : (plan : Plan) (w : Work) (n : ℕ) (free : Bool) (depth : ℕ) (schema document : Data) → IsChecked plan.rows
     → IsOneToOne w.names → plan.root ≡ None → AllStand plan w
-    → IsWritten (Refers plan free w) (Describes (basis_of plan) (Refers plan free w) depth) n schema
+    → IsWritten (Refers plan free w) (Describes (basis_of_plan plan) (Refers plan free w) depth) n schema
     → IsPlainUnder plan.contract plan.rows → HoldsDefinitions plan.path w.definitions document
     → MeansItsTypeIn plan.rows plan.contract plan.path n w.definitions document schema
 subschema_means plan w n free depth schema document checked one none definitions h plain holds =
     let is_root : IsItsRoot plan w document = λ m is. absurd (let never : None ≡ Some m = sym none ∙ is in cc) in
     let more = refers_may plan w free in
-    let wide = written_map (Refers plan free w) (MayRefer plan w) (Describes (basis_of plan) (Refers plan free w)
-    depth) (Describes (basis_of plan) (MayRefer plan w) depth) more
-    (describes-wider (basis_of plan) (Refers plan free w) (MayRefer plan w) more depth depth (omega arith)) n
+    let wide = written_map (Refers plan free w) (MayRefer plan w) (Describes (basis_of_plan plan) (Refers plan free w)
+    depth) (Describes (basis_of_plan plan) (MayRefer plan w) depth) more
+    (describes-wider (basis_of_plan plan) (Refers plan free w) (MayRefer plan w) more depth depth (omega arith)) n
     schema h in
     record {
       accepts_its_values = written_accepts plan w document checked plain one definitions holds is_root depth n schema wide;
@@ -198,10 +200,10 @@ subschema_means plan w n free depth schema document checked one none definitions
     }
 
 pub subschema_headline : (s : State) (n : ℕ) (free : Bool) (schema : Data) → IsChecked s.rows → IsOneToOne s.names
-    → HasOwnDefinitions s → IsSubschema (plan_of s None) free (work_of s) n schema → SubschemaHeadline s n schema
+    → HasOwnDefinitions s → IsSubschema (state_plan s None) free (work_of s) n schema → SubschemaHeadline s n schema
 subschema_headline s n free schema checked one definitions h plain known document holding =
-    let plan = plan_of s None in
-    let written = placed_written (basis_of plan) plan.inlines (Refers plan free (work_of s)) [] n schema h in
+    let plan = state_plan s None in
+    let written = placed_written (basis_of_plan plan) plan.inlines (Refers plan free (work_of s)) [] n schema h in
     subschema_means plan (work_of s) n free written.0 schema document checked one refl
     (λ name d found. stands_now plan (work_of s) name d (definitions name d found)) written.1
     (plain_under s.rows s.settings.contract plain) (held plan.path s.definitions document known holding)

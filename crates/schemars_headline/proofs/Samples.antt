@@ -12,15 +12,15 @@ use Rattle.schemars_sample.specs.Example.{Example, truth, whole, character, text
 use Rattle.schemars_sample.specs.Example.{unit_struct, unit_variant, newtype_struct, newtype_variant, seq, tuple}
 use Rattle.schemars_sample.specs.Example.{tuple_variant, struct, collected_map, struct_variant}
 use Rattle.schemars_sample.specs.Example.{Examples, no_examples, example, Entries, no_entries, entry}
-use Rattle.schemars_sample.specs.SampleJson.{sample_json, array_of}
+use Rattle.schemars_sample.specs.SampleJson.{sample_json, json_array}
 use Rattle.schemars_sample.specs.SampleSchema.{sample_schema, item_schemas, entry_schemas, value_schemas}
-use Rattle.schemars_sample.specs.SampleSchema.{choice_of, one_beside, shared_by, tuple_schema, struct_schema, map_schema}
+use Rattle.schemars_sample.specs.SampleSchema.{choice_among, one_beside, shared_by, tuple_schema, struct_schema, map_schema}
 use Rattle.schemars_sample.specs.SampleSchema.{titled_schema, with_name, with_example, sample_root}
 use Rattle.schemars_sample.specs.Accepted.{AcceptsExample}
 use Rattle.schemars_sample.proofs.Choices.{one_beside-holds, shared_by-holds}
 use Rattle.schemars_sample.proofs.Unplaced.{root_free}
-use Rattle.schemars_build.specs.Work.{Plan, Work, basis_of}
-use Rattle.schemars_headline.specs.State.{State, path_of, plan_of, work_of}
+use Rattle.schemars_build.specs.Work.{Plan, Work, basis_of_plan}
+use Rattle.schemars_headline.specs.State.{State, path_of, state_plan, work_of}
 use Rattle.schemars_headline.specs.Headline.{with_definitions, IsDraftPath}
 use Rattle.schemars_headline.specs.Keys.{HasKeysOnce}
 use Rattle.schemars_headline.proofs.Keys.{AllMembers, all_members, IsDefinitionsKey}
@@ -50,7 +50,7 @@ module _ (R : Demand) where
   schemas-of (t ∷ ts) is = (is.0.schema, schemas-of ts is.1)
 
   are-positions : (ts : List Data) → AllGood R ts
-      → AreGood R (put (codes "prefixItems") (array_of ts) (put (codes "type") (string (codes "array")) no_members))
+      → AreGood R (put (codes "prefixItems") (json_array ts) (put (codes "type") (string (codes "array")) no_members))
   unfolding asked
   are-positions ts is = record {
     own = own-items R _ tt refl refl refl refl refl refl (refl, schemas-of ts is, tt, refl);
@@ -71,7 +71,7 @@ module _ (R : Demand) where
       good R _ (are-put R (codes "additionalProperties") t _ refl is.everywhere
       (are-typed R (codes "object")))
 
-  choice-good : (ts : List Data) → AllGood R ts → IsGood R (choice_of ts)
+  choice-good : (ts : List Data) → AllGood R ts → IsGood R (choice_among ts)
   choice-good [] is = good_truth R true
   choice-good (t ∷ []) is = is.0
   choice-good (t ∷ u ∷ ts) is = any_of-good R (t ∷ u ∷ ts) is
@@ -170,11 +170,11 @@ definitions-good s key at once (inl none) = subst (AllMembers (IsGood (without_r
 definitions-good s key at once (inr (own, plain)) =
     all_members (IsGood (without_rest (IsName key))) s.definitions once (λ k d found.
     let definition = standing k d found in
-    described-good (without_rest (IsName key)) (basis_of plan) (MayRefer plan w) (may_refer-name plan w key at standing) plain
+    described-good (without_rest (IsName key)) (basis_of_plan plan) (MayRefer plan w) (may_refer-name plan w key at standing) plain
     definition.depth definition.row d definition.describes)
   where
     plan : Plan
-    plan = plan_of s None
+    plan = state_plan s None
 
     w : Work
     w = work_of s

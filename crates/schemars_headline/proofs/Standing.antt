@@ -6,7 +6,7 @@ use Rattle.serde_json.specs.Find.{get_member}
 use Rattle.schemars_schema.specs.Json.{Text}
 use Rattle.schemars_documents.specs.Describes.{Describes}
 use Rattle.schemars_build.specs.Naming.{name_of}
-use Rattle.schemars_build.specs.Work.{Plan, Work, Refers, IsDefinition, basis_of}
+use Rattle.schemars_build.specs.Work.{Plan, Work, Refers, IsDefinition, basis_of_plan}
 use Rattle.schemars_meaning.proofs.Mapping.{describes-wider}
 use Rattle.schemars_build.proofs.Placing.{document_describes}
 
@@ -32,7 +32,7 @@ pub record Stands (plan : Plan) (w : Work) (name : Text) (d : Data) : Type 0 whe
   pub is_named : name_of row plan.contract w.names ≡ Some name
   pub is_text : IsUtf8 name
   pub depth : ℕ
-  pub describes : Describes (basis_of plan) (MayRefer plan w) depth row d
+  pub describes : Describes (basis_of_plan plan) (MayRefer plan w) depth row d
 
 abbrev pub AllStand : Plan → Work → Type 0
 AllStand plan w = (name : Text) (d : Data) → get_member name w.definitions ≡ Some d → Stands plan w name d
@@ -43,9 +43,9 @@ stands_now plan w name d h = record {
   is_named = h.is_named;
   is_text = h.is_text;
   depth = h.document.0;
-  describes = describes-wider (basis_of plan) (Refers plan false w) (MayRefer plan w) (refers_may plan w false)
+  describes = describes-wider (basis_of_plan plan) (Refers plan false w) (MayRefer plan w) (refers_may plan w false)
       h.document.0 h.document.0 (omega arith) h.row d
-      (document_describes (basis_of plan) plan.inlines (Refers plan false w) h.pending h.row d h.document);
+      (document_describes (basis_of_plan plan) plan.inlines (Refers plan false w) h.pending h.row d h.document);
 }
 
 pub stands_before : (plan : Plan) (w : Work) (name : Text) (d : Data) → IsDefinition (rootless plan) w name d → Stands plan w name d
@@ -54,7 +54,7 @@ stands_before plan w name d h = record {
   is_named = h.is_named;
   is_text = h.is_text;
   depth = h.document.0;
-  describes = describes-wider (basis_of plan) (Refers (rootless plan) false w) (MayRefer plan w)
+  describes = describes-wider (basis_of_plan plan) (Refers (rootless plan) false w) (MayRefer plan w)
       (λ j r e. inr (free_refers (rootless plan) w false j r e)) h.document.0 h.document.0 (omega arith) h.row d
-      (document_describes (basis_of plan) plan.inlines (Refers (rootless plan) false w) h.pending h.row d h.document);
+      (document_describes (basis_of_plan plan) plan.inlines (Refers (rootless plan) false w) h.pending h.row d h.document);
 }

@@ -19,7 +19,7 @@ use Rattle.schemars_schema.specs.References.{with_same_object, with_same_objects
 use Rattle.schemars_laws.specs.Everywhere.{Everywhere, asked, asked_at, asked_of_items, asked_of_keywords}
 use Rattle.schemars_laws.specs.Names.{IsNoObject}
 use Rattle.schemars_laws.specs.Classes.{AreSchemas, IsSchemaList, IsNoList}
-use Rattle.schemars_laws.specs.Stages.{IsTextOf, AreSomeTypes}
+use Rattle.schemars_laws.specs.Stages.{IsTextWith, AreSomeTypes}
 use Rattle.schemars_laws.proofs.Editing.{absent-once}
 use Rattle.schemars_shapes.specs.Shape.{Field, Flattened, Fields, Entry}
 use Rattle.schemars_types.specs.Rows.{Row, entry_at}
@@ -111,7 +111,7 @@ module _ (N : Text → Type 0) where
       (form : IsForm (struct_keywords es ns ps closed) ms) (all : IsSound (all_there ps.all)) (one : IsSound (one_there ps.one)) where
     own : Class R ms
     own =
-        class-of R ms (subst (IsTextOf N) (sym (form.at (codes "$ref") refl)) tt)
+        class-of R ms (subst (IsTextWith N) (sym (form.at (codes "$ref") refl)) tt)
         (absent-once (codes "$ref") ms (form.at (codes "$ref") refl))
         (subst IsNoObject (sym (form.at (codes "unevaluatedProperties") refl)) (no_object ps closed)) tt
         (subst AreSomeTypes (sym (form.at (codes "type") refl)) tt) (form.at (codes "nullable") refl) (form.at (codes "const") refl)

@@ -15,10 +15,10 @@ use Rattle.schemars_schema.proofs.Placings.{plain-components, resolved-definitio
 use Rattle.schemars_types.specs.Faults.{IsChecked}
 use Rattle.schemars_documents.specs.PlainTable.{IsPlainTable}
 use Rattle.schemars_build.specs.Naming.{IsOneToOne}
-use Rattle.schemars_build.specs.Work.{Plan, Work, basis_of, Refers}
+use Rattle.schemars_build.specs.Work.{Plan, Work, basis_of_plan, Refers}
 use Rattle.schemars_documents.proofs.OpenStructs.{plain_under}
 use Rattle.schemars_meaning.proofs.Schemas.{described}
-use Rattle.schemars_headline.specs.State.{State, path_of, plan_of, work_of, HasOwnDefinitions}
+use Rattle.schemars_headline.specs.State.{State, path_of, state_plan, work_of, HasOwnDefinitions}
 use Rattle.schemars_headline.specs.Headline.{AcceptsItsValues}
 use Rattle.schemars_headline.proofs.Standing.{MayRefer, AllStand, stands_now}
 use Rattle.schemars_headline.proofs.Placed.{held}
@@ -51,7 +51,8 @@ one-resolves es t (k, text, is, (d, found, schema)) =
     ∙ ap is_some (resolved-definition components k (components_of (all_seven es)) (for_openapi3 d) (all_seven es) plain-components
     (components-found (all_seven es)) text (found-at_end k es d found) (schema-at_end (NamesOne es) (names-one es) d schema))
 
-pub resolve-at_end : (es : Members) → EachEverywhere (Stands (NamesOne es) IsForOpenApi) es → (name : Text) (e : Data) → get_member name (all_seven es) ≡ Some e
+pub resolve-at_end : (es : Members) → EachEverywhere (Stands (NamesOne es) IsForOpenApi) es → (name : Text) (e : Data)
+    → get_member name (all_seven es) ≡ Some e
     → all_resolve (components_of (all_seven es)) (references e) ≡ true
 resolve-at_end es all name e found =
     each-resolves (NamesOne es) (components_of (all_seven es)) (one-resolves es) e
@@ -61,10 +62,10 @@ resolve-at_end es all name e found =
 -- ---- the generator's own definitions are of the class
 
 module _ (s : State) (own : HasOwnDefinitions s) (at : path_of s ≡ components) (plain : IsPlainTable s.rows) where
-  standing : AllStand (plan_of s None) (work_of s)
-  standing name d found = stands_now (plan_of s None) (work_of s) name d (own name d found)
+  standing : AllStand (state_plan s None) (work_of s)
+  standing name d found = stands_now (state_plan s None) (work_of s) name d (own name d found)
 
-  refers-one : (j : ℕ) (r : Text) → Refers (plan_of s None) true (work_of s) j r → NamesOne s.definitions r
+  refers-one : (j : ℕ) (r : Text) → Refers (state_plan s None) true (work_of s) j r → NamesOne s.definitions r
   refers-one j r (inl is) = let never : None ≡ Some j = is.0 in cc
   refers-one j r (inr is) = (
     is.0,
@@ -73,19 +74,19 @@ module _ (s : State) (own : HasOwnDefinitions s) (at : path_of s ≡ components)
     (
       is.2.0,
       is.2.1,
-      described (basis_of (plan_of s None)) (MayRefer (plan_of s None) (work_of s)) (standing is.0 is.2.0 is.2.1).depth
+      described (basis_of_plan (state_plan s None)) (MayRefer (state_plan s None) (work_of s)) (standing is.0 is.2.0 is.2.1).depth
           (standing is.0 is.2.0 is.2.1).row is.2.0 (standing is.0 is.2.0 is.2.1).describes,
     ),
   )
 
-  may_refer-one : (j : ℕ) (r : Text) → MayRefer (plan_of s None) (work_of s) j r → NamesOne s.definitions r
+  may_refer-one : (j : ℕ) (r : Text) → MayRefer (state_plan s None) (work_of s) j r → NamesOne s.definitions r
   may_refer-one j r (inl is) = refers-one j r is
   may_refer-one j r (inr is) = refers-one j r is
 
   pub own-class : EachEverywhere (Stands (NamesOne s.definitions) IsForOpenApi) s.definitions
   own-class name d found =
       for_openapi (NamesOne s.definitions) d
-      (described-good (without_rest (NamesOne s.definitions)) (basis_of (plan_of s None)) (MayRefer (plan_of s None) (work_of s))
+      (described-good (without_rest (NamesOne s.definitions)) (basis_of_plan (state_plan s None)) (MayRefer (state_plan s None) (work_of s))
       may_refer-one plain (standing name d found).depth (standing name d found).row d (standing name d found).describes).everywhere
 
 -- ---- what they mean
@@ -96,7 +97,7 @@ module _ (s : State) (checked : IsChecked s.rows) (one : IsOneToOne s.names) (ow
   es = s.definitions
 
   abbrev plan : Plan
-  plan = plan_of s None
+  plan = state_plan s None
 
   abbrev w : Work
   w = work_of s
@@ -113,7 +114,8 @@ module _ (s : State) (checked : IsChecked s.rows) (one : IsOneToOne s.names) (ow
   accepts-before : (name : Text) (d : Data) (found : get_member name es ≡ Some d)
       → AcceptsItsValues s.rows s.settings.contract (path_of s) (stand name d found).row (components_of es) d
   accepts-before name d found =
-      written_accepts plan w (components_of es) checked (plain_under s.rows s.settings.contract plain) one stand holds rootless (stand name d found).depth (stand name d found).row d
+      written_accepts plan w (components_of es) checked (plain_under s.rows s.settings.contract plain) one stand holds rootless
+      (stand name d found).depth (stand name d found).row d
       (inr (stand name d found).describes)
 
   count-same : count_of_definitions components (components_of (all_seven es)) ≡ count_of_definitions components (components_of es)
@@ -123,7 +125,8 @@ module _ (s : State) (checked : IsChecked s.rows) (one : IsOneToOne s.names) (ow
       counted : (ds : Members) → count_of_definitions components (components_of ds) ≡ members_len ds
       counted ds = count-place components (components_of ds) ds (components-found ds)
 
-  pub taken_means : EachEverywhere (Stands (NamesOne es) IsForOpenApi) es → (name : Text) (e : Data) → get_member name (all_seven es) ≡ Some e
+  pub taken_means : EachEverywhere (Stands (NamesOne es) IsForOpenApi) es → (name : Text) (e : Data)
+      → get_member name (all_seven es) ≡ Some e
       → MeansItsRow s name (components_of (all_seven es)) e
   taken_means all name e found = go (get_member name es) refl
     where

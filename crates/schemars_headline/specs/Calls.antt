@@ -10,11 +10,11 @@ use Rattle.schemars_build.specs.Work.{Work, Step, IsKey, reference_to}
 use Rattle.schemars_build.specs.Parts.{IsSubschema}
 use Rattle.schemars_build.specs.Reached.{AreReached}
 use Rattle.schemars_headline.specs.Headline.{IsRootOf}
-use Rattle.schemars_headline.specs.State.{State, path_of, plan_of, work_of, after_root}
+use Rattle.schemars_headline.specs.State.{State, path_of, state_plan, work_of, after_root}
 
 -- row n where it is a part: its own document in place, or a reference
 abbrev pub IsPartOf : State → ℕ → Data → Type 0
-IsPartOf s n d = IsSubschema (plan_of s None) false (work_of s) n d
+IsPartOf s n d = IsSubschema (state_plan s None) false (work_of s) n d
 
 -- the reference to the definition of row n, where the row is not written in place
 abbrev pub IsReferenceOf : State → State → ℕ → Data → Type 0
@@ -23,13 +23,13 @@ IsReferenceOf old new n d =
     → (name : Text) × (name_of n old.settings.contract new.names ≡ Some name) × IsKey name new.definitions
     × (d ≡ reference (reference_to (path_of old) name))
 
--- what joins: names by the rule of names, and definitions of the rows of these names
+-- what is added: names by the rule of names, and definitions of the rows of these names
 abbrev pub Adds : State → State → Type 0
-Adds old new = Step (plan_of old None) (work_of old) (work_of new)
+Adds old new = Step (state_plan old None) (work_of old) (work_of new)
 
--- where notes are annotations, all that joins is reached from these references
+-- in a plain table, all that is added is reached from these references
 abbrev pub IsNeeded : State → State → List Data → Type 0
-IsNeeded old new from = IsPlainTable old.rows → AreReached (plan_of old None) true (work_of old) (work_of new) from
+IsNeeded old new from = IsPlainTable old.rows → AreReached (state_plan old None) true (work_of old) (work_of new) from
 
 -- the root document of row n, and what the generator holds after the call
 abbrev pub IsRootCall : State → ℕ → State → Data → Type 0

@@ -23,7 +23,7 @@ AcceptsItsValuesUnder dialect rows contract path n document =
     (patterns : Patterns) (v : Data) → IsJson v → (followed : ℕ) → bound path document v ≤ followed
     → accepts dialect document patterns followed document v ≡ verdict (belongs rows contract patterns n v)
 
--- the headline under a dialect, for a document of row n whose definitions stand at the path
+-- the headline under a dialect, for a document of row n whose definitions are at the path
 pub record MeansItsTypeUnder (dialect : Dialect) (rows : List Row) (contract : Contract) (path : Text) (n : ℕ)
     (document : Data) : Type 0 where
   pub accepts_its_values : AcceptsItsValuesUnder dialect rows contract path n document

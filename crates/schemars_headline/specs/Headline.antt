@@ -1,4 +1,4 @@
--- What a generated document promises: it accepts just the values that belong to its type.
+-- What a generated document promises: it accepts exactly the values that belong to its type.
 use Rattle.std.specs.Prelude.{◌≡◌, ◌≤◌, ◌⊎◌, ℕ, List, [], Contains, true, false, Option, Some, None, codes}
 use Rattle.serde_json.specs.Data.{Data, object, Members, no_members, member}
 use Rattle.serde_json.specs.Find.{get_member, pointer}
@@ -17,7 +17,7 @@ use Rattle.schemars_documents.specs.Documents.{root_document}
 use Rattle.schemars_build.specs.Work.{Work, Step}
 use Rattle.schemars_build.specs.Parts.{IsDocumentOf}
 use Rattle.schemars_build.specs.Reached.{AreReached}
-use Rattle.schemars_headline.specs.State.{State, path_of, plan_of, work_of, HasOwnDefinitions}
+use Rattle.schemars_headline.specs.State.{State, path_of, state_plan, work_of, HasOwnDefinitions}
 
 -- under every reading of patterns, from the bound on, the schema in this document accepts a JSON value exactly when it
 -- belongs to the row, and never leaves it open
@@ -28,7 +28,7 @@ AcceptsItsValues rows contract path n document schema =
 
 -- ---- root documents
 
--- the headline, for a root document of row n whose definitions stand at the path
+-- the headline, for a root document of row n whose definitions are at the path
 pub record MeansItsType (rows : List Row) (contract : Contract) (path : Text) (n : ℕ) (document : Data) : Type 0 where
   pub accepts_its_values : AcceptsItsValues rows contract path n document document
   pub references_resolve : ReferencesResolve document
@@ -67,31 +67,31 @@ abbrev pub with_definitions : Text → Members → Data → Option Data
 with_definitions path no_members document = Some document
 with_definitions path (member k d ms) document = placed_at path (member k d ms) document
 
--- the document of row n as a root document, without the definitions, where all that joined is reached from it
+-- the document of row n as a root document, without the definitions, where all that was added is reached from it
 pub record IsTitledRoot (old : State) (before : Work) (n : ℕ) (work : Work) (document : Data) : Type 0 where
   pub own : Data
-  pub is_document : IsDocumentOf (plan_of old (Some n)) true work before.pending n own
+  pub is_document : IsDocumentOf (state_plan old (Some n)) true work before.pending n own
   pub is_root : document ≡ root_document (name_at old.rows n) old.settings.meta_schema own
-  pub reached : IsPlainTable old.rows → AreReached (plan_of old (Some n)) false before work (references own)
+  pub reached : IsPlainTable old.rows → AreReached (state_plan old (Some n)) false before work (references own)
 
--- what a root call makes: the document of row n, made a root document, with the definitions, where all that joined is reached from it
+-- what a root call makes: the document of row n, made a root document, with the definitions, where all that was added is reached from it
 pub record IsRootOf (old : State) (n : ℕ) (work : Work) (document : Data) : Type 0 where
-  pub step : Step (plan_of old (Some n)) (work_of old) work
+  pub step : Step (state_plan old (Some n)) (work_of old) work
   pub own : Data
-  pub is_document : IsDocumentOf (plan_of old (Some n)) true work [] n own
-  pub is_root : with_definitions (plan_of old (Some n)).path work.definitions
+  pub is_document : IsDocumentOf (state_plan old (Some n)) true work [] n own
+  pub is_root : with_definitions (state_plan old (Some n)).path work.definitions
       (root_document (name_at old.rows n) old.settings.meta_schema own) ≡ Some document
-  pub reached : IsPlainTable old.rows → AreReached (plan_of old (Some n)) false (work_of old) work (references own)
+  pub reached : IsPlainTable old.rows → AreReached (state_plan old (Some n)) false (work_of old) work (references own)
 
--- a root document of row n whose definitions can't be placed, where all that joined is reached from it
+-- a root document of row n whose definitions cannot be placed, where all that was added is reached from it
 pub record CannotPlace (old : State) (n : ℕ) : Type 0 where
   pub work : Work
-  pub step : Step (plan_of old (Some n)) (work_of old) work
+  pub step : Step (state_plan old (Some n)) (work_of old) work
   pub own : Data
-  pub is_document : IsDocumentOf (plan_of old (Some n)) true work [] n own
-  pub no_place : with_definitions (plan_of old (Some n)).path work.definitions
+  pub is_document : IsDocumentOf (state_plan old (Some n)) true work [] n own
+  pub no_place : with_definitions (state_plan old (Some n)).path work.definitions
       (root_document (name_at old.rows n) old.settings.meta_schema own) ≡ None
-  pub reached : IsPlainTable old.rows → AreReached (plan_of old (Some n)) false (work_of old) work (references own)
+  pub reached : IsPlainTable old.rows → AreReached (state_plan old (Some n)) false (work_of old) work (references own)
 
 -- ---- subschemas
 

@@ -34,7 +34,7 @@ pub record State : Type 0 where
   pub names : Naming
   pub definitions : Members
 
--- ---- where definitions stand
+-- ---- where definitions are
 
 -- without one `#` in front
 abbrev pub without_hash : Text → Text
@@ -50,7 +50,7 @@ without_slash (x ∷ y ∷ rest) = x ∷ without_slash (y ∷ rest)
 abbrev pub stripped : Text → Text
 stripped path = without_slash (without_hash path)
 
--- where the definitions of a generator stand
+-- where the definitions of a generator are
 abbrev pub path_of : State → Text
 path_of s = stripped s.settings.definitions_path
 
@@ -66,8 +66,8 @@ work_of s = record {
   pending = [];
 }
 
-abbrev pub plan_of : State → Option ℕ → Plan
-plan_of s root = record {
+abbrev pub state_plan : State → Option ℕ → Plan
+state_plan s root = record {
   rows = s.rows;
   contract = s.settings.contract;
   titles = s.settings.titles;
@@ -79,7 +79,7 @@ plan_of s root = record {
 -- each definition is the document of the row of its name, with references to other definitions alone: so it is where
 -- the caller changed none
 abbrev pub HasOwnDefinitions : State → Type 0
-HasOwnDefinitions s = AreDefinitions (plan_of s None) (work_of s)
+HasOwnDefinitions s = AreDefinitions (state_plan s None) (work_of s)
 
 -- each reference in a definition names a key of the definitions
 abbrev pub ReferencesNameKeys : State → Type 0

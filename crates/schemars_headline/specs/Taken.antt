@@ -1,4 +1,4 @@
--- What the definitions that are taken for OpenAPI promise: each accepts just the values of its type, and its references lead to
+-- What the definitions that are taken for OpenAPI promise: each accepts exactly the values of its type, and its references lead to
 -- others.
 use Rattle.std.specs.Prelude.{◌≡◌, ◌≤◌, ℕ, Some, is_some, true}
 use Rattle.serde_json.specs.Data.{Data, Members}
@@ -14,7 +14,7 @@ use Rattle.schemars_laws.specs.Paths.{components, components_of, each_changed}
 use Rattle.schemars_laws.specs.Laws.{for_openapi3}
 use Rattle.schemars_headline.specs.State.{State, path_of, HasOwnDefinitions}
 
--- in this document the schema of this name accepts under OpenAPI just the JSON values that belong to the row of the name, under
+-- in this document the schema of this name accepts under OpenAPI exactly the JSON values that belong to the row of the name, under
 -- every reading of patterns, from the bound on, and leaves none open; and its references resolve
 pub record MeansItsRow (s : State) (name : Text) (document schema : Data) : Type 0 where
   pub row : ℕ

@@ -12,7 +12,7 @@ use Rattle.serde_json.proofs.Views.{get_member-put_other}
 use Rattle.schemars_schema.specs.Json.{Text}
 use Rattle.schemars_schema.specs.Edits.{without, replaced, with_item, with_last}
 use Rattle.schemars_schema.proofs.Members.{differ, get_member-member, unequal, without-put as put_without}
-use Rattle.schemars_transform.specs.Built.{reference}
+use Rattle.schemars_transform.specs.Built.{referring}
 use Rattle.schemars_laws.specs.Everywhere.{asked, asked_of_items, asked_of_keywords}
 use Rattle.schemars_laws.specs.Names.{IsNoObject}
 use Rattle.schemars_laws.specs.Classes.{IsOnce, is_null_alone, IsConstAlone}
@@ -20,7 +20,7 @@ use Rattle.schemars_laws.proofs.Looked.{without-other}
 use Rattle.schemars_laws.proofs.Siblings.{replaced-other, moved_members, get-moved}
 use Rattle.schemars_laws.proofs.Plain.{Alike, without-swap}
 use Rattle.schemars_laws.proofs.Preserved.{asked-without, asked-put, asked-replaced, asked-get}
-use Rattle.schemars_laws.specs.Stages.{IsTextOf, Stands, AreSomeTypes, HasSomeTypes}
+use Rattle.schemars_laws.specs.Stages.{IsTextWith, Stands, AreSomeTypes, HasSomeTypes}
 
 -- ---- look-ups
 
@@ -70,11 +70,11 @@ without-moved : (r : Data) (k : Text) (ms : Members) → k ≢ codes "allOf"
 without-moved r k ms other = go (get_member (codes "allOf") (without (codes "$ref") ms))
   where
     go : (o : Option Data) → get_member k (without k (elim o [
-      | None ↦ put (codes "allOf") (with_last (reference r) (array no_items)) (without (codes "$ref") ms)
-      | Some e ↦ replaced (codes "allOf") (with_last (reference r) e) (without (codes "$ref") ms)
+      | None ↦ put (codes "allOf") (with_last (referring r) (array no_items)) (without (codes "$ref") ms)
+      | Some e ↦ replaced (codes "allOf") (with_last (referring r) e) (without (codes "$ref") ms)
     ])) ≡ get_member k (without k (without (codes "$ref") ms))
-    go None = without-put k (codes "allOf") (with_last (reference r) (array no_items)) (without (codes "$ref") ms) other
-    go (Some e) = without-replaced k (codes "allOf") (with_last (reference r) e) (without (codes "$ref") ms) other
+    go None = without-put k (codes "allOf") (with_last (referring r) (array no_items)) (without (codes "$ref") ms) other
+    go (Some e) = without-replaced k (codes "allOf") (with_last (referring r) e) (without (codes "$ref") ms) other
 
 -- keywords beside a reference that moves into `allOf`
 pub alike-moved : (r : Data) (k : Text) (ms : Members) → bytes_eq k (codes "allOf") ≡ false → bytes_eq k (codes "$ref") ≡ false
@@ -154,14 +154,14 @@ unfolding asked
 items-last Q no_items d a here = (here, tt)
 items-last Q (item e ds) d a here = (a.0, items-last Q ds d a.1 here)
 
-module _ (Q : Members → Type 0) (r : Data) (here : (asked Q (reference r)).as_schema) where
-  list-longer : (e : Data) → (asked Q e).as_list → (asked Q (with_last (reference r) e)).as_list
+module _ (Q : Members → Type 0) (r : Data) (here : (asked Q (referring r)).as_schema) where
+  list-longer : (e : Data) → (asked Q e).as_list → (asked Q (with_last (referring r) e)).as_list
   unfolding asked
   list-longer null a = tt
   list-longer (boolean b) a = tt
   list-longer (number n) a = tt
   list-longer (string s) a = tt
-  list-longer (array ds) a = items-last Q ds (reference r) a here
+  list-longer (array ds) a = items-last Q ds (referring r) a here
   list-longer (object ms) a = tt
 
   pub asked-moved : (ms : Members) → asked_of_keywords Q ms → asked_of_keywords Q (moved_members r ms)
@@ -172,12 +172,12 @@ module _ (Q : Members → Type 0) (r : Data) (here : (asked Q (reference r)).as_
       old = asked-without Q (codes "$ref") ms a
 
       go : (o : Option Data) → get_member (codes "allOf") (without (codes "$ref") ms) ≡ o → asked_of_keywords Q (elim o [
-        | None ↦ put (codes "allOf") (with_last (reference r) (array no_items)) (without (codes "$ref") ms)
-        | Some e ↦ replaced (codes "allOf") (with_last (reference r) e) (without (codes "$ref") ms)
+        | None ↦ put (codes "allOf") (with_last (referring r) (array no_items)) (without (codes "$ref") ms)
+        | Some e ↦ replaced (codes "allOf") (with_last (referring r) e) (without (codes "$ref") ms)
       ])
-      go None is = asked-put Q (codes "allOf") (with_last (reference r) (array no_items)) (without (codes "$ref") ms) (here, tt) old
+      go None is = asked-put Q (codes "allOf") (with_last (referring r) (array no_items)) (without (codes "$ref") ms) (here, tt) old
       go (Some e) is =
-          asked-replaced Q (codes "allOf") (with_last (reference r) e) (without (codes "$ref") ms)
+          asked-replaced Q (codes "allOf") (with_last (referring r) e) (without (codes "$ref") ms)
           (list-longer e (asked-get Q (codes "allOf") (without (codes "$ref") ms) e is old)) old
 
 -- ---- groups of keywords
@@ -212,7 +212,7 @@ const-alike ns ms a b is = (a.others ∙ is.0, either is.1)
 pub stands-alike : (N : Text → Type 0) (P Q : Members → Type 0) (ns ms : Members) → Alike (codes "$ref") ns ms
     → Alike (codes "unevaluatedProperties") ns ms → Q ns → Stands N P ms → Stands N Q ns
 stands-alike N P Q ns ms a b own is = record {
-  reference = subst (IsTextOf N) (sym a.first) is.reference;
+  reference = subst (IsTextWith N) (sym a.first) is.reference;
   once = a.others ∙ is.once;
   closed = subst IsNoObject (sym b.first) is.closed;
   own = own;

@@ -10,7 +10,7 @@ use Rattle.schemars_schema.specs.Edits.{without, removed}
 use Rattle.schemars_schema.specs.Acceptance.{Dialect, Context, judge, truth_value, read_data}
 use Rattle.schemars_schema.proofs.Objects.{judge-agree, apart}
 use Rattle.schemars_walk.specs.Rewritten.{in_keywords}
-use Rattle.schemars_transform.specs.Formats.{format_rules, stays}
+use Rattle.schemars_transform.specs.Formats.{format_rules, format_stays}
 use Rattle.schemars_laws.proofs.Moved.{Moves}
 use Rattle.schemars_laws.proofs.Looked.{without-other}
 use Rattle.schemars_laws.proofs.Examples.{same-dialect}
@@ -38,18 +38,18 @@ formats allowed key dialect Q other = record {
     of_object = λ c r ms is q.
         either (λ s. judge c s ≡ judge c (object (in_keywords (format_rules allowed) r ms))) (in_keywords (format_rules allowed) r ms) refl
         (judge-format c (in_keywords (format_rules allowed) r ms))
-        (stays r allowed (option_and_then as_str (get_member (codes "format") (in_keywords (format_rules allowed) r ms))))
+        (format_stays r allowed (option_and_then as_str (get_member (codes "format") (in_keywords (format_rules allowed) r ms))))
         ∙ same-dialect c dialect (in_keywords (format_rules allowed) r ms) is;
   };
   definitions = λ r ms.
       either (λ s. (ns : Members) × (s ≡ object ns) × (get_member key ns ≡ get_member key ms)) ms (ms, refl, refl)
       (without (codes "format") ms, refl, without-other (codes "format") key ms other)
-      (stays r allowed (option_and_then as_str (get_member (codes "format") ms)));
+      (format_stays r allowed (option_and_then as_str (get_member (codes "format") ms)));
 }
   where
     schema : (r : _) (s : Data) → IsSchema s → IsSchema ((format_rules allowed).finish r s)
     schema r (boolean b) is = tt
-    schema r (object ms) is = either IsSchema ms tt tt (stays r allowed (option_and_then as_str (get_member (codes "format") ms)))
+    schema r (object ms) is = either IsSchema ms tt tt (format_stays r allowed (option_and_then as_str (get_member (codes "format") ms)))
     schema r null is = absurd is
     schema r (number n) is = absurd is
     schema r (string t) is = absurd is

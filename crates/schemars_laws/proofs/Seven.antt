@@ -25,7 +25,7 @@ use Rattle.schemars_laws.proofs.Unevaluated.{schema-unevaluated}
 use Rattle.schemars_laws.proofs.BoolSchemas.{bool_schemas}
 use Rattle.schemars_laws.proofs.Plain.{Alike, items-alike, alike-without}
 use Rattle.schemars_laws.proofs.Preserved.{Preserves, asked-without, asked-put, asked-replaced, asked-get}
-use Rattle.schemars_laws.specs.Stages.{IsTextOf, Stands, IsForOpenApi, AfterNullable, AfterSiblings, Anything}
+use Rattle.schemars_laws.specs.Stages.{IsTextWith, Stands, IsForOpenApi, AfterNullable, AfterSiblings, Anything}
 use Rattle.schemars_laws.proofs.Editing.{alike-put, alike-replaced, alike-moved, alike-then, alike-same, asked-moved, once-moved, gone-moved, once-put, absent-once}
 use Rattle.schemars_laws.proofs.Editing.{type-alike, values-alike, const-alike, stands-alike}
 use Rattle.schemars_laws.proofs.Steps.{goes-down-here, by_change, place-bool, first-walked, nullable-walked, siblings-walked, stands-walked}
@@ -35,7 +35,7 @@ module _ (N : Text → Type 0) where
 
   without-unevaluated : (ns : Members) → Stands N IsForOpenApi ns → Stands N IsForOpenApi (without (codes "unevaluatedProperties") ns)
   without-unevaluated ns is = record {
-    reference = subst (IsTextOf N) (sym (a (codes "$ref") refl).first) is.reference;
+    reference = subst (IsTextWith N) (sym (a (codes "$ref") refl).first) is.reference;
     once = (a (codes "$ref") refl).others ∙ is.once;
     closed = subst IsNoObject (sym is.own.unevaluated.0) tt;
     own = record {
@@ -55,7 +55,8 @@ module _ (N : Text → Type 0) where
   unfolding asked
   keep-unevaluated =
       by_change unevaluated_as_additional N IsForOpenApi IsForOpenApi schema-unevaluated (λ b. tt)
-      (λ ms is. first-walked (change_rules unevaluated_as_additional) (goes-down-here unevaluated_as_additional) (λ r s is. schema-unevaluated s is) N tt ms is)
+      (λ ms is. first-walked (change_rules unevaluated_as_additional) (goes-down-here unevaluated_as_additional)
+      (λ r s is. schema-unevaluated s is) N tt ms is)
       (λ ns is a. subst (λ o. (asked (Stands N IsForOpenApi) (closed_by o (object (without (codes "unevaluatedProperties") ns)))).as_schema)
       (sym is.own.unevaluated.1) (without-unevaluated ns is, asked-without (Stands N IsForOpenApi) (codes "unevaluatedProperties") ns a))
 
@@ -95,8 +96,11 @@ module _ (N : Text → Type 0) where
     place = (bool_schemas (codes "$defs") draft2020_12 IsForOpenApi).rewrites.place;
     schema = λ r s is. tt;
     of_truth = λ r b. truth b;
-    of_object = λ r ms is a.
-        (stands-walked bool_rules place-bool (λ r s is. tt) N r ms IsForOpenApi (first-walked bool_rules place-bool (λ r s is. tt) N r ms) is, a);
+    of_object = λ r ms is a. (
+      stands-walked bool_rules place-bool (λ r s is. tt) N r ms IsForOpenApi
+          (first-walked bool_rules place-bool (λ r s is. tt) N r ms) is,
+      a,
+    );
   }
     where
       truth : (b : Bool) → (asked (Stands N IsForOpenApi) (object (members_in (boolean b)))).as_schema
@@ -147,7 +151,8 @@ module _ (N : Text → Type 0) where
       stands-alike N IsForOpenApi AfterNullable ns ms ref rest
       (subst IsSchemaList (sym all.first) is.own.all_of, const, items-alike ns ms prefix items additional is.own.items) is
 
-  made : (P : Members → Type 0) (ns : Members) → Stands N P ns → asked_of_keywords (Stands N P) ns → (asked (Stands N P) (object ns)).as_schema
+  made : (P : Members → Type 0) (ns : Members) → Stands N P ns → asked_of_keywords (Stands N P) ns
+      → (asked (Stands N P) (object ns)).as_schema
   unfolding asked
   made P ns is a = (is, a)
 
@@ -165,7 +170,8 @@ module _ (N : Text → Type 0) where
       done : (ns : Members) → Stands N IsForOpenApi ns → asked_of_keywords (Stands N AfterNullable) ns
           → (asked (Stands N AfterNullable) (nullable_change (object ns))).as_schema
       done ns is a =
-          by_kind (λ s. (asked (Stands N AfterNullable) s).as_schema) ns (same, a) (λ only. (alone only, inside-alone)) (λ d. (among d, inside-among d)) (nulls, inside-nulls)
+          by_kind (λ s. (asked (Stands N AfterNullable) s).as_schema) ns (same, a) (λ only. (alone only, inside-alone))
+          (λ d. (among d, inside-among d)) (nulls, inside-nulls)
           (get_member (codes "type") ns) refl
         where
           Q : Members → Type 0
@@ -234,7 +240,8 @@ module _ (N : Text → Type 0) where
   unfolding asked
   keep-siblings =
       by_change without_siblings N AfterNullable AfterSiblings schema-siblings (λ b. tt)
-      (λ ms is. nullable-walked (change_rules without_siblings) (goes-down-here without_siblings) (λ r s is. schema-siblings s is) N tt ms is) done
+      (λ ms is. nullable-walked (change_rules without_siblings) (goes-down-here without_siblings)
+      (λ r s is. schema-siblings s is) N tt ms is) done
     where
       done : (ns : Members) → Stands N AfterNullable ns → asked_of_keywords (Stands N AfterSiblings) ns
           → (asked (Stands N AfterSiblings) (without_siblings (object ns))).as_schema
@@ -249,7 +256,7 @@ module _ (N : Text → Type 0) where
 
           gone : Q (without (codes "$ref") ns)
           gone = record {
-            reference = subst (IsTextOf N) (sym is.once) tt;
+            reference = subst (IsTextWith N) (sym is.once) tt;
             once = absent-once (codes "$ref") (without (codes "$ref") ns) is.once;
             closed = subst IsNoObject (sym (w (codes "unevaluatedProperties") refl).first) is.closed;
             own = (
@@ -263,7 +270,7 @@ module _ (N : Text → Type 0) where
 
           moved : (r : Data) → Q (moved_members r ns)
           moved r = record {
-            reference = subst (IsTextOf N) (sym (gone-moved r ns is.once)) tt;
+            reference = subst (IsTextWith N) (sym (gone-moved r ns is.once)) tt;
             once = once-moved r ns is.once;
             closed = subst IsNoObject (sym (w (codes "unevaluatedProperties") refl refl).first) is.closed;
             own = (
@@ -275,14 +282,14 @@ module _ (N : Text → Type 0) where
               w : (k : Text) → bytes_eq k (codes "allOf") ≡ false → bytes_eq k (codes "$ref") ≡ false → Alike k (moved_members r ns) ns
               w k out ref_out = alike-moved r k ns out ref_out
 
-          alone : (r : Data) → IsTextOf N (Some r) → Q (member (codes "$ref") r no_members)
+          alone : (r : Data) → IsTextWith N (Some r) → Q (member (codes "$ref") r no_members)
           alone r text = record { reference = text; once = refl; closed = tt; own = ((refl, inl refl), (refl, tt, tt, refl)) }
 
           each : (b : Bool) (o : Option Data) → get_member (codes "$ref") ns ≡ o
               → (asked Q (if b then object ns else reference_moved o (object (without (codes "$ref") ns)))).as_schema
           each true o here = (same, a)
           each false None here = (gone, asked-without Q (codes "$ref") ns a)
-          each false (Some r) here = (moved r, asked-moved Q r (alone r (subst (IsTextOf N) here is.reference), (tt, tt)) ns a)
+          each false (Some r) here = (moved r, asked-moved Q r (alone r (subst (IsTextWith N) here is.reference), (tt, tt)) ns a)
 
   -- ---- an example
 
@@ -291,7 +298,8 @@ module _ (N : Text → Type 0) where
   unfolding asked
   keep-example schema =
       by_change with_single_example N AfterSiblings AfterSiblings schema (λ b. tt)
-      (λ ms is. siblings-walked (change_rules with_single_example) (goes-down-here with_single_example) (λ r s is. schema s is) N tt ms is) done
+      (λ ms is. siblings-walked (change_rules with_single_example) (goes-down-here with_single_example)
+      (λ r s is. schema s is) N tt ms is) done
     where
       done : (ns : Members) → Stands N AfterSiblings ns → asked_of_keywords (Stands N AfterSiblings) ns
           → (asked (Stands N AfterSiblings) (with_single_example (object ns))).as_schema

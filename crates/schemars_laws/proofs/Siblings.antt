@@ -21,7 +21,7 @@ use Rattle.schemars_schema.specs.Acceptance.{reference_says, type_says, const_sa
 use Rattle.schemars_schema.specs.Acceptance.{stands_schema, is_covered}
 use Rattle.schemars_schema.specs.Acceptance.{each_says}
 use Rattle.schemars_schema.proofs.Objects.{schema-judge, reading_at-members, judge-agree}
-use Rattle.schemars_transform.specs.Built.{reference, reference_moved, without_siblings}
+use Rattle.schemars_transform.specs.Built.{referring, reference_moved, without_siblings}
 use Rattle.schemars_laws.proofs.Keywords.{counts_say, members_say, last_say, fits-all, left_out, AgreeOutside, left_out-agree}
 use Rattle.schemars_laws.proofs.Seen.{judge_ext}
 use Rattle.schemars_laws.specs.Classes.{IsOnce, IsText, IsSchemaList, HasPlainReference, alone_by, beside_by}
@@ -139,7 +139,7 @@ list_with (Some e) d = with_last d e
 
 module _ (r : Data) (ms : Members) where
   abbrev pub moved_members : Members
-  moved_members = changed_at (codes "allOf") (with_last (reference r)) (array no_items) (without (codes "$ref") ms)
+  moved_members = changed_at (codes "allOf") (with_last (referring r)) (array no_items) (without (codes "$ref") ms)
 
   all_of-before : get_member (codes "allOf") (without (codes "$ref") ms) ≡ get_member (codes "allOf") ms
   all_of-before = without-other (codes "$ref") (codes "allOf") ms (differ (codes "allOf") (codes "$ref") refl)
@@ -148,23 +148,23 @@ module _ (r : Data) (ms : Members) where
   get-moved k other = go (get_member (codes "allOf") (without (codes "$ref") ms))
     where
       go : (o : Option Data) → get_member k (elim o [
-        | None ↦ put (codes "allOf") (with_last (reference r) (array no_items)) (without (codes "$ref") ms)
-        | Some e ↦ replaced (codes "allOf") (with_last (reference r) e) (without (codes "$ref") ms)
+        | None ↦ put (codes "allOf") (with_last (referring r) (array no_items)) (without (codes "$ref") ms)
+        | Some e ↦ replaced (codes "allOf") (with_last (referring r) e) (without (codes "$ref") ms)
       ]) ≡ get_member k (without (codes "$ref") ms)
-      go None = get_member-put_other k (codes "allOf") (with_last (reference r) (array no_items)) (without (codes "$ref") ms) other
-      go (Some e) = replaced-other (codes "allOf") k (with_last (reference r) e) (without (codes "$ref") ms) other
+      go None = get_member-put_other k (codes "allOf") (with_last (referring r) (array no_items)) (without (codes "$ref") ms) other
+      go (Some e) = replaced-other (codes "allOf") k (with_last (referring r) e) (without (codes "$ref") ms) other
 
-  pub all_of-moved : get_member (codes "allOf") moved_members ≡ Some (list_with (get_member (codes "allOf") ms) (reference r))
+  pub all_of-moved : get_member (codes "allOf") moved_members ≡ Some (list_with (get_member (codes "allOf") ms) (referring r))
   all_of-moved =
       go (get_member (codes "allOf") (without (codes "$ref") ms)) refl
-      ∙ ap (λ o. Some (list_with o (reference r))) all_of-before
+      ∙ ap (λ o. Some (list_with o (referring r))) all_of-before
     where
       go : (o : Option Data) → get_member (codes "allOf") (without (codes "$ref") ms) ≡ o → get_member (codes "allOf") (elim o [
-        | None ↦ put (codes "allOf") (with_last (reference r) (array no_items)) (without (codes "$ref") ms)
-        | Some e ↦ replaced (codes "allOf") (with_last (reference r) e) (without (codes "$ref") ms)
-      ]) ≡ Some (list_with o (reference r))
-      go None is = get_member-put (codes "allOf") (with_last (reference r) (array no_items)) (without (codes "$ref") ms)
-      go (Some e) is = get_member-replaced (codes "allOf") (with_last (reference r) e) e (without (codes "$ref") ms) is
+        | None ↦ put (codes "allOf") (with_last (referring r) (array no_items)) (without (codes "$ref") ms)
+        | Some e ↦ replaced (codes "allOf") (with_last (referring r) e) (without (codes "$ref") ms)
+      ]) ≡ Some (list_with o (referring r))
+      go None is = get_member-put (codes "allOf") (with_last (referring r) (array no_items)) (without (codes "$ref") ms)
+      go (Some e) is = get_member-replaced (codes "allOf") (with_last (referring r) e) e (without (codes "$ref") ms) is
 
   get-rest : (k : Text) → is_listed k two ≡ false → get_member k moved_members ≡ get_member k ms
   get-rest k out =
@@ -279,7 +279,7 @@ module _ (c : Context) (d : Dialect) where
   was = record c { dialect = beside_by d }
 
   -- a reference alone
-  judge-reference : (t : Text) → judge now (reference (string t)) ≡ reference_alone now (λ k. Some (string t))
+  judge-reference : (t : Text) → judge now (referring (string t)) ≡ reference_alone now (λ k. Some (string t))
   unfolding read_data
   judge-reference t = refl
 
@@ -301,9 +301,9 @@ module _ (c : Context) (d : Dialect) where
     o : Option Data
     o = get_member (codes "allOf") ms
 
-    list : Longer now o (reference (string t))
+    list : Longer now o (referring (string t))
     unfolding o
-    list = longer-list now o (reference (string t)) plain tt
+    list = longer-list now o (referring (string t)) plain tt
 
     ref-gone : get_member (codes "$ref") rs ≡ None
     unfolding rs
@@ -313,7 +313,7 @@ module _ (c : Context) (d : Dialect) where
     unfolding read o
     read-list = reading_at-members now ms (codes "allOf")
 
-    reread-list : reread (codes "allOf") ≡ option_map (read_data now) (Some (list_with o (reference (string t))))
+    reread-list : reread (codes "allOf") ≡ option_map (read_data now) (Some (list_with o (referring (string t))))
     unfolding reread rs o
     reread-list = reading_at-members now rs (codes "allOf") ∙ ap (option_map (read_data now)) (all_of-moved (string t) ms)
 
@@ -332,7 +332,7 @@ module _ (c : Context) (d : Dialect) where
     said-list : (v : Data) → each_says all_of (reread (codes "allOf")) v ≡ both (each_says all_of (read (codes "allOf")) v) (target.fits v)
     said-list v =
         ap (λ x. each_says all_of x v) reread-list
-        ∙ (each-longer now o (reference (string t)) list v
+        ∙ (each-longer now o (referring (string t)) list v
         ∙ (ap (λ j. both (each_says all_of (option_map (read_data now) o) v) (j.fits v)) (judge-reference t)
         ∙ ap (λ x. both (each_says all_of x v) (target.fits v)) (sym read-list)))
 
@@ -340,7 +340,7 @@ module _ (c : Context) (d : Dialect) where
         → judged_by_list (reread (codes "allOf")) v k ≡ judged_by_list (read (codes "allOf")) v k || judged_by target v k
     judged-list v k =
         ap (λ x. judged_by_list x v k) reread-list
-        ∙ (judged-longer now o (reference (string t)) list v k
+        ∙ (judged-longer now o (referring (string t)) list v k
         ∙ (ap (λ j. judged_by_list (option_map (read_data now) o) v k || judged_by j v k) (judge-reference t)
         ∙ (ap (λ b. judged_by_list (option_map (read_data now) o) v k || b) (and-twice (target.fits v) (target.judges v k))
         ∙ ap (λ x. judged_by_list x v k || judged_by target v k) (sym read-list))))

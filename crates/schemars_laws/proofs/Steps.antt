@@ -15,13 +15,13 @@ use Rattle.schemars_laws.proofs.Looked.{change_rules, walked}
 use Rattle.schemars_laws.proofs.Plain.{Alike, alike-walked}
 use Rattle.schemars_laws.specs.Names.{IsNamedBy}
 use Rattle.schemars_laws.specs.Classes.{IsText}
-use Rattle.schemars_laws.specs.Stages.{IsTextOf, Stands, IsForOpenApi, AfterNullable, AfterSiblings}
+use Rattle.schemars_laws.specs.Stages.{IsTextWith, Stands, IsForOpenApi, AfterNullable, AfterSiblings}
 use Rattle.schemars_laws.proofs.Preserved.{Preserves, change-preserves}
 use Rattle.schemars_laws.proofs.Editing.{type-alike, values-alike, const-alike, stands-alike}
 
 -- ---- what stands under `$ref`
 
-pub text-alone : (N : Text → Type 0) (o : Option Data) → IsTextOf N o → IsText o
+pub text-alone : (N : Text → Type 0) (o : Option Data) → IsTextWith N o → IsText o
 text-alone N None is = tt
 text-alone N (Some (string t)) is = tt
 text-alone N (Some null) is = absurd is
@@ -30,7 +30,7 @@ text-alone N (Some (number n)) is = absurd is
 text-alone N (Some (array ds)) is = absurd is
 text-alone N (Some (object es)) is = absurd is
 
-pub text-named : (N : Text → Type 0) (o : Option Data) → IsTextOf N o → IsNamedBy N (option_and_then as_str o)
+pub text-named : (N : Text → Type 0) (o : Option Data) → IsTextWith N o → IsNamedBy N (option_and_then as_str o)
 text-named N None is = tt
 text-named N (Some (string t)) is = is
 text-named N (Some null) is = absurd is

@@ -7,18 +7,18 @@ use Rattle.schemars_laws.specs.Names.{IsNoObject}
 use Rattle.schemars_laws.specs.Classes.{IsOnce, IsSchemaList, is_null_alone, IsConstAlone, HasPlainItems, HasNoUnevaluated, AreTexts}
 
 -- a text of which N holds, if anything
-abbrev pub IsTextOf : (Text → Type 0) → Option Data → Type 0
-IsTextOf N None = Unit {0}
-IsTextOf N (Some null) = ⊥
-IsTextOf N (Some (boolean b)) = ⊥
-IsTextOf N (Some (number n)) = ⊥
-IsTextOf N (Some (string t)) = N t
-IsTextOf N (Some (array ds)) = ⊥
-IsTextOf N (Some (object ms)) = ⊥
+abbrev pub IsTextWith : (Text → Type 0) → Option Data → Type 0
+IsTextWith N None = Unit {0}
+IsTextWith N (Some null) = ⊥
+IsTextWith N (Some (boolean b)) = ⊥
+IsTextWith N (Some (number n)) = ⊥
+IsTextWith N (Some (string t)) = N t
+IsTextWith N (Some (array ds)) = ⊥
+IsTextWith N (Some (object ms)) = ⊥
 
 -- what holds before each transform: one reference at most, of which N holds, and no schema object where a walk doesn't lead
 pub record Stands (N : Text → Type 0) (Q : Members → Type 0) (ms : Members) : Type 0 where
-  pub reference : IsTextOf N (get_member (codes "$ref") ms)
+  pub reference : IsTextWith N (get_member (codes "$ref") ms)
   pub once : IsOnce (codes "$ref") ms
   pub closed : IsNoObject (get_member (codes "unevaluatedProperties") ms)
   pub own : Q ms

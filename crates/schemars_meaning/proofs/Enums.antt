@@ -16,7 +16,7 @@ use Rattle.schemars_types.specs.declared.contract.Contract.{Contract}
 use Rattle.schemars_documents.specs.PlainTable.{ArePlainVariants, payload_parts, variant_parts}
 use Rattle.schemars_documents.specs.Basis.{Basis}
 use Rattle.schemars_documents.specs.Template.{Ask, part, Template, noted, Templates, asks_of, asks_in, filled, filled_in}
-use Rattle.schemars_documents.specs.OfShape.{templates_of, any_of, payload_template, bare_units, other_items, units_template, choice_of}
+use Rattle.schemars_documents.specs.OfShape.{templates_of, any_of_template, payload_template, bare_units, other_items, units_template, choice_of}
 use Rattle.schemars_documents.specs.OfShape.{external_template, payload_item, untagged_template, titled, title_alone, struct_template}
 use Rattle.schemars_documents.specs.OfShape.{internal_item, internal_template}
 use Rattle.schemars_meaning.proofs.Filling.{Fit, without_end, parted}
@@ -124,7 +124,7 @@ module _ (patterns : Patterns) (f : Text → Judge) (basis : Basis) (A : Ask →
       let own = h.0 p.0 p.2 in
       (rw p.4 own.0, ap (λ s. (judge c s).fits v) p.4 ∙ own.1, rw p.5 (all_say ts bs v h.1 p.1 p.3))
 
-  any_tells : (ts : List Template) (bs : List Bool) (v : Data) → AllTell ts bs v → Tells (any_of ts) (list_any (λ b. b) bs) v
+  any_tells : (ts : List Template) (bs : List Bool) (v : Data) → AllTell ts bs v → Tells (any_of_template ts) (list_any (λ b. b) bs) v
   any_tells ts bs v h us fit = (
     tt,
     any_of_says patterns f basis M (filled_in (templates_of ts) us) bs v

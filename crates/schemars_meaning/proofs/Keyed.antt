@@ -34,7 +34,7 @@ use Rattle.schemars_documents.specs.Documents.{Keyword, typed}
 use Rattle.schemars_documents.specs.Template.{Ask, part, Template, no_templates, template, finished, row, asks_of, asks_in, filled}
 use Rattle.schemars_documents.specs.Template.{filled_in, keyed}
 use Rattle.schemars_documents.specs.OfShape.{KeywordTemplate, templates_of, values_template, object_with, values_of, other_values}
-use Rattle.schemars_documents.specs.OfShape.{typed as typed_at, all_patterns, pattern_properties_at, properties_at}
+use Rattle.schemars_documents.specs.OfShape.{typed_template as typed_at, all_patterns, pattern_properties_at, properties_at}
 use Rattle.schemars_meaning.proofs.MapDocument.{properties_keyword}
 use Rattle.schemars_meaning.proofs.Named.{AreEntries, schema_named-judges_in, judges_in, all_named-schemas, AreSchemas-put_all}
 use Rattle.schemars_meaning.proofs.Named.{each_yes, IsNoMap}

@@ -25,7 +25,7 @@ use Rattle.schemars_types.specs.declared.contract.Contract.{Contract}
 use Rattle.schemars_types.specs.declared.contract.Contract.TheVariants.{Deserialize, Serialize}
 use Rattle.schemars_types.specs.Meaning.{least_of, greatest_of, is_required}
 use Rattle.schemars_types.specs.Effective.{flattened_fields, effective, flattened_in, part_enums, spread_payload, spread_variant, spread_in}
-use Rattle.schemars_types.specs.KeyOptions.{KeyOptions, keys, or_any_text, all_options, key_options, each_once, once}
+use Rattle.schemars_types.specs.KeyOptions.{KeyOptions, keys, or_any_text, all_options, key_options, distinct_options, once}
 use Rattle.schemars_documents.specs.Documents.{int_keywords, is_signed, required_names, bytes_document}
 use Rattle.schemars_documents.specs.PlainTable.{AreDistinct, AreNoted, IsPlainShape, IsPlainEntry, IsPlainPayload}
 use Rattle.schemars_documents.specs.PlainTable.{ArePlainVariants, AreTagged, IsTagged, payload_parts, variant_parts, parts_in}
@@ -37,7 +37,7 @@ use Rattle.schemars_documents.specs.Template.{asks_of, filled}
 use Rattle.schemars_documents.specs.OfShape.{KeywordTemplate, templates_of, object_with, property, map_template, template_of}
 use Rattle.schemars_documents.specs.OfShape.{entry_template, member_template, payload_template, named_template, bare_units}
 use Rattle.schemars_documents.specs.OfShape.{other_items, choice_of, payload_item, titled, fields_template, with_flattened}
-use Rattle.schemars_documents.specs.OfShape.{struct_template, content_template, typed, values_of, all_patterns}
+use Rattle.schemars_documents.specs.OfShape.{struct_template, content_template, typed_template, values_of, all_patterns}
 use Rattle.schemars_documents.specs.OfShape.{tuple_template, pattern_properties_at, properties_at, other_values, values_template}
 use Rattle.schemars_documents.specs.OfShape.{untagged_template, internal_item, internal_template}
 use Rattle.schemars_documents.specs.Describes.{AreAnswered, references_of}
@@ -82,7 +82,7 @@ once_apart (k ∷ ks) = (others_apart k (once ks), apart-filter (λ u. not (byte
 abbrev AreKeysApart : KeyOptions → Type 0
 AreKeysApart (keys others texts integers ps) = AreApart texts × AreApart ps
 
-keys_apart : (options : KeyOptions) → AreKeysApart (each_once options)
+keys_apart : (options : KeyOptions) → AreKeysApart (distinct_options options)
 keys_apart (keys others texts integers ps) = (once_apart texts, once_apart ps)
 
 patterns_apart : (integers : Option IntegerKeys) (ps : List Text) → AreApart ps → AreApart (all_patterns integers ps)
@@ -399,7 +399,7 @@ module _ (Q : Type 0) (Answers : Ask → Data → Type 0) (basis : Basis)
   other_as_schema false value = refl
 
   keyed_as_schema : (other : Template) (texts qs : List Text) (value : ℕ) → Schema other → AreApart texts → AreApart qs
-      → Schema (object_with (typed (codes "object") ∷ (codes "additionalProperties", other)
+      → Schema (object_with (typed_template (codes "object") ∷ (codes "additionalProperties", other)
       ∷ (pattern_properties_at (values_of value qs) ++ properties_at (values_of value texts))))
   unfolding found_in
   keyed_as_schema other [] [] value o h g = search o

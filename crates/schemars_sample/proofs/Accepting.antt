@@ -27,7 +27,7 @@ use Rattle.schemars_sample.specs.Example.{Example, truth, whole, character, text
 use Rattle.schemars_sample.specs.Example.{unit_struct, unit_variant, newtype_struct, newtype_variant, seq, tuple}
 use Rattle.schemars_sample.specs.Example.{tuple_variant, struct, collected_map, struct_variant}
 use Rattle.schemars_sample.specs.Example.{Examples, no_examples, example, Entries, no_entries, entry}
-use Rattle.schemars_sample.specs.SampleJson.{sample_json, items_json, entries_json, array_of, are_bytes}
+use Rattle.schemars_sample.specs.SampleJson.{sample_json, items_json, entries_json, json_array, are_bytes}
 use Rattle.schemars_sample.specs.SampleSchema.{sample_schema, item_schemas, entry_schemas, value_schemas, one_beside, shared_by}
 use Rattle.schemars_sample.specs.SampleSchema.{tuple_schema, titled_schema, with_name, with_example, sample_root}
 use Rattle.schemars_sample.proofs.Characters.{one-character}
@@ -137,7 +137,7 @@ module _ (patterns : Patterns) (follow : Text → Judge) where
   by_position-fits (s ∷ ss) [] h = absurd h
   by_position-fits (s ∷ ss) (d ∷ ds) h = let rest = by_position-fits ss ds h.1 in (rw h.0 rest.0, ap suc rest.1)
 
-  tuple-fits : (ss ds : List Data) → AreSound patterns follow ss → FitEach ss ds → Fits (tuple_schema ss) (array_of ds)
+  tuple-fits : (ss ds : List Data) → AreSound patterns follow ss → FitEach ss ds → Fits (tuple_schema ss) (json_array ds)
   tuple-fits ss ds sound h =
       let parts = by_position-fits ss ds h in
       let least : nat_le (length ss) (items_len (items_of ds)) ≡ true = le-leb _ _ (omega arith) in
@@ -188,7 +188,7 @@ module _ (patterns : Patterns) (follow : Text → Judge) where
         subst (λ v. Fits (sample_schema (character n)) v) (same_Some _ json e) (char-says patterns follow (encode_utf8 n) (one-character n))
     accepted (text s) json e = subst (λ v. Fits (sample_schema (text s)) v) (same_Some _ json e) refl
     accepted (bytes bs) json e =
-        let parts = cond_some (are_bytes bs) (array_of (map (λ b. number (unsigned b)) bs)) json e in
+        let parts = cond_some (are_bytes bs) (json_array (map (λ b. number (unsigned b)) bs)) json e in
         subst (λ v. Fits (sample_schema (bytes bs)) v) parts.1
         (list-says patterns follow byte_document tt (items_of (map (λ b. number (unsigned b)) bs)) ∙ bytes-fit bs parts.0)
     accepted no_value json e = refl
@@ -199,13 +199,13 @@ module _ (patterns : Patterns) (follow : Text → Judge) where
     accepted (unit_variant variant) json e = refl
     accepted (newtype_struct name x) json e = accepted x json e
     accepted (newtype_variant variant x) json e = refl
-    accepted (seq xs) json e = option_map_some array_of (items_json xs) json e (λ ds is same.
+    accepted (seq xs) json e = option_map_some json_array (items_json xs) json e (λ ds is same.
         let items = item_schemas xs in
         let sound = sound_items xs in
         subst (λ v. Fits (sample_schema (seq xs)) v) same
         (list-says patterns follow (one_beside [] items) (sound-one_beside patterns follow items sound).0 (items_of ds)
         ∙ each_past-covers (one_beside [] items) items ds (one_beside-covers patterns follow items sound) (accepted_items xs ds is)))
-    accepted (tuple name xs) json e = option_map_some array_of (items_json xs) json e (λ ds is same.
+    accepted (tuple name xs) json e = option_map_some json_array (items_json xs) json e (λ ds is same.
         subst (λ v. Fits (sample_schema (tuple name xs)) v) same
         (tuple-fits (item_schemas xs) ds (sound_items xs) (accepted_items xs ds is)))
     accepted (tuple_variant variant xs) json e = refl

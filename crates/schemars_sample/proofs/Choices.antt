@@ -5,7 +5,7 @@ use Rattle.std.specs.List.{AllByRecursion}
 use Rattle.serde_json.specs.Data.{Data, boolean}
 use Rattle.serde_json.specs.View.{items_of}
 use Rattle.schemars_schema.specs.Json.{is_among}
-use Rattle.schemars_sample.specs.SampleSchema.{holds_everything, each_once, choice_of, one_beside, are_all, shared_by}
+use Rattle.schemars_sample.specs.SampleSchema.{holds_everything, each_once, choice_among, one_beside, are_all, shared_by}
 
 module _ (P : Data → Type 0) (of_truth : P (boolean true)) where
   abbrev All : List Data → Type 0
@@ -25,10 +25,10 @@ module _ (P : Data → Type 0) (of_truth : P (boolean true)) where
       go false rest = rest (seen ++ d ∷ []) (append-all seen d all more.0)
 
   -- of one that has to fit, where it holds of each choice of such schemas
-  pub one_beside-holds : ((ds : List Data) → All ds → P (choice_of ds)) → (ds : List Data) → All ds → P (one_beside [] ds)
+  pub one_beside-holds : ((ds : List Data) → All ds → P (choice_among ds)) → (ds : List Data) → All ds → P (one_beside [] ds)
   one_beside-holds of_choice ds all = go (holds_everything ds)
     where
-      go : (b : Bool) → P (if b then boolean true else choice_of (each_once [] ds))
+      go : (b : Bool) → P (if b then boolean true else choice_among (each_once [] ds))
       go true = of_truth
       go false = of_choice (each_once [] ds) (each_once-all [] ds tt all)
 

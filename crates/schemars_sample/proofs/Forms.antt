@@ -25,7 +25,7 @@ use Rattle.schemars_schema.proofs.Objects.{schema-judge}
 use Rattle.schemars_schema.proofs.Members.{get_member-later, get_member-here}
 use Rattle.schemars_builders.specs.NullLaw.{context2020_12}
 use Rattle.schemars_documents.specs.Documents.{type_alone, char_document, byte_document}
-use Rattle.schemars_sample.specs.SampleSchema.{list_schema, tuple_schema, struct_schema, map_schema, choice_of}
+use Rattle.schemars_sample.specs.SampleSchema.{list_schema, tuple_schema, struct_schema, map_schema, choice_among}
 
 -- yes or no
 abbrev pub IsDecided : Verdict → Type 0
@@ -267,14 +267,14 @@ module _ (patterns : Patterns) (follow : Text → Judge) where
   some-fits (s ∷ ss) h v (inl here) = rw (here, (none-decided ss h.1 v).1) (refused _)
   some-fits (s ∷ ss) h v (inr later) = rw (some-fits ss h.1 v later, (h.0.1 v).1) (refused_later _)
 
-  pub choice-fits : (ss : List Data) → AreSound ss → (v : Data) → SomeFits v ss → fits (choice_of ss) v ≡ Yes
+  pub choice-fits : (ss : List Data) → AreSound ss → (v : Data) → SomeFits v ss → fits (choice_among ss) v ≡ Yes
   unfolding read_data all_keywords
   choice-fits [] h v some = absurd some
   choice-fits (s ∷ []) h v (inl here) = here
   choice-fits (s ∷ []) h v (inr later) = absurd later
   choice-fits (s ∷ t ∷ ss) h v some = rw (parts_read (s ∷ t ∷ ss) h, both-yes) (ap opposite (some-fits (s ∷ t ∷ ss) h v some))
 
-  pub sound-choice : (ss : List Data) → AreSound ss → IsSound (choice_of ss)
+  pub sound-choice : (ss : List Data) → AreSound ss → IsSound (choice_among ss)
   unfolding read_data all_keywords
   sound-choice [] h = sound-truth true
   sound-choice (s ∷ []) h = h.0

@@ -8,7 +8,7 @@ use Rattle.schemars_schema.specs.Json.{Text, json_eq, is_among}
 use Rattle.schemars_schema.proofs.Equalities.{json_eq-same}
 use Rattle.schemars_schema.specs.Verdict.{Yes}
 use Rattle.schemars_schema.specs.Acceptance.{Patterns, Judge, read_data}
-use Rattle.schemars_sample.specs.SampleSchema.{holds_everything, each_once, choice_of, one_beside, are_all, shared_by}
+use Rattle.schemars_sample.specs.SampleSchema.{holds_everything, each_once, choice_among, one_beside, are_all, shared_by}
 use Rattle.schemars_sample.proofs.Forms.{fits, IsSound, AreSound, SomeFits, sound-truth, choice-fits, sound-choice}
 
 module _ (patterns : Patterns) (follow : Text → Judge) where
@@ -81,14 +81,14 @@ module _ (patterns : Patterns) (follow : Text → Judge) where
   pub one_beside-covers : (ds : List Data) → Sound ds → Covers (one_beside [] ds) ds
   one_beside-covers ds h v some = go (holds_everything ds)
     where
-      go : (b : Bool) → Fits (if b then boolean true else choice_of (each_once [] ds)) v
+      go : (b : Bool) → Fits (if b then boolean true else choice_among (each_once [] ds)) v
       go true = true-fits v
       go false = choice-fits patterns follow (each_once [] ds) (sound-each_once [] ds tt h) v (each_once-some v [] ds (inr some))
 
   pub sound-one_beside : (ds : List Data) → Sound ds → IsSound patterns follow (one_beside [] ds)
   sound-one_beside ds h = go (holds_everything ds)
     where
-      go : (b : Bool) → IsSound patterns follow (if b then boolean true else choice_of (each_once [] ds))
+      go : (b : Bool) → IsSound patterns follow (if b then boolean true else choice_among (each_once [] ds))
       go true = sound-truth patterns follow true
       go false = sound-choice patterns follow (each_once [] ds) (sound-each_once [] ds tt h)
 

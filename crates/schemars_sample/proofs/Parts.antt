@@ -4,9 +4,9 @@ use Rattle.std.proofs.Common.{Vec, BTreeMap, String, Global}
 use Rattle.serde_json.specs.Data.{Data, object}
 use Rattle.serde_json.specs.View.{view, members_view}
 use Rattle.serde_json.specs.declared.value.Value.{Value, Array, Object, the_lemmas}
-use Rattle.schemars_sample.specs.SampleJson.{array_of}
+use Rattle.schemars_sample.specs.SampleJson.{json_array}
 
-pub seen_array : (v : Vec Value Global) → view (Array v) ≡ array_of (map view v.items)
+pub seen_array : (v : Vec Value Global) → view (Array v) ≡ json_array (map view v.items)
 seen_array v = search (rules, the_lemmas)
 
 pub seen_object : (m : BTreeMap (String Global) Value) → view (Object m) ≡ object (members_view m.entries)

@@ -6,7 +6,7 @@ use Rattle.serde_json.specs.View.{view, items_of}
 use Rattle.serde_json.specs.declared.value.Value as Value
 use Rattle.serde_json.specs.declared.value.Value.{the_lemmas}
 use Rattle.schemars_schema.specs.Json.{json_eq, is_among}
-use Rattle.schemars_sample.specs.SampleSchema.{is_everything, holds_everything, each_once, choice_of, one_beside, are_all, shared_by}
+use Rattle.schemars_sample.specs.SampleSchema.{is_everything, holds_everything, each_once, choice_among, one_beside, are_all, shared_by}
 
 pub seen_true : view (Value.Bool true) ≡ boolean true
 seen_true = search (rules, the_lemmas)
@@ -14,8 +14,8 @@ seen_true = search (rules, the_lemmas)
 pub once_more : (seen : List Data) (d : Data) (ds : List Data) → is_everything d ≡ false
     → one_beside (each_once seen (d ∷ [])) ds ≡ one_beside seen (d ∷ ds)
 once_more seen d ds other =
-    ap (λ xs. if holds_everything ds then boolean true else choice_of xs) (go (is_among (items_of seen) d))
-    ∙ ap (λ b. if b || holds_everything ds then boolean true else choice_of (each_once seen (d ∷ ds))) (sym other)
+    ap (λ xs. if holds_everything ds then boolean true else choice_among xs) (go (is_among (items_of seen) d))
+    ∙ ap (λ b. if b || holds_everything ds then boolean true else choice_among (each_once seen (d ∷ ds))) (sym other)
   where
     go : (b : Bool) → each_once (if b then seen else seen ++ d ∷ []) ds
         ≡ if b then each_once seen ds else each_once (seen ++ d ∷ []) ds
@@ -24,7 +24,7 @@ once_more seen d ds other =
 
 pub all_at_once : (seen : List Data) (d : Data) (ds : List Data) → is_everything d ≡ true → boolean true ≡ one_beside seen (d ∷ ds)
 all_at_once seen d ds is =
-    ap (λ b. if b || holds_everything ds then boolean true else choice_of (each_once seen (d ∷ ds))) (sym is)
+    ap (λ b. if b || holds_everything ds then boolean true else choice_among (each_once seen (d ∷ ds))) (sym is)
 
 -- the one that was kept stands before the others
 abbrev pub with_seen : Option Data → List Data → Data

@@ -15,8 +15,8 @@ use Rattle.schemars_sample.specs.Example.{Examples, no_examples, example, Entrie
 abbrev pub whole_json : ℤ → Option Data
 whole_json z = if int_le (negsuc (2 ^ 63 - 1)) z && int_le z (pos (2 ^ 64 - 1)) then Some (number (of_integer z)) else None
 
-abbrev pub array_of : List Data → Data
-array_of ds = array (items_of ds)
+abbrev pub json_array : List Data → Data
+json_array ds = array (items_of ds)
 
 -- each is below 256
 abbrev pub are_bytes : List ℕ → Bool
@@ -24,8 +24,8 @@ are_bytes [] = true
 are_bytes (b ∷ bs) = nat_lt b 256 && are_bytes bs
 
 -- the one member of a variant
-abbrev pub named : Text → Data → Data
-named variant d = object (member variant d no_members)
+abbrev pub json_named : Text → Data → Data
+json_named variant d = object (member variant d no_members)
 
 -- There is none where a whole number or a byte is out of range. Of members with equal keys the later stands.
 abbrev mutual
@@ -34,19 +34,19 @@ abbrev mutual
   sample_json (whole z) = whole_json z
   sample_json (character c) = Some (string (encode_utf8 c))
   sample_json (text s) = Some (string s)
-  sample_json (bytes bs) = if are_bytes bs then Some (array_of (map (λ b. number (unsigned b)) bs)) else None
+  sample_json (bytes bs) = if are_bytes bs then Some (json_array (map (λ b. number (unsigned b)) bs)) else None
   sample_json no_value = Some null
   sample_json (some_value x) = sample_json x
   sample_json unit_struct = Some null
   sample_json (unit_variant variant) = Some (string variant)
   sample_json (newtype_struct name x) = sample_json x
-  sample_json (newtype_variant variant x) = option_map (named variant) (sample_json x)
-  sample_json (seq xs) = option_map array_of (items_json xs)
-  sample_json (tuple name xs) = option_map array_of (items_json xs)
-  sample_json (tuple_variant variant xs) = option_map (λ ds. named variant (array_of ds)) (items_json xs)
+  sample_json (newtype_variant variant x) = option_map (json_named variant) (sample_json x)
+  sample_json (seq xs) = option_map json_array (items_json xs)
+  sample_json (tuple name xs) = option_map json_array (items_json xs)
+  sample_json (tuple_variant variant xs) = option_map (λ ds. json_named variant (json_array ds)) (items_json xs)
   sample_json (struct name xs) = option_map object (entries_json xs no_members)
   sample_json (collected_map xs) = option_map object (entries_json xs no_members)
-  sample_json (struct_variant variant xs) = option_map (λ ms. named variant (object ms)) (entries_json xs no_members)
+  sample_json (struct_variant variant xs) = option_map (λ ms. json_named variant (object ms)) (entries_json xs no_members)
 
   pub items_json : Examples → Option (List Data)
   items_json no_examples = Some []

@@ -12,7 +12,7 @@ use Rattle.schemars_sample.specs.Example.{Example, truth, whole, character, text
 use Rattle.schemars_sample.specs.Example.{unit_struct, unit_variant, newtype_struct, newtype_variant, seq, tuple}
 use Rattle.schemars_sample.specs.Example.{tuple_variant, struct, collected_map, struct_variant}
 use Rattle.schemars_sample.specs.Example.{Examples, no_examples, example, Entries, no_entries, entry}
-use Rattle.schemars_sample.specs.SampleJson.{sample_json, array_of}
+use Rattle.schemars_sample.specs.SampleJson.{sample_json, json_array}
 
 -- ---- of several values
 
@@ -34,14 +34,14 @@ each_once seen [] = seen
 each_once seen (d ∷ ds) = if is_among (items_of seen) d then each_once seen ds else each_once (seen ++ d ∷ []) ds
 
 -- no schema says nothing, and of several one has to fit
-abbrev pub choice_of : List Data → Data
-choice_of [] = boolean true
-choice_of (d ∷ []) = d
-choice_of (d ∷ e ∷ ds) = object_of ((codes "anyOf", array_of (d ∷ e ∷ ds)) ∷ [])
+abbrev pub choice_among : List Data → Data
+choice_among [] = boolean true
+choice_among (d ∷ []) = d
+choice_among (d ∷ e ∷ ds) = object_of ((codes "anyOf", json_array (d ∷ e ∷ ds)) ∷ [])
 
 -- a schema for the values with these schemas, and for those seen
 abbrev pub one_beside : List Data → List Data → Data
-one_beside seen ds = if holds_everything ds then boolean true else choice_of (each_once seen ds)
+one_beside seen ds = if holds_everything ds then boolean true else choice_among (each_once seen ds)
 
 abbrev pub are_all : Data → List Data → Bool
 are_all d [] = true
@@ -60,7 +60,7 @@ list_schema items = object_of (typed (codes "array") ∷ (codes "items", items) 
 abbrev pub tuple_schema : List Data → Data
 tuple_schema parts = object_of (
     typed (codes "array")
-    ∷ (codes "prefixItems", array_of parts)
+    ∷ (codes "prefixItems", json_array parts)
     ∷ count_at (codes "maxItems") (length parts)
     ∷ count_at (codes "minItems") (length parts)
     ∷ []

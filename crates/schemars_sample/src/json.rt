@@ -4,8 +4,9 @@ ghost use Rattle.std.specs.Prelude.{string_bytes};
 ghost use Rattle.serde_json.specs.Data.{number, unsigned, object, no_members};
 ghost use Rattle.serde_json.specs.View.{view};
 ghost use Rattle.schemars_sample.specs.Example.{example_of, examples_view, entries_view};
-ghost use Rattle.schemars_sample.specs.SampleJson.{sample_json, items_json, entries_json, array_of};
-ghost use Rattle.schemars_sample.specs.SampleJson.{are_bytes, whole_json, named};
+ghost use Rattle.schemars_sample.specs.SampleJson.{sample_json, items_json, entries_json};
+ghost use Rattle.schemars_sample.specs.SampleJson.{json_array};
+ghost use Rattle.schemars_sample.specs.SampleJson.{are_bytes, whole_json, json_named};
 
 use crate::sample::Sample;
 use serde_json::{Map, Value};
@@ -53,7 +54,7 @@ pub fn json_of(alloc: Global, sample: &Sample) -> Result<Option<Value>, AllocErr
 #[cycle(json)]
 fn array_of(alloc: Global, items: &[Sample]) -> Result<Option<Value>, AllocError>
     ensures { IfOk result (λ v. option_map view v
-        ≡ option_map array_of (items_json (examples_view items.now))) }
+        ≡ option_map json_array (items_json (examples_view items.now))) }
 {
     let mut values = Vec::new(alloc);
     for item in items {
@@ -83,7 +84,7 @@ fn object_of(alloc: Global, entries: &[(String, Sample)]) -> Result<Option<Value
 // The value as the content of a variant.
 fn named(alloc: Global, variant: &str, content: Option<Value>) -> Result<Option<Value>, AllocError>
     ensures { IfOk result (λ v. option_map view v
-        ≡ option_map (named variant.now) (option_map view content)) }
+        ≡ option_map (json_named variant.now) (option_map view content)) }
 {
     let Some(value) = content else {
         return Ok(None);

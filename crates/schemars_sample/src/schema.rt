@@ -14,7 +14,8 @@ ghost use Rattle.schemars_sample.specs.SampleSchema as spec;
 ghost use Rattle.schemars_sample.specs.SampleSchema.{sample_schema, item_schemas, entry_schemas};
 ghost use Rattle.schemars_sample.specs.SampleSchema.{value_schemas};
 ghost use Rattle.schemars_sample.specs.SampleSchema.{one_beside, is_everything, each_once};
-ghost use Rattle.schemars_sample.specs.SampleSchema.{choice_of, shared_by, with_name, sample_root};
+ghost use Rattle.schemars_sample.specs.SampleSchema.{choice_among, shared_by, with_name};
+ghost use Rattle.schemars_sample.specs.SampleSchema.{sample_root};
 
 use crate::json::json_of;
 use crate::sample::Sample;
@@ -223,7 +224,7 @@ fn is_among(schemas: &[Value], schema: &Value) -> bool
 
 // No schema says nothing, and of several one has to fit.
 fn choice_of(alloc: Global, schemas: Vec<Value>) -> Result<Value, AllocError>
-    ensures { IfOk result (λ v. view v ≡ choice_of (map view schemas.items)) }
+    ensures { IfOk result (λ v. view v ≡ choice_among (map view schemas.items)) }
 {
     if schemas.len() > 1 {
         let mut members = Map::new(alloc);

@@ -10,7 +10,7 @@ use Rattle.serde_json.specs.Data.{Data, Members, no_members, member, put}
 use Rattle.serde_json.specs.Written.{has_float, members_have_float}
 use Rattle.schemars_schema.specs.Json.{Text}
 use Rattle.schemars_schema.specs.Annotations.{is_annotation}
-use Rattle.schemars_schema.specs.References.{with_schema, with_list, with_names, place_under, at_place, found_in, found_in_keywords}
+use Rattle.schemars_schema.specs.References.{with_schema, with_list, keywords_with_names, place_under, at_place, found_in, found_in_keywords}
 use Rattle.schemars_schema.proofs.Objects.{annotation-not_listed}
 
 -- the references under a keyword
@@ -58,5 +58,5 @@ found_under-annotation k d note =
       annotation-not_listed k with_schema refl note,
       annotation-not_listed k with_list refl note,
       (or_parts (bytes_eq k (codes "items")) false (annotation-not_listed k (codes "items" ∷ []) refl note)).0,
-      annotation-not_listed k with_names refl note,
+      annotation-not_listed k keywords_with_names refl note,
     )

@@ -22,7 +22,7 @@ use Rattle.schemars_schema.specs.Acceptance.{matches}
 use Rattle.schemars_schema.specs.Acceptance.{where_some, context}
 use Rattle.schemars_schema.specs.Annotations.{is_annotation, AreNotes}
 use Rattle.schemars_schema.specs.References.{references, found_in, found_in_keywords, with_schema, with_list}
-use Rattle.schemars_schema.specs.References.{with_names}
+use Rattle.schemars_schema.specs.References.{keywords_with_names}
 use Rattle.schemars_schema.specs.Literal.{where_given, is_plain_member, ArePlainMembers, IsPlainLiteral}
 use Rattle.schemars_schema.specs.Literal.{meets_each, has_literal}
 use Rattle.schemars_schema.proofs.Verdicts.{both-yes, both-verdict}
@@ -214,7 +214,7 @@ keyword-holds_none k d is =
       not_among k literal_keywords with_list refl is,
       listed-self k (codes "items" ∷ []) (codes "items")
           (not_among k literal_keywords (codes "items" ∷ []) refl is) refl,
-      not_among k literal_keywords with_names refl is,
+      not_among k literal_keywords keywords_with_names refl is,
     )
 
 member-refers_nowhere : (k : Text) (d : Data) → is_plain_member k d ≡ true → found_under k d ≡ []

@@ -25,7 +25,7 @@ with_values o [] = o
 with_values o (t ∷ ts) = with_values (with_value o t) ts
 
 -- the way of writing that the program's word stands for
-abbrev pub meant : Layout → ordered.Layout
-meant PlainJson = ordered.PlainJson
-meant Schema = ordered.SchemaLayout
-meant NamedSchemas = ordered.NamedSchemas
+abbrev pub layout_meant : Layout → ordered.Layout
+layout_meant PlainJson = ordered.PlainJson
+layout_meant Schema = ordered.SchemaLayout
+layout_meant NamedSchemas = ordered.NamedSchemas

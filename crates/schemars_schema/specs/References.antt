@@ -22,8 +22,8 @@ with_schema = codes "not" ∷ codes "if" ∷ codes "then" ∷ codes "else" ∷ c
 abbrev pub with_list : List Text
 with_list = codes "allOf" ∷ codes "anyOf" ∷ codes "oneOf" ∷ codes "prefixItems" ∷ []
 
-abbrev pub with_names : List Text
-with_names = codes "properties" ∷ codes "patternProperties" ∷ codes "$defs" ∷ codes "definitions" ∷ []
+abbrev pub keywords_with_names : List Text
+keywords_with_names = codes "properties" ∷ codes "patternProperties" ∷ codes "$defs" ∷ codes "definitions" ∷ []
 
 -- the keywords with a schema, and with a list of schemas, that judge the same object
 abbrev pub with_same_object : List Text
@@ -37,7 +37,7 @@ place_under k =
     if is_listed k with_schema then OneSchema
     else if is_listed k with_list then SchemaList
     else if bytes_eq k (codes "items") then SchemaOrList
-    else if is_listed k with_names then SchemasByName
+    else if is_listed k keywords_with_names then SchemasByName
     else NoSchemas
 
 -- the references in what stands there, read in each way

@@ -75,7 +75,7 @@ fn tables_are_checked(rt: HostRuntime) -> Result<(), Fail> {
 const TWICE: &str =
     r#"{"types":[{"id":"t","name":"T","shape":{"struct":{"fields":[{"name":"x","type":1},{"name":"x","type":1}]}}},{"id":"any","name":"Any","shape":"any"}],"root":0}"#;
 
-// An empty table is accepted. A row that is not defined is found before a name that stands twice.
+// An empty table is accepted. A row that is not defined is found before a name that occurs twice.
 fn expect_undefined(alloc: Global, types: &mut Types, twice: &Types) -> Result<(), Fail> {
     expect(finds(alloc, types, 0, 0, ""), "an empty table")?;
     let pair = new_row(alloc, types, "pair", "Pair")?;

@@ -133,7 +133,7 @@ const CALLS: [(&str, Asks, &str, &[Answer]); 9] = [
     ),
     // Without definitions there is no need of a path.
     ("defs", Asks::Nothing, BOOL, &[("root", 0, BOOL_ROOT)]),
-    // A name stands in a reference by the encoding of pointers and of addresses.
+    // A name is in a reference by the encoding of pointers and of addresses.
     (
         "#/components/schemas/",
         Asks::Nothing,
@@ -144,9 +144,9 @@ const CALLS: [(&str, Asks, &str, &[Answer]); 9] = [
             r##"{"$ref":"#/components/schemas/a~1b~0%C3%BC"}"##,
         )],
     ),
-    // A title stands in each variant's document, also beside a reference.
+    // A title is in each variant's document, also beside a reference.
     ("/$defs", Asks::Titles, UNTAGGED, &[("root", 0, TITLED)]),
-    // Rows stand in place, but for those inside their own documents.
+    // Rows are in place, except inside their own documents.
     (
         "/$defs",
         Asks::Inlining,
@@ -312,7 +312,7 @@ const BUILT: [Answer; 10] = [
     ),
 ];
 
-// Rows as they stand in the documents of others.
+// Rows as they are in the documents of others.
 #[test]
 fn builders_answer(rt: HostRuntime) -> Result<(), Fail> {
     let generator = generator_at(rt.alloc(), "/$defs", Asks::Nothing, STRUCTS)?;

@@ -18,7 +18,7 @@ fn built_in(alloc: Global, draft: &str) -> Result<SchemaSettings, AllocError> {
     }
 }
 
-/// The settings of a draft, with room for transforms of one's own.
+/// The settings of a draft, with room for user-defined transforms.
 pub(crate) fn settings_of(
     alloc: Global,
     draft: &str,
@@ -45,7 +45,7 @@ fn transforms_are_taken_out(rt: HostRuntime) -> Result<(), Fail> {
     Ok(())
 }
 
-// The number of the refusal of a copy of settings with a transform of one's own.
+// The number of the refusal of a copy of settings with a user-defined transform.
 fn copy_of_own(alloc: Global) -> Result<u32, GenerateError> {
     let settings = settings_of(alloc, "2020-12")?;
     let own = settings.with_transform(GenTransform::Own(Own::Counting(0)))?;
@@ -62,7 +62,7 @@ fn own_transforms_have_no_copies(rt: HostRuntime) -> Result<(), Fail> {
     Ok(())
 }
 
-// The settings are copied, and the copy's last transform and path are told.
+// The settings are copied, and the copy's last transform and path are reported.
 fn copy_of_built_in(alloc: Global) -> Result<(usize, bool), GenerateError> {
     let settings = settings_of(alloc, "draft-07")?;
     let copy = settings.try_clone(alloc)?;

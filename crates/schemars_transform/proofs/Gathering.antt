@@ -12,7 +12,7 @@ use Rattle.schemars_schema.specs.Json.{Text}
 use Rattle.schemars_schema.specs.SchemaData.{inserted}
 use Rattle.schemars_schema.specs.Edits.{put_missing}
 use Rattle.schemars_schema.proofs.Lists.{from_here, nothing_left as none_left}
-use Rattle.schemars_transform.specs.Unevaluated.{names_in, names_in_items, names_in_keywords, names_at, with_names, properties_made}
+use Rattle.schemars_transform.specs.Unevaluated.{names_in, names_in_items, names_in_keywords, names_under, with_names, properties_made}
 
 pub with_names-append : (a b : List Text) (ms : Members) → with_names (a ++ b) ms ≡ with_names b (with_names a ms)
 with_names-append [] b ms = refl
@@ -55,10 +55,10 @@ names_in_no_array (array fs) e = cc
 names_in_no_array (object ms) e = refl
 
 -- one turn: the first member's names have been put in
-pub keyword_done : (k : Text) (d : Data) (ms now next : Members) → next ≡ with_names (names_at k d (names_in d)) now
+pub keyword_done : (k : Text) (d : Data) (ms now next : Members) → next ≡ with_names (names_under k d (names_in d)) now
     → with_names (names_in_keywords ms) next ≡ with_names (names_in_keywords (member k d ms)) now
 unfolding names_in_keywords
-keyword_done k d ms now next e = ap (with_names (names_in_keywords ms)) e ∙ sym (with_names-append (names_at k d (names_in d))
+keyword_done k d ms now next e = ap (with_names (names_in_keywords ms)) e ∙ sym (with_names-append (names_under k d (names_in d))
     (names_in_keywords ms) now)
 
 pub item_done : (d : Data) (ds : Items) (now next : Members) → next ≡ with_names (names_in d).in_schema now

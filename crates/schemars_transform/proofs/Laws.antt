@@ -2,7 +2,7 @@
 use Rattle.std.proofs.Common.{◌≡◌, ◌⊎◌, inl, inr, List, [], ◌∷◌, Vec, Global, false, Ok, Err, refl, sym, ap, ◌∙◌, subst}
 use Rattle.std.specs.Prelude.{MatchResult}
 use Rattle.serde_json.specs.Data.{Data, null, boolean, number, string, array, object, Members, no_members, member}
-use Rattle.schemars_walk.specs.Walk.{Answer, Step, Next, EachMember, AtSchema}
+use Rattle.schemars_walk.specs.Walk.{Answer, TransformStep, Next, EachMember, AtSchema}
 use Rattle.schemars_walk.specs.declared.transform.TransformError.TheVariants.{Memory}
 use Rattle.schemars_walk.specs.Order.{InOrder}
 use Rattle.schemars_transform.specs.Member.{OfMember, is_own, some_own}
@@ -13,11 +13,11 @@ use Rattle.schemars_transform.specs.declared.gen_transform.GenTransform.TheVaria
 use Rattle.schemars_transform.specs.declared.gen_transform.GenTransform.TheVariants.{ReplaceUnevaluatedProperties, RestrictFormats, Own}
 
 -- no transforms change nothing
-pub no_transforms : {S : Type 0} (Q : Step S) (s : Data) (r : Answer) (us : List S) (v : Data)
+pub no_transforms : {S : Type 0} (Q : TransformStep S) (s : Data) (r : Answer) (us : List S) (v : Data)
     → InOrder Q [] s r us v → (r ≡ Ok tt) × (v ≡ s)
 no_transforms Q s r us v h = (h.0, h.2)
 
-built_in_stays : {O : Type 0} (Q : Step O) (t u : GenTransform O) (s v : Data) (r : Answer)
+built_in_stays : {O : Type 0} (Q : TransformStep O) (t u : GenTransform O) (s v : Data) (r : Answer)
     → is_own t ≡ false → OfMember Q t s r u v → u ≡ t
 built_in_stays Q (ReplaceBoolSchemas t) u s v r own h = h.0
 built_in_stays Q (RemoveRefSiblings t) u s v r own h = h.0
@@ -51,7 +51,7 @@ others_built_in (ReplaceUnevaluatedProperties t) ts h = h
 others_built_in (RestrictFormats t) ts h = h
 others_built_in (Own t) ts h = cc
 
-stays_after : {O : Type 0} (Q : Step O) (t u : GenTransform O) (ts us : List (GenTransform O)) (e v : Data) (a r : Answer)
+stays_after : {O : Type 0} (Q : TransformStep O) (t u : GenTransform O) (ts us : List (GenTransform O)) (e v : Data) (a r : Answer)
     → u ≡ t → ((vs : List (GenTransform O)) → InOrder (OfMember Q) ts e r vs v → vs ≡ ts)
     → Next {S = List (GenTransform O) × Data} a (u ∷ ts, e) r (us, v)
     ((vs : List (GenTransform O)) × InOrder (OfMember Q) ts e r vs v × (us ≡ u ∷ vs))
@@ -61,7 +61,7 @@ stays_after Q t u ts us e v (Ok x) r same others h =
 stays_after Q t u ts us e v (Err x) r same others h = ap (λ p. p.0) h.1 ∙ ap (λ y. y ∷ ts) same
 
 -- built-in transforms stay as they are
-pub built_ins_stay : {O : Type 0} (Q : Step O) (ts us : List (GenTransform O)) (s v : Data) (r : Answer)
+pub built_ins_stay : {O : Type 0} (Q : TransformStep O) (ts us : List (GenTransform O)) (s v : Data) (r : Answer)
     → some_own ts ≡ false → InOrder (OfMember Q) ts s r us v → us ≡ ts
 built_ins_stay Q [] us s v r none h = h.1
 built_ins_stay Q (t ∷ ts) us s v r none h =
@@ -74,7 +74,7 @@ built_ins_stay Q (t ∷ ts) us s v r none h =
 abbrev Made : Answer → Data → Data → Type 0
 Made r v made = MatchResult r (λ _. v ≡ made) (λ e. e ≡ Memory)
 
-built_in_makes : {O : Type 0} (Q : Step O) (t u : GenTransform O) (s v : Data) (r : Answer)
+built_in_makes : {O : Type 0} (Q : TransformStep O) (t u : GenTransform O) (s v : Data) (r : Answer)
     → is_own t ≡ false → OfMember Q t s r u v → Made r v (function_of t s)
 built_in_makes Q (ReplaceBoolSchemas t) u s v r own h = h.1
 built_in_makes Q (RemoveRefSiblings t) u s v r own h = h.1
@@ -86,7 +86,7 @@ built_in_makes Q (ReplaceUnevaluatedProperties t) u s v r own h = h.1
 built_in_makes Q (RestrictFormats t) u s v r own h = h.1
 built_in_makes Q (Own t) u s v r own h = cc
 
-makes_after : {O : Type 0} (Q : Step O) (t u : GenTransform O) (ts us : List (GenTransform O)) (s e v : Data) (a r : Answer)
+makes_after : {O : Type 0} (Q : TransformStep O) (t u : GenTransform O) (ts us : List (GenTransform O)) (s e v : Data) (a r : Answer)
     → Made a e (function_of t s)
     → ((vs : List (GenTransform O)) → InOrder (OfMember Q) ts e r vs v → Made r v (made_by ts e))
     → Next {S = List (GenTransform O) × Data} a (u ∷ ts, e) r (us, v)
@@ -98,7 +98,7 @@ makes_after Q t u ts us s e v (Err x) r made others h =
     subst (λ a. Made a v (made_by (t ∷ ts) s)) (sym h.0) made
 
 -- built-in transforms make what their functions make, one after another, and refuse for want of memory alone
-pub built_ins_make : {O : Type 0} (Q : Step O) (ts us : List (GenTransform O)) (s v : Data) (r : Answer)
+pub built_ins_make : {O : Type 0} (Q : TransformStep O) (ts us : List (GenTransform O)) (s v : Data) (r : Answer)
     → some_own ts ≡ false → InOrder (OfMember Q) ts s r us v → Made r v (made_by ts s)
 built_ins_make Q [] us s v r none h = subst (λ a. Made a v s) (sym h.0) h.2
 built_ins_make Q (t ∷ ts) us s v r none h =
@@ -107,10 +107,10 @@ built_ins_make Q (t ∷ ts) us s v r none h =
 
 -- ---- lists of transforms over the values of a map
 
-abbrev All : {O : Type 0} → Step O → Step (Vec (GenTransform O) Global)
+abbrev All : {O : Type 0} → TransformStep O → TransformStep (Vec (GenTransform O) Global)
 All Q ts s r us v = InOrder (OfMember Q) ts.items s r us.items v
 
-at_value : {O : Type 0} (Q : Step O) (t u : Vec (GenTransform O) Global) (d e : Data) (a : Answer) → some_own t.items ≡ false
+at_value : {O : Type 0} (Q : TransformStep O) (t u : Vec (GenTransform O) Global) (d e : Data) (a : Answer) → some_own t.items ≡ false
     → AtSchema (All Q) t d a u e → (u.items ≡ t.items) × Made a e (value_made_by t.items d)
 at_value Q t u null e a none h = (ap (λ w. w.items) h.1, subst (λ r. Made r e null) (sym h.0) h.2)
 at_value Q t u (boolean b) e a none h =
@@ -121,7 +121,7 @@ at_value Q t u (array ds) e a none h = (ap (λ w. w.items) h.1, subst (λ r. Mad
 at_value Q t u (object ms) e a none h =
     (built_ins_stay Q t.items u.items (object ms) e a none h, built_ins_make Q t.items u.items (object ms) e a none h)
 
-module _ {O : Type 0} (Q : Step O) where
+module _ {O : Type 0} (Q : TransformStep O) where
   -- what built-in transforms make of each value of a map
   pub each_made : (t u : Vec (GenTransform O) Global) (ms taken : Members) → some_own t.items ≡ false
       → EachMember (λ k. AtSchema (All Q)) t ms (Ok tt) u taken → taken ≡ each_made_by t.items ms

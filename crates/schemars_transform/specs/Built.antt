@@ -30,13 +30,13 @@ replace_bool_schemas t s = rewritten bool_rules t s
 
 -- ---- `$ref` beside other keywords
 
-abbrev pub reference : Data → Data
-reference r = object (member (codes "$ref") r no_members)
+abbrev pub referring : Data → Data
+referring r = object (member (codes "$ref") r no_members)
 
 -- it goes to the end of `allOf`, which is made where it is missing, and stays where it is no list
 abbrev pub reference_moved : Option Data → Data → Data
 reference_moved None s = s
-reference_moved (Some r) s = object (changed_at (codes "allOf") (with_last (reference r)) (array no_items) (members_in s))
+reference_moved (Some r) s = object (changed_at (codes "allOf") (with_last (referring r)) (array no_items) (members_in s))
 
 abbrev pub without_siblings : Data → Data
 without_siblings s =

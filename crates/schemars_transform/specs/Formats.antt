@@ -54,13 +54,13 @@ is_defined Draft07 f = is_listed f draft07_formats
 is_defined Draft2019 f = is_listed f later_formats || is_listed f draft07_formats
 is_defined Foreign f = true
 
-abbrev pub stays : Draft → BTreeSet (String Global) → Option Text → Bool
-stays draft allowed None = true
-stays draft allowed (Some f) = contains_text allowed f || is_defined draft f
+abbrev pub format_stays : Draft → BTreeSet (String Global) → Option Text → Bool
+format_stays draft allowed None = true
+format_stays draft allowed (Some f) = contains_text allowed f || is_defined draft f
 
 -- one schema
 abbrev pub restricted : Draft → BTreeSet (String Global) → Data → Data
-restricted draft allowed s = if stays draft allowed (option_and_then as_str (get (codes "format") s)) then s else removed (codes "format") s
+restricted draft allowed s = if format_stays draft allowed (option_and_then as_str (get (codes "format") s)) then s else removed (codes "format") s
 
 -- the draft is handed down
 abbrev pub format_rules : BTreeSet (String Global) → Rules Draft

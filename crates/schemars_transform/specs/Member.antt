@@ -1,7 +1,7 @@
 -- What a transform of any kind does, and what its copies are.
 use Rattle.std.specs.Prelude.{◌≡◌, List, Bool, true, false, map, string_bytes}
 use Rattle.std.specs.List.{AllZip, list_any}
-use Rattle.schemars_walk.specs.Walk.{Step}
+use Rattle.schemars_walk.specs.Walk.{TransformStep}
 use Rattle.schemars_transform.specs.Built.{Changes, replace_bool_schemas, remove_ref_siblings, set_single_example}
 use Rattle.schemars_transform.specs.Built.{replace_const_value, replace_prefix_items}
 use Rattle.schemars_transform.specs.Nullable.{add_nullable}
@@ -14,7 +14,7 @@ use Rattle.schemars_transform.specs.declared.gen_transform.GenTransform.TheVaria
 use Rattle.schemars_transform.specs.declared.gen_transform.GenTransform.TheVariants.{ReplaceUnevaluatedProperties, RestrictFormats, Own}
 
 -- a built-in transform changes the schema by its function and stays as it is; one of one's own does what it states
-abbrev pub OfMember : {O : Type 0} → Step O → Step (GenTransform O)
+abbrev pub OfMember : {O : Type 0} → TransformStep O → TransformStep (GenTransform O)
 OfMember Q (ReplaceBoolSchemas t) s r u v = Changes (replace_bool_schemas t) (ReplaceBoolSchemas t) s r u v
 OfMember Q (RemoveRefSiblings t) s r u v = Changes remove_ref_siblings (RemoveRefSiblings t) s r u v
 OfMember Q (SetSingleExample t) s r u v = Changes set_single_example (SetSingleExample t) s r u v

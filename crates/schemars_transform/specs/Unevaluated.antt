@@ -30,8 +30,8 @@ abbrev pub no_names : Names
 no_names = record { in_schema = []; in_list = [] }
 
 -- the names in the value at a keyword
-abbrev pub names_at : Text → Data → Names → List Text
-names_at k d n =
+abbrev pub names_under : Text → Data → Names → List Text
+names_under k d n =
     if bytes_eq k (codes "properties") then keys_in d
     else if is_listed k with_same_object then n.in_schema
     else if is_listed k with_same_objects then n.in_list
@@ -52,7 +52,7 @@ unfoldable mutual
 
   pub names_in_keywords : Members → List Text
   names_in_keywords no_members = []
-  names_in_keywords (member k d ms) = names_at k d (names_in d) ++ names_in_keywords ms
+  names_in_keywords (member k d ms) = names_under k d (names_in d) ++ names_in_keywords ms
 
 -- the names under `properties` in a schema and in its subschemas that judge the same object, at any depth
 abbrev pub property_names : Data → List Text

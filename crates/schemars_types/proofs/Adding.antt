@@ -24,7 +24,7 @@ use Rattle.schemars_types.specs.Rows.{Row}
 use Rattle.schemars_shapes.specs.declared.shape.IntegerKeys.{IntegerKeys}
 use Rattle.schemars_shapes.specs.declared.shape.IntegerKeys.TheVariants.{Unsigned, Signed}
 use Rattle.schemars_types.specs.KeyOptions.{KeyOptions, keys, any_text, or_any_text, either_integers, either_options}
-use Rattle.schemars_types.specs.KeyOptions.{each_once, member_options, members_options, untagged_options, shape_options}
+use Rattle.schemars_types.specs.KeyOptions.{distinct_options, member_options, members_options, untagged_options, shape_options}
 use Rattle.schemars_types.specs.KeyOptions.{external_options, internal_options, literal_options, typed_options}
 use Rattle.schemars_types.specs.Found.{adding, some_takes_all, options_at, AreAmong, HoldsRows}
 use Rattle.schemars_types.proofs.Texts.{listed_more, listed_own, nothing_joins, insert_all-append, once_by_joining}
@@ -81,7 +81,7 @@ pub adding-either : (o p q : KeyOptions) → adding (adding o p) q ≡ adding o 
 adding-either (keys a ts i ps) (keys b us j qs) (keys d vs k rs) = λ x.
     keys (or_assoc a b d x) (sym (insert_all-append us vs ts) x) (either_assoc i j k x) (sym (insert_all-append qs rs ps) x)
 
-pub adding-once : (o : KeyOptions) → adding (keys false [] None []) o ≡ each_once o
+pub adding-once : (o : KeyOptions) → adding (keys false [] None []) o ≡ distinct_options o
 adding-once (keys b us j qs) = λ x. keys b (once_by_joining us x) j (once_by_joining qs x)
 
 -- ---- options that are there

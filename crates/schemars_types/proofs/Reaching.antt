@@ -7,7 +7,7 @@ use Rattle.std.proofs.lemmas.List.Elements.{Contains-append_left, Contains-appen
 use Rattle.std.proofs.lemmas.List.Elements.{Contains-push, Contains-push_cases}
 use Rattle.schemars_types.proofs.GraphLemmas.{nothing_among}
 use Rattle.schemars_types.specs.Walks.{Walk, one, then, Leads}
-use Rattle.schemars_types.specs.Search.{Graph, targets_in, IsMet, unmet, Front, front_of, Meets, AreReached}
+use Rattle.schemars_types.specs.Search.{Graph, targets_in, IsMet, unmet, Front, front_of, Meets, AreVisited}
 
 unmet-set : (met : List Bool) (m : ℕ) (d : Bool) → m < length met → get_or met m d ≡ false → unmet (set met m true) + 1 ≡ unmet met
 unmet-set [] m d below new = absurd (omega arith)
@@ -202,5 +202,5 @@ complete graph from f h empty m (then k m' w among) = onward (h.gone_on k (compl
     onward (inr done) = done m' among
 
 -- nothing waits any longer
-pub all_reached : (graph : Graph) (from : ℕ) (f : Front) → IsUnderWay graph from f → f.waiting ≡ [] → AreReached graph from f.met
+pub all_reached : (graph : Graph) (from : ℕ) (f : Front) → IsUnderWay graph from f → f.waiting ≡ [] → AreVisited graph from f.met
 all_reached graph from f h empty = record { sound = h.sound; complete = complete graph from f h empty }

@@ -12,7 +12,7 @@ use Rattle.schemars_types.specs.Rows.{Row, entry_at}
 use Rattle.schemars_types.specs.Edges.{RefersWithin, rank}
 use Rattle.schemars_types.specs.Faults.{IsChecked}
 use Rattle.schemars_types.specs.KeyOptions.{KeyOptions, any_text, or_any_text, either_options, member_options, members_options}
-use Rattle.schemars_types.specs.KeyOptions.{shape_options, options_within, all_options, key_options, each_once}
+use Rattle.schemars_types.specs.KeyOptions.{shape_options, options_within, all_options, key_options, distinct_options}
 use Rattle.schemars_types.proofs.Asked.{asked, entry_low}
 
 -- ---- options depend on the rows that are asked alone
@@ -150,5 +150,5 @@ pub further_rows : (rows more : List Row) → IsChecked rows → take (length ro
 further_rows rows more checked first n known =
     let longer : length rows ≤ length more =
     subst (λ (rs : List Row). length rs ≤ length more) first (length-take (length rows) more) in
-    ap (λ o. each_once (or_any_text o)) (further_within rows more checked.within first (length more) n known
+    ap (λ o. distinct_options (or_any_text o)) (further_within rows more checked.within first (length more) n known
     ∙ enough_steps rows checked n (length more) known longer)

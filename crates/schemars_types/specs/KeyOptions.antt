@@ -131,9 +131,9 @@ abbrev pub once : List Text → List Text
 once [] = []
 once (t ∷ ts) = t ∷ filter (λ u. not (bytes_eq u t)) (once ts)
 
-abbrev pub each_once : KeyOptions → KeyOptions
-each_once (keys others ts i ps) = keys others (once ts) i (once ps)
+abbrev pub distinct_options : KeyOptions → KeyOptions
+distinct_options (keys others ts i ps) = keys others (once ts) i (once ps)
 
 -- the keys that the type of row n allows
 abbrev pub key_options : List Row → ℕ → KeyOptions
-key_options rows n = each_once (or_any_text (all_options rows n))
+key_options rows n = distinct_options (or_any_text (all_options rows n))

@@ -26,12 +26,12 @@ joined_payload part (struct_payload x) = struct_payload (joined_fields part x)
 abbrev pub joined_variant : (Flattened → List Field) → Variant → Variant
 joined_variant part x = record { name = x.name; payload = joined_payload part x.payload; notes = x.notes }
 
-abbrev pub joined : (Flattened → List Field) → Shape → Shape
-joined part (struct x) = struct (joined_fields part x)
-joined part (external xs) = external (map (joined_variant part) xs)
-joined part (untagged xs) = untagged (map (joined_variant part) xs)
-joined part (internal tag closed xs) = internal tag closed (map (joined_variant part) xs)
-joined part s = s
+abbrev pub joined_shape : (Flattened → List Field) → Shape → Shape
+joined_shape part (struct x) = struct (joined_fields part x)
+joined_shape part (external xs) = external (map (joined_variant part) xs)
+joined_shape part (untagged xs) = untagged (map (joined_variant part) xs)
+joined_shape part (internal tag closed xs) = internal tag closed (map (joined_variant part) xs)
+joined_shape part s = s
 
 -- ---- in a table
 
@@ -42,7 +42,7 @@ struct_fields_within rows (suc steps) n =
     option_map_or (λ e. shape_fields (λ p. struct_fields_within rows steps p.ty) e.shape) (entry_at rows n) []
 
 abbrev pub joined_in : List Row → Shape → Shape
-joined_in rows s = joined (λ p. struct_fields_within rows (length rows) p.ty) s
+joined_in rows s = joined_shape (λ p. struct_fields_within rows (length rows) p.ty) s
 
 abbrev pub no_choices : ℕ → Data → List Choice
 no_choices n v = []

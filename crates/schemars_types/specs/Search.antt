@@ -54,6 +54,6 @@ abbrev pub front_of : List Bool → List ℕ → Front
 front_of met waiting = record { met = met; waiting = waiting }
 
 -- the numbers at the ends of walks from a number
-pub record AreReached (graph : Graph) (from : ℕ) (met : List Bool) : Type 0 where
+pub record AreVisited (graph : Graph) (from : ℕ) (met : List Bool) : Type 0 where
   pub sound : (m : ℕ) → IsMet met m → Walk (Leads (targets_in graph)) from m
   pub complete : (m : ℕ) → Walk (Leads (targets_in graph)) from m → IsMet met m

@@ -2,7 +2,7 @@
 use Rattle.std.proofs.Common.{◌≡◌, ℕ, zero, suc, ◌+◌, ◌<◌, ◌≤◌, List, [], ◌∷◌, ◌++◌, length, get_or, take, drop, set}
 use Rattle.std.proofs.Common.{Ok, Err, refl, sym, ap, subst, add-one, arith}
 use Rattle.serde_json.specs.Data.{Data}
-use Rattle.schemars_walk.specs.Walk.{Answer, Step}
+use Rattle.schemars_walk.specs.Walk.{Answer, TransformStep}
 use Rattle.schemars_walk.specs.Order.{InOrder}
 use Rattle.schemars_walk.specs.declared.transform.TransformError.{TransformError}
 
@@ -38,7 +38,7 @@ all_before [] (suc i) h = refl
 all_before (t ∷ ts) zero h = absurd (omega arith)
 all_before (t ∷ ts) (suc i) h = ap (λ xs. t ∷ xs) (all_before ts i (omega arith))
 
-module _ {S : Type 0} (Q : Step S) where
+module _ {S : Type 0} (Q : TransformStep S) where
   from_the_first : (all ts : List S) (d : Data) → ts ≡ all → (r : Answer) (us : List S) (v : Data)
       → InOrder Q ts d r us v → InOrder Q all d r us v
   from_the_first all ts d same r us v h = subst (λ xs. InOrder Q xs d r us v) same h
@@ -49,7 +49,7 @@ module _ {S : Type 0} (Q : Step S) where
   order_begins all (t ∷ ts) d same r us v h = from_the_first all (t ∷ ts) d same r us v h
 
 -- one turn of a loop over members, each written over in its place
-module _ {S : Type 0} (Q : Step S) (all : List S) (first : Data) (ts : List S) (i : ℕ) (s : Data)
+module _ {S : Type 0} (Q : TransformStep S) (all : List S) (first : Data) (ts : List S) (i : ℕ) (s : Data)
     (goes : (r : Answer) (us : List S) (v : Data) → InOrder Q (drop i ts) s r us v
     → InOrder Q all first r (take i ts ++ us) v) where
   pub order_goes_on : (d u : S) (e : Data) → i < length ts → Q (get_or ts i d) s (Ok tt) u e

@@ -16,7 +16,7 @@ use Rattle.schemars_schema.specs.Json.{Text}
 use Rattle.serde_json.specs.Find.{as_array, as_object}
 use Rattle.schemars_schema.specs.References.{place_under}
 use Rattle.schemars_schema.proofs.Lists.{nothing_left}
-use Rattle.schemars_walk.specs.Walk.{Answer, Step, EachItem, EachMember, AtSchema}
+use Rattle.schemars_walk.specs.Walk.{Answer, TransformStep, EachItem, EachMember, AtSchema}
 use Rattle.schemars_walk.specs.Walk.{AtList, AtSchemaOrList, AtNames, AtPlace, Walked, Recursed}
 use Rattle.schemars_walk.specs.declared.transform.TransformError.{TransformError}
 use Rattle.schemars_walk.specs.declared.transform.TransformError.TheVariants.{Memory, TooDeep}
@@ -114,7 +114,7 @@ always (Err x) a = tt
 some_same : {A : Type 0} {a b : A} → Some a ≡ Some b → a ≡ b
 some_same e = cc
 
-module _ {S : Type 0} (Q : Step S) where
+module _ {S : Type 0} (Q : TransformStep S) where
   pub items_more : (s w u : S) (d e : Data) (ds fs : Items) (r : Answer) → Q s d (Ok tt) w e → EachItem Q w ds r u fs
       → EachItem Q s (item d ds) r u (item e fs)
   items_more s w u d e ds fs r q rest = (Ok tt, w, e, q, (fs, rest, on_ok_same r (item e fs)))
@@ -127,7 +127,7 @@ module _ {S : Type 0} (Q : Step S) where
   items_open s u no_items es fs x h = cc
   items_open s u (item d ds) es fs x h = h
 
-module _ {S : Type 0} (Q : Text → Step S) where
+module _ {S : Type 0} (Q : Text → TransformStep S) where
   pub members_more : (s w u : S) (k : Text) (d e : Data) (ms fs : Members) (r : Answer) → Q k s d (Ok tt) w e
       → EachMember Q w ms r u fs → EachMember Q s (member k d ms) r u (member k e fs)
   members_more s w u k d e ms fs r q rest = (Ok tt, w, e, q, inr (fs, rest, on_ok_same r (member k e fs)))
@@ -151,7 +151,7 @@ levels Once = 0
 levels (Levels n) = suc n
 
 -- one turn of a loop over members that go back one after another
-module _ {S : Type 0} (Q : Text → Step S) (start s w : S) (all : Members) (it done more : List Entry) (k : String Global) (v : Value)
+module _ {S : Type 0} (Q : Text → TransformStep S) (start s w : S) (all : Members) (it done more : List Entry) (k : String Global) (v : Value)
     (goes : (r : Answer) (u : S) (es : Members) → EachMember Q s (members_view it) r u es
     → EachMember Q start all r u (then_members (members_view done) es))
     (step : it ≡ (k, v) ∷ more) where
@@ -184,7 +184,7 @@ module _ {S : Type 0} (Q : Text → Step S) (start s w : S) (all : Members) (it 
       (members_view more) no_members x call full) in
       members_open Q start w all (then_members (members_view done) no_members) es x (goes (Err x) w no_members here)
 
-module _ {S : Type 0} (Q : Text → Step S) (start s : S) (all : Members) (it done : List Entry)
+module _ {S : Type 0} (Q : Text → TransformStep S) (start s : S) (all : Members) (it done : List Entry)
     (goes : (r : Answer) (u : S) (es : Members) → EachMember Q s (members_view it) r u es
     → EachMember Q start all r u (then_members (members_view done) es)) where
   pub turns_end : it ≡ [] → EachMember Q start all (Ok tt) s (members_view done)
@@ -194,7 +194,7 @@ module _ {S : Type 0} (Q : Text → Step S) (start s : S) (all : Members) (it do
       subst (λ m. EachMember Q start all (Ok tt) s m) (then_members-none (members_view done)) (goes (Ok tt) s no_members here)
 
 -- one turn of a loop over items, each written over in its place
-module _ {S : Type 0} (Q : Step S) (start s w : S) (all : Items) (xs : List Value) (i : ℕ) (d : Value)
+module _ {S : Type 0} (Q : TransformStep S) (start s w : S) (all : Items) (xs : List Value) (i : ℕ) (d : Value)
     (goes : (r : Answer) (u : S) (es : Items) → EachItem Q s (items_view (drop i xs)) r u es
     → EachItem Q start all r u (then_items (items_view (take i xs)) es))
     (within : i < length xs) where
@@ -221,7 +221,7 @@ all_taken [] (suc i) h = refl
 all_taken (x ∷ xs) zero h = absurd (omega arith)
 all_taken (x ∷ xs) (suc i) h = ap (item (view x)) (all_taken xs i (omega arith))
 
-module _ {S : Type 0} (Q : Step S) (start s : S) (all : Items) (xs : List Value) (i : ℕ)
+module _ {S : Type 0} (Q : TransformStep S) (start s : S) (all : Items) (xs : List Value) (i : ℕ)
     (goes : (r : Answer) (u : S) (es : Items) → EachItem Q s (items_view (drop i xs)) r u es
     → EachItem Q start all r u (then_items (items_view (take i xs)) es)) where
   pub item_turns_end : length xs ≤ i → EachItem Q start all (Ok tt) s (items_view xs)
@@ -233,7 +233,7 @@ module _ {S : Type 0} (Q : Step S) (start s : S) (all : Items) (xs : List Value)
 
 -- ---- places and levels
 
-module _ {S : Type 0} (Q : Step S) (s u : S) (r : Answer) where
+module _ {S : Type 0} (Q : TransformStep S) (s u : S) (r : Answer) where
   pub at_list : (d e : Data) (ds es : Items) → Some ds ≡ as_array d → EachItem (AtSchema Q) s ds r u es → e ≡ array es → AtList Q s d r u e
   at_list null e ds es is h new = cc
   at_list (boolean b) e ds es is h new = cc
@@ -274,7 +274,7 @@ module _ {S : Type 0} (Q : Step S) (s u : S) (r : Answer) where
         (object es),
   )
 
-module _ {S : Type 0} (R : Step S) where
+module _ {S : Type 0} (R : TransformStep S) where
   pub recursed_stop : (n : ℕ) (s w : S) (d c e : Data) (x : TransformError) → 0 < n → R s d (Err x) w c → Recursed R n s d (Err x) w e
   unfolding Recursed
   recursed_stop zero s w d c e x some h = absurd (omega arith)

@@ -13,16 +13,16 @@ use Rattle.schemars_walk.specs.declared.rewrite.place.Place as place
 abbrev pub Answer : Type 0
 Answer = Result (Unit {0}) TransformError
 
-abbrev pub meant : place.Place → references.Place
-meant place.TheVariants.Nothing = NoSchemas
-meant place.TheVariants.Schema = OneSchema
-meant place.TheVariants.List = SchemaList
-meant place.TheVariants.SchemaOrList = SchemaOrList
-meant place.TheVariants.Names = SchemasByName
+abbrev pub place_meant : place.Place → references.Place
+place_meant place.TheVariants.Nothing = NoSchemas
+place_meant place.TheVariants.Schema = OneSchema
+place_meant place.TheVariants.List = SchemaList
+place_meant place.TheVariants.SchemaOrList = SchemaOrList
+place_meant place.TheVariants.Names = SchemasByName
 
 -- what a call may do: the old state and value, the answer, the new state and value
-abbrev pub Step : Type 0 → Type 1
-Step S = S → Data → Answer → S → Data → Type 0
+abbrev pub TransformStep : Type 0 → Type 1
+TransformStep S = S → Data → Answer → S → Data → Type 0
 
 -- all that follows a call which gave this answer and left this state: a refusal is passed on, and nothing more is done
 abbrev pub Next : {S : Type 0} → Answer → S → Answer → S → Type 0 → Type 0
@@ -34,20 +34,20 @@ abbrev pub PassedOver : {S A : Type 0} → S → A → Answer → S → A → Ty
 PassedOver s d r u e = (r ≡ Ok tt) × (u ≡ s) × (e ≡ d)
 
 -- one after another; after a refusal the value is open
-abbrev pub EachItem : {S : Type 0} → Step S → S → Items → Answer → S → Items → Type 0
+abbrev pub EachItem : {S : Type 0} → TransformStep S → S → Items → Answer → S → Items → Type 0
 EachItem Q s no_items r u es = PassedOver s no_items r u es
 EachItem {S} Q s (item d ds) r u es =
     (a : Answer) × (w : S) × (e : Data) × Q s d a w e × Next a w r u ((fs : Items) × EachItem Q w ds r u fs × OnOk r (es ≡ item e fs))
 
 -- the same by keys, in map order; a map may lack the memory to take its member back
-abbrev pub EachMember : {S : Type 0} → (Text → Step S) → S → Members → Answer → S → Members → Type 0
+abbrev pub EachMember : {S : Type 0} → (Text → TransformStep S) → S → Members → Answer → S → Members → Type 0
 EachMember Q s no_members r u es = PassedOver s no_members r u es
 EachMember {S} Q s (member k d ms) r u es =
     (a : Answer) × (w : S) × (e : Data) × Q k s d a w e
     × Next a w r u (((r ≡ Err Memory) × (u ≡ w)) ⊎ ((fs : Members) × EachMember Q w ms r u fs × OnOk r (es ≡ member k e fs)))
 
 -- a value that is no schema is passed over
-abbrev pub AtSchema : {S : Type 0} → Step S → Step S
+abbrev pub AtSchema : {S : Type 0} → TransformStep S → TransformStep S
 AtSchema Q s null r u e = PassedOver s null r u e
 AtSchema Q s (boolean b) r u e = Q s (boolean b) r u e
 AtSchema Q s (number n) r u e = PassedOver s (number n) r u e
@@ -55,7 +55,7 @@ AtSchema Q s (string t) r u e = PassedOver s (string t) r u e
 AtSchema Q s (array ds) r u e = PassedOver s (array ds) r u e
 AtSchema Q s (object ms) r u e = Q s (object ms) r u e
 
-abbrev pub AtList : {S : Type 0} → Step S → Step S
+abbrev pub AtList : {S : Type 0} → TransformStep S → TransformStep S
 AtList Q s null r u e = PassedOver s null r u e
 AtList Q s (boolean b) r u e = PassedOver s (boolean b) r u e
 AtList Q s (number n) r u e = PassedOver s (number n) r u e
@@ -63,7 +63,7 @@ AtList Q s (string t) r u e = PassedOver s (string t) r u e
 AtList Q s (array ds) r u e = (es : Items) × EachItem (AtSchema Q) s ds r u es × OnOk r (e ≡ array es)
 AtList Q s (object ms) r u e = PassedOver s (object ms) r u e
 
-abbrev pub AtSchemaOrList : {S : Type 0} → Step S → Step S
+abbrev pub AtSchemaOrList : {S : Type 0} → TransformStep S → TransformStep S
 AtSchemaOrList Q s null r u e = PassedOver s null r u e
 AtSchemaOrList Q s (boolean b) r u e = Q s (boolean b) r u e
 AtSchemaOrList Q s (number n) r u e = PassedOver s (number n) r u e
@@ -71,7 +71,7 @@ AtSchemaOrList Q s (string t) r u e = PassedOver s (string t) r u e
 AtSchemaOrList Q s (array ds) r u e = (es : Items) × EachItem (AtSchema Q) s ds r u es × OnOk r (e ≡ array es)
 AtSchemaOrList Q s (object ms) r u e = Q s (object ms) r u e
 
-abbrev pub AtNames : {S : Type 0} → Step S → Step S
+abbrev pub AtNames : {S : Type 0} → TransformStep S → TransformStep S
 AtNames Q s null r u e = PassedOver s null r u e
 AtNames Q s (boolean b) r u e = PassedOver s (boolean b) r u e
 AtNames Q s (number n) r u e = PassedOver s (number n) r u e
@@ -79,7 +79,7 @@ AtNames Q s (string t) r u e = PassedOver s (string t) r u e
 AtNames Q s (array ds) r u e = PassedOver s (array ds) r u e
 AtNames Q s (object ms) r u e = (es : Members) × EachMember (λ k. AtSchema Q) s ms r u es × OnOk r (e ≡ object es)
 
-abbrev pub AtPlace : {S : Type 0} → references.Place → Step S → Step S
+abbrev pub AtPlace : {S : Type 0} → references.Place → TransformStep S → TransformStep S
 AtPlace NoSchemas Q s d r u e = PassedOver s d r u e
 AtPlace OneSchema Q s d r u e = AtSchema Q s d r u e
 AtPlace SchemaList Q s d r u e = AtList Q s d r u e
@@ -87,7 +87,7 @@ AtPlace SchemaOrList Q s d r u e = AtSchemaOrList Q s d r u e
 AtPlace SchemasByName Q s d r u e = AtNames Q s d r u e
 
 -- the direct subschemas of a schema; a truth value has none
-abbrev pub Walked : {S : Type 0} → Step S → Step S
+abbrev pub Walked : {S : Type 0} → TransformStep S → TransformStep S
 Walked Q s null r u e = PassedOver s null r u e
 Walked Q s (boolean b) r u e = PassedOver s (boolean b) r u e
 Walked Q s (number n) r u e = PassedOver s (number n) r u e
@@ -96,12 +96,12 @@ Walked Q s (array ds) r u e = PassedOver s (array ds) r u e
 Walked Q s (object ms) r u e = (es : Members) × EachMember (λ k. AtPlace (place_under k) Q) s ms r u es × OnOk r (e ≡ object es)
 
 -- a schema, and then the schemas inside it, from the top down, on so many levels; a schema below them is refused
-unfoldable pub Recursed : {S : Type 0} → Step S → ℕ → Step S
+unfoldable pub Recursed : {S : Type 0} → TransformStep S → ℕ → TransformStep S
 Recursed R zero s d r u e = (r ≡ Err TooDeep) × (u ≡ s)
 Recursed {S} R (suc n) s d r u e = (a : Answer) × (w : S) × (c : Data) × R s d a w c × Next a w r u (Walked (Recursed R n) w c r u e)
 
 -- what is done at a schema that a walk reaches
-abbrev pub Visited : {S : Type 0} → Step S → Reach → Step S
+abbrev pub Visited : {S : Type 0} → TransformStep S → Reach → TransformStep S
 Visited R Once s d r u e = R s d r u e
 Visited R (Levels n) s d r u e = Recursed R n s d r u e
 
@@ -110,14 +110,14 @@ abbrev pub transformed : Answer → Result Bool TransformError
 transformed (Ok x) = Ok true
 transformed (Err x) = Err x
 
-abbrev pub Transformed : {S : Type 0} → Step S → S → Data → Result Bool TransformError → S → Data → Type 0
+abbrev pub Transformed : {S : Type 0} → TransformStep S → S → Data → Result Bool TransformError → S → Data → Type 0
 Transformed Q s d r u e = (a : Answer) × Q s d a u e × (r ≡ transformed a)
 
 abbrev pub LeftAlone : {S : Type 0} → S → Data → Result Bool TransformError → S → Data → Type 0
 LeftAlone s d r u e = (r ≡ Ok false) × (u ≡ s) × (e ≡ d)
 
 -- a value that may be a schema: one that is none is left alone
-abbrev pub OnValue : {S : Type 0} → Step S → S → Data → Result Bool TransformError → S → Data → Type 0
+abbrev pub OnValue : {S : Type 0} → TransformStep S → S → Data → Result Bool TransformError → S → Data → Type 0
 OnValue Q s null r u e = LeftAlone s null r u e
 OnValue Q s (boolean b) r u e = Transformed Q s (boolean b) r u e
 OnValue Q s (number n) r u e = LeftAlone s (number n) r u e

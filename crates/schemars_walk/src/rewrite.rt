@@ -4,7 +4,7 @@ ghost use Rattle.serde_json.specs.Data.{Data};
 ghost use Rattle.serde_json.specs.View.{view, items_view, members_view};
 ghost use Rattle.schemars_schema.specs.Json.{Text};
 ghost use Rattle.schemars_schema.specs.References.{Place};
-ghost use Rattle.schemars_walk.specs.Walk.{meant};
+ghost use Rattle.schemars_walk.specs.Walk.{place_meant};
 ghost use Rattle.schemars_walk.specs.Rewritten.{Rules, rewritten, with_subschemas, read_at};
 ghost use Rattle.schemars_walk.specs.Rewritten.{as_schema_in, in_items, in_names, in_keywords};
 
@@ -29,7 +29,7 @@ pub trait Rule: Copy {
 
     /// Where schemas stand under a keyword.
     fn place(self, key: &str, value: &Value) -> Place
-        ensures { meant result ≡ rules.place self key.now (view value.now) };
+        ensures { place_meant result ≡ rules.place self key.now (view value.now) };
 
     /// Rewrites one schema, whose subschemas are done.
     fn finish(self, alloc: Global, schema: &mut Schema) -> Result<(), AllocError>
@@ -87,7 +87,7 @@ fn rewrite_place<R: Rule>(
     value: &mut Value,
 ) -> Result<(), AllocError>
     ensures { OnOk result (view value.new
-        ≡ read_at R.rules (meant place) rule (view value.old)) }
+        ≡ read_at R.rules (place_meant place) rule (view value.old)) }
 {
     match place {
         Place::Nothing => Ok(()),

@@ -5,7 +5,7 @@ ghost use Rattle.std.specs.String.{string_cmp};
 ghost use Rattle.serde_json.specs.View.{view, items_view, members_view};
 ghost use Rattle.schemars_schema.specs.References.{place_under};
 ghost use Rattle.schemars_walk.specs.Walk.{EachItem, EachMember, AtSchema, AtPlace, Walked};
-ghost use Rattle.schemars_walk.specs.Walk.{Visited, meant};
+ghost use Rattle.schemars_walk.specs.Walk.{Visited, place_meant};
 ghost use Rattle.schemars_walk.specs.declared.transform.TransformError.TheVariants.{Memory};
 ghost use Rattle.schemars_walk.specs.declared.walk.Reach.TheVariants.{Once};
 
@@ -114,7 +114,8 @@ fn walk_place<T: Transform>(
     value: &mut Value,
     reach: Reach,
 ) -> Result<(), TransformError>
-    ensures { AtPlace (meant place) (Visited T.makes reach) t.old (view value.old) result t.new
+    ensures { AtPlace (place_meant place) (Visited T.makes reach) t.old
+        (view value.old) result t.new
         (view value.new) }
 {
     match place {

@@ -140,7 +140,7 @@ fn with_property(
     Ok(schema.to_ordered_string(alloc)?)
 }
 
-// What is then there is open where the members can't be put there.
+// What is then there is open where the members cannot be put there.
 fn merged_at(
     alloc: Global,
     schema: &mut Schema,

@@ -6,7 +6,8 @@ ghost use Rattle.schemars_shapes.specs.Shape.{payload_of, variant_of};
 ghost use Rattle.schemars_builders.specs.NullLaw.{text_items};
 ghost use Rattle.schemars_documents.specs.Template.{noted};
 ghost use Rattle.schemars_documents.specs.View.{template_view};
-ghost use Rattle.schemars_documents.specs.OfShape.{object_with, typed, said, payload_template};
+ghost use Rattle.schemars_documents.specs.OfShape.{object_with, typed_template, said};
+ghost use Rattle.schemars_documents.specs.OfShape.{payload_template};
 ghost use Rattle.schemars_documents.specs.OfShape.{named_template};
 ghost use Rattle.schemars_documents.specs.OfShape.{bare_units, other_items, external_template};
 ghost use Rattle.schemars_documents.specs.OfShape.{payload_item, untagged_template, titled};
@@ -125,7 +126,7 @@ fn noted<'t>(
 
 fn units_template<'t>(alloc: Global, names: Vec<Value>) -> Result<Template<'t>, AllocError>
     ensures { IfOk result (λ t. template_view t
-        ≡ object_with (typed (codes "string")
+        ≡ object_with (typed_template (codes "string")
         ∷ said (codes "enum") (array (items_view names.items)) ∷ [])) }
 {
     let mut keywords: Vec<(&'t str, Template<'t>)> = typed(alloc, "string")?;

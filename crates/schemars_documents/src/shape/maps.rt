@@ -3,8 +3,9 @@ ghost use Rattle.std.specs.Prelude.{◌≡◌, ◌∷◌, ◌++◌, [], map, IfO
 ghost use Rattle.serde_json.specs.View.{items_view};
 ghost use Rattle.schemars_shapes.specs.Shape.{field_of, flattened_of, fields_of};
 ghost use Rattle.schemars_documents.specs.View.{template_view, keyword_view};
-ghost use Rattle.schemars_documents.specs.OfShape.{typed, property, properties_at, required_at};
-ghost use Rattle.schemars_documents.specs.OfShape.{closed_at};
+ghost use Rattle.schemars_documents.specs.OfShape.{typed_template, property, properties_at};
+ghost use Rattle.schemars_documents.specs.OfShape.{required_at};
+ghost use Rattle.schemars_documents.specs.OfShape.{closed_keyword};
 ghost use Rattle.schemars_documents.specs.OfShape.{map_template, fields_template, with_flattened};
 ghost use Rattle.schemars_documents.specs.OfShape.{struct_template};
 ghost use Rattle.schemars_documents.specs.OfShape.{member_template, range_template};
@@ -36,7 +37,7 @@ pub fn map_template<'t>(
 
 /// The keyword `type` with this name.
 pub fn typed<'t>(alloc: Global, name: &str) -> Result<Vec<(&'t str, Template<'t>)>, AllocError>
-    ensures { IfOk result (λ v. map keyword_view v.items ≡ typed name.now ∷ []) }
+    ensures { IfOk result (λ v. map keyword_view v.items ≡ typed_template name.now ∷ []) }
 {
     let name = text(alloc, name)?;
     let mut keywords: Vec<(&'t str, Template<'t>)> = Vec::new(alloc);
@@ -82,7 +83,7 @@ pub fn add_closed<'t>(
     closed: bool,
 ) -> Result<(), AllocError>
     ensures { OnOk result (map keyword_view keywords.new.items
-        ≡ map keyword_view keywords.old.items ++ closed_at closed) }
+        ≡ map keyword_view keywords.old.items ++ closed_keyword closed) }
 {
     if closed {
         keywords.push(("additionalProperties", Template::Value(Value::Bool(false))))?;

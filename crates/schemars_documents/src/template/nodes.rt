@@ -3,7 +3,7 @@ ghost use Rattle.std.specs.Prelude.{◌≡◌, map, IfOk};
 ghost use Rattle.serde_json.specs.Data.{string, number, unsigned};
 ghost use Rattle.schemars_documents.specs.Template.{row, finished};
 ghost use Rattle.schemars_documents.specs.View.{template_view, keyword_view};
-ghost use Rattle.schemars_documents.specs.OfShape.{object_with, one_of, any_of};
+ghost use Rattle.schemars_documents.specs.OfShape.{object_with, one_of_template, any_of_template};
 
 use crate::template::{Ask, Template};
 use schemars_schema::Schema;
@@ -58,7 +58,8 @@ pub fn object_with<'t>(
 
 /// Just one of these.
 pub fn one_of<'t>(alloc: Global, choices: Vec<Template<'t>>) -> Result<Template<'t>, AllocError>
-    ensures { IfOk result (λ t. template_view t ≡ one_of (map template_view choices.entry.items)) }
+    ensures { IfOk result (λ t. template_view t
+        ≡ one_of_template (map template_view choices.entry.items)) }
 {
     let keys = vec![in alloc; "oneOf"]?;
     let values = vec![in alloc; Template::List(choices)]?;
@@ -67,7 +68,8 @@ pub fn one_of<'t>(alloc: Global, choices: Vec<Template<'t>>) -> Result<Template<
 
 /// One of these at least.
 pub fn any_of<'t>(alloc: Global, choices: Vec<Template<'t>>) -> Result<Template<'t>, AllocError>
-    ensures { IfOk result (λ t. template_view t ≡ any_of (map template_view choices.entry.items)) }
+    ensures { IfOk result (λ t. template_view t
+        ≡ any_of_template (map template_view choices.entry.items)) }
 {
     let keys = vec![in alloc; "anyOf"]?;
     let values = vec![in alloc; Template::List(choices)]?;

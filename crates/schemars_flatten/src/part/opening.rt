@@ -2,7 +2,7 @@
 ghost use Rattle.std.specs.Prelude.{◌≡◌, Some, OnOk};
 ghost use Rattle.serde_json.specs.View.{view};
 ghost use Rattle.schemars_schema.specs.OrderedText.{is_listed};
-ghost use Rattle.schemars_walk.specs.Walk.{meant};
+ghost use Rattle.schemars_walk.specs.Walk.{place_meant};
 ghost use Rattle.schemars_schema.specs.References.{with_same_object, with_same_objects};
 ghost use Rattle.schemars_flatten.specs.Opening.{is_false, closes_by, opened_at, opened_here};
 ghost use Rattle.schemars_flatten.specs.Opening.{same_object_place, opened, opened_inside};
@@ -99,7 +99,7 @@ fn is_false(value: &Value) -> bool
 }
 
 fn same_object_place(key: &str) -> Place
-    ensures { meant result ≡ same_object_place key.now }
+    ensures { place_meant result ≡ same_object_place key.now }
 {
     if holds_same(key) {
         Place::Schema

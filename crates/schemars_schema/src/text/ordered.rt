@@ -12,7 +12,7 @@ ghost use Rattle.schemars_schema.specs.OrderedText.{each_written_at, others, arr
 ghost use Rattle.schemars_schema.specs.OrderedText.{ordered_text, text_in};
 ghost use Rattle.schemars_schema.specs.OrderedText.{item_texts, member_texts, definitions_text};
 ghost use Rattle.schemars_schema.specs.OrderedText.{object_text};
-ghost use Rattle.schemars_schema.specs.Output.{with_value, with_values, meant};
+ghost use Rattle.schemars_schema.specs.Output.{with_value, with_values, layout_meant};
 
 use crate::edits::is_listed;
 use crate::text::output::Output;
@@ -69,7 +69,7 @@ pub(crate) enum Layout {
 impl Layout {
     // How the value of a member is written, where its object is written in this way.
     pub(crate) fn under(self, key: &str) -> Layout
-        ensures { meant result ≡ layout_under (meant self) key.now }
+        ensures { layout_meant result ≡ layout_under (layout_meant self) key.now }
     {
         match self {
             Layout::PlainJson => Layout::PlainJson,
@@ -88,7 +88,7 @@ impl Layout {
 
     // How an item is written, where its list is written in this way.
     pub(crate) fn inside(self) -> Layout
-        ensures { meant result ≡ layout_inside (meant self) }
+        ensures { layout_meant result ≡ layout_inside (layout_meant self) }
     {
         match self {
             Layout::PlainJson => Layout::PlainJson,
@@ -135,7 +135,7 @@ pub(crate) fn has_fixed_place(key: &str) -> bool
 #[tactic(auto, unfolding(crate::specs::OrderedText::text_in))]
 fn write_value(value: &Value, layout: Layout, out: &mut Output) -> Result<(), AllocError>
     ensures { OnOk result (has_float (view value.now) ≡ false
-        → out.new ≡ with_value out.old (text_in (meant layout) (view value.now))) }
+        → out.new ≡ with_value out.old (text_in (layout_meant layout) (view value.now))) }
 {
     match value {
         Value::Null => out.token(Token::Null)?,
@@ -160,7 +160,8 @@ fn write_object(
 ) -> Result<(), AllocError>
     ensures { OnOk result (members_have_float (members_view members.now.entries) ≡ false
         → out.new
-        ≡ with_value out.old (object_text (meant layout) (members_view members.now.entries))) }
+        ≡ with_value out.old (object_text (layout_meant layout)
+        (members_view members.now.entries))) }
 {
     out.token(Token::BeginObject)?;
     write_members(members, layout, out)?;
@@ -172,7 +173,8 @@ fn write_object(
 #[tactic(auto, unfolding(crate::specs::OrderedText::item_texts))]
 fn write_items(items: &Vec<Value>, layout: Layout, out: &mut Output) -> Result<(), AllocError>
     ensures { OnOk result (items_have_float (items_view items.now.items) ≡ false
-        → out.new ≡ with_values out.old (item_texts (meant layout) (items_view items.now.items))) }
+        → out.new ≡ with_values out.old
+        (item_texts (layout_meant layout) (items_view items.now.items))) }
 {
     for item in items {
         write_value(item, layout, out)?;
@@ -187,8 +189,8 @@ fn write_members(
     out: &mut Output,
 ) -> Result<(), AllocError>
     ensures { OnOk result (members_have_float (members_view members.now.entries) ≡ false
-        → out.new ≡ with_values out.old (texts (arranged (meant layout)
-        (member_texts (meant layout) (members_view members.now.entries))))) }
+        → out.new ≡ with_values out.old (texts (arranged (layout_meant layout)
+        (member_texts (layout_meant layout) (members_view members.now.entries))))) }
 {
     match layout {
         Layout::Schema => {
@@ -210,7 +212,7 @@ fn write_in_map_order(
 ) -> Result<(), AllocError>
     ensures { OnOk result (members_have_float (members_view members.now.entries) ≡ false
         → out.new ≡ with_values out.old
-        (texts (member_texts (meant layout) (members_view members.now.entries)))) }
+        (texts (member_texts (layout_meant layout) (members_view members.now.entries)))) }
 {
     for (key, value) in members.iter() {
         write_member(key.as_str(), value, layout, out)?;
@@ -262,7 +264,8 @@ fn write_member(
 ) -> Result<(), AllocError>
     ensures { OnOk result (has_float (view value.now) ≡ false
         → out.new ≡ with_value out.old
-        (quoted key.now ++ 58 ∷ text_in (layout_under (meant layout) key.now) (view value.now))) }
+        (quoted key.now ++ 58 ∷ text_in (layout_under (layout_meant layout) key.now)
+        (view value.now))) }
 {
     out.token(Token::Key(key))?;
     write_value(value, layout.under(key), out)?;

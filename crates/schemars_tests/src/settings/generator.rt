@@ -110,7 +110,7 @@ const REFUSED: [Answer; 7] = [
 
 const MEMORY: [Answer; 2] = [("root", 0, "1 OutOfMemory"), ("definitions", 0, "{}")];
 
-// Settings, a transform of one's own, a table, and calls with their answers.
+// Settings, a user-defined transform, a table, and calls with their answers.
 const CALLS: [(&str, &str, &str, &[Answer]); 8] = [
     ("draft-07", "", EACH_OTHER, &DRAFT07),
     ("draft-07", "", CONFIGS, &DRAFT07_PAIR),

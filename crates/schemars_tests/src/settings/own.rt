@@ -1,10 +1,10 @@
-//! Transforms of one's own.
+//! User-defined transforms.
 use schemars::Schema;
 use schemars::transform::{RecursiveTransform, Transform, TransformError};
 use serde_json::Value;
 use std::alloc::Global;
 
-/// A transform of one's own.
+/// A user-defined transform.
 #[derive(Drop)]
 pub(crate) enum Own {
     /// Counts its calls, and inserts their number as `x-n`.

@@ -5,7 +5,7 @@ ghost use Rattle.serde_json.specs.View.{view};
 ghost use Rattle.schemars_schema.specs.OrderedText.{is_listed};
 ghost use Rattle.schemars_walk.specs.Rewritten.{rewritten};
 ghost use Rattle.schemars_transform.specs.Formats.{draft_named, draft_by, draft_inside, is_defined};
-ghost use Rattle.schemars_transform.specs.Formats.{stays, format_rules};
+ghost use Rattle.schemars_transform.specs.Formats.{format_stays, format_rules};
 
 use schemars_schema::Schema;
 use schemars_schema::consts::meta_schemas;
@@ -155,7 +155,7 @@ fn draft_at(uri: &str) -> Draft
 }
 
 fn stays(draft: Draft, allowed: &BTreeSet<String>, schema: &Schema) -> bool
-    ensures { result ≡ stays draft allowed.now
+    ensures { result ≡ format_stays draft allowed.now
         (option_and_then as_str (get (codes "format") schema.now)) }
 {
     match schema.get("format").and_then(Value::as_str) {

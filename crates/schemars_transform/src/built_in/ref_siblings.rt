@@ -1,7 +1,7 @@
 //! `$ref` apart from other keywords.
 ghost use Rattle.std.specs.Prelude.{◌≡◌, IfOk};
 ghost use Rattle.serde_json.specs.View.{view};
-ghost use Rattle.schemars_transform.specs.Built.{reference};
+ghost use Rattle.schemars_transform.specs.Built.{referring};
 
 use schemars_schema::Schema;
 use schemars_schema::edits::{append_at, has_one_member};
@@ -49,7 +49,7 @@ impl Change for RemoveRefSiblings {
 
 // A schema of a `$ref` alone.
 fn reference(alloc: Global, target: Value) -> Result<Value, AllocError>
-    ensures { IfOk result (λ v. view v ≡ reference (view target)) }
+    ensures { IfOk result (λ v. view v ≡ referring (view target)) }
 {
     let mut members = Map::new(alloc);
     serde_json::put(&mut members, alloc, "$ref", target)?;

@@ -6,7 +6,7 @@ ghost use Rattle.schemars_schema.specs.OrderedText.{is_listed};
 ghost use Rattle.schemars_schema.specs.References.{with_same_object, with_same_objects};
 ghost use Rattle.schemars_transform.specs.Unevaluated.{keys, keys_in};
 ghost use Rattle.schemars_transform.specs.Unevaluated.{names_in, names_in_items, names_in_keywords};
-ghost use Rattle.schemars_transform.specs.Unevaluated.{names_at, property_names};
+ghost use Rattle.schemars_transform.specs.Unevaluated.{names_under, property_names};
 ghost use Rattle.schemars_transform.specs.Unevaluated.{with_names, named_in, properties_made};
 ghost use Rattle.schemars_transform.specs.Unevaluated.{with_properties};
 
@@ -136,7 +136,7 @@ fn add_at(
     names: &mut Map<String, Value>,
 ) -> Result<(), AllocError>
     ensures { OnOk result (members_view names.new.entries
-        ≡ with_names (names_at key.now (view value.now) (names_in (view value.now)))
+        ≡ with_names (names_under key.now (view value.now) (names_in (view value.now)))
         (members_view names.old.entries)) }
 {
     if key == "properties" {

@@ -4,7 +4,7 @@ ghost use Rattle.std.specs.Prelude.{OnOk, MatchOption};
 ghost use Rattle.std.specs.Bool.{OnFalse, OnTrue};
 ghost use Rattle.schemars_types.specs.Walks.{Walk, Leads, OnCycle, IsFree, IsLeast};
 ghost use Rattle.schemars_types.specs.Search.{targets_in, front_of, IsClosed, Falls, Meets};
-ghost use Rattle.schemars_types.specs.Search.{AreReached};
+ghost use Rattle.schemars_types.specs.Search.{AreVisited};
 
 use std::alloc::{AllocError, Global};
 
@@ -134,7 +134,7 @@ fn reached(alloc: Global, graph: &[Vec<usize>], from: usize) -> Result<Vec<bool>
     requires closed { IsClosed graph.now }
     requires within { from < length graph.now }
     ensures len { IfOk result (λ met. length met.items ≡ length graph.now) }
-    ensures reached { IfOk result (λ met. AreReached graph.now from met.items) }
+    ensures reached { IfOk result (λ met. AreVisited graph.now from met.items) }
 {
     let mut met = vec![in alloc; false; graph.len()]?;
     let mut waiting = Vec::new(alloc);

@@ -1,8 +1,9 @@
 //! Where schemas stand under a keyword.
 ghost use Rattle.std.specs.Prelude.{◌≡◌};
-ghost use Rattle.schemars_schema.specs.References.{with_schema, with_list, with_names, place_under};
+ghost use Rattle.schemars_schema.specs.References.{with_schema, with_list, keywords_with_names};
+ghost use Rattle.schemars_schema.specs.References.{place_under};
 ghost use Rattle.schemars_schema.specs.OrderedText.{is_listed};
-ghost use Rattle.schemars_walk.specs.Walk.{meant};
+ghost use Rattle.schemars_walk.specs.Walk.{place_meant};
 
 /// What schemas stand in under a keyword.
 #[derive(Clone, Copy)]
@@ -21,7 +22,7 @@ pub enum Place {
 
 /// What schemas stand in under this keyword, in any draft.
 pub fn place_under(key: &str) -> Place
-    ensures { meant result ≡ place_under key.now }
+    ensures { place_meant result ≡ place_under key.now }
 {
     if holds_schema(key) {
         Place::Schema
@@ -56,7 +57,7 @@ fn holds_list(key: &str) -> bool
 }
 
 fn holds_names(key: &str) -> bool
-    ensures { result ≡ is_listed key.now with_names }
+    ensures { result ≡ is_listed key.now keywords_with_names }
 {
     key == "properties" || key == "patternProperties" || key == "$defs" || key == "definitions"
 }

@@ -17,7 +17,8 @@ returns-in_err-generator c =
     record {
       ok = ok_at_err _ _ r passed;
       accepted = ok_at_err _ _ r passed;
-      refused = err_passed r passed (λ f same. rw same (faulty_refusal c.args.asked c.args.types c.args.root e why.refused why.only_memory));
+      refused = err_passed r passed (λ f same. rw same
+          (faulty_refusal c.args.asked c.args.types c.args.root e why.refused why.only_memory));
     }
 
 pub taken_definitions-requires : goal.taken_definitions-requires
@@ -35,7 +36,8 @@ returns c =
     let told = c.in_ok-generator.ensures in
     let r = c.taken_definitions.result in
     record {
-      ok = IfOk-weaker r _ _ (λ m taken. are_definitions (state g) c.args.asked c.args.types c.args.root _ _ c.requires.openapi3 told.fresh told.transforms
+      ok = IfOk-weaker r _ _ (λ m taken. are_definitions
+          (state g) c.args.asked c.args.types c.args.root _ _ c.requires.openapi3 told.fresh told.transforms
           taken) c.taken_definitions.ensures.ok;
       accepted = so_at_ok r told.accepted;
       refused = IfErr-weaker r _ _ (λ e memory. memory_refusal c.args.asked c.args.types c.args.root e memory)

@@ -15,7 +15,8 @@ returns-in_err-generator c =
     record {
       ok = ok_at_err _ _ r passed;
       accepted = ok_at_err _ _ r passed;
-      refused = err_passed r passed (λ f same. rw same (faulty_refusal c.args.asked c.args.types c.args.root e why.refused why.only_memory));
+      refused = err_passed r passed (λ f same. rw same
+          (faulty_refusal c.args.asked c.args.types c.args.root e why.refused why.only_memory));
     }
 
 pub returns : goal.returns

@@ -18,7 +18,8 @@ returns-in-Own-clause-replies c =
     let es = reverse c.own.new.making.items in
     let H : Wanted → Option Data → Type 0 = λ w. HasReplied plan inside old w ds (λ r. Unit {0}) new es in
     subst (λ q. IfOk c.own.result (H (wanted q))) (sym c.in-Own.is)
-    (IfOk-weaker c.own.result _ (H (own c.in-Own.n)) (λ o h. replied_through plan inside old (own c.in-Own.n) old (own c.in-Own.n) ds _ _ new es o
+    (IfOk-weaker c.own.result _ (H (own c.in-Own.n))
+    (λ o h. replied_through plan inside old (own c.in-Own.n) old (own c.in-Own.n) ds _ _ new es o
     (leads_at_once plan inside old (own c.in-Own.n)) (λ r like. tt) h) c.own.ensures.replies)
 
 pub returns-in-Asked-clause-replies : goal.returns-in-Asked-clause-replies

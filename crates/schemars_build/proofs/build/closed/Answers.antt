@@ -17,7 +17,7 @@ use Rattle.schemars_build.proofs.Making.{filled_made, closes_own, closes_members
 use Rattle.schemars_build.proofs.Steps.{finished_with}
 use Rattle.serde_json.proofs.Views.{get_member-put}
 use Rattle.schemars_build.specs.Missing.{missing}
-use Rattle.schemars_build.specs.Left.{rank, left_of_part}
+use Rattle.schemars_build.specs.Left.{document_rank, left_of_part}
 use Rattle.schemars_build.proofs.Descending.{content_to_part}
 use Rattle.schemars_build.proofs.Ending.{closing_answered, closing_less, left_fewer, finished_fewer, replied_fewer}
 use Rattle.schemars_build.proofs.build.closed.Goals as goal
@@ -59,7 +59,8 @@ returns-in-Definition-clause-replies c = λ outside old want h.
     let first : get_member k h.start.definitions ≡ Some (boolean false) =
     ap (λ w. get_member k w.definitions) b.4 ∙ get_member-put k (boolean false) h.mid.definitions in
     let there : get_member k now.definitions ≡ Some (boolean false) = h.step.stays k (boolean false) first in
-    let here : get_member k mid.definitions ≡ Some (boolean false) = ap (λ w. get_member k w.definitions) c.leave-in-Definition.ensures ∙ there in
+    let here : get_member k mid.definitions ≡ Some (boolean false) =
+    ap (λ w. get_member k w.definitions) c.leave-in-Definition.ensures ∙ there in
     let x = left_fewer plan now mid _ c.leave-in-Definition.ensures in
     let y = finished_fewer plan mid k s (boolean false) here in
     let z = ap (missing plan.rows plan.contract) finished in
@@ -97,8 +98,8 @@ returns-then-not-stands_in_place-clause-replies c =
     let ds = reverse c.args.making.now.items in
     let es = reverse c.part.new.making.items in
     let fewer : missing plan.rows plan.contract now ≤ missing plan.rows plan.contract now = omega arith in
-    let low : left_of_part plan now d.row < rank plan now now.pending d.row d.purpose =
-    subst (λ q. left_of_part plan now d.row < rank plan now now.pending d.row q) (sym c.in-Content.is)
+    let low : left_of_part plan now d.row < document_rank plan now now.pending d.row d.purpose =
+    subst (λ q. left_of_part plan now d.row < document_rank plan now now.pending d.row q) (sym c.in-Content.is)
     (content_to_part plan now now d.row fewer refl) in
     IfOk-weaker c.part.result _ _ (λ o x outside old want h.
     let filled = filled_made plan outside old want now d h c.requires.all_answered s c.requires.checked c.in_ok-schema.ensures in
@@ -120,7 +121,8 @@ returns-clause-replies c = λ outside old want h.
     let s = c.in_ok-schema.schema in
     let t = c.open_inside.new.schema in
     let filled = filled_made plan outside old want now d h c.requires.all_answered s c.requires.checked c.in_ok-schema.ensures in
-    let replied = closes_content plan outside old want now d h s filled (is_inline_at plan.rows d.row || plan.inlines) t c.in-Content.is refl
+    let replied = closes_content plan outside old want now d h s filled
+    (is_inline_at plan.rows d.row || plan.inlines) t c.in-Content.is refl
     (search rules) (search rules) in
     record {
       reply = answer t;

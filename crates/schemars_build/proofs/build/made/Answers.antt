@@ -68,7 +68,8 @@ are_taken : (c : goal.In_ok-answer-2) → IsTaken (reverse c.going.making.items)
 are_taken c = subst (λ o. IsTaken (reverse c.going.making.items) c.going.answer (reverse c.taken.new.making.items) o) c.in_default.is
     c.in_ok-last.ensures
 
-at : (c : goal.In_ok-answer-2) → AreMaking (plan_of c.args.plan.now) c.args.in_definition c.args.work.now (wanted c.args.request) c.going.work
+at : (c : goal.In_ok-answer-2)
+    → AreMaking (plan_of c.args.plan.now) c.args.in_definition c.args.work.now (wanted c.args.request) c.going.work
     (reverse c.taken.new.making.items)
 at c = taken_goes (plan_of c.args.plan.now) c.args.in_definition c.args.work.now (wanted c.args.request) c.going.work
     (reverse c.going.making.items) c.going.answer (reverse c.taken.new.making.items) (are_taken c) c.going.invariant
@@ -78,7 +79,8 @@ going-smaller c =
     let plan = plan_of c.args.plan.now in
     let es = reverse c.taken.new.making.items in
     let same : left_making plan c.going.work es ≡ left_of_turn plan c.going.work (reverse c.going.making.items) c.going.answer =
-    taken_left plan c.args.in_definition c.args.work.now (wanted c.args.request) c.going.work (reverse c.going.making.items) c.going.answer es
+    taken_left plan c.args.in_definition c.args.work.now (wanted c.args.request) c.going.work
+    (reverse c.going.making.items) c.going.answer es
     (are_taken c) c.going.invariant in
     subst (λ k. left_of_turn plan c.resumed.new.work (reverse c.resumed.new.making.items) c.in_ok-answer-2.answer < k) same
     (c.in_ok-answer-2.ensures.less c.args.in_definition c.args.work.now (wanted c.args.request) (at c))

@@ -107,7 +107,8 @@ returns-then-has_definition-clause-replies c =
     let placed : is_in_place plan.rows plan.inlines old.pending n ≡ false = sym c.is_in_place.ensures ∙ c.if-is_in_place.false in
     let apart : is_inline_at plan.rows n ≡ false = not_inline (is_inline_at plan.rows n) _ placed in
     let found : is_some (get_member k mid.definitions) ≡ true = search rules in
-    let made : IsMade plan mid mid k = record { defined = key-found k mid.definitions found; reached = λ plain. nothing_added plan false mid _ } in
+    let made : IsMade plan mid mid k =
+    record { defined = key-found k mid.definitions found; reached = λ plain. nothing_added plan false mid _ } in
     let same : c.in_ok-reference.reference ≡ reference (reference_to plan.path k) =
     c.in_ok-reference.ensures ∙ ap (λ x. reference (reference_to plan.path x)) c.as_str-then-has_definition.ensures.value in
     record {

@@ -7,7 +7,7 @@ use Rattle.schemars_documents.specs.Template.{Ask, members_of, content}
 use Rattle.schemars_documents.specs.View.{ask_of}
 use Rattle.schemars_documents.specs.Describes.{are_optional}
 use Rattle.schemars_build.specs.Plans.{plan_of}
-use Rattle.schemars_build.specs.Making.{flattened, asked, Leads, document, HasReplied}
+use Rattle.schemars_build.specs.Making.{flattened, asked, ComesFrom, document, HasReplied}
 use Rattle.schemars_build.specs.declared.build.Purpose.TheVariants as purpose
 use Rattle.schemars_build.specs.Missing.{row_asked}
 use Rattle.schemars_build.proofs.Asked.{inner_known}
@@ -20,7 +20,8 @@ use Rattle.schemars_build.proofs.build.reply_to.Goals as goal
 pub opened-requires : goal.opened-requires
 opened-requires c =
     let plan = plan_of c.args.plan.now in
-    let known : c.in-MembersOf.n < length plan.rows = subst (λ a. row_asked (ask_of a) < length plan.rows) c.in-MembersOf.is c.requires.known in
+    let known : c.in-MembersOf.n < length plan.rows =
+    subst (λ a. row_asked (ask_of a) < length plan.rows) c.in-MembersOf.is c.requires.known in
     let inner : c.without_options-inner.result < length plan.rows = subst (λ k. k < length plan.rows) (sym c.without_options-inner.ensures)
     (inner_known plan.rows c.requires.checked.within c.in-MembersOf.n known) in
     record { checked = c.requires.checked; known = inner }
@@ -36,14 +37,15 @@ returns-after-not-required-clause-replies c =
     let ds = reverse c.args.making.now.items in
     let es = reverse c.opened.new.making.items in
     let optional : c.if-not-required.is_optional ≡ are_optional plan.rows n c.in-MembersOf.required = search rules in
-    let L : ℕ → Bool → Type 0 = λ k b. Leads plan inside old (asked (members_of n c.in-MembersOf.required)) old (flattened k b) in
+    let L : ℕ → Bool → Type 0 = λ k b. ComesFrom plan inside old (asked (members_of n c.in-MembersOf.required)) old (flattened k b) in
     let leads : L m c.if-not-required.is_optional =
     subst (λ b. L m b) (sym optional) (subst (λ k. L k (are_optional plan.rows n c.in-MembersOf.required))
     (sym c.without_options-inner.ensures) (leads_members plan inside old n c.in-MembersOf.required)) in
     let R : ℕ → Type 0 = λ k. left_of_filled plan old k ≤ left_of_members plan old n in
     let less = members_to_filled plan old n in
     let low : R m = subst R (sym c.without_options-inner.ensures) (omega (arith, less)) in
-    let H : Ask → Option Data → Type 0 = λ a. HasReplied plan inside old (asked a) ds (IsWithin plan (left_of_asked plan old a) old) old es in
+    let H : Ask → Option Data → Type 0 =
+    λ a. HasReplied plan inside old (asked a) ds (IsWithin plan (left_of_asked plan old a) old) old es in
     subst (λ a. IfOk c.opened.result (H (ask_of a))) (sym c.in-MembersOf.is)
     (IfOk-weaker c.opened.result _ (H (members_of n c.in-MembersOf.required)) (λ o x. record {
       reply = document x.0;
@@ -60,7 +62,8 @@ returns-in-Content-clause-replies c =
     let n = c.in-Content.n in
     let ds = reverse c.args.making.now.items in
     let es = reverse c.opened-in-Content.new.making.items in
-    let H : Ask → Option Data → Type 0 = λ a. HasReplied plan inside old (asked a) ds (IsWithin plan (left_of_asked plan old a) old) old es in
+    let H : Ask → Option Data → Type 0 =
+    λ a. HasReplied plan inside old (asked a) ds (IsWithin plan (left_of_asked plan old a) old) old es in
     subst (λ a. IfOk c.opened-in-Content.result (H (ask_of a))) (sym c.in-Content.is)
     (IfOk-weaker c.opened-in-Content.result _ (H (content n)) (λ o x. record {
       reply = document x.0;

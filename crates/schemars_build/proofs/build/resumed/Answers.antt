@@ -7,7 +7,7 @@ use Rattle.schemars_build.specs.Making.{asked, IsNext, IsTemplate, HasFirst}
 use Rattle.std.proofs.lemmas.List.{map_more}
 use Rattle.std.proofs.lemmas.Grind.{common_steps}
 use Rattle.schemars_build.specs.Missing.{row_asked}
-use Rattle.schemars_build.specs.Left.{rank, left_of_asked}
+use Rattle.schemars_build.specs.Left.{document_rank, left_of_asked}
 use Rattle.schemars_build.proofs.Innermost.{last_got, reverse_added}
 use Rattle.schemars_build.proofs.Making.{asks_known, last_is_first, asking_goes_on, asking_goes_less, closing_goes_on, closing_goes_less}
 use Rattle.schemars_build.proofs.Ending.{asks_lower}
@@ -61,7 +61,8 @@ returns-in-Some-next-clause-goes_on c =
     let fs = reverse c.reply_to.new.making.items in
     let more : map ask_of (take (i + 1) x.asks.items) ≡ map ask_of (take i x.asks.items) ++ ask_of a ∷ [] =
     map_more ask_of x.asks.items i a less ∙ ap (λ q. map ask_of (take i x.asks.items) ++ ask_of q ∷ []) asks in
-    let next : IsNext x x.in_definition (asked (ask_of a)) = record { ask = ask_of a; is = refl; inside = refl; less = less; next = more } in
+    let next : IsNext x x.in_definition (asked (ask_of a)) =
+    record { ask = ask_of a; is = refl; inside = refl; less = less; next = more } in
     IfOk-weaker c.reply_to.result _ _ (λ o h first start all at.
     let same : x ≡ at.inner = here ∙ last_got xs at.around at.inner x (length xs) refl at.are in
     asking_goes_on plan first start all now new es fs o at x.in_definition (ask_of a) _
@@ -82,13 +83,13 @@ returns-in-Some-next-clause-less c =
     let new = c.reply_to.new.work in
     let es = reverse xs in
     let fs = reverse c.reply_to.new.making.items in
-    let low : left_of_asked plan now (ask_of a) < rank plan now now.pending x.row x.purpose =
-    subst (λ q. left_of_asked plan now (ask_of q) < rank plan now now.pending x.row x.purpose) asks
+    let low : left_of_asked plan now (ask_of a) < document_rank plan now now.pending x.row x.purpose =
+    subst (λ q. left_of_asked plan now (ask_of q) < document_rank plan now now.pending x.row x.purpose) asks
     (asks_lower plan now x c.requires.checked template i a less) in
     IfOk-weaker c.reply_to.result _ _ (λ o h first start all at.
     let same : x ≡ at.inner = here ∙ last_got xs at.around at.inner x (length xs) refl at.are in
     asking_goes_less plan first start all now new es fs o at x.in_definition (ask_of a) (left_of_asked plan now (ask_of a))
-    (subst (λ d. left_of_asked plan now (ask_of a) < rank plan now now.pending d.row d.purpose) same low) h) c.reply_to.ensures.replies
+    (subst (λ d. left_of_asked plan now (ask_of a) < document_rank plan now now.pending d.row d.purpose) same low) h) c.reply_to.ensures.replies
 
 pub returns-clause-goes_on : goal.returns-clause-goes_on
 returns-clause-goes_on c =

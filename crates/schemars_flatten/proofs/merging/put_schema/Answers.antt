@@ -5,7 +5,7 @@ use Rattle.serde_json.specs.Data.{object, boolean}
 use Rattle.serde_json.specs.View.{view, members_view}
 use Rattle.serde_json.specs.declared.value.Value.{Bool, the_lemmas}
 use Rattle.serde_json.proofs.Views.{view-Object}
-use Rattle.schemars_flatten.specs.Flatten.{united_all, opened}
+use Rattle.schemars_flatten.specs.Flatten.{united_all, opened_keywords}
 use Rattle.schemars_flatten.proofs.Parts.{flattened_object, flattened_opened, flattened_kept}
 use Rattle.schemars_flatten.proofs.merging.put_schema.Goals as goal
 
@@ -28,7 +28,7 @@ returns-in-Some c =
     let seen : view (Bool c.in-Bool-true.field-0) ≡ boolean c.in-Bool-true.field-0 = search (rules, the_lemmas) in
     let is = sym c.in-Bool-true.ensures.value ∙ seen in
     on_ok_weaker c.open.result
-    (λ (opens : left ≡ opened old).
+    (λ (opens : left ≡ opened_keywords old).
     flattened_opened c.args.schema.now c.args.other (object left) old left c.in-Some.ensures.value
     (is ∙ ap boolean c.in-Bool-true.field-0-test) opens refl)
     c.open.ensures

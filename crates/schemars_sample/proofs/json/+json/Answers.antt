@@ -5,7 +5,7 @@ use Rattle.std.specs.Prelude.{string_bytes, option_and_then}
 use Rattle.serde_json.specs.Data.{object, put}
 use Rattle.serde_json.specs.View.{view, members_view}
 use Rattle.schemars_sample.specs.Example.{example_of, examples_view, entries_view, struct, collected_map, struct_variant}
-use Rattle.schemars_sample.specs.SampleJson.{sample_json, items_json, entries_json, array_of}
+use Rattle.schemars_sample.specs.SampleJson.{sample_json, items_json, entries_json, json_array}
 use Rattle.schemars_sample.proofs.Parts.{seen_array, seen_object, one_part}
 use Rattle.schemars_sample.proofs.Views.{example_of-Map, example_of-CollectMap, example_of-Struct, example_of-StructVariant}
 use Rattle.schemars_sample.proofs.json.+json.Goals as goal
@@ -58,8 +58,8 @@ pub array_of-returns : goal.array_of-returns
 array_of-returns t c =
     let items = c.args.items.now in
     let before = map view c.loop-item.values.items in
-    ap Some (seen_array c.loop-item.values ∙ ap array_of (sym (append-nil before)))
-    ∙ ap (option_map array_of)
+    ap Some (seen_array c.loop-item.values ∙ ap json_array (sym (append-nil before)))
+    ∙ ap (option_map json_array)
     (sym (at_drop_all
     (λ ys. option_map (λ ds. before ++ ds) (items_json (examples_view ys))) items c.loop-item.item-index c.loop-item-test.false)
     ∙ c.loop-item.invariant)

@@ -4,7 +4,7 @@ use Rattle.std.specs.Prelude.{not}
 use Rattle.std.proofs.lemmas.Option.{slice_get_past, slice_get_read}
 use Rattle.schemars_build.specs.declared.names.Owner.{Owner}
 use Rattle.schemars_build.specs.Naming.{name_of}
-use Rattle.schemars_build.specs.Owners.{place_of}
+use Rattle.schemars_build.specs.Owners.{place_of_owner}
 use Rattle.schemars_build.proofs.NamingLemmas.{is_owner}
 use Rattle.schemars_build.proofs.PlacedLemmas.{not_placed, placed_past, placed_own, placed_other}
 use Rattle.schemars_build.proofs.names.Names.get.Goals as goal
@@ -16,10 +16,10 @@ at_place xs ys i o same less is = ap (λ (os : List Owner). slice_get os i) (sym
 pub returns-in_err-place : goal.returns-in_err-place
 returns-in_err-place c =
     let places = c.self.inside.places.items in
-    let says : place_of c.args.n c.args.contract places ≡ None =
-    ap (place_of c.args.n c.args.contract) (sym c.as_slice.ensures.value) ∙ sym c.in_err-place.ensures in
+    let says : place_of_owner c.args.n c.args.contract places ≡ None =
+    ap (place_of_owner c.args.n c.args.contract) (sym c.as_slice.ensures.value) ∙ sym c.in_err-place.ensures in
     ap (option_map (λ s. s.now)) c.from_residual.ensures
-    ∙ sym (not_placed c.args.n c.args.contract c.self.inside.owners.items c.self.inside.given.keys (λ m d. place_of m d places)
+    ∙ sym (not_placed c.args.n c.args.contract c.self.inside.owners.items c.self.inside.given.keys (λ m d. place_of_owner m d places)
     c.self.invariant.same c.self.invariant.placed says)
     ∙ ap (name_of c.args.n c.args.contract) c.self.view_is
 
@@ -28,11 +28,11 @@ returns-in_err-owner c =
     let owners = c.self.inside.owners.items in
     let places = c.self.inside.places.items in
     let i = c.in_ok-place.place in
-    let says : place_of c.args.n c.args.contract places ≡ Some i =
-    ap (place_of c.args.n c.args.contract) (sym c.as_slice.ensures.value) ∙ sym c.in_ok-place.ensures in
+    let says : place_of_owner c.args.n c.args.contract places ≡ Some i =
+    ap (place_of_owner c.args.n c.args.contract) (sym c.as_slice.ensures.value) ∙ sym c.in_ok-place.ensures in
     let past : length owners ≤ i = subst (λ (os : List Owner). length os ≤ i) c.deref.ensures.value c.in_err-owner.ensures.lookup.3 in
     ap (option_map (λ s. s.now)) c.from_residual-in_err-owner.ensures
-    ∙ sym (placed_past c.args.n c.args.contract owners c.self.inside.given.keys (λ m d. place_of m d places) c.self.invariant.same
+    ∙ sym (placed_past c.args.n c.args.contract owners c.self.inside.given.keys (λ m d. place_of_owner m d places) c.self.invariant.same
     c.self.invariant.placed i says (slice_get_past owners i past))
     ∙ ap (name_of c.args.n c.args.contract) c.self.view_is
 
@@ -50,12 +50,12 @@ returns-then-ne c =
     let places = c.self.inside.places.items in
     let i = c.in_ok-place.place in
     let o = c.in_ok-owner.owner.now in
-    let says : place_of c.args.n c.args.contract places ≡ Some i =
-    ap (place_of c.args.n c.args.contract) (sym c.as_slice.ensures.value) ∙ sym c.in_ok-place.ensures in
+    let says : place_of_owner c.args.n c.args.contract places ≡ Some i =
+    ap (place_of_owner c.args.n c.args.contract) (sym c.as_slice.ensures.value) ∙ sym c.in_ok-place.ensures in
     let at : slice_get owners i ≡ Some o =
     at_place owners c.deref.result.now i o c.deref.ensures.value c.in_ok-owner.ensures.lookup.3.0 c.in_ok-owner.ensures.lookup.1 in
     let is : is_owner c.args.n c.args.contract o ≡ false = not_true (is_owner c.args.n c.args.contract o) c.if-ne.ensures in
-    sym (placed_other c.args.n c.args.contract owners c.self.inside.given.keys (λ m d. place_of m d places) c.self.invariant.same
+    sym (placed_other c.args.n c.args.contract owners c.self.inside.given.keys (λ m d. place_of_owner m d places) c.self.invariant.same
     c.self.invariant.placed i says o at is)
     ∙ ap (name_of c.args.n c.args.contract) c.self.view_is
 
@@ -65,12 +65,12 @@ returns c =
     let places = c.self.inside.places.items in
     let i = c.in_ok-place.place in
     let o = c.in_ok-owner.owner.now in
-    let says : place_of c.args.n c.args.contract places ≡ Some i =
-    ap (place_of c.args.n c.args.contract) (sym c.as_slice.ensures.value) ∙ sym c.in_ok-place.ensures in
+    let says : place_of_owner c.args.n c.args.contract places ≡ Some i =
+    ap (place_of_owner c.args.n c.args.contract) (sym c.as_slice.ensures.value) ∙ sym c.in_ok-place.ensures in
     let at : slice_get owners i ≡ Some o =
     at_place owners c.deref.result.now i o c.deref.ensures.value c.in_ok-owner.ensures.lookup.3.0 c.in_ok-owner.ensures.lookup.1 in
     let is : is_owner c.args.n c.args.contract o ≡ true = not_false (is_owner c.args.n c.args.contract o) c.if-ne.ensures in
     ap Some c.as_str.ensures.value ∙ ap (option_map string_bytes) c.in_ok-name.ensures.key
-    ∙ sym (placed_own c.args.n c.args.contract owners c.self.inside.given.keys (λ m d. place_of m d places) c.self.invariant.same
+    ∙ sym (placed_own c.args.n c.args.contract owners c.self.inside.given.keys (λ m d. place_of_owner m d places) c.self.invariant.same
     c.self.invariant.placed i says o at is)
     ∙ ap (name_of c.args.n c.args.contract) c.self.view_is

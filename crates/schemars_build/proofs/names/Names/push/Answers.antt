@@ -4,7 +4,7 @@ use Rattle.std.specs.List.{list_any}
 use Rattle.std.specs.String.{string_eq}
 use Rattle.schemars_build.specs.declared.names.Owner.{Owner}
 use Rattle.schemars_build.specs.Naming.{Naming, name_of, is_used, candidate}
-use Rattle.schemars_build.specs.Owners.{naming_of, ArePlaced, place_of}
+use Rattle.schemars_build.specs.Owners.{naming_of, ArePlaced, place_of_owner}
 use Rattle.schemars_build.proofs.NamingLemmas.{is_owner, no_owner, is_used-naming_of, naming_of-push}
 use Rattle.schemars_build.proofs.PlacedLemmas.{placed_push, placed_same}
 use Rattle.schemars_build.proofs.TriedLemmas.{used_more}
@@ -13,16 +13,17 @@ use Rattle.schemars_build.proofs.names.Names.push.Goals as goal
 pub invariant_of-self : goal.invariant_of-self
 invariant_of-self c = record {
   same = c.self.invariant.same;
-  placed = placed_same c.self.inside.owners.items c.self.inside.owners.items (λ m d. place_of m d c.self.inside.places.items)
-      (λ m d. place_of m d c.extend.new.places.items) (λ i. c.self.inside.owners.items) c.in_err-extend.ensures.same c.self.invariant.placed;
+  placed = placed_same c.self.inside.owners.items c.self.inside.owners.items (λ m d. place_of_owner m d c.self.inside.places.items)
+      (λ m d. place_of_owner m d c.extend.new.places.items)
+      (λ i. c.self.inside.owners.items) c.in_err-extend.ensures.same c.self.invariant.placed;
   used = c.self.invariant.used;
 }
 
 pub invariant_of-self-in_err-reserve : goal.invariant_of-self-in_err-reserve
 invariant_of-self-in_err-reserve c = record {
   same = ap length c.in_err-reserve.ensures.items ∙ c.self.invariant.same;
-  placed = placed_same c.self.inside.owners.items c.reserve.new.self.items (λ m d. place_of m d c.self.inside.places.items)
-      (λ m d. place_of m d c.extend.new.places.items) c.in_err-reserve.ensures.items c.in_ok-extend.ensures.same c.self.invariant.placed;
+  placed = placed_same c.self.inside.owners.items c.reserve.new.self.items (λ m d. place_of_owner m d c.self.inside.places.items)
+      (λ m d. place_of_owner m d c.extend.new.places.items) c.in_err-reserve.ensures.items c.in_ok-extend.ensures.same c.self.invariant.placed;
   used = λ base count found j less. subst (λ (os : List Owner). is_used (candidate base j) (naming_of os c.self.inside.given.keys) ≡ true)
       (sym c.in_err-reserve.ensures.items) (c.self.invariant.used base count found j less);
 }
@@ -33,8 +34,8 @@ invariant_of-self-in_err-insert c =
     let owners = c.in_ok-reserve.ensures.items in
     record {
       same = ap length owners ∙ (c.self.invariant.same ∙ sym (ap length given));
-      placed = placed_same c.self.inside.owners.items c.reserve.new.self.items (λ m d. place_of m d c.self.inside.places.items)
-          (λ m d. place_of m d c.extend.new.places.items) owners c.in_ok-extend.ensures.same c.self.invariant.placed;
+      placed = placed_same c.self.inside.owners.items c.reserve.new.self.items (λ m d. place_of_owner m d c.self.inside.places.items)
+          (λ m d. place_of_owner m d c.extend.new.places.items) owners c.in_ok-extend.ensures.same c.self.invariant.placed;
       used = λ base count found j less. (λ i. is_used (candidate base j) (naming_of (owners i) (given i)))
           ∙ c.self.invariant.used base count found j less;
     }
@@ -77,11 +78,12 @@ invariant_of-self-2 c =
           ∙ sym (ap length (joined_names p));
       placed =
           let owners = p.self.inside.owners.items in
-          let room = placed_same owners owners (λ m d. place_of m d p.self.inside.places.items) (λ m d. place_of m d p.extend.new.places.items)
+          let room = placed_same owners owners (λ m d. place_of_owner m d p.self.inside.places.items)
+          (λ m d. place_of_owner m d p.extend.new.places.items)
           (λ i. owners) p.in_ok-extend.ensures.same p.self.invariant.placed in
           let last : p.len-place.result ≡ length owners = p.len-place.ensures.len ∙ sym p.self.invariant.same in
-          subst (λ (os : List Owner). ArePlaced os (λ m d. place_of m d p.put_place.new.places.items)) (sym (joined_owners p))
-          (placed_push owners (λ m d. place_of m d p.extend.new.places.items) (λ m d. place_of m d p.put_place.new.places.items)
+          subst (λ (os : List Owner). ArePlaced os (λ m d. place_of_owner m d p.put_place.new.places.items)) (sym (joined_owners p))
+          (placed_push owners (λ m d. place_of_owner m d p.extend.new.places.items) (λ m d. place_of_owner m d p.put_place.new.places.items)
           p.args.n p.args.contract room (no_owner_yet p) (p.put_place.ensures.here ∙ ap Some last) p.put_place.ensures.others);
       used = λ base count found j less.
           subst (λ (names : Naming). is_used (candidate base j) names ≡ true) (sym (joined_naming p))

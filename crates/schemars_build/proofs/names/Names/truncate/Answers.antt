@@ -4,7 +4,7 @@ use Rattle.std.specs.Str.{bytes_eq}
 use Rattle.std.proofs.lemmas.List.{take_all, length-take-le}
 use Rattle.std.proofs.lemmas.Option.{none-some}
 use Rattle.schemars_types.specs.declared.contract.Contract.{Contract}
-use Rattle.schemars_build.specs.Owners.{naming_of, place_of}
+use Rattle.schemars_build.specs.Owners.{naming_of, place_of_owner}
 use Rattle.schemars_build.proofs.NamingLemmas.{naming_of-take, length-naming_of}
 use Rattle.schemars_build.proofs.PlacedLemmas.{placed_same, placed_take}
 use Rattle.schemars_build.proofs.names.Names.truncate.Goals as goal
@@ -27,7 +27,7 @@ pub invariant_of-self : goal.invariant_of-self
 invariant_of-self c =
     let owners = c.self.inside.owners.items in
     let given = c.self.inside.given.keys in
-    let place : ℕ → Contract → Option ℕ = λ n d. place_of n d c.self.inside.places.items in
+    let place : ℕ → Contract → Option ℕ = λ n d. place_of_owner n d c.self.inside.places.items in
     let counted = c.len.ensures.len in
     let fewer : c.args.len ≤ length given = omega (arith, counted, c.if-len.true) in
     let as_many = c.self.invariant.same in
@@ -36,5 +36,6 @@ invariant_of-self c =
           ∙ sym (length-take-le c.args.len given fewer) ∙ sym (ap length c.truncate-then-len.ensures.keys);
       placed = placed_same (take c.args.len owners) c.truncate.new.self.items place place c.truncate.ensures.items (λ n d. refl)
           (placed_take c.args.len owners place c.self.invariant.placed);
-      used = λ base count found. absurd (none-some count (sym (ap (lookup (λ k. bytes_eq base (string_bytes k))) c.clear.ensures.empty) ∙ found));
+      used = λ base count found. absurd (none-some count (sym (ap (lookup (λ k. bytes_eq base (string_bytes k))) c.clear.ensures.empty)
+          ∙ found));
     }

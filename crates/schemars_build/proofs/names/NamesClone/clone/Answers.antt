@@ -5,7 +5,7 @@ use Rattle.schemars_schema.specs.Json.{Text}
 use Rattle.schemars_build.specs.Naming.{Naming}
 use Rattle.std.proofs.Common.{ap}
 use Rattle.schemars_build.proofs.PlacedLemmas.{placed_same}
-use Rattle.schemars_build.specs.Owners.{naming_of, AreUsed, place_of}
+use Rattle.schemars_build.specs.Owners.{naming_of, AreUsed, place_of_owner}
 use Rattle.schemars_build.proofs.TriedLemmas.{lookup_copied}
 use Rattle.schemars_build.proofs.Copies.{as_long, equal_copied, names_copied}
 use Rattle.schemars_build.proofs.names.NamesClone.clone.Goals as goal
@@ -13,10 +13,10 @@ use Rattle.schemars_build.proofs.names.NamesClone.clone.Goals as goal
 pub invariant_of-result : goal.invariant_of-result
 invariant_of-result c = record {
   used = used;
-  placed = placed_same c.self.inside.owners.items c.in_ok-clone.field-0.items (λ m d. place_of m d c.self.inside.places.items)
-      (λ m d. place_of m d c.in_ok-clone-3.field-0.items)
+  placed = placed_same c.self.inside.owners.items c.in_ok-clone.field-0.items (λ m d. place_of_owner m d c.self.inside.places.items)
+      (λ m d. place_of_owner m d c.in_ok-clone-3.field-0.items)
       (equal_copied c.self.inside.owners.items c.in_ok-clone.field-0.items c.in_ok-clone.ensures.cases.0)
-      (λ m d. ap (place_of m d) (equal_copied c.self.inside.places.items c.in_ok-clone-3.field-0.items c.in_ok-clone-3.ensures.cases.0))
+      (λ m d. ap (place_of_owner m d) (equal_copied c.self.inside.places.items c.in_ok-clone-3.field-0.items c.in_ok-clone-3.ensures.cases.0))
       c.self.invariant.placed;
   same =
       as_long (λ x y. y ≡ x) c.self.inside.owners.items c.in_ok-clone.field-0.items c.in_ok-clone.ensures.cases.0
@@ -25,7 +25,8 @@ invariant_of-result c = record {
       c.in_ok-clone-2.ensures.cases);
 }
   where
-    names_same : naming_of c.in_ok-clone.field-0.items c.in_ok-clone-2.field-0.keys ≡ naming_of c.self.inside.owners.items c.self.inside.given.keys
+    names_same : naming_of c.in_ok-clone.field-0.items c.in_ok-clone-2.field-0.keys
+        ≡ naming_of c.self.inside.owners.items c.self.inside.given.keys
     names_same = names_copied c.self.inside.owners.items c.in_ok-clone.field-0.items c.self.inside.given.keys c.in_ok-clone-2.field-0.keys
         c.in_ok-clone.ensures.cases.0 c.in_ok-clone-2.ensures.cases
 

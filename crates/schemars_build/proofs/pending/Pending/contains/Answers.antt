@@ -7,7 +7,8 @@ use Rattle.schemars_build.proofs.pending.Pending.contains.Goals as goal
 pub returns-in_default : goal.returns-in_default
 returns-in_default c =
     let marks = c.self.inside.marks.items in
-    let past : length marks ≤ c.args.n = subst (λ (ms : List ℕ). length ms ≤ c.args.n) c.deref.ensures.value c.in_default.ensures.lookup.3 in
+    let past : length marks ≤ c.args.n =
+    subst (λ (ms : List ℕ). length ms ≤ c.args.n) c.deref.ensures.value c.in_default.ensures.lookup.3 in
     let none : slice_get marks c.args.n ≡ None = slice_get_past marks c.args.n past in
     sym (not_marked c.self.inside.rows.items marks c.args.n c.self.invariant none)
     ∙ ap (λ (ns : List ℕ). is_pending ns c.args.n) c.self.view_is

@@ -1,5 +1,5 @@
 use Rattle.std.proofs.Common.{◌≡◌, None, Some, ap, sym, ◌∙◌, subst, string_bytes, rules}
-use Rattle.schemars_build.specs.Naming.{Naming, Named, name_of}
+use Rattle.schemars_build.specs.Naming.{Naming, NamedRow, name_of}
 use Rattle.schemars_build.proofs.Given.{name_of-given, name_of-given_alone}
 use Rattle.schemars_build.proofs.work.Work.name_for.Goals as goal
 
@@ -11,7 +11,7 @@ returns-clause-named c =
 
 pub returns-clause-no_other : goal.returns-clause-no_other
 returns-clause-no_other c = λ m contract name none some.
-    let own : Named = record { row = c.args.n; contract = c.args.contract; name = string_bytes c.in_ok-name-2.name } in
+    let own : NamedRow = record { row = c.args.n; contract = c.args.contract; name = string_bytes c.in_ok-name-2.name } in
     let P : Naming → Type 0 = λ names. name_of m contract names ≡ Some name in
     let same : c.args.self.now.names ≡ c.self.inside.names = search rules in
     name_of-given_alone m contract c.self.inside.names own name (ap (name_of m contract) (sym same) ∙ none)

@@ -2,7 +2,7 @@ use Rattle.std.proofs.Common.{◌≡◌, true, false, length, map, ap, subst, �
 use Rattle.std.specs.Prelude.{◌==◌}
 use Rattle.schemars_shapes.specs.Shape.{variant_of}
 use Rattle.schemars_documents.specs.View.{template_view}
-use Rattle.schemars_documents.specs.OfShape.{bare_units, one_of, choice_of, external_template}
+use Rattle.schemars_documents.specs.OfShape.{bare_units, one_of_template, choice_of, external_template}
 use Rattle.schemars_documents.proofs.Units.{units_alone, units_lead, seen}
 use Rattle.schemars_documents.proofs.shape.enums.external_template.Goals as goal
 
@@ -28,9 +28,9 @@ returns c =
     sym (c.is_empty.ensures ∙ ap (λ n. n == 0) (omega (arith, names.ok.0))) ∙ c.if-is_empty.false in
     let more : (length (map template_view others.items) == 0) ≡ false =
     seen others.items ∙ (sym (c.is_empty-2.ensures ∙ ap (λ n. n == 0) (omega (arith, others.ok.0))) ∙ c.if-is_empty-3.false) in
-    let all : one_of (map template_view c.in_ok-items.items.items)
+    let all : one_of_template (map template_view c.in_ok-items.items.items)
     ≡ external_template c.args.contract (map variant_of c.args.variants.now) =
-    ap one_of (c.in_ok-items.ensures ∙ ap (λ u. u ∷ map template_view others.items) c.in_ok-units.ensures)
+    ap one_of_template (c.in_ok-items.ensures ∙ ap (λ u. u ∷ map template_view others.items) c.in_ok-units.ensures)
     ∙ (units_lead units names.items (map template_view others.items) some c.in_ok-names.ensures more
     ∙ ap (choice_of units) c.in_ok-others.ensures) in
     subst (λ u. IfOk c.one_of-2.result (λ t. template_view t ≡ u)) all c.one_of-2.ensures

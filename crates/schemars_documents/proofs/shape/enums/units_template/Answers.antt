@@ -6,7 +6,7 @@ use Rattle.serde_json.specs.View.{view, items_view}
 use Rattle.serde_json.specs.declared.value.Value as json
 use Rattle.schemars_documents.specs.Template.{finished}
 use Rattle.schemars_documents.specs.View.{template_view, keyword_view}
-use Rattle.schemars_documents.specs.OfShape.{object_with, typed}
+use Rattle.schemars_documents.specs.OfShape.{object_with, typed_template}
 use Rattle.schemars_documents.specs.declared.template.Template as src
 use Rattle.schemars_documents.proofs.shape.enums.units_template.Goals as goal
 
@@ -23,5 +23,5 @@ returns c =
     let two = ap (map keyword_view) c.in_ok-push.ensures.items
     ∙ (map-append keyword_view c.in_ok-keywords.keywords.items _
     ∙ (ap (λ ks. ks ++ (codes "enum", template_view (src.Value (json.Array names))) ∷ []) c.in_ok-keywords.ensures
-    ∙ ap (λ t. typed (codes "string") ∷ (codes "enum", t) ∷ []) value)) in
+    ∙ ap (λ t. typed_template (codes "string") ∷ (codes "enum", t) ∷ []) value)) in
     subst (λ ks. IfOk c.object_with.result (λ t. template_view t ≡ object_with ks)) two c.object_with.ensures

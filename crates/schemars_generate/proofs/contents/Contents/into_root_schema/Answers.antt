@@ -1,13 +1,13 @@
 use Rattle.std.proofs.Common.{inl, inr, ◌∙◌}
 use Rattle.schemars_headline.proofs.Calls.{err_told}
 use Rattle.schemars_generate.proofs.Untransformed.{refused_memory}
-use Rattle.schemars_generate.specs.DocumentSettings.{settings_of, state_with}
+use Rattle.schemars_generate.specs.DocumentSettings.{document_settings_of, state_with}
 use Rattle.schemars_generate.proofs.contents.Contents.into_root_schema.Goals as goal
 
 pub returns-in_err-document-clause-only_memory : goal.returns-in_err-document-clause-only_memory
 returns-in_err-document-clause-only_memory g c =
     λ plain path known.
-    let s = state_with (settings_of c.args.settings.now) c.args.self in
+    let s = state_with (document_settings_of c.args.settings.now) c.args.self in
     let memory = refused_memory s c.args.n c.in_err-document.field-0.0 plain path c.in_err-document.ensures.refused in
     err_told c.from_residual-in_err-document.result _ _ c.from_residual-in_err-document.ensures.1 (λ e is. inl (is ∙ memory))
 

@@ -21,5 +21,6 @@ loop-step-preserved c = λ left rest.
 pub returns : goal.returns
 returns c =
     let rows = c.args.types.now in
-    let whole : c.loop-step._step + 0 ≡ length rows = omega (arith, c.loop-step-test.false, c.loop-step.auto._step-end, c.len-step-end.ensures.len) in
+    let whole : c.loop-step._step + 0 ≡ length rows =
+    omega (arith, c.loop-step-test.false, c.loop-step.auto._step-end, c.len-step-end.ensures.len) in
     sym (append-nil c.loop-step.rows.items) ∙ c.loop-step.invariant 0 whole

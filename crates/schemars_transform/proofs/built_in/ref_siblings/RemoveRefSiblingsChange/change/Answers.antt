@@ -6,7 +6,7 @@ use Rattle.serde_json.specs.Data.{object, array, no_items}
 use Rattle.serde_json.specs.Find.{get}
 use Rattle.serde_json.specs.View.{view, members_view}
 use Rattle.schemars_schema.specs.Edits.{removed, changed_at, with_last}
-use Rattle.schemars_transform.specs.Built.{reference, reference_moved}
+use Rattle.schemars_transform.specs.Built.{referring, reference_moved}
 use Rattle.schemars_transform.proofs.built_in.ref_siblings.RemoveRefSiblingsChange.change.Goals as goal
 
 pub returns : goal.returns
@@ -18,7 +18,7 @@ returns c =
     on_ok_weaker c.append_at.result
     (λ h. ap object h
     ∙ (ap (λ d. object (changed_at key (with_last d) (array no_items) old)) c.in_ok-moved.ensures
-    ∙ (ap (λ ms. object (changed_at key (with_last (reference target)) (array no_items) ms)) c.in_ok-members.ensures.value
+    ∙ (ap (λ ms. object (changed_at key (with_last (referring target)) (array no_items) ms)) c.in_ok-members.ensures.value
     ∙ (ap (reference_moved (Some target)) c.in-Some.ensures.removed
     ∙ (ap (λ o. reference_moved o (removed (codes "$ref") s)) c.in-Some.ensures.value
     ∙ ap (λ b. if b then s else reference_moved (get (codes "$ref") s) (removed (codes "$ref") s))
