@@ -201,6 +201,16 @@ impl<O> SchemaGenerator<O> {
         self.settings.transforms.as_mut_slice()
     }
 
+    /// Replaces the transforms, and returns the previous ones. Everything else is unchanged.
+    pub fn replace_transforms(&mut self, transforms: Vec<GenTransform<O>>) -> Vec<GenTransform<O>>
+        ensures replaced { result ≡ self.old.settings.transforms }
+        ensures rest { self.new ≡ record self.old {
+          settings = record self.old.settings { transforms = transforms };
+        } }
+    {
+        mem::replace(&mut self.settings.transforms, transforms)
+    }
+
     /// Returns the definitions to which subschemas refer, by name.
     pub fn definitions(&self) -> &Map<String, Value>
         ensures definitions { members_view result.now.entries ≡ (state self.now).definitions }

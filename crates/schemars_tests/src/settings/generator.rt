@@ -108,14 +108,25 @@ const REFUSED: [Answer; 7] = [
     ),
 ];
 
+const REPLACED: [Answer; 3] = [
+    ("part", 0, r##"{"$ref":"#/components/schemas/A"}"##),
+    ("replace all", 0, "true"),
+    (
+        "take transformed",
+        0,
+        r##"{"A":{"type":"object","properties":{"b":{"$ref":"#/components/schemas/B"}},"required":["b"]},"B":{"type":"object","properties":{"a":{"anyOf":[{"$ref":"#/components/schemas/A"},{"type":"null"}]}}}}"##,
+    ),
+];
+
 const MEMORY: [Answer; 2] = [("root", 0, "1 OutOfMemory"), ("definitions", 0, "{}")];
 
 // Settings, a user-defined transform, a table, and calls with their answers.
-const CALLS: [(&str, &str, &str, &[Answer]); 8] = [
+const CALLS: [(&str, &str, &str, &[Answer]); 9] = [
     ("draft-07", "", EACH_OTHER, &DRAFT07),
     ("draft-07", "", CONFIGS, &DRAFT07_PAIR),
     ("2019-09", "", CONFIGS, &DRAFT2019_09_PAIR),
     ("openapi3", "", EACH_OTHER, &OPENAPI3),
+    ("openapi3", "", EACH_OTHER, &REPLACED),
     ("2020-12", "", CONFIGS, &COPIED),
     ("2020-12", "counting", EACH_OTHER, &COUNTED),
     ("2020-12", "too deep", EACH_OTHER, &REFUSED),
@@ -187,6 +198,10 @@ fn answer(
         "take transformed" => Ok(Schema::from(generator.take_definitions(alloc, true)?)),
         "part of a copy" => part_of_copy(alloc, generator, n),
         "replace own" => replace_own(generator),
+        "replace all" => {
+            let _replaced = generator.replace_transforms(Vec::new(alloc));
+            Ok(Schema::from(true))
+        }
         _ => Ok(Schema::from(generator.definitions().clone()?)),
     }
 }
