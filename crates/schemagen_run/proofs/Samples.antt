@@ -1,10 +1,10 @@
 -- The root document of an example, in each dialect.
 use Rattle.std.proofs.Common.{◌≡◌, inl, inr, List, [], Result, Ok, Err, Some, IfOk, IfErr, false, refl, sym, ap, ◌∙◌, subst}
 use Rattle.serde_json.specs.Data.{Data, Members, no_members}
-use Rattle.schemars_schema.specs.Acceptance.{draft07, draft2019_09}
-use Rattle.schemars_sample.specs.Accepted.{AcceptsExample}
+use Rattle.schemars_schema.specs.Acceptance.{draft2020_12, draft2019_09, draft07}
 use Rattle.schemars_sample.specs.Example.{Example}
-use Rattle.schemars_headline.specs.Dialects.{AcceptsExampleUnder}
+use Rattle.schemars_headline.specs.Drafts as drafts
+use Rattle.schemars_headline.specs.Drafts.{dialect_of, AcceptsExampleUnder}
 use Rattle.schemars_headline.specs.State.{Settings}
 use Rattle.schemars_generate.specs.declared.error.GenerateError.{GenerateError}
 use Rattle.schemars_generate.specs.declared.error.GenerateError.TheVariants.{OutOfMemory}
@@ -17,23 +17,27 @@ use Rattle.schemagen_run.specs.declared.words.Dialect.{Dialect}
 use Rattle.schemagen_run.specs.declared.words.Dialect.TheVariants.{Draft2020_12, Draft2019_09, Draft07, OpenApi3}
 use Rattle.schemagen_run.specs.Run.{settings_of_dialect, transforms_of_dialect, AcceptsIn, AcceptsUnder, IsUntransformedExample}
 use Rattle.schemagen_run.specs.Run.{IsSampleDocument}
-use Rattle.schemagen_run.proofs.Tables.{none_own}
+use Rattle.schemagen_run.proofs.Tables.{none_own, for_draft}
 
 accepts_in : (dialect : Dialect) (x : Example) (d : Data) → IsSampleRoot (settings_of_dialect dialect) no_members x d
     → AcceptsIn dialect x d
-accepts_in Draft2020_12 x d root = root.accepts (inl refl)
-accepts_in Draft2019_09 x d root = root.accepts (inl refl)
-accepts_in Draft07 x d root = root.accepts (inr refl)
-accepts_in OpenApi3 x d root = tt
+accepts_in Draft2020_12 x d root draft is = root.accepts (inl refl)
+accepts_in Draft2019_09 x d root draft is = root.accepts (inl refl)
+accepts_in Draft07 x d root draft is = root.accepts (inr refl)
+accepts_in OpenApi3 x d root draft is = cc
 
 accepts_under : (dialect : Dialect) (x : Example) (d document : Data) → IsSampleRoot (settings_of_dialect dialect) no_members x d
     → document ≡ made_by (transforms_of_dialect dialect) d → AcceptsUnder dialect x document
-accepts_under Draft2020_12 x d document root same = subst (AcceptsExample x) (sym same) (root.accepts (inl refl))
-accepts_under Draft2019_09 x d document root same =
-    subst (AcceptsExampleUnder draft2019_09 x) (sym same) (root.draft2019_09 [] [] (inl refl) (inl refl))
-accepts_under Draft07 x d document root same =
-    subst (AcceptsExampleUnder draft07 x) (sym same) (root.draft07 [] [] (inr refl) (inl refl))
-accepts_under OpenApi3 x d document root same = tt
+accepts_under Draft2020_12 x d document root same draft is =
+    for_draft drafts.Draft2020_12 draft (λ y. AcceptsExampleUnder (dialect_of y) x document) is
+    (subst (AcceptsExampleUnder draft2020_12 x) (sym same) (root.samples [] [] drafts.Draft2020_12 (inl refl) tt))
+accepts_under Draft2019_09 x d document root same draft is =
+    for_draft drafts.Draft2019_09 draft (λ y. AcceptsExampleUnder (dialect_of y) x document) is
+    (subst (AcceptsExampleUnder draft2019_09 x) (sym same) (root.samples [] [] drafts.Draft2019_09 (inl refl) (inl refl)))
+accepts_under Draft07 x d document root same draft is =
+    for_draft drafts.Draft07 draft (λ y. AcceptsExampleUnder (dialect_of y) x document) is
+    (subst (AcceptsExampleUnder draft07 x) (sym same) (root.samples [] [] drafts.Draft07 (inr refl) (inl refl)))
+accepts_under OpenApi3 x d document root same draft is = cc
 
 same_inside : {d e : Data} → Some d ≡ Some e → e ≡ d
 same_inside h = cc

@@ -7,9 +7,10 @@ use Rattle.serde_json.specs.Data.{Data, Members, no_members}
 use Rattle.serde_json.specs.Written.{has_float}
 use Rattle.schemars_types.specs.Rows.{Row}
 use Rattle.schemars_types.specs.Faults.{IsAccepted}
-use Rattle.schemars_schema.specs.Acceptance.{draft07, draft2019_09}
+use Rattle.schemars_schema.specs.Acceptance.{draft2020_12, draft2019_09, draft07}
 use Rattle.schemars_types.specs.declared.contract.Contract.{Contract}
-use Rattle.schemars_headline.specs.Dialects.{MeansItsTypeUnder}
+use Rattle.schemars_headline.specs.Drafts as drafts
+use Rattle.schemars_headline.specs.Drafts.{Draft, dialect_of}
 use Rattle.schemars_transform.specs.declared.gen_transform.GenTransform.{GenTransform}
 use Rattle.schemars_transform.specs.declared.no_transform.NoTransform.{NoTransform}
 use Rattle.schemars_transform.specs.Member.{some_own}
@@ -20,15 +21,16 @@ use Rattle.schemagen_run.specs.declared.words.Dialect.TheVariants.{Draft2020_12,
 use Rattle.schemars_generate.specs.declared.error.GenerateError.{GenerateError}
 use Rattle.schemars_generate.specs.declared.error.GenerateError.TheVariants.{OutOfMemory, UnknownType, DefinitionsPath}
 use Rattle.schemars_generate.specs.Refusals.{HasFault}
-use Rattle.schemars_headline.specs.Headline.{MeansItsType, IsDraftPath, CannotPlace}
+use Rattle.schemars_headline.specs.Headline.{Headline, IsDraftPath, CannotPlace}
 use Rattle.schemars_documents.specs.PlainTable.{IsPlainTable, HasPlainNotes}
-use Rattle.schemars_generate.specs.DocumentSettings.{Held, state_with}
+use Rattle.schemars_generate.specs.declared.settings.SchemaSettings.{SchemaSettings}
+use Rattle.schemars_generate.specs.Generator.{Generator, fresh as new, settings_of, state}
 use Rattle.schemars_generate.specs.Through.{IsUntransformed, IsRefused}
 use Rattle.schemars_headline.specs.State.{Settings, State, stripped, path_of, HasOwnDefinitions}
 use Rattle.schemars_laws.specs.Paths.{components}
 use Rattle.schemars_generate.specs.Settings.{transforms_openapi3}
 use Rattle.schemagen_input.specs.Input.{is_complete, is_table, table_in, input_of}
-use Rattle.schemagen_run.specs.Run.{settings_for, transforms_of_dialect, fresh, Means, MeansWide, IsWrittenDocument, IsUnplaced, IsRefusal}
+use Rattle.schemagen_run.specs.Run.{settings_for, transforms_of_dialect, fresh, Means, IsWrittenDocument, IsUnplaced, IsRefusal}
 use Rattle.schemagen_run.specs.Run.{settings_of_dialect, AreTakenAt, AreTaken, AreDefinitionsOf}
 
 pub both : (a b : Bool) → a && b ≡ true → (a ≡ true) × (b ≡ true)
@@ -74,9 +76,10 @@ of_two (inr (b, c)) = inr b
 
 -- ---- a generator over the table
 
-pub fresh_of : (settings : Settings) (held : Held) (asked : Asked) (rows : List Row) → settings ≡ settings_for asked
-    → held ≡ record { rows = rows; names = []; definitions = no_members } → state_with settings held ≡ fresh asked rows
-fresh_of settings held asked rows same made = λ i. state_with (same i) (made i)
+pub fresh_of : (g : Generator NoTransform) (settings : SchemaSettings NoTransform) (asked : Asked) (rows : List Row)
+    → settings_of settings ≡ settings_for asked → g ≡ new settings rows → state g ≡ fresh asked rows
+fresh_of g settings asked rows same made =
+    ap state made ∙ ap (λ s. record { settings = s; rows = rows; names = []; definitions = no_members }) same
 
 pub has_own_definitions : (asked : Asked) (rows : List Row) → HasOwnDefinitions (fresh asked rows)
 has_own_definitions asked rows name d there = cc
@@ -91,31 +94,26 @@ none_own OpenApi3 = refl
 abbrev asks : Dialect → Contract → Bool → Asked
 asks dialect contract inlines = record { dialect = dialect; contract = contract; inlines = inlines }
 
+-- what holds of the draft of a dialect
+pub for_draft : (draft other : Draft) (P : Draft → Type 0) → Some draft ≡ Some other → P draft → P other
+for_draft draft other P is h = let same : draft ≡ other = cc in subst P same h
+
 means : (dialect : Dialect) (c : Contract) (inlines : Bool) (rows : List Row) (root : ℕ) (d document : Data)
     → IsUntransformed (fresh (asks dialect c inlines) rows) root d → document ≡ made_by (transforms_of_dialect dialect) d
-    → IsPlainTable rows → Means dialect rows c root document
-means Draft2020_12 c inlines rows root d document told same plain =
-    subst (MeansItsType rows c (codes "/$defs") root) (sym same)
-    (told.headline (has_own_definitions (asks Draft2020_12 c inlines) rows) (inl refl) plain)
-means Draft2019_09 c inlines rows root d document told same plain =
-    subst (MeansItsTypeUnder draft2019_09 rows c (codes "/$defs") root) (sym same)
-    (told.draft2019_09 (has_own_definitions (asks Draft2019_09 c inlines) rows) (inl refl) plain)
-means Draft07 c inlines rows root d document told same plain =
-    subst (MeansItsTypeUnder draft07 rows c (codes "/definitions") root) (sym same)
-    (told.draft07 (has_own_definitions (asks Draft07 c inlines) rows) (inr refl) plain)
-means OpenApi3 c inlines rows root d document told same plain = tt
-
-means_wide : (dialect : Dialect) (c : Contract) (inlines : Bool) (rows : List Row) (root : ℕ) (d document : Data)
-    → IsUntransformed (fresh (asks dialect c inlines) rows) root d → document ≡ made_by (transforms_of_dialect dialect) d
-    → MeansWide dialect rows c root document
-means_wide Draft2020_12 c inlines rows root d document told same = λ plain.
-    subst (MeansItsType rows c (codes "/$defs") root) (sym same)
-    (told.wide (has_own_definitions (asks Draft2020_12 c inlines) rows) (inl refl) plain)
-means_wide Draft2019_09 c inlines rows root d document told same = λ plain.
-    subst (MeansItsTypeUnder draft2019_09 rows c (codes "/$defs") root) (sym same)
-    (told.draft2019_09_wide (has_own_definitions (asks Draft2019_09 c inlines) rows) (inl refl) plain)
-means_wide Draft07 c inlines rows root d document told same = tt
-means_wide OpenApi3 c inlines rows root d document told same = tt
+    → Means dialect rows c root document
+means Draft2020_12 c inlines rows root d document told same draft is =
+    for_draft drafts.Draft2020_12 draft (λ x. Headline (dialect_of x) rows c (codes "/$defs") root document) is
+    (subst (Headline draft2020_12 rows c (codes "/$defs") root) (sym same)
+    (told.headlines drafts.Draft2020_12 (has_own_definitions (asks Draft2020_12 c inlines) rows) (inl refl)))
+means Draft2019_09 c inlines rows root d document told same draft is =
+    for_draft drafts.Draft2019_09 draft (λ x. Headline (dialect_of x) rows c (codes "/$defs") root document) is
+    (subst (Headline draft2019_09 rows c (codes "/$defs") root) (sym same)
+    (told.headlines drafts.Draft2019_09 (has_own_definitions (asks Draft2019_09 c inlines) rows) (inl refl)))
+means Draft07 c inlines rows root d document told same draft is =
+    for_draft drafts.Draft07 draft (λ x. Headline (dialect_of x) rows c (codes "/definitions") root document) is
+    (subst (Headline draft07 rows c (codes "/definitions") root) (sym same)
+    (told.headlines drafts.Draft07 (has_own_definitions (asks Draft07 c inlines) rows) (inr refl)))
+means OpenApi3 c inlines rows root d document told same draft is = cc
 
 -- what the generator answers is the root document of the row
 pub is_document : {E : Type 0} (r : Result Data E) (s : State) (asked : Asked) (rows : List Row) (root : ℕ)
@@ -129,7 +127,6 @@ is_document (Ok document) s asked rows root ts same is made =
     of ∙ ap (λ (xs : List (GenTransform NoTransform)). made_by xs d) is in (
       (d, here.last, by),
       means asked.dialect asked.contract asked.inlines rows root d document here by,
-      means_wide asked.dialect asked.contract asked.inlines rows root d document here by,
       λ empty none. ap has_float (by ∙ ap (λ (xs : List (GenTransform NoTransform)). made_by xs d) empty)
           ∙ here.whole none (has_own_definitions asked rows),
     )

@@ -1,6 +1,6 @@
 -- What a run of the program promises.
 use Rattle.std.specs.Prelude.{◌≡◌, ◌⊎◌, ℕ, List, [], ◌∷◌, ◌++◌, Option, Some}
-use Rattle.std.specs.Prelude.{None, false, codes, String, IsUtf8}
+use Rattle.std.specs.Prelude.{None, false, String, IsUtf8}
 use Rattle.std.specs.declared.alloc.Global.{Global}
 use Rattle.std.specs.Io.KnownBytes.{Consumes, IsAtEnd}
 use Rattle.serde_json.specs.Data.{Data, Members, no_members}
@@ -8,7 +8,6 @@ use Rattle.serde_json.specs.Read.{read}
 use Rattle.serde_json.specs.Written.{has_float, members_have_float}
 use Rattle.schemars_schema.specs.Json.{Text, IsJson}
 use Rattle.schemars_schema.specs.OrderedText.{ordered_text, definitions_text}
-use Rattle.schemars_schema.specs.Acceptance.{draft07, draft2019_09}
 use Rattle.schemars_schema.specs.References.{references}
 use Rattle.schemars_sample.specs.Accepted.{AcceptsExample}
 use Rattle.schemars_sample.specs.Example.{Example}
@@ -16,15 +15,16 @@ use Rattle.schemars_sample.specs.SampleJson.{sample_json}
 use Rattle.schemars_sample.specs.SampleSchema.{sample_root}
 use Rattle.schemars_types.specs.Rows.{Row}
 use Rattle.schemars_types.specs.Faults.{IsAccepted}
-use Rattle.schemars_documents.specs.PlainTable.{IsPlainTable, IsPlainUnder, HasPlainNotes, HasNoFloat}
+use Rattle.schemars_documents.specs.PlainTable.{IsPlainTable, HasPlainNotes, HasNoFloat}
 use Rattle.schemars_generate.specs.declared.error.GenerateError.{GenerateError}
 use Rattle.schemars_generate.specs.declared.error.GenerateError.TheVariants.{OutOfMemory, DefinitionsPath}
-use Rattle.schemars_headline.specs.Headline.{MeansItsType, CannotPlace}
+use Rattle.schemars_headline.specs.Headline.{Headline, CannotPlace}
 use Rattle.schemars_headline.specs.Calls.{IsLastRootCall, IsPartOf, Adds, IsNeeded}
-use Rattle.schemars_headline.specs.Dialects.{MeansItsTypeUnder, AcceptsExampleUnder}
+use Rattle.schemars_headline.specs.Drafts as drafts
+use Rattle.schemars_headline.specs.Drafts.{Draft, dialect_of, AcceptsExampleUnder}
 use Rattle.schemars_headline.specs.Taken.{TakenHeadline, MeanTheirRows}
 use Rattle.schemars_generate.specs.Refusals.{code_of, HasFault}
-use Rattle.schemars_headline.specs.State.{Settings, State, settings2020_12, HasOwnDefinitions}
+use Rattle.schemars_headline.specs.State.{Settings, State, settings2020_12, stripped, HasOwnDefinitions}
 use Rattle.schemars_types.specs.declared.contract.Contract.{Contract}
 use Rattle.schemars_transform.specs.declared.gen_transform.GenTransform.{GenTransform}
 use Rattle.schemars_transform.specs.declared.no_transform.NoTransform.{NoTransform}
@@ -100,29 +100,25 @@ settings_for asked = record (settings_of_dialect asked.dialect) { contract = ask
 abbrev pub fresh : Asked → List Row → State
 fresh asked rows = record { settings = settings_for asked; rows = rows; names = []; definitions = no_members }
 
--- under the keywords of a draft the document accepts exactly the values of the row; of a root document for OpenAPI nothing is promised
-abbrev pub Means : Dialect → List Row → Contract → ℕ → Data → Type 0
-Means Draft2020_12 rows contract root document = MeansItsType rows contract (codes "/$defs") root document
-Means Draft2019_09 rows contract root document = MeansItsTypeUnder draft2019_09 rows contract (codes "/$defs") root document
-Means Draft07 rows contract root document = MeansItsTypeUnder draft07 rows contract (codes "/definitions") root document
-Means OpenApi3 rows contract root document = Unit {0}
+-- the draft that promises something of the root documents of a dialect; of those for OpenAPI nothing is promised
+abbrev pub draft_of : Dialect → Option Draft
+draft_of Draft2020_12 = Some drafts.Draft2020_12
+draft_of Draft2019_09 = Some drafts.Draft2019_09
+draft_of Draft07 = Some drafts.Draft07
+draft_of OpenApi3 = None
 
--- so it does under 2020-12 and 2019-09 over the wider tables that are plain under the contract; of the others nothing more is promised
-abbrev pub MeansWide : Dialect → List Row → Contract → ℕ → Data → Type 0
-MeansWide Draft2020_12 rows contract root document =
-    IsPlainUnder contract rows → MeansItsType rows contract (codes "/$defs") root document
-MeansWide Draft2019_09 rows contract root document =
-    IsPlainUnder contract rows → MeansItsTypeUnder draft2019_09 rows contract (codes "/$defs") root document
-MeansWide Draft07 rows contract root document = Unit {0}
-MeansWide OpenApi3 rows contract root document = Unit {0}
+-- under the keywords of a draft the document of a plain table accepts exactly the values of the row
+abbrev pub Means : Dialect → List Row → Contract → ℕ → Data → Type 0
+Means dialect rows contract root document =
+    (draft : Draft) → draft_of dialect ≡ Some draft
+    → Headline (dialect_of draft) rows contract (stripped (settings_of_dialect dialect).definitions_path) root document
 
 -- the root document of this row: the transforms of the dialect make it of the one that is made by the rules, and where the
 -- table is plain it accepts exactly the values of the type; without transforms the numbers in it are whole, where those in notes are
 abbrev pub IsWrittenDocument : Asked → List Row → ℕ → Data → Type 0
 IsWrittenDocument asked rows root document =
     IsMadeBy (transforms_of_dialect asked.dialect) (IsLastRootCall (fresh asked rows) root) document
-    × (IsPlainTable rows → Means asked.dialect rows asked.contract root document)
-    × MeansWide asked.dialect rows asked.contract root document
+    × Means asked.dialect rows asked.contract root document
     × (transforms_of_dialect asked.dialect ≡ [] → HasNoFloat rows → has_float document ≡ false)
 
 -- what a generator holds after it has made a part for this row, and its definitions, through these transforms
@@ -205,24 +201,19 @@ IsNotWhole bytes = (d : Data) × IsTextOf d bytes × (sample_input d ≡ None)
 abbrev pub IsSampleText : List ℕ → Type 0
 IsSampleText bytes = (d : Data) × IsTextOf d bytes × ((x : Example) × (sample_input d ≡ Some x))
 
--- under 2020-12 the document accepts the example; of OpenAPI nothing is promised
+-- the document for a draft accepts the example, whatever its references say
 abbrev pub AcceptsIn : Dialect → Example → Data → Type 0
-AcceptsIn Draft2020_12 x document = AcceptsExample x document
-AcceptsIn Draft2019_09 x document = AcceptsExample x document
-AcceptsIn Draft07 x document = AcceptsExample x document
-AcceptsIn OpenApi3 x document = Unit {0}
+AcceptsIn dialect x document = (draft : Draft) → draft_of dialect ≡ Some draft → AcceptsExample x document
 
 -- the root document of this example before the transforms: it accepts the example, and its numbers are whole
 abbrev pub IsUntransformedExample : Dialect → Example → Data → Type 0
 IsUntransformedExample dialect x document =
     (document ≡ sample_root (settings_of_dialect dialect).meta_schema x) × AcceptsIn dialect x document × (has_float document ≡ false)
 
--- under the keywords of a draft the document accepts the example; of OpenAPI nothing is promised
+-- under the keywords of a draft the document accepts the example
 abbrev pub AcceptsUnder : Dialect → Example → Data → Type 0
-AcceptsUnder Draft2020_12 x document = AcceptsExample x document
-AcceptsUnder Draft2019_09 x document = AcceptsExampleUnder draft2019_09 x document
-AcceptsUnder Draft07 x document = AcceptsExampleUnder draft07 x document
-AcceptsUnder OpenApi3 x document = Unit {0}
+AcceptsUnder dialect x document =
+    (draft : Draft) → draft_of dialect ≡ Some draft → AcceptsExampleUnder (dialect_of draft) x document
 
 -- after the transforms of the dialect, where it accepts the example too
 abbrev pub IsSampleDocument : Dialect → Example → Data → Type 0

@@ -6,7 +6,7 @@ ghost use Rattle.std.specs.Io.KnownBytes.{Appends};
 ghost use Rattle.serde_json.specs.View.{view, members_view};
 ghost use Rattle.schemars_types.specs.Faults.{IsAccepted};
 ghost use Rattle.schemars_generate.specs.Refusals.{HasFault};
-ghost use Rattle.schemars_generate.specs.Settings.{settings_of, state};
+ghost use Rattle.schemars_generate.specs.Generator.{settings_of, state, transforms_of};
 ghost use Rattle.schemars_transform.specs.Member.{some_own};
 ghost use Rattle.schemagen_run.specs.Streams.{AppendsBeginning};
 ghost use Rattle.schemars_schema.specs.Json.{IsJson};
@@ -361,8 +361,7 @@ fn generator_over(
     types: Types,
 ) -> Result<SchemaGenerator, GenerateError>
     ensures fresh { IfOk result (λ g. state g ≡ fresh asked types) }
-    ensures transforms { IfOk result (λ g. g.settings.transforms.items
-        ≡ transforms_of_dialect asked.dialect) }
+    ensures transforms { IfOk result (λ g. transforms_of g ≡ transforms_of_dialect asked.dialect) }
     ensures accepted { OnOk result (IsAccepted types) }
     ensures refused { IfErr result (λ e. (e ≡ GenerateError.OutOfMemory) ⊎ HasFault types e) }
     ensures only_memory { IsAccepted types → IfErr result (λ e. e ≡ GenerateError.OutOfMemory) }
@@ -411,11 +410,10 @@ fn taken_definitions(
     generator: &mut SchemaGenerator,
     root: TypeNo,
 ) -> Result<Map<String, Value>, GenerateError>
-    requires own { some_own generator.old.settings.transforms.items ≡ false }
-    requires known { root < length generator.old.contents.rows }
-    ensures ok { IfOk result (λ m. AreTaken generator.old.settings.transforms.items
-        (state generator.old) root
-        (members_view m.entries)) }
+    requires own { some_own (transforms_of generator.old) ≡ false }
+    requires known { root < length generator.old.rows }
+    ensures ok { IfOk result (λ m. AreTaken (transforms_of generator.old) (state generator.old)
+        root (members_view m.entries)) }
     ensures only_memory { IfErr result (λ e. e ≡ GenerateError.OutOfMemory) }
 {
     generator.subschema_for_type(alloc, root)?;

@@ -6,10 +6,12 @@
 
 pub mod builders;
 mod macros;
+pub mod schema;
 pub mod transform;
 pub mod types;
 
+pub use schema::Schema;
 pub use schemars_generate::{GenerateError, SchemaGenerator, SchemaSettings, generate};
 pub use schemars_sample::sample;
-pub use schemars_schema::{NotASchema, Schema, consts, encoding, json_eq, schema};
+pub use schemars_schema::{consts, encoding};
 pub use schemars_types::Contract;

@@ -1,5 +1,5 @@
--- What a list of built-in transforms makes of documents, and that it fails only if out of memory.
-use Rattle.std.proofs.Common.{◌≡◌, ◌⊎◌, inl, inr, ℕ, List, Vec, Ok, Err, Global, Result, IfOk, false, refl, sym, ap, ◌∙◌, subst}
+-- What the transforms make of documents and of definitions, and that built-in ones fail only if out of memory.
+use Rattle.std.proofs.Common.{◌≡◌, ◌⊎◌, ◌≤◌, inl, inr, ℕ, List, length, Ok, Err, false, refl, sym, ap, ◌∙◌, subst, arith}
 use Rattle.std.proofs.Common.{Option, Some, None, option_map, Ordering, Less, Equal, Greater, nat_cmp}
 use Rattle.std.specs.Prelude.{is_some}
 use Rattle.std.specs.Cmp.Lexicographic.{slice_cmp}
@@ -7,8 +7,10 @@ use Rattle.std.specs.Ordering.{match_ordering}
 use Rattle.serde_json.specs.Data.{Data, null, boolean, number, string, array, object, Members, no_members, member}
 use Rattle.serde_json.specs.Find.{get_member}
 use Rattle.schemars_schema.specs.Json.{Text}
-use Rattle.std.proofs.lemmas.Result.{IfOk-weaker}
+use Rattle.schemars_types.specs.Faults.{IsChecked}
+use Rattle.schemars_build.specs.Naming.{IsOneToOne}
 use Rattle.schemars_headline.specs.Headline.{IsDraftPath}
+use Rattle.schemars_headline.specs.Drafts.{Draft, Draft2020_12, Draft2019_09, Draft07, made_for}
 use Rattle.schemars_headline.specs.State.{State, Settings, stripped}
 use Rattle.schemars_walk.specs.Walk.{TransformStep}
 use Rattle.schemars_walk.specs.Rewritten.{forms}
@@ -18,64 +20,92 @@ use Rattle.schemars_headline.specs.Taken.{TakenHeadline, OpenApiHeadline, HasSam
 use Rattle.schemars_transform.specs.Member.{some_own}
 use Rattle.schemars_transform.specs.BuiltIn.{made_by, IsMadeBy, value_made_by, each_made_by}
 use Rattle.schemars_transform.specs.declared.gen_transform.GenTransform.{GenTransform}
-use Rattle.schemars_transform.proofs.Laws.{built_ins_make, each_wants_memory}
+use Rattle.schemars_transform.proofs.Laws.{built_ins_make, each_made, each_wants_memory}
 use Rattle.schemars_sample.specs.Example.{Example}
-use Rattle.schemars_generate.specs.Samples.{IsSampleRefused, IsSampleRefusedThrough}
-use Rattle.schemars_generate.specs.Through.{IsThrough, IsTurnedDown, AreTurnedDown, IsRefused, IsRootRefused}
+use Rattle.schemars_headline.proofs.Taken.{openapi_headline}
+use Rattle.schemars_generate.specs.Samples.{IsSampleRefused, IsSampleRefusedThrough, IsSampleRefusal}
+use Rattle.schemars_generate.specs.Through.{IsThrough, IsTransformed, IsTurnedDown, AreThrough, AreTransformed, AreTurnedDown, IsTakeRefusal}
+use Rattle.schemars_generate.specs.Through.{IsRefused, IsRefusedThrough, IsRootRefusal}
 use Rattle.schemars_generate.specs.Refusals.{told}
 use Rattle.schemars_generate.specs.declared.error.GenerateError.{GenerateError}
 use Rattle.schemars_generate.specs.declared.error.GenerateError.TheVariants.{OutOfMemory, UnknownType}
-use Rattle.schemars_generate.specs.Settings.{ApplyInOrder, transforms_openapi3}
+use Rattle.schemars_generate.specs.Settings.{Transforms, ApplyInOrder, transforms_for, transforms_openapi3}
+use Rattle.schemars_generate.proofs.Untransformed.{refused_memory}
 
--- what holds with the settings and the transforms that a call was handed holds with those of the generator
-pub of_generator : {A B : Type 0} (P : A → B → Type 0) (x y : A) (t u : B) → x ≡ y → t ≡ u → P x t → P y u
-of_generator P x y t u same held h = subst (λ b. P y b) held (subst (λ a. P a t) same h)
+-- a list of the transforms of a draft makes what its functions make
+made_for-by : {O : Type 0} (draft : Draft) (d : Data) → made_by {O = O} (transforms_for draft) d ≡ made_for draft d
+made_for-by Draft2020_12 d = refl
+made_for-by Draft2019_09 d = refl
+made_for-by Draft07 d = refl
 
--- what holds of what these transforms make of each such document holds of theirs
-made_by_these : {O : Type 0} (ts fs : List (GenTransform O)) (R P : Data → Type 0) (document : Data) → ts ≡ fs
-    → ((d : Data) → R d → P (made_by fs d)) → IsMadeBy ts R document → P document
-made_by_these ts fs R P document is all (d, here, same) = subst P (sym (same ∙ ap (λ xs. made_by xs d) is)) (all d here)
+none_own : {O : Type 0} (draft : Draft) → some_own {O = O} (transforms_for draft) ≡ false
+none_own Draft2020_12 = refl
+none_own Draft2019_09 = refl
+none_own Draft07 = refl
 
--- and so it holds of the answered document, where the transforms are these built-in ones
-pub answered : {O E : Type 0} (ts fs : List (GenTransform O)) (R P : Data → Type 0) (r : Result Data E)
-    → (some_own ts ≡ false → IfOk r (IsMadeBy ts R)) → some_own fs ≡ false → ((d : Data) → R d → P (made_by fs d))
-    → ts ≡ fs → IfOk r P
-answered ts fs R P r made none all is =
-    IfOk-weaker r _ _ (λ d h. made_by_these ts fs R P d is all h) (made (ap some_own is ∙ none))
+module _ {O : Type 0} (Q : TransformStep O) (ts us : Transforms O) where
+  built_in : some_own ts.items ≡ false → (R : Data → Type 0) (document : Data) → IsThrough (ApplyInOrder Q) ts us R document
+      → IsMadeBy ts.items R document
+  built_in none R document (d, here, made) = (d, here, built_ins_make Q ts.items us.items d document (Ok tt) none made)
 
-module _ {O : Type 0} (Q : TransformStep O) (ts us : Vec (GenTransform O) Global) (none : some_own ts.items ≡ false) where
-  pub built_in : (R : Data → Type 0) (document : Data) → IsThrough (ApplyInOrder Q) ts us R document → IsMadeBy ts.items R document
-  built_in R document (d, here, made) = (d, here, built_ins_make Q ts.items us.items d document (Ok tt) none made)
+  pub transformed : (R : Data → Type 0) (document : Data) → IsThrough (ApplyInOrder Q) ts us R document → IsTransformed Q ts us R document
+  transformed R document h = record { through = h; built_in = λ none. built_in none R document h }
 
-  wants_memory : (R : Data → Type 0) (e : GenerateError) → IsTurnedDown (ApplyInOrder Q) ts us R e → e ≡ OutOfMemory
-  wants_memory R e (a, d, v, here, made, is) = is ∙ ap told (built_ins_make Q ts.items us.items d v (Err a) none made)
+  -- what is promised in each draft of what is made for it holds of the answered document
+  pub promised : (R : Data → Type 0) (P : Draft → Data → Type 0) → ((d : Data) → R d → (draft : Draft) → P draft (made_for draft d))
+      → (document : Data) → IsTransformed Q ts us R document → (draft : Draft) → ts.items ≡ transforms_for draft → P draft document
+  promised R P all document h draft is =
+      let (d, here, same) = h.built_in (ap some_own is ∙ none_own draft) in
+      subst (P draft) (sym (same ∙ (ap (λ xs. made_by xs d) is ∙ made_for-by draft d))) (all d here draft)
 
-  pub not_turned_down : (R : Data → Type 0) (e : GenerateError) → (e ≡ OutOfMemory) ⊎ IsTurnedDown (ApplyInOrder Q) ts us R e
+  wants_memory : some_own ts.items ≡ false → (R : Data → Type 0) (e : GenerateError) → IsTurnedDown (ApplyInOrder Q) ts us R e
       → e ≡ OutOfMemory
-  not_turned_down R e (inl memory) = memory
-  not_turned_down R e (inr turned) = wants_memory R e turned
+  wants_memory none R e (a, d, v, here, made, is) = is ∙ ap told (built_ins_make Q ts.items us.items d v (Err a) none made)
 
-  pub refused_built_in : (s : State) (n : ℕ) (e : GenerateError) → IsRootRefused (ApplyInOrder Q) ts us s n e
-      → (e ≡ UnknownType n) ⊎ IsRefused s n e
-  refused_built_in s n e (inl unknown) = inl unknown.0
-  refused_built_in s n e (inr (inl refused)) = inr refused.0
-  refused_built_in s n e (inr (inr turned)) = inr (inl (wants_memory _ e turned))
+  -- there is no row n
+  pub no_row : (s : State) (n : ℕ) (e : GenerateError) → e ≡ UnknownType n → length s.rows ≤ n → us ≡ ts → IsRootRefusal Q ts us s n e
+  no_row s n e is past same = record {
+    refused = inl (is, same);
+    built_in = λ none. inl is;
+    only_memory = λ none plain path known. absurd (omega (arith, past, known));
+  }
 
-  pub sample_built_in : (s : Settings) (definitions : Members) (x : Example) (e : GenerateError)
-      → IsSampleRefusedThrough (ApplyInOrder Q) ts us s definitions x e → IsSampleRefused s definitions x e
-  sample_built_in s definitions x e (inl refused) = refused.0
-  sample_built_in s definitions x e (inr turned) = inl (wants_memory _ e turned)
+  -- its root document is refused
+  pub root_refusal : (s : State) (n : ℕ) (e : GenerateError) → IsRefusedThrough (ApplyInOrder Q) ts us s n e → IsRootRefusal Q ts us s n e
+  root_refusal s n e h = record {
+    refused = inr h;
+    built_in = λ none. inr (before none h);
+    only_memory = λ none plain path known. refused_memory s n e plain path (before none h);
+  }
+    where
+      before : some_own ts.items ≡ false → IsRefusedThrough (ApplyInOrder Q) ts us s n e → IsRefused s n e
+      before none (inl refused) = refused.0
+      before none (inr turned) = inl (wants_memory none _ e turned)
 
-  pub taken_built_in : {P : Type 0} (definitions : Members) (e : GenerateError)
-      → ((e ≡ OutOfMemory) × P) ⊎ AreTurnedDown (ApplyInOrder Q) ts us definitions e → e ≡ OutOfMemory
-  taken_built_in definitions e (inl memory) = memory.0
-  taken_built_in definitions e (inr (a, taken, made, is)) =
-      is ∙ ap told (each_wants_memory Q ts us definitions taken (Err a) none made)
+  pub sample_refusal : (s : Settings) (definitions : Members) (x : Example) (e : GenerateError)
+      → IsSampleRefusedThrough (ApplyInOrder Q) ts us s definitions x e → IsSampleRefusal Q ts us s definitions x e
+  sample_refusal s definitions x e h = record {
+    refused = h;
+    built_in = λ none. before none h;
+    only_memory = λ none path. memory path (before none h);
+  }
+    where
+      before : some_own ts.items ≡ false → IsSampleRefusedThrough (ApplyInOrder Q) ts us s definitions x e → IsSampleRefused s definitions x e
+      before none (inl refused) = refused.0
+      before none (inr turned) = inl (wants_memory none _ e turned)
 
-pub sample_memory : (s : Settings) (definitions : Members) (x : Example) (e : GenerateError)
-    → IsDraftPath (stripped s.definitions_path) → IsSampleRefused s definitions x e → e ≡ OutOfMemory
-sample_memory s definitions x e path (inl memory) = memory
-sample_memory s definitions x e path (inr h) = absurd (h.1.other_path path)
+      memory : IsDraftPath (stripped s.definitions_path) → IsSampleRefused s definitions x e → e ≡ OutOfMemory
+      memory path (inl is) = is
+      memory path (inr h) = absurd (h.1.other_path path)
+
+  pub take_refusal : (s : State) (e : GenerateError)
+      → ((e ≡ OutOfMemory) × (us ≡ ts)) ⊎ AreTurnedDown (ApplyInOrder Q) ts us s.definitions e → IsTakeRefusal Q ts us s e
+  take_refusal s e h = record { refused = h; only_memory = λ none. memory none h }
+    where
+      memory : some_own ts.items ≡ false → ((e ≡ OutOfMemory) × (us ≡ ts)) ⊎ AreTurnedDown (ApplyInOrder Q) ts us s.definitions e
+          → e ≡ OutOfMemory
+      memory none (inl is) = is.0
+      memory none (inr (a, taken, made, is)) = is ∙ ap told (each_wants_memory Q ts us s.definitions taken (Err a) none made)
 
 -- ---- definitions through the transforms of OpenAPI
 
@@ -115,7 +145,7 @@ each_made-openapi3 O (member k d es) =
     ap (λ x. member k x (each_made_by {O = O} transforms_openapi3 es)) (value_made-openapi3 O d)
     ∙ ap (member k (for_openapi3 d)) (each_made-openapi3 O es)
 
-pub taken-openapi3 : {O : Type 0} (s : State) (ts : List (GenTransform O)) (taken : Members) → ts ≡ transforms_openapi3
+taken-openapi3 : {O : Type 0} (s : State) (ts : List (GenTransform O)) (taken : Members) → ts ≡ transforms_openapi3
     → taken ≡ each_made_by ts s.definitions → OpenApiHeadline s → HasSameKeys taken s.definitions × TakenHeadline s taken
 taken-openapi3 {O} s ts taken is made headline =
     let these : taken ≡ each_made_by {O = O} transforms_openapi3 s.definitions =
@@ -123,3 +153,12 @@ taken-openapi3 {O} s ts taken is made headline =
       subst (λ ms. HasSameKeys ms s.definitions) (sym made) (same-keys ts s.definitions),
       subst (TakenHeadline s) (sym (these ∙ each_made-openapi3 O s.definitions)) headline,
     )
+
+pub are_transformed : {O : Type 0} (Q : TransformStep O) (ts us : Transforms O) (s : State) (taken : Members) → IsChecked s.rows
+    → IsOneToOne s.names → AreThrough (ApplyInOrder Q) ts us s.definitions taken → AreTransformed Q ts us s taken
+are_transformed Q ts us s taken checked one h = record {
+  through = h;
+  built_in = λ none. each_made Q ts us s.definitions taken none h;
+  openapi3 = λ is. taken-openapi3 s ts.items taken is (each_made Q ts us s.definitions taken (ap some_own is) h)
+      (openapi_headline s checked one);
+}

@@ -13,7 +13,7 @@ use Rattle.schemars_headline.specs.Headline.{IsDraftPath, with_definitions}
 use Rattle.schemars_headline.specs.Keys.{HasKeysOnce}
 use Rattle.schemars_headline.proofs.Placed.{StandsAt, IsPlaced, placing, placed_in}
 use Rattle.schemars_headline.proofs.Floats.{whole_with_definitions}
-use Rattle.schemars_headline.proofs.Samples.{definitions_free, draft07_sample, draft2019_09_sample}
+use Rattle.schemars_headline.proofs.Samples.{definitions_free, draft_samples}
 use Rattle.schemars_generate.proofs.SampleWhole.{sample_whole}
 use Rattle.schemars_generate.specs.Samples.{holding, IsSampleRoot, CannotPlaceSample}
 
@@ -40,8 +40,7 @@ sample_made s definitions x d once own made =
     record {
       placed = made;
       accepts = fits;
-      draft07 = λ rows names. draft07_sample (holding s definitions rows names) x d once made fits;
-      draft2019_09 = λ rows names. draft2019_09_sample (holding s definitions rows names) x d once made fits;
+      samples = λ rows names. draft_samples (holding s definitions rows names) x d once made fits;
       whole = λ none. whole_with_definitions path definitions (sample_root s.meta_schema x) d none (sample_whole s.meta_schema x) made;
     }
 

@@ -1,14 +1,27 @@
--- What a row answers, by what a generator holds before and afterwards.
-use Rattle.std.specs.Prelude.{true, false, None}
+-- What a call answers and adds, by what a generator holds before and afterwards.
+use Rattle.std.specs.Prelude.{ℕ, true, None}
 use Rattle.serde_json.specs.Data.{Data}
-use Rattle.schemars_documents.specs.Template.{Ask}
-use Rattle.schemars_build.specs.Parts.{IsSaid, AreNeededFor}
-use Rattle.schemars_headline.specs.State.{State, state_plan, work_of}
+use Rattle.schemars_documents.specs.Template.{Ask, part}
+use Rattle.schemars_documents.specs.PlainTable.{IsPlainTable}
+use Rattle.schemars_build.specs.Parts.{IsAnswer}
+use Rattle.schemars_headline.specs.State.{State, state_plan, work_of, HasOwnDefinitions, ReferencesNameKeys}
+use Rattle.schemars_headline.specs.Headline.{SubschemaHeadline, IsInlined}
+use Rattle.schemars_headline.specs.Calls.{IsPartOf, IsReferenceOf, Adds}
 
--- the row as a part, its members in another map, or the content beside a tag
-abbrev pub IsAnswerOf : State → Ask → Data → Type 0
-IsAnswerOf s = IsSaid (state_plan s None) false (work_of s)
+-- the answer to this ask, and what is added for it
+pub record IsAnswerFor (old new : State) (a : Ask) (d : Data) : Type 0 where
+  pub adds : Adds old new
+  pub is : IsAnswer (state_plan old None) true (work_of old) (work_of new) a d
 
--- in a plain table, all that is added is reached from the row's document, or from the part in its place
-abbrev pub IsNeededFor : State → State → Ask → Data → Type 0
-IsNeededFor old new = AreNeededFor (state_plan old None) true (work_of old) (work_of new)
+-- the schema of row n for use inside a document that holds the definitions
+pub record IsSubschemaFor (old new : State) (n : ℕ) (d : Data) : Type 0 where
+  pub answer : IsAnswerFor old new (part n) d
+  pub is_part : IsPartOf new n d
+  pub means : HasOwnDefinitions old → SubschemaHeadline new n d
+  pub reference : IsReferenceOf old new n d
+  pub inlined : IsInlined old d
+
+-- definitions that are a generator's own stay so
+pub record KeepsDefinitions (old new : State) : Type 0 where
+  pub own : HasOwnDefinitions old → HasOwnDefinitions new
+  pub keys : HasOwnDefinitions old → IsPlainTable new.rows → ReferencesNameKeys new

@@ -1,8 +1,8 @@
 -- The definitions that contracts cite.
 pub mod Refusals
-pub mod Answers
-pub mod Samples
-pub mod DocumentSettings
-pub mod Through
+pub mod Generator
 pub mod Settings
+pub mod Answers
+pub mod Through
+pub mod Samples
 pub mod Lends

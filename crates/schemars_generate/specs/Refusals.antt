@@ -1,9 +1,9 @@
 -- What a generator refuses, and why.
-use Rattle.std.specs.Prelude.{◌≡◌, ℕ, List}
+use Rattle.std.specs.Prelude.{◌≡◌, ◌⊎◌, ℕ, List}
 use Rattle.schemars_types.specs.declared.error.TypesError as types
 use Rattle.schemars_types.specs.declared.error.TypesError.TheVariants as fault
 use Rattle.schemars_types.specs.Rows.{Row}
-use Rattle.schemars_types.specs.Faults.{Refusal}
+use Rattle.schemars_types.specs.Faults.{Refusal, IsAccepted}
 use Rattle.schemars_generate.specs.declared.error.GenerateError.{GenerateError}
 use Rattle.schemars_generate.specs.declared.error.GenerateError.TheVariants.{OutOfMemory, UndefinedType, RepeatedName}
 use Rattle.schemars_generate.specs.declared.error.GenerateError.TheVariants.{DirectCycle, EmptyCycle, AlreadyDefined}
@@ -53,3 +53,8 @@ pub record HasFault (rows : List Row) (e : GenerateError) : Type 0 where
   pub fault : types.TypesError
   pub refusal : Refusal rows fault
   pub is_told : e ≡ error_of fault
+
+-- why a table is refused: for its fault, or for want of memory
+pub record IsTableRefusal (rows : List Row) (e : GenerateError) : Type 0 where
+  pub fault : (e ≡ OutOfMemory) ⊎ HasFault rows e
+  pub only_memory : IsAccepted rows → e ≡ OutOfMemory

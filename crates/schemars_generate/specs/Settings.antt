@@ -1,8 +1,8 @@
--- Settings and states as the program holds them, and the settings of the drafts.
-use Rattle.std.specs.Prelude.{◌≡◌, List, [], ◌∷◌, Vec, Some, true, codes, option_map}
-use Rattle.std.specs.Cow.{cow_str_bytes}
+-- Transforms of settings, and the settings of the drafts.
+use Rattle.std.specs.Prelude.{◌≡◌, List, [], ◌∷◌, Vec, Some, true, codes}
 use Rattle.std.specs.declared.alloc.Global.{Global}
-use Rattle.schemars_headline.specs.State.{State, Settings, settings2020_12}
+use Rattle.schemars_headline.specs.State.{Settings, settings2020_12}
+use Rattle.schemars_headline.specs.Drafts.{Draft, Draft2020_12, Draft2019_09, Draft07}
 use Rattle.schemars_walk.specs.Walk.{TransformStep}
 use Rattle.schemars_walk.specs.Order.{InOrder}
 use Rattle.schemars_transform.specs.Member.{OfMember, AreCopies}
@@ -11,31 +11,18 @@ use Rattle.schemars_transform.specs.declared.gen_transform.GenTransform.TheVaria
 use Rattle.schemars_transform.specs.declared.gen_transform.GenTransform.TheVariants.{SetSingleExample, ReplaceConstValue}
 use Rattle.schemars_transform.specs.declared.gen_transform.GenTransform.TheVariants.{ReplacePrefixItems, AddNullable}
 use Rattle.schemars_transform.specs.declared.gen_transform.GenTransform.TheVariants.{ReplaceUnevaluatedProperties}
-use Rattle.schemars_generate.specs.DocumentSettings.{state_with}
-use Rattle.schemars_generate.specs.declared.settings.SchemaSettings as src
-use Rattle.schemars_generate.specs.declared.generate.SchemaGenerator as generator
+use Rattle.schemars_generate.specs.declared.settings.SchemaSettings.{SchemaSettings}
+use Rattle.schemars_generate.specs.Generator.{settings_of}
 
-abbrev pub settings_of : {O : Type 0} → src.SchemaSettings O → Settings
-settings_of s = record {
-  definitions_path = cow_str_bytes s.definitions_path;
-  meta_schema = option_map cow_str_bytes s.meta_schema;
-  contract = s.contract;
-  titles = s.untagged_enum_variant_titles;
-  inlines = s.inline_subschemas;
-}
+abbrev pub Transforms : Type 0 → Type 0
+Transforms O = Vec (GenTransform O) Global
 
--- what a generator holds, but for its transforms
-abbrev pub state : {O : Type 0} → generator.SchemaGenerator O → State
-state g = state_with (settings_of g.settings) g.contents
-
--- ---- transforms
-
--- the transforms of settings, one after another
-abbrev pub ApplyInOrder : {O : Type 0} → TransformStep O → TransformStep (Vec (GenTransform O) Global)
+-- the transforms, one after another
+abbrev pub ApplyInOrder : {O : Type 0} → TransformStep O → TransformStep (Transforms O)
 ApplyInOrder Q ts s r us v = InOrder (OfMember Q) ts.items s r us.items v
 
 -- the same settings, with a copy of each transform
-abbrev pub AreSettingsCopied : {O P : Type 0} → src.SchemaSettings O → src.SchemaSettings P → Type 0
+abbrev pub AreSettingsCopied : {O P : Type 0} → SchemaSettings O → SchemaSettings P → Type 0
 AreSettingsCopied s t = (settings_of t ≡ settings_of s) × AreCopies s.transforms.items t.transforms.items
 
 -- ---- the drafts
@@ -75,3 +62,9 @@ transforms_openapi3 =
     ∷ ReplaceConstValue (record {})
     ∷ ReplacePrefixItems (record {})
     ∷ []
+
+-- the transforms of a draft's settings
+abbrev pub transforms_for : {O : Type 0} → Draft → List (GenTransform O)
+transforms_for Draft2020_12 = []
+transforms_for Draft2019_09 = transforms2019_09
+transforms_for Draft07 = transforms07

@@ -1,17 +1,21 @@
 -- What transforms make of root documents and of definitions.
-use Rattle.std.specs.Prelude.{◌≡◌, ◌⊎◌, ℕ, false, Ok, Err}
+use Rattle.std.specs.Prelude.{◌≡◌, ◌⊎◌, ◌<◌, ℕ, length, false, Ok, Err}
 use Rattle.serde_json.specs.Data.{Data, Members, no_members}
 use Rattle.serde_json.specs.Written.{has_float}
-use Rattle.schemars_documents.specs.PlainTable.{HasNoFloat}
-use Rattle.schemars_headline.specs.State.{State, HasOwnDefinitions, work_of, after_root}
+use Rattle.schemars_documents.specs.PlainTable.{HasNoFloat, HasPlainNotes}
+use Rattle.schemars_headline.specs.State.{State, path_of, HasOwnDefinitions, ReferencesNameKeys, work_of, after_root}
 use Rattle.schemars_headline.specs.Keys.{HasKeysOnce}
 use Rattle.schemars_build.specs.Naming.{IsOneToOne}
-use Rattle.schemars_headline.specs.Headline.{RootHeadline, RootWideHeadline, IsRootOf, CannotPlace, IsInlined}
+use Rattle.schemars_headline.specs.Headline.{IsRootOf, CannotPlace, IsInlined, IsDraftPath}
 use Rattle.schemars_headline.specs.Calls.{IsRootCall, IsLastRootCall}
-use Rattle.schemars_headline.specs.Dialects.{Draft07Headline, Draft2019_09Headline, Draft2019_09WideHeadline}
+use Rattle.schemars_headline.specs.Drafts.{DraftHeadlines}
+use Rattle.schemars_headline.specs.Taken.{TakenHeadline, HasSameKeys}
 use Rattle.schemars_build.specs.Work.{Work}
 use Rattle.schemars_walk.specs.Walk.{TransformStep, EachMember, AtSchema}
 use Rattle.schemars_walk.specs.declared.transform.TransformError.{TransformError}
+use Rattle.schemars_transform.specs.Member.{some_own}
+use Rattle.schemars_transform.specs.BuiltIn.{IsMadeBy, each_made_by}
+use Rattle.schemars_generate.specs.Settings.{Transforms, ApplyInOrder, transforms_openapi3}
 use Rattle.schemars_generate.specs.Refusals.{told}
 use Rattle.schemars_generate.specs.declared.error.GenerateError.{GenerateError}
 use Rattle.schemars_generate.specs.declared.error.GenerateError.TheVariants.{OutOfMemory, UnknownType, DefinitionsPath}
@@ -34,16 +38,36 @@ abbrev pub AreTurnedDown : {T : Type 0} → TransformStep T → T → T → Memb
 AreTurnedDown Q t u definitions e =
     (a : TransformError) × (taken : Members) × EachMember (λ k. AtSchema Q) t definitions (Err a) u taken × (e ≡ told a)
 
+-- the transforms made the document of one of which R holds; built-in transforms are functions
+pub record IsTransformed {O : Type 0} (Q : TransformStep O) (ts us : Transforms O) (R : Data → Type 0) (document : Data) : Type 0 where
+  pub through : IsThrough (ApplyInOrder Q) ts us R document
+  pub built_in : some_own ts.items ≡ false → IsMadeBy ts.items R document
+
+-- ---- definitions that are taken
+
+-- the definitions, through the transforms; through those of OpenAPI they mean their rows
+pub record AreTransformed {O : Type 0} (Q : TransformStep O) (ts us : Transforms O) (s : State) (taken : Members) : Type 0 where
+  pub through : AreThrough (ApplyInOrder Q) ts us s.definitions taken
+  pub built_in : some_own ts.items ≡ false → taken ≡ each_made_by ts.items s.definitions
+  pub openapi3 : ts.items ≡ transforms_openapi3 → HasSameKeys taken s.definitions × TakenHeadline s taken
+
+-- why no definitions are taken
+pub record IsTakeRefusal {O : Type 0} (Q : TransformStep O) (ts us : Transforms O) (s : State) (e : GenerateError) : Type 0 where
+  pub refused : ((e ≡ OutOfMemory) × (us ≡ ts)) ⊎ AreTurnedDown (ApplyInOrder Q) ts us s.definitions e
+  pub only_memory : some_own ts.items ≡ false → e ≡ OutOfMemory
+
+-- the definitions are taken, and all else is as before
+pub record AreGone (old new : State) : Type 0 where
+  pub rest : new ≡ record old { definitions = no_members }
+  pub own : HasOwnDefinitions new
+  pub keys : ReferencesNameKeys new
+
 -- ---- root documents before transforms
 
 -- what is promised of the root document of row n
 pub record IsUntransformed (old : State) (n : ℕ) (d : Data) : Type 0 where
   pub last : IsLastRootCall old n d
-  pub headline : RootHeadline old n d
-  pub wide : RootWideHeadline old n d
-  pub draft07 : Draft07Headline old n d
-  pub draft2019_09 : Draft2019_09Headline old n d
-  pub draft2019_09_wide : Draft2019_09WideHeadline old n d
+  pub headlines : DraftHeadlines old n d
   pub inlined : old.definitions ≡ no_members → IsInlined old d
   pub whole : HasNoFloat old.rows → HasOwnDefinitions old → has_float d ≡ false
 
@@ -62,6 +86,12 @@ IsRefusedThrough Q t u s n e = (IsRefused s n e × (u ≡ t)) ⊎ IsTurnedDown Q
 -- there is no such row, or its root document is refused
 abbrev pub IsRootRefused : {T : Type 0} → TransformStep T → T → T → State → ℕ → GenerateError → Type 0
 IsRootRefused Q t u s n e = ((e ≡ UnknownType n) × (u ≡ t)) ⊎ IsRefusedThrough Q t u s n e
+
+-- why a root call answers no document
+pub record IsRootRefusal {O : Type 0} (Q : TransformStep O) (ts us : Transforms O) (s : State) (n : ℕ) (e : GenerateError) : Type 0 where
+  pub refused : IsRootRefused (ApplyInOrder Q) ts us s n e
+  pub built_in : some_own ts.items ≡ false → (e ≡ UnknownType n) ⊎ IsRefused s n e
+  pub only_memory : some_own ts.items ≡ false → HasPlainNotes s.rows → IsDraftPath (path_of s) → n < length s.rows → e ≡ OutOfMemory
 
 -- the root document of row n, and the state after the call that made it
 abbrev pub IsRootMade : State → ℕ → Work → Data → Type 0

@@ -1,29 +1,28 @@
 //! Documents of rows as parts and as roots.
-ghost use Rattle.std.specs.Prelude.{List, ℕ, true, false, ◌≡◌, ◌<◌, ◌⊎◌, length, IfOk, IfErr, OnOk};
-ghost use Rattle.std.specs.Prelude.{OnErr, None, Some};
+ghost use Rattle.std.specs.Prelude.{true, ◌≡◌, ◌<◌, ◌⊎◌, length, IfOk, IfErr, OnOk};
+ghost use Rattle.std.specs.Prelude.{OnErr, None, Some, option_map};
 ghost use Rattle.serde_json.specs.View.{members_view};
-ghost use Rattle.schemars_schema.specs.References.{references};
 ghost use Rattle.schemars_types.specs.Faults.{IsChecked};
 ghost use Rattle.schemars_headline.specs.Headline.{IsRootOf, IsTitledRoot, CannotPlace};
 ghost use Rattle.schemars_headline.specs.Headline.{with_definitions};
-ghost use Rattle.schemars_build.specs.Missing.{row_asked};
-ghost use Rattle.schemars_build.specs.Parts.{IsPlainAsk, IsSaid, AreNeededFor};
-ghost use Rattle.schemars_build.specs.Naming.{IsOneToOne};
-ghost use Rattle.schemars_documents.specs.PlainTable.{IsPlainTable};
-ghost use Rattle.schemars_build.specs.Reached.{AreReached};
 ghost use Rattle.schemars_headline.specs.Keys.{HasKeysOnce};
-ghost use Rattle.schemars_generate.specs.DocumentSettings.{document_settings_of, state_of};
-ghost use Rattle.schemars_generate.specs.Samples.{IsSampleRoot, IsSampleRefused};
-ghost use Rattle.schemars_sample.specs.Example.{example_of};
-ghost use Rattle.schemars_generate.specs.Through.{IsThrough, IsRefusedThrough, IsRootMade};
 ghost use Rattle.schemars_headline.specs.State.{state_plan, work_of};
-ghost use Rattle.schemars_documents.specs.View.{ask_of};
+ghost use Rattle.schemars_build.specs.Missing.{row_asked};
+ghost use Rattle.schemars_build.specs.Naming.{IsOneToOne};
+ghost use Rattle.schemars_build.specs.Plans.{plan_of};
 ghost use Rattle.schemars_build.specs.Work as specs;
 ghost use Rattle.schemars_build.specs.Work.{Step, undone};
+ghost use Rattle.schemars_documents.specs.View.{ask_of};
+ghost use Rattle.schemars_sample.specs.Example.{example_of};
+ghost use Rattle.schemars_generate.specs.Answers.{IsAnswerFor};
+ghost use Rattle.schemars_generate.specs.Generator.{fresh, settings_of, state, state_of};
+ghost use Rattle.schemars_generate.specs.Samples.{IsSampleRoot, IsSampleRefused};
+ghost use Rattle.schemars_generate.specs.Settings.{ApplyInOrder};
+ghost use Rattle.schemars_generate.specs.Through.{IsThrough, IsRefusedThrough, IsRootMade};
 
-use crate::document_settings::DocumentSettings;
 use crate::error::GenerateError;
 use crate::path::stripped;
+use crate::settings::SchemaSettings;
 use schemars_build::build::{Plan, answer, own_document};
 use schemars_build::work::Work;
 use schemars_documents::documents::make_root;
@@ -34,6 +33,16 @@ use schemars_types::{TypeNo, Types};
 use schemars_walk::Transform;
 use serde_json::{Map, Value};
 use std::alloc::{AllocError, Global};
+
+// The value of `$schema`, if any.
+fn meta_schema<O>(settings: &SchemaSettings<O>) -> Option<&str>
+    ensures { option_map (λ uri. uri.now) result ≡ (settings_of settings.now).meta_schema }
+{
+    match &settings.meta_schema {
+        Some(uri) => Some(uri.as_str()),
+        None => None,
+    }
+}
 
 // The row that is asked.
 pub(crate) fn row_asked(ask: Ask) -> TypeNo
@@ -46,10 +55,28 @@ pub(crate) fn row_asked(ask: Ask) -> TypeNo
     }
 }
 
-// What a row answers outside of root documents; where it is refused, the work is as before.
-pub(crate) fn answer_of(
+// The plan of documents with these settings.
+fn plan_for<'p, O>(
+    settings: &'p SchemaSettings<O>,
+    types: &'p Types,
+    root: Option<TypeNo>,
+) -> Plan<'p>
+    ensures { plan_of result ≡ state_plan (state (fresh settings.now types.now)) root }
+{
+    Plan {
+        types,
+        contract: settings.contract,
+        titles: settings.untagged_enum_variant_titles,
+        inlines: settings.inline_subschemas,
+        path: stripped(settings.definitions_path.as_str()),
+        root,
+    }
+}
+
+// The answer to this ask, outside of root documents. On an error the work is as before.
+pub(crate) fn answer_of<O>(
     alloc: Global,
-    settings: &DocumentSettings<'_>,
+    settings: &SchemaSettings<O>,
     types: &Types,
     work: &mut Work,
     ask: Ask,
@@ -58,28 +85,12 @@ pub(crate) fn answer_of(
     requires known { row_asked (ask_of ask) < length types.now }
     requires between { work.old ≡ work_of (state_of settings.now types.now work.old) }
     ensures between { work.new ≡ work_of (state_of settings.now types.now work.new) }
-    ensures step { OnOk result (Step
-        (state_plan (state_of settings.now types.now work.old) None) work.old work.new) }
-    ensures said { IfOk result
-        (IsSaid (state_plan (state_of settings.now types.now work.old) None) false work.new
-        (ask_of ask)) }
-    ensures needed { IfOk result (AreNeededFor
-        (state_plan (state_of settings.now types.now work.old) None) true
-        work.old work.new (ask_of ask)) }
-    ensures reached { IfOk result (λ s. IsPlainAsk types.now (ask_of ask) → IsPlainTable types.now
-        → AreReached (state_plan (state_of settings.now types.now work.old) None) true work.old work.new
-        (references s)) }
+    ensures answer { IfOk result (IsAnswerFor (state_of settings.now types.now work.old)
+        (state_of settings.now types.now work.new) (ask_of ask)) }
     ensures one_to_one { OnOk result (IsOneToOne work.new.names) }
     ensures err { OnErr result (work.new ≡ work.old) }
 {
-    let plan = Plan {
-        types,
-        contract: settings.contract,
-        titles: settings.untagged_enum_variant_titles,
-        inlines: settings.inline_subschemas,
-        path: stripped(settings.definitions_path),
-        root: None,
-    };
+    let plan = plan_for(settings, types, None);
     match answer(alloc, &plan, work, true, ask) {
         Ok(schema) => {
             work.keep();
@@ -92,26 +103,26 @@ pub(crate) fn answer_of(
     }
 }
 
-// The root document of row `n`; where it is refused, the work is as before.
-pub(crate) fn root_document<T: Transform>(
+// The root document of row `n`, through the transforms. On an error the work is as before.
+pub(crate) fn root_document<O: Transform>(
     alloc: Global,
-    settings: &DocumentSettings<'_>,
-    transforms: &mut T,
+    settings: &mut SchemaSettings<O>,
     types: &Types,
     work: &mut Work,
     n: TypeNo,
 ) -> Result<Schema, GenerateError>
     requires checked { IsChecked types.now }
     requires known { n < length types.now }
-    requires between { work.old ≡ work_of (state_of settings.now types.now work.old) }
-    ensures root { IfOk result (IsThrough T.makes transforms.old transforms.new
-        (IsRootMade (state_of settings.now types.now work.old) n work.new)) }
-    ensures refused { IfErr result
-        (IsRefusedThrough T.makes transforms.old transforms.new
-        (state_of settings.now types.now work.old) n) }
+    requires between { work.old ≡ work_of (state_of settings.old types.now work.old) }
+    ensures root { IfOk result (IsThrough (ApplyInOrder O.makes) settings.old.transforms
+        settings.new.transforms (IsRootMade (state_of settings.old types.now work.old) n work.new)) }
+    ensures refused { IfErr result (IsRefusedThrough (ApplyInOrder O.makes) settings.old.transforms
+        settings.new.transforms (state_of settings.old types.now work.old) n) }
+    ensures rest { settings.new
+        ≡ record settings.old { transforms = settings.new.transforms } }
     ensures err { OnErr result (work.new ≡ work.old) }
 {
-    match whole_document(alloc, settings, transforms, types, work, n) {
+    match whole_document(alloc, settings, types, work, n) {
         Ok(document) => {
             if work.meets_root() {
                 work.forget();
@@ -128,34 +139,34 @@ pub(crate) fn root_document<T: Transform>(
 }
 
 // The root document of row `n`, through the transforms.
-fn whole_document<T: Transform>(
+fn whole_document<O: Transform>(
     alloc: Global,
-    settings: &DocumentSettings<'_>,
-    transforms: &mut T,
+    settings: &mut SchemaSettings<O>,
     types: &Types,
     work: &mut Work,
     n: TypeNo,
 ) -> Result<Schema, GenerateError>
     requires checked { IsChecked types.now }
     requires known { n < length types.now }
-    requires between { work.old ≡ work_of (state_of settings.now types.now work.old) }
-    ensures root { IfOk result (IsThrough T.makes transforms.old transforms.new
-        (IsRootOf (state_of settings.now types.now work.old) n work.new)) }
+    requires between { work.old ≡ work_of (state_of settings.old types.now work.old) }
+    ensures root { IfOk result (IsThrough (ApplyInOrder O.makes) settings.old.transforms
+        settings.new.transforms (IsRootOf (state_of settings.old types.now work.old) n work.new)) }
     ensures once { OnOk result (HasKeysOnce work.new.definitions) }
-    ensures refused { IfErr result
-        (IsRefusedThrough T.makes transforms.old transforms.new
-        (state_of settings.now types.now work.old) n) }
+    ensures refused { IfErr result (IsRefusedThrough (ApplyInOrder O.makes) settings.old.transforms
+        settings.new.transforms (state_of settings.old types.now work.old) n) }
+    ensures rest { settings.new
+        ≡ record settings.old { transforms = settings.new.transforms } }
     ensures undone { undone work.new ≡ undone work.old }
 {
     let mut document = untransformed_document(alloc, settings, types, work, n)?;
-    transforms.transform(alloc, &mut document)?;
+    settings.transforms.transform(alloc, &mut document)?;
     Ok(document)
 }
 
 // The root document of row `n` before transforms, with a copy of the definitions.
-fn untransformed_document(
+fn untransformed_document<O>(
     alloc: Global,
-    settings: &DocumentSettings<'_>,
+    settings: &SchemaSettings<O>,
     types: &Types,
     work: &mut Work,
     n: TypeNo,
@@ -172,15 +183,15 @@ fn untransformed_document(
 {
     let own = titled_document(alloc, settings, types, work, n)?;
     let definitions = work.copy_definitions()?;
-    let path = stripped(settings.definitions_path);
+    let path = stripped(settings.definitions_path.as_str());
     let document = place(alloc, path, own, definitions)?;
     Ok(document)
 }
 
 // The root document of row `n` before transforms, with the definitions themselves.
-pub(crate) fn last_document(
+pub(crate) fn last_document<O>(
     alloc: Global,
-    settings: &DocumentSettings<'_>,
+    settings: &SchemaSettings<O>,
     types: &Types,
     work: Work,
     n: TypeNo,
@@ -199,15 +210,15 @@ pub(crate) fn last_document(
     let own = titled_document(alloc, settings, types, &mut work, n)?;
     work.keep();
     let definitions = work.take_definitions(alloc);
-    let path = stripped(settings.definitions_path);
+    let path = stripped(settings.definitions_path.as_str());
     let document = place(alloc, path, own, definitions)?;
     Ok(document)
 }
 
 // The document of row `n` as a root document, without the definitions.
-fn titled_document(
+fn titled_document<O>(
     alloc: Global,
-    settings: &DocumentSettings<'_>,
+    settings: &SchemaSettings<O>,
     types: &Types,
     work: &mut Work,
     n: TypeNo,
@@ -220,40 +231,33 @@ fn titled_document(
     ensures titled { IfOk result (IsTitledRoot
         (state_of settings.now types.now work.old) work.old n work.new) }
 {
-    let plan = Plan {
-        types,
-        contract: settings.contract,
-        titles: settings.untagged_enum_variant_titles,
-        inlines: settings.inline_subschemas,
-        path: stripped(settings.definitions_path),
-        root: Some(n),
-    };
+    let plan = plan_for(settings, types, Some(n));
     let mut schema = own_document(alloc, &plan, work, false, n)?;
     make_root(
         alloc,
         &mut schema,
         types.name(n).unwrap_or(""),
-        settings.meta_schema,
+        meta_schema(settings),
     )?;
     Ok(schema)
 }
 
 // The root document of an example before transforms, with these definitions.
-pub(crate) fn sample_document(
+pub(crate) fn sample_document<O>(
     alloc: Global,
-    settings: &DocumentSettings<'_>,
+    settings: &SchemaSettings<O>,
     sample: &Sample,
     definitions: Map<String, Value>,
 ) -> Result<Schema, GenerateError>
     ensures root { IfOk result
-        (IsSampleRoot (document_settings_of settings.now) (members_view definitions.entries)
+        (IsSampleRoot (settings_of settings.now) (members_view definitions.entries)
         (example_of sample.now)) }
     ensures refused { IfErr result
-        (IsSampleRefused (document_settings_of settings.now) (members_view definitions.entries)
+        (IsSampleRefused (settings_of settings.now) (members_view definitions.entries)
         (example_of sample.now)) }
 {
-    let own = schemars_sample::root_document(alloc, sample, settings.meta_schema)?;
-    let path = stripped(settings.definitions_path);
+    let own = schemars_sample::root_document(alloc, sample, meta_schema(settings))?;
+    let path = stripped(settings.definitions_path.as_str());
     let document = place(alloc, path, own, definitions)?;
     Ok(document)
 }

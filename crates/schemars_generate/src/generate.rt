@@ -1,48 +1,42 @@
 //! From a table of types to documents.
 ghost use Rattle.std.specs.Prelude.{[], ◌≡◌, ◌<◌, ◌≤◌, ◌⊎◌, ◌↔◌, true, false, length};
-ghost use Rattle.std.specs.Prelude.{Err, IsOk, IsTrue, IfOk, IfErr, OnOk, OnErr, codes};
+ghost use Rattle.std.specs.Prelude.{Err, IsOk, IsTrue, IfOk, IfErr, OnOk, OnErr};
+ghost use Rattle.std.specs.Borrow.{sem};
 ghost use Rattle.serde_json.specs.Data.{no_members};
 ghost use Rattle.serde_json.specs.View.{members_view};
-ghost use Rattle.serde_json.specs.Written.{has_float};
-ghost use Rattle.schemars_schema.specs.Acceptance.{draft07, draft2019_09};
-ghost use Rattle.schemars_schema.specs.References.{references};
 ghost use Rattle.schemars_types.specs.Extends.{begins_with};
 ghost use Rattle.schemars_types.specs.Faults.{IsAccepted, IsChecked};
-ghost use Rattle.schemars_headline.specs.Headline.{RootHeadline, RootWideHeadline};
-ghost use Rattle.schemars_headline.specs.Headline.{SubschemaHeadline};
-ghost use Rattle.schemars_headline.specs.Headline.{IsDraftPath, IsInlined};
-ghost use Rattle.schemars_headline.specs.Calls.{IsPartOf, IsReferenceOf, Adds, IsNeeded};
-ghost use Rattle.schemars_headline.specs.State.{path_of, settings2020_12, HasOwnDefinitions};
-ghost use Rattle.schemars_headline.specs.State.{ReferencesNameKeys};
+ghost use Rattle.schemars_headline.specs.Drafts.{Draft, dialect_of};
+ghost use Rattle.schemars_headline.specs.Headline.{RootHeadline};
+ghost use Rattle.schemars_headline.specs.State.{settings2020_12, work_of, HasOwnDefinitions};
+ghost use Rattle.schemars_build.specs.Missing.{row_asked};
 ghost use Rattle.schemars_build.specs.Naming.{IsOneToOne};
-ghost use Rattle.schemars_documents.specs.PlainTable.{IsPlainTable, HasPlainNotes};
-ghost use Rattle.schemars_headline.specs.Dialects.{RootHeadlineUnder, RootWideHeadlineUnder};
-ghost use Rattle.schemars_headline.specs.Taken.{TakenHeadline, HasSameKeys};
-ghost use Rattle.schemars_generate.specs.Refusals.{HasFault};
-ghost use Rattle.schemars_generate.specs.Through.{IsThrough, AreThrough, AreTurnedDown};
-ghost use Rattle.schemars_generate.specs.Through.{IsRootRefused};
-ghost use Rattle.schemars_generate.specs.Through.{IsUntransformed, IsUntransformedCall, IsRefused};
+ghost use Rattle.schemars_documents.specs.View.{ask_of};
 ghost use Rattle.schemars_transform.specs.Member.{some_own};
-ghost use Rattle.schemars_transform.specs.BuiltIn.{IsMadeBy, each_made_by};
-ghost use Rattle.std.specs.Borrow.{sem};
-ghost use Rattle.schemars_generate.specs.Lends.{LendsDefinitions};
-ghost use Rattle.schemars_generate.specs.Settings.{settings_of, state, ApplyInOrder};
-ghost use Rattle.schemars_generate.specs.Settings.{AreSettingsCopied};
-ghost use Rattle.schemars_generate.specs.Settings.{transforms07, transforms2019_09};
-ghost use Rattle.schemars_generate.specs.Settings.{transforms_openapi3};
+ghost use Rattle.schemars_generate.specs.Answers.{IsAnswerFor, IsSubschemaFor};
+ghost use Rattle.schemars_generate.specs.Answers.{KeepsDefinitions};
+ghost use Rattle.schemars_generate.specs.Generator.{fresh, state, state_of, transforms_of};
+ghost use Rattle.schemars_generate.specs.Lends.{LendsDefinitions, LendsTransforms};
+ghost use Rattle.schemars_generate.specs.Refusals.{IsTableRefusal};
+ghost use Rattle.schemars_generate.specs.Settings.{AreSettingsCopied, transforms_for};
+ghost use Rattle.schemars_generate.specs.Through.{IsTransformed, IsRootRefusal};
+ghost use Rattle.schemars_generate.specs.Through.{AreTransformed, IsTakeRefusal, AreGone};
+ghost use Rattle.schemars_generate.specs.Through.{IsUntransformed, IsUntransformedCall};
 
-use crate::contents::Contents;
-use crate::error::GenerateError;
+use crate::document::{answer_of, last_document, root_document, row_asked};
+pub use crate::error::GenerateError;
 pub use crate::settings::SchemaSettings;
+use schemars_build::work::Work;
+use schemars_documents::template::Ask;
 use schemars_schema::Schema;
 pub use schemars_transform::GenTransform;
 use schemars_transform::NoTransform;
 pub use schemars_types::Contract;
 use schemars_types::{TypeNo, Types};
-use schemars_walk::Transform;
+use schemars_walk::{Transform, transform_members};
 use serde_json::{Map, Value};
 use std::alloc::Global;
-use std::mem;
+use std::marker::Model;
 
 /// Generates JSON Schema documents for the rows of a table of types.
 ///
@@ -62,7 +56,31 @@ use std::mem;
 #[derive(Drop)]
 pub struct SchemaGenerator<O = NoTransform> {
     pub(crate) settings: SchemaSettings<O>,
-    pub(crate) contents: Contents,
+    types: Types,
+    pub(crate) work: Work,
+}
+
+impl<O> Model for SchemaGenerator<O> {
+    ghost use Rattle.std.specs.Prelude.{◌≡◌};
+    ghost use Rattle.std.specs.Coded.{codes};
+    ghost use Rattle.schemars_schema.specs.DataCode.{data_code, members_code};
+    ghost use Rattle.schemars_types.specs.Faults.{IsAccepted, IsChecked};
+    ghost use Rattle.schemars_build.specs.Naming.{IsOneToOne};
+    ghost use Rattle.schemars_generate.specs.Generator.{Generator, held_work};
+
+    ghost Value = { Generator O };
+
+    ghost coded = { Prim.hlevel (codes, data_code, members_code) };
+
+    ghost view = { λ g. record {
+      settings = g.settings;
+      rows = g.types;
+      names = g.work.names;
+      definitions = g.work.definitions;
+    } };
+
+    ghost invariant = { λ g. IsAccepted g.types × IsChecked g.types × IsOneToOne g.work.names
+        × (g.work ≡ held_work g.work.names g.work.definitions) };
 }
 
 impl SchemaGenerator {
@@ -74,7 +92,8 @@ impl SchemaGenerator {
           names = [];
           definitions = no_members;
         } }
-        ensures transforms { result.settings.transforms.items ≡ [] }
+        ensures transforms { transforms_of result ≡ [] }
+        ensures own { HasOwnDefinitions (state result) }
     {
         SchemaGenerator::new(alloc, SchemaSettings::default(alloc))
     }
@@ -83,21 +102,20 @@ impl SchemaGenerator {
 impl<O> SchemaGenerator<O> {
     /// Returns a generator with an empty table.
     pub fn new(alloc: Global, settings: SchemaSettings<O>) -> SchemaGenerator<O>
-        ensures settings { result.settings ≡ settings }
-        ensures contents { result.contents
-            ≡ record { rows = []; names = []; definitions = no_members } }
+        ensures made { result ≡ fresh settings [] }
+        ensures own { HasOwnDefinitions (state result) }
     {
         SchemaGenerator {
             settings,
-            contents: Contents::new(alloc),
+            types: Types::new(alloc),
+            work: Work::new(alloc),
         }
     }
 
     /// Returns a generator with an empty table, as `new` does.
     pub fn from(alloc: Global, settings: SchemaSettings<O>) -> SchemaGenerator<O>
-        ensures settings { result.settings ≡ settings }
-        ensures contents { result.contents
-            ≡ record { rows = []; names = []; definitions = no_members } }
+        ensures made { result ≡ fresh settings [] }
+        ensures own { HasOwnDefinitions (state result) }
     {
         SchemaGenerator::new(alloc, settings)
     }
@@ -114,16 +132,20 @@ impl<O: Drop> SchemaGenerator<O> {
         settings: SchemaSettings<O>,
         types: Types,
     ) -> Result<SchemaGenerator<O>, GenerateError>
-        ensures settings { IfOk result (λ g. g.settings ≡ settings) }
-        ensures made { IfOk result (λ g. g.contents
-            ≡ record { rows = types; names = []; definitions = no_members }) }
+        ensures made { IfOk result (λ g. g ≡ fresh settings types) }
+        ensures own { IfOk result (λ g. HasOwnDefinitions (state g)) }
         ensures accepted { OnOk result (IsAccepted types) }
         ensures checked { OnOk result (IsChecked types) }
-        ensures refused { IfErr result (λ e. (e ≡ GenerateError.OutOfMemory) ⊎ HasFault types e) }
-        ensures only_memory { IsAccepted types → IfErr result (λ e. e ≡ GenerateError.OutOfMemory) }
+        ensures refused { IfErr result (IsTableRefusal types) }
     {
-        let contents = Contents::with_types(alloc, types)?;
-        Ok(SchemaGenerator { settings, contents })
+        types.check(alloc)?;
+        let mut work = Work::new(alloc);
+        work.extend(types.len())?;
+        Ok(SchemaGenerator {
+            settings,
+            types,
+            work,
+        })
     }
 
     /// Returns a copy of the generator, with its settings, table, names and definitions.
@@ -133,15 +155,20 @@ impl<O: Drop> SchemaGenerator<O> {
     /// `OwnTransform` if and only if the settings have a user-defined transform; `OutOfMemory`.
     pub fn try_clone(&self, alloc: Global) -> Result<SchemaGenerator<O>, GenerateError>
         ensures copied { IfOk result (λ g. AreSettingsCopied self.now.settings g.settings) }
-        ensures same { IfOk result (λ g. g.contents ≡ self.now.contents) }
+        ensures same { IfOk result (λ g. g ≡ record self.now { settings = g.settings }) }
         ensures own { (result ≡ Err GenerateError.OwnTransform)
-            ↔ IsTrue (some_own self.now.settings.transforms.items) }
+            ↔ IsTrue (some_own (transforms_of self.now)) }
         ensures refused { IfErr result (λ e. (e ≡ GenerateError.OutOfMemory)
             ⊎ (e ≡ GenerateError.OwnTransform)) }
     {
         let settings = self.settings.try_clone(alloc)?;
-        let contents = self.contents.try_clone()?;
-        Ok(SchemaGenerator { settings, contents })
+        let types = self.types.clone()?;
+        let work = self.work.clone()?;
+        Ok(SchemaGenerator {
+            settings,
+            types,
+            work,
+        })
     }
 }
 
@@ -155,22 +182,22 @@ impl<O> SchemaGenerator<O> {
     /// `NotAnExtension` if the table does not begin with the rows of the present one, the errors of
     /// `Types::check`, and `OutOfMemory`.
     pub fn add_types(&mut self, alloc: Global, types: Types) -> Result<(), GenerateError>
-        ensures ok { OnOk result (state self.new ≡ record (state self.old) { rows = types }) }
-        ensures extends { OnOk result (begins_with types self.old.contents.rows ≡ true) }
-        ensures accepted { OnOk result (IsAccepted types) }
-        ensures own { HasOwnDefinitions (state self.old) → HasOwnDefinitions (state self.new) }
-        ensures keys { HasOwnDefinitions (state self.old) → IsPlainTable self.new.contents.rows
-            → ReferencesNameKeys (state self.new) }
-        ensures other { begins_with types self.old.contents.rows ≡ false
+        ensures ok { OnOk result ((self.new ≡ record self.old { rows = types })
+            × (begins_with types self.old.rows ≡ true) × IsAccepted types) }
+        ensures keeps { KeepsDefinitions (state self.old) (state self.new) }
+        ensures other { begins_with types self.old.rows ≡ false
             → result ≡ Err GenerateError.NotAnExtension }
-        ensures refused { begins_with types self.old.contents.rows ≡ true
-            → IfErr result (λ e. (e ≡ GenerateError.OutOfMemory) ⊎ HasFault types e) }
-        ensures only_memory { begins_with types self.old.contents.rows ≡ true → IsAccepted types
-            → IfErr result (λ e. e ≡ GenerateError.OutOfMemory) }
-        ensures settings { self.new.settings ≡ self.old.settings }
+        ensures refused { begins_with types self.old.rows ≡ true
+            → IfErr result (IsTableRefusal types) }
         ensures err { OnErr result (self.new ≡ self.old) }
     {
-        self.contents.add_types(alloc, types)
+        if !types.begins_with(&self.types) {
+            return Err(GenerateError::NotAnExtension);
+        }
+        types.check(alloc)?;
+        self.work.extend(types.len())?;
+        self.types = types;
+        Ok(())
     }
 
     /// Returns the settings.
@@ -182,50 +209,43 @@ impl<O> SchemaGenerator<O> {
 
     /// Returns the contract: whether documents describe the values that are read or written.
     pub fn contract(&self) -> Contract
-        ensures { result ≡ (state self.now).settings.contract }
+        ensures { result ≡ self.now.settings.contract }
     {
         self.settings.contract
     }
 
-    /// Returns the table.
+    /// Returns the table, which `Types::check` accepts.
     pub fn types(&self) -> &Types
-        ensures { result.now ≡ (state self.now).rows }
+        ensures table { result.now ≡ self.now.rows }
+        ensures accepted { IsAccepted self.now.rows × IsChecked self.now.rows }
     {
-        self.contents.types()
+        &self.types
     }
 
-    /// Borrows the transforms that are applied to finished documents.
+    /// Borrows the transforms that are applied to finished documents. Everything else stays as it
+    /// is.
     pub fn transforms_mut(&mut self) -> &mut [GenTransform<O>]
-        ensures { result.now ≡ self.old.settings.transforms.items }
+        ensures* writes_back { sem 𝓛 (LendsTransforms O.row self.entry result) }
+        ensures value { result.now ≡ transforms_of self.old }
     {
         self.settings.transforms.as_mut_slice()
     }
 
-    /// Replaces the transforms, and returns the previous ones. Everything else is unchanged.
-    pub fn replace_transforms(&mut self, transforms: Vec<GenTransform<O>>) -> Vec<GenTransform<O>>
-        ensures replaced { result ≡ self.old.settings.transforms }
-        ensures rest { self.new ≡ record self.old {
-          settings = record self.old.settings { transforms = transforms };
-        } }
-    {
-        mem::replace(&mut self.settings.transforms, transforms)
-    }
-
     /// Returns the definitions to which subschemas refer, by name.
     pub fn definitions(&self) -> &Map<String, Value>
-        ensures definitions { members_view result.now.entries ≡ (state self.now).definitions }
-        ensures one_to_one { IsOneToOne (state self.now).names }
+        ensures definitions { members_view result.now.entries ≡ self.now.definitions }
+        ensures one_to_one { IsOneToOne self.now.names }
     {
-        self.contents.definitions()
+        self.work.definitions()
     }
 
     /// Borrows the definitions mutably. Documents are promised to mean their types only as long as
     /// the caller leaves the definitions as they were generated.
     pub fn definitions_mut(&mut self) -> &mut Map<String, Value>
         ensures* writes_back { sem 𝓛 (LendsDefinitions O.row self.entry result) }
-        ensures value { members_view result.now.entries ≡ (state self.old).definitions }
+        ensures value { members_view result.now.entries ≡ self.old.definitions }
     {
-        self.contents.definitions_mut()
+        self.work.definitions_mut()
     }
 
     /// Generates the schema of row `n` for use inside a document that holds the definitions: the
@@ -239,30 +259,40 @@ impl<O> SchemaGenerator<O> {
     ///
     /// `UnknownType(n)` if the table has no row `n`; `OutOfMemory`.
     pub fn subschema_for_type(&mut self, alloc: Global, n: TypeNo) -> Result<Schema, GenerateError>
-        ensures means { IfOk result (λ s. HasOwnDefinitions (state self.old)
-            → SubschemaHeadline (state self.new) n s) }
-        ensures part { IfOk result (IsPartOf (state self.new) n) }
-        ensures reference { IfOk result (IsReferenceOf (state self.old) (state self.new) n) }
-        ensures inlined { IfOk result (IsInlined (state self.old)) }
-        ensures step { OnOk result (Adds (state self.old) (state self.new)) }
-        ensures reached { IfOk result (λ s. IsNeeded (state self.old) (state self.new)
-            (references s)) }
-        ensures own { HasOwnDefinitions (state self.old) → HasOwnDefinitions (state self.new) }
-        ensures keys { HasOwnDefinitions (state self.old) → IsPlainTable self.new.contents.rows
-            → ReferencesNameKeys (state self.new) }
-        ensures rest { self.new.contents ≡ record self.old.contents {
-          names = self.new.contents.names;
-          definitions = self.new.contents.definitions;
+        ensures subschema { IfOk result (IsSubschemaFor (state self.old) (state self.new) n) }
+        ensures keeps { KeepsDefinitions (state self.old) (state self.new) }
+        ensures rest { self.new ≡ record self.old {
+          names = self.new.names;
+          definitions = self.new.definitions;
         } }
-        ensures settings { self.new.settings ≡ self.old.settings }
         ensures unknown { (result ≡ Err (GenerateError.UnknownType n))
-            ↔ (length self.old.contents.rows ≤ n) }
+            ↔ (length self.old.rows ≤ n) }
         ensures refused { IfErr result (λ e. (e ≡ GenerateError.OutOfMemory)
             ⊎ (e ≡ GenerateError.UnknownType n)) }
         ensures err { OnErr result (self.new ≡ self.old) }
     {
-        let settings = self.settings.document();
-        self.contents.subschema(alloc, &settings, n)
+        self.answer(alloc, Ask::Part(n))
+    }
+
+    // The answer to this ask, with the definitions that it needs.
+    pub(crate) fn answer(&mut self, alloc: Global, ask: Ask) -> Result<Schema, GenerateError>
+        ensures answer { IfOk result
+            (IsAnswerFor (state self.old) (state self.new) (ask_of ask)) }
+        ensures keeps { KeepsDefinitions (state self.old) (state self.new) }
+        ensures facts { IsChecked self.new.rows × IsOneToOne self.new.names }
+        ensures rest { self.new ≡ record self.old {
+          names = self.new.names;
+          definitions = self.new.definitions;
+        } }
+        ensures unknown { (result ≡ Err (GenerateError.UnknownType (row_asked (ask_of ask))))
+            ↔ (length self.old.rows ≤ row_asked (ask_of ask)) }
+        ensures refused { IfErr result (λ e. (e ≡ GenerateError.OutOfMemory)
+            ⊎ (e ≡ GenerateError.UnknownType (row_asked (ask_of ask)))) }
+        ensures err { OnErr result (self.new ≡ self.old) }
+    {
+        has_row(&self.types, row_asked(ask))?;
+        let schema = answer_of(alloc, &self.settings, &self.types, &mut self.work, ask)?;
+        Ok(schema)
     }
 }
 
@@ -283,40 +313,24 @@ impl<O: Transform + Drop> SchemaGenerator<O> {
         alloc: Global,
         apply_transforms: bool,
     ) -> Result<Map<String, Value>, GenerateError>
-        ensures taken { apply_transforms ≡ false
-            → IfOk result (λ m. members_view m.entries ≡ (state self.old).definitions) }
-        ensures through { apply_transforms ≡ true
-            → IfOk result (λ m. AreThrough (ApplyInOrder O.makes)
-            self.old.settings.transforms self.new.settings.transforms (state self.old).definitions
+        ensures taken { apply_transforms ≡ false → IsOk result
+            × (self.new.settings ≡ self.old.settings)
+            × IfOk result (λ m. members_view m.entries ≡ self.old.definitions) }
+        ensures transformed { apply_transforms ≡ true → IfOk result (λ m. AreTransformed O.makes
+            self.old.settings.transforms self.new.settings.transforms (state self.old)
             (members_view m.entries)) }
-        ensures built_in { apply_transforms ≡ true
-            → some_own self.old.settings.transforms.items ≡ false
-            → IfOk result (λ m. members_view m.entries
-            ≡ each_made_by self.old.settings.transforms.items (state self.old).definitions) }
-        ensures openapi3 { apply_transforms ≡ true
-            → self.old.settings.transforms.items ≡ transforms_openapi3
-            → IfOk result (λ m. HasSameKeys (members_view m.entries) (state self.old).definitions
-            × TakenHeadline (state self.old) (members_view m.entries)) }
-        ensures rest { OnOk result (state self.new
-            ≡ record (state self.old) { definitions = no_members }) }
-        ensures own { OnOk result (HasOwnDefinitions (state self.new)) }
-        ensures keys { OnOk result (ReferencesNameKeys (state self.new)) }
-        ensures succeeds { apply_transforms ≡ false
-            → IsOk result × (self.new.settings ≡ self.old.settings) }
-        ensures refused { IfErr result (λ e.
-            ((e ≡ GenerateError.OutOfMemory)
-            × (self.new.settings.transforms ≡ self.old.settings.transforms))
-            ⊎ AreTurnedDown (ApplyInOrder O.makes) self.old.settings.transforms self.new.settings.transforms
-            (state self.old).definitions e) }
-        ensures only_memory { some_own self.old.settings.transforms.items ≡ false
-            → IfErr result (λ e. e ≡ GenerateError.OutOfMemory) }
+        ensures gone { OnOk result (AreGone (state self.old) (state self.new)) }
+        ensures refused { IfErr result (IsTakeRefusal O.makes self.old.settings.transforms
+            self.new.settings.transforms (state self.old)) }
         ensures err { OnErr result (state self.new ≡ state self.old) }
     {
         if !apply_transforms {
-            return Ok(self.contents.take_definitions(alloc));
+            return Ok(self.work.take_definitions(alloc));
         }
-        self.contents
-            .take_transformed(alloc, &mut self.settings.transforms)
+        let mut definitions = self.work.copy_definitions()?;
+        transform_members(alloc, &mut self.settings.transforms, &mut definitions)?;
+        let _ = self.work.take_definitions(alloc);
+        Ok(definitions)
     }
 
     /// Generates the root document of row `n`, with `$schema`, a title and the definitions, and
@@ -337,46 +351,21 @@ impl<O: Transform + Drop> SchemaGenerator<O> {
         alloc: Global,
         n: TypeNo,
     ) -> Result<Schema, GenerateError>
-        ensures headline { self.old.settings.transforms.items ≡ []
-            → IfOk result (RootHeadline (state self.old) n) }
-        ensures wide { self.old.settings.transforms.items ≡ []
-            → IfOk result (RootWideHeadline (state self.old) n) }
-        ensures draft07 { self.old.settings.transforms.items ≡ transforms07
-            → IfOk result (RootHeadlineUnder draft07 (state self.old) n) }
-        ensures draft2019_09 { self.old.settings.transforms.items ≡ transforms2019_09
-            → IfOk result (RootHeadlineUnder draft2019_09 (state self.old) n) }
-        ensures draft2019_09_wide { self.old.settings.transforms.items ≡ transforms2019_09
-            → IfOk result (RootWideHeadlineUnder draft2019_09 (state self.old) n) }
-        ensures built_in { some_own self.old.settings.transforms.items ≡ false
-            → IfOk result (IsMadeBy self.old.settings.transforms.items
+        ensures headline { (draft : Draft) → transforms_of self.old ≡ transforms_for draft
+            → IfOk result (RootHeadline (dialect_of draft) (state self.old) n) }
+        ensures made { IfOk result (IsTransformed O.makes self.old.settings.transforms
+            self.new.settings.transforms
             (IsUntransformedCall (state self.old) n (state self.new))) }
-        ensures root { IfOk result (IsThrough (ApplyInOrder O.makes) self.old.settings.transforms
-            self.new.settings.transforms (IsUntransformedCall (state self.old) n
-            (state self.new))) }
-        ensures own { HasOwnDefinitions (state self.old) → HasOwnDefinitions (state self.new) }
-        ensures keys { HasOwnDefinitions (state self.old) → IsPlainTable self.new.contents.rows
-            → ReferencesNameKeys (state self.new) }
+        ensures keeps { KeepsDefinitions (state self.old) (state self.new) }
         ensures unknown { (result ≡ Err (GenerateError.UnknownType n))
-            ↔ (length self.old.contents.rows ≤ n) }
-        ensures refused { IfErr result
-            (IsRootRefused (ApplyInOrder O.makes) self.old.settings.transforms
+            ↔ (length self.old.rows ≤ n) }
+        ensures refused { IfErr result (IsRootRefusal O.makes self.old.settings.transforms
             self.new.settings.transforms (state self.old) n) }
-        ensures refused_built_in { some_own self.old.settings.transforms.items ≡ false
-            → IfErr result (λ e. (e ≡ GenerateError.UnknownType n)
-            ⊎ IsRefused (state self.old) n e) }
-        ensures only_memory { some_own self.old.settings.transforms.items ≡ false
-            → HasPlainNotes self.old.contents.rows
-            → IsDraftPath (path_of (state self.old)) → n < length self.old.contents.rows
-            → IfErr result (λ e. e ≡ GenerateError.OutOfMemory) }
         ensures err { OnErr result (state self.new ≡ state self.old) }
     {
-        let mut transforms = mem::replace(&mut self.settings.transforms, Vec::new(alloc));
-        let settings = self.settings.document();
-        let answer = self
-            .contents
-            .root_schema(alloc, &settings, &mut transforms, n);
-        self.settings.transforms = transforms;
-        answer
+        has_row(&self.types, n)?;
+        let document = root_document(alloc, &mut self.settings, &self.types, &mut self.work, n)?;
+        Ok(document)
     }
 
     /// Generates the root document of row `n` as `root_schema_for_type` does, and consumes the
@@ -386,40 +375,53 @@ impl<O: Transform + Drop> SchemaGenerator<O> {
         alloc: Global,
         n: TypeNo,
     ) -> Result<Schema, GenerateError>
-        ensures headline { self.settings.transforms.items ≡ []
-            → IfOk result (RootHeadline (state self) n) }
-        ensures wide { self.settings.transforms.items ≡ []
-            → IfOk result (RootWideHeadline (state self) n) }
-        ensures draft07 { self.settings.transforms.items ≡ transforms07
-            → IfOk result (RootHeadlineUnder draft07 (state self) n) }
-        ensures draft2019_09 { self.settings.transforms.items ≡ transforms2019_09
-            → IfOk result (RootHeadlineUnder draft2019_09 (state self) n) }
-        ensures draft2019_09_wide { self.settings.transforms.items ≡ transforms2019_09
-            → IfOk result (RootWideHeadlineUnder draft2019_09 (state self) n) }
-        ensures built_in { some_own self.settings.transforms.items ≡ false
-            → IfOk result (IsMadeBy self.settings.transforms.items
-            (IsUntransformed (state self) n)) }
-        ensures root { IfOk result (λ d. (after : _)
-            × IsThrough (ApplyInOrder O.makes) self.settings.transforms after
-            (IsUntransformed (state self) n) d) }
-        ensures unknown { (result ≡ Err (GenerateError.UnknownType n))
-            ↔ (length self.contents.rows ≤ n) }
-        ensures refused { IfErr result (λ e. (after : _)
-            × IsRootRefused (ApplyInOrder O.makes) self.settings.transforms after
-            (state self) n e) }
-        ensures refused_built_in { some_own self.settings.transforms.items ≡ false
-            → IfErr result (λ e. (e ≡ GenerateError.UnknownType n) ⊎ IsRefused (state self) n e) }
-        ensures only_memory { some_own self.settings.transforms.items ≡ false
-            → HasPlainNotes self.contents.rows
-            → IsDraftPath (path_of (state self)) → n < length self.contents.rows
-            → IfErr result (λ e. e ≡ GenerateError.OutOfMemory) }
+        ensures headline { (draft : Draft) → transforms_of self ≡ transforms_for draft
+            → IfOk result (RootHeadline (dialect_of draft) (state self) n) }
+        ensures made { IfOk result (λ d. (after : _) × IsTransformed O.makes
+            self.settings.transforms after (IsUntransformed (state self) n) d) }
+        ensures unknown { (result ≡ Err (GenerateError.UnknownType n)) ↔ (length self.rows ≤ n) }
+        ensures refused { IfErr result (λ e. (after : _) × IsRootRefusal O.makes
+            self.settings.transforms after (state self) n e) }
     {
         let SchemaGenerator {
             mut settings,
-            contents,
+            types,
+            work,
         } = self;
-        let mut transforms = mem::replace(&mut settings.transforms, Vec::new(alloc));
-        let document = settings.document();
-        contents.into_root_schema(alloc, &document, &mut transforms, n)
+        last_root(alloc, &mut settings, &types, work, n)
     }
+}
+
+// The root document of row `n`, through the transforms.
+fn last_root<O: Transform>(
+    alloc: Global,
+    settings: &mut SchemaSettings<O>,
+    types: &Types,
+    work: Work,
+    n: TypeNo,
+) -> Result<Schema, GenerateError>
+    requires checked { IsChecked types.now }
+    requires between { work ≡ work_of (state_of settings.old types.now work) }
+    ensures root { IfOk result (IsTransformed O.makes settings.old.transforms
+        settings.new.transforms (IsUntransformed (state_of settings.old types.now work) n)) }
+    ensures unknown { (result ≡ Err (GenerateError.UnknownType n)) ↔ (length types.now ≤ n) }
+    ensures refused { IfErr result (IsRootRefusal O.makes settings.old.transforms
+        settings.new.transforms (state_of settings.old types.now work) n) }
+{
+    has_row(types, n)?;
+    let mut document = last_document(alloc, settings, types, work, n)?;
+    settings.transforms.transform(alloc, &mut document)?;
+    Ok(document)
+}
+
+// Refuses a row that the table does not have.
+fn has_row(types: &Types, n: TypeNo) -> Result<(), GenerateError>
+    ensures known { OnOk result (n < length types.now) }
+    ensures unknown { IfErr result (λ e. (e ≡ GenerateError.UnknownType n)
+        × (length types.now ≤ n)) }
+{
+    if n >= types.len() {
+        return Err(GenerateError::UnknownType(n));
+    }
+    Ok(())
 }

@@ -2,9 +2,7 @@
 #![tactic(auto)]
 
 pub mod builders;
-mod contents;
 mod document;
-mod document_settings;
 mod error;
 pub mod generate;
 mod path;

@@ -1,18 +1,16 @@
 //! How documents are made, and the settings of the drafts.
 ghost use Rattle.std.specs.Prelude.{◌≡◌, ◌∷◌, ◌++◌, ◌↔◌, ◌⊎◌, [], true, false, Some, Err};
 ghost use Rattle.std.specs.Prelude.{IfOk, IfErr, IsTrue};
-ghost use Rattle.serde_json.specs.Data.{no_members};
 ghost use Rattle.schemars_types.specs.declared.contract.Contract.TheVariants as contracts;
-ghost use Rattle.schemars_headline.specs.State.{settings2020_12};
-ghost use Rattle.schemars_generate.specs.DocumentSettings as roots;
+ghost use Rattle.schemars_headline.specs.State.{settings2020_12, HasOwnDefinitions};
 ghost use Rattle.schemars_transform.specs.Member.{some_own};
-ghost use Rattle.schemars_generate.specs.Settings.{settings_of, AreSettingsCopied, settings07};
+ghost use Rattle.schemars_generate.specs.Generator.{fresh, settings_of, state};
+ghost use Rattle.schemars_generate.specs.Settings.{AreSettingsCopied, settings07};
 ghost use Rattle.schemars_generate.specs.Settings.{settings2019_09};
 ghost use Rattle.schemars_generate.specs.Settings.{settings_openapi3};
 ghost use Rattle.schemars_generate.specs.Settings.{transforms07, transforms2019_09};
 ghost use Rattle.schemars_generate.specs.Settings.{transforms_openapi3};
 
-use crate::document_settings::DocumentSettings;
 use crate::error::GenerateError;
 use crate::generate::SchemaGenerator;
 use schemars_schema::consts::meta_schemas;
@@ -166,22 +164,6 @@ impl<O> SchemaSettings<O> {
             untagged_enum_variant_titles: self.untagged_enum_variant_titles,
         })
     }
-
-    // What the documents of these settings rest on.
-    pub(crate) fn document(&self) -> DocumentSettings<'_>
-        ensures { roots.document_settings_of result ≡ settings_of self.now }
-    {
-        DocumentSettings {
-            definitions_path: self.definitions_path.as_str(),
-            meta_schema: match &self.meta_schema {
-                Some(uri) => Some(uri.as_str()),
-                None => None,
-            },
-            inline_subschemas: self.inline_subschemas,
-            contract: self.contract,
-            untagged_enum_variant_titles: self.untagged_enum_variant_titles,
-        }
-    }
 }
 
 impl<O: Drop> SchemaSettings<O> {
@@ -217,9 +199,8 @@ impl<O: Drop> SchemaSettings<O> {
 
     /// Returns a generator with these settings and an empty table.
     pub fn into_generator(self, alloc: Global) -> SchemaGenerator<O>
-        ensures settings { result.settings ≡ self }
-        ensures contents { result.contents
-            ≡ record { rows = []; names = []; definitions = no_members } }
+        ensures made { result ≡ fresh self [] }
+        ensures own { HasOwnDefinitions (state result) }
     {
         SchemaGenerator::new(alloc, self)
     }

@@ -16,7 +16,6 @@ use Rattle.schemars_laws.specs.Classes.{IsDraft07, HasPlainItems}
 use Rattle.schemars_laws.specs.Stages.{Stands, IsForOpenApi}
 use Rattle.schemars_laws.specs.Laws.{MovesAcceptance, for_draft07, for_draft2019_09}
 use Rattle.schemars_laws.proofs.Drafts.{draft07-law, draft2019_09-law}
-use Rattle.schemars_headline.specs.Dialects.{AcceptsItsValuesUnder}
 use Rattle.schemars_headline.proofs.Classes.{good-named, items-named}
 use Rattle.schemars_headline.proofs.RootClass.{IsReady, stands-place}
 use Rattle.schemars_headline.proofs.Definitions.{Stay, stay-same, Has, prefix-has, siblings-has, unevaluated-has, count-has}
@@ -38,7 +37,8 @@ accepts-moved : (T : Data → Data) (dialect : Dialect) (key : Text) (Q : Member
     → (document : Data) (ms : Members) → document ≡ object ms → IsMap (get_member key ms) → Everywhere (Named key Q) document
     → (rows : List Row) (contract : Contract) (path : Text) (n : ℕ)
     → count_of_definitions path (T document) ≡ count_of_definitions path document
-    → AcceptsItsValues rows contract path n document document → AcceptsItsValuesUnder dialect rows contract path n (T document)
+    → AcceptsItsValues draft2020_12 rows contract path n document document
+    → AcceptsItsValues dialect rows contract path n (T document) (T document)
 accepts-moved T dialect key Q law document ms is map all rows contract path n same accept patterns v json followed bounded =
     moved T dialect key Q law document ms is map all patterns followed v
     ∙ accept patterns v json followed (subst (λ c. (depth v + 1) * (c + 2) ≤ followed) same bounded)
@@ -66,9 +66,9 @@ draft07-has path key at definitions document has =
 
 -- a document that means its row, with its definitions at a draft's path
 module _ (rows : List Row) (contract : Contract) (path : Text) (n : ℕ) (key : Text) (at : StandsAt path key) (definitions : Members)
-    (document : Data) (means : MeansItsType rows contract path n document) where
+    (document : Data) (means : MeansItsType draft2020_12 rows contract path n document) where
   pub draft07_accepts : IsReady (Stands (IsName key) IsForOpenApi) key definitions document
-      → AcceptsItsValuesUnder draft07 rows contract path n (for_draft07 document)
+      → AcceptsItsValues draft07 rows contract path n (for_draft07 document) (for_draft07 document)
   draft07_accepts ready =
       let has = ready-has (Stands (IsName key) IsForOpenApi) key definitions document ready in
       accepts-moved for_draft07 draft07 key IsDraft07
@@ -79,7 +79,7 @@ module _ (rows : List Row) (contract : Contract) (path : Text) (n : ℕ) (key : 
       means.accepts_its_values
 
   pub draft2019_09_accepts : IsReady (Stands (IsName key) HasPlainItems) key definitions document
-      → AcceptsItsValuesUnder draft2019_09 rows contract path n (for_draft2019_09 document)
+      → AcceptsItsValues draft2019_09 rows contract path n (for_draft2019_09 document) (for_draft2019_09 document)
   draft2019_09_accepts ready =
       let has = ready-has (Stands (IsName key) HasPlainItems) key definitions document ready in
       accepts-moved for_draft2019_09 draft2019_09 key HasPlainItems

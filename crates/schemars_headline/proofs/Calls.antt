@@ -9,20 +9,23 @@ use Rattle.serde_json.specs.Find.{get_member}
 use Rattle.serde_json.specs.Written.{has_float}
 use Rattle.serde_json.specs.View.{members_view}
 use Rattle.serde_json.proofs.Views.{Entry as Entries}
+use Rattle.schemars_schema.specs.Acceptance.{Dialect, draft2020_12}
 use Rattle.schemars_schema.specs.Placing.{placed_at}
 use Rattle.schemars_schema.specs.Json.{Text}
-use Rattle.schemars_types.specs.Rows.{name_at}
-use Rattle.schemars_types.specs.Edges.{DirectEdge, height, rank}
-use Rattle.schemars_types.specs.Faults.{IsChecked}
+use Rattle.schemars_types.specs.Rows.{Row, name_at}
+use Rattle.schemars_types.specs.Edges.{DirectEdge, height, rank, SameValueEdge}
+use Rattle.schemars_types.specs.Walks as walks
+use Rattle.schemars_types.specs.Faults.{IsAccepted, IsChecked}
 use Rattle.schemars_documents.proofs.OpenStructs.{plain_under}
 use Rattle.schemars_build.specs.Naming.{name_of, IsOneToOne}
 use Rattle.schemars_documents.specs.Documents.{reference, root_document}
 use Rattle.schemars_documents.specs.Basis.{Basis}
 use Rattle.schemars_headline.specs.Keys.{HasKeysOnce}
-use Rattle.schemars_documents.specs.PlainTable.{HasPlainNotes, HasNoFloat}
+use Rattle.schemars_types.specs.declared.contract.Contract.{Contract}
+use Rattle.schemars_documents.specs.PlainTable.{IsPlainUnder, HasPlainNotes, HasNoFloat}
 use Rattle.schemars_build.specs.Work.{Plan, Work, IsKey, Refers, IsDefinition, Step, reference_to, basis_of_plan}
 use Rattle.schemars_headline.specs.State.{State, state_plan, work_of, after_root, HasOwnDefinitions}
-use Rattle.schemars_headline.specs.Headline.{Headline, WideHeadline, IsDraftPath, IsRootOf, IsTitledRoot, CannotPlace, with_definitions}
+use Rattle.schemars_headline.specs.Headline.{IsPlainFor, RootHeadline, IsDraftPath, IsRootOf, IsTitledRoot, CannotPlace, with_definitions}
 use Rattle.schemars_build.specs.Placed.{is_in_place, IsPlaced, IsDocument}
 use Rattle.schemars_build.specs.Parts.{IsSubschema, IsDocumentOf}
 use Rattle.schemars_build.proofs.Placing.{placed_map, document-wider, document_describes}
@@ -129,18 +132,17 @@ part_own s new same step own =
 
 -- ---- root documents
 
-pub root_means_wide : (s : State) (n : ℕ) (w : Work) (d : Data) → IsChecked s.rows → IsRootOf s n w d → HasKeysOnce w.definitions
-    → IsOneToOne w.names → HasOwnDefinitions s → IsDraftPath (state_plan s None).path
-    → WideHeadline s.rows s.settings.contract (state_plan s None).path n d
-root_means_wide s n w d checked root once one own path = root_call_means s n w d root checked one once
-    (definitions_in s (Some n) w root.step own) path
-
 -- a plain table is plain under each contract
+pub plain_for : (dialect : Dialect) (contract : Contract) (rows : List Row) → IsPlainFor dialect contract rows
+    → IsPlainUnder contract rows
+plain_for dialect contract rows (inl plain) = plain_under rows contract plain
+plain_for dialect contract rows (inr (reads, plain)) = plain
+
 pub root_means : (s : State) (n : ℕ) (w : Work) (d : Data) → IsChecked s.rows → IsRootOf s n w d → HasKeysOnce w.definitions
-    → IsOneToOne w.names → HasOwnDefinitions s → IsDraftPath (state_plan s None).path
-    → Headline s.rows s.settings.contract (state_plan s None).path n d
+    → IsOneToOne w.names → RootHeadline draft2020_12 s n d
 root_means s n w d checked root once one own path plain =
-    root_means_wide s n w d checked root once one own path (plain_under s.rows s.settings.contract plain)
+    root_call_means s n w d root checked one once (definitions_in s (Some n) w root.step own) path
+    (plain_for draft2020_12 s.settings.contract s.rows plain)
 
 pub root_is_whole : (s : State) (n : ℕ) (w : Work) (d : Data) → IsRootOf s n w d → HasKeysOnce w.definitions → HasNoFloat s.rows
     → HasOwnDefinitions s → has_float d ≡ false
@@ -257,6 +259,19 @@ checked_nothing = record {
   height_falls = λ n m edge. absurd (no_edge n m edge);
   rank_bound = λ n less. absurd (omega arith);
   rank_falls = λ n m edge. absurd (omega (arith, edge.1));
+}
+
+no_walk : (Edge : ℕ → ℕ → Type 0) → ((n m : ℕ) → Edge n m → ⊥) → (n m : ℕ) → walks.Walk Edge n m → ⊥
+no_walk Edge none n m (walks.one m' e) = none n m' e
+no_walk Edge none n m (walks.then k m' w e) = none k m' e
+
+pub accepted_nothing : IsAccepted []
+unfolding IsDistinct
+accepted_nothing = record {
+  defined = λ n is. omega (arith, is.0);
+  named = λ n has. has.1;
+  direct = λ n walk. no_walk (DirectEdge []) no_edge n n walk;
+  empty = λ n walk. no_walk (SameValueEdge []) (λ k m edge. omega (arith, edge.1)) n n walk;
 }
 
 pub one_to_one-none : IsOneToOne []

@@ -1,5 +1,6 @@
 -- Root documents mean their types in Draft 7 and 2019-09 too, after the transforms of these drafts.
 use Rattle.std.proofs.Common.{◌≡◌, ◌⊎◌, ℕ, inl, inr, [], Option, Some, None, true, codes, refl, sym, ap, ◌∙◌, subst}
+use Rattle.std.proofs.lemmas.Bool.{false≢true}
 use Rattle.std.specs.Prelude.{is_some, option_and_then}
 use Rattle.std.specs.Option.{option_map_or}
 use Rattle.serde_json.specs.Data.{Data, null, boolean, number, string, array, object, Members, no_members, put}
@@ -11,7 +12,7 @@ use Rattle.schemars_schema.specs.SchemaData.{IsSchema}
 use Rattle.schemars_schema.specs.Lookup.{schema_only, resolved}
 use Rattle.schemars_schema.specs.References.{resolves}
 use Rattle.schemars_schema.proofs.Placings.{schema_only-schema, resolved-whole}
-use Rattle.schemars_schema.specs.Acceptance.{draft07, draft2019_09}
+use Rattle.schemars_schema.specs.Acceptance.{draft2020_12, draft2019_09, draft07}
 use Rattle.schemars_types.specs.Effective.{flattened_in, shape_fields}
 use Rattle.schemars_types.specs.declared.contract.Contract.{Contract}
 use Rattle.schemars_types.specs.Faults.{IsChecked}
@@ -22,17 +23,17 @@ use Rattle.schemars_meaning.proofs.Schemas.{described}
 use Rattle.schemars_meaning.proofs.Referring.{plain_rows, under_rows}
 use Rattle.schemars_build.proofs.Settled.{fields_settled, enums_settled}
 use Rattle.schemars_headline.specs.State.{State, path_of, state_plan, HasOwnDefinitions}
-use Rattle.schemars_headline.specs.Headline.{MeansItsType, IsDraftPath, IsRootOf}
+use Rattle.schemars_headline.specs.Headline.{MeansItsType, IsPlainFor, RootHeadline, IsDraftPath, IsRootOf}
 use Rattle.schemars_headline.specs.Keys.{HasKeysOnce}
 use Rattle.schemars_headline.proofs.Standing.{MayRefer, AllStand}
 use Rattle.schemars_headline.proofs.Standing as standings
 use Rattle.schemars_headline.proofs.Placed.{StandsAt, holds_put}
-use Rattle.schemars_headline.proofs.Calls.{definitions_in, root_means, root_means_wide}
+use Rattle.schemars_headline.proofs.Calls.{definitions_in, root_means, plain_for}
 use Rattle.schemars_laws.specs.Names.{IsNameOf, IsName, IsMap}
 use Rattle.schemars_laws.specs.Laws.{for_draft07, for_draft2019_09}
 use Rattle.schemars_laws.specs.Classes.{HasPlainItems}
 use Rattle.schemars_laws.specs.Stages.{Stands, IsForOpenApi}
-use Rattle.schemars_headline.specs.Dialects.{MeansItsTypeUnder, Draft07Headline, Draft2019_09Headline, Draft2019_09WideHeadline}
+use Rattle.schemars_headline.specs.Drafts.{Draft2020_12, Draft2019_09, Draft07, DraftHeadlines}
 use Rattle.schemars_headline.proofs.Changes.{Class, without_rest, with_rest, for_openapi, for_items}
 use Rattle.schemars_headline.proofs.Classes.{described-good}
 use Rattle.schemars_headline.proofs.StructClass.{described-under}
@@ -129,8 +130,8 @@ module _ (s : State) (n : ℕ) (w : Work) (document : Data) (root : IsRootOf s n
   has Q ready = ready-has (Stands One Q) key w.definitions document (ready One (may_refer-one plan w key at standing))
 
   -- so it means its type after the transforms, where it did before
-  draft07_from : IsReadyAs IsForOpenApi → MeansItsType s.rows contract (path_of s) n document
-      → MeansItsTypeUnder draft07 s.rows contract (path_of s) n (for_draft07 document)
+  draft07_from : IsReadyAs IsForOpenApi → MeansItsType draft2020_12 s.rows contract (path_of s) n document
+      → MeansItsType draft07 s.rows contract (path_of s) n (for_draft07 document)
   draft07_from ready means = record {
     accepts_its_values = draft07_accepts s.rows contract (path_of s) n key at w.definitions document means
         (ready (IsName key) (may_refer-name plan w key at standing));
@@ -140,8 +141,8 @@ module _ (s : State) (n : ℕ) (w : Work) (document : Data) (root : IsRootOf s n
         (for_draft07 document) (draft07-refers One document (ready One (may_refer-one plan w key at standing)).everywhere);
   }
 
-  draft2019_09_from : IsReadyAs HasPlainItems → MeansItsType s.rows contract (path_of s) n document
-      → MeansItsTypeUnder draft2019_09 s.rows contract (path_of s) n (for_draft2019_09 document)
+  draft2019_09_from : IsReadyAs HasPlainItems → MeansItsType draft2020_12 s.rows contract (path_of s) n document
+      → MeansItsType draft2019_09 s.rows contract (path_of s) n (for_draft2019_09 document)
   draft2019_09_from ready means = record {
     accepts_its_values = draft2019_09_accepts s.rows contract (path_of s) n key at w.definitions document means
         (ready (IsName key) (may_refer-name plan w key at standing));
@@ -152,20 +153,11 @@ module _ (s : State) (n : ℕ) (w : Work) (document : Data) (root : IsRootOf s n
   }
 
   -- in a plain table
-  plain-ready : IsPlainTable s.rows → (N : Text → Type 0) → ((j : ℕ) (r : Text) → MayRefer plan w j r → N r)
-      → IsReady (Class (without_rest N)) key w.definitions document
-  plain-ready plain N refer =
-      root_call-ready s n w document key root (plain_rows s.rows plain) once standing at (without_rest N)
-      (described-good (without_rest N) (basis_of_plan plan) (MayRefer plan w) refer plain)
-
   draft07_ready : IsPlainTable s.rows → IsReadyAs IsForOpenApi
   draft07_ready plain N refer =
-      ready-as (Class (without_rest N)) (Stands N IsForOpenApi) (for_openapi N) key w.definitions document (plain-ready plain N refer)
-
-  draft2019_09_ready : IsPlainTable s.rows → IsReadyAs HasPlainItems
-  draft2019_09_ready plain N refer =
-      ready-as (Class (without_rest N)) (Stands N HasPlainItems) (for_items (without_rest N)) key w.definitions document
-      (plain-ready plain N refer)
+      ready-as (Class (without_rest N)) (Stands N IsForOpenApi) (for_openapi N) key w.definitions document
+      (root_call-ready s n w document key root (plain_rows s.rows plain) once standing at (without_rest N)
+      (described-good (without_rest N) (basis_of_plan plan) (MayRefer plan w) refer plain))
 
   -- and in one that is plain under the contract
   wide_ready : IsChecked s.rows → IsPlainUnder contract s.rows → IsReadyAs HasPlainItems
@@ -175,29 +167,27 @@ module _ (s : State) (n : ℕ) (w : Work) (document : Data) (root : IsRootOf s n
       (described-under N (basis_of_plan plan) (MayRefer plan w) refer plain (λ j e found. fields_settled s.rows checked j
       ∙ ap (λ o. option_map_or (λ e. shape_fields (flattened_in s.rows) e.shape) o []) found) (enums_settled s.rows checked)))
 
+  -- Draft 7 does not read `unevaluatedProperties`
+  plain_for_draft07 : IsPlainFor draft07 contract s.rows → IsPlainTable s.rows
+  plain_for_draft07 (inl plain) = plain
+  plain_for_draft07 (inr (reads, plain)) = absurd (false≢true reads)
+
 -- the key of the definitions, at the path of a draft
 pub key_at : (path : Text) → IsDraftPath path → (key : Text) × StandsAt path key
 key_at path (inl is) = (codes "$defs", inl (is, refl))
 key_at path (inr is) = (codes "definitions", inr (is, refl))
 
 -- what a root call makes means its type in each draft
-pub draft07_means : (s : State) (n : ℕ) (w : Work) (d : Data) → IsChecked s.rows → IsRootOf s n w d → HasKeysOnce w.definitions
-    → IsOneToOne w.names → Draft07Headline s n d
-draft07_means s n w d checked root once one own path plain =
+pub draft_headlines : (s : State) (n : ℕ) (w : Work) (d : Data) → IsChecked s.rows → IsRootOf s n w d → HasKeysOnce w.definitions
+    → IsOneToOne w.names → DraftHeadlines s n d
+draft_headlines s n w d checked root once one Draft2020_12 own path plain = root_means s n w d checked root once one own path plain
+draft_headlines s n w d checked root once one Draft2019_09 own path plain =
     let place = key_at (path_of s) path in
-    draft07_from s n w d root once own place.0 place.1 (draft07_ready s n w d root once own place.0 place.1 plain)
-    (root_means s n w d checked root once one own path plain)
-
-pub draft2019_09_means : (s : State) (n : ℕ) (w : Work) (d : Data) → IsChecked s.rows → IsRootOf s n w d
-    → HasKeysOnce w.definitions → IsOneToOne w.names → Draft2019_09Headline s n d
-draft2019_09_means s n w d checked root once one own path plain =
+    let under = plain_for draft2019_09 s.settings.contract s.rows plain in
+    draft2019_09_from s n w d root once own place.0 place.1 (wide_ready s n w d root once own place.0 place.1 checked under)
+    (root_means s n w d checked root once one own path (inr (refl, under)))
+draft_headlines s n w d checked root once one Draft07 own path plain =
     let place = key_at (path_of s) path in
-    draft2019_09_from s n w d root once own place.0 place.1 (draft2019_09_ready s n w d root once own place.0 place.1 plain)
-    (root_means s n w d checked root once one own path plain)
-
-pub draft2019_09_means_wide : (s : State) (n : ℕ) (w : Work) (d : Data) → IsChecked s.rows → IsRootOf s n w d
-    → HasKeysOnce w.definitions → IsOneToOne w.names → Draft2019_09WideHeadline s n d
-draft2019_09_means_wide s n w d checked root once one own path plain =
-    let place = key_at (path_of s) path in
-    draft2019_09_from s n w d root once own place.0 place.1 (wide_ready s n w d root once own place.0 place.1 checked plain)
-    (root_means_wide s n w d checked root once one own path plain)
+    let table = plain_for_draft07 s n w d root once own place.0 place.1 plain in
+    draft07_from s n w d root once own place.0 place.1 (draft07_ready s n w d root once own place.0 place.1 table)
+    (root_means s n w d checked root once one own path (inl table))

@@ -13,7 +13,7 @@ use Rattle.schemars_schema.specs.Json.{Text}
 use Rattle.schemars_schema.specs.SchemaData.{IsSchema, is_schema}
 use Rattle.schemars_schema.specs.Encoding.{lookup}
 use Rattle.schemars_schema.specs.Lookup.{resolved}
-use Rattle.schemars_schema.specs.Acceptance.{Patterns, Judge, judge, count_of_definitions}
+use Rattle.schemars_schema.specs.Acceptance.{Patterns, Judge, judge, draft2020_12, count_of_definitions}
 use Rattle.schemars_schema.proofs.Encodings.{lookup-encoded, lookup-ascii}
 use Rattle.schemars_builders.specs.NullLaw.{context2020_12}
 use Rattle.schemars_shapes.specs.Shape as shape
@@ -336,7 +336,7 @@ module _ (plan : Plan) (w : Work) (document : Data) (checked : IsChecked plan.ro
 
   -- what is written for a row accepts just its values
   pub written_accepts : (d n : ℕ) (t : Data) → IsWritten (MayRefer plan w) (D d) n t
-      → AcceptsItsValues plan.rows plan.contract plan.path n document t
+      → AcceptsItsValues draft2020_12 plan.rows plan.contract plan.path n document t
   unfolding setting
   written_accepts d n t h patterns v json followed bounded =
       let listed = written_map (MayRefer plan w) (InList refs) (D d) (Describes (basis_of_plan plan) (InList refs) d)

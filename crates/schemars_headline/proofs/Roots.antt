@@ -25,7 +25,7 @@ use Rattle.schemars_documents.proofs.OpenStructs.{plain_under}
 use Rattle.schemars_build.specs.Naming.{IsOneToOne}
 use Rattle.schemars_build.specs.Work.{Plan, Work, Refers, basis_of_plan}
 use Rattle.schemars_headline.specs.State.{State, state_plan, work_of, HasOwnDefinitions}
-use Rattle.schemars_headline.specs.Headline.{IsRootOf, MeansItsTypeIn, WideHeadline, SubschemaHeadline, IsDraftPath, with_definitions}
+use Rattle.schemars_headline.specs.Headline.{IsRootOf, MeansItsType, MeansItsTypeIn, SubschemaHeadline, IsDraftPath, with_definitions}
 use Rattle.schemars_meaning.proofs.Notes.{judge-root}
 use Rattle.schemars_headline.specs.Keys.{HasKeysOnce}
 use Rattle.schemars_headline.proofs.Keys.{all_members, IsDefinitionsKey}
@@ -102,7 +102,7 @@ pub root_means : (plan : Plan) (w : Work) (n : ℕ) (name : Text) (uri : Option 
     → IsChecked plan.rows → IsOneToOne w.names → HasKeysOnce w.definitions → plan.root ≡ Some n
     → AllStand plan w → Describes (basis_of_plan plan) (MayRefer plan w) depth n own
     → IsPlaced plan.path w.definitions (root_document name uri own) document
-    → WideHeadline plan.rows plan.contract plan.path n document
+    → IsPlainUnder plan.contract plan.rows → MeansItsType draft2020_12 plan.rows plan.contract plan.path n document
 root_means plan w n name uri depth own document checked one once root definitions h placed plain =
     let members : Members = members_in (root_document name uri own) in
     let is_schema : IsSchema own = described (basis_of_plan plan) (MayRefer plan w) depth n own h in
@@ -156,7 +156,7 @@ pub root_headline : (plan : Plan) (w : Work) (n : ℕ) (name : Text) (uri : Opti
     → IsChecked plan.rows → IsOneToOne w.names → HasKeysOnce w.definitions → plan.root ≡ Some n
     → AllStand plan w → Describes (basis_of_plan plan) (MayRefer plan w) depth n own → IsDraftPath plan.path
     → with_definitions plan.path w.definitions (root_document name uri own) ≡ Some document
-    → WideHeadline plan.rows plan.contract plan.path n document
+    → IsPlainUnder plan.contract plan.rows → MeansItsType draft2020_12 plan.rows plan.contract plan.path n document
 root_headline plan w n name uri depth own document checked one once root definitions h draft made plain =
     let placed = placed_in plan.path w.definitions (members_in (root_document name uri own)) document draft
     (room plan w n name uri depth own (plain_notes plan.contract plan.rows plain) (MayRefer plan w) h) made in
@@ -166,7 +166,8 @@ root_headline plan w n name uri depth own document checked one once root definit
 pub root_call_means : (old : State) (n : ℕ) (w : Work) (document : Data) → IsRootOf old n w document → IsChecked old.rows
     → IsOneToOne w.names → HasKeysOnce w.definitions → AllStand (state_plan old (Some n)) w
     → IsDraftPath (state_plan old (Some n)).path
-    → WideHeadline old.rows old.settings.contract (state_plan old (Some n)).path n document
+    → IsPlainUnder old.settings.contract old.rows
+    → MeansItsType draft2020_12 old.rows old.settings.contract (state_plan old (Some n)).path n document
 root_call_means old n w document h checked one once definitions draft =
     let plan = state_plan old (Some n) in
     let depth = h.is_document.0 in

@@ -31,8 +31,8 @@ use Rattle.schemars_laws.specs.Names.{IsName}
 use Rattle.schemars_laws.specs.Classes.{AreSchemas, IsDraft07, HasPlainItems}
 use Rattle.schemars_laws.proofs.Drafts.{draft07-law, draft2019_09-law}
 use Rattle.schemars_laws.specs.Laws.{for_draft07, for_draft2019_09}
-use Rattle.schemars_headline.specs.Dialects.{HasPlainDefinitions, AcceptsExampleUnder}
-use Rattle.schemars_headline.specs.Dialects.{Draft07Sample, Draft2019_09Sample}
+use Rattle.schemars_headline.specs.Drafts.{HasPlainDefinitions, AcceptsExampleUnder}
+use Rattle.schemars_headline.specs.Drafts.{Draft2020_12, Draft2019_09, Draft07, DraftSamples}
 use Rattle.schemars_headline.proofs.Changes.{Demand, without_rest, Class, for_openapi, for_items, AreGood, are-put, IsGood, good}
 use Rattle.schemars_headline.proofs.Changes.{good_truth, good-members, good-allow_null}
 use Rattle.schemars_headline.proofs.Documents.{own-items, type-good, are-typed, char-good, bytes-good, seq-good, AllGood, asked-items}
@@ -218,16 +218,14 @@ module _ (s : State) (x : Example) (document : Data) (key : Text) (at : StandsAt
       ∙ before patterns followed json is
 
 -- what is made of an example accepts it in each draft
-pub draft07_sample : (s : State) (x : Example) (d : Data) → HasKeysOnce s.definitions
+pub draft_samples : (s : State) (x : Example) (d : Data) → HasKeysOnce s.definitions
     → with_definitions (path_of s) s.definitions (sample_root s.settings.meta_schema x) ≡ Some d
-    → (IsDraftPath (path_of s) → AcceptsExample x d) → Draft07Sample s x d
-draft07_sample s x d once made fits path plain =
-    let place = key_at (path_of s) path in
-    after07 s x d place.0 place.1 once plain made (fits path)
-
-pub draft2019_09_sample : (s : State) (x : Example) (d : Data) → HasKeysOnce s.definitions
-    → with_definitions (path_of s) s.definitions (sample_root s.settings.meta_schema x) ≡ Some d
-    → (IsDraftPath (path_of s) → AcceptsExample x d) → Draft2019_09Sample s x d
-draft2019_09_sample s x d once made fits path plain =
+    → (IsDraftPath (path_of s) → AcceptsExample x d) → DraftSamples s x d
+draft_samples s x d once made fits Draft2020_12 path held =
+    λ patterns followed json is. fits path patterns (follow draft2020_12 d patterns followed) json is
+draft_samples s x d once made fits Draft2019_09 path plain =
     let place = key_at (path_of s) path in
     after2019_09 s x d place.0 place.1 once plain made (fits path)
+draft_samples s x d once made fits Draft07 path plain =
+    let place = key_at (path_of s) path in
+    after07 s x d place.0 place.1 once plain made (fits path)

@@ -10,7 +10,7 @@ use Rattle.schemars_schema.specs.Encoding.{encoded}
 use Rattle.schemars_schema.specs.SchemaData.{IsSchema}
 use Rattle.schemars_schema.specs.Lookup.{resolved}
 use Rattle.schemars_schema.specs.References.{references, resolves, all_resolve}
-use Rattle.schemars_schema.specs.Acceptance.{openapi3, accepts, count_of_definitions}
+use Rattle.schemars_schema.specs.Acceptance.{draft2020_12, openapi3, accepts, count_of_definitions}
 use Rattle.schemars_schema.proofs.Placings.{plain-components, resolved-definition, count-place}
 use Rattle.schemars_types.specs.Faults.{IsChecked}
 use Rattle.schemars_documents.specs.PlainTable.{IsPlainTable}
@@ -112,7 +112,7 @@ module _ (s : State) (checked : IsChecked s.rows) (one : IsOneToOne s.names) (ow
   holds = held plan.path es (components_of es) (inr at) (inr (ap (λ p. pointer p (components_of es)) at ∙ components-found es))
 
   accepts-before : (name : Text) (d : Data) (found : get_member name es ≡ Some d)
-      → AcceptsItsValues s.rows s.settings.contract (path_of s) (stand name d found).row (components_of es) d
+      → AcceptsItsValues draft2020_12 s.rows s.settings.contract (path_of s) (stand name d found).row (components_of es) d
   accepts-before name d found =
       written_accepts plan w (components_of es) checked (plain_under s.rows s.settings.contract plain) one stand holds rootless
       (stand name d found).depth (stand name d found).row d

@@ -4,7 +4,7 @@ use Rattle.serde_json.specs.Data.{Data, object, Members, no_members, member}
 use Rattle.serde_json.specs.Find.{get_member, pointer}
 use Rattle.schemars_schema.specs.Verdict.{verdict}
 use Rattle.schemars_schema.specs.Json.{Text, IsJson}
-use Rattle.schemars_schema.specs.Acceptance.{Patterns, draft2020_12, accepts, bound}
+use Rattle.schemars_schema.specs.Acceptance.{Dialect, Patterns, draft2020_12, accepts, bound}
 use Rattle.schemars_schema.specs.References.{ReferencesResolve, all_resolve, references}
 use Rattle.schemars_schema.specs.Placing.{placed_at}
 use Rattle.schemars_types.specs.Rows.{Row, name_at}
@@ -19,19 +19,28 @@ use Rattle.schemars_build.specs.Parts.{IsDocumentOf}
 use Rattle.schemars_build.specs.Reached.{AreReached}
 use Rattle.schemars_headline.specs.State.{State, path_of, state_plan, work_of, HasOwnDefinitions}
 
--- under every reading of patterns, from the bound on, the schema in this document accepts a JSON value exactly when it
--- belongs to the row, and never leaves it open
-abbrev pub AcceptsItsValues : List Row → Contract → Text → ℕ → Data → Data → Type 0
-AcceptsItsValues rows contract path n document schema =
+-- under every reading of patterns, from the bound on, the schema in this document accepts under the dialect a JSON value exactly
+-- when it belongs to the row, and never leaves it open
+abbrev pub AcceptsItsValues : Dialect → List Row → Contract → Text → ℕ → Data → Data → Type 0
+AcceptsItsValues dialect rows contract path n document schema =
     (patterns : Patterns) (v : Data) → IsJson v → (followed : ℕ) → bound path document v ≤ followed
-    → accepts draft2020_12 document patterns followed schema v ≡ verdict (belongs rows contract patterns n v)
+    → accepts dialect document patterns followed schema v ≡ verdict (belongs rows contract patterns n v)
 
 -- ---- root documents
 
 -- the headline, for a root document of row n whose definitions are at the path
-pub record MeansItsType (rows : List Row) (contract : Contract) (path : Text) (n : ℕ) (document : Data) : Type 0 where
-  pub accepts_its_values : AcceptsItsValues rows contract path n document document
+pub record MeansItsType (dialect : Dialect) (rows : List Row) (contract : Contract) (path : Text) (n : ℕ) (document : Data) : Type 0 where
+  pub accepts_its_values : AcceptsItsValues dialect rows contract path n document document
   pub references_resolve : ReferencesResolve document
+
+-- the tables whose documents are promised under a dialect: plain ones, and where `unevaluatedProperties` is read also those that
+-- are plain under the contract, with enums and Options among what is flattened
+abbrev pub IsPlainFor : Dialect → Contract → List Row → Type 0
+IsPlainFor dialect contract rows = IsPlainTable rows ⊎ ((dialect.reads_unevaluated ≡ true) × IsPlainUnder contract rows)
+
+abbrev pub Headline : Dialect → List Row → Contract → Text → ℕ → Data → Type 0
+Headline dialect rows contract path n document =
+    IsPlainFor dialect contract rows → MeansItsType dialect rows contract path n document
 
 -- two documents accept the same values, under every reading of patterns and each from its own bound on
 abbrev pub HaveSameAcceptance : Text → Data → Text → Data → Type 0
@@ -39,25 +48,14 @@ HaveSameAcceptance path document other_path other =
     (patterns : Patterns) (v : Data) → IsJson v → (m n : ℕ) → bound path document v ≤ m → bound other_path other v ≤ n
     → accepts draft2020_12 document patterns m document v ≡ accepts draft2020_12 other patterns n other v
 
-abbrev pub Headline : List Row → Contract → Text → ℕ → Data → Type 0
-Headline rows contract path n document = IsPlainTable rows → MeansItsType rows contract path n document
-
--- and over the wider tables that are plain under the contract, with enums and Options among what is flattened
-abbrev pub WideHeadline : List Row → Contract → Text → ℕ → Data → Type 0
-WideHeadline rows contract path n document = IsPlainUnder contract rows → MeansItsType rows contract path n document
-
 -- the paths of the drafts, and those of all dialects
 abbrev pub IsDraftPath : Text → Type 0
 IsDraftPath path = (path ≡ codes "/$defs") ⊎ (path ≡ codes "/definitions")
 
--- that of a generator whose definitions are its own
-abbrev pub RootHeadline : State → ℕ → Data → Type 0
-RootHeadline s n document =
-    HasOwnDefinitions s → IsDraftPath (path_of s) → Headline s.rows s.settings.contract (path_of s) n document
-
-abbrev pub RootWideHeadline : State → ℕ → Data → Type 0
-RootWideHeadline s n document =
-    HasOwnDefinitions s → IsDraftPath (path_of s) → WideHeadline s.rows s.settings.contract (path_of s) n document
+-- that of a generator whose definitions are its own, and stand at the path of a draft
+abbrev pub RootHeadline : Dialect → State → ℕ → Data → Type 0
+RootHeadline dialect s n document =
+    HasOwnDefinitions s → IsDraftPath (path_of s) → Headline dialect s.rows s.settings.contract (path_of s) n document
 
 abbrev pub IsKnownPath : Text → Type 0
 IsKnownPath path = IsDraftPath path ⊎ (path ≡ codes "/components/schemas")
@@ -102,7 +100,7 @@ IsHolding path definitions document = (definitions ≡ no_members) ⊎ (pointer 
 -- a subschema of row n, and the definitions that it leads to
 pub record MeansItsTypeIn (rows : List Row) (contract : Contract) (path : Text) (n : ℕ) (definitions : Members)
     (document schema : Data) : Type 0 where
-  pub accepts_its_values : AcceptsItsValues rows contract path n document schema
+  pub accepts_its_values : AcceptsItsValues draft2020_12 rows contract path n document schema
   pub references_resolve : all_resolve document (references schema) ≡ true
   pub definitions_resolve : (name : Text) (d : Data) → get_member name definitions ≡ Some d → all_resolve document (references d) ≡ true
 

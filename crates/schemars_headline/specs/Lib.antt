@@ -2,5 +2,5 @@ pub mod Keys
 pub mod State
 pub mod Headline
 pub mod Calls
-pub mod Dialects
+pub mod Drafts
 pub mod Taken

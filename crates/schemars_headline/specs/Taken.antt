@@ -1,27 +1,24 @@
 -- What the definitions that are taken for OpenAPI promise: each accepts exactly the values of its type, and its references lead to
 -- others.
-use Rattle.std.specs.Prelude.{◌≡◌, ◌≤◌, ℕ, Some, is_some, true}
+use Rattle.std.specs.Prelude.{◌≡◌, ℕ, Some, is_some, true}
 use Rattle.serde_json.specs.Data.{Data, Members}
 use Rattle.serde_json.specs.Find.{get_member}
-use Rattle.schemars_schema.specs.Json.{Text, IsJson}
-use Rattle.schemars_schema.specs.Verdict.{verdict}
-use Rattle.schemars_schema.specs.Acceptance.{Patterns, openapi3, accepts, bound}
+use Rattle.schemars_schema.specs.Json.{Text}
+use Rattle.schemars_schema.specs.Acceptance.{openapi3}
 use Rattle.schemars_schema.specs.References.{references, all_resolve}
-use Rattle.schemars_types.specs.Meaning.{belongs}
 use Rattle.schemars_documents.specs.PlainTable.{IsPlainTable}
 use Rattle.schemars_build.specs.Naming.{name_of}
 use Rattle.schemars_laws.specs.Paths.{components, components_of, each_changed}
 use Rattle.schemars_laws.specs.Laws.{for_openapi3}
 use Rattle.schemars_headline.specs.State.{State, path_of, HasOwnDefinitions}
+use Rattle.schemars_headline.specs.Headline.{AcceptsItsValues}
 
 -- in this document the schema of this name accepts under OpenAPI exactly the JSON values that belong to the row of the name, under
 -- every reading of patterns, from the bound on, and leaves none open; and its references resolve
 pub record MeansItsRow (s : State) (name : Text) (document schema : Data) : Type 0 where
   pub row : ℕ
   pub is_named : name_of row s.settings.contract s.names ≡ Some name
-  pub accepts_its_values : (patterns : Patterns) (v : Data) → IsJson v → (followed : ℕ) → bound components document v ≤ followed
-      → accepts openapi3 document patterns followed schema v
-      ≡ verdict (belongs s.rows s.settings.contract patterns row v)
+  pub accepts_its_values : AcceptsItsValues openapi3 s.rows s.settings.contract components row document schema
   pub references_resolve : all_resolve document (references schema) ≡ true
 
 -- so does each of these, in a document that holds them under its components

@@ -95,7 +95,7 @@ const REFUSED: [Answer; 7] = [
         0,
         r##"{"A":{"type":"object","properties":{"b":{"$ref":"#/$defs/B"}},"required":["b"]},"B":{"type":"object","properties":{"a":{"anyOf":[{"$ref":"#/$defs/A"},{"type":"null"}]}}}}"##,
     ),
-    ("replace own", 0, "true"),
+    ("replace each", 0, "true"),
     (
         "take",
         0,
@@ -110,7 +110,7 @@ const REFUSED: [Answer; 7] = [
 
 const REPLACED: [Answer; 3] = [
     ("part", 0, r##"{"$ref":"#/components/schemas/A"}"##),
-    ("replace all", 0, "true"),
+    ("replace each", 0, "true"),
     (
         "take transformed",
         0,
@@ -178,7 +178,7 @@ fn part_of_copy(
 }
 
 // Puts a built-in transform in the place of each.
-fn replace_own(generator: &mut SchemaGenerator<Own>) -> Result<Schema, GenerateError> {
+fn replace_each(generator: &mut SchemaGenerator<Own>) -> Result<Schema, GenerateError> {
     for transform in generator.transforms_mut() {
         *transform = GenTransform::SetSingleExample(Default::default());
     }
@@ -197,11 +197,7 @@ fn answer(
         "take" => Ok(Schema::from(generator.take_definitions(alloc, false)?)),
         "take transformed" => Ok(Schema::from(generator.take_definitions(alloc, true)?)),
         "part of a copy" => part_of_copy(alloc, generator, n),
-        "replace own" => replace_own(generator),
-        "replace all" => {
-            let _replaced = generator.replace_transforms(Vec::new(alloc));
-            Ok(Schema::from(true))
-        }
+        "replace each" => replace_each(generator),
         _ => Ok(Schema::from(generator.definitions().clone()?)),
     }
 }

@@ -2,7 +2,7 @@
 use Rattle.std.proofs.Common.{◌∙◌, ◌<◌, ap, sym, subst, length}
 use Rattle.std.proofs.lemmas.Result.{IfOk-weaker, IfErr-weaker}
 use Rattle.schemars_headline.specs.State.{State}
-use Rattle.schemars_generate.specs.Settings.{state}
+use Rattle.schemars_generate.specs.Generator.{state}
 use Rattle.schemars_transform.specs.Member.{some_own}
 use Rattle.schemagen_run.proofs.Results.{ok_at_err, err_passed, so_at_ok}
 use Rattle.schemagen_run.proofs.Tables.{none_own, faulty_refusal, memory_refusal, are_definitions, root_is_within}

@@ -1,6 +1,7 @@
 -- The table suits the generator.
 use Rattle.std.proofs.Common.{◌∙◌, ap}
-use Rattle.schemars_generate.specs.Settings.{state}
+use Rattle.std.proofs.lemmas.Result.{IfOk-weaker, IfErr-weaker}
+use Rattle.schemars_generate.specs.Generator.{state, transforms_of}
 use Rattle.schemars_transform.specs.Member.{some_own}
 use Rattle.schemagen_run.proofs.Results.{ok_at_err, err_passed, so_at_ok}
 use Rattle.schemagen_run.proofs.Tables.{none_own, is_document, is_refusal, faulty_refusal}
@@ -27,8 +28,10 @@ returns c =
     let told = c.in_ok-generator.ensures in
     let none = ap some_own told.transforms ∙ none_own c.args.asked.dialect in
     record {
-      ok = is_document r (state g) c.args.asked c.args.types c.args.root g.settings.transforms.items told.fresh told.transforms made.built_in;
+      ok = is_document r (state g) c.args.asked c.args.types c.args.root (transforms_of g) told.fresh told.transforms
+          (λ own. IfOk-weaker r _ _ (λ d h. h.1.built_in own) made.made);
       accepted = so_at_ok r told.accepted;
       refused = is_refusal r (state g) c.args.asked c.args.types c.args.root c.requires.draft c.requires.table told.accepted told.fresh
-          made.unknown (made.refused_built_in none) (made.only_memory none);
+          made.unknown (IfErr-weaker r _ _ (λ e h. h.1.built_in none) made.refused)
+          (λ plain path known. IfErr-weaker r _ _ (λ e h. h.1.only_memory none plain path known) made.refused);
     }

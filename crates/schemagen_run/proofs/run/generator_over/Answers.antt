@@ -1,8 +1,8 @@
 -- The settings are those that are asked for, and the table is the one that is given.
 use Rattle.std.proofs.Common.{◌∙◌, ap, inl}
-use Rattle.std.proofs.lemmas.Result.{IfOk-weaker}
-use Rattle.schemars_generate.specs.Settings.{settings_of}
-use Rattle.schemagen_run.proofs.Results.{ok_at_err, err_passed, both_at_ok}
+use Rattle.std.proofs.lemmas.Result.{IfOk-weaker, IfErr-weaker}
+use Rattle.schemars_generate.specs.Generator.{transforms_of}
+use Rattle.schemagen_run.proofs.Results.{ok_at_err, err_passed}
 use Rattle.schemagen_run.proofs.Tables.{fresh_of}
 use Rattle.schemagen_run.proofs.run.generator_over.Goals as goal
 
@@ -24,10 +24,9 @@ returns c =
     let wanted = c.in_ok-settings.ensures in
     let told = c.with_types.ensures in
     record {
-      fresh = both_at_ok r told.settings told.made (λ g own held. fresh_of (settings_of g.settings) g.contents c.args.asked
-          c.args.types (ap settings_of own ∙ wanted.settings) held);
-      transforms = IfOk-weaker r _ _ (λ g own. ap (λ s. s.transforms.items) own ∙ wanted.transforms) told.settings;
+      fresh = IfOk-weaker r _ _ (λ g made. fresh_of g c.in_ok-settings.settings c.args.asked c.args.types wanted.settings made) told.made;
+      transforms = IfOk-weaker r _ _ (λ g made. ap transforms_of made ∙ wanted.transforms) told.made;
       accepted = told.accepted;
-      refused = told.refused;
-      only_memory = told.only_memory;
+      refused = IfErr-weaker r _ _ (λ e h. h.fault) told.refused;
+      only_memory = λ accepted. IfErr-weaker r _ _ (λ e h. h.only_memory accepted) told.refused;
     }

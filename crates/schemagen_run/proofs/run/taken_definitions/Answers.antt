@@ -1,12 +1,10 @@
 -- The row is known, so that memory is all that a part may want.
 use Rattle.std.proofs.Common.{◌∙◌, ap, refl, length, Err}
-use Rattle.schemars_generate.specs.DocumentSettings.{state_with}
-use Rattle.serde_json.specs.View.{members_view}
-use Rattle.schemars_headline.specs.Taken.{HasSameKeys, TakenHeadline}
-use Rattle.schemars_generate.specs.Settings.{settings_of, state}
+use Rattle.std.proofs.lemmas.Result.{IfOk-weaker, IfErr-weaker}
+use Rattle.schemars_generate.specs.Generator.{state}
 use Rattle.schemars_transform.specs.Member.{some_own}
 use Rattle.schemars_transform.specs.BuiltIn.{each_made_by}
-use Rattle.schemagen_run.proofs.Results.{ok_at_err, err_passed, both_at_ok, at_ok_under}
+use Rattle.schemagen_run.proofs.Results.{ok_at_err, err_passed}
 use Rattle.schemagen_run.proofs.Tables.{known_refusal}
 use Rattle.schemagen_run.proofs.run.taken_definitions.Goals as goal
 
@@ -18,7 +16,7 @@ returns-in_err-subschema_for_type c =
     let passed = c.from_residual.ensures.1 in
     record {
       ok = ok_at_err _ _ r passed;
-      only_memory = err_passed r passed (λ f same. same ∙ known_refusal c.args.root (length c.args.generator.now.contents.rows) e
+      only_memory = err_passed r passed (λ f same. same ∙ known_refusal c.args.root (length c.args.generator.now.rows) e
           c.requires.known why.refused (λ is. why.unknown.0 (ap Err is)));
     }
 
@@ -26,25 +24,22 @@ pub returns : goal.returns
 returns c =
     let told = c.in_ok-subschema_for_type.ensures in
     let taken = c.take_definitions.ensures in
-    let own = ap (λ s. some_own s.transforms.items) told.settings ∙ c.requires.own in
+    let settings = ap (λ g. g.settings) told.rest in
+    let own = ap (λ s. some_own s.transforms.items) settings ∙ c.requires.own in
     let new = state c.subschema_for_type.new.self in
     record {
-      ok = both_at_ok c.take_definitions.result (taken.built_in refl own)
-          (at_ok_under (λ m. HasSameKeys (members_view m.entries) new.definitions × TakenHeadline new (members_view m.entries))
-          c.take_definitions.result
-          (λ is. taken.openapi3 refl (ap (λ s. s.transforms.items) told.settings ∙ is)))
-          (λ m made means. (
+      ok = IfOk-weaker c.take_definitions.result _ _ (λ m made. (
             new,
             (
               _,
-              told.part,
-              (λ i. state_with (settings_of (told.settings i)) (told.rest i)),
-              told.step,
-              told.own,
-              told.reached,
-              made ∙ ap (λ s. each_made_by s.transforms.items new.definitions) told.settings,
+              told.subschema.is_part,
+              ap state told.rest,
+              told.subschema.answer.adds,
+              told.keeps.own,
+              told.subschema.answer.is.reached tt,
+              made.built_in own ∙ ap (λ s. each_made_by s.transforms.items new.definitions) settings,
             ),
-            λ is. (means is).1,
-          ));
-      only_memory = taken.only_memory own;
+            λ is. (made.openapi3 (ap (λ s. s.transforms.items) settings ∙ is)).1,
+          )) (taken.transformed refl);
+      only_memory = IfErr-weaker c.take_definitions.result _ _ (λ e h. h.only_memory own) taken.refused;
     }

@@ -4,13 +4,13 @@ use Rattle.schemars_headline.specs.Headline.{CannotPlace}
 use Rattle.schemars_headline.specs.Keys.{HasKeysOnce}
 use Rattle.schemars_headline.specs.State.{state_plan}
 use Rattle.schemars_headline.proofs.Calls.{cannot_place, root_of, err_told}
-use Rattle.schemars_generate.specs.DocumentSettings.{state_of}
+use Rattle.schemars_generate.specs.Generator.{state_of}
 use Rattle.schemars_generate.specs.declared.error.GenerateError.{GenerateError}
 use Rattle.schemars_generate.specs.declared.error.GenerateError.TheVariants.{OutOfMemory, DefinitionsPath}
 use Rattle.schemars_generate.proofs.document.last_document.Goals as goal
 
 pub returns-in_err-document-clause-refused : goal.returns-in_err-document-clause-refused
-returns-in_err-document-clause-refused c =
+returns-in_err-document-clause-refused g c =
     let s = state_of c.args.settings.now c.args.types.now c.args.work in
     let e = c.in_err-document.field-0.0 in
     let path : c.stripped-path.result.now ≡ (state_plan s None).path = search rules in
@@ -28,7 +28,7 @@ returns-in_err-document-clause-refused c =
     err_told c.from_residual-in_err-document.result P _ c.from_residual-in_err-document.ensures.1 (λ x is. subst P (sym is) told)
 
 pub returns-clause-root : goal.returns-clause-root
-returns-clause-root c =
+returns-clause-root g c =
     let s = state_of c.args.settings.now c.args.types.now c.args.work in
     let w = c.titled_document.new.work in
     let path : c.stripped-path.result.now ≡ (state_plan s None).path = search rules in

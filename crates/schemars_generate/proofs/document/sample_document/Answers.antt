@@ -6,14 +6,14 @@ use Rattle.schemars_sample.specs.SampleSchema.{sample_root}
 use Rattle.schemars_headline.specs.Headline.{with_definitions}
 use Rattle.schemars_headline.proofs.Calls.{err_told}
 use Rattle.schemars_generate.specs.declared.error.GenerateError.{GenerateError}
-use Rattle.schemars_generate.specs.DocumentSettings.{document_settings_of}
+use Rattle.schemars_generate.specs.Generator.{settings_of}
 use Rattle.schemars_generate.specs.Samples.{IsSampleRefused}
 use Rattle.schemars_generate.proofs.SampleRoots.{sample_made, sample_unplaced}
 use Rattle.schemars_generate.proofs.document.sample_document.Goals as goal
 
 pub returns-in_err-document-clause-refused : goal.returns-in_err-document-clause-refused
-returns-in_err-document-clause-refused c =
-    let s = document_settings_of c.args.settings.now in
+returns-in_err-document-clause-refused g c =
+    let s = settings_of c.args.settings.now in
     let definitions = members_view c.args.definitions.entries in
     let x = example_of c.args.sample.now in
     let e = c.in_err-document.field-0.0 in
@@ -32,8 +32,8 @@ returns-in_err-document-clause-refused c =
     err_told c.from_residual-in_err-document.result P _ c.from_residual-in_err-document.ensures.1 (λ y is. subst P (sym is) told)
 
 pub returns-clause-root : goal.returns-clause-root
-returns-clause-root c =
-    let s = document_settings_of c.args.settings.now in
+returns-clause-root g c =
+    let s = settings_of c.args.settings.now in
     let definitions = members_view c.args.definitions.entries in
     let x = example_of c.args.sample.now in
     sample_made s definitions x c.in_ok-document.document c.in_ok-document.ensures.once

@@ -1,126 +1,77 @@
-use Rattle.std.proofs.Common.{◌≡◌, ◌<◌, ◌⊎◌, [], length, Vec, Global, IfOk, IfErr, refl, subst}
-use Rattle.schemars_schema.specs.Acceptance.{draft07, draft2019_09}
-use Rattle.schemars_documents.specs.PlainTable.{HasPlainNotes}
-use Rattle.schemars_headline.specs.Dialects.{RootHeadlineUnder, RootWideHeadlineUnder}
-use Rattle.schemars_headline.specs.Calls.{IsLastRootCall}
-use Rattle.schemars_headline.specs.Headline.{RootHeadline, RootWideHeadline, IsDraftPath}
-use Rattle.schemars_headline.specs.State.{Settings, path_of, HasOwnDefinitions}
-use Rattle.schemars_headline.proofs.NamedKeys.{references_name_keys}
-use Rattle.schemars_transform.specs.declared.gen_transform.GenTransform.{GenTransform}
-use Rattle.schemars_generate.specs.DocumentSettings.{state_with}
-use Rattle.schemars_generate.specs.Through.{IsThrough, IsTurnedDown, IsRootRefused, IsUntransformedCall}
-use Rattle.schemars_generate.specs.declared.error.GenerateError.TheVariants.{OutOfMemory}
-use Rattle.std.proofs.lemmas.Result.{IfOk-weaker, IfErr-weaker}
-use Rattle.schemars_generate.specs.Settings.{settings_of, ApplyInOrder}
-use Rattle.schemars_generate.specs.Settings.{transforms07, transforms2019_09}
-use Rattle.schemars_generate.proofs.BuiltIns.{built_in, answered, of_generator, not_turned_down, refused_built_in}
+use Rattle.std.proofs.Common.{◌≡◌, ap, refl, sym, subst}
+use Rattle.std.proofs.lemmas.Result.{IfOk-weaker}
+use Rattle.schemars_headline.proofs.Calls.{after_root_own, err_told}
+use Rattle.schemars_headline.specs.Calls.{IsRootCall}
+use Rattle.schemars_headline.specs.Drafts.{dialect_of}
+use Rattle.schemars_headline.specs.Headline.{RootHeadline}
+use Rattle.schemars_headline.specs.State.{State, HasOwnDefinitions}
+use Rattle.schemars_build.specs.Work.{Work}
+use Rattle.schemars_generate.specs.Generator.{settings_of, state, state_of}
+use Rattle.schemars_generate.specs.Through.{IsTransformed, IsUntransformedCall, IsRefusedThrough, IsRootRefusal}
+use Rattle.schemars_generate.specs.Settings.{ApplyInOrder}
+use Rattle.schemars_generate.specs.declared.error.GenerateError.{GenerateError}
+use Rattle.schemars_generate.proofs.Answered.{keeps, keeps_same}
+use Rattle.schemars_generate.proofs.BuiltIns.{transformed, promised, no_row, root_refusal}
+use Rattle.schemars_generate.proofs.Untransformed.{untransformed}
 use Rattle.schemars_generate.proofs.generate.SchemaGenerator.root_schema_for_type.Goals as goal
 
-abbrev Ts : Type 0 → Type 0
-Ts O = Vec (GenTransform O) Global
+pub returns-in_err-has_row-clause-keeps : goal.returns-in_err-has_row-clause-keeps
+returns-in_err-has_row-clause-keeps g c = keeps_same _ _ refl
 
-pub returns-clause-root : goal.returns-clause-root
-returns-clause-root g c =
-    let r = c.root_schema-answer.result in
-    let old = c.args.self.now.contents in
-    let new = c.root_schema-answer.new.self in
-    let u = c.root_schema-answer.new.transforms in
+pub returns-in_err-has_row-clause-refused : goal.returns-in_err-has_row-clause-refused
+returns-in_err-has_row-clause-refused g c =
+    let now = c.args.self.now in
+    let why = c.in_err-has_row.ensures in
+    let P : GenerateError → Type 0 =
+    λ e. IsRootRefusal g.O.Transform.makes now.settings.transforms now.settings.transforms (state now) c.args.n e in
+    err_told c.from_residual-in_err-has_row.result P _ c.from_residual-in_err-has_row.ensures.1
+    (λ e is. subst P (sym is) (no_row _ _ _ (state now) c.args.n _ why.0 why.1 refl))
+
+pub returns-in_err-document-clause-keeps : goal.returns-in_err-document-clause-keeps
+returns-in_err-document-clause-keeps g c =
+    keeps_same _ _ ?
+
+pub returns-in_err-document-clause-refused : goal.returns-in_err-document-clause-refused
+returns-in_err-document-clause-refused g c =
     let Q = g.O.Transform.makes in
-    let before = c.args.self.now.settings in
-    let P : Settings → Ts g.row.O.Denot → Type 0 =
-    λ x t. IfOk r (IsThrough (ApplyInOrder Q) t u
-    (IsUntransformedCall (state_with x old) c.args.n (state_with x new))) in
-    of_generator P _ _ _ _ c.document-settings.ensures c.replace-transforms.ensures.value c.root_schema-answer.ensures.root
+    let us = c.root_document.new.settings.transforms in
+    let now = c.args.self.now in
+    let P : GenerateError → Type 0 = λ e. IsRootRefusal Q now.settings.transforms us (state now) c.args.n e in
+    let refused = subst (λ y. IsRefusedThrough (ApplyInOrder Q) y.settings.transforms us (state y) c.args.n c.in_err-document.field-0.0)
+    c.self.view_is c.in_err-document.ensures.refused in
+    err_told c.from_residual-in_err-document.result P _ c.from_residual-in_err-document.ensures.1
+    (λ e is. subst P (sym is) (root_refusal Q now.settings.transforms us (state now) c.args.n _ refused))
 
-pub returns-clause-refused : goal.returns-clause-refused
-returns-clause-refused g c =
-    let r = c.root_schema-answer.result in
-    let old = c.args.self.now.contents in
-    let u = c.root_schema-answer.new.transforms in
+pub returns-clause-made : goal.returns-clause-made
+returns-clause-made g c =
     let Q = g.O.Transform.makes in
-    let before = c.args.self.now.settings in
-    let P : Settings → Ts g.row.O.Denot → Type 0 =
-    λ x t. IfErr r (IsRootRefused (ApplyInOrder Q) t u (state_with x old) c.args.n) in
-    of_generator P _ _ _ _ c.document-settings.ensures c.replace-transforms.ensures.value c.root_schema-answer.ensures.refused
-
-pub returns-clause-own : goal.returns-clause-own
-returns-clause-own g c =
-    let old = c.args.self.now.contents in
-    let new = c.root_schema-answer.new.self in
-    let P : Settings → Type 0 =
-    λ x. HasOwnDefinitions (state_with x old) → HasOwnDefinitions (state_with x new) in
-    subst P c.document-settings.ensures c.root_schema-answer.ensures.own
-
-pub returns-clause-keys : goal.returns-clause-keys
-returns-clause-keys g c =
-    let new = c.root_schema-answer.new.self in
-    let before = c.args.self.now.settings in
-    λ own plain.
-    references_name_keys (state_with (settings_of before) new) (returns-clause-own g c own) plain
-
-pub returns-clause-built_in : goal.returns-clause-built_in
-returns-clause-built_in g c =
-    let r = c.root_schema-answer.result in
-    let u = c.root_schema-answer.new.transforms in
-    let Q = g.O.Transform.makes in
-    let ts = c.args.self.now.settings.transforms in
-    λ none.
-    IfOk-weaker r _ _ (λ d h. built_in Q ts u none _ d h) (returns-clause-root g c)
+    let inside = c.self.inside in
+    let us = c.root_document.new.settings.transforms in
+    let s = state_of inside.settings inside.types inside.work in
+    let new = state_of c.root_document.new.settings inside.types c.root_document.new.work in
+    let root = c.in_ok-document.ensures.root in
+    let made = root.1 in
+    let after : IsRootCall s c.args.n new root.0 = (
+      made.0,
+      made.1,
+      λ i. record {
+        settings = settings_of (c.root_document.ensures.rest i);
+        rows = inside.types;
+        names = (made.4 i).names;
+        definitions = (made.4 i).definitions;
+      },
+    ) in
+    subst (λ y. IsTransformed Q y.settings.transforms us (IsUntransformedCall (state y) c.args.n new) c.in_ok-document.document)
+    c.self.view_is
+    (transformed Q inside.settings.transforms us (IsUntransformedCall s c.args.n new) c.in_ok-document.document
+    (root.0, (untransformed s c.args.n made.0 root.0 c.self.invariant.1 made.1 made.2 made.3, after), root.2))
 
 pub returns-clause-headline : goal.returns-clause-headline
 returns-clause-headline g c =
-    let s = state_with (settings_of c.args.self.now.settings) c.args.self.now.contents in
-    answered _ [] _ (RootHeadline s c.args.n) c.root_schema-answer.result
-    (returns-clause-built_in g c) refl (λ e i. i.0.headline)
+    λ draft is. promised g.O.Transform.makes _ _ _ (λ x. RootHeadline (dialect_of x) (state c.args.self.now) c.args.n)
+    (λ d told x. told.0.headlines x) c.in_ok-document.document (returns-clause-made g c) draft is
 
-pub returns-clause-wide : goal.returns-clause-wide
-returns-clause-wide g c =
-    let s = state_with (settings_of c.args.self.now.settings) c.args.self.now.contents in
-    answered _ [] _ (RootWideHeadline s c.args.n) c.root_schema-answer.result
-    (returns-clause-built_in g c) refl (λ e i. i.0.wide)
-
-pub returns-clause-draft07 : goal.returns-clause-draft07
-returns-clause-draft07 g c =
-    let s = state_with (settings_of c.args.self.now.settings) c.args.self.now.contents in
-    answered _ transforms07 _ (RootHeadlineUnder draft07 s c.args.n) c.root_schema-answer.result
-    (returns-clause-built_in g c) refl (λ e i. i.0.draft07)
-
-pub returns-clause-draft2019_09 : goal.returns-clause-draft2019_09
-returns-clause-draft2019_09 g c =
-    let s = state_with (settings_of c.args.self.now.settings) c.args.self.now.contents in
-    answered _ transforms2019_09 _ (RootHeadlineUnder draft2019_09 s c.args.n) c.root_schema-answer.result
-    (returns-clause-built_in g c) refl (λ e i. i.0.draft2019_09)
-
-pub returns-clause-draft2019_09_wide : goal.returns-clause-draft2019_09_wide
-returns-clause-draft2019_09_wide g c =
-    let s = state_with (settings_of c.args.self.now.settings) c.args.self.now.contents in
-    answered _ transforms2019_09 _ (RootWideHeadlineUnder draft2019_09 s c.args.n) c.root_schema-answer.result
-    (returns-clause-built_in g c) refl (λ e i. i.0.draft2019_09_wide)
-
-pub returns-clause-only_memory : goal.returns-clause-only_memory
-returns-clause-only_memory g c =
-    let r = c.root_schema-answer.result in
-    let old = c.args.self.now.contents in
-    let u = c.root_schema-answer.new.transforms in
-    let Q = g.O.Transform.makes in
-    let before = c.args.self.now.settings in
-    let s = state_with (settings_of before) old in
-    let P : Settings → Ts g.row.O.Denot → Type 0 =
-    λ x t. HasPlainNotes old.rows → IsDraftPath (path_of (state_with x old))
-    → c.args.n < length old.rows → IfErr r (λ e. (e ≡ OutOfMemory)
-    ⊎ IsTurnedDown (ApplyInOrder Q) t u (IsLastRootCall (state_with x old) c.args.n) e) in
-    let all = of_generator P _ _ _ _ c.document-settings.ensures c.replace-transforms.ensures.value c.root_schema-answer.ensures.only_memory in
-    λ none plain path known.
-    IfErr-weaker r _ _ (λ e h. not_turned_down Q before.transforms u none
-    (IsLastRootCall s c.args.n) e h) (all plain path known)
-
-pub returns-clause-refused_built_in : goal.returns-clause-refused_built_in
-returns-clause-refused_built_in g c =
-    let r = c.root_schema-answer.result in
-    let old = c.args.self.now.contents in
-    let u = c.root_schema-answer.new.transforms in
-    let Q = g.O.Transform.makes in
-    let before = c.args.self.now.settings in
-    λ none.
-    IfErr-weaker r _ _ (λ e h. refused_built_in Q before.transforms u none
-    (state_with (settings_of before) old) c.args.n e h) (returns-clause-refused g c)
+pub returns-clause-keeps : goal.returns-clause-keeps
+returns-clause-keeps g c =
+    let call = ((returns-clause-made g c).through).1.1 in
+    keeps _ _ (λ own. subst HasOwnDefinitions (sym call.2) (after_root_own (state c.args.self.now) c.args.n call.0 call.1.step own))

@@ -1,4 +1,0 @@
-use Rattle.schemars_generate.proofs.settings.SchemaSettings.into_generator.Goals as goal
-
-pub returns-clause-settings : goal.returns-clause-settings
-returns-clause-settings g c = c.new.ensures.settings
