@@ -27,7 +27,7 @@ use Rattle.schemars_headline.specs.Headline.{MeansItsType, IsPlainFor, RootHeadl
 use Rattle.schemars_headline.specs.Keys.{HasKeysOnce}
 use Rattle.schemars_headline.proofs.Standing.{MayRefer, AllStand}
 use Rattle.schemars_headline.proofs.Standing as standings
-use Rattle.schemars_headline.proofs.Placed.{StandsAt, holds_put}
+use Rattle.schemars_headline.proofs.Placed.{StandsAt, holds_put, draft_key}
 use Rattle.schemars_headline.proofs.Calls.{definitions_in, root_means, plain_for}
 use Rattle.schemars_laws.specs.Names.{IsNameOf, IsName, IsMap}
 use Rattle.schemars_laws.specs.Laws.{for_draft07, for_draft2019_09}
@@ -172,22 +172,17 @@ module _ (s : State) (n : ℕ) (w : Work) (document : Data) (root : IsRootOf s n
   plain_for_draft07 (inl plain) = plain
   plain_for_draft07 (inr (reads, plain)) = absurd (false≢true reads)
 
--- the key of the definitions, at the path of a draft
-pub key_at : (path : Text) → IsDraftPath path → (key : Text) × StandsAt path key
-key_at path (inl is) = (codes "$defs", inl (is, refl))
-key_at path (inr is) = (codes "definitions", inr (is, refl))
-
 -- what a root call makes means its type in each draft
 pub draft_headlines : (s : State) (n : ℕ) (w : Work) (d : Data) → IsChecked s.rows → IsRootOf s n w d → HasKeysOnce w.definitions
     → IsOneToOne w.names → DraftHeadlines s n d
 draft_headlines s n w d checked root once one Draft2020_12 own path plain = root_means s n w d checked root once one own path plain
 draft_headlines s n w d checked root once one Draft2019_09 own path plain =
-    let place = key_at (path_of s) path in
+    let place = draft_key (path_of s) path in
     let under = plain_for draft2019_09 s.settings.contract s.rows plain in
     draft2019_09_from s n w d root once own place.0 place.1 (wide_ready s n w d root once own place.0 place.1 checked under)
     (root_means s n w d checked root once one own path (inr (refl, under)))
 draft_headlines s n w d checked root once one Draft07 own path plain =
-    let place = key_at (path_of s) path in
+    let place = draft_key (path_of s) path in
     let table = plain_for_draft07 s n w d root once own place.0 place.1 plain in
     draft07_from s n w d root once own place.0 place.1 (draft07_ready s n w d root once own place.0 place.1 table)
     (root_means s n w d checked root once one own path (inl table))

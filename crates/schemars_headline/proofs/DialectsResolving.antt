@@ -1,4 +1,4 @@
--- The references of root documents resolve after the transforms of the older drafts.
+-- The references of root documents pass a test after the transforms of the older drafts, such as that they resolve.
 use Rattle.std.proofs.Common.{◌≡◌, List, [], ◌∷◌, ◌++◌, Some, None, Bool, true, false, codes, refl, sym, ap, ◌∙◌, subst}
 use Rattle.std.proofs.Common.{true≢false}
 use Rattle.std.specs.Prelude.{bytes_eq, if◌then◌else◌, ◌&&◌}
@@ -12,8 +12,9 @@ use Rattle.schemars_schema.specs.References.{Place, NoSchemas, OneSchema, Schema
 use Rattle.schemars_schema.specs.References.{at_place, found_in, found_in_items, found_in_members, found_in_keywords, references}
 use Rattle.schemars_schema.specs.References.{resolves, all_resolve}
 use Rattle.schemars_schema.proofs.Members.{get_member-member as get_member-first}
-use Rattle.schemars_laws.specs.Everywhere.{asked, asked_at, asked_of_items, asked_of_members, asked_of_keywords}
+use Rattle.schemars_laws.specs.Everywhere.{Everywhere, asked, asked_at, asked_of_items, asked_of_members, asked_of_keywords}
 use Rattle.schemars_laws.specs.Stages.{IsTextWith}
+use Rattle.schemars_headline.proofs.Resolving.{all_pass, all_pass-resolve}
 use Rattle.schemars_headline.proofs.ReferencesKept.{RefersOnce}
 
 -- ---- each reference, where those that stand once are as R says
@@ -22,14 +23,14 @@ and-parts : (a b : Bool) → a && b ≡ true → (a ≡ true) × (b ≡ true)
 and-parts true b h = (refl, h)
 and-parts false b h = absurd (true≢false (sym h))
 
-module _ (R : Text → Type 0) (document : Data) (leads : (t : Text) → R t → resolves document (string t) ≡ true) where
+module _ (R : Text → Type 0) (test : Data → Bool) (leads : (t : Text) → R t → test (string t) ≡ true) where
   abbrev Resolve : List Data → Type 0
-  Resolve xs = all_resolve document xs ≡ true
+  Resolve xs = all_pass test xs ≡ true
 
   resolve-append : (xs ys : List Data) → Resolve xs → Resolve ys → Resolve (xs ++ ys)
   resolve-append [] ys h g = g
   resolve-append (x ∷ xs) ys h g =
-      let parts = and-parts (resolves document x) (all_resolve document xs) h in rw (parts.0, resolve-append xs ys parts.1 g) refl
+      let parts = and-parts (test x) (all_pass test xs) h in rw (parts.0, resolve-append xs ys parts.1 g) refl
 
   abbrev P : Members → Type 0
   P = RefersOnce R
@@ -80,7 +81,7 @@ module _ (R : Text → Type 0) (document : Data) (leads : (t : Text) → R t →
         ),
       )
 
-  referring-leads : (d : Data) → IsTextWith R (Some d) → resolves document d ≡ true
+  referring-leads : (d : Data) → IsTextWith R (Some d) → test d ≡ true
   referring-leads (string t) is = leads t is
   referring-leads null is = absurd is
   referring-leads (boolean b) is = absurd is
@@ -110,13 +111,13 @@ module _ (R : Text → Type 0) (document : Data) (leads : (t : Text) → R t →
   mutual
     unfolding asked found_in
 
-    pub each-resolves : (d : Data) → (asked P d).as_schema → Resolve (references d)
-    each-resolves null a = refl
-    each-resolves (boolean b) a = refl
-    each-resolves (number n) a = refl
-    each-resolves (string s) a = refl
-    each-resolves (array ds) a = refl
-    each-resolves (object ms) a = keywords-resolve ms (each-refers ms a.0) a.1
+    pub each-passes : (d : Data) → (asked P d).as_schema → Resolve (references d)
+    each-passes null a = refl
+    each-passes (boolean b) a = refl
+    each-passes (number n) a = refl
+    each-passes (string s) a = refl
+    each-passes (array ds) a = refl
+    each-passes (object ms) a = keywords-resolve ms (each-refers ms a.0) a.1
 
     list-resolves : (d : Data) → (asked P d).as_list → Resolve (found_in d).in_list
     list-resolves null a = refl
@@ -136,11 +137,11 @@ module _ (R : Text → Type 0) (document : Data) (leads : (t : Text) → R t →
 
     items-resolve : (ds : Items) → asked_of_items P ds → Resolve (found_in_items ds)
     items-resolve no_items a = refl
-    items-resolve (item d ds) a = resolve-append (references d) (found_in_items ds) (each-resolves d a.0) (items-resolve ds a.1)
+    items-resolve (item d ds) a = resolve-append (references d) (found_in_items ds) (each-passes d a.0) (items-resolve ds a.1)
 
     members-resolve : (ms : Members) → asked_of_members P ms → Resolve (found_in_members ms)
     members-resolve no_members a = refl
-    members-resolve (member k d ms) a = resolve-append (references d) (found_in_members ms) (each-resolves d a.0)
+    members-resolve (member k d ms) a = resolve-append (references d) (found_in_members ms) (each-passes d a.0)
         (members-resolve ms a.1)
 
     keywords-resolve : (ms : Members) → EachRefers ms → asked_of_keywords P ms → Resolve (found_in_keywords ms)
@@ -148,5 +149,11 @@ module _ (R : Text → Type 0) (document : Data) (leads : (t : Text) → R t →
     keywords-resolve (member k d ms) each a =
         resolve-append (if bytes_eq k (codes "$ref") then d ∷ [] else at_place (place_under k) (found_in d))
         (found_in_keywords ms)
-        (under k d each.0 (at (place_under k) d (each-resolves d) (list-resolves d) (names-resolve d) a.0))
+        (under k d each.0 (at (place_under k) d (each-passes d) (list-resolves d) (names-resolve d) a.0))
         (keywords-resolve ms each.1 a.1)
+
+-- they resolve, where those do of which R holds
+pub each-resolves : (R : Text → Type 0) (document : Data) → ((t : Text) → R t → resolves document (string t) ≡ true) → (d : Data)
+    → Everywhere (RefersOnce R) d → all_resolve document (references d) ≡ true
+each-resolves R document leads d is =
+    sym (all_pass-resolve document (references d)) ∙ each-passes R (resolves document) leads d is

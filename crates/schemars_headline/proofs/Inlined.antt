@@ -39,11 +39,11 @@ use Rattle.schemars_headline.proofs.Resolving.{all_pass, described_resolved}
 
 -- ---- walks that end at a row
 
-abbrev IsAt : List Row → ℕ → ℕ → Type 0
+abbrev pub IsAt : List Row → ℕ → ℕ → Type 0
 IsAt rows n m = (m ≡ n) ⊎ Walk (Edge rows) m n
 
 -- each pending row is row n, or leads to it
-abbrev AllLead : List Row → List ℕ → ℕ → Type 0
+abbrev pub AllLead : List Row → List ℕ → ℕ → Type 0
 AllLead rows pending n = (m : ℕ) → is_pending pending m ≡ true → IsAt rows n m
 
 -- and so on, along an edge
@@ -74,7 +74,7 @@ placed_inlined false false h = cc
 
 -- ---- no part is a reference
 
-abbrev Nothing : ℕ → Text → Type 0
+abbrev pub Nothing : ℕ → Text → Type 0
 Nothing n r = ⊥
 
 module _ (rows : List Row) where
@@ -142,7 +142,7 @@ module _ (basis : Basis) (R : ℕ → Text → Type 0) (free : HasNoCycle basis.
         (h.0, deeper pending (without_options rows j) h.0 inside h.1, h.2)
     answer_bare (content j) t edge h = (h.0, tt, content_bare h.0 j t edge h.2)
 
-  bare-within : (d : ℕ) (pending : List ℕ) (n : ℕ) (s : Data) → AllLead rows pending n → Filled d pending n s → Bare d n s
+  pub bare-within : (d : ℕ) (pending : List ℕ) (n : ℕ) (s : Data) → AllLead rows pending n → Filled d pending n s → Bare d n s
   unfolding IsFilledWithin Describes
   bare-within zero pending n s lead h = absurd h
   bare-within (suc d) pending n s lead h =
@@ -157,17 +157,26 @@ module _ (basis : Basis) (R : ℕ → Text → Type 0) (free : HasNoCycle basis.
           own_asked (Answers basis true R d pending) (IsAnswered rows (λ m b. Unit {0}) (IsWritten Nothing (Bare d)) (Bare d)) basis e
           (λ a t c. answer_bare d pending n lead deeper a t (subst (λ (ms : List ℕ). Contains ms (row_asked a)) (sym numbers) c)) s g
 
-no_item : (xs : List Data) → all_pass (λ x. false) xs ≡ true → xs ≡ []
+pub no_item : (xs : List Data) → all_pass (λ x. false) xs ≡ true → xs ≡ []
 no_item [] h = refl
 no_item (x ∷ xs) h = cc
 
--- the document of a row refers to nothing
+-- the document of a row has no part that is a reference
+pub bare_document : (basis : Basis) (R : ℕ → Text → Type 0) (n : ℕ) (s : Data) → HasNoCycle basis.rows
+    → IsDocument basis true R [] n s → (d : ℕ) × Describes basis Nothing d n s
+bare_document basis R n s free h =
+    (h.0, bare-within basis R free h.0 (pending_in true [] n) n s (lead_within basis.rows [] n (λ m is. cc)) h.1)
+
+pub bare_silent : (basis : Basis) (d n : ℕ) (s : Data) → IsPlainTable basis.rows → Describes basis Nothing d n s → references s ≡ []
+bare_silent basis d n s plain h =
+    no_item (references s)
+    (described_resolved (λ x. false) basis Nothing (plain_rows basis.rows plain) (λ j r never. absurd never) d n s h).1
+
+-- so it refers to nothing
 pub bare : (basis : Basis) (R : ℕ → Text → Type 0) (n : ℕ) (s : Data) → IsPlainTable basis.rows → HasNoCycle basis.rows
     → IsDocument basis true R [] n s → references s ≡ []
 bare basis R n s plain free h =
-    let described = bare-within basis R free h.0 (pending_in true [] n) n s (lead_within basis.rows [] n (λ m is. cc)) h.1 in
-    no_item (references s)
-    (described_resolved (λ x. false) basis Nothing (plain_rows basis.rows plain) (λ j r never. absurd never) h.0 n s described).1
+    let described = bare_document basis R n s free h in bare_silent basis described.0 n s plain described.1
 
 -- where rows are inlined and none is pending, each is in place
 pub part_inlined : (s : State) (n : ℕ) (d : Data) → IsSubschema (state_plan s None) false (work_of s) n d → IsInlined s d
@@ -190,7 +199,7 @@ unreached : (path : Text) (ms : Members) (k : Text) → IsReached path ms [] k �
 unreached path ms k (by_reference q is) = absurd (omega (arith, is.1))
 unreached path ms k (by_definition q l d is at more) = unreached path ms l is
 
-no_definition : (path : Text) (ms : Members)
+pub no_definition : (path : Text) (ms : Members)
     → ((k : Text) (d : Data) → get_member k ms ≡ Some d → IsReached path ms [] k) → ms ≡ no_members
 no_definition path no_members all = refl
 no_definition path (member k d ms) all =
@@ -198,13 +207,18 @@ no_definition path (member k d ms) all =
     (tied_itself nat_list_cmp_total k) in
     absurd (unreached path (member k d ms) k (all k d there))
 
-pub root_inlined : (s : State) (n : ℕ) (w : Work) (d : Data) → IsRootOf s n w d → s.definitions ≡ no_members → IsInlined s d
-root_inlined s n w d root none inlines plain free =
+-- the root document is that of the row alone, which has no part that is a reference
+pub root_bare : (s : State) (n : ℕ) (w : Work) (d : Data) (root : IsRootOf s n w d) → s.settings.inlines ≡ true → IsPlainTable s.rows
+    → HasNoCycle s.rows → s.definitions ≡ no_members
+    → (w.definitions ≡ no_members) × ((depth : ℕ) × Describes (basis_of_plan (state_plan s (Some n))) Nothing depth n root.own)
+    × (root_document (name_at s.rows n) s.settings.meta_schema root.own ≡ d)
+root_bare s n w d root inlines plain free none =
     let plan = state_plan s (Some n) in
     let R = Refers plan true w in
-    let own : references root.own ≡ [] =
-    bare (basis_of_plan plan) R n root.own plain free
+    let described : (depth : ℕ) × Describes (basis_of_plan plan) Nothing depth n root.own =
+    bare_document (basis_of_plan plan) R n root.own free
     (subst (λ b. IsDocument (basis_of_plan plan) b R [] n root.own) inlines root.is_document) in
+    let own : references root.own ≡ [] = bare_silent (basis_of_plan plan) described.0 n root.own plain described.1 in
     let P : List Data → Type 0 = λ from. (k : Text) (e : Data) → get_member k s.definitions ≡ None → get_member k w.definitions ≡ Some e
     → IsReached plan.path w.definitions from k in
     let reached : P [] = subst P own (root.reached plain).definitions in
@@ -213,5 +227,11 @@ root_inlined s n w d root none inlines plain free =
     let Q : Members → Type 0 = λ ms. with_definitions plan.path ms (root_document (name_at s.rows n) s.settings.meta_schema root.own)
     ≡ Some d in
     let same : Q no_members = subst Q nothing root.is_root in
-    let whole : root_document (name_at s.rows n) s.settings.meta_schema root.own ≡ d = cc in
-    sym (ap references whole) ∙ (references-root (name_at s.rows n) s.settings.meta_schema root.own ∙ own)
+    (nothing, described, cc)
+
+pub root_inlined : (s : State) (n : ℕ) (w : Work) (d : Data) → IsRootOf s n w d → s.definitions ≡ no_members → IsInlined s d
+root_inlined s n w d root none inlines plain free =
+    let parts = root_bare s n w d root inlines plain free none in
+    let basis = basis_of_plan (state_plan s (Some n)) in
+    sym (ap references parts.2)
+    ∙ (references-root (name_at s.rows n) s.settings.meta_schema root.own ∙ bare_silent basis parts.1.0 n root.own plain parts.1.1)

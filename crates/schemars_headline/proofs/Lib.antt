@@ -12,7 +12,6 @@ pub mod NamedKeys
 pub mod Calls
 pub mod Larger
 pub mod Inlined
-pub mod Same
 pub mod Endless
 pub mod Paths
 pub mod Changes
@@ -27,5 +26,9 @@ pub mod Accepting
 pub mod ReferencesKept
 pub mod DialectsResolving
 pub mod DialectRoots
+pub mod Same
+pub mod InlinedDrafts
+pub mod Needed
+pub mod Beside
 pub mod Samples
 pub mod Taken

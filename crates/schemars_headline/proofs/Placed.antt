@@ -29,7 +29,7 @@ stands_key path key (inr is) = inr is.1
 
 -- ---- found again
 
-pointer_key : (path key : Text) → StandsAt path key → (ms : Members) → pointer path (object ms) ≡ get_member key ms
+pub pointer_key : (path key : Text) → StandsAt path key → (ms : Members) → pointer path (object ms) ≡ get_member key ms
 unfolding walk unescape
 pointer_key path key (inl is) ms = rw (is.0, is.1)
 pointer_key path key (inr is) ms = rw (is.0, is.1)

@@ -58,7 +58,7 @@ stands-draft path key (inl at) = inl at.0
 stands-draft path key (inr at) = inr at.0
 
 -- a path leads to one key
-same_key : (path a b : Text) → StandsAt path a → StandsAt path b → a ≡ b
+pub same_key : (path a b : Text) → StandsAt path a → StandsAt path b → a ≡ b
 same_key path a b (inl x) (inl y) = x.1 ∙ sym y.1
 same_key path a b (inl x) (inr y) =
     absurd (true≢false (ap (λ p. bytes_eq p (codes "/$defs")) (sym x.0 ∙ y.0)))
@@ -101,7 +101,7 @@ module _ (R : Demand) where
   are-with_meta_schema None ms is = is
   are-with_meta_schema (Some uri) ms is = are-put R (codes "$schema") (string uri) ms refl tt is
 
-  root-are : (name : Text) (uri : Option Text) (s : Data) → IsGood R s → AreGood R (members_in (root_document name uri s))
+  pub root-are : (name : Text) (uri : Option Text) (s : Data) → IsGood R s → AreGood R (members_in (root_document name uri s))
   root-are name uri s is =
       are-with_meta_schema uri (with_title name (members_in s)) (are-titled name (members_in s) (good-members R s is))
 
@@ -111,7 +111,7 @@ module _ (R : Demand) where
   definitions-asked (member k d ms) all = (all.0.everywhere, definitions-asked ms all.1)
 
   -- the members of the class with the definitions at their key
-  with-definitions : (path key : Text) → StandsAt path key → (definitions ms : Members) → AllMembers (IsGood R) definitions
+  pub with-definitions : (path key : Text) → StandsAt path key → (definitions ms : Members) → AllMembers (IsGood R) definitions
       → AreGood R ms → AreGood R (put key (object definitions) ms)
   unfolding asked
   with-definitions path key at definitions ms all is =
@@ -164,7 +164,7 @@ noted-literal : (kind : Shape) → IsNotedShape kind → HasPlainLiteral kind
 noted-literal (shape.literal d) own = own
 noted-literal kind own = tt
 
-noted_notes : (rows : List Row) → AreNotedRows rows → HasPlainNotes rows
+pub noted_notes : (rows : List Row) → AreNotedRows rows → HasPlainNotes rows
 noted_notes rows noted n = go (entry_at rows n) (noted n)
   where
     go : (o : Option Entry) → IsNotedRow o → IsNotedEntry o

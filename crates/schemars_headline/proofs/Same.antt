@@ -1,28 +1,37 @@
--- All root documents of a row accept the same values: those with rows in place, and those with references.
-use Rattle.std.proofs.Common.{◌≡◌, ◌∙◌, ℕ, List, inl, sym, subst}
+-- All root documents of a row accept the same values: those with rows in place and those with references, each in its own draft.
+use Rattle.std.proofs.Common.{◌≡◌, ℕ, List, inl, inr, Bool, true, false, sym, subst}
 use Rattle.serde_json.specs.Data.{Data}
 use Rattle.schemars_schema.specs.Json.{Text}
-use Rattle.schemars_schema.specs.Acceptance.{draft2020_12}
+use Rattle.schemars_schema.specs.Verdict.{Verdict, verdict}
+use Rattle.schemars_schema.specs.Acceptance.{Dialect}
 use Rattle.schemars_types.specs.Rows.{Row}
 use Rattle.schemars_types.specs.declared.contract.Contract.{Contract}
-use Rattle.schemars_documents.specs.PlainTable.{IsPlainTable}
-use Rattle.schemars_headline.specs.State.{State, Settings, path_of, HasOwnDefinitions}
-use Rattle.schemars_headline.specs.Headline.{MeansItsType, HaveSameAcceptance, RootHeadline, IsDraftPath}
+use Rattle.schemars_types.specs.Meaning.{belongs}
+use Rattle.schemars_headline.specs.State.{State, path_of}
+use Rattle.schemars_headline.specs.Headline.{MeansItsType, RootHeadline}
+use Rattle.schemars_headline.specs.Same.{IsSameAnswer, HaveSameAcceptance, RootsHaveSameAcceptance}
 
-same_meaning : (rows : List Row) (contract : Contract) (path other_path : Text) (n : ℕ) (document other : Data)
-    → MeansItsType draft2020_12 rows contract path n document → MeansItsType draft2020_12 rows contract other_path n other
-    → HaveSameAcceptance path document other_path other
-same_meaning rows contract path other_path n document other h g patterns v json j k enough more =
-    h.accepts_its_values patterns v json j enough ∙ sym (g.accepts_its_values patterns v json k more)
+told : (x y : Verdict) (b : Bool) → x ≡ verdict b → y ≡ verdict b → IsSameAnswer x y
+told x y true h g = inl (h, g)
+told x y false h g = inr (h, g)
 
--- whatever the settings, of a table with the same rows for the same contract
-pub same_acceptance : (s : State) (settings : Settings) (n : ℕ) (document other : Data) → IsPlainTable s.rows
-    → settings.contract ≡ s.settings.contract → HasOwnDefinitions s → HasOwnDefinitions (record s { settings = settings })
-    → IsDraftPath (path_of s) → IsDraftPath (path_of (record s { settings = settings }))
-    → RootHeadline draft2020_12 s n document → RootHeadline draft2020_12 (record s { settings = settings }) n other
-    → HaveSameAcceptance (path_of s) document (path_of (record s { settings = settings })) other
-same_acceptance s settings n document other plain same own also draft drafted h g =
-    let t = record s { settings = settings } in
-    let P : Contract → Type 0 = λ c. MeansItsType draft2020_12 s.rows c (path_of t) n other in
-    let means : P s.settings.contract = subst P (same) (g also drafted (inl plain)) in
-    same_meaning s.rows s.settings.contract (path_of s) (path_of t) n document other (h own draft (inl plain)) means
+-- two documents that mean one row
+pub same_meaning : (rows : List Row) (contract : Contract) (n : ℕ) (dialect : Dialect) (path : Text) (document : Data)
+    (other_dialect : Dialect) (other_path : Text) (other : Data) → MeansItsType dialect rows contract path n document
+    → MeansItsType other_dialect rows contract other_path n other
+    → HaveSameAcceptance dialect path document other_dialect other_path other
+same_meaning rows contract n dialect path document other_dialect other_path other h g patterns v json j k enough more =
+    told _ _ (belongs rows contract patterns n v) (h.accepts_its_values patterns v json j enough)
+    (g.accepts_its_values patterns v json k more)
+
+-- root documents of one row of two generators over one table
+pub same_roots : (n : ℕ) (dialect : Dialect) (s : State) (document : Data) (other_dialect : Dialect) (t : State) (other : Data)
+    → RootHeadline dialect s n document → RootHeadline other_dialect t n other
+    → RootsHaveSameAcceptance dialect s document other_dialect t other
+same_roots n dialect s document other_dialect t other h g share ready also =
+    let Means : List Row → Contract → Type 0 = λ rows contract. MeansItsType other_dialect rows contract (path_of t) n other in
+    let on_rows : Means s.rows t.settings.contract =
+    subst (λ rows. Means rows t.settings.contract) (sym share.0) (g also.0 also.1 also.2) in
+    let means : Means s.rows s.settings.contract = subst (Means s.rows) (sym share.1) on_rows in
+    same_meaning s.rows s.settings.contract n dialect (path_of s) document other_dialect (path_of t) other
+    (h ready.0 ready.1 ready.2) means

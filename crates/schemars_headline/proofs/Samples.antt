@@ -1,12 +1,16 @@
 -- Root documents of examples accept them in Draft 7 and 2019-09 too, after the transforms of these drafts.
 use Rattle.std.proofs.Common.{◌≡◌, ℕ, List, [], ◌∷◌, inl, inr, Option, Some, None, true, codes, refl, sym, ap, ◌∙◌, subst}
-use Rattle.serde_json.specs.Data.{Data, string, array, object, no_items, item, Members, no_members, put}
+use Rattle.serde_json.specs.Data.{Data, null, boolean, number, string, array, object, no_items, item, Members, no_members, put}
 use Rattle.serde_json.specs.Find.{get_member}
 use Rattle.serde_json.specs.View.{items_of}
 use Rattle.schemars_schema.specs.Json.{Text}
+use Rattle.schemars_schema.specs.OrderedText.{is_listed}
+use Rattle.schemars_schema.specs.Annotations.{keyword_names}
 use Rattle.schemars_schema.specs.SchemaData.{members_in}
 use Rattle.schemars_schema.specs.Verdict.{Yes}
-use Rattle.schemars_schema.specs.Acceptance.{Patterns, draft2020_12, draft2019_09, draft07, accepts, follow}
+use Rattle.schemars_schema.specs.Acceptance.{Dialect, Patterns, draft2020_12, draft2019_09, draft07, accepts, context, follow}
+use Rattle.schemars_schema.proofs.Members.{differ}
+use Rattle.schemars_schema.proofs.Objects.{IsSilent}
 use Rattle.schemars_types.specs.declared.contract.Contract.TheVariants.{Serialize}
 use Rattle.schemars_sample.specs.Example.{Example, truth, whole, character, text, bytes, no_value, some_value}
 use Rattle.schemars_sample.specs.Example.{unit_struct, unit_variant, newtype_struct, newtype_variant, seq, tuple}
@@ -19,28 +23,35 @@ use Rattle.schemars_sample.specs.SampleSchema.{titled_schema, with_name, with_ex
 use Rattle.schemars_sample.specs.Accepted.{AcceptsExample}
 use Rattle.schemars_sample.proofs.Choices.{one_beside-holds, shared_by-holds}
 use Rattle.schemars_sample.proofs.Unplaced.{root_free}
-use Rattle.schemars_build.specs.Work.{Plan, Work, basis_of_plan}
-use Rattle.schemars_headline.specs.State.{State, path_of, state_plan, work_of}
+use Rattle.schemars_walk.specs.Rewritten.{Rules, rewritten}
+use Rattle.schemars_transform.specs.Built.{without_siblings, remove_ref_siblings, prefix_as_items, replace_prefix_items}
+use Rattle.schemars_transform.specs.Unevaluated.{unevaluated_as_additional, replace_unevaluated_properties}
+use Rattle.schemars_headline.specs.State.{State, path_of}
 use Rattle.schemars_headline.specs.Headline.{with_definitions, IsDraftPath}
 use Rattle.schemars_headline.specs.Keys.{HasKeysOnce}
-use Rattle.schemars_headline.proofs.Keys.{AllMembers, all_members, IsDefinitionsKey}
-use Rattle.schemars_headline.proofs.Standing.{MayRefer, AllStand, stands_now}
-use Rattle.schemars_headline.proofs.Placed.{StandsAt, stands_key, placed_in}
-use Rattle.schemars_laws.specs.Everywhere.{asked, asked_of_members}
-use Rattle.schemars_laws.specs.Names.{IsName}
-use Rattle.schemars_laws.specs.Classes.{AreSchemas, IsDraft07, HasPlainItems}
-use Rattle.schemars_laws.proofs.Drafts.{draft07-law, draft2019_09-law}
+use Rattle.schemars_headline.proofs.Keys.{IsDefinitionsKey}
+use Rattle.schemars_headline.proofs.Placed.{StandsAt, IsPlaced, placed_in, draft_key}
+use Rattle.schemars_laws.specs.Everywhere.{Everywhere, asked, asked_of_members}
+use Rattle.schemars_laws.specs.Names.{NamedBy}
+use Rattle.schemars_laws.specs.Classes.{IsOnce, AreSchemas, HasPlainItems, HasPlainReference, HasNoUnevaluated}
+use Rattle.schemars_laws.specs.Classes.{alone_by, without_unevaluated}
+use Rattle.schemars_laws.specs.Stages.{IsTextWith, Stands, IsForOpenApi, AfterNullable, AfterSiblings}
 use Rattle.schemars_laws.specs.Laws.{for_draft07, for_draft2019_09}
-use Rattle.schemars_headline.specs.Drafts.{HasPlainDefinitions, AcceptsExampleUnder}
-use Rattle.schemars_headline.specs.Drafts.{Draft2020_12, Draft2019_09, Draft07, DraftSamples}
+use Rattle.schemars_laws.proofs.Looked.{change_rules}
+use Rattle.schemars_laws.proofs.Moved.{Rewrites, schema-moved}
+use Rattle.schemars_laws.proofs.Preserved.{after, weaker}
+use Rattle.schemars_laws.proofs.Seven.{keep-unevaluated, keep-siblings}
+use Rattle.schemars_laws.proofs.Steps.{text-alone, text-named}
+use Rattle.schemars_laws.proofs.Laws.{unevaluated-moves, siblings-moves, prefix-moves}
+use Rattle.schemars_headline.specs.Drafts.{Draft, Draft2020_12, Draft2019_09, Draft07, dialect_of, made_for}
+use Rattle.schemars_headline.specs.Drafts.{AcceptsExampleUnder, DraftSamples}
 use Rattle.schemars_headline.proofs.Changes.{Demand, without_rest, Class, for_openapi, for_items, AreGood, are-put, IsGood, good}
 use Rattle.schemars_headline.proofs.Changes.{good_truth, good-members, good-allow_null}
 use Rattle.schemars_headline.proofs.Documents.{own-items, type-good, are-typed, char-good, bytes-good, seq-good, AllGood, asked-items}
 use Rattle.schemars_headline.proofs.Documents.{any_of-good, asked-named}
-use Rattle.schemars_headline.proofs.Classes.{described-good, good-named, items-named}
-use Rattle.schemars_headline.proofs.RootClass.{IsReady, are-with_meta_schema, placed-ready, may_refer-name, stands-place, stands-draft}
-use Rattle.schemars_headline.proofs.Accepting.{moved, not-properties}
-use Rattle.schemars_headline.proofs.DialectRoots.{key_at}
+use Rattle.schemars_headline.proofs.RootClass.{are-with_meta_schema, same_key, with-definitions}
+use Rattle.schemars_headline.proofs.Beside.{DifferIn, differ-same, differ-placed, differ-then, judge-differ, unevaluated-differ}
+use Rattle.schemars_headline.proofs.Beside.{siblings-differ, prefix-differ}
 
 -- ---- the schema of an example
 
@@ -163,69 +174,192 @@ definitions_free meta_schema x key (inl is) =
 definitions_free meta_schema x key (inr is) =
     ap (λ k. get_member k (members_in (sample_root meta_schema x))) is ∙ (root_free meta_schema x).1
 
--- plain definitions are of the class
-definitions-good : (s : State) (key : Text) → StandsAt (path_of s) key → HasKeysOnce s.definitions → HasPlainDefinitions s
-    → AllMembers (IsGood (without_rest (IsName key))) s.definitions
-definitions-good s key at once (inl none) = subst (AllMembers (IsGood (without_rest (IsName key)))) (sym none) tt
-definitions-good s key at once (inr (own, plain)) =
-    all_members (IsGood (without_rest (IsName key))) s.definitions once (λ k d found.
-    let definition = standing k d found in
-    described-good (without_rest (IsName key)) (basis_of_plan plan) (MayRefer plan w) (may_refer-name plan w key at standing) plain
-    definition.depth definition.row d definition.describes)
-  where
-    plan : Plan
-    plan = state_plan s None
+-- ---- the document without what its definitions hold
 
-    w : Work
-    w = work_of s
+abbrev Never : Text → Type 0
+Never t = ⊥
 
-    standing : AllStand plan w
-    standing k d found = stands_now plan w k d (own k d found)
+-- the class of those that refer to nothing
+abbrev unreferred : Demand
+unreferred = without_rest Never
 
-module _ (s : State) (x : Example) (document : Data) (key : Text) (at : StandsAt (path_of s) key)
-    (once : HasKeysOnce s.definitions) (plain : HasPlainDefinitions s)
-    (made : with_definitions (path_of s) s.definitions (sample_root s.settings.meta_schema x) ≡ Some document)
+-- an object of the class that differs from the document in what its definitions hold alone
+abbrev IsBeside : Text → Data → Members → Type 0
+IsBeside key document ns = DifferIn key document (object ns) × AreGood unreferred ns
+
+module _ (meta_schema : Option Text) (x : Example) (path key : Text) (at : StandsAt path key) (definitions : Members) where
+  abbrev own : Members
+  own = members_in (sample_root meta_schema x)
+
+  beside : (document : Data) → IsPlaced path definitions (object own) document → (ns : Members) × IsBeside key document ns
+  beside document (inl placed) =
+      (own, ((own, own, placed.1, refl, differ-same key own), root-good unreferred meta_schema x))
+  beside document (inr (other, at_other, placed)) =
+      let same : document ≡ object (put key (object definitions) own) =
+      placed ∙ ap (λ k. object (put k (object definitions) own)) (same_key path other key at_other at) in (
+        put key (object no_members) own,
+        (
+          subst (λ d. DifferIn key d (object (put key (object no_members) own))) (sym same)
+              (differ-placed key (object definitions) (object no_members) own),
+          with-definitions unreferred path key at no_members own tt (root-good unreferred meta_schema x),
+        ),
+      )
+
+stands-silent : (path key : Text) → StandsAt path key → IsSilent key
+stands-silent path key (inl at) = ap (λ k. is_listed k keyword_names) at.1
+stands-silent path key (inr at) = ap (λ k. is_listed k keyword_names) at.1
+
+-- ---- what the transforms make of it
+
+-- where nothing is referred to, a transform moves acceptance in whatever document
+alone-moved : {R : Type 0} (ρ : Rules R) (r : R) (old new : Dialect) (Q : Members → Type 0) → Rewrites ρ old new Q → (document : Data)
+    (patterns : Patterns) (followed : ℕ) (part v : Data) → Everywhere (NamedBy Never Q) part
+    → accepts new document patterns followed (rewritten ρ r part) v ≡ accepts old document patterns followed part v
+alone-moved ρ r old new Q moves document patterns followed part v is =
+    schema-moved ρ Never old new Q moves document document (λ t never. absurd never) patterns followed r part v is
+
+named : (P Q : Members → Type 0) → ((ms : Members) → P ms → Q ms) → (s : Data) → Everywhere (Stands Never P) s
+    → Everywhere (NamedBy Never Q) s
+named P Q own s is =
+    weaker (Stands Never P) (NamedBy Never Q)
+    (λ ms h. (text-named Never (get_member (codes "$ref") ms) h.reference, h.closed, own ms h.own)) s is
+
+own_of : (C : Members → Type 0) (s : Data) (ms : Members) → s ≡ object ms → Everywhere C s → C ms
+unfolding asked
+own_of C s ms same is = (subst (Everywhere C) same is).0
+
+no_reference : (o : Option Data) → IsTextWith Never o → o ≡ None
+no_reference None is = refl
+no_reference (Some null) is = absurd is
+no_reference (Some (boolean b)) is = absurd is
+no_reference (Some (number n)) is = absurd is
+no_reference (Some (string t)) is = absurd is
+no_reference (Some (array ds)) is = absurd is
+no_reference (Some (object ms)) is = absurd is
+
+-- the object before the transforms of Draft 7, and after the first of them and the second
+module _ (ns : Members) (is : Everywhere (Stands Never IsForOpenApi) (object ns)) where
+  abbrev first : Data
+  first = replace_unevaluated_properties (object ns)
+
+  abbrev second : Data
+  second = remove_ref_siblings first
+
+  is-first : Everywhere (Stands Never IsForOpenApi) first
+  is-first =
+      after (change_rules unevaluated_as_additional) (Stands Never IsForOpenApi) (Stands Never IsForOpenApi) (keep-unevaluated Never) tt
+      (object ns) is
+
+  is-second : Everywhere (Stands Never AfterSiblings) second
+  is-second =
+      after (change_rules without_siblings) (Stands Never AfterNullable) (Stands Never AfterSiblings) (keep-siblings Never) tt first
+      (weaker (Stands Never IsForOpenApi) (Stands Never AfterNullable) (λ ms h. record {
+        reference = h.reference;
+        once = h.once;
+        closed = h.closed;
+        own = (h.own.all_of, h.own.const, h.own.items);
+      }) first is-first)
+
+  plain_reference : (ms : Members) → IsForOpenApi ms → IsOnce (codes "$ref") ms → IsTextWith Never (get_member (codes "$ref") ms)
+      → HasPlainReference ms
+  plain_reference ms own once reference = (once, text-alone Never (get_member (codes "$ref") ms) reference, own.all_of)
+
+  referred : (s : Data) → Everywhere (Stands Never IsForOpenApi) s → Everywhere (NamedBy Never HasPlainReference) s
+  referred s all =
+      weaker (Stands Never IsForOpenApi) (NamedBy Never HasPlainReference) (λ ms h. (
+        text-named Never (get_member (codes "$ref") ms) h.reference,
+        h.closed,
+        plain_reference ms h.own h.once h.reference,
+      )) s all
+
+  -- in whatever document, Draft 7 reads what the transforms made as 2020-12 read it before
+  draft07-alone : (document : Data) (patterns : Patterns) (followed : ℕ) (v : Data)
+      → accepts draft07 document patterns followed (for_draft07 (object ns)) v
+      ≡ accepts draft2020_12 document patterns followed (object ns) v
+  draft07-alone document patterns followed v =
+      alone-moved (change_rules prefix_as_items) tt (alone_by gone) draft07 HasPlainItems
+      (prefix-moves (codes "$defs") refl (alone_by gone)).rewrites document patterns followed second v
+      (named AfterSiblings HasPlainItems (λ ms h. h.1) second is-second)
+      ∙ (alone-moved (change_rules without_siblings) tt gone (alone_by gone) HasPlainReference
+      (siblings-moves (codes "$defs") refl gone).rewrites document patterns followed first v (referred first is-first)
+      ∙ alone-moved (change_rules unevaluated_as_additional) tt draft2020_12 gone HasNoUnevaluated
+      (unevaluated-moves (codes "$defs") refl draft2020_12 (differ (codes "$defs") (codes "properties") refl)).rewrites document patterns
+      followed (object ns) v (named IsForOpenApi HasNoUnevaluated (λ ms h. h.unevaluated) (object ns) is))
+    where
+      gone : Dialect
+      gone = without_unevaluated draft2020_12
+
+  module _ (key : Text) (silent : IsSilent key) (document : Data) (differs : DifferIn key document (object ns)) where
+    draft07-differs : DifferIn key (for_draft07 document) (for_draft07 (object ns))
+    draft07-differs =
+        differ-then key replace_prefix_items (λ ms. Unit {0}) (λ m n p h. prefix-differ key silent m n h)
+        (remove_ref_siblings (replace_unevaluated_properties document)) second two (λ ms same. tt)
+      where
+        one : DifferIn key (replace_unevaluated_properties document) first
+        one =
+            differ-then key replace_unevaluated_properties (λ ms. get_member (codes "unevaluatedProperties") ms ≡ None)
+            (λ m n p h. unevaluated-differ key silent m n p h) document (object ns) differs
+            (λ ms same. (own_of (Stands Never IsForOpenApi) (object ns) ms same is).own.unevaluated.1)
+
+        two : DifferIn key (remove_ref_siblings (replace_unevaluated_properties document)) second
+        two =
+            differ-then key remove_ref_siblings (λ ms. get_member (codes "$ref") ms ≡ None)
+            (λ m n p h. siblings-differ key silent m n p h) (replace_unevaluated_properties document) first one
+            (λ ms same. no_reference (get_member (codes "$ref") ms) (own_of (Stands Never IsForOpenApi) first ms same is-first).reference)
+
+-- ---- the example is accepted
+
+module _ (x : Example) (document : Data) (key : Text) (silent : IsSilent key) (ns : Members) (beside_it : IsBeside key document ns)
     (fits : AcceptsExample x document) where
-  abbrev names : Demand
-  names = without_rest (IsName key)
+  class : Everywhere (Class unreferred) (object ns)
+  class = (good unreferred ns beside_it.1).everywhere
 
-  ready : IsReady (Class names) key s.definitions document
-  ready =
-      let free = definitions_free s.settings.meta_schema x in
-      let ms = members_in (sample_root s.settings.meta_schema x) in
-      placed-ready names (path_of s) key s.definitions ms document at (definitions-good s key at once plain)
-      (root-good names s.settings.meta_schema x) (free key (stands_key (path_of s) key at))
-      (placed_in (path_of s) s.definitions ms document (stands-draft (path_of s) key at) free made)
-
-  before : (patterns : Patterns) (followed : ℕ) (json : Data) → sample_json x ≡ Some json
-      → accepts draft2020_12 document patterns followed document json ≡ Yes
-  before patterns followed json is = fits patterns (follow draft2020_12 document patterns followed) json is
+  -- under 2020-12, in whatever document
+  before : (other : Data) (patterns : Patterns) (followed : ℕ) (json : Data) → sample_json x ≡ Some json
+      → accepts draft2020_12 other patterns followed (object ns) json ≡ Yes
+  before other patterns followed json is =
+      sym (ap (λ j. j.fits json) (judge-differ key silent (context draft2020_12 other patterns followed) document (object ns) beside_it.0))
+      ∙ fits patterns (follow draft2020_12 other patterns followed) json is
 
   after07 : AcceptsExampleUnder draft07 x (for_draft07 document)
   after07 patterns followed json is =
-      moved for_draft07 draft07 key IsDraft07
-      (draft07-law key (stands-place (path_of s) key at) (not-properties (path_of s) key at))
-      document ready.inside ready.is_object ready.is_map
-      (good-named key document (for_openapi (IsName key) document ready.everywhere)) patterns followed json
-      ∙ before patterns followed json is
+      let all = for_openapi Never (object ns) class in
+      ap (λ j. j.fits json) (judge-differ key silent (context draft07 (for_draft07 document) patterns followed) (for_draft07 document)
+      (for_draft07 (object ns)) (draft07-differs ns all key silent document beside_it.0))
+      ∙ (draft07-alone ns all (for_draft07 document) patterns followed json ∙ before (for_draft07 document) patterns followed json is)
 
   after2019_09 : AcceptsExampleUnder draft2019_09 x (for_draft2019_09 document)
   after2019_09 patterns followed json is =
-      moved for_draft2019_09 draft2019_09 key HasPlainItems
-      (draft2019_09-law key (stands-place (path_of s) key at) (not-properties (path_of s) key at))
-      document ready.inside ready.is_object ready.is_map
-      (items-named key document (for_items names document ready.everywhere)) patterns followed json
-      ∙ before patterns followed json is
+      let made = for_draft2019_09 document in
+      ap (λ j. j.fits json) (judge-differ key silent (context draft2019_09 made patterns followed) made (for_draft2019_09 (object ns))
+      (differ-then key replace_prefix_items (λ ms. Unit {0}) (λ m n p h. prefix-differ key silent m n h) document (object ns) beside_it.0
+      (λ ms same. tt)))
+      ∙ (alone-moved (change_rules prefix_as_items) tt draft2020_12 draft2019_09 HasPlainItems
+      (prefix-moves (codes "$defs") refl draft2020_12).rewrites made patterns followed (object ns) json
+      (named HasPlainItems HasPlainItems (λ ms h. h) (object ns) (for_items unreferred (object ns) class))
+      ∙ before made patterns followed json is)
 
 -- what is made of an example accepts it in each draft
-pub draft_samples : (s : State) (x : Example) (d : Data) → HasKeysOnce s.definitions
+pub draft_samples : (s : State) (x : Example) (d : Data)
     → with_definitions (path_of s) s.definitions (sample_root s.settings.meta_schema x) ≡ Some d
     → (IsDraftPath (path_of s) → AcceptsExample x d) → DraftSamples s x d
-draft_samples s x d once made fits Draft2020_12 path held =
-    λ patterns followed json is. fits path patterns (follow draft2020_12 d patterns followed) json is
-draft_samples s x d once made fits Draft2019_09 path plain =
-    let place = key_at (path_of s) path in
-    after2019_09 s x d place.0 place.1 once plain made (fits path)
-draft_samples s x d once made fits Draft07 path plain =
-    let place = key_at (path_of s) path in
-    after07 s x d place.0 place.1 once plain made (fits path)
+draft_samples s x d made fits draft path = by draft
+  where
+    place : (key : Text) × StandsAt (path_of s) key
+    place = draft_key (path_of s) path
+
+    silent : IsSilent place.0
+    silent = stands-silent (path_of s) place.0 place.1
+
+    own : Members
+    own = members_in (sample_root s.settings.meta_schema x)
+
+    there : (ns : Members) × IsBeside place.0 d ns
+    there =
+        beside s.settings.meta_schema x (path_of s) place.0 place.1 s.definitions d
+        (placed_in (path_of s) s.definitions own d path (definitions_free s.settings.meta_schema x) made)
+
+    by : (draft : Draft) → AcceptsExampleUnder (dialect_of draft) x (made_for draft d)
+    by Draft07 = after07 x d place.0 silent there.0 there.1 (fits path)
+    by Draft2019_09 = after2019_09 x d place.0 silent there.0 there.1 (fits path)
+    by Draft2020_12 = λ patterns followed json is. fits path patterns (follow draft2020_12 d patterns followed) json is

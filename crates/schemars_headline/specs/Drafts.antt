@@ -1,13 +1,12 @@
 -- The drafts of JSON Schema: what each promises of the documents that the transforms of its settings make.
-use Rattle.std.specs.Prelude.{◌≡◌, ◌⊎◌, ℕ, Some}
-use Rattle.serde_json.specs.Data.{Data, no_members}
+use Rattle.std.specs.Prelude.{◌≡◌, ℕ, Some}
+use Rattle.serde_json.specs.Data.{Data}
 use Rattle.schemars_schema.specs.Verdict.{Yes}
 use Rattle.schemars_schema.specs.Acceptance.{Dialect, Patterns, draft2020_12, draft2019_09, draft07, accepts}
 use Rattle.schemars_laws.specs.Laws.{for_draft07, for_draft2019_09}
-use Rattle.schemars_documents.specs.PlainTable.{IsPlainTable}
 use Rattle.schemars_sample.specs.Example.{Example}
 use Rattle.schemars_sample.specs.SampleJson.{sample_json}
-use Rattle.schemars_headline.specs.State.{State, path_of, HasOwnDefinitions}
+use Rattle.schemars_headline.specs.State.{State, path_of}
 use Rattle.schemars_headline.specs.Headline.{IsDraftPath, RootHeadline}
 
 pub data Draft : Type 0 where
@@ -40,21 +39,10 @@ AcceptsExampleUnder dialect x document =
     (patterns : Patterns) (followed : ℕ) (json : Data) → sample_json x ≡ Some json
     → accepts dialect document patterns followed document json ≡ Yes
 
--- no definitions, or the generator's own, of a plain table
-abbrev pub HasPlainDefinitions : State → Type 0
-HasPlainDefinitions s = (s.definitions ≡ no_members) ⊎ (HasOwnDefinitions s × IsPlainTable s.rows)
-
--- the definitions that a document of an example may stand beside: any in 2020-12, whose settings have no transforms
-abbrev pub HasDefinitionsFor : Draft → State → Type 0
-HasDefinitionsFor Draft2020_12 s = Unit {0}
-HasDefinitionsFor Draft2019_09 s = HasPlainDefinitions s
-HasDefinitionsFor Draft07 s = HasPlainDefinitions s
-
--- the document of an example accepts it, beside definitions at the path of a draft
-abbrev pub SampleHeadline : Draft → State → Example → Data → Type 0
-SampleHeadline draft s x document =
-    IsDraftPath (path_of s) → HasDefinitionsFor draft s → AcceptsExampleUnder (dialect_of draft) x document
+-- the document of an example accepts it, whatever definitions are at the path of a draft beside it
+abbrev pub SampleHeadline : Dialect → State → Example → Data → Type 0
+SampleHeadline dialect s x document = IsDraftPath (path_of s) → AcceptsExampleUnder dialect x document
 
 -- in each draft, for what is made for it of the root document of an example
 abbrev pub DraftSamples : State → Example → Data → Type 0
-DraftSamples s x document = (draft : Draft) → SampleHeadline draft s x (made_for draft document)
+DraftSamples s x document = (draft : Draft) → SampleHeadline (dialect_of draft) s x (made_for draft document)

@@ -42,17 +42,11 @@ abbrev pub Headline : Dialect → List Row → Contract → Text → ℕ → Dat
 Headline dialect rows contract path n document =
     IsPlainFor dialect contract rows → MeansItsType dialect rows contract path n document
 
--- two documents accept the same values, under every reading of patterns and each from its own bound on
-abbrev pub HaveSameAcceptance : Text → Data → Text → Data → Type 0
-HaveSameAcceptance path document other_path other =
-    (patterns : Patterns) (v : Data) → IsJson v → (m n : ℕ) → bound path document v ≤ m → bound other_path other v ≤ n
-    → accepts draft2020_12 document patterns m document v ≡ accepts draft2020_12 other patterns n other v
-
 -- the paths of the drafts, and those of all dialects
 abbrev pub IsDraftPath : Text → Type 0
 IsDraftPath path = (path ≡ codes "/$defs") ⊎ (path ≡ codes "/definitions")
 
--- that of a generator whose definitions are its own, and stand at the path of a draft
+-- that of a generator whose definitions are its own, and are at the path of a draft
 abbrev pub RootHeadline : Dialect → State → ℕ → Data → Type 0
 RootHeadline dialect s n document =
     HasOwnDefinitions s → IsDraftPath (path_of s) → Headline dialect s.rows s.settings.contract (path_of s) n document

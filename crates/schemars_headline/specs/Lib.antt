@@ -3,4 +3,8 @@ pub mod State
 pub mod Headline
 pub mod Calls
 pub mod Drafts
+pub mod Inlined
+pub mod Needed
+pub mod Notes
+pub mod Same
 pub mod Taken
