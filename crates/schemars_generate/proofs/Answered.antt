@@ -10,9 +10,18 @@ use Rattle.schemars_build.specs.Work.{Work, Step, Refers, basis_of_plan}
 use Rattle.schemars_build.specs.Parts.{IsSaid, IsFilledOf, IsSubschema, AreNeededFor, IsAnswer}
 use Rattle.schemars_build.proofs.Placing.{Always, filled-wider}
 use Rattle.schemars_headline.specs.State.{State, state_plan, work_of, HasOwnDefinitions}
-use Rattle.schemars_headline.proofs.Calls.{step_kept, part_kept, reached_kept}
-use Rattle.schemars_headline.proofs.NamedKeys.{references_name_keys}
-use Rattle.schemars_generate.specs.Answers.{IsAnswerFor, KeepsDefinitions}
+use Rattle.schemars_headline.proofs.Calls.{step_kept, part_own, part_kept, reached_kept}
+use Rattle.schemars_headline.proofs.NamedKeys.{noted_references_name_keys}
+use Rattle.schemars_headline.proofs.InlinedDrafts.{answer_needs_none}
+use Rattle.schemars_headline.specs.Inlined.{NeedsNoDefinitions}
+use Rattle.schemars_types.specs.Faults.{IsChecked}
+use Rattle.schemars_build.specs.Naming.{IsOneToOne}
+use Rattle.schemars_headline.specs.Calls.{IsPartOf, IsReferenceOf}
+use Rattle.schemars_headline.specs.Headline.{IsInlined}
+use Rattle.schemars_headline.proofs.Calls.{reference_of_part}
+use Rattle.schemars_headline.proofs.Inlined.{part_inlined}
+use Rattle.schemars_headline.proofs.Roots.{subschema_headline}
+use Rattle.schemars_generate.specs.Answers.{IsAnswerFor, IsSubschemaFor, KeepsDefinitions}
 
 abbrev kept : State → Work → State
 kept s w = record s { names = w.names; definitions = w.definitions }
@@ -74,8 +83,36 @@ answered_for s old w x a d between step is same = subst (λ y. IsAnswerFor s (ke
 -- ---- definitions
 
 -- what is the generator's own has references to keys alone
-pub keeps : (old new : State) → (HasOwnDefinitions old → HasOwnDefinitions new) → KeepsDefinitions old new
-keeps old new own = record { own = own; keys = λ is plain. references_name_keys new (own is) plain }
+pub keeps : (old new : State) → (HasOwnDefinitions old → HasOwnDefinitions new) → NeedsNoDefinitions old new → KeepsDefinitions old new
+keeps old new own none = record {
+  own = own;
+  keys = λ is noted. noted_references_name_keys new (own is) noted;
+  none = none;
+}
 
 pub keeps_same : (old new : State) → new ≡ old → KeepsDefinitions old new
-keeps_same old new same = keeps old new (λ own. subst HasOwnDefinitions (sym same) own)
+keeps_same old new same =
+    keeps old new (λ own. subst HasOwnDefinitions (sym same) own) (λ all none. ap (λ s. s.definitions) same ∙ none)
+
+-- an answer keeps them
+pub keeps_answer : (old new : State) (a : Ask) (d : Data) → new ≡ record old { names = new.names; definitions = new.definitions }
+    → IsAnswerFor old new a d → KeepsDefinitions old new
+keeps_answer old new a d same h =
+    keeps old new (part_own old new same h.adds)
+    (answer_needs_none old new a d same
+    (subst (λ s. IsSaid (state_plan s None) false (work_of new) a d) (sym same) h.is.said) h.is.needed)
+
+-- the schema of a row as a part
+pub subschema_for : (old new : State) (n : ℕ) (d : Data) → new ≡ record old { names = new.names; definitions = new.definitions }
+    → IsChecked new.rows → IsOneToOne new.names → (HasOwnDefinitions old → HasOwnDefinitions new) → IsAnswerFor old new (part n) d
+    → IsSubschemaFor old new n d
+subschema_for old new n d same checked one own h =
+    let written : IsPartOf new n d =
+    subst (λ s. IsSubschema (state_plan s None) false (work_of new) n d) (sym same) h.is.said in
+    record {
+      answer = h;
+      is_part = written;
+      means = λ is. subschema_headline new n false d checked one (own is) written;
+      reference = subst (λ s. IsReferenceOf s new n d) same (reference_of_part new n d written);
+      inlined = subst (λ s. IsInlined s d) same (part_inlined new n d written);
+    }

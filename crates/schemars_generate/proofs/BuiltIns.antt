@@ -33,15 +33,15 @@ use Rattle.schemars_generate.specs.Settings.{Transforms, ApplyInOrder, transform
 use Rattle.schemars_generate.proofs.Untransformed.{refused_memory}
 
 -- a list of the transforms of a draft makes what its functions make
-made_for-by : {O : Type 0} (draft : Draft) (d : Data) → made_by {O = O} (transforms_for draft) d ≡ made_for draft d
-made_for-by Draft2020_12 d = refl
-made_for-by Draft2019_09 d = refl
-made_for-by Draft07 d = refl
+made_for-by : (O : Type 0) (draft : Draft) (d : Data) → made_by {O = O} (transforms_for draft) d ≡ made_for draft d
+made_for-by O Draft2020_12 d = refl
+made_for-by O Draft2019_09 d = refl
+made_for-by O Draft07 d = refl
 
-none_own : {O : Type 0} (draft : Draft) → some_own {O = O} (transforms_for draft) ≡ false
-none_own Draft2020_12 = refl
-none_own Draft2019_09 = refl
-none_own Draft07 = refl
+none_own : (O : Type 0) (draft : Draft) → some_own {O = O} (transforms_for draft) ≡ false
+none_own O Draft2020_12 = refl
+none_own O Draft2019_09 = refl
+none_own O Draft07 = refl
 
 module _ {O : Type 0} (Q : TransformStep O) (ts us : Transforms O) where
   built_in : some_own ts.items ≡ false → (R : Data → Type 0) (document : Data) → IsThrough (ApplyInOrder Q) ts us R document
@@ -55,8 +55,8 @@ module _ {O : Type 0} (Q : TransformStep O) (ts us : Transforms O) where
   pub promised : (R : Data → Type 0) (P : Draft → Data → Type 0) → ((d : Data) → R d → (draft : Draft) → P draft (made_for draft d))
       → (document : Data) → IsTransformed Q ts us R document → (draft : Draft) → ts.items ≡ transforms_for draft → P draft document
   promised R P all document h draft is =
-      let (d, here, same) = h.built_in (ap some_own is ∙ none_own draft) in
-      subst (P draft) (sym (same ∙ (ap (λ xs. made_by xs d) is ∙ made_for-by draft d))) (all d here draft)
+      let (d, here, same) = h.built_in (ap some_own is ∙ none_own O draft) in
+      subst (P draft) (sym (same ∙ (ap (λ xs. made_by xs d) is ∙ made_for-by O draft d))) (all d here draft)
 
   wants_memory : some_own ts.items ≡ false → (R : Data → Type 0) (e : GenerateError) → IsTurnedDown (ApplyInOrder Q) ts us R e
       → e ≡ OutOfMemory

@@ -1,5 +1,7 @@
+
 pub mod Answered
 pub mod Untransformed
+mod Faults
 mod SampleRoots
 mod SampleWhole
 pub mod BuiltIns

@@ -40,7 +40,7 @@ sample_made s definitions x d once own made =
     record {
       placed = made;
       accepts = fits;
-      samples = λ rows names. draft_samples (holding s definitions rows names) x d once made fits;
+      samples = λ rows names. draft_samples (holding s definitions rows names) x d made fits;
       whole = λ none. whole_with_definitions path definitions (sample_root s.meta_schema x) d none (sample_whole s.meta_schema x) made;
     }
 

@@ -9,7 +9,8 @@ use Rattle.schemars_headline.specs.Headline.{IsRootOf, IsDraftPath}
 use Rattle.schemars_headline.specs.Keys.{HasKeysOnce}
 use Rattle.schemars_headline.specs.State.{State, path_of}
 use Rattle.schemars_headline.proofs.Calls.{root_is_whole, always_placed}
-use Rattle.schemars_headline.proofs.Inlined.{root_inlined}
+use Rattle.schemars_headline.proofs.InlinedDrafts.{root_inlined_for}
+use Rattle.schemars_headline.proofs.Needed.{root_needed}
 use Rattle.schemars_headline.proofs.DialectRoots.{draft_headlines}
 use Rattle.schemars_generate.specs.Through.{IsUntransformed, IsRefused}
 use Rattle.schemars_generate.specs.declared.error.GenerateError.{GenerateError}
@@ -20,7 +21,8 @@ pub untransformed : (s : State) (n : ℕ) (w : Work) (d : Data) → IsChecked s.
 untransformed s n w d checked root once one = record {
   last = (w, root);
   headlines = draft_headlines s n w d checked root once one;
-  inlined = root_inlined s n w d root;
+  inlined = λ draft. root_inlined_for draft s n w d root;
+  needed = root_needed s n w d root;
   whole = λ none own. root_is_whole s n w d root once none own;
 }
 

@@ -2,11 +2,12 @@
 use Rattle.std.specs.Prelude.{ℕ, true, None}
 use Rattle.serde_json.specs.Data.{Data}
 use Rattle.schemars_documents.specs.Template.{Ask, part}
-use Rattle.schemars_documents.specs.PlainTable.{IsPlainTable}
 use Rattle.schemars_build.specs.Parts.{IsAnswer}
 use Rattle.schemars_headline.specs.State.{State, state_plan, work_of, HasOwnDefinitions, ReferencesNameKeys}
 use Rattle.schemars_headline.specs.Headline.{SubschemaHeadline, IsInlined}
 use Rattle.schemars_headline.specs.Calls.{IsPartOf, IsReferenceOf, Adds}
+use Rattle.schemars_headline.specs.Inlined.{NeedsNoDefinitions}
+use Rattle.schemars_headline.specs.Notes.{HasPlainNotesThroughout}
 
 -- the answer to this ask, and what is added for it
 pub record IsAnswerFor (old new : State) (a : Ask) (d : Data) : Type 0 where
@@ -21,7 +22,9 @@ pub record IsSubschemaFor (old new : State) (n : ℕ) (d : Data) : Type 0 where
   pub reference : IsReferenceOf old new n d
   pub inlined : IsInlined old d
 
--- definitions that are a generator's own stay so
+-- definitions that are a generator's own stay so, and if literals and notes are plain, their references name keys; if there were
+-- none and rows are inlined in a table without a cycle, there are none
 pub record KeepsDefinitions (old new : State) : Type 0 where
   pub own : HasOwnDefinitions old → HasOwnDefinitions new
-  pub keys : HasOwnDefinitions old → IsPlainTable new.rows → ReferencesNameKeys new
+  pub keys : HasOwnDefinitions old → HasPlainNotesThroughout new.rows → ReferencesNameKeys new
+  pub none : NeedsNoDefinitions old new

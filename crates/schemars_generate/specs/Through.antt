@@ -6,9 +6,11 @@ use Rattle.schemars_documents.specs.PlainTable.{HasNoFloat, HasPlainNotes}
 use Rattle.schemars_headline.specs.State.{State, path_of, HasOwnDefinitions, ReferencesNameKeys, work_of, after_root}
 use Rattle.schemars_headline.specs.Keys.{HasKeysOnce}
 use Rattle.schemars_build.specs.Naming.{IsOneToOne}
-use Rattle.schemars_headline.specs.Headline.{IsRootOf, CannotPlace, IsInlined, IsDraftPath}
+use Rattle.schemars_headline.specs.Headline.{IsRootOf, CannotPlace, IsDraftPath}
 use Rattle.schemars_headline.specs.Calls.{IsRootCall, IsLastRootCall}
-use Rattle.schemars_headline.specs.Drafts.{DraftHeadlines}
+use Rattle.schemars_headline.specs.Drafts.{Draft, DraftHeadlines}
+use Rattle.schemars_headline.specs.Inlined.{IsInlinedFor}
+use Rattle.schemars_headline.specs.Needed.{NeedsItsDefinitions}
 use Rattle.schemars_headline.specs.Taken.{TakenHeadline, HasSameKeys}
 use Rattle.schemars_build.specs.Work.{Work}
 use Rattle.schemars_walk.specs.Walk.{TransformStep, EachMember, AtSchema}
@@ -68,7 +70,8 @@ pub record AreGone (old new : State) : Type 0 where
 pub record IsUntransformed (old : State) (n : ℕ) (d : Data) : Type 0 where
   pub last : IsLastRootCall old n d
   pub headlines : DraftHeadlines old n d
-  pub inlined : old.definitions ≡ no_members → IsInlined old d
+  pub inlined : (draft : Draft) → IsInlinedFor draft old d
+  pub needed : NeedsItsDefinitions old d
   pub whole : HasNoFloat old.rows → HasOwnDefinitions old → has_float d ≡ false
 
 -- and of what the generator holds after the call

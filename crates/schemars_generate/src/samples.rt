@@ -1,7 +1,7 @@
 //! Root documents from example values.
 ghost use Rattle.std.specs.Prelude.{◌≡◌, IfOk, IfErr};
 ghost use Rattle.serde_json.specs.View.{members_view};
-ghost use Rattle.schemars_headline.specs.Drafts.{Draft, SampleHeadline};
+ghost use Rattle.schemars_headline.specs.Drafts.{Draft, dialect_of, SampleHeadline};
 ghost use Rattle.schemars_sample.specs.Example.{example_of};
 ghost use Rattle.schemars_generate.specs.Generator.{settings_of, state, transforms_of};
 ghost use Rattle.schemars_generate.specs.Samples.{IsSampleRoot, IsSampleRefusal};
@@ -36,7 +36,8 @@ impl<O: Transform + Drop> SchemaGenerator<O> {
         value: &Sample,
     ) -> Result<Schema, GenerateError>
         ensures headline { (draft : Draft) → transforms_of self.old ≡ transforms_for draft
-            → IfOk result (SampleHeadline draft (state self.old) (example_of value.now)) }
+            → IfOk result (SampleHeadline (dialect_of draft) (state self.old)
+            (example_of value.now)) }
         ensures made { IfOk result (IsTransformed O.makes self.old.settings.transforms
             self.new.settings.transforms (IsSampleRoot (settings_of self.old.settings)
             self.old.definitions (example_of value.now))) }
@@ -57,7 +58,8 @@ impl<O: Transform + Drop> SchemaGenerator<O> {
         value: &Sample,
     ) -> Result<Schema, GenerateError>
         ensures headline { (draft : Draft) → transforms_of self ≡ transforms_for draft
-            → IfOk result (SampleHeadline draft (state self) (example_of value.now)) }
+            → IfOk result (SampleHeadline (dialect_of draft) (state self)
+            (example_of value.now)) }
         ensures made { IfOk result (λ d. (after : _) × IsTransformed O.makes
             self.settings.transforms after (IsSampleRoot (settings_of self.settings)
             self.definitions (example_of value.now)) d) }

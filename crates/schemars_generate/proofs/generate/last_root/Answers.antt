@@ -12,10 +12,10 @@ pub returns-in_err-has_row-clause-refused : goal.returns-in_err-has_row-clause-r
 returns-in_err-has_row-clause-refused g c =
     let settings = c.args.settings.now in
     let s = state_of settings c.args.types.now c.args.work in
-    let why = c.in_err-has_row.ensures in
+    let why = c.in_err-has_row.ensures.unknown in
     let P : GenerateError → Type 0 =
     λ e. IsRootRefusal g.O.Transform.makes settings.transforms settings.transforms s c.args.n e in
-    err_told c.from_residual-in_err-has_row.result P _ c.from_residual-in_err-has_row.ensures.1
+    err_told c.from_residual.result P _ c.from_residual.ensures.1
     (λ e is. subst P (sym is) (no_row _ _ _ s c.args.n _ why.0 why.1 refl))
 
 pub returns-in_err-document-clause-refused : goal.returns-in_err-document-clause-refused

@@ -1,6 +1,7 @@
-use Rattle.std.proofs.Common.{◌≡◌, ap, refl, sym, subst}
+use Rattle.std.proofs.Common.{◌≡◌, ◌≤◌, ◌∙◌, length, ap, refl, sym, subst}
 use Rattle.std.proofs.lemmas.Result.{IfOk-weaker}
 use Rattle.schemars_headline.proofs.Calls.{after_root_own, err_told}
+use Rattle.schemars_headline.proofs.InlinedDrafts.{root_needs_none}
 use Rattle.schemars_headline.specs.Calls.{IsRootCall}
 use Rattle.schemars_headline.specs.Drafts.{dialect_of}
 use Rattle.schemars_headline.specs.Headline.{RootHeadline}
@@ -21,15 +22,20 @@ returns-in_err-has_row-clause-keeps g c = keeps_same _ _ refl
 pub returns-in_err-has_row-clause-refused : goal.returns-in_err-has_row-clause-refused
 returns-in_err-has_row-clause-refused g c =
     let now = c.args.self.now in
-    let why = c.in_err-has_row.ensures in
+    let why = c.in_err-has_row.ensures.unknown in
     let P : GenerateError → Type 0 =
     λ e. IsRootRefusal g.O.Transform.makes now.settings.transforms now.settings.transforms (state now) c.args.n e in
-    err_told c.from_residual-in_err-has_row.result P _ c.from_residual-in_err-has_row.ensures.1
-    (λ e is. subst P (sym is) (no_row _ _ _ (state now) c.args.n _ why.0 why.1 refl))
+    err_told c.from_residual.result P _ c.from_residual.ensures.1
+    (λ e is. subst P (sym is)
+    (no_row _ _ _ (state now) c.args.n _ why.0 (subst (λ y. length y.rows ≤ c.args.n) c.self.view_is why.1) refl))
 
 pub returns-in_err-document-clause-keeps : goal.returns-in_err-document-clause-keeps
 returns-in_err-document-clause-keeps g c =
-    keeps_same _ _ ?
+    let failed = c.in_err-document.ensures.err in
+    let same : state_of c.root_document.new.settings c.self.inside.types c.root_document.new.work
+    ≡ state_of c.self.inside.settings c.self.inside.types c.self.inside.work =
+    λ i. state_of (c.root_document.ensures.rest i) c.self.inside.types (failed i) in
+    keeps_same _ _ (same ∙ ap state c.self.view_is)
 
 pub returns-in_err-document-clause-refused : goal.returns-in_err-document-clause-refused
 returns-in_err-document-clause-refused g c =
@@ -74,4 +80,6 @@ returns-clause-headline g c =
 pub returns-clause-keeps : goal.returns-clause-keeps
 returns-clause-keeps g c =
     let call = ((returns-clause-made g c).through).1.1 in
-    keeps _ _ (λ own. subst HasOwnDefinitions (sym call.2) (after_root_own (state c.args.self.now) c.args.n call.0 call.1.step own))
+    let s = state c.args.self.now in
+    keeps _ _ (λ own. subst HasOwnDefinitions (sym call.2) (after_root_own s c.args.n call.0 call.1.step own))
+    (λ all none. ap (λ x. x.definitions) call.2 ∙ root_needs_none s c.args.n call.0 _ call.1 all none)

@@ -3,6 +3,9 @@ use Rattle.schemars_build.specs.Naming.{IsOneToOne}
 use Rattle.schemars_build.specs.Work.{Work}
 use Rattle.schemars_headline.proofs.Calls.{one_to_one-none}
 use Rattle.schemars_generate.specs.Generator.{held_work}
+use Rattle.schemars_headline.proofs.Calls.{err_told}
+use Rattle.schemars_generate.specs.Refusals.{IsTableRefusal}
+use Rattle.schemars_generate.proofs.Faults.{table_refusal}
 use Rattle.schemars_generate.proofs.generate.SchemaGenerator.with_types.Goals as goal
 
 pub invariant_of-result : goal.invariant_of-result
@@ -25,3 +28,10 @@ returns-clause-made g c =
       names = (none i).names;
       definitions = (none i).definitions;
     }
+
+pub returns-in_err-check-clause-refused : goal.returns-in_err-check-clause-refused
+returns-in_err-check-clause-refused g c =
+    let P = IsTableRefusal c.args.types in
+    let why = c.in_err-check.ensures in
+    err_told c.from_residual.result P _ c.from_residual.ensures.1
+    (λ e is. subst P (sym is) (table_refusal c.args.types c.in_err-check.field-0.0 why.refused why.only_memory))
