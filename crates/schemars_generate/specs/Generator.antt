@@ -1,5 +1,5 @@
 -- A generator as callers see it.
-use Rattle.std.specs.Prelude.{◌≡◌, List, [], length, false, option_map}
+use Rattle.std.specs.Prelude.{List, [], length, false, option_map}
 use Rattle.std.specs.Cow.{cow_str_bytes}
 use Rattle.serde_json.specs.Data.{Members, no_members}
 use Rattle.schemars_types.specs.Rows.{Row}

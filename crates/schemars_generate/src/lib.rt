@@ -5,6 +5,7 @@ pub mod builders;
 mod document;
 mod error;
 pub mod generate;
+pub mod laws;
 mod path;
 mod samples;
 mod settings;

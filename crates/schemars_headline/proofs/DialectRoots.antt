@@ -23,7 +23,7 @@ use Rattle.schemars_meaning.proofs.Schemas.{described}
 use Rattle.schemars_meaning.proofs.Referring.{plain_rows, under_rows}
 use Rattle.schemars_build.proofs.Settled.{fields_settled, enums_settled}
 use Rattle.schemars_headline.specs.State.{State, path_of, state_plan, HasOwnDefinitions}
-use Rattle.schemars_headline.specs.Headline.{MeansItsType, IsPlainFor, RootHeadline, IsDraftPath, IsRootOf}
+use Rattle.schemars_headline.specs.Headline.{MeansItsType, IsPlainFor, IsRootOf}
 use Rattle.schemars_headline.specs.Keys.{HasKeysOnce}
 use Rattle.schemars_headline.proofs.Standing.{MayRefer, AllStand}
 use Rattle.schemars_headline.proofs.Standing as standings

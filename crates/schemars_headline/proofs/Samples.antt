@@ -28,7 +28,6 @@ use Rattle.schemars_transform.specs.Built.{without_siblings, remove_ref_siblings
 use Rattle.schemars_transform.specs.Unevaluated.{unevaluated_as_additional, replace_unevaluated_properties}
 use Rattle.schemars_headline.specs.State.{State, path_of}
 use Rattle.schemars_headline.specs.Headline.{with_definitions, IsDraftPath}
-use Rattle.schemars_headline.specs.Keys.{HasKeysOnce}
 use Rattle.schemars_headline.proofs.Keys.{IsDefinitionsKey}
 use Rattle.schemars_headline.proofs.Placed.{StandsAt, IsPlaced, placed_in, draft_key}
 use Rattle.schemars_laws.specs.Everywhere.{Everywhere, asked, asked_of_members}

@@ -1,7 +1,6 @@
 use Rattle.std.proofs.Common.{inl, inr, refl, sym, subst}
 use Rattle.schemars_headline.proofs.Calls.{err_told}
 use Rattle.schemars_generate.specs.Generator.{state_of}
-use Rattle.schemars_generate.specs.Settings.{ApplyInOrder}
 use Rattle.schemars_generate.specs.Through.{IsRootRefusal, IsUntransformed}
 use Rattle.schemars_generate.specs.declared.error.GenerateError.{GenerateError}
 use Rattle.schemars_generate.proofs.BuiltIns.{transformed, no_row, root_refusal}

@@ -1,4 +1,4 @@
-use Rattle.std.proofs.Common.{◌∙◌, ap, subst}
+use Rattle.std.proofs.Common.{subst}
 use Rattle.schemars_headline.specs.Drafts.{dialect_of, SampleHeadline}
 use Rattle.schemars_sample.specs.Example.{example_of}
 use Rattle.schemars_generate.specs.Generator.{settings_of, state}

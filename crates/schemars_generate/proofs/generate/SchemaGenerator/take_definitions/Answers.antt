@@ -1,4 +1,4 @@
-use Rattle.std.proofs.Common.{◌≡◌, Err, inr, sym, subst}
+use Rattle.std.proofs.Common.{Err, inr, subst}
 use Rattle.serde_json.specs.Data.{Members}
 use Rattle.serde_json.specs.View.{members_view}
 use Rattle.schemars_headline.proofs.Calls.{err_told}
