@@ -1,9 +1,10 @@
 # On a machine with the Rattle kit. `make help` lists the targets.
-.PHONY: help run program openapi-example test
+.PHONY: help run program install openapi-example test
 
 TABLE = examples/vec-option-u8.json
 DIALECT = 2020-12
 FLAGS =
+PREFIX = /usr/local
 program = crates/schemagen
 built = $(program)/out/schemagen
 # the crates below the program, lowest first
@@ -12,6 +13,7 @@ libraries = $(shell sed -n '/^schemagen:/q; s/^\([a-z_]*\):.*/\1/p' crates.txt)
 help:
 	@echo 'make run [TABLE=FILE] [DIALECT=..] [FLAGS=..]   prints the document of a table, without proofs'
 	@echo 'make program                                    proves everything below the program, and builds it'
+	@echo 'make install [PREFIX=/usr/local]                copies the program and its manual page'
 	@echo 'make openapi-example                            writes examples/openapi/openapi.json anew'
 	@echo 'make test                                       the merge gate'
 
@@ -31,12 +33,23 @@ program:
 	@cd $(program) && rt run < ../../examples/vec-option-u8.json -- types 2020-12 >/dev/null
 	@echo 'built: $(built) types 2020-12 < TABLE' >&2
 
+# If the program is not built, it is built first.
+$(built):
+	@$(MAKE) --no-print-directory program
+
+# Copies the program, and its manual page.
+install: $(built)
+	install -d $(DESTDIR)$(PREFIX)/bin $(DESTDIR)$(PREFIX)/share/man/man1
+	install $(built) $(DESTDIR)$(PREFIX)/bin
+	install -m 644 docs/schemagen.1 $(DESTDIR)$(PREFIX)/share/man/man1
+
 # Writes examples/openapi/openapi.json anew: its paths, and the definitions that the program prints for
-# its table. If the program is not built, it is built first.
-openapi-example:
-	@test -x $(built) || $(MAKE) --no-print-directory program
+# its table.
+openapi-example: $(built)
 	@$(built) types openapi3 < examples/openapi/table.json | examples/openapi/join
 
-# The merge gate: every proof from nothing, the must-fail edits, the tests and the programs.
+# The merge gate: every proof from nothing, the must-fail edits, the tests and the programs. What pages
+# and examples show has to be what the case files have.
 test:
+	tools/cases --check
 	rt ci

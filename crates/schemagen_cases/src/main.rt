@@ -14,7 +14,8 @@ use crate::cases::{Asked, work_cases};
 use std::{fs, io};
 
 // The files, and whom their cases ask.
-const FILES: [(&str, Asked); 16] = [
+const FILES: [(&str, Asked); 17] = [
+    ("tables.tsv", Asked::Program),
     ("examples.tsv", Asked::Program),
     ("rows.tsv", Asked::Program),
     ("structs.tsv", Asked::Program),
