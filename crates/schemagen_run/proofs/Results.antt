@@ -14,14 +14,6 @@ pub so_at_ok : {T E P : Type 0} (r : Result T E) → P → OnOk r P
 so_at_ok (Ok x) p = p
 so_at_ok (Err e) p = tt
 
-pub both_at_ok : {T E : Type 0} {P Q R : T → Type 0} (r : Result T E) → IfOk r P → IfOk r Q → ((x : T) → P x → Q x → R x) → IfOk r R
-both_at_ok (Ok x) p q f = f x p q
-both_at_ok (Err e) p q f = tt
-
-pub at_ok_under : {T E A : Type 0} (P : T → Type 0) (r : Result T E) → (A → IfOk r P) → IfOk r (λ x. A → P x)
-at_ok_under P (Ok x) f = f
-at_ok_under P (Err e) f = tt
-
 -- an error that is passed on
 pub passed_on : {T E : Type 0} (r : Result T E) (e : E) → IsErrAnd r (λ f. f ≡ e) → r ≡ Err e
 passed_on (Ok x) e h = absurd h
