@@ -24,7 +24,7 @@ use Rattle.schemars_generate.specs.Refusals.{HasFault}
 use Rattle.schemars_headline.specs.Headline.{Headline, IsDraftPath, CannotPlace}
 use Rattle.schemars_documents.specs.PlainTable.{IsPlainTable, HasPlainNotes}
 use Rattle.schemars_generate.specs.declared.settings.SchemaSettings.{SchemaSettings}
-use Rattle.schemars_generate.specs.Generator.{Generator, fresh as new, settings_of, state}
+use Rattle.schemars_generate.specs.Generator.{Generator, generator_over, settings_of, state}
 use Rattle.schemars_generate.specs.Through.{IsUntransformed, IsRefused}
 use Rattle.schemars_headline.specs.State.{Settings, State, stripped, path_of, HasOwnDefinitions}
 use Rattle.schemars_laws.specs.Paths.{components}
@@ -77,7 +77,7 @@ of_two (inr (b, c)) = inr b
 -- ---- a generator over the table
 
 pub fresh_of : (g : Generator NoTransform) (settings : SchemaSettings NoTransform) (asked : Asked) (rows : List Row)
-    → settings_of settings ≡ settings_for asked → g ≡ new settings rows → state g ≡ fresh asked rows
+    → settings_of settings ≡ settings_for asked → g ≡ generator_over settings rows → state g ≡ fresh asked rows
 fresh_of g settings asked rows same made =
     ap state made ∙ ap (λ s. record { settings = s; rows = rows; names = []; definitions = no_members }) same
 

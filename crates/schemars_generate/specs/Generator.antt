@@ -17,8 +17,8 @@ pub record Generator (O : Type 0) : Type 0 where
   pub definitions : Members
 
 -- one that has made nothing yet
-abbrev pub fresh : {O : Type 0} → SchemaSettings O → List Row → Generator O
-fresh settings rows = record { settings = settings; rows = rows; names = []; definitions = no_members }
+abbrev pub generator_over : {O : Type 0} → SchemaSettings O → List Row → Generator O
+generator_over settings rows = record { settings = settings; rows = rows; names = []; definitions = no_members }
 
 abbrev pub transforms_of : {O : Type 0} → Generator O → List (GenTransform O)
 transforms_of g = g.settings.transforms.items

@@ -15,7 +15,7 @@ ghost use Rattle.schemars_build.specs.Work.{Step, undone};
 ghost use Rattle.schemars_documents.specs.View.{ask_of};
 ghost use Rattle.schemars_sample.specs.Example.{example_of};
 ghost use Rattle.schemars_generate.specs.Answers.{IsAnswerFor};
-ghost use Rattle.schemars_generate.specs.Generator.{fresh, settings_of, state, state_of};
+ghost use Rattle.schemars_generate.specs.Generator.{generator_over, settings_of, state, state_of};
 ghost use Rattle.schemars_generate.specs.Samples.{IsSampleRoot, IsSampleRefused};
 ghost use Rattle.schemars_generate.specs.Settings.{ApplyInOrder};
 ghost use Rattle.schemars_generate.specs.Through.{IsThrough, IsRefusedThrough, IsRootMade};
@@ -61,7 +61,7 @@ fn plan_for<'p, O>(
     types: &'p Types,
     root: Option<TypeNo>,
 ) -> Plan<'p>
-    ensures { plan_of result ≡ state_plan (state (fresh settings.now types.now)) root }
+    ensures { plan_of result ≡ state_plan (state (generator_over settings.now types.now)) root }
 {
     Plan {
         types,

@@ -15,7 +15,7 @@ ghost use Rattle.schemars_documents.specs.View.{ask_of};
 ghost use Rattle.schemars_transform.specs.Member.{some_own};
 ghost use Rattle.schemars_generate.specs.Answers.{IsAnswerFor, IsSubschemaFor};
 ghost use Rattle.schemars_generate.specs.Answers.{KeepsDefinitions};
-ghost use Rattle.schemars_generate.specs.Generator.{fresh, state, state_of, transforms_of};
+ghost use Rattle.schemars_generate.specs.Generator.{generator_over, state, state_of, transforms_of};
 ghost use Rattle.schemars_generate.specs.Lends.{LendsDefinitions, LendsTransforms};
 ghost use Rattle.schemars_generate.specs.Refusals.{IsTableRefusal};
 ghost use Rattle.schemars_generate.specs.Settings.{AreSettingsCopied, transforms_for};
@@ -102,7 +102,7 @@ impl SchemaGenerator {
 impl<O> SchemaGenerator<O> {
     /// Returns a generator with an empty table.
     pub fn new(alloc: Global, settings: SchemaSettings<O>) -> SchemaGenerator<O>
-        ensures made { result ≡ fresh settings [] }
+        ensures made { result ≡ generator_over settings [] }
         ensures own { HasOwnDefinitions (state result) }
     {
         SchemaGenerator {
@@ -114,7 +114,7 @@ impl<O> SchemaGenerator<O> {
 
     /// Returns a generator with an empty table, as `new` does.
     pub fn from(alloc: Global, settings: SchemaSettings<O>) -> SchemaGenerator<O>
-        ensures made { result ≡ fresh settings [] }
+        ensures made { result ≡ generator_over settings [] }
         ensures own { HasOwnDefinitions (state result) }
     {
         SchemaGenerator::new(alloc, settings)
@@ -132,7 +132,7 @@ impl<O: Drop> SchemaGenerator<O> {
         settings: SchemaSettings<O>,
         types: Types,
     ) -> Result<SchemaGenerator<O>, GenerateError>
-        ensures made { IfOk result (λ g. g ≡ fresh settings types) }
+        ensures made { IfOk result (λ g. g ≡ generator_over settings types) }
         ensures own { IfOk result (λ g. HasOwnDefinitions (state g)) }
         ensures accepted { OnOk result (IsAccepted types) }
         ensures checked { OnOk result (IsChecked types) }

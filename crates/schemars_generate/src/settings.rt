@@ -4,7 +4,7 @@ ghost use Rattle.std.specs.Prelude.{IfOk, IfErr, IsTrue};
 ghost use Rattle.schemars_types.specs.declared.contract.Contract.TheVariants as contracts;
 ghost use Rattle.schemars_headline.specs.State.{settings2020_12, HasOwnDefinitions};
 ghost use Rattle.schemars_transform.specs.Member.{some_own};
-ghost use Rattle.schemars_generate.specs.Generator.{fresh, settings_of, state};
+ghost use Rattle.schemars_generate.specs.Generator.{generator_over, settings_of, state};
 ghost use Rattle.schemars_generate.specs.Settings.{AreSettingsCopied, settings07};
 ghost use Rattle.schemars_generate.specs.Settings.{settings2019_09};
 ghost use Rattle.schemars_generate.specs.Settings.{settings_openapi3};
@@ -199,7 +199,7 @@ impl<O: Drop> SchemaSettings<O> {
 
     /// Returns a generator with these settings and an empty table.
     pub fn into_generator(self, alloc: Global) -> SchemaGenerator<O>
-        ensures made { result ≡ fresh self [] }
+        ensures made { result ≡ generator_over self [] }
         ensures own { HasOwnDefinitions (state result) }
     {
         SchemaGenerator::new(alloc, self)
