@@ -90,7 +90,8 @@ module _ {O : Type 0} (Q : TransformStep O) (ts us : Transforms O) where
     only_memory = λ none path. memory path (before none h);
   }
     where
-      before : some_own ts.items ≡ false → IsSampleRefusedThrough (ApplyInOrder Q) ts us s definitions x e → IsSampleRefused s definitions x e
+      before : some_own ts.items ≡ false → IsSampleRefusedThrough (ApplyInOrder Q) ts us s definitions x e
+          → IsSampleRefused s definitions x e
       before none (inl refused) = refused.0
       before none (inr turned) = inl (wants_memory none _ e turned)
 

@@ -115,7 +115,8 @@ pub(crate) fn root_document<O: Transform>(
     requires known { n < length types.now }
     requires between { work.old ≡ work_of (state_of settings.old types.now work.old) }
     ensures root { IfOk result (IsThrough (ApplyInOrder O.makes) settings.old.transforms
-        settings.new.transforms (IsRootMade (state_of settings.old types.now work.old) n work.new)) }
+        settings.new.transforms
+        (IsRootMade (state_of settings.old types.now work.old) n work.new)) }
     ensures refused { IfErr result (IsRefusedThrough (ApplyInOrder O.makes) settings.old.transforms
         settings.new.transforms (state_of settings.old types.now work.old) n) }
     ensures rest { settings.new

@@ -122,7 +122,8 @@ no_value contract patterns (suc steps) zero (object ms) = absent_or_misfit contr
     (λ w. no_value contract patterns steps 0 w) ms (get_member (codes "n") ms) refl
 
 -- so its document accepts nothing
-pub document_accepts_nothing : (contract : Contract) (path : Text) (document : Data) → MeansItsType draft2020_12 endless contract path 0 document
+pub document_accepts_nothing : (contract : Contract) (path : Text) (document : Data)
+    → MeansItsType draft2020_12 endless contract path 0 document
     → (patterns : Patterns) (v : Data) → IsJson v → (followed : ℕ) → bound path document v ≤ followed
     → accepts draft2020_12 document patterns followed document v ≡ No
 document_accepts_nothing contract path document h patterns v json followed enough =

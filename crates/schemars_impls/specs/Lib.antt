@@ -1,0 +1,4 @@
+-- The definitions that contracts cite.
+pub mod Keeps
+pub mod Describes
+pub mod Refused

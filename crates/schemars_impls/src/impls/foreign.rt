@@ -1,0 +1,6 @@
+//! Types of other crates.
+mod byte_strings;
+mod choices;
+mod containers;
+mod dates;
+mod identifiers;

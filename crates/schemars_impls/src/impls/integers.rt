@@ -1,0 +1,326 @@
+//! Integers.
+ghost use Rattle.std.specs.Prelude.{true};
+ghost use Rattle.schemars_shapes.specs.declared.shape.IntKind.TheVariants.{I8, I16, I32};
+ghost use Rattle.schemars_shapes.specs.declared.shape.IntKind.TheVariants.{I64, I128, Isize};
+ghost use Rattle.schemars_shapes.specs.declared.shape.IntKind.TheVariants.{U8, U16, U32};
+ghost use Rattle.schemars_shapes.specs.declared.shape.IntKind.TheVariants.{U64, U128, Usize};
+ghost use Rattle.schemars_shapes.specs.IntKind.{format_of};
+ghost use Rattle.schemars_shapes.specs.Shape.{Shape as shape, in_place};
+ghost use Rattle.schemars_impls.specs.Describes.{Always};
+
+use crate::law::{JsonSchema, entry};
+use schemars_types::{IntKind, Shape, TypeEntry, Types, TypesError};
+use std::alloc::{AllocError, Global};
+use std::borrow::CowStr;
+
+impl JsonSchema for i8 {
+    ghost name = { format_of I8 };
+
+    ghost id = { format_of I8 };
+
+    ghost inline = { true };
+
+    ghost describes = { Always (in_place (shape.int I8)) };
+
+    fn inline_schema() -> bool {
+        true
+    }
+
+    fn schema_name(_alloc: Global) -> Result<CowStr<'static>, AllocError> {
+        Ok(CowStr::Borrowed("int8"))
+    }
+
+    fn schema_id(alloc: Global) -> Result<CowStr<'static>, AllocError> {
+        Self::schema_name(alloc)
+    }
+
+    fn json_schema(alloc: Global, _types: &mut Types) -> Result<TypeEntry, TypesError> {
+        Ok(entry(alloc, true, Shape::Int(IntKind::I8)))
+    }
+}
+
+impl JsonSchema for i16 {
+    ghost name = { format_of I16 };
+
+    ghost id = { format_of I16 };
+
+    ghost inline = { true };
+
+    ghost describes = { Always (in_place (shape.int I16)) };
+
+    fn inline_schema() -> bool {
+        true
+    }
+
+    fn schema_name(_alloc: Global) -> Result<CowStr<'static>, AllocError> {
+        Ok(CowStr::Borrowed("int16"))
+    }
+
+    fn schema_id(alloc: Global) -> Result<CowStr<'static>, AllocError> {
+        Self::schema_name(alloc)
+    }
+
+    fn json_schema(alloc: Global, _types: &mut Types) -> Result<TypeEntry, TypesError> {
+        Ok(entry(alloc, true, Shape::Int(IntKind::I16)))
+    }
+}
+
+impl JsonSchema for i32 {
+    ghost name = { format_of I32 };
+
+    ghost id = { format_of I32 };
+
+    ghost inline = { true };
+
+    ghost describes = { Always (in_place (shape.int I32)) };
+
+    fn inline_schema() -> bool {
+        true
+    }
+
+    fn schema_name(_alloc: Global) -> Result<CowStr<'static>, AllocError> {
+        Ok(CowStr::Borrowed("int32"))
+    }
+
+    fn schema_id(alloc: Global) -> Result<CowStr<'static>, AllocError> {
+        Self::schema_name(alloc)
+    }
+
+    fn json_schema(alloc: Global, _types: &mut Types) -> Result<TypeEntry, TypesError> {
+        Ok(entry(alloc, true, Shape::Int(IntKind::I32)))
+    }
+}
+
+impl JsonSchema for i64 {
+    ghost name = { format_of I64 };
+
+    ghost id = { format_of I64 };
+
+    ghost inline = { true };
+
+    ghost describes = { Always (in_place (shape.int I64)) };
+
+    fn inline_schema() -> bool {
+        true
+    }
+
+    fn schema_name(_alloc: Global) -> Result<CowStr<'static>, AllocError> {
+        Ok(CowStr::Borrowed("int64"))
+    }
+
+    fn schema_id(alloc: Global) -> Result<CowStr<'static>, AllocError> {
+        Self::schema_name(alloc)
+    }
+
+    fn json_schema(alloc: Global, _types: &mut Types) -> Result<TypeEntry, TypesError> {
+        Ok(entry(alloc, true, Shape::Int(IntKind::I64)))
+    }
+}
+
+impl JsonSchema for i128 {
+    ghost name = { format_of I128 };
+
+    ghost id = { format_of I128 };
+
+    ghost inline = { true };
+
+    ghost describes = { Always (in_place (shape.int I128)) };
+
+    fn inline_schema() -> bool {
+        true
+    }
+
+    fn schema_name(_alloc: Global) -> Result<CowStr<'static>, AllocError> {
+        Ok(CowStr::Borrowed("int128"))
+    }
+
+    fn schema_id(alloc: Global) -> Result<CowStr<'static>, AllocError> {
+        Self::schema_name(alloc)
+    }
+
+    fn json_schema(alloc: Global, _types: &mut Types) -> Result<TypeEntry, TypesError> {
+        Ok(entry(alloc, true, Shape::Int(IntKind::I128)))
+    }
+}
+
+impl JsonSchema for isize {
+    ghost name = { format_of Isize };
+
+    ghost id = { format_of Isize };
+
+    ghost inline = { true };
+
+    ghost describes = { Always (in_place (shape.int Isize)) };
+
+    fn inline_schema() -> bool {
+        true
+    }
+
+    fn schema_name(_alloc: Global) -> Result<CowStr<'static>, AllocError> {
+        Ok(CowStr::Borrowed("int"))
+    }
+
+    fn schema_id(alloc: Global) -> Result<CowStr<'static>, AllocError> {
+        Self::schema_name(alloc)
+    }
+
+    fn json_schema(alloc: Global, _types: &mut Types) -> Result<TypeEntry, TypesError> {
+        Ok(entry(alloc, true, Shape::Int(IntKind::Isize)))
+    }
+}
+
+impl JsonSchema for u8 {
+    ghost name = { format_of U8 };
+
+    ghost id = { format_of U8 };
+
+    ghost inline = { true };
+
+    ghost describes = { Always (in_place (shape.int U8)) };
+
+    fn inline_schema() -> bool {
+        true
+    }
+
+    fn schema_name(_alloc: Global) -> Result<CowStr<'static>, AllocError> {
+        Ok(CowStr::Borrowed("uint8"))
+    }
+
+    fn schema_id(alloc: Global) -> Result<CowStr<'static>, AllocError> {
+        Self::schema_name(alloc)
+    }
+
+    fn json_schema(alloc: Global, _types: &mut Types) -> Result<TypeEntry, TypesError> {
+        Ok(entry(alloc, true, Shape::Int(IntKind::U8)))
+    }
+}
+
+impl JsonSchema for u16 {
+    ghost name = { format_of U16 };
+
+    ghost id = { format_of U16 };
+
+    ghost inline = { true };
+
+    ghost describes = { Always (in_place (shape.int U16)) };
+
+    fn inline_schema() -> bool {
+        true
+    }
+
+    fn schema_name(_alloc: Global) -> Result<CowStr<'static>, AllocError> {
+        Ok(CowStr::Borrowed("uint16"))
+    }
+
+    fn schema_id(alloc: Global) -> Result<CowStr<'static>, AllocError> {
+        Self::schema_name(alloc)
+    }
+
+    fn json_schema(alloc: Global, _types: &mut Types) -> Result<TypeEntry, TypesError> {
+        Ok(entry(alloc, true, Shape::Int(IntKind::U16)))
+    }
+}
+
+impl JsonSchema for u32 {
+    ghost name = { format_of U32 };
+
+    ghost id = { format_of U32 };
+
+    ghost inline = { true };
+
+    ghost describes = { Always (in_place (shape.int U32)) };
+
+    fn inline_schema() -> bool {
+        true
+    }
+
+    fn schema_name(_alloc: Global) -> Result<CowStr<'static>, AllocError> {
+        Ok(CowStr::Borrowed("uint32"))
+    }
+
+    fn schema_id(alloc: Global) -> Result<CowStr<'static>, AllocError> {
+        Self::schema_name(alloc)
+    }
+
+    fn json_schema(alloc: Global, _types: &mut Types) -> Result<TypeEntry, TypesError> {
+        Ok(entry(alloc, true, Shape::Int(IntKind::U32)))
+    }
+}
+
+impl JsonSchema for u64 {
+    ghost name = { format_of U64 };
+
+    ghost id = { format_of U64 };
+
+    ghost inline = { true };
+
+    ghost describes = { Always (in_place (shape.int U64)) };
+
+    fn inline_schema() -> bool {
+        true
+    }
+
+    fn schema_name(_alloc: Global) -> Result<CowStr<'static>, AllocError> {
+        Ok(CowStr::Borrowed("uint64"))
+    }
+
+    fn schema_id(alloc: Global) -> Result<CowStr<'static>, AllocError> {
+        Self::schema_name(alloc)
+    }
+
+    fn json_schema(alloc: Global, _types: &mut Types) -> Result<TypeEntry, TypesError> {
+        Ok(entry(alloc, true, Shape::Int(IntKind::U64)))
+    }
+}
+
+impl JsonSchema for u128 {
+    ghost name = { format_of U128 };
+
+    ghost id = { format_of U128 };
+
+    ghost inline = { true };
+
+    ghost describes = { Always (in_place (shape.int U128)) };
+
+    fn inline_schema() -> bool {
+        true
+    }
+
+    fn schema_name(_alloc: Global) -> Result<CowStr<'static>, AllocError> {
+        Ok(CowStr::Borrowed("uint128"))
+    }
+
+    fn schema_id(alloc: Global) -> Result<CowStr<'static>, AllocError> {
+        Self::schema_name(alloc)
+    }
+
+    fn json_schema(alloc: Global, _types: &mut Types) -> Result<TypeEntry, TypesError> {
+        Ok(entry(alloc, true, Shape::Int(IntKind::U128)))
+    }
+}
+
+impl JsonSchema for usize {
+    ghost name = { format_of Usize };
+
+    ghost id = { format_of Usize };
+
+    ghost inline = { true };
+
+    ghost describes = { Always (in_place (shape.int Usize)) };
+
+    fn inline_schema() -> bool {
+        true
+    }
+
+    fn schema_name(_alloc: Global) -> Result<CowStr<'static>, AllocError> {
+        Ok(CowStr::Borrowed("uint"))
+    }
+
+    fn schema_id(alloc: Global) -> Result<CowStr<'static>, AllocError> {
+        Self::schema_name(alloc)
+    }
+
+    fn json_schema(alloc: Global, _types: &mut Types) -> Result<TypeEntry, TypesError> {
+        Ok(entry(alloc, true, Shape::Int(IntKind::Usize)))
+    }
+}

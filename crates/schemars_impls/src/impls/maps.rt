@@ -1,0 +1,113 @@
+//! Maps.
+ghost use Rattle.std.specs.Prelude.{◌≡◌, None, true, IfErr, IfOk};
+ghost use Rattle.std.specs.Cow.{cow_str_bytes};
+ghost use Rattle.schemars_shapes.specs.Shape.{Shape as shape, entry_of, in_place, shape_of};
+ghost use Rattle.schemars_types.specs.Names.{map_id, map_name};
+ghost use Rattle.schemars_types.specs.Rows.{unknown_in};
+ghost use Rattle.schemars_impls.specs.Describes.{OfTwo};
+ghost use Rattle.schemars_impls.specs.Keeps.{Keeps};
+ghost use Rattle.schemars_impls.specs.Refused.{HasCause};
+
+use crate::impls::parts::register_two;
+use crate::law::{JsonSchema, entry};
+use schemars_types::{Shape, TypeEntry, Types, TypesError};
+use std::alloc::{AllocError, Global};
+use std::borrow::CowStr;
+use std::collections::{BTreeMap, HashMap};
+use std::hash::{BuildHasher, Hash};
+
+impl<K: Ord + JsonSchema, V: JsonSchema> JsonSchema for BTreeMap<K, V> {
+    ghost name = { map_name K.id K.name V.name };
+
+    ghost id = { map_id K.id V.id };
+
+    ghost inline = { true };
+
+    ghost describes = { OfTwo K.id V.id (λ n m. in_place (shape.map_from n m)) };
+
+    fn inline_schema() -> bool {
+        true
+    }
+
+    fn schema_name(alloc: Global) -> Result<CowStr<'static>, AllocError> {
+        map_name::<K, V>(alloc)
+    }
+
+    fn schema_id(alloc: Global) -> Result<CowStr<'static>, AllocError> {
+        map_id::<K, V>(alloc)
+    }
+
+    fn json_schema(alloc: Global, types: &mut Types) -> Result<TypeEntry, TypesError> {
+        map_entry::<K, V>(alloc, types)
+    }
+}
+
+impl<K: Eq + Hash + JsonSchema, V: JsonSchema, S: BuildHasher> JsonSchema for HashMap<K, V, S> {
+    ghost name = { map_name K.id K.name V.name };
+
+    ghost id = { map_id K.id V.id };
+
+    ghost inline = { true };
+
+    ghost describes = { OfTwo K.id V.id (λ n m. in_place (shape.map_from n m)) };
+
+    fn inline_schema() -> bool {
+        true
+    }
+
+    fn schema_name(alloc: Global) -> Result<CowStr<'static>, AllocError> {
+        map_name::<K, V>(alloc)
+    }
+
+    fn schema_id(alloc: Global) -> Result<CowStr<'static>, AllocError> {
+        map_id::<K, V>(alloc)
+    }
+
+    fn json_schema(alloc: Global, types: &mut Types) -> Result<TypeEntry, TypesError> {
+        map_entry::<K, V>(alloc, types)
+    }
+}
+
+/// Returns the name of maps from `K` to `V`, without that of the keys if they are texts.
+pub(crate) fn map_name<K: JsonSchema, V: JsonSchema>(
+    alloc: Global,
+) -> Result<CowStr<'static>, AllocError>
+    ensures { IfOk result (λ t. cow_str_bytes t ≡ map_name K.id K.name V.name) }
+{
+    let id = K::schema_id(alloc)?;
+    let value = V::schema_name(alloc)?;
+    if id.as_str() == "string" {
+        return Ok(CowStr::Owned(format!(in alloc; "Map_of_{value}")?));
+    }
+    let key = K::schema_name(alloc)?;
+    Ok(CowStr::Owned(format!(in alloc; "Map_from_{key}_to_{value}")?))
+}
+
+/// Returns the id of maps from `K` to `V`.
+pub(crate) fn map_id<K: JsonSchema, V: JsonSchema>(
+    alloc: Global,
+) -> Result<CowStr<'static>, AllocError>
+    ensures { IfOk result (λ t. cow_str_bytes t ≡ map_id K.id V.id) }
+{
+    let key = K::schema_id(alloc)?;
+    let value = V::schema_id(alloc)?;
+    if key.as_str() == "string" {
+        return Ok(CowStr::Owned(format!(in alloc; "Map<{value}>")?));
+    }
+    Ok(CowStr::Owned(format!(in alloc; "Map<{key}, {value}>")?))
+}
+
+/// Returns the entry of maps from `K` to `V`, which are registered.
+pub(crate) fn map_entry<K: JsonSchema, V: JsonSchema>(
+    alloc: Global,
+    types: &mut Types,
+) -> Result<TypeEntry, TypesError>
+    ensures keeps { Keeps types.old types.new }
+    ensures known { IfOk result (λ e. unknown_in types.new (shape_of e.shape) ≡ None) }
+    ensures describes { IfOk result
+        (λ e. OfTwo K.id V.id (λ n m. in_place (shape.map_from n m)) types.new (entry_of e)) }
+    ensures refused { IfErr result (λ e. HasCause types.new e) }
+{
+    let (key, value) = register_two::<K, V>(alloc, types)?;
+    Ok(entry(alloc, true, Shape::Map(key, value)))
+}

@@ -1,0 +1,125 @@
+//! Types of several parts, and how the parts join a table, one after another.
+ghost use Rattle.std.specs.Prelude.{◌≡◌, ◌++◌, List, [], ◌∷◌, Some, IfErr, IfOk, OnOk};
+ghost use Rattle.std.specs.Prelude.{codes, string_bytes};
+ghost use Rattle.std.specs.List.{flat_map};
+ghost use Rattle.schemars_schema.specs.Json.{Text};
+ghost use Rattle.schemars_types.specs.Rows.{place_of};
+ghost use Rattle.schemars_impls.specs.Describes.{Adds, AreKnown};
+ghost use Rattle.schemars_impls.specs.Keeps.{Keeps};
+ghost use Rattle.schemars_impls.specs.Refused.{HasCause};
+
+use crate::law::{JsonSchema, register};
+use schemars_types::{TypeNo, Types, TypesError};
+use std::alloc::{AllocError, Global};
+use std::marker::PhantomData;
+
+/// Registers two types, and returns their numbers.
+pub(crate) fn register_two<A: JsonSchema, B: JsonSchema>(
+    alloc: Global,
+    types: &mut Types,
+) -> Result<(TypeNo, TypeNo), TypesError>
+    ensures keeps { Keeps types.old types.new }
+    ensures first { IfOk result (λ p. place_of A.id types.new ≡ Some p.0) }
+    ensures second { IfOk result (λ p. place_of B.id types.new ≡ Some p.1) }
+    ensures refused { IfErr result (λ e. HasCause types.new e) }
+{
+    let first = register::<A>(alloc, types)?;
+    let second = register::<B>(alloc, types)?;
+    Ok((first, second))
+}
+
+/// A list of types.
+pub(crate) trait Parts {
+    ghost names: { List Text };
+
+    ghost ids: { List Text };
+
+    /// Adds each name to a text, behind `_and_`.
+    fn push_names(alloc: Global, text: &mut String) -> Result<(), AllocError>
+        ensures { OnOk result (string_bytes text.new
+            ≡ string_bytes text.old ++ flat_map (λ name. codes "_and_" ++ name) names) };
+
+    /// Adds each id to a text, behind a comma.
+    fn push_ids(alloc: Global, text: &mut String) -> Result<(), AllocError>
+        ensures { OnOk result (string_bytes text.new
+            ≡ string_bytes text.old ++ flat_map (λ id. codes "," ++ id) ids) };
+
+    /// Registers each type, and adds its number to a list.
+    fn add(alloc: Global, types: &mut Types, numbers: &mut Vec<TypeNo>) -> Result<(), TypesError>
+        ensures keeps { Keeps types.old types.new }
+        ensures adds { OnOk result
+            (Adds ids types.old numbers.old.items types.new numbers.new.items) }
+        ensures known { OnOk result
+            (AreKnown types.old numbers.old.items → AreKnown types.new numbers.new.items) }
+        ensures refused { IfErr result (λ e. HasCause types.new e) };
+}
+
+/// No types.
+pub(crate) struct Nil;
+
+/// A type, and those of a list behind it.
+pub(crate) struct And<A, R>(PhantomData<A>, PhantomData<R>);
+
+impl Parts for Nil {
+    ghost names = { [] };
+
+    ghost ids = { [] };
+
+    fn push_names(_alloc: Global, _text: &mut String) -> Result<(), AllocError> {
+        Ok(())
+    }
+
+    fn push_ids(_alloc: Global, _text: &mut String) -> Result<(), AllocError> {
+        Ok(())
+    }
+
+    fn add(
+        _alloc: Global,
+        _types: &mut Types,
+        _numbers: &mut Vec<TypeNo>,
+    ) -> Result<(), TypesError> {
+        Ok(())
+    }
+}
+
+impl<A: JsonSchema, R: Parts> Parts for And<A, R> {
+    ghost names = { A.name ∷ R.names };
+
+    ghost ids = { A.id ∷ R.ids };
+
+    fn push_names(alloc: Global, text: &mut String) -> Result<(), AllocError> {
+        let name = A::schema_name(alloc)?;
+        text.push_str("_and_")?;
+        text.push_str(name.as_str())?;
+        R::push_names(alloc, text)
+    }
+
+    fn push_ids(alloc: Global, text: &mut String) -> Result<(), AllocError> {
+        let id = A::schema_id(alloc)?;
+        text.push_str(",")?;
+        text.push_str(id.as_str())?;
+        R::push_ids(alloc, text)
+    }
+
+    fn add(alloc: Global, types: &mut Types, numbers: &mut Vec<TypeNo>) -> Result<(), TypesError> {
+        add_one::<A>(alloc, types, numbers)?;
+        R::add(alloc, types, numbers)
+    }
+}
+
+fn add_one<T: JsonSchema>(
+    alloc: Global,
+    types: &mut Types,
+    numbers: &mut Vec<TypeNo>,
+) -> Result<(), TypesError>
+    ensures keeps { Keeps types.old types.new }
+    ensures adds { OnOk result
+        (Adds (T.id ∷ []) types.old numbers.old.items types.new numbers.new.items) }
+    ensures known { OnOk result
+        (AreKnown types.old numbers.old.items → AreKnown types.new numbers.new.items) }
+    ensures refused { IfErr result (λ e. HasCause types.new e) }
+{
+    let n = register::<T>(alloc, types)?;
+    numbers.push(n)?;
+    Ok(())
+}

@@ -1,0 +1,99 @@
+//! Sets.
+ghost use Rattle.std.specs.Prelude.{◌≡◌, None, true, IfErr, IfOk};
+ghost use Rattle.std.specs.Cow.{cow_str_bytes};
+ghost use Rattle.schemars_shapes.specs.Shape.{Shape as shape, entry_of, in_place, shape_of};
+ghost use Rattle.schemars_types.specs.Names.{set_id, set_name};
+ghost use Rattle.schemars_types.specs.Rows.{unknown_in};
+ghost use Rattle.schemars_impls.specs.Describes.{OfOne};
+ghost use Rattle.schemars_impls.specs.Keeps.{Keeps};
+ghost use Rattle.schemars_impls.specs.Refused.{HasCause};
+
+use crate::law::{JsonSchema, entry, register};
+use schemars_types::{Shape, TypeEntry, Types, TypesError};
+use std::alloc::{AllocError, Global};
+use std::borrow::CowStr;
+use std::collections::{BTreeSet, HashSet};
+use std::hash::{BuildHasher, Hash};
+
+impl<T: Ord + JsonSchema> JsonSchema for BTreeSet<T> {
+    ghost name = { set_name T.name };
+
+    ghost id = { set_id T.id };
+
+    ghost inline = { true };
+
+    ghost describes = { OfOne T.id (λ n. in_place (shape.set n)) };
+
+    fn inline_schema() -> bool {
+        true
+    }
+
+    fn schema_name(alloc: Global) -> Result<CowStr<'static>, AllocError> {
+        set_name::<T>(alloc)
+    }
+
+    fn schema_id(alloc: Global) -> Result<CowStr<'static>, AllocError> {
+        set_id::<T>(alloc)
+    }
+
+    fn json_schema(alloc: Global, types: &mut Types) -> Result<TypeEntry, TypesError> {
+        set_entry::<T>(alloc, types)
+    }
+}
+
+impl<T: Eq + Hash + JsonSchema, S: BuildHasher> JsonSchema for HashSet<T, S> {
+    ghost name = { set_name T.name };
+
+    ghost id = { set_id T.id };
+
+    ghost inline = { true };
+
+    ghost describes = { OfOne T.id (λ n. in_place (shape.set n)) };
+
+    fn inline_schema() -> bool {
+        true
+    }
+
+    fn schema_name(alloc: Global) -> Result<CowStr<'static>, AllocError> {
+        set_name::<T>(alloc)
+    }
+
+    fn schema_id(alloc: Global) -> Result<CowStr<'static>, AllocError> {
+        set_id::<T>(alloc)
+    }
+
+    fn json_schema(alloc: Global, types: &mut Types) -> Result<TypeEntry, TypesError> {
+        set_entry::<T>(alloc, types)
+    }
+}
+
+/// Returns the name of sets of `T`.
+pub(crate) fn set_name<T: JsonSchema>(alloc: Global) -> Result<CowStr<'static>, AllocError>
+    ensures { IfOk result (λ t. cow_str_bytes t ≡ set_name T.name) }
+{
+    let name = T::schema_name(alloc)?;
+    Ok(CowStr::Owned(format!(in alloc; "Set_of_{name}")?))
+}
+
+/// Returns the id of sets of `T`.
+pub(crate) fn set_id<T: JsonSchema>(alloc: Global) -> Result<CowStr<'static>, AllocError>
+    ensures { IfOk result (λ t. cow_str_bytes t ≡ set_id T.id) }
+{
+    let id = T::schema_id(alloc)?;
+    Ok(CowStr::Owned(format!(in alloc; "Set<{id}>")?))
+}
+
+/// Returns the entry of sets of `T`, which is registered.
+pub(crate) fn set_entry<T: JsonSchema>(
+    alloc: Global,
+    types: &mut Types,
+) -> Result<TypeEntry, TypesError>
+    ensures keeps { Keeps types.old types.new }
+    ensures known { IfOk result (λ e. unknown_in types.new (shape_of e.shape) ≡ None) }
+    ensures describes { IfOk result
+        (λ e. OfOne T.id (λ n. in_place (shape.set n)) types.new (entry_of e)) }
+    ensures refused { IfErr result (λ e. HasCause types.new e) }
+{
+    let n = register::<T>(alloc, types)?;
+    Ok(entry(alloc, true, Shape::Set(n)))
+}

@@ -1,0 +1,125 @@
+//! Times, which are structs of seconds and of nanoseconds.
+ghost use Rattle.std.specs.Prelude.{◌≡◌, [], ◌∷◌, None, codes, false, IfErr, IfOk};
+ghost use Rattle.schemars_shapes.specs.declared.shape.IntKind.TheVariants.{U32, U64};
+ghost use Rattle.schemars_shapes.specs.IntKind.{format_of};
+ghost use Rattle.schemars_shapes.specs.Shape.{bare_fields, entry_of, field_of, fields_of};
+ghost use Rattle.schemars_shapes.specs.Shape.{needed, shape_of};
+ghost use Rattle.schemars_types.specs.Rows.{unknown_in};
+ghost use Rattle.schemars_types.specs.Times.{time_entry};
+ghost use Rattle.schemars_impls.specs.Describes.{OfTwo};
+ghost use Rattle.schemars_impls.specs.Keeps.{Keeps};
+ghost use Rattle.schemars_impls.specs.Refused.{HasCause};
+
+use crate::impls::parts::register_two;
+use crate::law::{JsonSchema, entry};
+use schemars_types::{Field, Fields, Required, Shape, TypeEntry, TypeNo, Types, TypesError};
+use serde_json::Map;
+use std::alloc::{AllocError, Global};
+use std::borrow::CowStr;
+use std::time::{Duration, SystemTime};
+
+impl JsonSchema for Duration {
+    ghost name = { codes "Duration" };
+
+    ghost id = { codes "std::time::Duration" };
+
+    ghost inline = { false };
+
+    ghost describes = { OfTwo (format_of U64) (format_of U32)
+        (time_entry (codes "secs") (codes "nanos")) };
+
+    fn inline_schema() -> bool {
+        false
+    }
+
+    fn schema_name(_alloc: Global) -> Result<CowStr<'static>, AllocError> {
+        Ok(CowStr::Borrowed("Duration"))
+    }
+
+    fn schema_id(_alloc: Global) -> Result<CowStr<'static>, AllocError> {
+        Ok(CowStr::Borrowed("std::time::Duration"))
+    }
+
+    fn json_schema(alloc: Global, types: &mut Types) -> Result<TypeEntry, TypesError> {
+        time_entry(alloc, types, "secs", "nanos")
+    }
+}
+
+impl JsonSchema for SystemTime {
+    ghost name = { codes "SystemTime" };
+
+    ghost id = { codes "std::time::SystemTime" };
+
+    ghost inline = { false };
+
+    ghost describes = { OfTwo (format_of U64) (format_of U32)
+        (time_entry (codes "secs_since_epoch") (codes "nanos_since_epoch")) };
+
+    fn inline_schema() -> bool {
+        false
+    }
+
+    fn schema_name(_alloc: Global) -> Result<CowStr<'static>, AllocError> {
+        Ok(CowStr::Borrowed("SystemTime"))
+    }
+
+    fn schema_id(_alloc: Global) -> Result<CowStr<'static>, AllocError> {
+        Ok(CowStr::Borrowed("std::time::SystemTime"))
+    }
+
+    fn json_schema(alloc: Global, types: &mut Types) -> Result<TypeEntry, TypesError> {
+        time_entry(alloc, types, "secs_since_epoch", "nanos_since_epoch")
+    }
+}
+
+fn time_entry(
+    alloc: Global,
+    types: &mut Types,
+    seconds: &str,
+    nanoseconds: &str,
+) -> Result<TypeEntry, TypesError>
+    ensures keeps { Keeps types.old types.new }
+    ensures known { IfOk result (λ e. unknown_in types.new (shape_of e.shape) ≡ None) }
+    ensures describes { IfOk result (λ e. OfTwo (format_of U64) (format_of U32)
+        (time_entry seconds.now nanoseconds.now) types.new (entry_of e)) }
+    ensures refused { IfErr result (λ e. HasCause types.new e) }
+{
+    let (whole, part) = register_two::<u64, u32>(alloc, types)?;
+    let fields = two_needed(alloc, seconds, whole, nanoseconds, part)?;
+    Ok(entry(alloc, false, Shape::Struct(fields)))
+}
+
+// Two fields without notes that have to be there, and any others beside them.
+fn two_needed(
+    alloc: Global,
+    first: &str,
+    of_first: TypeNo,
+    second: &str,
+    of_second: TypeNo,
+) -> Result<Fields, AllocError>
+    ensures { IfOk result (λ f. fields_of f
+        ≡ bare_fields (needed first.now of_first ∷ needed second.now of_second ∷ []) false) }
+{
+    let first = needed_field(alloc, first, of_first)?;
+    let second = needed_field(alloc, second, of_second)?;
+    Ok(Fields {
+        list: vec![in alloc; first, second]?,
+        flatten: Vec::new(alloc),
+        closed: false,
+    })
+}
+
+// A field that has to be there, without notes.
+fn needed_field(alloc: Global, name: &str, ty: TypeNo) -> Result<Field, AllocError>
+    ensures { IfOk result (λ f. field_of f ≡ needed name.now ty) }
+{
+    Ok(Field {
+        name: String::from_str(alloc, name)?,
+        ty,
+        required: Required {
+            deserialize: true,
+            serialize: true,
+        },
+        notes: Map::new(alloc),
+    })
+}

@@ -1,0 +1,89 @@
+//! What an implementation of `JsonSchema` promises, and how a type joins a table.
+ghost use Rattle.std.specs.Prelude.{◌≡◌, Bool, List, None, Some, IfErr, IfOk, IsSome, OnOk};
+ghost use Rattle.std.specs.Cow.{cow_str_bytes};
+ghost use Rattle.schemars_schema.specs.Json.{Text};
+ghost use Rattle.schemars_shapes.specs.Shape.{Entry, entry_of, shape_of, without_notes};
+ghost use Rattle.schemars_types.specs.Rows.{Row, place_of, unknown_in};
+ghost use Rattle.schemars_impls.specs.Keeps.{Keeps};
+ghost use Rattle.schemars_impls.specs.Describes.{entry_under, IsDescribed};
+ghost use Rattle.schemars_impls.specs.Refused.{HasCause};
+
+use schemars_types::{Shape, TypeEntry, TypeNo, Types, TypesError};
+use std::alloc::{AllocError, Global};
+use std::borrow::CowStr;
+
+/// A type that describes itself in tables of types.
+///
+/// A type has one row in a table, under its id; types with the same id have that row in common. A
+/// type that is inside itself refers to its own row by `Types::reserve` with its own id, since
+/// `register` of it would not end.
+pub trait JsonSchema {
+    ghost name: { Text };
+
+    ghost id: { Text };
+
+    ghost inline: { Bool };
+
+    // What the type's entry says in a table that has the rows of its parts.
+    ghost describes: { List Row → Entry → Type 0 };
+
+    /// Returns whether the type's document is written in place wherever the type is referred to.
+    fn inline_schema() -> bool
+        ensures { result ≡ inline };
+
+    /// Returns the name of the type, under which it is defined in a document.
+    fn schema_name(alloc: Global) -> Result<CowStr<'static>, AllocError>
+        ensures { IfOk result (λ t. cow_str_bytes t ≡ name) };
+
+    /// Returns the id of the type, under which it has its row.
+    fn schema_id(alloc: Global) -> Result<CowStr<'static>, AllocError>
+        ensures { IfOk result (λ t. cow_str_bytes t ≡ id) };
+
+    /// Returns the entry of the type, whose numbers are those of rows. Rows may join the table for
+    /// its parts. Each row that is there keeps its id, its name and, once it is defined, its entry.
+    ///
+    /// # Errors
+    ///
+    /// `OutOfMemory`, or an error that says what is so of the table. Rows keep the same as above.
+    fn json_schema(alloc: Global, types: &mut Types) -> Result<TypeEntry, TypesError>
+        ensures keeps { Keeps types.old types.new }
+        ensures known { IfOk result (λ e. unknown_in types.new (shape_of e.shape) ≡ None) }
+        ensures describes { IfOk result (λ e. describes types.new (entry_of e)) }
+        ensures refused { IfErr result (λ e. HasCause types.new e) };
+}
+
+/// Returns the number of the type's row. If the row is not defined, it is added and defined first;
+/// if it is, the table is unchanged.
+///
+/// # Errors
+///
+/// `OutOfMemory`, what `T::json_schema` returns, or `AlreadyDefined` if that has defined the row
+/// with a different entry. Rows that are defined stay; new rows may be behind them.
+#[tactic(auto, using(crate::proofs::Refusing::memory_cause))]
+pub fn register<T: JsonSchema>(alloc: Global, types: &mut Types) -> Result<TypeNo, TypesError>
+    ensures keeps { Keeps types.old types.new }
+    ensures number { IfOk result (λ n. place_of T.id types.new ≡ Some n) }
+    ensures described { OnOk result (entry_under T.id types.old ≡ None
+        → IfOk result (λ n. IsDescribed T.describes T.inline types.new n)) }
+    ensures present { IsSome (entry_under T.id types.old) → types.new ≡ types.old }
+    ensures refused { IfErr result (λ e. HasCause types.new e) }
+{
+    let id = T::schema_id(alloc)?.into_owned(alloc)?;
+    let name = T::schema_name(alloc)?.into_owned(alloc)?;
+    let n = types.reserve(id, name)?;
+    if types.entry(n).is_some() {
+        return Ok(n);
+    }
+    let mut entry = T::json_schema(alloc, types)?;
+    entry.inline = T::inline_schema();
+    types.define(n, entry)?;
+    Ok(n)
+}
+
+/// Returns an entry of this shape without notes.
+pub(crate) fn entry(alloc: Global, inline: bool, shape: Shape) -> TypeEntry
+    ensures value { entry_of result ≡ without_notes inline (shape_of shape) }
+    ensures shape { shape_of result.shape ≡ shape_of shape }
+{
+    TypeEntry::without_notes(alloc, inline, shape)
+}
