@@ -5,3 +5,4 @@ mod Faults
 mod SampleRoots
 mod SampleWhole
 pub mod BuiltIns
+pub mod ByType

@@ -6,3 +6,4 @@ pub mod Answers
 pub mod Through
 pub mod Samples
 pub mod Lends
+pub mod ByType

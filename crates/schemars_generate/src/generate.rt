@@ -56,7 +56,7 @@ use std::marker::Model;
 #[derive(Drop)]
 pub struct SchemaGenerator<O = NoTransform> {
     pub(crate) settings: SchemaSettings<O>,
-    types: Types,
+    pub(crate) types: Types,
     pub(crate) work: Work,
 }
 
@@ -393,7 +393,7 @@ impl<O: Transform + Drop> SchemaGenerator<O> {
 }
 
 // The root document of row `n`, through the transforms.
-fn last_root<O: Transform>(
+pub(crate) fn last_root<O: Transform>(
     alloc: Global,
     settings: &mut SchemaSettings<O>,
     types: &Types,

@@ -2,6 +2,7 @@
 #![tactic(auto)]
 
 pub mod builders;
+mod by_type;
 mod document;
 mod error;
 pub mod generate;

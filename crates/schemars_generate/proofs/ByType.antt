@@ -1,0 +1,130 @@
+-- A table that a type has joined, what is made in it, and why a type does not join.
+use Rattle.std.proofs.Common.{◌≡◌, ◌⊎◌, ◌<◌, inl, inr, ℕ, suc, List, [], ◌∷◌, take, length, Bool, Option, Some, None}
+use Rattle.std.proofs.Common.{IsSome, refl, ap, sym, ◌∙◌, subst, arith}
+use Rattle.serde_json.specs.Data.{Data}
+use Rattle.schemars_schema.specs.Json.{Text}
+use Rattle.schemars_shapes.specs.Shape.{Entry}
+use Rattle.schemars_types.specs.Rows.{Row, place_of, entry_at}
+use Rattle.schemars_types.specs.Faults.{IsAccepted, IsChecked, Refusal}
+use Rattle.schemars_types.specs.declared.error.TypesError.{TypesError}
+use Rattle.schemars_types.specs.declared.error.TypesError.TheVariants as fault
+use Rattle.schemars_impls.specs.Describes.{entry_under, IsDescribed}
+use Rattle.schemars_impls.specs.Keeps.{Keeps, AllContinue, Continues}
+use Rattle.schemars_impls.specs.Refused.{HasCause, cause_of}
+use Rattle.schemars_build.specs.Naming.{IsOneToOne}
+use Rattle.schemars_documents.specs.Template.{part}
+use Rattle.schemars_build.specs.Work.{Work}
+use Rattle.schemars_walk.specs.Walk.{TransformStep}
+use Rattle.schemars_headline.specs.Calls.{IsRootCall}
+use Rattle.schemars_headline.specs.Drafts.{DraftHeadlines, dialect_of}
+use Rattle.schemars_headline.specs.Headline.{RootHeadline}
+use Rattle.schemars_headline.specs.State.{State, HasOwnDefinitions}
+use Rattle.schemars_headline.proofs.Calls.{part_own, after_root_own}
+use Rattle.schemars_headline.proofs.Larger.{more_types_own}
+use Rattle.schemars_generate.specs.Answers.{IsAnswerFor, IsSubschemaFor}
+use Rattle.schemars_generate.specs.ByType.{IsJoined, IsTypeRefusal, IsRootInTable, with_rows}
+use Rattle.schemars_generate.specs.Refusals.{error_of}
+use Rattle.schemars_generate.specs.Settings.{Transforms, ApplyInOrder}
+use Rattle.schemars_generate.specs.Through.{IsThrough, IsTransformed, IsRootMade, IsUntransformedCall}
+use Rattle.schemars_generate.proofs.Answered.{subschema_for}
+use Rattle.schemars_generate.proofs.BuiltIns.{transformed, promised}
+use Rattle.schemars_generate.proofs.Untransformed.{untransformed}
+
+-- ---- the table
+
+-- a row that is defined stays as it is
+row-same : (r s : Row) → IsSome r.entry → Continues r s → s ≡ r
+row-same r s some h = by r.entry refl some
+  where
+    by : (o : Option Entry) → r.entry ≡ o → IsSome o → s ≡ r
+    by None at there = cc
+    by (Some e) at there = λ i. record { id = h.0 i; name = h.1 i; entry = (h.2 e at ∙ sym at) i }
+
+all-same : (old new : List Row) → ((n : ℕ) → n < length old → IsSome (entry_at old n)) → AllContinue old new
+    → take (length old) new ≡ old
+all-same [] new defined h = refl
+all-same (r ∷ rs) [] defined h = absurd h
+all-same (r ∷ rs) (s ∷ ss) defined h =
+    let first : s ≡ r = row-same r s (defined 0 (omega arith)) h.0 in
+    let rest : take (length rs) ss ≡ rs = all-same rs ss (λ n low. defined (suc n) (omega (arith, low))) h.1 in
+    λ i. first i ∷ rest i
+
+-- so a table without faults begins a table that keeps its rows
+pub joined : (id : Text) (inline : Bool) (describes : List Row → Entry → Type 0) (old new : List Row) (n : ℕ) → IsChecked old
+    → Keeps old new → place_of id new ≡ Some n → (entry_under id old ≡ None → IsDescribed describes inline new n) → IsAccepted new
+    → IsJoined id inline describes old new n
+joined id inline describes old new n checked kept number described accepted = record {
+  begins = all-same old new checked.defined kept.rows;
+  number = number;
+  described = described;
+  accepted = accepted;
+}
+
+-- ---- what is made in it
+
+pub subschema_own : (old new : State) (n : ℕ) (d : Data)
+    → new ≡ record (with_rows new.rows old) { names = new.names; definitions = new.definitions } → IsChecked old.rows
+    → take (length old.rows) new.rows ≡ old.rows → IsAnswerFor (with_rows new.rows old) new (part n) d → HasOwnDefinitions old
+    → HasOwnDefinitions new
+subschema_own old new n d same checked begins h own =
+    part_own (with_rows new.rows old) new same h.adds (more_types_own old new.rows checked begins own)
+
+pub subschema_in_table : (old new : State) (n : ℕ) (d : Data)
+    → new ≡ record (with_rows new.rows old) { names = new.names; definitions = new.definitions } → IsChecked new.rows
+    → IsOneToOne new.names → IsAnswerFor (with_rows new.rows old) new (part n) d → IsSubschemaFor (with_rows new.rows old) new n d
+subschema_in_table old new n d same checked one h =
+    subschema_for (with_rows new.rows old) new n d same checked one (part_own (with_rows new.rows old) new same h.adds) h
+
+module _ {O : Type 0} (Q : TransformStep O) (ts us : Transforms O) (s : State) (n : ℕ) where
+  -- what is promised in each draft holds of the document
+  pub root_in_table : (R : Data → Type 0) (d : Data) → ((e : Data) → R e → DraftHeadlines s n e) → IsTransformed Q ts us R d
+      → IsRootInTable Q ts us s n R d
+  root_in_table R d all made = record {
+    made = made;
+    headline = λ draft is. promised Q ts us R (λ x. RootHeadline (dialect_of x) s n) (λ e told x. all e told x) d made draft is;
+  }
+
+  -- the document that leaves this work behind
+  pub root_made : (w : Work) (new : State) (d : Data) → IsChecked s.rows
+      → new ≡ record s { names = w.names; definitions = w.definitions } → IsThrough (ApplyInOrder Q) ts us (IsRootMade s n w) d
+      → IsRootInTable Q ts us s n (IsUntransformedCall s n new) d
+  root_made w new d checked same root =
+      let made = root.1 in
+      let after : IsRootCall s n new root.0 = (
+        made.0,
+        made.1,
+        same ∙ (λ i. record {
+          settings = s.settings;
+          rows = s.rows;
+          names = (made.4 i).names;
+          definitions = (made.4 i).definitions;
+        }),
+      ) in
+      root_in_table (IsUntransformedCall s n new) d (λ e told. told.0.headlines)
+      (transformed Q ts us (IsUntransformedCall s n new) d
+      (root.0, (untransformed s n made.0 root.0 checked made.1 made.2 made.3, after), root.2))
+
+  pub root_own : (new : State) (d : Data) → IsRootInTable Q ts us s n (IsUntransformedCall s n new) d → HasOwnDefinitions s
+      → HasOwnDefinitions new
+  root_own new d h own =
+      let call = (h.made.through).1.1 in
+      subst HasOwnDefinitions (sym call.2) (after_root_own s n call.0 call.1.step own)
+
+-- ---- refusals
+
+fault_cause : (rows : List Row) (e : TypesError) → Refusal rows e → cause_of rows e
+fault_cause rows fault.OutOfMemory h = tt
+fault_cause rows (fault.UndefinedType n) h = h
+fault_cause rows (fault.RepeatedName n name) h = h
+fault_cause rows (fault.DirectCycle n) h = h
+fault_cause rows (fault.EmptyCycle n) h = h
+fault_cause rows (fault.AlreadyDefined n) h = absurd h
+fault_cause rows (fault.UnknownType n) h = absurd h
+
+pub type_refusal : (old rows : List Row) (e : TypesError) → Keeps old rows → HasCause rows e → IsTypeRefusal old (error_of e)
+type_refusal old rows e kept cause = inr (record { rows = rows; kept = kept; refusal = e; cause = cause; is_told = refl })
+
+pub check_refusal : (old rows : List Row) (e : TypesError) → Keeps old rows → (e ≡ fault.OutOfMemory) ⊎ Refusal rows e
+    → IsTypeRefusal old (error_of e)
+check_refusal old rows e kept (inl memory) = inl (ap error_of memory)
+check_refusal old rows e kept (inr h) = type_refusal old rows e kept (record { cause = fault_cause rows e h })

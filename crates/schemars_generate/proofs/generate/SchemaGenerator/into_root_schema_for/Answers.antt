@@ -1,0 +1,70 @@
+use Rattle.std.proofs.Common.{inl, inr, refl, sym, subst}
+use Rattle.std.proofs.lemmas.Result.{IfOk-weaker, IfErr-weaker}
+use Rattle.schemars_build.specs.Work.{Work}
+use Rattle.schemars_headline.proofs.Calls.{err_told}
+use Rattle.schemars_generate.specs.ByType.{IsJoined, IsTypeRefusal, IsRootOfTypeRefusal, with_rows}
+use Rattle.schemars_generate.specs.Generator.{state, state_of}
+use Rattle.schemars_generate.specs.Settings.{Transforms}
+use Rattle.schemars_generate.specs.Through.{IsTransformed, IsUntransformed, IsRootRefusal}
+use Rattle.schemars_generate.specs.declared.error.GenerateError.{GenerateError}
+use Rattle.schemars_generate.proofs.ByType.{root_in_table}
+use Rattle.schemars_generate.proofs.generate.SchemaGenerator.into_root_schema_for.Goals as goal
+
+pub returns-in_err-n-clause-refused : goal.returns-in_err-n-clause-refused
+returns-in_err-n-clause-refused g c =
+    let ts = c.args.self.settings.transforms in
+    let t = g.T.JsonSchema in
+    let P : GenerateError → Type 0 =
+    λ e. (us : Transforms g.row.O.Denot) × IsRootOfTypeRefusal g.O.Transform.makes ts us (state c.args.self)
+    (IsJoined t.id t.inline t.describes c.args.self.rows) e in
+    err_told c.from_residual.result P _ c.from_residual.ensures.1
+    (λ e is. (ts, inl (subst (IsTypeRefusal c.args.self.rows) (sym is)
+    (subst (λ y. IsTypeRefusal y.rows c.in_err-n.field-0.0) c.self.view_is c.in_err-n.ensures.refused), refl)))
+
+pub returns-in_err-extend-clause-refused : goal.returns-in_err-extend-clause-refused
+returns-in_err-extend-clause-refused g c =
+    let ts = c.args.self.settings.transforms in
+    let t = g.T.JsonSchema in
+    let P : GenerateError → Type 0 =
+    λ e. (us : Transforms g.row.O.Denot) × IsRootOfTypeRefusal g.O.Transform.makes ts us (state c.args.self)
+    (IsJoined t.id t.inline t.describes c.args.self.rows) e in
+    err_told c.from_residual-in_err-extend.result P _ c.from_residual-in_err-extend.ensures.1 (λ e is. (ts, inl (inl is, refl)))
+
+pub returns-clause-refused : goal.returns-clause-refused
+returns-clause-refused g c =
+    let Q = g.O.Transform.makes in
+    let t = g.T.JsonSchema in
+    let inside = c.self.inside in
+    let rows = c.join.new.types in
+    let n = c.in_ok-n.n in
+    let us = c.last_root.new.settings.transforms in
+    IfErr-weaker c.last_root.result _ _ (λ e h.
+    let P : Work → Type 0 = λ w. IsRootRefusal Q inside.settings.transforms us (state_of inside.settings rows w) n e in
+    (us, inr (record {
+      rows = rows;
+      n = n;
+      is_row = subst (λ y. IsJoined t.id t.inline t.describes y.rows rows n) c.self.view_is c.in_ok-n.ensures.joined;
+      refusal = subst (λ y. IsRootRefusal Q y.settings.transforms us (with_rows rows (state y)) n e) c.self.view_is
+          (subst P c.extend.ensures h);
+    }))) c.last_root.ensures.refused
+
+pub returns-clause-root : goal.returns-clause-root
+returns-clause-root g c =
+    let Q = g.O.Transform.makes in
+    let t = g.T.JsonSchema in
+    let inside = c.self.inside in
+    let rows = c.join.new.types in
+    let n = c.in_ok-n.n in
+    let us = c.last_root.new.settings.transforms in
+    let s = with_rows rows (state c.args.self) in
+    IfOk-weaker c.last_root.result _ _ (λ d h.
+    let P : Work → Type 0 = λ w. IsTransformed Q inside.settings.transforms us (IsUntransformed (state_of inside.settings rows w) n) d in
+    (
+      rows,
+      n,
+      us,
+      subst (λ y. IsJoined t.id t.inline t.describes y.rows rows n) c.self.view_is c.in_ok-n.ensures.joined,
+      root_in_table Q _ us s n (IsUntransformed s n) d (λ e told. told.headlines)
+          (subst (λ y. IsTransformed Q y.settings.transforms us (IsUntransformed (with_rows rows (state y)) n) d) c.self.view_is
+          (subst P c.extend.ensures h)),
+    )) c.last_root.ensures.root

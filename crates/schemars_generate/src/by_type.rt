@@ -1,0 +1,120 @@
+//! Calls by type, which join the generator's table.
+ghost use Rattle.std.specs.Prelude.{ℕ, List, ◌≡◌, ◌<◌, length, IfOk, IfErr, OnOk, OnErr};
+ghost use Rattle.schemars_types.specs.Faults.{IsChecked};
+ghost use Rattle.schemars_types.specs.Rows.{Row};
+ghost use Rattle.schemars_headline.specs.State.{HasOwnDefinitions};
+ghost use Rattle.schemars_generate.specs.Answers.{IsSubschemaFor};
+ghost use Rattle.schemars_generate.specs.ByType.{IsJoined, IsTypeRefusal, IsRootInTable};
+ghost use Rattle.schemars_generate.specs.ByType.{IsRootOfTypeRefusal, with_rows};
+ghost use Rattle.schemars_generate.specs.Generator.{state};
+ghost use Rattle.schemars_generate.specs.Through.{IsUntransformed, IsUntransformedCall};
+
+use crate::document::{answer_of, root_document};
+use crate::error::GenerateError;
+use crate::generate::{SchemaGenerator, last_root};
+use schemars_documents::template::Ask;
+use schemars_impls::{JsonSchema, register};
+use schemars_schema::Schema;
+use schemars_types::{TypeNo, Types};
+use schemars_walk::Transform;
+use std::alloc::Global;
+
+impl<O> SchemaGenerator<O> {
+    /// Generates the schema of a type as `subschema_for_type` generates that of a row. The type
+    /// joins the table if it is not in it.
+    ///
+    /// On an error the generator is unchanged.
+    ///
+    /// # Errors
+    ///
+    /// The errors of `register`, those of `Types::check` for the table that the type has joined,
+    /// and `OutOfMemory`.
+    pub fn subschema_for<T: JsonSchema>(&mut self, alloc: Global) -> Result<Schema, GenerateError>
+        ensures subschema { IfOk result (λ d. (n : ℕ)
+            × IsJoined T.id T.inline T.describes self.old.rows self.new.rows n
+            × IsSubschemaFor (with_rows self.new.rows (state self.old)) (state self.new) n d) }
+        ensures own { HasOwnDefinitions (state self.old) → HasOwnDefinitions (state self.new) }
+        ensures rest { self.new ≡ record self.old {
+          rows = self.new.rows;
+          names = self.new.names;
+          definitions = self.new.definitions;
+        } }
+        ensures refused { IfErr result (IsTypeRefusal self.old.rows) }
+        ensures err { OnErr result (self.new ≡ self.old) }
+    {
+        let mut types = self.types.clone()?;
+        let n = join::<T>(alloc, &mut types)?;
+        self.work.extend(types.len())?;
+        let schema = answer_of(alloc, &self.settings, &types, &mut self.work, Ask::Part(n))?;
+        self.types = types;
+        Ok(schema)
+    }
+}
+
+impl<O: Transform + Drop> SchemaGenerator<O> {
+    /// Generates the root document of a type as `root_schema_for_type` generates that of a row.
+    /// The type joins the table if it is not in it.
+    ///
+    /// On an error the generator is unchanged, apart from the state of user-defined transforms.
+    ///
+    /// # Errors
+    ///
+    /// The errors of `register`, those of `Types::check` for the table that the type has joined,
+    /// and those of `root_schema_for_type`.
+    pub fn root_schema_for<T: JsonSchema>(
+        &mut self,
+        alloc: Global,
+    ) -> Result<Schema, GenerateError>
+        ensures root { IfOk result (λ d. (n : ℕ)
+            × IsJoined T.id T.inline T.describes self.old.rows self.new.rows n
+            × IsRootInTable O.makes self.old.settings.transforms self.new.settings.transforms
+            (with_rows self.new.rows (state self.old)) n
+            (IsUntransformedCall (with_rows self.new.rows (state self.old)) n (state self.new)) d) }
+        ensures own { HasOwnDefinitions (state self.old) → HasOwnDefinitions (state self.new) }
+        ensures refused { IfErr result (IsRootOfTypeRefusal O.makes self.old.settings.transforms
+            self.new.settings.transforms (state self.old)
+            (IsJoined T.id T.inline T.describes self.old.rows)) }
+        ensures err { OnErr result (state self.new ≡ state self.old) }
+    {
+        let mut types = self.types.clone()?;
+        let n = join::<T>(alloc, &mut types)?;
+        self.work.extend(types.len())?;
+        let document = root_document(alloc, &mut self.settings, &types, &mut self.work, n)?;
+        self.types = types;
+        Ok(document)
+    }
+
+    /// Generates the root document of a type as `root_schema_for` does, and consumes the
+    /// generator.
+    pub fn into_root_schema_for<T: JsonSchema>(self, alloc: Global) -> Result<Schema, GenerateError>
+        ensures root { IfOk result (λ d. (rows : List Row) × (n : ℕ) × (after : _)
+            × IsJoined T.id T.inline T.describes self.rows rows n
+            × IsRootInTable O.makes self.settings.transforms after (with_rows rows (state self)) n
+            (IsUntransformed (with_rows rows (state self)) n) d) }
+        ensures refused { IfErr result (λ e. (after : _) × IsRootOfTypeRefusal O.makes
+            self.settings.transforms after (state self)
+            (IsJoined T.id T.inline T.describes self.rows) e) }
+    {
+        let SchemaGenerator {
+            mut settings,
+            mut types,
+            mut work,
+        } = self;
+        let n = join::<T>(alloc, &mut types)?;
+        work.extend(types.len())?;
+        last_root(alloc, &mut settings, &types, work, n)
+    }
+}
+
+// The row of a type, which joins the table if it is not in it.
+fn join<T: JsonSchema>(alloc: Global, types: &mut Types) -> Result<TypeNo, GenerateError>
+    requires checked { IsChecked types.old }
+    ensures joined { IfOk result (IsJoined T.id T.inline T.describes types.old types.new) }
+    ensures checked { OnOk result (IsChecked types.new) }
+    ensures known { IfOk result (λ n. n < length types.new) }
+    ensures refused { IfErr result (IsTypeRefusal types.old) }
+{
+    let n = register::<T>(alloc, types)?;
+    types.check(alloc)?;
+    Ok(n)
+}
