@@ -1,5 +1,16 @@
 //! Macros for the bodies of functions.
 
+/// The root document of a type that implements `JsonSchema`, by a generator with the default
+/// settings: `schema_for!(in alloc; T)` answers what `SchemaGenerator::into_root_schema_for::<T>`
+/// answers.
+#[macro_export]
+macro_rules! schema_for {
+    (in $alloc:expr; $type:ty) => {{
+        let alloc = $alloc;
+        $crate::SchemaGenerator::default(alloc).into_root_schema_for::<$type>(alloc)
+    }};
+}
+
 /// The root document of an example value, a `Sample`, by a generator with the default settings:
 /// `schema_for_value!(in alloc; sample)` answers what `SchemaGenerator::into_root_schema_for_value`
 /// answers.

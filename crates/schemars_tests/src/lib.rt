@@ -4,6 +4,8 @@
 #![tactic(auto)]
 
 #[cfg(test)]
+mod by_type;
+#[cfg(test)]
 mod checks;
 #[cfg(test)]
 mod entries;
