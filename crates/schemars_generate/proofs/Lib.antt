@@ -1,4 +1,3 @@
-
 pub mod Answered
 pub mod Untransformed
 mod Faults

@@ -61,10 +61,7 @@ impl<O: Transform + Drop> SchemaGenerator<O> {
     ///
     /// The errors of `register`, those of `Types::check` for the table that the type has joined,
     /// and those of `root_schema_for_type`.
-    pub fn root_schema_for<T: JsonSchema>(
-        &mut self,
-        alloc: Global,
-    ) -> Result<Schema, GenerateError>
+    pub fn root_schema_for<T: JsonSchema>(&mut self, alloc: Global) -> Result<Schema, GenerateError>
         ensures root { IfOk result (λ d. (n : ℕ)
             × IsJoined T.id T.inline T.describes self.old.rows self.new.rows n
             × IsRootInTable O.makes self.old.settings.transforms self.new.settings.transforms

@@ -4,8 +4,6 @@
 #![tactic(auto)]
 
 #[cfg(test)]
-mod by_type;
-#[cfg(test)]
 mod checks;
 #[cfg(test)]
 mod entries;

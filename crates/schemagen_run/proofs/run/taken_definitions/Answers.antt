@@ -29,17 +29,17 @@ returns c =
     let new = state c.subschema_for_type.new.self in
     record {
       ok = IfOk-weaker c.take_definitions.result _ _ (λ m made. (
-            new,
-            (
-              _,
-              told.subschema.is_part,
-              ap state told.rest,
-              told.subschema.answer.adds,
-              told.keeps.own,
-              told.subschema.answer.is.reached tt,
-              made.built_in own ∙ ap (λ s. each_made_by s.transforms.items new.definitions) settings,
-            ),
-            λ is. (made.openapi3 (ap (λ s. s.transforms.items) settings ∙ is)).1,
-          )) (taken.transformed refl);
+        new,
+        (
+          _,
+          told.subschema.is_part,
+          ap state told.rest,
+          told.subschema.answer.adds,
+          told.keeps.own,
+          told.subschema.answer.is.reached tt,
+          made.built_in own ∙ ap (λ s. each_made_by s.transforms.items new.definitions) settings,
+        ),
+        λ is. (made.openapi3 (ap (λ s. s.transforms.items) settings ∙ is)).1,
+      )) (taken.transformed refl);
       only_memory = IfErr-weaker c.take_definitions.result _ _ (λ e h. h.only_memory own) taken.refused;
     }

@@ -18,8 +18,14 @@ returns-in_err-n-clause-refused g c =
     λ e. (us : Transforms g.row.O.Denot) × IsRootOfTypeRefusal g.O.Transform.makes ts us (state c.args.self)
     (IsJoined t.id t.inline t.describes c.args.self.rows) e in
     err_told c.from_residual.result P _ c.from_residual.ensures.1
-    (λ e is. (ts, inl (subst (IsTypeRefusal c.args.self.rows) (sym is)
-    (subst (λ y. IsTypeRefusal y.rows c.in_err-n.field-0.0) c.self.view_is c.in_err-n.ensures.refused), refl)))
+    (λ e is. (
+      ts,
+      inl (
+        subst (IsTypeRefusal c.args.self.rows) (sym is)
+            (subst (λ y. IsTypeRefusal y.rows c.in_err-n.field-0.0) c.self.view_is c.in_err-n.ensures.refused),
+        refl,
+      ),
+    ))
 
 pub returns-in_err-extend-clause-refused : goal.returns-in_err-extend-clause-refused
 returns-in_err-extend-clause-refused g c =
@@ -39,14 +45,16 @@ returns-clause-refused g c =
     let n = c.in_ok-n.n in
     let us = c.last_root.new.settings.transforms in
     IfErr-weaker c.last_root.result _ _ (λ e h.
-    let P : Work → Type 0 = λ w. IsRootRefusal Q inside.settings.transforms us (state_of inside.settings rows w) n e in
-    (us, inr (record {
-      rows = rows;
-      n = n;
-      is_row = subst (λ y. IsJoined t.id t.inline t.describes y.rows rows n) c.self.view_is c.in_ok-n.ensures.joined;
-      refusal = subst (λ y. IsRootRefusal Q y.settings.transforms us (with_rows rows (state y)) n e) c.self.view_is
-          (subst P c.extend.ensures h);
-    }))) c.last_root.ensures.refused
+    let P : Work → Type 0 = λ w. IsRootRefusal Q inside.settings.transforms us (state_of inside.settings rows w) n e in (
+      us,
+      inr (record {
+        rows = rows;
+        n = n;
+        is_row = subst (λ y. IsJoined t.id t.inline t.describes y.rows rows n) c.self.view_is c.in_ok-n.ensures.joined;
+        refusal = subst (λ y. IsRootRefusal Q y.settings.transforms us (with_rows rows (state y)) n e) c.self.view_is
+            (subst P c.extend.ensures h);
+      }),
+    )) c.last_root.ensures.refused
 
 pub returns-clause-root : goal.returns-clause-root
 returns-clause-root g c =
@@ -58,8 +66,7 @@ returns-clause-root g c =
     let us = c.last_root.new.settings.transforms in
     let s = with_rows rows (state c.args.self) in
     IfOk-weaker c.last_root.result _ _ (λ d h.
-    let P : Work → Type 0 = λ w. IsTransformed Q inside.settings.transforms us (IsUntransformed (state_of inside.settings rows w) n) d in
-    (
+    let P : Work → Type 0 = λ w. IsTransformed Q inside.settings.transforms us (IsUntransformed (state_of inside.settings rows w) n) d in (
       rows,
       n,
       us,

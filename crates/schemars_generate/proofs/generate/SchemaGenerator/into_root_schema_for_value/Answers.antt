@@ -14,10 +14,12 @@ returns-clause-made g c =
     let us = c.sample_root.new.settings.transforms in
     let x = example_of c.args.value.now in
     let inside = c.self.inside in
-    IfOk-weaker c.sample_root.result _ _ (λ d h. (us,
-    subst (λ y. IsTransformed Q y.settings.transforms us (IsSampleRoot (settings_of y.settings) y.definitions x) d) c.self.view_is
-    (subst (λ ms. IsTransformed Q inside.settings.transforms us (IsSampleRoot (settings_of inside.settings) ms x) d)
-    c.take_definitions-definitions.ensures.taken h))) c.sample_root.ensures.root
+    IfOk-weaker c.sample_root.result _ _ (λ d h. (
+      us,
+      subst (λ y. IsTransformed Q y.settings.transforms us (IsSampleRoot (settings_of y.settings) y.definitions x) d) c.self.view_is
+          (subst (λ ms. IsTransformed Q inside.settings.transforms us (IsSampleRoot (settings_of inside.settings) ms x) d)
+          c.take_definitions-definitions.ensures.taken h),
+    )) c.sample_root.ensures.root
 
 pub returns-clause-refused : goal.returns-clause-refused
 returns-clause-refused g c =
@@ -25,10 +27,12 @@ returns-clause-refused g c =
     let us = c.sample_root.new.settings.transforms in
     let x = example_of c.args.value.now in
     let inside = c.self.inside in
-    IfErr-weaker c.sample_root.result _ _ (λ e h. (us,
-    subst (λ y. IsSampleRefusal Q y.settings.transforms us (settings_of y.settings) y.definitions x e) c.self.view_is
-    (subst (λ ms. IsSampleRefusal Q inside.settings.transforms us (settings_of inside.settings) ms x e)
-    c.take_definitions-definitions.ensures.taken h))) c.sample_root.ensures.refused
+    IfErr-weaker c.sample_root.result _ _ (λ e h. (
+      us,
+      subst (λ y. IsSampleRefusal Q y.settings.transforms us (settings_of y.settings) y.definitions x e) c.self.view_is
+          (subst (λ ms. IsSampleRefusal Q inside.settings.transforms us (settings_of inside.settings) ms x e)
+          c.take_definitions-definitions.ensures.taken h),
+    )) c.sample_root.ensures.refused
 
 pub returns-clause-headline : goal.returns-clause-headline
 returns-clause-headline g c =

@@ -72,8 +72,7 @@ returns-clause-root g c =
     λ i. state_of (c.root_document.ensures.rest i) rows w in
     let J : List Row → Type 0 = λ x. IsJoined t.id t.inline t.describes x rows n in
     let W : Work → Type 0 = λ v.
-    IsThrough (ApplyInOrder Q) inside.settings.transforms us (IsRootMade (state_of inside.settings rows v) n w) d in
-    (
+    IsThrough (ApplyInOrder Q) inside.settings.transforms us (IsRootMade (state_of inside.settings rows v) n w) d in (
       n,
       subst (λ y. J y.rows) c.self.view_is (subst J c.in_ok-types.ensures.cases c.in_ok-n.ensures.joined),
       subst

@@ -30,8 +30,7 @@ returns-clause-subschema g c =
     let old = state_of inside.settings inside.types inside.work in
     let new = state_of inside.settings rows c.answer_of.new.work in
     let P : Work → Type 0 = λ w. IsAnswerFor (state_of inside.settings rows w) new (part n) d in
-    let J : List Row → Type 0 = λ x. IsJoined t.id t.inline t.describes x rows n in
-    (
+    let J : List Row → Type 0 = λ x. IsJoined t.id t.inline t.describes x rows n in (
       n,
       subst (λ y. J y.rows) c.self.view_is (subst J c.in_ok-types.ensures.cases c.in_ok-n.ensures.joined),
       subst (λ y. IsSubschemaFor (with_rows rows (state y)) new n d) c.self.view_is
