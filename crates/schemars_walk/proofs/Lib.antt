@@ -4,3 +4,4 @@ pub mod Orders
 pub mod Rewrites
 pub mod KeywordLaws
 pub mod Changes
+pub mod Boxed

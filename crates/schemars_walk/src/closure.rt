@@ -1,4 +1,4 @@
-//! Closures, and references to transforms, as transforms.
+//! Closures, references to transforms, and boxes of transforms, as transforms.
 ghost use Rattle.std.specs.Prelude.{◌≡◌};
 
 use crate::transform::{Transform, TransformError};
@@ -51,6 +51,23 @@ impl<T: Transform> Transform for &mut T {
     ghost makes = { λ t s r u v. T.makes t.now s r u.now v × (u.ghost_name ≡ t.ghost_name) };
 
     fn transform(&mut self, alloc: Global, schema: &mut Schema) -> Result<(), TransformError> {
+        let inner = &mut **self;
+        inner.transform(alloc, schema)
+    }
+}
+
+/// Applies the transform in the box, so that one list can hold transforms of several types.
+impl Transform for Box<dyn Transform + Drop> {
+    ghost use Rattle.std.specs.Prelude.{◌≡◌};
+
+    // Nothing is known of the transform here; a call of this method tells what the box states.
+    ghost makes = { λ t s r u v. Unit {0} };
+
+    fn transform(&mut self, alloc: Global, schema: &mut Schema) -> Result<(), TransformError>
+        ensures inside { (w : _) × (⟦<dyn Transform as Transform>⟧ self.old.vtable).makes
+            self.old.value schema.old result w schema.new
+            × (self.new ≡ record self.old { value = w }) }
+    {
         let inner = &mut **self;
         inner.transform(alloc, schema)
     }

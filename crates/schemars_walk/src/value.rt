@@ -1,5 +1,6 @@
 //! A transform of a JSON value that may be a schema.
 ghost use Rattle.serde_json.specs.View.{view};
+ghost use Rattle.schemars_schema.specs.SchemaData.{IsSchema};
 ghost use Rattle.schemars_walk.specs.Walk.{OnValue};
 
 use crate::transform::{Transform, TransformError};
@@ -15,7 +16,8 @@ pub fn on_value<T: Transform>(
     t: &mut T,
     value: &mut Value,
 ) -> Result<bool, TransformError>
-    ensures { OnValue T.makes t.old (view value.old) result t.new (view value.new) }
+    ensures step { OnValue T.makes t.old (view value.old) result t.new (view value.new) }
+    ensures schema { IsSchema (view value.old) → IsSchema (view value.new) }
 {
     match Schema::try_from(mem::replace(value, Value::Null)) {
         Ok(mut schema) => {
