@@ -67,8 +67,7 @@ abbrev pub format_rules : BTreeSet (String Global) → Rules Draft
 format_rules allowed = record {
   inside = λ draft s. draft_inside draft s;
   place = λ draft k d. place_under k;
-  finish = λ draft s.
-      restricted draft allowed s;
+  finish = λ draft s. restricted draft allowed s;
 }
 
 -- a schema and all schemas inside it

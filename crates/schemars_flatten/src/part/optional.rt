@@ -18,15 +18,16 @@ use std::alloc::{AllocError, Global};
 /// Makes a document a part that is flattened into the object around it. A truth value is unchanged.
 ///
 /// 1. Texts that the schema lists under `enum`, with the `type` of a text, become objects with the
-///    text as their only key and null as its value, at the end of `oneOf`, which is created if it is
-///    missing and unchanged if it is not a list. Other values of `enum` are dropped. If the schema lists no
-///    texts, those of the first schema of `oneOf` are taken, and that schema is removed.
-/// 2. If the part is optional, `required` is removed; `oneOf` becomes an `anyOf` of itself and `{}`, which
-///    is moved into `allOf` together with any `anyOf` that is there; a list under `anyOf` gets `{}` at its
-///    end unless it has it.
-/// 3. Further members are allowed: `additionalProperties` and `unevaluatedProperties` are removed where they
-///    are false, here and in every schema that is reached only through `if`, `then`, `else`, `allOf`, `anyOf`
-///    and `oneOf`.
+///    text as their only key and null as its value, at the end of `oneOf`, which is created if it
+///    is missing and unchanged if it is not a list. Other values of `enum` are dropped. If the
+///    schema lists no texts, those of the first schema of `oneOf` are taken, and that schema is
+///    removed.
+/// 2. If the part is optional, `required` is removed; `oneOf` becomes an `anyOf` of itself and
+///    `{}`, which is moved into `allOf` together with any `anyOf` that is there; a list under
+///    `anyOf` gets `{}` at its end unless it has it.
+/// 3. Further members are allowed: `additionalProperties` and `unevaluatedProperties` are removed
+///    where they are false, here and in every schema that is reached only through `if`, `then`,
+///    `else`, `allOf`, `anyOf` and `oneOf`.
 pub fn as_flattened(alloc: Global, schema: &mut Schema, is_optional: bool) -> Result<(), AllocError>
     ensures { OnOk result (schema.new ≡ flattened_part is_optional schema.old) }
 {
