@@ -68,7 +68,7 @@ impl Transform for Box<dyn Transform + Drop> {
             self.old.value schema.old result w schema.new
             × (self.new ≡ record self.old { value = w }) }
     {
-        let inner = &mut **self;
-        inner.transform(alloc, schema)
+        let inside = &mut **self;
+        inside.transform(alloc, schema)
     }
 }
