@@ -1,8 +1,8 @@
 -- The rows of a table against the entries of its map: where an id stands, and a row that joins or is written.
 use Rattle.std.proofs.Common.{◌≡◌, ◌+◌, ℕ, zero, suc, List, [], ◌∷◌, ◌++◌, length, map, slice_get, Bool, true, false}
-use Rattle.std.proofs.Common.{Some, None, cond, String, string_bytes, refl, ap, ◌∙◌, sym, arith, position}
+use Rattle.std.proofs.Common.{false, Some, None, cond, String, string_bytes, refl, ap, ◌∙◌, sym, arith, position}
 use Rattle.std.specs.declared.alloc.Global.{Global}
-use Rattle.std.specs.List.{position_from}
+use Rattle.std.specs.List.{position_from, AllByRecursion, IsDistinct}
 use Rattle.std.specs.Map.{keys_of, values_of}
 use Rattle.std.specs.Str.{bytes_eq}
 use Rattle.std.specs.String.{string_eq}
@@ -14,7 +14,7 @@ use Rattle.schemars_schema.proofs.Members.{bytes_eq_comm}
 use Rattle.schemars_types.specs.declared.table.slots.Slot.{Slot}
 use Rattle.schemars_shapes.specs.declared.shape.TypeEntry.{TypeEntry}
 use Rattle.schemars_shapes.specs.Shape.{Entry, entry_of}
-use Rattle.schemars_types.specs.Rows.{Row, place_of, entry_at, reserved, defined}
+use Rattle.schemars_types.specs.Rows.{Row, place_of, entry_at, reserved, defined, HasDistinctIds}
 use Rattle.schemars_types.specs.Slots.{row_of}
 
 place_from : (id : Text) (slots : List (String Global × Slot)) (i : ℕ)
@@ -99,3 +99,14 @@ pub map-set_value_at : (slots : List (String Global × Slot)) (n : ℕ) (slot : 
 map-set_value_at [] n slot entry there = refl
 map-set_value_at (s ∷ slots) zero slot entry there = cc
 map-set_value_at (s ∷ slots) (suc n) slot entry there = ap (λ rs. row_of s ∷ rs) (map-set_value_at slots n slot entry there)
+
+-- the ids of rows are the keys of the map, which are distinct
+ids_after : (k : String Global) (es : List (String Global × Slot)) → AllByRecursion (λ y. string_eq k y ≡ false) (keys_of es)
+    → AllByRecursion (λ y. bytes_eq (string_bytes k) y ≡ false) (map (λ r. r.id) (map row_of es))
+ids_after k [] others = others
+ids_after k (e ∷ es) others = (others.0, ids_after k es others.1)
+
+pub ids_distinct : (es : List (String Global × Slot)) → IsDistinct string_eq (keys_of es) → HasDistinctIds (map row_of es)
+unfolding IsDistinct
+ids_distinct [] keys = keys
+ids_distinct (e ∷ es) keys = (ids_after e.0 es keys.0, ids_distinct es keys.1)

@@ -1,7 +1,7 @@
 -- A table as the list of its rows.
 use Rattle.std.specs.Prelude.{ℕ, zero, suc, ◌++◌, List, [], ◌∷◌, Bool, false, not, nat_le, length, find, Option, Some}
-use Rattle.std.specs.Prelude.{None, is_some, slice_get, option_and_then, if◌then◌else◌, bytes_eq}
-use Rattle.std.specs.List.{position_from}
+use Rattle.std.specs.Prelude.{None, map, is_some, slice_get, option_and_then, if◌then◌else◌, bytes_eq}
+use Rattle.std.specs.List.{position_from, IsDistinct}
 use Rattle.std.specs.Option.{option_map_or}
 use Rattle.schemars_schema.specs.Json.{Text}
 use Rattle.schemars_shapes.specs.Shape.{Shape, Entry, numbers_of}
@@ -25,6 +25,10 @@ id_at rows n = option_map_or (λ r. r.id) (slice_get rows n) []
 
 abbrev pub name_at : List Row → ℕ → Text
 name_at rows n = option_map_or (λ r. r.name) (slice_get rows n) []
+
+-- no two rows have one id
+abbrev pub HasDistinctIds : List Row → Type 0
+HasDistinctIds rows = IsDistinct bytes_eq (map (λ r. r.id) rows)
 
 -- the first number in a shape that is no row's
 abbrev pub unknown_in : List Row → Shape → Option ℕ

@@ -4,6 +4,7 @@ ghost use Rattle.std.specs.Prelude.{string_bytes};
 ghost use Rattle.std.specs.Prelude.{slice_get};
 ghost use Rattle.schemars_shapes.specs.Shape.{entry_of, shape_of};
 ghost use Rattle.schemars_types.specs.Rows.{place_of, entry_at, unknown_in, reserved, defined};
+ghost use Rattle.schemars_types.specs.Rows.{HasDistinctIds};
 ghost use Rattle.schemars_types.specs.Edges.{RefersWithin};
 ghost use Rattle.schemars_types.specs.Refusals.{first_unknown, refusal_of};
 ghost use Rattle.schemars_types.specs.Extends.{begins_with, rows_have_float};
@@ -77,10 +78,12 @@ impl Types {
         }
     }
 
-    /// Returns the number of rows. Each row number in an entry is less than it.
+    /// Returns the number of rows. Each row number in an entry is less than it, and no two rows have
+    /// one id.
     pub fn len(&self) -> usize
         ensures len { result ≡ length self.now }
         ensures above { RefersWithin self.now }
+        ensures ids { HasDistinctIds self.now }
     {
         self.slots.len()
     }

@@ -1,6 +1,11 @@
-use Rattle.std.proofs.Common.{arith}
+use Rattle.std.proofs.Common.{arith, subst}
 use Rattle.std.proofs.lemmas.Grind.{common_steps}
+use Rattle.schemars_types.specs.Rows.{HasDistinctIds}
+use Rattle.schemars_types.proofs.TableLemmas.{ids_distinct}
 use Rattle.schemars_types.proofs.table.Types.len.Goals as goal
 
 pub returns-clause-len : goal.returns-clause-len
 returns-clause-len c = grind (arith, common_steps)
+
+pub returns-clause-ids : goal.returns-clause-ids
+returns-clause-ids c = subst HasDistinctIds c.self.view_is (ids_distinct c.self.inside.slots.entries c.len.ensures.unique)
