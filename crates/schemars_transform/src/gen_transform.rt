@@ -12,16 +12,21 @@ use crate::built_in::ref_siblings::RemoveRefSiblings;
 use crate::built_in::single_example::SetSingleExample;
 use crate::built_in::unevaluated::ReplaceUnevaluatedProperties;
 use crate::error::CloneError;
-use crate::no_transform::NoTransform;
 use schemars_schema::Schema;
 use schemars_walk::{Transform, TransformError};
 use std::alloc::Global;
 
 /// One of the built-in transforms, or a user-defined transform of type `O`.
 ///
-/// User-defined transforms of several kinds can be closures: a list of `GenTransform<FnTransform>`.
+/// By default that is a box, so that one list holds transforms of several types:
+///
+/// ```
+/// let first = GenTransform::Own(Box::new(alloc, first)?);
+/// let second = GenTransform::Own(Box::new(alloc, second)?);
+/// let settings = settings.with_transform(first)?.with_transform(second)?;
+/// ```
 #[derive(Drop)]
-pub enum GenTransform<O = NoTransform> {
+pub enum GenTransform<O = Box<dyn Transform + Drop>> {
     /// Makes every schema an object.
     ReplaceBoolSchemas(ReplaceBoolSchemas),
     /// Separates `$ref` from other keywords.
