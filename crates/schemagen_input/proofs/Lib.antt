@@ -6,3 +6,4 @@ mod Examples
 mod WrittenExamples
 mod Samples
 mod SampleJson
+pub mod AsRead

@@ -1,19 +1,22 @@
 -- The JSON of the example that a JSON value is, is that value.
-use Rattle.std.proofs.Common.{◌≡◌, List, [], ◌∷◌, Some, Greater, nat_cmp, pos, negsuc, refl, ap, ◌∙◌, arith}
+use Rattle.std.proofs.Common.{◌≡◌, List, [], ◌∷◌, Option, Some, None, Greater, nat_cmp, pos, negsuc, refl, ap, ◌∙◌, subst, arith}
+use Rattle.std.specs.Option.{IfSome}
 use Rattle.std.proofs.lemmas.Bool.{le-leb}
 use Rattle.std.proofs.lemmas.Cmp.{nat_list_cmp_total}
-use Rattle.std.specs.Prelude.{◌^◌, ◌-◌}
+use Rattle.std.specs.Prelude.{◌^◌, ◌-◌, option_map}
 use Rattle.std.specs.Ordering.{ordering_reverse}
 use Rattle.std.specs.Cmp.Lexicographic.{slice_cmp}
 use Rattle.serde_json.specs.Data.{Data, null, boolean, number, unsigned, negative, float, string, array, object}
 use Rattle.serde_json.specs.Data.{Items, no_items, item, Members, no_members, member, put}
 use Rattle.serde_json.specs.View.{items_of}
-use Rattle.schemars_schema.specs.Json.{Text, IsJson, AreJson, AreJsonMembers, IsAbove}
+use Rattle.schemars_schema.specs.Json.{Text, IsAbove}
 use Rattle.schemars_schema.specs.SchemaData.{put_members}
 use Rattle.schemars_sample.specs.Example.{Example, truth, whole, text, no_value, seq, struct}
 use Rattle.schemars_sample.specs.Example.{Examples, no_examples, example, Entries, no_entries, entry}
 use Rattle.schemars_sample.specs.SampleJson.{sample_json, items_json, entries_json}
 use Rattle.schemagen_input.specs.SampleInput.{sample_input, items_input, members_input}
+use Rattle.schemagen_input.specs.SampleInput.{IsAsRead, AreAsRead, AreMembersAsRead}
+use Rattle.schemagen_input.proofs.AsRead.{if_mapped, if_next}
 
 -- a member before all that are put in stays the first
 put_members-first : (k : Text) (d : Data) (new ms : Members) → IsAbove k new
@@ -24,39 +27,50 @@ put_members-first k d (member l e new) ms above =
     rw after (put_members-first k d new (put l e ms) above.1)
 
 -- members whose keys stand in order stay as they are
-put_members-none : (ms : Members) → AreJsonMembers ms → put_members ms no_members ≡ ms
+put_members-none : (ms : Members) → AreMembersAsRead ms → put_members ms no_members ≡ ms
 put_members-none no_members h = refl
-put_members-none (member k d ms) h = put_members-first k d ms no_members h.2 ∙ ap (member k d) (put_members-none ms h.3)
+put_members-none (member k d ms) h = put_members-first k d ms no_members h.1 ∙ ap (member k d) (put_members-none ms h.2)
 
--- each JSON value is an example, whose JSON it is
+-- the examples of these items have these items for JSON
+abbrev AreItems : Items → Examples → Type 0
+AreItems ds xs = (js : List Data) × (items_json xs ≡ Some js) × (items_of js ≡ ds)
+
+-- the entries of these members put them in
+abbrev AreEntries : Members → Entries → Type 0
+AreEntries ms xs = (done : Members) → entries_json xs done ≡ Some (put_members ms done)
+
+-- where a value that is read is an example, the JSON of the example is the value
 mutual
-  the_example : (d : Data) → IsJson d → (x : Example) × (sample_input d ≡ Some x) × (sample_json x ≡ Some d)
-  the_example null h = (no_value, refl, refl)
-  the_example (boolean b) h = (truth b, refl, refl)
-  the_example (number (unsigned n)) h = (whole (pos n), refl, rw (le-leb n (2 ^ 64 - 1) (omega arith)) refl)
+  the_example : (d : Data) → IsAsRead d → IfSome (sample_input d) (λ x. sample_json x ≡ Some d)
+  the_example null h = refl
+  the_example (boolean b) h = refl
+  the_example (number (unsigned n)) h = rw (le-leb n (2 ^ 64 - 1) (omega arith)) refl
   the_example (number (negative (pos n))) h = absurd h
-  the_example (number (negative (negsuc n))) h = (whole (negsuc n), refl, rw (le-leb n (2 ^ 63 - 1) (omega arith)) refl)
-  the_example (number (float x)) h = absurd h
-  the_example (string s) h = (text s, refl, refl)
-  the_example (array ds) h = let xs = the_examples ds h in (seq xs.0, rw xs.1 refl, rw (xs.3, xs.4) refl)
-  the_example (object ms) h =
-      let xs = the_entries ms h in (struct [] xs.0, rw xs.1 refl, rw (xs.2 no_members, put_members-none ms h) refl)
+  the_example (number (negative (negsuc n))) h = rw (le-leb n (2 ^ 63 - 1) (omega arith)) refl
+  the_example (number (float x)) h = tt
+  the_example (string s) h = refl
+  the_example (array ds) h = if_mapped (AreItems ds) (λ x. sample_json x ≡ Some (array ds)) seq (items_input ds)
+      (λ xs is. rw (is.1, is.2) refl) (the_examples ds h)
+  the_example (object ms) h = if_mapped (AreEntries ms) (λ x. sample_json x ≡ Some (object ms)) (struct []) (members_input ms)
+      (λ xs is. rw (is no_members, put_members-none ms h) refl) (the_entries ms h)
 
-  the_examples : (ds : Items) → AreJson ds
-      → (xs : Examples) × (items_input ds ≡ Some xs) × (js : List Data) × (items_json xs ≡ Some js) × (items_of js ≡ ds)
-  the_examples no_items h = (no_examples, refl, [], refl, refl)
-  the_examples (item d ds) h =
-      let x = the_example d h.0 in
-      let xs = the_examples ds h.1 in
-      (example x.0 xs.0, rw (x.1, xs.1) refl, d ∷ xs.2, rw (x.2, xs.3) refl, ap (item d) xs.4)
+  the_examples : (ds : Items) → AreAsRead ds → IfSome (items_input ds) (AreItems ds)
+  the_examples no_items h = ([], refl, refl)
+  the_examples (item d ds) h = if_next (λ x. sample_json x ≡ Some d) (AreItems (item d ds))
+      (λ x. option_map (example x) (items_input ds)) (sample_input d)
+      (λ x is. if_mapped (AreItems ds) (AreItems (item d ds)) (example x) (items_input ds)
+      (λ xs are. (d ∷ are.0, rw (is, are.1) refl, ap (item d) are.2)) (the_examples ds h.1)) (the_example d h.0)
 
-  the_entries : (ms : Members) → AreJsonMembers ms
-      → (xs : Entries) × (members_input ms ≡ Some xs) × ((done : Members) → entries_json xs done ≡ Some (put_members ms done))
-  the_entries no_members h = (no_entries, refl, λ done. refl)
-  the_entries (member k d ms) h =
-      let x = the_example d h.1 in
-      let xs = the_entries ms h.3 in
-      (entry k x.0 xs.0, rw (x.1, xs.1) refl, λ done. rw x.2 (xs.2 (put k d done)))
+  the_entries : (ms : Members) → AreMembersAsRead ms → IfSome (members_input ms) (AreEntries ms)
+  the_entries no_members h = λ done. refl
+  the_entries (member k d ms) h = if_next (λ x. sample_json x ≡ Some d) (AreEntries (member k d ms))
+      (λ x. option_map (entry k x) (members_input ms)) (sample_input d)
+      (λ x is. if_mapped (AreEntries ms) (AreEntries (member k d ms)) (entry k x) (members_input ms)
+      (λ xs are done. rw is (are (put k d done))) (the_entries ms h.2)) (the_example d h.0)
 
-pub json_of_input : (d : Data) (x : Example) → IsJson d → sample_input d ≡ Some x → sample_json x ≡ Some d
-json_of_input d x h e = let made = the_example d h in cc
+some_is : (o : Option Example) (x : Example) (d : Data) → o ≡ Some x → IfSome o (λ y. sample_json y ≡ Some d) → sample_json x ≡ Some d
+some_is None x d is h = cc
+some_is (Some y) x d is h = let same : y ≡ x = cc in subst (λ z. sample_json z ≡ Some d) same h
+
+pub json_of_input : (d : Data) (x : Example) → IsAsRead d → sample_input d ≡ Some x → sample_json x ≡ Some d
+json_of_input d x h is = some_is (sample_input d) x d is (the_example d h)

@@ -1,10 +1,9 @@
 //! Example values, as JSON gives them.
 ghost use Rattle.std.specs.Prelude.{◌≡◌, Some, None, Err, IfOk};
 ghost use Rattle.serde_json.specs.View.{view, items_view, members_view};
-ghost use Rattle.schemars_schema.specs.Json.{IsJson};
 ghost use Rattle.schemars_sample.specs.Example.{example_of, examples_view, entries_view};
 ghost use Rattle.schemars_sample.specs.SampleJson.{sample_json};
-ghost use Rattle.schemagen_input.specs.SampleInput.{sample_input, items_input, members_input};
+ghost use Rattle.schemagen_input.specs.SampleInput.{sample_input, items_input, members_input, IsAsRead};
 
 use schemars_sample::Sample;
 use serde_json::{Map, Value};
@@ -42,14 +41,14 @@ impl<T: Drop> From<AllocFailed<T>> for SampleError {
 }
 
 /// The example that a JSON value is: null is a unit, a list a sequence, an object a map whose
-/// entries are given one by one. Where the value has only 64-bit whole numbers, and its keys in
-/// order, each once, the JSON of the example is that value again.
+/// entries are given one by one. The JSON of the example of a value that was read from a text is
+/// that value again.
 ///
 /// Refusals: `NotWhole` where a number in it is no 64-bit whole number, and want of memory.
 #[cycle(sample)]
 pub fn read_sample(alloc: Global, value: &Value) -> Result<Sample, SampleError>
     ensures ok { IfOk result (λ x. sample_input (view value.now) ≡ Some (example_of x)) }
-    ensures same { IfOk result (λ x. IsJson (view value.now)
+    ensures same { IfOk result (λ x. IsAsRead (view value.now)
         → sample_json (example_of x) ≡ Some (view value.now)) }
     ensures not_whole { result ≡ Err SampleError.NotWhole → sample_input (view value.now) ≡ None }
 {

@@ -30,13 +30,13 @@ accepts_under : (dialect : Dialect) (x : Example) (d document : Data) → IsSamp
     → document ≡ made_by (transforms_of_dialect dialect) d → AcceptsUnder dialect x document
 accepts_under Draft2020_12 x d document root same draft is =
     for_draft drafts.Draft2020_12 draft (λ y. AcceptsExampleUnder (dialect_of y) x document) is
-    (subst (AcceptsExampleUnder draft2020_12 x) (sym same) (root.samples [] [] drafts.Draft2020_12 (inl refl)))
+    (subst (AcceptsExampleUnder draft2020_12 x) (sym same) (root.samples drafts.Draft2020_12 (inl refl)))
 accepts_under Draft2019_09 x d document root same draft is =
     for_draft drafts.Draft2019_09 draft (λ y. AcceptsExampleUnder (dialect_of y) x document) is
-    (subst (AcceptsExampleUnder draft2019_09 x) (sym same) (root.samples [] [] drafts.Draft2019_09 (inl refl)))
+    (subst (AcceptsExampleUnder draft2019_09 x) (sym same) (root.samples drafts.Draft2019_09 (inl refl)))
 accepts_under Draft07 x d document root same draft is =
     for_draft drafts.Draft07 draft (λ y. AcceptsExampleUnder (dialect_of y) x document) is
-    (subst (AcceptsExampleUnder draft07 x) (sym same) (root.samples [] [] drafts.Draft07 (inr refl)))
+    (subst (AcceptsExampleUnder draft07 x) (sym same) (root.samples drafts.Draft07 (inr refl)))
 accepts_under OpenApi3 x d document root same draft is = cc
 
 same_inside : {d e : Data} → Some d ≡ Some e → e ≡ d

@@ -36,9 +36,11 @@ use crate::fault::{
 use crate::streams::{Failed, ReadError, Sink, Source, read_all, write_all};
 use crate::words::{Asked, Command, Dialect, command_in};
 use schemagen_input::{InputError, SampleError, read_input, read_sample};
+use schemars::generate::{SchemaGenerator, SchemaSettings};
 use schemars::sample::Sample;
 use schemars::schema::definitions_to_ordered_string;
-use schemars::{GenerateError, Schema, SchemaGenerator, SchemaSettings};
+use schemars::transform::NoTransform;
+use schemars::{GenerateError, Schema};
 use schemars_types::{TypeNo, Types};
 use serde_json::{Map, Value};
 use std::alloc::{AllocError, Global};
@@ -255,7 +257,10 @@ fn input_of(alloc: Global, value: &Value) -> Result<(Types, TypeNo), Fault>
 }
 
 // The settings of a dialect.
-fn settings_of_dialect(alloc: Global, dialect: Dialect) -> Result<SchemaSettings, AllocError>
+fn settings_of_dialect(
+    alloc: Global,
+    dialect: Dialect,
+) -> Result<SchemaSettings<NoTransform>, AllocError>
     ensures settings { IfOk result (λ s. settings_of s ≡ settings_of_dialect dialect) }
     ensures transforms { IfOk result (λ s. s.transforms.items ≡ transforms_of_dialect dialect) }
 {
@@ -268,7 +273,7 @@ fn settings_of_dialect(alloc: Global, dialect: Dialect) -> Result<SchemaSettings
 }
 
 // The settings that are asked for.
-fn settings_for(alloc: Global, asked: Asked) -> Result<SchemaSettings, AllocError>
+fn settings_for(alloc: Global, asked: Asked) -> Result<SchemaSettings<NoTransform>, AllocError>
     ensures settings { IfOk result (λ s. settings_of s ≡ settings_for asked) }
     ensures transforms { IfOk result (λ s. s.transforms.items
         ≡ transforms_of_dialect asked.dialect) }
@@ -359,7 +364,7 @@ fn generator_over(
     alloc: Global,
     asked: Asked,
     types: Types,
-) -> Result<SchemaGenerator, GenerateError>
+) -> Result<SchemaGenerator<NoTransform>, GenerateError>
     ensures fresh { IfOk result (λ g. state g ≡ fresh asked types) }
     ensures transforms { IfOk result (λ g. transforms_of g ≡ transforms_of_dialect asked.dialect) }
     ensures accepted { OnOk result (IsAccepted types) }
@@ -407,7 +412,7 @@ fn definitions_of(
 // Makes a part for this row, and takes the definitions that it leads to.
 fn taken_definitions(
     alloc: Global,
-    generator: &mut SchemaGenerator,
+    generator: &mut SchemaGenerator<NoTransform>,
     root: TypeNo,
 ) -> Result<Map<String, Value>, GenerateError>
     requires own { some_own (transforms_of generator.old) ≡ false }

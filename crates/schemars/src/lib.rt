@@ -14,7 +14,18 @@ pub mod types;
 
 pub use impls::JsonSchema;
 pub use schema::Schema;
-pub use schemars_generate::{GenerateError, SchemaGenerator, SchemaSettings, generate};
+pub use schemars_generate::{GenerateError, generate};
 pub use schemars_sample::sample;
 pub use schemars_schema::{consts, encoding};
 pub use schemars_types::Contract;
+use transform::Transform;
+
+/// A generator with user-defined transforms of any type, which stand in boxes.
+///
+/// `generate::SchemaGenerator<O>` is one with user-defined transforms of type `O`.
+pub type SchemaGenerator = generate::SchemaGenerator<Box<dyn Transform + Drop>>;
+
+/// The settings of a generator with user-defined transforms of any type, which stand in boxes.
+///
+/// `generate::SchemaSettings<O>` are those with user-defined transforms of type `O`.
+pub type SchemaSettings = generate::SchemaSettings<Box<dyn Transform + Drop>>;

@@ -7,7 +7,8 @@
 macro_rules! schema_for {
     (in $alloc:expr; $type:ty) => {{
         let alloc = $alloc;
-        $crate::SchemaGenerator::default(alloc).into_root_schema_for::<$type>(alloc)
+        let generator = $crate::generate::SchemaGenerator::<$crate::transform::NoTransform>::default(alloc);
+        generator.into_root_schema_for::<$type>(alloc)
     }};
 }
 
@@ -18,6 +19,7 @@ macro_rules! schema_for {
 macro_rules! schema_for_value {
     (in $alloc:expr; $value:expr) => {{
         let alloc = $alloc;
-        $crate::SchemaGenerator::default(alloc).into_root_schema_for_value(alloc, &$value)
+        let generator = $crate::generate::SchemaGenerator::<$crate::transform::NoTransform>::default(alloc);
+        generator.into_root_schema_for_value(alloc, &$value)
     }};
 }

@@ -29,7 +29,8 @@ use Rattle.schemars_generate.specs.Through.{IsRefused, IsRefusedThrough, IsRootR
 use Rattle.schemars_generate.specs.Refusals.{told}
 use Rattle.schemars_generate.specs.declared.error.GenerateError.{GenerateError}
 use Rattle.schemars_generate.specs.declared.error.GenerateError.TheVariants.{OutOfMemory, UnknownType}
-use Rattle.schemars_generate.specs.Settings.{Transforms, ApplyInOrder, transforms_for, transforms_openapi3}
+use Rattle.schemars_generate.specs.Generator.{Transforms}
+use Rattle.schemars_generate.specs.Settings.{ApplyInOrder, transforms_for, transforms_openapi3}
 use Rattle.schemars_generate.proofs.Untransformed.{refused_memory}
 
 -- a list of the transforms of a draft makes what its functions make

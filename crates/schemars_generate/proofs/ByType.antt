@@ -24,7 +24,8 @@ use Rattle.schemars_headline.proofs.Larger.{more_types_own}
 use Rattle.schemars_generate.specs.Answers.{IsAnswerFor, IsSubschemaFor}
 use Rattle.schemars_generate.specs.ByType.{IsJoined, IsTypeRefusal, IsRootInTable, with_rows}
 use Rattle.schemars_generate.specs.Refusals.{error_of}
-use Rattle.schemars_generate.specs.Settings.{Transforms, ApplyInOrder}
+use Rattle.schemars_generate.specs.Generator.{Transforms}
+use Rattle.schemars_generate.specs.Settings.{ApplyInOrder}
 use Rattle.schemars_generate.specs.Through.{IsThrough, IsTransformed, IsRootMade, IsUntransformedCall}
 use Rattle.schemars_generate.proofs.Answered.{subschema_for}
 use Rattle.schemars_generate.proofs.BuiltIns.{transformed, promised}

@@ -15,7 +15,7 @@ use Rattle.schemars_headline.proofs.Placed.{StandsAt, IsPlaced, placing, placed_
 use Rattle.schemars_headline.proofs.Floats.{whole_with_definitions}
 use Rattle.schemars_headline.proofs.Samples.{definitions_free, draft_samples}
 use Rattle.schemars_generate.proofs.SampleWhole.{sample_whole}
-use Rattle.schemars_generate.specs.Samples.{holding, IsSampleRoot, CannotPlaceSample}
+use Rattle.schemars_generate.specs.Samples.{IsSampleRoot, CannotPlaceSample}
 
 silent_key : (path key : Text) → StandsAt path key → IsSilent key
 silent_key path key (inl is) = rw (is.1) refl
@@ -40,7 +40,7 @@ sample_made s definitions x d once own made =
     record {
       placed = made;
       accepts = fits;
-      samples = λ rows names. draft_samples (holding s definitions rows names) x d made fits;
+      samples = draft_samples path s.meta_schema definitions x d made fits;
       whole = λ none. whole_with_definitions path definitions (sample_root s.meta_schema x) d none (sample_whole s.meta_schema x) made;
     }
 

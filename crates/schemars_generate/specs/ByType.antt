@@ -14,7 +14,8 @@ use Rattle.schemars_headline.specs.Drafts.{Draft, dialect_of}
 use Rattle.schemars_headline.specs.Headline.{RootHeadline}
 use Rattle.schemars_headline.specs.State.{State}
 use Rattle.schemars_generate.specs.Refusals.{error_of}
-use Rattle.schemars_generate.specs.Settings.{Transforms, transforms_for}
+use Rattle.schemars_generate.specs.Generator.{Transforms}
+use Rattle.schemars_generate.specs.Settings.{transforms_for}
 use Rattle.schemars_generate.specs.Through.{IsTransformed, IsRootRefusal}
 use Rattle.schemars_generate.specs.declared.error.GenerateError.{GenerateError}
 use Rattle.schemars_generate.specs.declared.error.GenerateError.TheVariants.{OutOfMemory}

@@ -17,7 +17,8 @@ use Rattle.schemars_walk.specs.Walk.{TransformStep, EachMember, AtSchema}
 use Rattle.schemars_walk.specs.declared.transform.TransformError.{TransformError}
 use Rattle.schemars_transform.specs.Member.{some_own}
 use Rattle.schemars_transform.specs.BuiltIn.{IsMadeBy, each_made_by}
-use Rattle.schemars_generate.specs.Settings.{Transforms, ApplyInOrder, transforms_openapi3}
+use Rattle.schemars_generate.specs.Generator.{Transforms}
+use Rattle.schemars_generate.specs.Settings.{ApplyInOrder, transforms_openapi3}
 use Rattle.schemars_generate.specs.Refusals.{told}
 use Rattle.schemars_generate.specs.declared.error.GenerateError.{GenerateError}
 use Rattle.schemars_generate.specs.declared.error.GenerateError.TheVariants.{OutOfMemory, UnknownType, DefinitionsPath}

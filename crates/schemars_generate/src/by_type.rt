@@ -6,7 +6,7 @@ ghost use Rattle.schemars_headline.specs.State.{HasOwnDefinitions};
 ghost use Rattle.schemars_generate.specs.Answers.{IsSubschemaFor};
 ghost use Rattle.schemars_generate.specs.ByType.{IsJoined, IsTypeRefusal, IsRootInTable};
 ghost use Rattle.schemars_generate.specs.ByType.{IsRootOfTypeRefusal, with_rows};
-ghost use Rattle.schemars_generate.specs.Generator.{state};
+ghost use Rattle.schemars_generate.specs.Generator.{held_transforms, state};
 ghost use Rattle.schemars_generate.specs.Through.{IsUntransformed, IsUntransformedCall};
 
 use crate::document::{answer_of, root_document};
@@ -64,12 +64,12 @@ impl<O: Transform + Drop> SchemaGenerator<O> {
     pub fn root_schema_for<T: JsonSchema>(&mut self, alloc: Global) -> Result<Schema, GenerateError>
         ensures root { IfOk result (λ d. (n : ℕ)
             × IsJoined T.id T.inline T.describes self.old.rows self.new.rows n
-            × IsRootInTable O.makes self.old.settings.transforms self.new.settings.transforms
+            × IsRootInTable O.makes (held_transforms self.old) (held_transforms self.new)
             (with_rows self.new.rows (state self.old)) n
             (IsUntransformedCall (with_rows self.new.rows (state self.old)) n (state self.new)) d) }
         ensures own { HasOwnDefinitions (state self.old) → HasOwnDefinitions (state self.new) }
-        ensures refused { IfErr result (IsRootOfTypeRefusal O.makes self.old.settings.transforms
-            self.new.settings.transforms (state self.old)
+        ensures refused { IfErr result (IsRootOfTypeRefusal O.makes (held_transforms self.old)
+            (held_transforms self.new) (state self.old)
             (IsJoined T.id T.inline T.describes self.old.rows)) }
         ensures err { OnErr result (state self.new ≡ state self.old) }
     {
@@ -86,10 +86,10 @@ impl<O: Transform + Drop> SchemaGenerator<O> {
     pub fn into_root_schema_for<T: JsonSchema>(self, alloc: Global) -> Result<Schema, GenerateError>
         ensures root { IfOk result (λ d. (rows : List Row) × (n : ℕ) × (after : _)
             × IsJoined T.id T.inline T.describes self.rows rows n
-            × IsRootInTable O.makes self.settings.transforms after (with_rows rows (state self)) n
+            × IsRootInTable O.makes (held_transforms self) after (with_rows rows (state self)) n
             (IsUntransformed (with_rows rows (state self)) n) d) }
         ensures refused { IfErr result (λ e. (after : _) × IsRootOfTypeRefusal O.makes
-            self.settings.transforms after (state self)
+            (held_transforms self) after (state self)
             (IsJoined T.id T.inline T.describes self.rows) e) }
     {
         let SchemaGenerator {

@@ -6,6 +6,7 @@ ghost use Rattle.serde_json.specs.Data.{no_members};
 ghost use Rattle.serde_json.specs.View.{members_view};
 ghost use Rattle.schemars_types.specs.Extends.{begins_with};
 ghost use Rattle.schemars_types.specs.Faults.{IsAccepted, IsChecked};
+ghost use Rattle.schemars_types.specs.Rows.{HasDistinctIds};
 ghost use Rattle.schemars_headline.specs.Drafts.{Draft, dialect_of};
 ghost use Rattle.schemars_headline.specs.Headline.{RootHeadline};
 ghost use Rattle.schemars_headline.specs.State.{settings2020_12, work_of, HasOwnDefinitions};
@@ -15,10 +16,11 @@ ghost use Rattle.schemars_documents.specs.View.{ask_of};
 ghost use Rattle.schemars_transform.specs.Member.{some_own};
 ghost use Rattle.schemars_generate.specs.Answers.{IsAnswerFor, IsSubschemaFor};
 ghost use Rattle.schemars_generate.specs.Answers.{KeepsDefinitions};
-ghost use Rattle.schemars_generate.specs.Generator.{generator_over, state, state_of, transforms_of};
+ghost use Rattle.schemars_generate.specs.Generator.{generator_over, state, state_of};
+ghost use Rattle.schemars_generate.specs.Generator.{held_transforms, transforms_of};
 ghost use Rattle.schemars_generate.specs.Lends.{LendsDefinitions, LendsTransforms};
 ghost use Rattle.schemars_generate.specs.Refusals.{IsTableRefusal};
-ghost use Rattle.schemars_generate.specs.Settings.{AreSettingsCopied, transforms_for};
+ghost use Rattle.schemars_generate.specs.Settings.{IsCopyOf, transforms_for};
 ghost use Rattle.schemars_generate.specs.Through.{IsTransformed, IsRootRefusal};
 ghost use Rattle.schemars_generate.specs.Through.{AreTransformed, IsTakeRefusal, AreGone};
 ghost use Rattle.schemars_generate.specs.Through.{IsUntransformed, IsUntransformedCall};
@@ -30,7 +32,6 @@ use schemars_build::work::Work;
 use schemars_documents::template::Ask;
 use schemars_schema::Schema;
 pub use schemars_transform::GenTransform;
-use schemars_transform::NoTransform;
 pub use schemars_types::Contract;
 use schemars_types::{TypeNo, Types};
 use schemars_walk::{Transform, transform_members};
@@ -54,7 +55,7 @@ use std::marker::Model;
 /// let schema = generator.into_root_schema_for_type(alloc, option)?;
 /// ```
 #[derive(Drop)]
-pub struct SchemaGenerator<O = NoTransform> {
+pub struct SchemaGenerator<O = Box<dyn Transform + Drop>> {
     pub(crate) settings: SchemaSettings<O>,
     pub(crate) types: Types,
     pub(crate) work: Work,
@@ -65,6 +66,7 @@ impl<O> Model for SchemaGenerator<O> {
     ghost use Rattle.std.specs.Coded.{codes};
     ghost use Rattle.schemars_schema.specs.DataCode.{data_code, members_code};
     ghost use Rattle.schemars_types.specs.Faults.{IsAccepted, IsChecked};
+    ghost use Rattle.schemars_types.specs.Rows.{HasDistinctIds};
     ghost use Rattle.schemars_build.specs.Naming.{IsOneToOne};
     ghost use Rattle.schemars_generate.specs.Generator.{Generator, held_work};
 
@@ -80,12 +82,12 @@ impl<O> Model for SchemaGenerator<O> {
     } };
 
     ghost invariant = { λ g. IsAccepted g.types × IsChecked g.types × IsOneToOne g.work.names
-        × (g.work ≡ held_work g.work.names g.work.definitions) };
+        × (g.work ≡ held_work g.work.names g.work.definitions) × HasDistinctIds g.types };
 }
 
-impl SchemaGenerator {
+impl<O: Drop> SchemaGenerator<O> {
     /// Returns a generator with the settings of JSON Schema 2020-12 and an empty table.
-    pub fn default(alloc: Global) -> SchemaGenerator
+    pub fn default(alloc: Global) -> SchemaGenerator<O>
         ensures state { state result ≡ record {
           settings = settings2020_12;
           rows = [];
@@ -154,8 +156,7 @@ impl<O: Drop> SchemaGenerator<O> {
     ///
     /// `OwnTransform` if and only if the settings have a user-defined transform; `OutOfMemory`.
     pub fn try_clone(&self, alloc: Global) -> Result<SchemaGenerator<O>, GenerateError>
-        ensures copied { IfOk result (λ g. AreSettingsCopied self.now.settings g.settings) }
-        ensures same { IfOk result (λ g. g ≡ record self.now { settings = g.settings }) }
+        ensures copied { IfOk result (λ g. IsCopyOf self.now g) }
         ensures own { (result ≡ Err GenerateError.OwnTransform)
             ↔ IsTrue (some_own (transforms_of self.now)) }
         ensures refused { IfErr result (λ e. (e ≡ GenerateError.OutOfMemory)
@@ -218,6 +219,7 @@ impl<O> SchemaGenerator<O> {
     pub fn types(&self) -> &Types
         ensures table { result.now ≡ self.now.rows }
         ensures accepted { IsAccepted self.now.rows × IsChecked self.now.rows }
+        ensures ids { HasDistinctIds self.now.rows }
     {
         &self.types
     }
@@ -314,14 +316,14 @@ impl<O: Transform + Drop> SchemaGenerator<O> {
         apply_transforms: bool,
     ) -> Result<Map<String, Value>, GenerateError>
         ensures taken { apply_transforms ≡ false → IsOk result
-            × (self.new.settings ≡ self.old.settings)
+            × (self.new ≡ record self.old { definitions = no_members })
             × IfOk result (λ m. members_view m.entries ≡ self.old.definitions) }
         ensures transformed { apply_transforms ≡ true → IfOk result (λ m. AreTransformed O.makes
-            self.old.settings.transforms self.new.settings.transforms (state self.old)
+            (held_transforms self.old) (held_transforms self.new) (state self.old)
             (members_view m.entries)) }
         ensures gone { OnOk result (AreGone (state self.old) (state self.new)) }
-        ensures refused { IfErr result (IsTakeRefusal O.makes self.old.settings.transforms
-            self.new.settings.transforms (state self.old)) }
+        ensures refused { IfErr result (IsTakeRefusal O.makes (held_transforms self.old)
+            (held_transforms self.new) (state self.old)) }
         ensures err { OnErr result (state self.new ≡ state self.old) }
     {
         if !apply_transforms {
@@ -353,14 +355,14 @@ impl<O: Transform + Drop> SchemaGenerator<O> {
     ) -> Result<Schema, GenerateError>
         ensures headline { (draft : Draft) → transforms_of self.old ≡ transforms_for draft
             → IfOk result (RootHeadline (dialect_of draft) (state self.old) n) }
-        ensures made { IfOk result (IsTransformed O.makes self.old.settings.transforms
-            self.new.settings.transforms
+        ensures made { IfOk result (IsTransformed O.makes (held_transforms self.old)
+            (held_transforms self.new)
             (IsUntransformedCall (state self.old) n (state self.new))) }
         ensures keeps { KeepsDefinitions (state self.old) (state self.new) }
         ensures unknown { (result ≡ Err (GenerateError.UnknownType n))
             ↔ (length self.old.rows ≤ n) }
-        ensures refused { IfErr result (IsRootRefusal O.makes self.old.settings.transforms
-            self.new.settings.transforms (state self.old) n) }
+        ensures refused { IfErr result (IsRootRefusal O.makes (held_transforms self.old)
+            (held_transforms self.new) (state self.old) n) }
         ensures err { OnErr result (state self.new ≡ state self.old) }
     {
         has_row(&self.types, n)?;
@@ -378,10 +380,10 @@ impl<O: Transform + Drop> SchemaGenerator<O> {
         ensures headline { (draft : Draft) → transforms_of self ≡ transforms_for draft
             → IfOk result (RootHeadline (dialect_of draft) (state self) n) }
         ensures made { IfOk result (λ d. (after : _) × IsTransformed O.makes
-            self.settings.transforms after (IsUntransformed (state self) n) d) }
+            (held_transforms self) after (IsUntransformed (state self) n) d) }
         ensures unknown { (result ≡ Err (GenerateError.UnknownType n)) ↔ (length self.rows ≤ n) }
         ensures refused { IfErr result (λ e. (after : _) × IsRootRefusal O.makes
-            self.settings.transforms after (state self) n e) }
+            (held_transforms self) after (state self) n e) }
     {
         let SchemaGenerator {
             mut settings,

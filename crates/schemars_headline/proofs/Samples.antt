@@ -26,7 +26,6 @@ use Rattle.schemars_sample.proofs.Unplaced.{root_free}
 use Rattle.schemars_walk.specs.Rewritten.{Rules, rewritten}
 use Rattle.schemars_transform.specs.Built.{without_siblings, remove_ref_siblings, prefix_as_items, replace_prefix_items}
 use Rattle.schemars_transform.specs.Unevaluated.{unevaluated_as_additional, replace_unevaluated_properties}
-use Rattle.schemars_headline.specs.State.{State, path_of}
 use Rattle.schemars_headline.specs.Headline.{with_definitions, IsDraftPath}
 use Rattle.schemars_headline.proofs.Keys.{IsDefinitionsKey}
 use Rattle.schemars_headline.proofs.Placed.{StandsAt, IsPlaced, placed_in, draft_key}
@@ -339,26 +338,26 @@ module _ (x : Example) (document : Data) (key : Text) (silent : IsSilent key) (n
       ∙ before made patterns followed json is)
 
 -- what is made of an example accepts it in each draft
-pub draft_samples : (s : State) (x : Example) (d : Data)
-    → with_definitions (path_of s) s.definitions (sample_root s.settings.meta_schema x) ≡ Some d
-    → (IsDraftPath (path_of s) → AcceptsExample x d) → DraftSamples s x d
-draft_samples s x d made fits draft path = by draft
+pub draft_samples : (path : Text) (meta_schema : Option Text) (definitions : Members) (x : Example) (d : Data)
+    → with_definitions path definitions (sample_root meta_schema x) ≡ Some d
+    → (IsDraftPath path → AcceptsExample x d) → DraftSamples path x d
+draft_samples path meta_schema definitions x d made fits draft is_draft = by draft
   where
-    place : (key : Text) × StandsAt (path_of s) key
-    place = draft_key (path_of s) path
+    place : (key : Text) × StandsAt path key
+    place = draft_key path is_draft
 
     silent : IsSilent place.0
-    silent = stands-silent (path_of s) place.0 place.1
+    silent = stands-silent path place.0 place.1
 
     own : Members
-    own = members_in (sample_root s.settings.meta_schema x)
+    own = members_in (sample_root meta_schema x)
 
     there : (ns : Members) × IsBeside place.0 d ns
     there =
-        beside s.settings.meta_schema x (path_of s) place.0 place.1 s.definitions d
-        (placed_in (path_of s) s.definitions own d path (definitions_free s.settings.meta_schema x) made)
+        beside meta_schema x path place.0 place.1 definitions d
+        (placed_in path definitions own d is_draft (definitions_free meta_schema x) made)
 
     by : (draft : Draft) → AcceptsExampleUnder (dialect_of draft) x (made_for draft d)
-    by Draft07 = after07 x d place.0 silent there.0 there.1 (fits path)
-    by Draft2019_09 = after2019_09 x d place.0 silent there.0 there.1 (fits path)
-    by Draft2020_12 = λ patterns followed json is. fits path patterns (follow draft2020_12 d patterns followed) json is
+    by Draft07 = after07 x d place.0 silent there.0 there.1 (fits is_draft)
+    by Draft2019_09 = after2019_09 x d place.0 silent there.0 there.1 (fits is_draft)
+    by Draft2020_12 = λ patterns followed json is. fits is_draft patterns (follow draft2020_12 d patterns followed) json is

@@ -1,12 +1,13 @@
 -- The drafts of JSON Schema: what each promises of the documents that the transforms of its settings make.
 use Rattle.std.specs.Prelude.{◌≡◌, ℕ, Some}
 use Rattle.serde_json.specs.Data.{Data}
+use Rattle.schemars_schema.specs.Json.{Text}
 use Rattle.schemars_schema.specs.Verdict.{Yes}
 use Rattle.schemars_schema.specs.Acceptance.{Dialect, Patterns, draft2020_12, draft2019_09, draft07, accepts}
 use Rattle.schemars_laws.specs.Laws.{for_draft07, for_draft2019_09}
 use Rattle.schemars_sample.specs.Example.{Example}
 use Rattle.schemars_sample.specs.SampleJson.{sample_json}
-use Rattle.schemars_headline.specs.State.{State, path_of}
+use Rattle.schemars_headline.specs.State.{State}
 use Rattle.schemars_headline.specs.Headline.{IsDraftPath, RootHeadline}
 
 pub data Draft : Type 0 where
@@ -39,10 +40,10 @@ AcceptsExampleUnder dialect x document =
     (patterns : Patterns) (followed : ℕ) (json : Data) → sample_json x ≡ Some json
     → accepts dialect document patterns followed document json ≡ Yes
 
--- the document of an example accepts it, whatever definitions are at the path of a draft beside it
-abbrev pub SampleHeadline : Dialect → State → Example → Data → Type 0
-SampleHeadline dialect s x document = IsDraftPath (path_of s) → AcceptsExampleUnder dialect x document
+-- the document of an example accepts it, whatever definitions are at this path, a draft's, beside it
+abbrev pub SampleHeadline : Dialect → Text → Example → Data → Type 0
+SampleHeadline dialect path x document = IsDraftPath path → AcceptsExampleUnder dialect x document
 
 -- in each draft, for what is made for it of the root document of an example
-abbrev pub DraftSamples : State → Example → Data → Type 0
-DraftSamples s x document = (draft : Draft) → SampleHeadline (dialect_of draft) s x (made_for draft document)
+abbrev pub DraftSamples : Text → Example → Data → Type 0
+DraftSamples path x document = (draft : Draft) → SampleHeadline (dialect_of draft) path x (made_for draft document)

@@ -8,9 +8,9 @@ ghost use Rattle.schemars_schema.specs.Acceptance.{Dialect, draft2020_12};
 ghost use Rattle.schemars_schema.specs.Acceptance as dialect;
 ghost use Rattle.schemars_transform.specs.Built as made;
 ghost use Rattle.schemars_transform.specs.Nullable as nullable;
-ghost use Rattle.schemars_transform.specs.declared.built_in.bool_schemas as bool_schemas;
+ghost use Rattle.schemars_transform.specs.declared.built_in.bool_schemas.ReplaceBoolSchemas as src;
 ghost use Rattle.schemars_transform.specs.Formats as formats;
-ghost use Rattle.schemars_transform.specs.declared.built_in.formats as restricting;
+ghost use Rattle.schemars_transform.specs.declared.built_in.formats.RestrictFormats as restricts;
 ghost use Rattle.schemars_transform.specs.Unevaluated as unevaluated;
 ghost use Rattle.schemars_laws.specs.Classes.{IsConstAlone, HasPlainItems, HasPlainReference};
 ghost use Rattle.schemars_laws.specs.Classes.{HasPlainType, HasNoUnevaluated, IsDraft07};
@@ -26,7 +26,7 @@ ghost use Rattle.schemars_laws.specs.Laws.{for_openapi3};
 
 /// Truth values as objects mean the same.
 pub fn replace_bool_schemas()
-    ensures { (t : bool_schemas.ReplaceBoolSchemas.ReplaceBoolSchemas) (d : Dialect)
+    ensures { (t : src.ReplaceBoolSchemas) (d : Dialect)
         → MovesDocuments (made.replace_bool_schemas t) d d Anything }
 {}
 
@@ -64,7 +64,7 @@ pub fn add_nullable()
 
 /// Formats mean nothing, so that those that go are not missed.
 pub fn restrict_formats()
-    ensures { (t : restricting.RestrictFormats.RestrictFormats) (d : Dialect)
+    ensures { (t : restricts.RestrictFormats) (d : Dialect)
         → MovesDocuments (formats.restrict_formats t) d d Anything }
 {}
 

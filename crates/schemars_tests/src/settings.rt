@@ -1,15 +1,17 @@
 //! The settings of the drafts, and copies of settings.
+mod boxes;
 mod closure;
 mod generator;
 mod own;
 
 use crate::settings::own::Own;
-use schemars::transform::GenTransform;
-use schemars::{GenerateError, SchemaSettings};
+use schemars::GenerateError;
+use schemars::generate::SchemaSettings;
+use schemars::transform::{GenTransform, NoTransform};
 use std::alloc::{AllocError, Global};
 use std::test::Fail;
 
-fn built_in(alloc: Global, draft: &str) -> Result<SchemaSettings, AllocError> {
+fn built_in(alloc: Global, draft: &str) -> Result<SchemaSettings<NoTransform>, AllocError> {
     match draft {
         "draft-07" => SchemaSettings::draft07(alloc),
         "2019-09" => SchemaSettings::draft2019_09(alloc),
@@ -29,7 +31,7 @@ pub(crate) fn settings_of(
 
 // How many transforms there are, and how many without that of truth values.
 fn counts(alloc: Global) -> Result<(usize, usize), GenerateError> {
-    let mut settings = SchemaSettings::openapi3(alloc)?;
+    let mut settings = SchemaSettings::<NoTransform>::openapi3(alloc)?;
     let all = settings.transforms.len();
     settings
         .transforms

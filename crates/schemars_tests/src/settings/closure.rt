@@ -1,7 +1,8 @@
 //! A closure among the transforms of settings.
+use schemars::generate::{SchemaGenerator, SchemaSettings};
 use schemars::transform::{FnTransform, GenTransform, TransformError};
 use schemars::types::Types;
-use schemars::{GenerateError, Schema, SchemaGenerator, SchemaSettings};
+use schemars::{GenerateError, Schema};
 use serde_json::Value;
 use std::alloc::{AllocError, Global};
 use std::test::Fail;
@@ -21,8 +22,8 @@ fn commented_document(alloc: Global) -> Result<String, GenerateError> {
 }
 
 fn document_by(alloc: Global, own: FnTransform) -> Result<String, GenerateError> {
-    let settings = SchemaSettings::draft07(alloc)?.for_own(alloc)?;
-    document_of(alloc, settings.with_transform(GenTransform::Own(own))?)
+    let settings = SchemaSettings::draft07(alloc)?.with_transform(GenTransform::Own(own))?;
+    document_of(alloc, settings)
 }
 
 fn document_of(

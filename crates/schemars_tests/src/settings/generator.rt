@@ -2,9 +2,10 @@
 use crate::settings::own::{Own, Refusing};
 use crate::settings::settings_of;
 use schemagen_input::read_input;
+use schemars::generate::SchemaGenerator;
 use schemars::transform::{GenTransform, RecursiveTransform, TransformError};
 use schemars::types::{TypeNo, Types};
-use schemars::{GenerateError, Schema, SchemaGenerator};
+use schemars::{GenerateError, Schema};
 use serde_json::Value;
 use std::alloc::{AllocError, Global};
 use std::process::Abort;

@@ -1,4 +1,4 @@
-use Rattle.std.proofs.Common.{◌≡◌, ◌∙◌, List, inl, inr, ap, refl, sym, subst}
+use Rattle.std.proofs.Common.{◌≡◌, ◌∙◌, List, inr, ap, sym, subst}
 use Rattle.schemars_types.specs.Rows.{Row}
 use Rattle.schemars_build.specs.Work.{Work}
 use Rattle.schemars_headline.proofs.Calls.{err_told}

@@ -1,0 +1,93 @@
+//! User-defined transforms of two types in one list.
+use crate::settings::own::{Own, Refusing};
+use schemars::transform::{GenTransform, Transform, TransformError};
+use schemars::types::{TypeNo, Types};
+use schemars::{GenerateError, Schema, SchemaGenerator, SchemaSettings};
+use serde_json::Value;
+use std::alloc::{AllocError, Global};
+use std::test::Fail;
+
+// Inserts a comment.
+#[derive(Drop)]
+struct Commenting {
+    text: &'static str,
+}
+
+impl Transform for Commenting {
+    ghost makes = { λ t s r u v. Unit {0} };
+
+    fn transform(&mut self, alloc: Global, schema: &mut Schema) -> Result<(), TransformError> {
+        let key = String::from_str(alloc, "$comment")?;
+        let text = Value::try_from_str(alloc, self.text)?;
+        schema.insert(alloc, key, text)?;
+        Ok(())
+    }
+}
+
+// A generator, and the row whose documents it makes.
+#[derive(Drop)]
+struct Service {
+    generator: SchemaGenerator,
+    row: TypeNo,
+}
+
+impl Service {
+    fn document(&mut self, alloc: Global) -> Result<Schema, GenerateError> {
+        self.generator.root_schema_for_type(alloc, self.row)
+    }
+
+    // Puts a built-in transform in the place of the last.
+    fn replace_last(&mut self) {
+        if let Some(last) = self.generator.transforms_mut().last_mut() {
+            *last = GenTransform::SetSingleExample(Default::default());
+        }
+    }
+
+    fn text(&mut self, alloc: Global) -> Result<String, AllocError> {
+        match self.document(alloc) {
+            Ok(schema) => schema.to_ordered_string(alloc),
+            Err(error) => format!(in alloc; "{} {error}", error.code()),
+        }
+    }
+}
+
+fn service_of(alloc: Global, settings: SchemaSettings) -> Result<Service, GenerateError> {
+    let mut types = Types::new(alloc);
+    let row = types.bool(alloc)?;
+    let generator = SchemaGenerator::with_types(alloc, settings, types)?;
+    Ok(Service { generator, row })
+}
+
+fn boxed(alloc: Global) -> Result<Service, GenerateError> {
+    let comment = Commenting { text: "in a box" };
+    let refusing = Refusing {
+        left: 1,
+        refusal: TransformError::Own(3),
+    };
+    let settings = SchemaSettings::draft07(alloc)?
+        .with_transform(GenTransform::Own(Box::new(alloc, comment)?))?
+        .with_transform(GenTransform::Own(Box::new(alloc, Own::Counting(0))?))?
+        .with_transform(GenTransform::Own(Box::new(alloc, refusing)?))?;
+    service_of(alloc, settings)
+}
+
+#[test]
+fn boxes_hold_transforms_of_several_types(rt: HostRuntime) -> Result<(), Fail> {
+    let alloc = rt.alloc();
+    let mut service = boxed(alloc)?;
+    let first = service.text(alloc)?;
+    assert_eq!(rt; first.as_str(), FIRST);
+    let refused = service.text(alloc)?;
+    assert_eq!(rt; refused.as_str(), "10 Transform");
+    service.replace_last();
+    let third = service.text(alloc)?;
+    assert_eq!(rt; third.as_str(), THIRD);
+    Ok(())
+}
+
+const FIRST: &str =
+    r#"{"$schema":"http://json-schema.org/draft-07/schema#","title":"boolean","type":"boolean","$comment":"in a box","x-n":1}"#;
+
+// The refused call was counted too.
+const THIRD: &str =
+    r#"{"$schema":"http://json-schema.org/draft-07/schema#","title":"boolean","type":"boolean","$comment":"in a box","x-n":3}"#;
