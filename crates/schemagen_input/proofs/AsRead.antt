@@ -1,5 +1,5 @@
 -- What is read from a text has whole numbers of 64 bits, and keys in order, each once.
-use Rattle.std.proofs.Common.{◌≡◌, ◌<◌, ℕ, zero, suc, List, Bool, true, false, Option, Some, None, Ordering, Less, Equal, Greater}
+use Rattle.std.proofs.Common.{◌≡◌, ℕ, zero, suc, List, Bool, true, false, Option, Some, None, Ordering, Less, Equal, Greater}
 use Rattle.std.proofs.Common.{nat_cmp, refl, subst, arith}
 use Rattle.std.proofs.lemmas.Bool.{cond_both, leb-true, ltb-true}
 use Rattle.std.proofs.lemmas.Option.{option_and_then_some}
@@ -12,9 +12,9 @@ use Rattle.std.specs.Float.{binary64, float_is_finite}
 use Rattle.json.specs.Json as json
 use Rattle.json.specs.Lex.{tokens}
 use Rattle.serde_json.specs.Data.{Num, unsigned, negative, float, Data, number, object, array}
-use Rattle.serde_json.specs.Data.{Items, item, Members, no_members, member, put}
+use Rattle.serde_json.specs.Data.{item, Members, no_members, member, put}
 use Rattle.serde_json.specs.Read.{is_integer, float_of, number_from, number_of, of_json, of_items, of_members, max_depth, read}
-use Rattle.schemars_schema.specs.Json.{Text, IsAbove}
+use Rattle.schemars_schema.specs.Json.{Text}
 use Rattle.schemars_schema.proofs.SortedMembers.{IsSorted, sorted-put}
 use Rattle.schemagen_input.specs.SampleInput.{IsReadNumber, IsAsRead, AreAsRead, AreMembersAsRead}
 

@@ -11,8 +11,8 @@ use Rattle.serde_json.specs.Data.{Items, no_items, item, Members, no_members, me
 use Rattle.serde_json.specs.View.{items_of}
 use Rattle.schemars_schema.specs.Json.{Text, IsAbove}
 use Rattle.schemars_schema.specs.SchemaData.{put_members}
-use Rattle.schemars_sample.specs.Example.{Example, truth, whole, text, no_value, seq, struct}
-use Rattle.schemars_sample.specs.Example.{Examples, no_examples, example, Entries, no_entries, entry}
+use Rattle.schemars_sample.specs.Example.{Example, seq, struct}
+use Rattle.schemars_sample.specs.Example.{Examples, example, Entries, entry}
 use Rattle.schemars_sample.specs.SampleJson.{sample_json, items_json, entries_json}
 use Rattle.schemagen_input.specs.SampleInput.{sample_input, items_input, members_input}
 use Rattle.schemagen_input.specs.SampleInput.{IsAsRead, AreAsRead, AreMembersAsRead}

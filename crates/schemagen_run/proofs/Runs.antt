@@ -25,6 +25,8 @@ use Rattle.schemagen_run.specs.declared.words.Dialect.TheVariants.{Draft2020_12,
 use Rattle.schemagen_run.specs.Words.{AskFor, AskForTypes, AskForExample, AskForSample, IsAskedBy, IsKnown, IsDialect, word_for}
 use Rattle.schemagen_run.specs.Run.{IsLineOf, IsLineIn, IsDocumentLine, IsRefusal, IsLineRefusal}
 use Rattle.schemagen_run.specs.Run.{GivesAll, IsNoJson, IsBadTable, IsTableText, IsAcceptedText, IsNotedText}
+use Rattle.schemagen_input.specs.SampleInput.{IsAsRead}
+use Rattle.schemagen_input.proofs.AsRead.{is_as_read}
 use Rattle.schemagen_run.specs.Run.{IsFaultyTable, Tells, IsTextOf, IsTableLine, IsSampleLineOf, IsSampleLine}
 use Rattle.serde_json.specs.Data.{Data}
 use Rattle.std.proofs.Common.{Bool, false, nat_lt, ◌||◌, true≢false}
@@ -135,9 +137,10 @@ gives_line asked rows root line old new (bytes, consumed, end, text) accepted of
 
 -- that of the example that is read
 pub gives_sample_line : {Q : List ℕ → Type 0} (dialect : Dialect) (d : Data) (line : List ℕ) (old new : Option (List ℕ))
-    → GivesAll old new (IsTextOf d) → IsSampleLineOf dialect d line → Q line
+    → GivesAll old new (IsTextOf d) → (IsAsRead d → IsSampleLineOf dialect d line) → Q line
     → GivesAll old new (λ bytes. IsSampleLine dialect bytes Q)
-gives_sample_line dialect d line old new (bytes, consumed, end, text) of holds = (bytes, consumed, end, (d, (line, text, of, holds)))
+gives_sample_line dialect d line old new (bytes, consumed, end, text) of holds =
+    (bytes, consumed, end, (d, (line, text, of (is_as_read bytes d text.1), holds)))
 
 -- ---- tables without faults
 

@@ -6,7 +6,7 @@ use Rattle.std.specs.Io.KnownBytes.{Consumes, IsAtEnd}
 use Rattle.serde_json.specs.Data.{Data, Members, no_members}
 use Rattle.serde_json.specs.Read.{read}
 use Rattle.serde_json.specs.Written.{has_float, members_have_float}
-use Rattle.schemars_schema.specs.Json.{Text, IsJson}
+use Rattle.schemars_schema.specs.Json.{Text}
 use Rattle.schemars_schema.specs.OrderedText.{ordered_text, definitions_text}
 use Rattle.schemars_schema.specs.References.{references}
 use Rattle.schemars_sample.specs.Accepted.{AcceptsExample}
@@ -227,7 +227,7 @@ IsExampleLine dialect x line = (document : Data) × IsSampleDocument dialect x d
 -- that of the example that the value is, whose own JSON the value is
 abbrev pub IsSampleLineOf : Dialect → Data → Text → Type 0
 IsSampleLineOf dialect d line =
-    (x : Example) × (sample_input d ≡ Some x) × (IsJson d → sample_json x ≡ Some d) × IsExampleLine dialect x line
+    (x : Example) × (sample_input d ≡ Some x) × (sample_json x ≡ Some d) × IsExampleLine dialect x line
 
 -- the bytes are the text of this value, and Q holds of the line of its document
 abbrev pub IsSampleLine : Dialect → List ℕ → (Text → Type 0) → Type 0

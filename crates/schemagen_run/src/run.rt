@@ -9,11 +9,10 @@ ghost use Rattle.schemars_generate.specs.Refusals.{HasFault};
 ghost use Rattle.schemars_generate.specs.Generator.{settings_of, state, transforms_of};
 ghost use Rattle.schemars_transform.specs.Member.{some_own};
 ghost use Rattle.schemagen_run.specs.Streams.{AppendsBeginning};
-ghost use Rattle.schemars_schema.specs.Json.{IsJson};
 ghost use Rattle.schemars_sample.specs.Example.{example_of};
 ghost use Rattle.schemars_sample.specs.SampleJson.{sample_json};
 ghost use Rattle.schemagen_input.specs.Input.{is_table, input_of};
-ghost use Rattle.schemagen_input.specs.SampleInput.{sample_input};
+ghost use Rattle.schemagen_input.specs.SampleInput.{sample_input, IsAsRead};
 ghost use Rattle.schemagen_run.specs.declared.words.Dialect.TheVariants.{OpenApi3};
 ghost use Rattle.schemagen_run.specs.Words.{AskForTypes, AskForSample, AreKnown};
 ghost use Rattle.schemagen_run.specs.Run.{GivesAll, IsTextOf, IsNoJson, IsBadTable, IsTableText};
@@ -427,7 +426,8 @@ fn taken_definitions(
 
 // The line of the document of the example that the value is.
 fn sample_line(alloc: Global, dialect: Dialect, value: &Value) -> Result<String, Fault>
-    ensures ok { IfOk result (λ s. IsSampleLineOf dialect (view value.now) (string_bytes s)) }
+    ensures ok { IfOk result (λ s. IsAsRead (view value.now)
+        → IsSampleLineOf dialect (view value.now) (string_bytes s)) }
     ensures not_whole { result ≡ Err (Fault.Refused NOT_WHOLE)
         → sample_input (view value.now) ≡ None }
     ensures faults { IfErr result (λ e. (e ≡ Fault.Refused OUT_OF_MEMORY)
@@ -450,7 +450,7 @@ fn example_line(alloc: Global, dialect: Dialect, sample: &Sample) -> Result<Stri
 // The example that the value is.
 fn sample_of(alloc: Global, value: &Value) -> Result<Sample, Fault>
     ensures ok { IfOk result (λ x. sample_input (view value.now) ≡ Some (example_of x)) }
-    ensures same { IfOk result (λ x. IsJson (view value.now)
+    ensures same { IfOk result (λ x. IsAsRead (view value.now)
         → sample_json (example_of x) ≡ Some (view value.now)) }
     ensures not_whole { result ≡ Err (Fault.Refused NOT_WHOLE)
         → sample_input (view value.now) ≡ None }

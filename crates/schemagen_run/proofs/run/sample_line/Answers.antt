@@ -30,7 +30,7 @@ returns c =
     let told = c.example_line.ensures in
     let from = c.in_ok-sample.ensures in
     record {
-      ok = IfOk-weaker r _ _ (λ s line. (example_of c.in_ok-sample.sample, from.ok, from.same, line)) told.ok;
+      ok = IfOk-weaker r _ _ (λ s line as_read. (example_of c.in_ok-sample.sample, from.ok, from.same as_read, line)) told.ok;
       not_whole = λ u. absurd (of_memory r told.only_memory u);
       faults = IfErr-weaker r _ _ (λ e memory. inl memory) told.only_memory;
     }
