@@ -6,6 +6,7 @@ use Rattle.std.specs.Cmp.Lexicographic.{slice_cmp}
 use Rattle.std.specs.Ordering.{match_ordering}
 use Rattle.serde_json.specs.Data.{Data, null, boolean, number, string, array, object, Members, no_members, member}
 use Rattle.serde_json.specs.Find.{get_member}
+use Rattle.serde_json.specs.Written.{members_have_float}
 use Rattle.schemars_schema.specs.Json.{Text}
 use Rattle.schemars_types.specs.Faults.{IsChecked}
 use Rattle.schemars_build.specs.Naming.{IsOneToOne}
@@ -22,6 +23,10 @@ use Rattle.schemars_transform.specs.BuiltIn.{made_by, IsMadeBy, value_made_by, e
 use Rattle.schemars_transform.specs.declared.gen_transform.GenTransform.{GenTransform}
 use Rattle.schemars_transform.proofs.Laws.{built_ins_make, each_made, each_wants_memory}
 use Rattle.schemars_sample.specs.Example.{Example}
+use Rattle.schemars_headline.specs.Keys.{HasKeysOnce}
+use Rattle.schemars_headline.proofs.Calls.{own_are_whole}
+use Rattle.schemars_headline.proofs.Floats.{IsWhole}
+use Rattle.schemars_headline.proofs.WholeTransforms.{whole_by, whole_each_by}
 use Rattle.schemars_headline.proofs.Taken.{openapi_headline}
 use Rattle.schemars_generate.specs.Samples.{IsSampleRefused, IsSampleRefusedThrough, IsSampleRefusal}
 use Rattle.schemars_generate.specs.Through.{IsThrough, IsTransformed, IsTurnedDown, AreThrough, AreTransformed, AreTurnedDown, IsTakeRefusal}
@@ -50,7 +55,12 @@ module _ {O : Type 0} (Q : TransformStep O) (ts us : Transforms O) where
   built_in none R document (d, here, made) = (d, here, built_ins_make Q ts.items us.items d document (Ok tt) none made)
 
   pub transformed : (R : Data → Type 0) (document : Data) → IsThrough (ApplyInOrder Q) ts us R document → IsTransformed Q ts us R document
-  transformed R document h = record { through = h; built_in = λ none. built_in none R document h }
+  transformed R document h = record {
+    through = h;
+    built_in = λ none. built_in none R document h;
+    whole = λ none all. let (d, here, made) = built_in none R document h in
+        subst IsWhole (sym made) (whole_by ts.items d (all d here));
+  }
 
   -- what is promised in each draft of what is made for it holds of the answered document
   pub promised : (R : Data → Type 0) (P : Draft → Data → Type 0) → ((d : Data) → R d → (draft : Draft) → P draft (made_for draft d))
@@ -157,10 +167,13 @@ taken-openapi3 {O} s ts taken is made headline =
     )
 
 pub are_transformed : {O : Type 0} (Q : TransformStep O) (ts us : Transforms O) (s : State) (taken : Members) → IsChecked s.rows
-    → IsOneToOne s.names → AreThrough (ApplyInOrder Q) ts us s.definitions taken → AreTransformed Q ts us s taken
-are_transformed Q ts us s taken checked one h = record {
+    → IsOneToOne s.names → HasKeysOnce s.definitions → AreThrough (ApplyInOrder Q) ts us s.definitions taken
+    → AreTransformed Q ts us s taken
+are_transformed Q ts us s taken checked one once h = record {
   through = h;
   built_in = λ none. each_made Q ts us s.definitions taken none h;
+  whole = λ none whole own. subst (λ ms. members_have_float ms ≡ false) (sym (each_made Q ts us s.definitions taken none h))
+      (whole_each_by ts.items s.definitions (own_are_whole s whole own once));
   openapi3 = λ is. taken-openapi3 s ts.items taken is (each_made Q ts us s.definitions taken (ap some_own is) h)
       (openapi_headline s checked one);
 }

@@ -1,7 +1,7 @@
 -- What transforms make of root documents and of definitions.
 use Rattle.std.specs.Prelude.{◌≡◌, ◌⊎◌, ◌<◌, ℕ, length, false, Ok, Err}
 use Rattle.serde_json.specs.Data.{Data, Members, no_members}
-use Rattle.serde_json.specs.Written.{has_float}
+use Rattle.serde_json.specs.Written.{has_float, members_have_float}
 use Rattle.schemars_documents.specs.PlainTable.{HasNoFloat, HasPlainNotes}
 use Rattle.schemars_headline.specs.State.{State, path_of, HasOwnDefinitions, ReferencesNameKeys, work_of, after_root}
 use Rattle.schemars_headline.specs.Keys.{HasKeysOnce}
@@ -41,17 +41,19 @@ abbrev pub AreTurnedDown : {T : Type 0} → TransformStep T → T → T → Memb
 AreTurnedDown Q t u definitions e =
     (a : TransformError) × (taken : Members) × EachMember (λ k. AtSchema Q) t definitions (Err a) u taken × (e ≡ told a)
 
--- the transforms made the document of one of which R holds; built-in transforms are functions
+-- the transforms made the document of one of which R holds; built-in transforms are functions, and leave numbers whole
 pub record IsTransformed {O : Type 0} (Q : TransformStep O) (ts us : Transforms O) (R : Data → Type 0) (document : Data) : Type 0 where
   pub through : IsThrough (ApplyInOrder Q) ts us R document
   pub built_in : some_own ts.items ≡ false → IsMadeBy ts.items R document
+  pub whole : some_own ts.items ≡ false → ((d : Data) → R d → has_float d ≡ false) → has_float document ≡ false
 
 -- ---- definitions that are taken
 
--- the definitions, through the transforms; through those of OpenAPI they mean their rows
+-- the definitions, through the transforms; built-in ones leave numbers whole; through those of OpenAPI they mean their rows
 pub record AreTransformed {O : Type 0} (Q : TransformStep O) (ts us : Transforms O) (s : State) (taken : Members) : Type 0 where
   pub through : AreThrough (ApplyInOrder Q) ts us s.definitions taken
   pub built_in : some_own ts.items ≡ false → taken ≡ each_made_by ts.items s.definitions
+  pub whole : some_own ts.items ≡ false → HasNoFloat s.rows → HasOwnDefinitions s → members_have_float taken ≡ false
   pub openapi3 : ts.items ≡ transforms_openapi3 → HasSameKeys taken s.definitions × TakenHeadline s taken
 
 -- why no definitions are taken

@@ -330,6 +330,9 @@ impl<O: Transform + Drop> SchemaGenerator<O> {
             return Ok(self.work.take_definitions(alloc));
         }
         let mut definitions = self.work.copy_definitions()?;
+        if definitions.len() == 0 {
+            return Ok(definitions);
+        }
         transform_members(alloc, &mut self.settings.transforms, &mut definitions)?;
         let _ = self.work.take_definitions(alloc);
         Ok(definitions)

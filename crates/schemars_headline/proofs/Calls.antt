@@ -6,7 +6,7 @@ use Rattle.std.specs.Prelude.{if◌then◌else◌}
 use Rattle.std.specs.List.{IsDistinct}
 use Rattle.serde_json.specs.Data.{Data, Members}
 use Rattle.serde_json.specs.Find.{get_member}
-use Rattle.serde_json.specs.Written.{has_float}
+use Rattle.serde_json.specs.Written.{has_float, members_have_float}
 use Rattle.serde_json.specs.View.{members_view}
 use Rattle.serde_json.proofs.Views.{Entry as Entries}
 use Rattle.schemars_schema.specs.Acceptance.{Dialect, draft2020_12}
@@ -143,6 +143,12 @@ pub root_means : (s : State) (n : ℕ) (w : Work) (d : Data) → IsChecked s.row
 root_means s n w d checked root once one own path plain =
     root_call_means s n w d root checked one once (definitions_in s (Some n) w root.step own) path
     (plain_for draft2020_12 s.settings.contract s.rows plain)
+
+pub own_are_whole : (s : State) → HasNoFloat s.rows → HasOwnDefinitions s → HasKeysOnce s.definitions
+    → members_have_float s.definitions ≡ false
+own_are_whole s none own once =
+    let plan = state_plan s None in
+    definitions_whole plan (work_of s) none (λ k d found. stands_now plan (work_of s) k d (own k d found)) once
 
 pub root_is_whole : (s : State) (n : ℕ) (w : Work) (d : Data) → IsRootOf s n w d → HasKeysOnce w.definitions → HasNoFloat s.rows
     → HasOwnDefinitions s → has_float d ≡ false

@@ -58,10 +58,10 @@ use Rattle.schemars_headline.specs.Keys.{HasKeysOnce}
 use Rattle.schemars_headline.proofs.Keys.{AllMembers, all_members}
 use Rattle.schemars_meaning.proofs.Parts.{either, left_all, first_all, described_holds, written_holds}
 
-abbrev IsWhole : Data → Type 0
+abbrev pub IsWhole : Data → Type 0
 IsWhole s = has_float s ≡ false
 
-either_false : (a b : Bool) → a || b ≡ false → (a ≡ false) × (b ≡ false)
+pub either_false : (a b : Bool) → a || b ≡ false → (a ≡ false) × (b ≡ false)
 either_false true b h = absurd (true≢false h)
 either_false false b h = (refl, h)
 
@@ -96,7 +96,7 @@ whole_without k (member l e ms) h = go (bytes_eq k l) (whole_without k ms parts.
     go true later = parts.1
     go false later = rw (parts.0) later
 
-whole_with_item : (ds : Items) (e : Data) → IsWhole e → items_have_float ds ≡ false → items_have_float (with_item ds e) ≡ false
+pub whole_with_item : (ds : Items) (e : Data) → IsWhole e → items_have_float ds ≡ false → items_have_float (with_item ds e) ≡ false
 whole_with_item no_items e whole h = rw whole refl
 whole_with_item (item d ds) e whole h = let parts = either_false (has_float d) (items_have_float ds) h in
     rw parts.0 (whole_with_item ds e whole parts.1)
@@ -212,7 +212,7 @@ whole_replaced k d (member l e ms) new h = go (bytes_eq k l) (whole_replaced k d
     go true later = rw new parts.1
     go false later = rw (parts.0) later
 
-whole_changed_at : (k : Text) (change : Data → Data) (d : Data) (ms : Members) → ((e : Data) → IsWhole e → IsWhole (change e)) → IsWhole d
+pub whole_changed_at : (k : Text) (change : Data → Data) (d : Data) (ms : Members) → ((e : Data) → IsWhole e → IsWhole (change e)) → IsWhole d
     → members_have_float ms ≡ false → members_have_float (changed_at k change d ms) ≡ false
 whole_changed_at k change d ms keeps new h = go (get_member k ms) (whole_member k ms h)
   where

@@ -32,3 +32,4 @@ pub mod Needed
 pub mod Beside
 pub mod Samples
 pub mod Taken
+pub mod WholeTransforms

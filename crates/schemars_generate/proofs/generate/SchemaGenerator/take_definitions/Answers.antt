@@ -1,6 +1,8 @@
 use Rattle.std.proofs.Common.{Err, inr, subst}
 use Rattle.serde_json.specs.Data.{Members}
 use Rattle.serde_json.specs.View.{members_view}
+use Rattle.schemars_headline.specs.Keys.{HasKeysOnce}
+use Rattle.schemars_headline.proofs.Keys.{map_once}
 use Rattle.schemars_headline.proofs.Calls.{err_told}
 use Rattle.schemars_walk.specs.Walk.{EachMember, AtSchema}
 use Rattle.schemars_generate.specs.Generator.{state, state_of}
@@ -36,5 +38,7 @@ returns-clause-transformed g c = λ _.
     let taken = members_view c.transform_members.new.members.entries in
     let M : Members → Type 0 = λ ms. AreThrough (ApplyInOrder Q) ts us ms taken in
     let through : M inside.work.definitions = subst M c.in_ok-definitions.ensures c.in_ok-transform_members.ensures in
+    let once : HasKeysOnce inside.work.definitions =
+    subst HasKeysOnce c.in_ok-definitions.ensures (map_once c.in_ok-definitions.definitions.entries c.len.ensures.ordered) in
     subst (λ y. AreTransformed Q y.settings.transforms us (state y) taken) c.self.view_is
-    (are_transformed Q ts us s taken c.self.invariant.1 c.self.invariant.2 through)
+    (are_transformed Q ts us s taken c.self.invariant.1 c.self.invariant.2 once through)
