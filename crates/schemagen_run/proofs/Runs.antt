@@ -102,15 +102,16 @@ sample_words (u ∷ v ∷ []) a b two first second sample (Some dialect) word =
 
 -- ---- lines
 
+-- a line has its newline at least
+ends : (t : List ℕ) → 0 < length (t ++ 10 ∷ [])
+ends [] = omega arith
+ends (x ∷ t) = omega arith
+
 -- a line has its newline
 pub line_is_some : (asked : Asked) (rows : List Row) (root : ℕ) (line : List ℕ) → IsLineOf asked rows root line
     → 0 < length line
 line_is_some asked rows root line of = by asked.dialect of
   where
-    ends : (t : List ℕ) → 0 < length (t ++ 10 ∷ [])
-    ends [] = omega arith
-    ends (x ∷ t) = omega arith
-
     of_document : IsDocumentLine asked rows root line → 0 < length line
     of_document (document, of, (text, ordered, same)) = subst (λ (t : List ℕ). 0 < length t) (sym same) (ends text)
 
@@ -134,6 +135,10 @@ pub gives_line : {Q : List ℕ → Type 0} (asked : Asked) (rows : List Row) (ro
     → GivesAll old new (λ bytes. IsTableLine asked bytes Q)
 gives_line asked rows root line old new (bytes, consumed, end, text) accepted of holds =
     (bytes, consumed, end, (rows, (root, (line, text, accepted, of, holds))))
+
+pub some_in_example_line : (dialect : Dialect) (d : Data) (line : List ℕ) → IsSampleLineOf dialect d line → 0 < length line
+some_in_example_line dialect d line (x, is, json, (document, of, (text, ordered, same))) =
+    subst (λ (t : List ℕ). 0 < length t) (sym same) (ends text)
 
 -- that of the example that is read
 pub gives_sample_line : {Q : List ℕ → Type 0} (dialect : Dialect) (d : Data) (line : List ℕ) (old new : Option (List ℕ))

@@ -4,6 +4,7 @@ use Rattle.serde_json.specs.Data.{Data, Members, no_members}
 use Rattle.schemars_schema.specs.Acceptance.{draft2020_12, draft2019_09, draft07}
 use Rattle.schemars_sample.specs.Example.{Example}
 use Rattle.schemars_headline.specs.Drafts as drafts
+use Rattle.serde_json.specs.Written.{members_have_float}
 use Rattle.schemars_headline.specs.Drafts.{dialect_of, AcceptsExampleUnder}
 use Rattle.schemars_headline.specs.State.{Settings}
 use Rattle.schemars_generate.specs.declared.error.GenerateError.{GenerateError}
@@ -17,7 +18,7 @@ use Rattle.schemagen_run.specs.declared.words.Dialect.{Dialect}
 use Rattle.schemagen_run.specs.declared.words.Dialect.TheVariants.{Draft2020_12, Draft2019_09, Draft07, OpenApi3}
 use Rattle.schemagen_run.specs.Run.{settings_of_dialect, transforms_of_dialect, AcceptsIn, AcceptsUnder, IsUntransformedExample}
 use Rattle.schemagen_run.specs.Run.{IsSampleDocument}
-use Rattle.schemagen_run.proofs.Tables.{none_own, for_draft}
+use Rattle.schemagen_run.proofs.Tables.{none_own, for_draft, IsMadeWhole}
 
 accepts_in : (dialect : Dialect) (x : Example) (d : Data) → IsSampleRoot (settings_of_dialect dialect) no_members x d
     → AcceptsIn dialect x d
@@ -49,15 +50,18 @@ is_untransformed dialect x d root = (same_inside root.placed, accepts_in dialect
 -- what a generator without definitions answers
 pub sample_made : {E : Type 0} (r : Result Data E) (s : Settings) (definitions : Members) (x : Example) (dialect : Dialect)
     (ts : List (GenTransform NoTransform)) → s ≡ settings_of_dialect dialect → definitions ≡ no_members → ts ≡ transforms_of_dialect dialect
-    → (some_own ts ≡ false → IfOk r (IsMadeBy ts (IsSampleRoot s definitions x))) → IfOk r (IsSampleDocument dialect x)
+    → (some_own ts ≡ false → IfOk r (IsMadeWhole ts (IsSampleRoot s definitions x))) → IfOk r (IsSampleDocument dialect x)
 sample_made (Err e) s definitions x dialect ts same empty is made = tt
 sample_made (Ok document) s definitions x dialect ts same empty is made =
-    let (d, root, by) = made (ap some_own is ∙ none_own dialect) in
+    let ((d, root, by), whole) = made (ap some_own is ∙ none_own dialect) in
     let here : IsSampleRoot (settings_of_dialect dialect) no_members x d =
     subst (λ (t : Settings). IsSampleRoot t no_members x d) same (subst (λ (ms : Members). IsSampleRoot s ms x d) empty root) in
     let same_document : document ≡ made_by (transforms_of_dialect dialect) d =
-    by ∙ ap (λ (xs : List (GenTransform NoTransform)). made_by xs d) is in
-    ((d, is_untransformed dialect x d here, same_document), accepts_under dialect x d document here same_document)
+    by ∙ ap (λ (xs : List (GenTransform NoTransform)). made_by xs d) is in (
+      (d, is_untransformed dialect x d here, same_document),
+      accepts_under dialect x d document here same_document,
+      whole (λ e at. at.whole (ap members_have_float empty)),
+    )
 
 nothing_unplaced : (s : Settings) (x : Example) (e : GenerateError) → IsSampleRefused s no_members x e → e ≡ OutOfMemory
 nothing_unplaced s x e (inl memory) = memory

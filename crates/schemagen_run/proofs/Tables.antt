@@ -22,7 +22,7 @@ use Rattle.schemars_generate.specs.declared.error.GenerateError.{GenerateError}
 use Rattle.schemars_generate.specs.declared.error.GenerateError.TheVariants.{OutOfMemory, UnknownType, DefinitionsPath}
 use Rattle.schemars_generate.specs.Refusals.{HasFault}
 use Rattle.schemars_headline.specs.Headline.{Headline, IsDraftPath, CannotPlace}
-use Rattle.schemars_documents.specs.PlainTable.{IsPlainTable, HasPlainNotes}
+use Rattle.schemars_documents.specs.PlainTable.{IsPlainTable, HasPlainNotes, HasNoFloat}
 use Rattle.schemars_generate.specs.declared.settings.SchemaSettings.{SchemaSettings}
 use Rattle.schemars_generate.specs.Generator.{Generator, generator_over, settings_of, state}
 use Rattle.schemars_generate.specs.Through.{IsUntransformed, IsRefused}
@@ -115,20 +115,25 @@ means Draft07 c inlines rows root d document told same draft is =
     (told.headlines drafts.Draft07 (has_own_definitions (asks Draft07 c inlines) rows) (inr refl)))
 means OpenApi3 c inlines rows root d document told same draft is = cc
 
+-- what the transforms make of a document of which R holds, and that they leave numbers whole
+abbrev pub IsMadeWhole : List (GenTransform NoTransform) → (Data → Type 0) → Data → Type 0
+IsMadeWhole ts R document = IsMadeBy ts R document × (((d : Data) → R d → has_float d ≡ false) → has_float document ≡ false)
+
 -- what the generator answers is the root document of the row
 pub is_document : {E : Type 0} (r : Result Data E) (s : State) (asked : Asked) (rows : List Row) (root : ℕ)
     (ts : List (GenTransform NoTransform)) → s ≡ fresh asked rows → ts ≡ transforms_of_dialect asked.dialect
-    → (some_own ts ≡ false → IfOk r (IsMadeBy ts (IsUntransformed s root))) → IfOk r (IsWrittenDocument asked rows root)
+    → (some_own ts ≡ false → IfOk r (IsMadeWhole ts (IsUntransformed s root))) → IfOk r (IsWrittenDocument asked rows root)
 is_document (Err e) s asked rows root ts same is made = tt
 is_document (Ok document) s asked rows root ts same is made =
-    let (d, told, of) = made (ap some_own is ∙ none_own asked.dialect) in
-    let here : IsUntransformed (fresh asked rows) root d = subst (λ (t : State). IsUntransformed t root d) same told in
+    let ((d, told, of), whole) = made (ap some_own is ∙ none_own asked.dialect) in
+    let there : (e : Data) → IsUntransformed s root e → IsUntransformed (fresh asked rows) root e =
+    λ e. subst (λ (t : State). IsUntransformed t root e) same in
+    let here = there d told in
     let by : document ≡ made_by (transforms_of_dialect asked.dialect) d =
     of ∙ ap (λ (xs : List (GenTransform NoTransform)). made_by xs d) is in (
       (d, here.last, by),
       means asked.dialect asked.contract asked.inlines rows root d document here by,
-      λ empty none. ap has_float (by ∙ ap (λ (xs : List (GenTransform NoTransform)). made_by xs d) empty)
-          ∙ here.whole none (has_own_definitions asked rows),
+      λ none. whole (λ e made_here. (there e made_here).whole none (has_own_definitions asked rows)),
     )
 
 draft_path : (dialect : Dialect) (c : Contract) (inlines : Bool) (rows : List Row) → dialect ≢ OpenApi3
@@ -209,6 +214,7 @@ are_definitions s asked rows root ts taken openapi3 same is made = (
   at,
   λ plain. there.2 refl (own (has_own_definitions asked rows)) (ap path_of held ∙ path asked openapi3)
       (subst IsPlainTable (sym (ap (λ (t : State). t.rows) held)) plain),
+  λ none. there.3 (subst HasNoFloat (sym (ap (λ (t : State). t.rows) held)) none) (own (has_own_definitions asked rows)),
 )
   where
     path : (asked : Asked) → asked.dialect ≡ OpenApi3 → path_of (fresh asked rows) ≡ components

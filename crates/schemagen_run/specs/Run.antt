@@ -114,12 +114,12 @@ Means dialect rows contract root document =
     → Headline (dialect_of draft) rows contract (stripped (settings_of_dialect dialect).definitions_path) root document
 
 -- the root document of this row: the transforms of the dialect make it of the one that is made by the rules, and where the
--- table is plain it accepts exactly the values of the type; without transforms the numbers in it are whole, where those in notes are
+-- table is plain it accepts exactly the values of the type; the numbers in it are whole, where those in notes and literals are
 abbrev pub IsWrittenDocument : Asked → List Row → ℕ → Data → Type 0
 IsWrittenDocument asked rows root document =
     IsMadeBy (transforms_of_dialect asked.dialect) (IsLastRootCall (fresh asked rows) root) document
     × Means asked.dialect rows asked.contract root document
-    × (transforms_of_dialect asked.dialect ≡ [] → HasNoFloat rows → has_float document ≡ false)
+    × (HasNoFloat rows → has_float document ≡ false)
 
 -- what a generator holds after it has made a part for this row, and its definitions, through these transforms
 abbrev pub AreTakenAt : List (GenTransform NoTransform) → State → ℕ → State → Members → Type 0
@@ -129,13 +129,17 @@ AreTakenAt ts old root s taken =
 
 -- the definitions that a part for this row leads to, through these transforms; through those of OpenAPI they mean their rows
 abbrev pub AreTaken : List (GenTransform NoTransform) → State → ℕ → Members → Type 0
-AreTaken ts old root taken = (s : State) × AreTakenAt ts old root s taken × (ts ≡ transforms_openapi3 → TakenHeadline s taken)
+AreTaken ts old root taken =
+    (s : State) × AreTakenAt ts old root s taken × (ts ≡ transforms_openapi3 → TakenHeadline s taken)
+    × (HasNoFloat s.rows → HasOwnDefinitions s → members_have_float taken ≡ false)
 
 -- those that it leads to, through the transforms of OpenAPI: where the table is plain, under `components.schemas` each accepts
--- under OpenAPI exactly the values of the row of its name, and its references resolve
+-- under OpenAPI exactly the values of the row of its name, and its references resolve; the numbers in them are whole, where those
+-- in notes and literals are
 abbrev pub AreDefinitionsOf : Asked → List Row → ℕ → Members → Type 0
 AreDefinitionsOf asked rows root taken =
     (s : State) × AreTakenAt transforms_openapi3 (fresh asked rows) root s taken × (IsPlainTable rows → MeanTheirRows s taken)
+    × (HasNoFloat rows → members_have_float taken ≡ false)
 
 -- the text of a document in order, where the numbers in it are whole, and a newline
 abbrev pub IsTextLine : Data → Text → Type 0
@@ -215,10 +219,11 @@ abbrev pub AcceptsUnder : Dialect → Example → Data → Type 0
 AcceptsUnder dialect x document =
     (draft : Draft) → draft_of dialect ≡ Some draft → AcceptsExampleUnder (dialect_of draft) x document
 
--- after the transforms of the dialect, where it accepts the example too
+-- after the transforms of the dialect, where it accepts the example too, and its numbers are whole
 abbrev pub IsSampleDocument : Dialect → Example → Data → Type 0
 IsSampleDocument dialect x document =
     IsMadeBy (transforms_of_dialect dialect) (IsUntransformedExample dialect x) document × AcceptsUnder dialect x document
+    × (has_float document ≡ false)
 
 -- the line of the document of the example
 abbrev pub IsExampleLine : Dialect → Example → Text → Type 0

@@ -29,7 +29,7 @@ returns c =
     let none = ap some_own told.transforms ∙ none_own c.args.asked.dialect in
     record {
       ok = is_document r (state g) c.args.asked c.args.types c.args.root (transforms_of g) told.fresh told.transforms
-          (λ own. IfOk-weaker r _ _ (λ d h. h.1.built_in own) made.made);
+          (λ own. IfOk-weaker r _ _ (λ d h. (h.1.built_in own, h.1.whole own)) made.made);
       accepted = so_at_ok r told.accepted;
       refused = is_refusal r (state g) c.args.asked c.args.types c.args.root c.requires.draft c.requires.table told.accepted told.fresh
           made.unknown (IfErr-weaker r _ _ (λ e h. h.1.built_in none) made.refused)

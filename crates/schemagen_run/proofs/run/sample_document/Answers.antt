@@ -21,7 +21,7 @@ returns c =
     let empty = ap (λ y. y.definitions) new in
     record {
       ok = sample_made r (settings_of g.settings) g.definitions x c.args.dialect (transforms_of g) same empty these
-          (λ own. IfOk-weaker r _ _ (λ d h. h.1.built_in own) made.made);
+          (λ own. IfOk-weaker r _ _ (λ d h. (h.1.built_in own, h.1.whole own)) made.made);
       only_memory = sample_wants_memory r (settings_of g.settings) g.definitions x empty
           (IfErr-weaker r _ _ (λ e h. h.1.built_in (ap some_own these ∙ none_own c.args.dialect)) made.refused);
     }

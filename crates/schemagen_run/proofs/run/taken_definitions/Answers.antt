@@ -40,6 +40,7 @@ returns c =
           made.built_in own ∙ ap (λ s. each_made_by s.transforms.items new.definitions) settings,
         ),
         λ is. (made.openapi3 (ap (λ s. s.transforms.items) settings ∙ is)).1,
+        made.whole own,
       )) (taken.transformed refl);
       only_memory = IfErr-weaker c.take_definitions.result _ _ (λ e h. h.only_memory own) taken.refused;
     }
