@@ -34,7 +34,7 @@ pub keyed_nil : (ks : List Text) → keyed ks [] ≡ []
 keyed_nil [] = refl
 keyed_nil (k ∷ ks) = refl
 
-pub none_left : (vs : List Value) → length vs ≡ 0 → vs ≡ []
+pub none_left : {A : Type 0} → (vs : List A) → length vs ≡ 0 → vs ≡ []
 none_left [] e = refl
 none_left (v ∷ vs) e = absurd (omega arith)
 

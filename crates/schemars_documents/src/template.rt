@@ -137,9 +137,8 @@ fn fill_value(
             Ok(Value::Array(items))
         }
         Template::Object(keys, inner) => {
-            let values = fill_all(alloc, inner, parts)?;
-            let object = object_of(alloc, &keys, values)?;
-            Ok(Value::Object(object))
+            let members = fill_members(alloc, keys, inner, parts)?;
+            Ok(Value::Object(members))
         }
         Template::Nullable(inner) => {
             let inner = fill_value(alloc, Box::into_inner(inner), parts)?;
@@ -184,24 +183,30 @@ fn fill_all(
     Ok(values)
 }
 
-// An object of these keys, each with its value.
-fn object_of(
+// An object of these keys, each with its template filled.
+#[cycle(fill_value)]
+fn fill_members<'t>(
     alloc: Global,
-    keys: &[&str],
-    values: Vec<Value>,
+    keys: Vec<&'t str>,
+    templates: Vec<Template<'t>>,
+    parts: &mut VecDeque<Schema>,
 ) -> Result<Map<String, Value>, AllocError>
-    ensures { IfOk result (λ m. members_view m.entries
-        ≡ put_all (keyed (map (λ k. k.now) keys.now) (map view values.items)) no_members) }
+    ensures value { IfOk result (λ m. members_view m.entries
+        ≡ put_all (keyed (map (λ k. k.now) keys.entry.items)
+        (filled_in (templates_view templates.entry.items) parts.old.items)) no_members) }
+    ensures left { OnOk result (parts.new.items
+        ≡ left_in (templates_view templates.entry.items) parts.old.items) }
 {
-    let mut object = Map::new(alloc);
-    let mut values = values.into_iter();
-    for key in keys {
-        let Some(value) = values.next() else {
-            return Ok(object);
+    let mut members = Map::new(alloc);
+    let mut keys = keys.into_iter();
+    for template in templates {
+        let value = fill_value(alloc, template, parts)?;
+        let Some(key) = keys.next() else {
+            continue;
         };
-        serde_json::put(&mut object, alloc, key, value)?;
+        serde_json::put(&mut members, alloc, key, value)?;
     }
-    Ok(object)
+    Ok(members)
 }
 
 fn next_part(parts: &mut VecDeque<Schema>) -> Value

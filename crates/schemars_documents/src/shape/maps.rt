@@ -5,7 +5,7 @@ ghost use Rattle.schemars_shapes.specs.Shape.{field_of, flattened_of, fields_of}
 ghost use Rattle.schemars_documents.specs.View.{template_view, keyword_view};
 ghost use Rattle.schemars_documents.specs.OfShape.{typed_template, property, properties_at};
 ghost use Rattle.schemars_documents.specs.OfShape.{required_at};
-ghost use Rattle.schemars_documents.specs.OfShape.{closed_keyword};
+ghost use Rattle.schemars_documents.specs.OfShape.{closed_keyword, object_with};
 ghost use Rattle.schemars_documents.specs.OfShape.{map_template, fields_template, with_flattened};
 ghost use Rattle.schemars_documents.specs.OfShape.{struct_template};
 ghost use Rattle.schemars_documents.specs.OfShape.{member_template, range_template};
@@ -113,9 +113,30 @@ fn fields_template<'t>(
     ensures { IfOk result (λ t. template_view t
         ≡ fields_template contract (map field_of list.now) closed) }
 {
-    let properties = properties(alloc, list)?;
     let required = required_names(alloc, contract, list)?;
-    map_template(alloc, properties, required, closed)
+    let mut keywords: Vec<(&'t str, Template<'t>)> = typed(alloc, "object")?;
+    add_fields(alloc, &mut keywords, list)?;
+    add_required(&mut keywords, required)?;
+    add_closed(&mut keywords, closed)?;
+    object_with(alloc, keywords)
+}
+
+// Adds these fields as properties, if there are any.
+fn add_fields<'t>(
+    alloc: Global,
+    keywords: &mut Vec<(&'t str, Template<'t>)>,
+    fields: &'t [Field],
+) -> Result<(), AllocError>
+    ensures { OnOk result (map keyword_view keywords.new.items
+        ≡ map keyword_view keywords.old.items
+        ++ properties_at (map property (map field_of fields.now))) }
+{
+    if fields.is_empty() {
+        return Ok(());
+    }
+    let properties = properties(alloc, fields)?;
+    keywords.push(("properties", properties))?;
+    Ok(())
 }
 
 // The members of these rows join, one row after another.
@@ -137,19 +158,19 @@ fn with_flattened<'t>(
     Ok(template)
 }
 
-/// The fields' schemas under their names, each with its notes.
-fn properties<'t>(
-    alloc: Global,
-    fields: &'t [Field],
-) -> Result<Vec<(&'t str, Template<'t>)>, AllocError>
-    ensures { IfOk result (λ v. map keyword_view v.items ≡ map property (map field_of fields.now)) }
+// The fields' schemas under their names, each with its notes.
+fn properties<'t>(alloc: Global, fields: &'t [Field]) -> Result<Template<'t>, AllocError>
+    ensures { IfOk result (λ t. template_view t
+        ≡ object_with (map property (map field_of fields.now))) }
 {
-    let mut properties = Vec::new(alloc);
+    let mut keys = Vec::new(alloc);
+    let mut values = Vec::new(alloc);
     for field in fields {
         let part = Box::new(alloc, row(field.ty))?;
-        properties.push((field.name.as_str(), Template::Noted(&field.notes, part)))?;
+        keys.push(field.name.as_str())?;
+        values.push(Template::Noted(&field.notes, part))?;
     }
-    Ok(properties)
+    Ok(Template::Object(keys, values))
 }
 
 /// A map with this member, which has to be there.
