@@ -43,6 +43,7 @@ use schemars::{GenerateError, Schema};
 use schemars_types::{TypeNo, Types};
 use serde_json::{Map, Value};
 use std::alloc::{AllocError, Global};
+use std::mem::ManuallyDrop;
 
 /// Reads a table of types from the source, and writes the root document of its root to the sink; or
 /// reads an example, and writes the root document of a schema that is made from it. The document is
@@ -308,7 +309,14 @@ fn document_line(alloc: Global, asked: Asked, types: Types, root: TypeNo) -> Res
 {
     let document = document_of(alloc, asked, types, root)?;
     let line = line_of(alloc, &document)?;
+    leave(document);
     Ok(line)
+}
+
+// Leaves a document where it is. A run ends soon after its text is made, and the pages of its memory
+// are then given back at once: that is much faster than each part of the document by itself.
+fn leave(document: Schema) {
+    let _kept = ManuallyDrop::new(document);
 }
 
 // The text of a document, and a newline.
