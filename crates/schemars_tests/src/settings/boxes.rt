@@ -58,7 +58,8 @@ fn service_of(alloc: Global, settings: SchemaSettings) -> Result<Service, Genera
     Ok(Service { generator, row })
 }
 
-fn boxed(alloc: Global) -> Result<Service, GenerateError> {
+// The texts of a document, of a refusal, and of a document without the transform that refused.
+fn texts(alloc: Global) -> Result<[String; 3], GenerateError> {
     let comment = Commenting { text: "in a box" };
     let refusing = Refusing {
         left: 1,
@@ -68,19 +69,18 @@ fn boxed(alloc: Global) -> Result<Service, GenerateError> {
         .with_transform(GenTransform::Own(Box::new(alloc, comment)?))?
         .with_transform(GenTransform::Own(Box::new(alloc, Own::Counting(0))?))?
         .with_transform(GenTransform::Own(Box::new(alloc, refusing)?))?;
-    service_of(alloc, settings)
+    let mut service = service_of(alloc, settings)?;
+    let first = service.text(alloc)?;
+    let refused = service.text(alloc)?;
+    service.replace_last();
+    Ok([first, refused, service.text(alloc)?])
 }
 
 #[test]
 fn boxes_hold_transforms_of_several_types(rt: HostRuntime) -> Result<(), Fail> {
-    let alloc = rt.alloc();
-    let mut service = boxed(alloc)?;
-    let first = service.text(alloc)?;
+    let [first, refused, third] = texts(rt.alloc())?;
     assert_eq!(rt; first.as_str(), FIRST);
-    let refused = service.text(alloc)?;
     assert_eq!(rt; refused.as_str(), "10 Transform");
-    service.replace_last();
-    let third = service.text(alloc)?;
     assert_eq!(rt; third.as_str(), THIRD);
     Ok(())
 }
