@@ -23,3 +23,31 @@ macro_rules! schema_for_value {
         generator.into_root_schema_for_value(alloc, &$value)
     }};
 }
+
+/// A schema that is written as JSON: `json_schema!(in alloc; {"type": "null"})`, or with `true` or
+/// `false` in place of the object. What is inside the object is written as for `serde_json::json!`,
+/// also with the values of expressions. It answers a `Result<Schema, AllocError>`.
+#[macro_export]
+macro_rules! json_schema {
+    (in $alloc:expr; true) => {{
+        let _alloc = $alloc;
+        let schema: std::result::Result<$crate::Schema, std::alloc::AllocError> =
+            Ok($crate::Schema::from(true));
+        schema
+    }};
+    (in $alloc:expr; false) => {{
+        let _alloc = $alloc;
+        let schema: std::result::Result<$crate::Schema, std::alloc::AllocError> =
+            Ok($crate::Schema::from(false));
+        schema
+    }};
+    (in $alloc:expr; {$($members:tt)*}) => {{
+        let alloc = $alloc;
+        let schema: std::result::Result<$crate::Schema, std::alloc::AllocError> = 'schema: {
+            let mut members = serde_json::Map::new(alloc);
+            serde_json::json_internal!(@object alloc 'schema members $($members)*);
+            Ok($crate::Schema::from(members))
+        };
+        schema
+    }};
+}

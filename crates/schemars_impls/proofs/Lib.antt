@@ -1,3 +1,4 @@
 pub mod Keeping
 pub mod Refusing
 pub mod Placing
+pub mod OwnTypes

@@ -2,3 +2,4 @@
 pub mod Keeps
 pub mod Describes
 pub mod Refused
+pub mod Fields

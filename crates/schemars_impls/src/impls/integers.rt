@@ -1,4 +1,4 @@
-//! Integers.
+//! Integers, also those whose operations wrap around.
 ghost use Rattle.std.specs.Prelude.{true};
 ghost use Rattle.schemars_shapes.specs.declared.shape.IntKind.TheVariants.{I8, I16, I32};
 ghost use Rattle.schemars_shapes.specs.declared.shape.IntKind.TheVariants.{I64, I128, Isize};
@@ -12,6 +12,7 @@ use crate::law::{JsonSchema, entry};
 use schemars_types::{IntKind, Shape, TypeEntry, Types, TypesError};
 use std::alloc::{AllocError, Global};
 use std::borrow::CowStr;
+use std::num::Wrapping;
 
 impl JsonSchema for i8 {
     ghost name = { format_of I8 };
@@ -322,5 +323,32 @@ impl JsonSchema for usize {
 
     fn json_schema(alloc: Global, _types: &mut Types) -> Result<TypeEntry, TypesError> {
         Ok(entry(alloc, true, Shape::Int(IntKind::Usize)))
+    }
+}
+
+/// The same as the integer.
+impl<T: JsonSchema> JsonSchema for Wrapping<T> {
+    ghost name = { T.name };
+
+    ghost id = { T.id };
+
+    ghost inline = { T.inline };
+
+    ghost describes = { T.describes };
+
+    fn inline_schema() -> bool {
+        T::inline_schema()
+    }
+
+    fn schema_name(alloc: Global) -> Result<CowStr<'static>, AllocError> {
+        T::schema_name(alloc)
+    }
+
+    fn schema_id(alloc: Global) -> Result<CowStr<'static>, AllocError> {
+        T::schema_id(alloc)
+    }
+
+    fn json_schema(alloc: Global, types: &mut Types) -> Result<TypeEntry, TypesError> {
+        T::json_schema(alloc, types)
     }
 }

@@ -6,7 +6,6 @@ use std::alloc::{AllocError, Global};
 use std::borrow::{Cow, CowStr};
 use std::cell::{Cell, RefCell};
 use std::cmp::Reverse;
-use std::num::Wrapping;
 use std::rc::Rc;
 
 impl<T: JsonSchema> JsonSchema for Box<T> {
@@ -114,32 +113,6 @@ impl<T: JsonSchema> JsonSchema for RefCell<T> {
 }
 
 impl<T: JsonSchema> JsonSchema for Cow<'_, T> {
-    ghost name = { T.name };
-
-    ghost id = { T.id };
-
-    ghost inline = { T.inline };
-
-    ghost describes = { T.describes };
-
-    fn inline_schema() -> bool {
-        T::inline_schema()
-    }
-
-    fn schema_name(alloc: Global) -> Result<CowStr<'static>, AllocError> {
-        T::schema_name(alloc)
-    }
-
-    fn schema_id(alloc: Global) -> Result<CowStr<'static>, AllocError> {
-        T::schema_id(alloc)
-    }
-
-    fn json_schema(alloc: Global, types: &mut Types) -> Result<TypeEntry, TypesError> {
-        T::json_schema(alloc, types)
-    }
-}
-
-impl<T: JsonSchema> JsonSchema for Wrapping<T> {
     ghost name = { T.name };
 
     ghost id = { T.id };

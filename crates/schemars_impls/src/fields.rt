@@ -1,0 +1,123 @@
+//! The fields of a struct of one's own, which join one after another.
+ghost use Rattle.std.specs.Prelude.{◌≡◌, ◌++◌, ℕ, List, [], ◌∷◌, None, Some, IfErr, OnErr, OnOk};
+ghost use Rattle.std.specs.Prelude.{false, map, option_map};
+ghost use Rattle.schemars_shapes.specs.Shape.{Shape as shape, bare_fields, entry_of, field_of};
+ghost use Rattle.schemars_shapes.specs.Shape.{required_of, shape_of, without_notes};
+ghost use Rattle.schemars_types.specs.Rows.{Row, place_of, unknown_in};
+ghost use Rattle.schemars_impls.specs.Describes.{entry_under, IsDescribed};
+ghost use Rattle.schemars_impls.specs.Fields.{plain_field, FieldsAreKnown};
+ghost use Rattle.schemars_impls.specs.Keeps.{Keeps};
+ghost use Rattle.schemars_impls.specs.Refused.{HasCause};
+
+use crate::law::{JsonSchema, entry, register};
+use schemars_types::{Field, Fields, Required, Shape, TypeEntry, TypeNo, Types, TypesError};
+use serde_json::Map;
+use std::alloc::{AllocError, Global};
+
+/// A field that has to be there.
+pub const REQUIRED: Required = Required {
+    deserialize: true,
+    serialize: true,
+};
+
+/// A field that may be missing.
+pub const OPTIONAL: Required = Required {
+    deserialize: false,
+    serialize: false,
+};
+
+/// Registers a type, and adds a field of it behind the others.
+///
+/// # Errors
+///
+/// `OutOfMemory`, or what `register` returns. The fields are then unchanged.
+#[tactic(auto, using(crate::proofs::OwnTypes::adding))]
+pub fn add_field<T: JsonSchema>(
+    alloc: Global,
+    types: &mut Types,
+    fields: &mut Vec<Field>,
+    name: &str,
+    required: Required,
+) -> Result<(), TypesError>
+    ensures keeps { Keeps types.old types.new }
+    ensures known { OnOk result (FieldsAreKnown types.old (map field_of fields.old.items)
+        → FieldsAreKnown types.new (map field_of fields.new.items)) }
+    ensures adds { OnOk result (option_map (λ n. map field_of fields.old.items
+        ++ plain_field name.now n (required_of required) ∷ []) (place_of T.id types.new)
+        ≡ Some (map field_of fields.new.items)) }
+    ensures described { OnOk result (entry_under T.id types.old ≡ None → (n : ℕ)
+        → place_of T.id types.new ≡ Some n → IsDescribed T.describes T.inline types.new n) }
+    ensures unchanged { OnErr result (fields.new.items ≡ fields.old.items) }
+    ensures refused { IfErr result (λ e. HasCause types.new e) }
+{
+    let ty = register::<T>(alloc, types)?;
+    push_field(alloc, fields, name, ty, required)?;
+    Ok(())
+}
+
+/// Adds a field of the type with this number behind the others. A type that is inside itself adds
+/// its own number so, or that of an option or a list of it, since it cannot register itself.
+///
+/// # Errors
+///
+/// `OutOfMemory`, or `UnknownType` if the table has no such row. The fields are then unchanged.
+#[tactic(auto, using(crate::proofs::OwnTypes::adding))]
+pub fn add_field_of(
+    alloc: Global,
+    types: &Types,
+    fields: &mut Vec<Field>,
+    name: &str,
+    ty: TypeNo,
+    required: Required,
+) -> Result<(), TypesError>
+    ensures known { OnOk result (FieldsAreKnown types.now (map field_of fields.old.items)
+        → FieldsAreKnown types.now (map field_of fields.new.items)) }
+    ensures adds { OnOk result (map field_of fields.new.items
+        ≡ map field_of fields.old.items ++ plain_field name.now ty (required_of required) ∷ []) }
+    ensures unchanged { OnErr result (fields.new.items ≡ fields.old.items) }
+    ensures refused { IfErr result (λ e. HasCause types.now e) }
+{
+    if types.len() <= ty {
+        return Err(TypesError::UnknownType(ty));
+    }
+    push_field(alloc, fields, name, ty, required)?;
+    Ok(())
+}
+
+/// Returns the entry of a struct with these fields, without notes. A closed one allows no other
+/// keys.
+pub fn struct_entry(alloc: Global, fields: Vec<Field>, closed: bool) -> TypeEntry
+    ensures value { entry_of result
+        ≡ without_notes false (shape.struct (bare_fields (map field_of fields.items) closed)) }
+    ensures known { (rows : List Row) → FieldsAreKnown rows (map field_of fields.items)
+        → unknown_in rows (shape_of result.shape) ≡ None }
+{
+    let fields = Fields {
+        list: fields,
+        flatten: Vec::new(alloc),
+        closed,
+    };
+    entry(alloc, false, Shape::Struct(fields))
+}
+
+// Adds a field without notes.
+fn push_field(
+    alloc: Global,
+    fields: &mut Vec<Field>,
+    name: &str,
+    ty: TypeNo,
+    required: Required,
+) -> Result<(), AllocError>
+    ensures adds { OnOk result (map field_of fields.new.items
+        ≡ map field_of fields.old.items ++ plain_field name.now ty (required_of required) ∷ []) }
+    ensures unchanged { OnErr result (fields.new.items ≡ fields.old.items) }
+{
+    let field = Field {
+        name: String::from_str(alloc, name)?,
+        ty,
+        required,
+        notes: Map::new(alloc),
+    };
+    fields.push(field)?;
+    Ok(())
+}
