@@ -1,5 +1,5 @@
 # On a machine with the Rattle kit. `make help` lists the targets.
-.PHONY: help run program install openapi-example test
+.PHONY: help run lint program install openapi-example test
 
 TABLE = examples/vec-option-u8.json
 DIALECT = 2020-12
@@ -12,6 +12,7 @@ libraries = $(shell sed -n '/^schemagen:/q; s/^\([a-z_]*\):.*/\1/p' crates.txt)
 
 help:
 	@echo 'make run [TABLE=FILE] [DIALECT=..] [FLAGS=..]   prints the document of a table, without proofs'
+	@echo 'make lint [TABLE=FILE]                          tells what is wrong with a table, and whether it is plain'
 	@echo 'make program                                    proves everything below the program, and builds it'
 	@echo 'make install [PREFIX=/usr/local]                copies the program and its manual page'
 	@echo 'make openapi-example                            writes examples/openapi/openapi.json anew'
@@ -21,6 +22,11 @@ help:
 run:
 	@echo 'a checked run without proofs; it takes a minute or two' >&2
 	@cd $(program) && rt try < $(abspath $(TABLE)) -- types $(DIALECT) $(FLAGS)
+
+# What is to be said of the table, in the same way.
+lint:
+	@echo 'a checked run without proofs; it takes a minute or two' >&2
+	@cd crates/schemalint && rt try < $(abspath $(TABLE))
 
 # Proves the libraries, which takes about an hour on two cores, and builds the program.
 program:

@@ -5,3 +5,4 @@ pub mod Input
 pub mod Written
 pub mod Reading
 pub mod SampleInput
+pub mod Texts

@@ -4,6 +4,7 @@
 mod error;
 mod fields;
 mod input;
+mod locate;
 mod members;
 mod sample;
 mod shapes;
@@ -11,4 +12,5 @@ mod variants;
 
 pub use error::InputError;
 pub use input::read_input;
+pub use locate::{InputFault, find_fault};
 pub use sample::{SampleError, read_sample};

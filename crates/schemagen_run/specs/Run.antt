@@ -1,10 +1,9 @@
 -- What a run of the program promises.
 use Rattle.std.specs.Prelude.{◌≡◌, ◌⊎◌, ℕ, List, [], ◌∷◌, ◌++◌, Option, Some}
-use Rattle.std.specs.Prelude.{None, false, String, IsUtf8}
+use Rattle.std.specs.Prelude.{None, false, String}
 use Rattle.std.specs.declared.alloc.Global.{Global}
 use Rattle.std.specs.Io.KnownBytes.{Consumes, IsAtEnd}
 use Rattle.serde_json.specs.Data.{Data, Members, no_members}
-use Rattle.serde_json.specs.Read.{read}
 use Rattle.serde_json.specs.Written.{has_float, members_have_float}
 use Rattle.schemars_schema.specs.Json.{Text}
 use Rattle.schemars_schema.specs.OrderedText.{ordered_text, definitions_text}
@@ -39,33 +38,14 @@ use Rattle.schemagen_run.specs.declared.fault.Fault.{Fault}
 use Rattle.schemagen_run.specs.declared.fault.Fault.TheVariants.{Refused}
 use Rattle.schemagen_run.specs.declared.fault.TheConstants.{OUT_OF_MEMORY, DEFINITIONS_PATH}
 use Rattle.schemagen_run.specs.Fault.{IsLineFault}
-use Rattle.schemagen_input.specs.Input.{input_of}
 use Rattle.schemagen_input.specs.SampleInput.{sample_input}
+pub use Rattle.schemagen_input.specs.Texts.{IsTextOf, IsNoJson, IsBadTable, IsTableText, IsAcceptedText}
 
 -- the source has given all that it had left, and these bytes are so
 abbrev pub GivesAll : Option (List ℕ) → Option (List ℕ) → (List ℕ → Type 0) → Type 0
 GivesAll old new Q = (bytes : List ℕ) × Consumes old new bytes × IsAtEnd new × Q bytes
 
--- the bytes are the JSON text of this value
-abbrev pub IsTextOf : Data → List ℕ → Type 0
-IsTextOf d bytes = IsUtf8 bytes × (read bytes ≡ Some d)
-
-abbrev pub IsNoJson : List ℕ → Type 0
-IsNoJson bytes = ¬ (IsUtf8 bytes) ⊎ (read bytes ≡ None)
-
--- JSON, but no table with a root
-abbrev pub IsBadTable : List ℕ → Type 0
-IsBadTable bytes = (d : Data) × IsTextOf d bytes × (input_of d ≡ None)
-
--- the JSON text of a table with this root
-abbrev pub IsTableText : List Row → ℕ → List ℕ → Type 0
-IsTableText rows root bytes = (d : Data) × IsTextOf d bytes × (input_of d ≡ Some (rows, root))
-
--- the JSON text of a table without faults
-abbrev pub IsAcceptedText : List ℕ → Type 0
-IsAcceptedText bytes = (rows : List Row) × ((root : ℕ) × IsTableText rows root bytes × IsAccepted rows)
-
--- and one whose rows have only annotations for notes
+-- the JSON text of a table without faults whose rows have only annotations for notes
 abbrev pub IsNotedText : List ℕ → Type 0
 IsNotedText bytes =
     (rows : List Row) × ((root : ℕ) × IsTableText rows root bytes × IsAccepted rows × HasPlainNotes rows)

@@ -1,0 +1,60 @@
+//! Where a value is no table, and why.
+ghost use Rattle.std.specs.Prelude.{◌≡◌, None, IfOk, IsSome, MatchOption, string_bytes};
+ghost use Rattle.serde_json.specs.View.{view};
+ghost use Rattle.serde_json.specs.Find.{pointer as points_to};
+ghost use Rattle.schemagen_input.specs.Input.{table_in};
+
+mod enums;
+mod members;
+mod rows;
+mod stop;
+
+use crate::error::InputError;
+use crate::input::read_input;
+use crate::locate::rows::check_table;
+use crate::locate::stop::Stop;
+use serde_json::Value;
+use std::alloc::{AllocError, Global};
+
+/// Where a value is no table, and why.
+#[derive(Debug, Drop)]
+pub struct InputFault {
+    /// A JSON Pointer (RFC 6901) to what is wrong, or to the object in which a member is missing.
+    pub place: String,
+    pub reason: String,
+}
+
+/// Returns the first place at which a value is no table, and why; none where `read_input` reads a
+/// table from it.
+///
+/// # Errors
+///
+/// Only where memory runs out.
+pub fn find_fault(alloc: Global, value: &Value) -> Result<Option<InputFault>, AllocError>
+    ensures { IfOk result (λ r. MatchOption r (IsSome (table_in (view value.now)))
+        (λ f. (table_in (view value.now) ≡ None)
+        × IsSome (points_to (string_bytes f.place) (view value.now)))) }
+{
+    match read_input(alloc, value) {
+        Ok(_) => Ok(None),
+        Err(InputError::OutOfMemory) => Err(AllocError),
+        Err(InputError::BadTable) => {
+            let fault = locate(alloc, value)?;
+            Ok(Some(fault))
+        }
+    }
+}
+
+// The place in a value that is no table.
+fn locate(alloc: Global, value: &Value) -> Result<InputFault, AllocError>
+    ensures { IfOk result (λ f. IsSome (points_to (string_bytes f.place) (view value.now))) }
+{
+    match check_table(alloc, value) {
+        Err(Stop::OutOfMemory) => Err(AllocError),
+        Err(Stop::Fault(fault)) if value.pointer(fault.place.as_str()).is_some() => Ok(fault),
+        _ => Ok(InputFault {
+            place: String::new(alloc),
+            reason: String::from_str(alloc, "this is no table")?,
+        }),
+    }
+}

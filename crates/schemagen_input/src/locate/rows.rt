@@ -1,0 +1,132 @@
+//! Tables, rows and shapes.
+use crate::locate::enums::{check_enum, check_fields, check_internal};
+use crate::locate::members::{
+    check_count, check_flag, check_kind, check_names, check_notes, check_row, check_row_in,
+    check_rows, check_text, missing,
+};
+use crate::locate::stop::{Stop, fault_here, inside, inside_item, refuse};
+use crate::members::{lone_member, text_in};
+use schemars_schema::edits::is_listed;
+use serde_json::Value;
+use std::alloc::Global;
+
+const SHAPES: [&str; 8] = [
+    "null", "bool", "number", "text", "char", "any", "bytes", "schema",
+];
+
+/// Stops at the first place at which a value is no table.
+pub fn check_table(alloc: Global, value: &Value) -> Result<(), Stop> {
+    check_names(alloc, value, &["types", "root"])?;
+    check_count(alloc, value, "root")?;
+    match value.get("types") {
+        None => missing(alloc, "types"),
+        Some(list) => match list.as_array() {
+            Some(rows) => inside(alloc, "types", check_each_row(alloc, rows)),
+            None => inside(alloc, "types", refuse(alloc, "a list is expected here")),
+        },
+    }
+}
+
+fn check_each_row(alloc: Global, rows: &[Value]) -> Result<(), Stop> {
+    for (n, row) in rows.iter().enumerate() {
+        inside_item(alloc, n, check_heading(alloc, row))?;
+        inside_item(alloc, n, check_id(alloc, &rows[..n], row))?;
+    }
+    for (n, row) in rows.iter().enumerate() {
+        inside_item(alloc, n, check_entry(alloc, row, rows.len()))?;
+    }
+    Ok(())
+}
+
+fn check_heading(alloc: Global, row: &Value) -> Result<(), Stop> {
+    check_names(alloc, row, &["id", "name", "inline", "notes", "shape"])?;
+    check_text(alloc, row, "id")?;
+    check_text(alloc, row, "name")
+}
+
+// No row before has the id of this one.
+fn check_id(alloc: Global, before: &[Value], row: &Value) -> Result<(), Stop> {
+    let Some(id) = text_in(row, "id") else {
+        return Ok(());
+    };
+    for (n, other) in before.iter().enumerate() {
+        if text_in(other, "id") == Some(id) {
+            let reason = format!(in alloc; "row {n} has this id too")?;
+            return inside(alloc, "id", fault_here(alloc, reason));
+        }
+    }
+    Ok(())
+}
+
+fn check_entry(alloc: Global, row: &Value, rows: usize) -> Result<(), Stop> {
+    check_flag(alloc, row, "inline")?;
+    check_notes(alloc, row)?;
+    match row.get("shape") {
+        None => missing(alloc, "shape"),
+        Some(shape) => inside(alloc, "shape", check_shape(alloc, shape, rows)),
+    }
+}
+
+fn check_shape(alloc: Global, value: &Value, rows: usize) -> Result<(), Stop> {
+    match value {
+        Value::String(name) if is_listed(name.as_str(), &SHAPES) => Ok(()),
+        Value::String(_) => refuse(alloc, "no shape has this name, or this one says more"),
+        Value::Object(members) => match lone_member(members) {
+            Some((name, part)) => inside(
+                alloc,
+                name.as_str(),
+                check_shape_under(alloc, name.as_str(), part, rows),
+            ),
+            None => refuse(alloc, "an object of one member is expected here"),
+        },
+        _ => refuse(
+            alloc,
+            "a shape is expected here: a name, or an object of one member",
+        ),
+    }
+}
+
+fn check_shape_under(alloc: Global, name: &str, value: &Value, rows: usize) -> Result<(), Stop> {
+    match name {
+        "struct" => check_fields(alloc, value, rows),
+        "external" | "untagged" => check_enum(alloc, value, rows),
+        "internal" => check_internal(alloc, value, rows),
+        "int" | "nonzero" => check_kind(alloc, value),
+        "format" if value.is_string() => Ok(()),
+        "format" => refuse(alloc, "a text is expected here"),
+        "literal" if value.is_object() || value.is_boolean() => Ok(()),
+        "literal" => refuse(
+            alloc,
+            "a schema is expected here: an object, or a truth value",
+        ),
+        "tuple" => check_rows(alloc, value, rows),
+        "array" => check_counted(alloc, value, "len", rows),
+        "up_to" => check_counted(alloc, value, "cap", rows),
+        "result" => check_two(alloc, value, "ok", "err", rows),
+        "either" => check_two(alloc, value, "left", "right", rows),
+        "map" => check_two(alloc, value, "key", "value", rows),
+        _ if is_listed(name, &["option", "newtype", "seq", "set", "bound", "range"]) => {
+            check_row(alloc, value, rows)
+        }
+        _ => refuse(alloc, "no shape has this name"),
+    }
+}
+
+// The row of a list's items, and how many there are.
+fn check_counted(alloc: Global, value: &Value, count: &str, rows: usize) -> Result<(), Stop> {
+    check_names(alloc, value, &["of", count])?;
+    check_row_in(alloc, value, "of", rows)?;
+    check_count(alloc, value, count)
+}
+
+fn check_two(
+    alloc: Global,
+    value: &Value,
+    first: &str,
+    second: &str,
+    rows: usize,
+) -> Result<(), Stop> {
+    check_names(alloc, value, &[first, second])?;
+    check_row_in(alloc, value, first, rows)?;
+    check_row_in(alloc, value, second, rows)
+}

@@ -1,0 +1,11 @@
+//! What is to be said of the text of a table: its fault, or warnings and whether it is plain.
+#![tactic(auto)]
+
+mod judging;
+mod lines;
+mod places;
+mod reach;
+mod reasons;
+mod warnings;
+
+pub use judging::{Report, Verdict, lint};

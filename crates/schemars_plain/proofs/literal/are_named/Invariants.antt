@@ -1,0 +1,8 @@
+-- The names that are left decide.
+use Rattle.std.proofs.Common.{◌≡◌, drop}
+use Rattle.serde_json.specs.View.{items_view}
+use Rattle.schemars_plain.specs.Decided.{are_named}
+use Rattle.schemars_plain.proofs.literal.are_named.Given as goal
+
+abbrev pub invariant-loop-name : goal.invariant-loop-name
+invariant-loop-name l = are_named (items_view (drop l.name-index l.names)) ≡ are_named (items_view l.names)

@@ -1,0 +1,9 @@
+-- The rows before are plain.
+use Rattle.std.proofs.Common.{ℕ, ◌<◌}
+use Rattle.schemars_types.specs.Rows.{entry_at}
+use Rattle.schemars_documents.specs.PlainTable.{IsPlainEntry}
+use Rattle.schemars_plain.proofs.table.is_plain.Given as goal
+
+abbrev pub invariant-loop-n : goal.invariant-loop-n
+invariant-loop-n l =
+    (k : ℕ) → k < l.n → IsPlainEntry l.types (entry_at l.types k)

@@ -1,0 +1,44 @@
+//! Notes: the annotations of rows, fields and variants.
+ghost use Rattle.std.specs.Prelude.{◌≡◌, ◌↔◌, IsTrue};
+ghost use Rattle.serde_json.specs.View.{members_view};
+ghost use Rattle.schemars_schema.specs.Annotations.{is_annotation, AreNotes};
+ghost use Rattle.schemars_plain.specs.Decided.{are_annotations};
+
+use schemars_schema::edits::is_listed;
+use serde_json::{Map, Value};
+
+const ANNOTATIONS: [&str; 8] = [
+    "title",
+    "description",
+    "format",
+    "default",
+    "examples",
+    "deprecated",
+    "readOnly",
+    "writeOnly",
+];
+
+/// Returns whether a keyword is an annotation, which says nothing of a value.
+pub fn is_annotation(key: &str) -> bool
+    ensures { result ≡ is_annotation key.now }
+{
+    is_listed(key, &ANNOTATIONS) || key.starts_with("x-")
+}
+
+/// Returns whether all members are annotations.
+pub fn are_notes(notes: &Map<String, Value>) -> bool
+    ensures { IsTrue result ↔ AreNotes (members_view notes.now.entries) }
+{
+    are_annotations(notes)
+}
+
+pub(crate) fn are_annotations(notes: &Map<String, Value>) -> bool
+    ensures { result ≡ are_annotations (members_view notes.now.entries) }
+{
+    for (key, _) in notes.iter() {
+        if !is_annotation(key.as_str()) {
+            return false;
+        }
+    }
+    true
+}

@@ -1,0 +1,106 @@
+//! Rows and tables.
+ghost use Rattle.std.specs.Prelude.{◌≡◌, ◌↔◌, ◌&&◌, IsTrue, IfOk, map};
+ghost use Rattle.schemars_shapes.specs.Shape.{shape_of, variant_of, internal_view};
+ghost use Rattle.schemars_types.specs.Rows.{entry_at};
+ghost use Rattle.schemars_types.specs.Effective.{spread_in};
+ghost use Rattle.schemars_documents.specs.PlainTable.{IsPlainShape, IsPlainEntry, IsPlainTable};
+ghost use Rattle.schemars_plain.specs.Decided.{all_differ, variant_names, are_plain_variants};
+ghost use Rattle.schemars_plain.specs.Decided.{are_tagged, spread_variant_in};
+
+use crate::fields::are_plain;
+use crate::literal::is_plain_literal;
+use crate::notes::are_notes;
+use crate::parts::have_plain_parts;
+use crate::variants::{
+    are_plain_inside, are_plain_variants, are_tagged, names_differ, names_differ_inside,
+};
+use schemars_types::{Internal, Shape, TypeNo, Types, Variant};
+use std::alloc::{AllocError, Global};
+
+/// Returns whether a table is plain: whether it is promised that the documents of its types accept
+/// exactly the values of the types.
+///
+/// # Errors
+///
+/// Only where memory runs out.
+pub fn is_plain(alloc: Global, types: &Types) -> Result<bool, AllocError>
+    ensures { IfOk result (λ b. IsTrue b ↔ IsPlainTable types.now) }
+{
+    for n in 0..types.len() {
+        if !is_plain_row(alloc, types, n)? {
+            return Ok(false);
+        }
+    }
+    Ok(true)
+}
+
+/// Returns whether a row is plain. One that was never defined is.
+///
+/// # Errors
+///
+/// Only where memory runs out.
+pub fn is_plain_row(alloc: Global, types: &Types, n: TypeNo) -> Result<bool, AllocError>
+    ensures { IfOk result (λ b. IsTrue b ↔ IsPlainEntry types.now (entry_at types.now n)) }
+{
+    let Some(entry) = types.entry(n) else {
+        return Ok(true);
+    };
+    if !are_notes(&entry.notes) {
+        return Ok(false);
+    }
+    if !have_plain_parts(types, &entry.shape) {
+        return Ok(false);
+    }
+    is_plain_shape(alloc, types, &entry.shape)
+}
+
+/// Returns whether literals, notes and names in a shape are plain. The fields of the rows that are
+/// flattened into it are among its own.
+///
+/// # Errors
+///
+/// Only where memory runs out.
+pub fn is_plain_shape(alloc: Global, types: &Types, shape: &Shape) -> Result<bool, AllocError>
+    ensures { IfOk result (λ b. IsTrue b
+        ↔ IsPlainShape (spread_in types.now (shape_of shape.now))) }
+{
+    match shape {
+        Shape::Struct(fields) => are_plain(alloc, types, fields),
+        Shape::External(variants) => is_plain_external(alloc, types, variants),
+        Shape::Untagged(variants) => are_plain_variants(alloc, types, variants),
+        Shape::Internal(internal) => is_plain_internal(alloc, types, internal),
+        Shape::Literal(schema) => Ok(is_plain_literal(schema)),
+        Shape::Null | Shape::Bool | Shape::Int(_) | Shape::NonZero(_) => Ok(true),
+        Shape::Number | Shape::Text | Shape::Char | Shape::Formatted(_) => Ok(true),
+        Shape::Any | Shape::Bytes | Shape::SchemaItself => Ok(true),
+        Shape::Option(_) | Shape::Newtype(_) | Shape::Seq(_) | Shape::Set(_) => Ok(true),
+        Shape::Array(..) | Shape::UpTo(..) | Shape::Tuple(_) => Ok(true),
+        Shape::Result(..) | Shape::Either(..) => Ok(true),
+        Shape::Bound(_) | Shape::Range(_) | Shape::Map(..) => Ok(true),
+    }
+}
+
+fn is_plain_external(alloc: Global, types: &Types, variants: &[Variant]) -> Result<bool, AllocError>
+    ensures { IfOk result (λ b. b ≡ (all_differ (variant_names (map variant_of variants.now))
+        && are_plain_variants (map (spread_variant_in types.now) (map variant_of variants.now)))) }
+{
+    if !names_differ(alloc, variants)? {
+        return Ok(false);
+    }
+    are_plain_variants(alloc, types, variants)
+}
+
+fn is_plain_internal(alloc: Global, types: &Types, value: &Internal) -> Result<bool, AllocError>
+    ensures { IfOk result (λ b. b ≡ (all_differ (variant_names (internal_view value.now).2)
+        && (are_plain_variants (map (spread_variant_in types.now) (internal_view value.now).2)
+        && are_tagged (internal_view value.now).0
+        (map (spread_variant_in types.now) (internal_view value.now).2)))) }
+{
+    if !names_differ_inside(alloc, &value.variants)? {
+        return Ok(false);
+    }
+    if !are_plain_inside(alloc, types, &value.variants)? {
+        return Ok(false);
+    }
+    are_tagged(alloc, types, value.tag.as_str(), &value.variants)
+}
