@@ -20,7 +20,7 @@ use Rattle.schemars_headline.specs.Calls.{IsPartOf, IsReferenceOf}
 use Rattle.schemars_headline.specs.Headline.{IsInlined}
 use Rattle.schemars_headline.proofs.Calls.{reference_of_part}
 use Rattle.schemars_headline.proofs.Inlined.{part_inlined}
-use Rattle.schemars_headline.proofs.Roots.{subschema_headline}
+use Rattle.schemars_headline.proofs.Roots.{subschema_headline, subschema_or_null}
 use Rattle.schemars_generate.specs.Answers.{IsAnswerFor, IsSubschemaFor, KeepsDefinitions}
 
 abbrev kept : State → Work → State
@@ -113,6 +113,7 @@ subschema_for old new n d same checked one own h =
       answer = h;
       is_part = written;
       means = λ is. subschema_headline new n false d checked one (own is) written;
+      nullable = λ plain. subschema_or_null new n false d written plain;
       reference = subst (λ s. IsReferenceOf s new n d) same (reference_of_part new n d written);
       inlined = subst (λ s. IsInlined s d) same (part_inlined new n d written);
     }

@@ -1,6 +1,10 @@
 -- What a call answers and adds, by what a generator holds before and afterwards.
 use Rattle.std.specs.Prelude.{ℕ, true, None}
 use Rattle.serde_json.specs.Data.{Data}
+use Rattle.schemars_schema.specs.Acceptance.{Dialect}
+use Rattle.schemars_builders.specs.AllowNull.{allow_null}
+use Rattle.schemars_builders.specs.NullLaw.{IsDraft, AcceptsNullToo}
+use Rattle.schemars_documents.specs.PlainTable.{IsPlainTable}
 use Rattle.schemars_documents.specs.Template.{Ask, part}
 use Rattle.schemars_build.specs.Parts.{IsAnswer}
 use Rattle.schemars_headline.specs.State.{State, state_plan, work_of, HasOwnDefinitions, ReferencesNameKeys}
@@ -14,11 +18,12 @@ pub record IsAnswerFor (old new : State) (a : Ask) (d : Data) : Type 0 where
   pub adds : Adds old new
   pub is : IsAnswer (state_plan old None) true (work_of old) (work_of new) a d
 
--- the schema of row n for use inside a document that holds the definitions
+-- the schema of row n for use inside a document that holds the definitions; in a plain table, null can be added to it under each draft
 pub record IsSubschemaFor (old new : State) (n : ℕ) (d : Data) : Type 0 where
   pub answer : IsAnswerFor old new (part n) d
   pub is_part : IsPartOf new n d
   pub means : HasOwnDefinitions old → SubschemaHeadline new n d
+  pub nullable : IsPlainTable new.rows → (dialect : Dialect) → IsDraft dialect → AcceptsNullToo dialect d (allow_null d)
   pub reference : IsReferenceOf old new n d
   pub inlined : IsInlined old d
 

@@ -7,7 +7,7 @@ use Rattle.schemars_schema.specs.Json.{Text}
 use Rattle.schemars_schema.specs.SchemaData.{IsSchema, members_in}
 use Rattle.schemars_schema.specs.Lookup.{resolved}
 use Rattle.schemars_schema.specs.References.{references, resolves}
-use Rattle.schemars_schema.specs.Acceptance.{Patterns, Judge, judge, draft2020_12, follow}
+use Rattle.schemars_schema.specs.Acceptance.{Dialect, Patterns, Judge, judge, draft2020_12, follow}
 use Rattle.schemars_schema.proofs.Objects.{IsSilent, judge-put}
 use Rattle.schemars_builders.specs.NullLaw.{context2020_12}
 use Rattle.schemars_shapes.specs.Shape.{Entry}
@@ -19,11 +19,14 @@ use Rattle.schemars_documents.specs.Documents.{root_document}
 use Rattle.schemars_documents.specs.Describes.{IsWritten, Describes}
 use Rattle.schemars_shapes.specs.Shape as shape
 use Rattle.schemars_shapes.specs.Shape.{Shape, Field, Flattened}
-use Rattle.schemars_documents.specs.PlainTable.{IsPlainShape, HasPlainLiteral, IsEntryUnder, IsPlainUnder}
+use Rattle.schemars_documents.specs.PlainTable.{IsPlainShape, HasPlainLiteral, IsEntryUnder, IsPlainUnder, IsPlainTable}
 use Rattle.schemars_documents.specs.PlainTable.{IsNotedEntry, HasPlainNotes}
 use Rattle.schemars_documents.proofs.OpenStructs.{plain_under}
 use Rattle.schemars_build.specs.Naming.{IsOneToOne}
 use Rattle.schemars_build.specs.Work.{Plan, Work, Refers, basis_of_plan}
+use Rattle.schemars_builders.specs.AllowNull.{allow_null}
+use Rattle.schemars_builders.specs.NullLaw.{IsDraft, AcceptsNullToo}
+use Rattle.schemars_meaning.proofs.FieldsDescribed.{written_or_null}
 use Rattle.schemars_headline.specs.State.{State, state_plan, work_of, HasOwnDefinitions}
 use Rattle.schemars_headline.specs.Headline.{IsRootOf, MeansItsType, MeansItsTypeIn, SubschemaHeadline, IsDraftPath, with_definitions}
 use Rattle.schemars_meaning.proofs.Notes.{judge-root}
@@ -208,3 +211,11 @@ subschema_headline s n free schema checked one definitions h plain known documen
     subschema_means plan (work_of s) n free written.0 schema document checked one refl
     (λ name d found. stands_now plan (work_of s) name d (definitions name d found)) written.1
     (plain_under s.rows s.settings.contract plain) (held plan.path s.definitions document known holding)
+
+-- with null added, a subschema of a plain table accepts under each draft what it accepted, and null
+pub subschema_or_null : (s : State) (n : ℕ) (free : Bool) (schema : Data) → IsSubschema (state_plan s None) free (work_of s) n schema
+    → IsPlainTable s.rows → (dialect : Dialect) → IsDraft dialect → AcceptsNullToo dialect schema (allow_null schema)
+subschema_or_null s n free schema h plain =
+    let plan = state_plan s None in
+    let written = placed_written (basis_of_plan plan) plan.inlines (Refers plan free (work_of s)) [] n schema h in
+    written_or_null (basis_of_plan plan) (Refers plan free (work_of s)) plain written.0 n schema written.1
