@@ -6,7 +6,7 @@ ghost use Rattle.std.specs.Io.KnownBytes.{ReadConsumes, WriteAppends, Appends, C
 ghost use Rattle.schemagen_run.specs.Streams.{AppendsBeginning};
 
 use std::alloc::{AllocError, Global};
-use std::io::{Read, Write};
+use std::io::{self, ErrorKind, Read, Write};
 
 /// A source or a sink has failed.
 #[derive(Clone, Copy, Debug)]
@@ -49,7 +49,8 @@ pub trait Sink {
         ensures stays { IsTrue (has_failed self.old) → IsTrue (has_failed self.new) };
 }
 
-/// A reader as a source. Once a read has failed, so does each later one.
+/// A reader as a source. A read that a signal interrupts is made again. Once a read has failed, so
+/// does each later one.
 #[derive(Drop)]
 pub struct SourceOf<R> {
     reader: R,
@@ -78,7 +79,7 @@ impl<R: Read> Source for SourceOf<R> {
         if self.failed {
             return Err(Failed);
         }
-        match self.reader.read(buf) {
+        match read_again(&mut self.reader, buf) {
             Ok(count) => Ok(count),
             Err(_) => {
                 self.failed = true;
@@ -88,8 +89,22 @@ impl<R: Read> Source for SourceOf<R> {
     }
 }
 
-/// A writer as a sink. An error is a failure, and so is a write that takes no byte. Once a write
-/// has failed, so does each later one.
+// Reads, and reads again where a signal came first.
+fn read_again<R: Read>(reader: &mut R, buf: &mut [u8]) -> io::Result<usize>
+    ensures within { IfOk result (λ n. n ≤ length buf.new) }
+    ensures bytes { ReadConsumes (R.remaining reader.old) (R.remaining reader.new) result buf.new }
+{
+    for _ in 0..u64::MAX {
+        match reader.read(buf) {
+            Err(error) if error.kind() == ErrorKind::Interrupted => {}
+            answer => return answer,
+        }
+    }
+    reader.read(buf)
+}
+
+/// A writer as a sink. A write that a signal interrupts is made again; any other error is a failure,
+/// and so is a write that takes no byte. Once a write has failed, so does each later one.
 #[derive(Drop)]
 pub struct SinkOf<W> {
     writer: W,
@@ -116,7 +131,7 @@ impl<W: Write> Sink for SinkOf<W> {
         if self.failed {
             return Err(Failed);
         }
-        match self.writer.write(buf) {
+        match write_again(&mut self.writer, buf) {
             Ok(count) if count > 0 || buf.is_empty() => Ok(count),
             _ => {
                 self.failed = true;
@@ -124,6 +139,20 @@ impl<W: Write> Sink for SinkOf<W> {
             }
         }
     }
+}
+
+// Writes, and writes again where a signal came first.
+fn write_again<W: Write>(writer: &mut W, buf: &[u8]) -> io::Result<usize>
+    ensures within { IfOk result (λ n. n ≤ length buf.now) }
+    ensures bytes { WriteAppends (W.contents writer.old) (W.contents writer.new) result buf.now }
+{
+    for _ in 0..u64::MAX {
+        match writer.write(buf) {
+            Err(error) if error.kind() == ErrorKind::Interrupted => {}
+            answer => return answer,
+        }
+    }
+    writer.write(buf)
 }
 
 /// Why reading all of a source stopped early.
