@@ -7,14 +7,15 @@ FLAGS =
 PREFIX = /usr/local
 program = crates/schemagen
 built = $(program)/out/schemagen
+linter = crates/schemalint/out/schemalint
 # the crates below the program, lowest first
 libraries = $(shell sed -n '/^schemagen:/q; s/^\([a-z_]*\):.*/\1/p' crates.txt)
 
 help:
 	@echo 'make run [TABLE=FILE] [DIALECT=..] [FLAGS=..]   prints the document of a table, without proofs'
 	@echo 'make lint [TABLE=FILE]                          tells what is wrong with a table, and whether it is plain'
-	@echo 'make program                                    proves everything below the program, and builds it'
-	@echo 'make install [PREFIX=/usr/local]                copies the program and its manual page'
+	@echo 'make program                                    proves everything below the programs, and builds them'
+	@echo 'make install [PREFIX=/usr/local]                copies the programs and their manual pages'
 	@echo 'make openapi-example                            writes examples/openapi/openapi.json anew'
 	@echo 'make test                                       the merge gate'
 
@@ -28,7 +29,7 @@ lint:
 	@echo 'a checked run without proofs; it takes a minute or two' >&2
 	@cd crates/schemalint && rt try < $(abspath $(TABLE))
 
-# Proves the libraries, which takes about an hour on two cores, and builds the program.
+# Proves the libraries, which takes about an hour on two cores, and builds both programs.
 program:
 	@started=$$(date +%s); done=0; all=$(words $(libraries)); \
 	for crate in $(libraries); do \
@@ -37,17 +38,19 @@ program:
 	    (cd crates/$$crate && rt check >/dev/null) || exit 1; \
 	done
 	@cd $(program) && rt run < ../../examples/vec-option-u8.json -- types 2020-12 >/dev/null
+	@cd crates/schemalint && rt run < ../../examples/linked-list.json >/dev/null
 	@echo 'built: $(built) types 2020-12 < TABLE' >&2
+	@echo 'built: $(linter) TABLE' >&2
 
-# If the program is not built, it is built first.
-$(built):
+# If the programs are not built, they are built first.
+$(built) $(linter):
 	@$(MAKE) --no-print-directory program
 
-# Copies the program, and its manual page.
-install: $(built)
+# Copies the programs, and their manual pages.
+install: $(built) $(linter)
 	install -d $(DESTDIR)$(PREFIX)/bin $(DESTDIR)$(PREFIX)/share/man/man1
-	install $(built) $(DESTDIR)$(PREFIX)/bin
-	install -m 644 docs/schemagen.1 $(DESTDIR)$(PREFIX)/share/man/man1
+	install $(built) $(linter) $(DESTDIR)$(PREFIX)/bin
+	install -m 644 docs/schemagen.1 docs/schemalint.1 $(DESTDIR)$(PREFIX)/share/man/man1
 
 # Writes examples/openapi/openapi.json anew: its paths, and the definitions that the program prints for
 # its table.
