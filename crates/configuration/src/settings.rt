@@ -1,0 +1,91 @@
+//! The configuration, and how it describes itself.
+#![tactic(auto, using(schemars_impls::proofs::OwnTypes::own_types))]
+
+ghost use Rattle.std.specs.Prelude.{codes, false, ⊤};
+
+use schemars::impls::{JsonSchema, OPTIONAL, REQUIRED, add_field, struct_entry};
+use schemars::types::{TypeEntry, Types, TypesError};
+use std::alloc::{AllocError, Global};
+use std::borrow::CowStr;
+
+/// The configuration of a small server.
+#[derive(Debug, Drop)]
+pub struct Configuration {
+    /// where it listens
+    pub listen: String,
+    /// how many requests it works at a time
+    pub workers: u16,
+    /// what it is labelled with
+    pub tags: Vec<String>,
+    /// how much a client may ask for
+    pub limits: Option<Limits>,
+}
+
+/// How much a client may ask for.
+#[derive(Clone, Copy, Debug)]
+pub struct Limits {
+    /// how many requests
+    pub requests: u16,
+    /// in how many seconds; in none, at a time
+    pub seconds: Option<u16>,
+}
+
+impl JsonSchema for Configuration {
+    ghost name = { codes "Configuration" };
+
+    ghost id = { codes "Configuration" };
+
+    ghost inline = { false };
+
+    ghost describes = { λ _ _. ⊤ };
+
+    fn inline_schema() -> bool {
+        false
+    }
+
+    fn schema_name(_alloc: Global) -> Result<CowStr<'static>, AllocError> {
+        Ok(CowStr::Borrowed("Configuration"))
+    }
+
+    fn schema_id(alloc: Global) -> Result<CowStr<'static>, AllocError> {
+        Self::schema_name(alloc)
+    }
+
+    fn json_schema(alloc: Global, types: &mut Types) -> Result<TypeEntry, TypesError> {
+        let mut fields = Vec::new(alloc);
+        add_field::<String>(alloc, types, &mut fields, "listen", REQUIRED)?;
+        add_field::<u16>(alloc, types, &mut fields, "workers", REQUIRED)?;
+        add_field::<Vec<String>>(alloc, types, &mut fields, "tags", REQUIRED)?;
+        add_field::<Option<Limits>>(alloc, types, &mut fields, "limits", OPTIONAL)?;
+        Ok(struct_entry(alloc, fields, false))
+    }
+}
+
+impl JsonSchema for Limits {
+    ghost name = { codes "Limits" };
+
+    ghost id = { codes "Limits" };
+
+    ghost inline = { false };
+
+    ghost describes = { λ _ _. ⊤ };
+
+    fn inline_schema() -> bool {
+        false
+    }
+
+    fn schema_name(_alloc: Global) -> Result<CowStr<'static>, AllocError> {
+        Ok(CowStr::Borrowed("Limits"))
+    }
+
+    fn schema_id(alloc: Global) -> Result<CowStr<'static>, AllocError> {
+        Self::schema_name(alloc)
+    }
+
+    fn json_schema(alloc: Global, types: &mut Types) -> Result<TypeEntry, TypesError> {
+        let mut fields = Vec::new(alloc);
+        add_field::<u16>(alloc, types, &mut fields, "requests", REQUIRED)?;
+        add_field::<Option<u16>>(alloc, types, &mut fields, "seconds", OPTIONAL)?;
+        Ok(struct_entry(alloc, fields, false))
+    }
+}
