@@ -39,8 +39,9 @@ fn limits(members: &Members) -> Result<Option<Limits>, Refusal> {
     let Some(value) = optional(members, "limits") else {
         return Ok(None);
     };
-    let wrong = Refusal::WrongType("limits", "an object");
-    let members = value.as_object().ok_or(wrong)?;
+    let members = value
+        .as_object()
+        .ok_or(Refusal::WrongType("limits", "an object"))?;
     let requests = number("requests", required(members, "requests")?)?;
     let seconds = match optional(members, "seconds") {
         Some(value) => Some(number("seconds", value)?),
@@ -76,11 +77,12 @@ fn text(alloc: Global, name: &'static str, value: &Value) -> Result<String, Refu
 }
 
 fn texts(alloc: Global, name: &'static str, value: &Value) -> Result<Vec<String>, Refusal> {
-    let wrong = Refusal::WrongType(name, "a list of texts");
-    let items = value.as_array().ok_or(wrong)?;
+    let wanted = "a list of texts";
+    let items = value.as_array().ok_or(Refusal::WrongType(name, wanted))?;
     let mut texts = Vec::new(alloc);
     for item in items {
-        texts.push(text(alloc, name, item)?)?;
+        let text = item.as_str().ok_or(Refusal::WrongType(name, wanted))?;
+        texts.push(String::from_str(alloc, text)?)?;
     }
     Ok(texts)
 }

@@ -5,6 +5,7 @@ ghost use Rattle.std.specs.Prelude.{codes, false, ⊤};
 
 use schemars::impls::{JsonSchema, OPTIONAL, REQUIRED, add_field, struct_entry};
 use schemars::types::{TypeEntry, Types, TypesError};
+use serde_json::{Map, Value, put};
 use std::alloc::{AllocError, Global};
 use std::borrow::CowStr;
 
@@ -28,6 +29,14 @@ pub struct Limits {
     pub requests: u16,
     /// in how many seconds; in none, at a time
     pub seconds: Option<u16>,
+}
+
+// The notes of a type that has a description.
+fn description(alloc: Global, text: &str) -> Result<Map<String, Value>, AllocError> {
+    let text = Value::try_from_str(alloc, text)?;
+    let mut notes = Map::new(alloc);
+    put(&mut notes, alloc, "description", text)?;
+    Ok(notes)
 }
 
 impl JsonSchema for Configuration {
@@ -57,7 +66,9 @@ impl JsonSchema for Configuration {
         add_field::<u16>(alloc, types, &mut fields, "workers", REQUIRED)?;
         add_field::<Vec<String>>(alloc, types, &mut fields, "tags", REQUIRED)?;
         add_field::<Option<Limits>>(alloc, types, &mut fields, "limits", OPTIONAL)?;
-        Ok(struct_entry(alloc, fields, false))
+        let mut entry = struct_entry(alloc, fields, false);
+        entry.notes = description(alloc, "The configuration of a small server.")?;
+        Ok(entry)
     }
 }
 
@@ -86,6 +97,8 @@ impl JsonSchema for Limits {
         let mut fields = Vec::new(alloc);
         add_field::<u16>(alloc, types, &mut fields, "requests", REQUIRED)?;
         add_field::<Option<u16>>(alloc, types, &mut fields, "seconds", OPTIONAL)?;
-        Ok(struct_entry(alloc, fields, false))
+        let mut entry = struct_entry(alloc, fields, false);
+        entry.notes = description(alloc, "How much a client may ask for.")?;
+        Ok(entry)
     }
 }
