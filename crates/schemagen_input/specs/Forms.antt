@@ -82,8 +82,11 @@ field_names = codes "name" ∷ codes "type" ∷ codes "required" ∷ codes "note
 abbrev pub field_of_members : Data → Option Field
 field_of_members d =
     option_and_then (λ name. option_and_then (λ ty. option_and_then (λ need.
-    option_map (λ notes. record { name = name; ty = ty; required = need; notes = notes }) (notes_in d))
-    (optional_member (required true true) required_in (codes "required") d)) (needed_member number_in (codes "type") d)) (needed_member as_str (codes "name") d)
+    option_map (λ notes. record { name = name; ty = ty; required = need; notes = notes })
+    (notes_in d))
+    (optional_member (required true true) required_in (codes "required") d))
+    (needed_member number_in (codes "type") d))
+    (needed_member as_str (codes "name") d)
 
 abbrev pub field_in : Data → Option Field
 field_in d = if has_only field_names d then field_of_members d else None

@@ -3,7 +3,8 @@ ghost use Rattle.std.specs.Prelude.{◌≡◌, Some, None, Err, IfOk};
 ghost use Rattle.serde_json.specs.View.{view, items_view, members_view};
 ghost use Rattle.schemars_sample.specs.Example.{example_of, examples_view, entries_view};
 ghost use Rattle.schemars_sample.specs.SampleJson.{sample_json};
-ghost use Rattle.schemagen_input.specs.SampleInput.{sample_input, items_input, members_input, IsAsRead};
+ghost use Rattle.schemagen_input.specs.SampleInput.{sample_input, items_input, members_input};
+ghost use Rattle.schemagen_input.specs.SampleInput.{IsAsRead};
 
 use schemars_sample::Sample;
 use serde_json::{Map, Value};

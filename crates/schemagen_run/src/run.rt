@@ -313,8 +313,8 @@ fn document_line(alloc: Global, asked: Asked, types: Types, root: TypeNo) -> Res
     Ok(line)
 }
 
-// Leaves a document where it is. A run ends soon after its text is made, and the pages of its memory
-// are then given back at once: that is much faster than each part of the document by itself.
+// Leaves a document where it is. A run ends soon after its text is made, and the pages of its
+// memory are then given back at once: that is much faster than each part of the document by itself.
 fn leave(document: Schema) {
     let _kept = ManuallyDrop::new(document);
 }

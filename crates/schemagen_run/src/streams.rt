@@ -103,8 +103,8 @@ fn read_again<R: Read>(reader: &mut R, buf: &mut [u8]) -> io::Result<usize>
     reader.read(buf)
 }
 
-/// A writer as a sink. A write that a signal interrupts is made again; any other error is a failure,
-/// and so is a write that takes no byte. Once a write has failed, so does each later one.
+/// A writer as a sink. A write that a signal interrupts is made again. Any other error is a
+/// failure, and so is a write that takes no byte. Once a write has failed, so does each later one.
 #[derive(Drop)]
 pub struct SinkOf<W> {
     writer: W,

@@ -7,7 +7,8 @@
 macro_rules! schema_for {
     (in $alloc:expr; $type:ty) => {{
         let alloc = $alloc;
-        let generator = $crate::generate::SchemaGenerator::<$crate::transform::NoTransform>::default(alloc);
+        let generator =
+            $crate::generate::SchemaGenerator::<$crate::transform::NoTransform>::default(alloc);
         generator.into_root_schema_for::<$type>(alloc)
     }};
 }
@@ -19,7 +20,8 @@ macro_rules! schema_for {
 macro_rules! schema_for_value {
     (in $alloc:expr; $value:expr) => {{
         let alloc = $alloc;
-        let generator = $crate::generate::SchemaGenerator::<$crate::transform::NoTransform>::default(alloc);
+        let generator =
+            $crate::generate::SchemaGenerator::<$crate::transform::NoTransform>::default(alloc);
         generator.into_root_schema_for_value(alloc, &$value)
     }};
 }
