@@ -60,7 +60,9 @@ format_stays draft allowed (Some f) = contains_text allowed f || is_defined draf
 
 -- one schema
 abbrev pub restricted : Draft → BTreeSet (String Global) → Data → Data
-restricted draft allowed s = if format_stays draft allowed (option_and_then as_str (get (codes "format") s)) then s else removed (codes "format") s
+restricted draft allowed s =
+    if format_stays draft allowed (option_and_then as_str (get (codes "format") s)) then s
+    else removed (codes "format") s
 
 -- the draft is handed down
 abbrev pub format_rules : BTreeSet (String Global) → Rules Draft

@@ -3,8 +3,8 @@ use schemars_schema::Schema;
 use schemars_walk::{Transform, TransformError};
 use std::alloc::Global;
 
-/// A transform that changes nothing and never fails: the type of user-defined transforms where there
-/// are none.
+/// A transform that changes nothing and never fails: the type of user-defined transforms where
+/// there are none.
 #[derive(Clone, Copy)]
 pub struct NoTransform;
 
