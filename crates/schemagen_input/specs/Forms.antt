@@ -9,7 +9,7 @@ use Rattle.schemars_schema.specs.OrderedText.{is_listed}
 use Rattle.schemars_shapes.specs.declared.shape.IntKind.{IntKind}
 use Rattle.schemars_shapes.specs.declared.shape.IntKind.TheVariants.{I8, I16, I32, I64, I128, Isize, U8, U16, U32, U64, U128, Usize}
 use Rattle.schemars_shapes.specs.Shape.{Required, Field, Flattened, Fields, Payload, Variant, Shape, no_payload, newtype_payload, tuple_payload}
-use Rattle.schemars_shapes.specs.Shape.{struct_payload, struct, external, untagged, internal}
+use Rattle.schemars_shapes.specs.Shape.{struct_payload, struct, external, untagged, internal, adjacent}
 
 -- ---- the members of an object
 
@@ -176,11 +176,12 @@ variants_in no_items = Some []
 variants_in (item d ds) = option_and_then (λ x. option_map (λ xs. x ∷ xs) (variants_in ds)) (variant_in d)
 
 -- the variants of an enum: none where they are missing
+abbrev pub variants_said : Data → Option (List Variant)
+variants_said d = optional_member [] (λ e. option_and_then variants_in (as_array e)) (codes "variants") d
+
+-- an enum of which nothing else is said
 abbrev pub enum_in : Data → Option (List Variant)
-enum_in d =
-    if has_only (codes "variants" ∷ []) d
-    then optional_member [] (λ e. option_and_then variants_in (as_array e)) (codes "variants") d
-    else None
+enum_in d = if has_only (codes "variants" ∷ []) d then variants_said d else None
 
 abbrev pub external_in : Data → Option Shape
 external_in d = option_map external (enum_in d)
@@ -213,3 +214,18 @@ internal_in d =
     then option_and_then (λ tag. option_and_then (λ closed. option_map (internal tag closed) (internals_said d))
     (optional_member false as_bool (codes "closed") d)) (needed_member as_str (codes "tag") d)
     else None
+
+-- the keys of name and content, whether other keys are excluded, and the variants
+abbrev pub adjacent_of_members : Data → Option Shape
+adjacent_of_members d =
+    option_and_then (λ tag. option_and_then (λ content. option_and_then (λ closed.
+    option_map (adjacent tag content closed) (variants_said d))
+    (optional_member false as_bool (codes "closed") d))
+    (needed_member as_str (codes "content") d))
+    (needed_member as_str (codes "tag") d)
+
+abbrev pub adjacent_names : List Text
+adjacent_names = codes "tag" ∷ codes "content" ∷ codes "closed" ∷ codes "variants" ∷ []
+
+abbrev pub adjacent_in : Data → Option Shape
+adjacent_in d = if has_only adjacent_names d then adjacent_of_members d else None

@@ -14,7 +14,7 @@ use Rattle.schemars_shapes.specs.Shape.{result, bound, range, literal}
 use Rattle.schemars_schema.specs.Lookup.{schema_only}
 use Rattle.schemars_types.specs.Rows.{Row, with_entry}
 use Rattle.schemagen_input.specs.Forms.{has_only, needed_member, optional_member, lone_in, number_in, notes_in, kind_in, struct_in, parts_from}
-use Rattle.schemagen_input.specs.Forms.{external_in, untagged_in, internal_in}
+use Rattle.schemagen_input.specs.Forms.{external_in, untagged_in, internal_in, adjacent_in}
 
 -- ---- shapes
 
@@ -94,7 +94,8 @@ shape_under name d =
     if bytes_eq name (codes "struct") then struct_in d else
     (if bytes_eq name (codes "external") then external_in d
     else (if bytes_eq name (codes "untagged") then untagged_in d
-    else (if bytes_eq name (codes "internal") then internal_in d else plain_under name d)))
+    else (if bytes_eq name (codes "internal") then internal_in d
+    else (if bytes_eq name (codes "adjacent") then adjacent_in d else plain_under name d))))
 
 abbrev pub shape_in : Data → Option Shape
 shape_in null = None

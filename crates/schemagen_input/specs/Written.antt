@@ -13,7 +13,7 @@ use Rattle.schemars_shapes.specs.Shape.{Required, Field, Flattened, Fields, Payl
 use Rattle.schemars_shapes.specs.Shape.{no_payload, newtype_payload, tuple_payload, struct_payload}
 use Rattle.schemars_shapes.specs.Shape.{null, bool, int, non_zero, number as number_shape, text, char, formatted, any, bytes}
 use Rattle.schemars_shapes.specs.Shape.{schema_itself, option, seq, set, array as array_shape, up_to, tuple, struct, newtype}
-use Rattle.schemars_shapes.specs.Shape.{result, bound, range, either, map_from, external, untagged, internal, literal}
+use Rattle.schemars_shapes.specs.Shape.{result, bound, range, either, map_from, external, untagged, internal, adjacent, literal}
 use Rattle.schemars_types.specs.Rows.{Row}
 use Rattle.schemagen_input.specs.Forms.{payload_inside}
 use Rattle.schemagen_input.specs.Input.{is_complete}
@@ -72,6 +72,11 @@ abbrev pub internal_json : Text → Bool → List Variant → Data
 internal_json tag closed xs =
     object_of ((codes "tag", string tag) ∷ (codes "closed", boolean closed) ∷ (codes "variants", list_of variant_json xs) ∷ [])
 
+abbrev pub adjacent_json : Text → Text → Bool → List Variant → Data
+adjacent_json tag content closed xs =
+    object_of ((codes "tag", string tag) ∷ (codes "content", string content) ∷ (codes "closed", boolean closed)
+    ∷ (codes "variants", list_of variant_json xs) ∷ [])
+
 -- ---- shapes
 
 abbrev pub kind_json : IntKind → Data
@@ -116,6 +121,7 @@ shape_json (map_from key value) = alone (codes "map") (two_of (codes "key") key 
 shape_json (external xs) = alone (codes "external") (variants_json xs)
 shape_json (untagged xs) = alone (codes "untagged") (variants_json xs)
 shape_json (internal tag closed xs) = alone (codes "internal") (internal_json tag closed xs)
+shape_json (adjacent tag content closed xs) = alone (codes "adjacent") (adjacent_json tag content closed xs)
 shape_json (literal d) = alone (codes "literal") d
 
 -- ---- tables

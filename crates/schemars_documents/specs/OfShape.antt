@@ -19,7 +19,7 @@ use Rattle.schemars_shapes.specs.Units.{is_bare_unit}
 use Rattle.schemars_documents.specs.Documents.{type_alone, int_document, non_zero_document, char_document}
 use Rattle.schemars_documents.specs.Documents.{formatted_document, empty_list_document, bytes_document, schema_document}
 use Rattle.schemars_documents.specs.Documents.{required_names}
-use Rattle.schemars_documents.specs.Template.{Template, finished, asked, row, list, members, nullable, noted, with_keywords}
+use Rattle.schemars_documents.specs.Template.{Template, Ask, finished, asked, row, list, members, nullable, noted, with_keywords}
 use Rattle.schemars_documents.specs.Template.{tagged, members_of, content, Templates}
 use Rattle.schemars_documents.specs.Template.{no_templates, template}
 use Rattle.schemars_documents.specs.Basis.{Basis}
@@ -96,11 +96,14 @@ map_template properties required closed =
 abbrev pub fields_template : Contract → List Field → Bool → Template
 fields_template contract xs closed = map_template (map property xs) (text_items (required_names contract xs)) closed
 
+-- what is asked of a flattened row
+abbrev pub members_asked : Contract → Flattened → Ask
+members_asked contract p = members_of p.ty (is_required contract p.required)
+
 -- the members of flattened rows join one after another
 abbrev pub with_flattened : Contract → List Flattened → Template → Template
 with_flattened contract [] t = t
-with_flattened contract (p ∷ ps) t =
-    with_flattened contract ps (with_keywords t (asked (members_of p.ty (is_required contract p.required))))
+with_flattened contract (p ∷ ps) t = with_flattened contract ps (with_keywords t (asked (members_asked contract p)))
 
 abbrev pub struct_template : Contract → Fields → Template
 struct_template contract x = with_flattened contract x.flatten (fields_template contract x.list x.closed)
@@ -199,6 +202,26 @@ abbrev pub internal_template : Contract → Text → Bool → List Variant → T
 internal_template contract tag closed [] = finished (boolean false)
 internal_template contract tag closed (x ∷ xs) = one_of_template (map (internal_item contract tag closed) (x ∷ xs))
 
+-- a map with these members, each of which has to be there
+abbrev pub whole_template : List KeywordTemplate → Bool → Template
+whole_template properties closed = map_template properties (text_items (map (λ e. e.0) properties)) closed
+
+-- what stands beside the name, under its key: nothing for a unit
+abbrev pub adjacent_payload : Contract → Text → Payload → List KeywordTemplate
+adjacent_payload contract key no_payload = []
+adjacent_payload contract key (newtype_payload n) = (key, row n) ∷ []
+adjacent_payload contract key (tuple_payload ns) = (key, tuple_template ns) ∷ []
+adjacent_payload contract key (struct_payload x) = (key, struct_template contract x) ∷ []
+
+abbrev pub adjacent_item : Contract → Text → Text → Bool → Variant → Template
+adjacent_item contract tag key closed x =
+    noted x.notes (whole_template (said tag (unit_variant x.name) ∷ adjacent_payload contract key x.payload) closed)
+
+abbrev pub adjacent_template : Contract → Text → Text → Bool → List Variant → Template
+adjacent_template contract tag key closed [] = finished (boolean false)
+adjacent_template contract tag key closed (x ∷ xs) =
+    one_of_template (map (adjacent_item contract tag key closed) (x ∷ xs))
+
 -- ---- maps
 
 -- that of whole numbers first, and once
@@ -259,6 +282,7 @@ template_of basis (shape.map_from key value) = values_template (key_options basi
 template_of basis (shape.external xs) = external_template basis.contract xs
 template_of basis (shape.untagged xs) = untagged_template basis.contract basis.titles xs
 template_of basis (shape.internal tag closed xs) = internal_template basis.contract tag closed xs
+template_of basis (shape.adjacent tag key closed xs) = adjacent_template basis.contract tag key closed xs
 template_of basis (shape.literal d) = finished (literal_document d)
 
 -- a row's document, with its notes

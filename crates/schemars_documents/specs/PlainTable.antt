@@ -81,6 +81,7 @@ parts_in (shape.struct x) = x.flatten
 parts_in (shape.external xs) = variant_parts xs
 parts_in (shape.untagged xs) = variant_parts xs
 parts_in (shape.internal tag closed xs) = variant_parts xs
+parts_in (shape.adjacent tag content closed xs) = variant_parts xs
 parts_in _ = []
 
 abbrev pub IsOpenStruct : Option Entry → Type 0
@@ -126,6 +127,7 @@ IsPlainShape (shape.map_from key value) = Unit {0}
 IsPlainShape (shape.external xs) = AreDistinctVariants xs × ArePlainVariants xs
 IsPlainShape (shape.untagged xs) = ArePlainVariants xs
 IsPlainShape (shape.internal tag closed xs) = AreDistinctVariants xs × ArePlainVariants xs × AreTagged tag xs
+IsPlainShape (shape.adjacent tag content closed xs) = (bytes_eq tag content ≡ false) × AreDistinctVariants xs × ArePlainVariants xs
 IsPlainShape (shape.literal d) = IsPlainLiteral d
 
 abbrev pub IsPlainEntry : List Row → Option Entry → Type 0
@@ -134,7 +136,8 @@ IsPlainEntry rows (Some e) = AreNotes e.notes × IsPlainShape (spread_in rows e.
 
 -- Literals are plain, the notes of rows, fields and variants are annotations alone, and what is flattened is an open struct.
 -- The names of a struct's own and flattened fields are all different, and those of the variants that are told by their
--- names; what is tagged inside its map is a unit or has fields, none of them named as the tag.
+-- names; what is tagged inside its map is a unit or has fields, none of them named as the tag. Where name and content are
+-- under two keys, the keys are different.
 abbrev pub IsPlainTable : List Row → Type 0
 IsPlainTable rows = (n : ℕ) → IsPlainEntry rows (entry_at rows n)
 
@@ -195,6 +198,7 @@ ShapeHasNamesApart names (shape.struct x) = HasNamesApart names [] x
 ShapeHasNamesApart names (shape.external xs) = VariantsHaveNamesApart names [] xs
 ShapeHasNamesApart names (shape.untagged xs) = VariantsHaveNamesApart names [] xs
 ShapeHasNamesApart names (shape.internal tag closed xs) = VariantsHaveNamesApart names ((tag ∷ []) ∷ []) xs
+ShapeHasNamesApart names (shape.adjacent tag content closed xs) = VariantsHaveNamesApart names [] xs
 ShapeHasNamesApart names _ = Unit {0}
 
 -- a unit without notes
@@ -314,6 +318,7 @@ ShapeHasNoFloat (shape.map_from key value) = Unit {0}
 ShapeHasNoFloat (shape.external xs) = VariantsHaveNoFloat xs
 ShapeHasNoFloat (shape.untagged xs) = VariantsHaveNoFloat xs
 ShapeHasNoFloat (shape.internal tag closed xs) = VariantsHaveNoFloat xs
+ShapeHasNoFloat (shape.adjacent tag content closed xs) = VariantsHaveNoFloat xs
 ShapeHasNoFloat (shape.literal d) = has_float d ≡ false
 
 abbrev pub EntryHasNoFloat : Option Entry → Type 0

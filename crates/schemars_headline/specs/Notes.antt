@@ -23,6 +23,7 @@ IsNotedShape (shape.struct x) = AreNoted x.list
 IsNotedShape (shape.external xs) = AreNotedVariants xs
 IsNotedShape (shape.untagged xs) = AreNotedVariants xs
 IsNotedShape (shape.internal tag closed xs) = AreNotedVariants xs
+IsNotedShape (shape.adjacent tag content closed xs) = AreNotedVariants xs
 IsNotedShape (shape.literal d) = IsPlainLiteral d
 IsNotedShape _ = Unit {0}
 

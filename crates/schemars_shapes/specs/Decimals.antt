@@ -2,7 +2,7 @@
 use Rattle.std.specs.Prelude.{List, [], ◌∷◌, Bool, false, ◌||◌}
 use Rattle.serde_json.specs.Written.{has_float, members_have_float}
 use Rattle.schemars_shapes.specs.Shape.{Shape, Field, Entry, Payload, Variant, struct, external, untagged, internal}
-use Rattle.schemars_shapes.specs.Shape.{literal, struct_payload}
+use Rattle.schemars_shapes.specs.Shape.{adjacent, literal, struct_payload}
 
 abbrev pub fields_have_float : List Field → Bool
 fields_have_float [] = false
@@ -21,6 +21,7 @@ shape_has_float (struct x) = fields_have_float x.list
 shape_has_float (external xs) = variants_have_float xs
 shape_has_float (untagged xs) = variants_have_float xs
 shape_has_float (internal tag closed xs) = variants_have_float xs
+shape_has_float (adjacent tag content closed xs) = variants_have_float xs
 shape_has_float (literal d) = has_float d
 shape_has_float _ = false
 

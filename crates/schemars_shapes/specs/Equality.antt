@@ -6,7 +6,7 @@ use Rattle.schemars_shapes.specs.IntKind.{kind_eq}
 use Rattle.schemars_shapes.specs.Shape.{Required, Field, Flattened, Fields, Shape, Entry, null, bool, int, non_zero, number, text, char}
 use Rattle.schemars_shapes.specs.Shape.{formatted, any, bytes, schema_itself, option, seq, set, array, up_to, tuple}
 use Rattle.schemars_shapes.specs.Shape.{struct, newtype, result, bound, range, either, map_from, external, untagged}
-use Rattle.schemars_shapes.specs.Shape.{internal, literal}
+use Rattle.schemars_shapes.specs.Shape.{internal, adjacent, literal}
 use Rattle.schemars_shapes.specs.Shape.{Payload, Variant, no_payload, newtype_payload, tuple_payload, struct_payload}
 
 abbrev pub bool_eq : Bool → Bool → Bool
@@ -71,6 +71,8 @@ shape_eq (map_from m e) (map_from n f) = (m == n) && (e == f)
 shape_eq (external xs) (external ys) = variants_eq xs ys
 shape_eq (untagged xs) (untagged ys) = variants_eq xs ys
 shape_eq (internal tag closed xs) (internal key sealed ys) = bytes_eq tag key && (bool_eq closed sealed && variants_eq xs ys)
+shape_eq (adjacent tag content closed xs) (adjacent key other sealed ys) =
+    bytes_eq tag key && (bytes_eq content other && (bool_eq closed sealed && variants_eq xs ys))
 shape_eq (literal d) (literal e) = json_eq d e
 shape_eq _ _ = false
 

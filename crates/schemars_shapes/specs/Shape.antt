@@ -16,6 +16,7 @@ use Rattle.schemars_shapes.specs.declared.variant.Internal as src-internal
 use Rattle.schemars_shapes.specs.declared.variant.InternalVariant as src-internal_variant
 use Rattle.schemars_shapes.specs.declared.variant.InternalPayload as src-internal_payload
 use Rattle.schemars_shapes.specs.declared.variant.InternalPayload.TheVariants as inside
+use Rattle.schemars_shapes.specs.declared.variant.Adjacent as src-adjacent
 use Rattle.schemars_shapes.specs.declared.shape.Shape as src-shape
 use Rattle.schemars_shapes.specs.declared.shape.Shape.TheVariants as src
 
@@ -55,7 +56,8 @@ pub record Variant : Type 0 where
 
 -- Numbers are those of rows. An array has just so many items, and `up_to` has so many at most. A result has the row of `Ok`
 -- first, `either` that of `Left`, and a map that of its keys. The variants of an enum are tagged by their names, or by nothing,
--- or by a member of their own maps; there a unit may be closed to other keys. A literal is given as a schema.
+-- or by a member of their own maps; there a unit may be closed to other keys. Or the name is under a first key and what the variant
+-- has under a second, and the map may be closed to other keys. A literal is given as a schema.
 pub data Shape : Type 0 where
   null : Shape
   bool : Shape
@@ -84,6 +86,7 @@ pub data Shape : Type 0 where
   external : List Variant → Shape
   untagged : List Variant → Shape
   internal : Text → Bool → List Variant → Shape
+  adjacent : Text → Text → Bool → List Variant → Shape
   literal : Data → Shape
 
 pub record Entry : Type 0 where
@@ -125,6 +128,10 @@ internal_variant_of x =
 abbrev pub internal_view : src-internal.Internal → Text × Bool × List Variant
 internal_view x = (string_bytes x.tag, x.closed, map internal_variant_of x.variants.items)
 
+-- the keys of name and content, whether other keys are excluded, and the variants
+abbrev pub adjacent_view : src-adjacent.Adjacent → Text × Text × Bool × List Variant
+adjacent_view x = (string_bytes x.tag, string_bytes x.content, x.closed, map variant_of x.variants.items)
+
 abbrev pub shape_of : src-shape.Shape → Shape
 shape_of src.Null = null
 shape_of src.Bool = bool
@@ -153,6 +160,8 @@ shape_of (src.Map key value) = map_from key value
 shape_of (src.External variants) = external (map variant_of variants.items)
 shape_of (src.Untagged variants) = untagged (map variant_of variants.items)
 shape_of (src.Internal x) = internal (internal_view x).0 (internal_view x).1 (internal_view x).2
+shape_of (src.Adjacent x) =
+    adjacent (adjacent_view x).0 (adjacent_view x).1 (adjacent_view x).2 (adjacent_view x).3
 shape_of (src.Literal schema) = literal schema
 
 abbrev pub entry_of : src-entry.TypeEntry → Entry
@@ -231,6 +240,7 @@ numbers_of (map_from key value) = key ∷ value ∷ []
 numbers_of (external xs) = variant_numbers xs
 numbers_of (untagged xs) = variant_numbers xs
 numbers_of (internal tag closed xs) = variant_numbers xs
+numbers_of (adjacent tag content closed xs) = variant_numbers xs
 numbers_of _ = []
 
 -- the rows whose values, or whose members, a shape has itself
@@ -241,6 +251,7 @@ same_value_numbers (struct x) = flattened_rows x
 same_value_numbers (external xs) = of_variants payload_flattened xs
 same_value_numbers (untagged xs) = of_variants payload_same xs
 same_value_numbers (internal tag closed xs) = of_variants payload_same xs
+same_value_numbers (adjacent tag content closed xs) = of_variants payload_flattened xs
 same_value_numbers _ = []
 
 -- the rows that are flattened into a shape's maps
@@ -249,6 +260,7 @@ flattened_numbers (struct x) = flattened_rows x
 flattened_numbers (external xs) = of_variants payload_flattened xs
 flattened_numbers (untagged xs) = of_variants payload_flattened xs
 flattened_numbers (internal tag closed xs) = of_variants payload_flattened xs
+flattened_numbers (adjacent tag content closed xs) = of_variants payload_flattened xs
 flattened_numbers _ = []
 
 -- the rows that a shape asks at once, in place or not: that of a map's keys, and those whose members stand in its own maps
@@ -258,6 +270,7 @@ asked_numbers (struct x) = flattened_rows x
 asked_numbers (external xs) = of_variants payload_flattened xs
 asked_numbers (untagged xs) = of_variants payload_flattened xs
 asked_numbers (internal tag closed xs) = of_variants payload_same xs
+asked_numbers (adjacent tag content closed xs) = of_variants payload_flattened xs
 asked_numbers _ = []
 
 -- the row in an Option
@@ -273,10 +286,11 @@ payload_names _ = []
 abbrev pub variant_names : List Variant → List (List Text)
 variant_names xs = map (λ x. x.name) xs ∷ map (λ x. payload_names x.payload) xs
 
--- the lists of names in a shape: those of its fields, or of its variants and then of the fields of each
+-- the lists of names in a shape: the keys of name and content, those of its fields, or of its variants and then of the fields of each
 abbrev pub names_of : Shape → List (List Text)
 names_of (struct x) = map (λ f. f.name) x.list ∷ []
 names_of (external xs) = variant_names xs
 names_of (untagged xs) = variant_names xs
 names_of (internal tag closed xs) = variant_names xs
+names_of (adjacent tag content closed xs) = (tag ∷ content ∷ []) ∷ variant_names xs
 names_of _ = []

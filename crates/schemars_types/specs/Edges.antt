@@ -73,6 +73,7 @@ height rows n = longest (direct_targets rows) (length rows) n
 unfoldable pub rank : List Row → ℕ → ℕ
 rank rows n = longest (same_value_targets rows) (length rows) n
 
--- the lists of names in row n's entry: those of its fields, or of its variants and then of the fields of each
+-- the lists of names in row n's entry: the keys of name and content, those of its fields, or of its variants and then of the fields
+-- of each
 abbrev pub names_at : List Row → ℕ → List (List Text)
 names_at rows n = option_map_or (λ e. names_of e.shape) (entry_at rows n) []

@@ -1,7 +1,7 @@
 -- The fields of a struct together with those of the structs that are flattened into it, and the enums among its members.
 use Rattle.std.specs.Prelude.{ℕ, zero, suc, List, [], ◌∷◌, ◌++◌, map, length, true, Some, None, is_some, ◌&&◌, if◌then◌else◌}
 use Rattle.std.specs.Option.{option_map_or}
-use Rattle.schemars_shapes.specs.Shape.{Required, Field, Flattened, Fields, Shape, struct, external, untagged, internal}
+use Rattle.schemars_shapes.specs.Shape.{Required, Field, Flattened, Fields, Shape, struct, external, untagged, internal, adjacent}
 use Rattle.schemars_shapes.specs.Shape.{Payload, Variant, no_payload, newtype_payload, tuple_payload, struct_payload}
 use Rattle.schemars_types.specs.Rows.{Row, entry_at}
 use Rattle.schemars_types.specs.Edges.{option_at}
@@ -109,6 +109,7 @@ spread part enums (struct x) = struct (spread_fields part enums x)
 spread part enums (external xs) = external (map (spread_variant part enums) xs)
 spread part enums (untagged xs) = untagged (map (spread_variant part enums) xs)
 spread part enums (internal tag closed xs) = internal tag closed (map (spread_variant part enums) xs)
+spread part enums (adjacent tag content closed xs) = adjacent tag content closed (map (spread_variant part enums) xs)
 spread part enums s = s
 
 -- in a table

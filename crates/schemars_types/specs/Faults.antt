@@ -9,7 +9,7 @@ use Rattle.schemars_types.specs.Edges.{RefersWithin, DirectEdge, SameValueEdge, 
 use Rattle.schemars_types.specs.declared.error.TypesError.{TypesError}
 use Rattle.schemars_types.specs.declared.error.TypesError.TheVariants.{UndefinedType, RepeatedName, DirectCycle, EmptyCycle}
 
--- a list of fields or of variants in row n's entry has a name twice
+-- a list of names in row n's entry has one twice: its fields, its variants, or the keys of an adjacently tagged enum
 abbrev pub HasRepeated : List Row → ℕ → Type 0
 HasRepeated rows n = (name : Text) × IsFirstRepeated (names_at rows n) name
 

@@ -8,7 +8,7 @@ use Rattle.std.specs.Option.{option_map_or}
 use Rattle.schemars_schema.specs.Json.{Text}
 use Rattle.schemars_schema.specs.OrderedText.{is_listed}
 use Rattle.schemars_schema.specs.Acceptance.{Patterns, matches, texts_in, count_of_number}
-use Rattle.schemars_shapes.specs.Shape.{Shape, any, int, non_zero, newtype, external, internal, untagged, literal}
+use Rattle.schemars_shapes.specs.Shape.{Shape, any, int, non_zero, newtype, external, internal, adjacent, untagged, literal}
 use Rattle.schemars_shapes.specs.Shape.{Variant, Payload, no_payload, newtype_payload, tuple_payload, struct_payload}
 use Rattle.schemars_types.specs.Rows.{Row, entry_at}
 use Rattle.schemars_shapes.specs.declared.shape.IntegerKeys.{IntegerKeys}
@@ -51,9 +51,10 @@ abbrev pub external_options : List Variant → Option KeyOptions
 external_options [] = None
 external_options (x ∷ xs) = Some (if are_names (x ∷ xs) then keys false (map (λ y. y.name) (x ∷ xs)) None [] else any_text)
 
-abbrev pub internal_options : List Variant → Option KeyOptions
-internal_options [] = None
-internal_options (x ∷ xs) = Some any_text
+-- the values of the variants are maps
+abbrev pub tagged_options : List Variant → Option KeyOptions
+tagged_options [] = None
+tagged_options (x ∷ xs) = Some any_text
 
 -- the texts of a list of texts alone
 abbrev pub texts_options : Items → KeyOptions
@@ -111,7 +112,8 @@ shape_options part (int kind) = Some (keys false [] (Some (integers_of kind)) []
 shape_options part (non_zero kind) = Some (keys false [] (Some Signed) [])
 shape_options part (newtype n) = part n
 shape_options part (external xs) = external_options xs
-shape_options part (internal tag closed xs) = internal_options xs
+shape_options part (internal tag closed xs) = tagged_options xs
+shape_options part (adjacent tag content closed xs) = tagged_options xs
 shape_options part (untagged xs) = untagged_options part xs
 shape_options part (literal d) = literal_options d
 shape_options part _ = Some any_text

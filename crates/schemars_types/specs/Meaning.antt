@@ -14,7 +14,7 @@ use Rattle.schemars_schema.specs.Literal.{has_literal}
 use Rattle.schemars_shapes.specs.Shape.{Required, Field, Flattened, Shape, null, bool, int, non_zero, number, text, char}
 use Rattle.schemars_shapes.specs.Shape.{formatted, any, bytes, schema_itself, option, seq, set, array as array_shape}
 use Rattle.schemars_shapes.specs.Shape.{up_to, tuple, struct, newtype, result, bound}
-use Rattle.schemars_shapes.specs.Shape.{range, either, map_from, external, untagged, internal, literal, needed}
+use Rattle.schemars_shapes.specs.Shape.{range, either, map_from, external, untagged, internal, adjacent, literal, needed}
 use Rattle.schemars_shapes.specs.Shape.{Payload, Variant, no_payload, newtype_payload, tuple_payload, struct_payload}
 use Rattle.schemars_types.specs.KeyOptions.{KeyOptions, is_key_allowed, key_options}
 use Rattle.schemars_types.specs.Rows.{Row, entry_at}
@@ -180,6 +180,27 @@ has_internal contract part choices tag closed v x = elim x.payload [
   | struct_payload y ↦ has_tagged contract part (offers choices y.flatten v) tag y.list y.closed x.name v
 ]
 
+-- under the tag is this name, and under the other key a value that passes; the rest is free where there is no end to the keys
+abbrev pub adjacent_fits : Text → Text → Text → (Data → Bool) → Bool → Text → Data → Bool
+adjacent_fits tag name content p closed k v =
+    if bytes_eq tag k then is_text name v
+    else if bytes_eq content k then p v
+    else not closed
+
+-- a map with both
+abbrev pub has_beside : Text → Text → Text → (Data → Bool) → Bool → Data → Bool
+has_beside tag name content p closed v = holds (as_object v) (λ ms. is_some (get_member tag ms)
+    && (is_some (get_member content ms) && every_member (adjacent_fits tag name content p closed) ms))
+
+-- a unit is its name under the tag, and another variant has its payload under the other key
+abbrev pub has_adjacent : Contract → (ℕ → Data → Bool) → (ℕ → Data → List Choice) → Text → Text → Bool → Data → Variant → Bool
+has_adjacent contract part choices tag content closed v x = elim x.payload [
+  | no_payload ↦ has_tagged contract part [] tag [] closed x.name v
+  | newtype_payload n ↦ has_beside tag x.name content (part n) closed v
+  | tuple_payload ns ↦ has_beside tag x.name content (has_payload contract part choices (tuple_payload ns)) closed v
+  | struct_payload y ↦ has_beside tag x.name content (has_payload contract part choices (struct_payload y)) closed v
+]
+
 -- ---- the variants of a flattened enum
 
 -- a map with this member, whose value passes
@@ -258,6 +279,8 @@ has_shape contract patterns keys choices part (map_from key value) v = has_keys 
 has_shape contract patterns keys choices part (external xs) v = list_any (has_variant contract part choices v) xs
 has_shape contract patterns keys choices part (untagged xs) v = list_any (λ x. has_payload contract part choices x.payload v) xs
 has_shape contract patterns keys choices part (internal tag closed xs) v = list_any (has_internal contract part choices tag closed v) xs
+has_shape contract patterns keys choices part (adjacent tag content closed xs) v =
+    list_any (has_adjacent contract part choices tag content closed v) xs
 has_shape contract patterns keys choices part (literal d) v = has_literal patterns d v
 
 unfoldable mutual
