@@ -14,7 +14,7 @@ use Rattle.schemars_shapes.specs.Shape.{Required, Field, Flattened, Fields, Shap
 use Rattle.schemars_shapes.specs.Shape.{text, char, formatted, any, bytes, schema_itself, option, seq, set}
 use Rattle.schemars_shapes.specs.Shape.{array as array_shape, up_to, tuple, struct, newtype}
 use Rattle.schemars_shapes.specs.Shape.{result, bound, range, either, map_from, external}
-use Rattle.schemars_shapes.specs.Shape.{untagged, internal, literal, Payload, Variant, no_payload, newtype_payload}
+use Rattle.schemars_shapes.specs.Shape.{untagged, internal, adjacent, literal, Payload, Variant, no_payload, newtype_payload}
 use Rattle.schemars_shapes.specs.Shape.{tuple_payload, struct_payload}
 use Rattle.schemars_shapes.specs.Equality.{bool_eq, required_eq, field_eq, flattened_eq, fields_eq, list_eq, payload_eq, variant_eq, variants_eq, shape_eq, entry_eq}
 
@@ -147,6 +147,18 @@ same_shape (internal tag closed xs) (internal key sealed ys) h =
     let ends : closed ≡ sealed = truth_same closed sealed (and_left (bool_eq closed sealed) (variants_eq xs ys) rest) in
     let same : xs ≡ ys = same_variants xs ys (and_right (bool_eq closed sealed) (variants_eq xs ys) rest) in
     λ i. internal (tags i) (ends i) (same i)
+same_shape (adjacent tag content closed xs) (adjacent key other sealed ys) h =
+    let tags : tag ≡ key = (bytes_eq-Decides tag key).0
+    (and_left (bytes_eq tag key) (bytes_eq content other && (bool_eq closed sealed && variants_eq xs ys)) h) in
+    let rest : (bytes_eq content other && (bool_eq closed sealed && variants_eq xs ys)) ≡ true =
+    and_right (bytes_eq tag key) (bytes_eq content other && (bool_eq closed sealed && variants_eq xs ys)) h in
+    let contents : content ≡ other = (bytes_eq-Decides content other).0
+    (and_left (bytes_eq content other) (bool_eq closed sealed && variants_eq xs ys) rest) in
+    let more : (bool_eq closed sealed && variants_eq xs ys) ≡ true =
+    and_right (bytes_eq content other) (bool_eq closed sealed && variants_eq xs ys) rest in
+    let ends : closed ≡ sealed = truth_same closed sealed (and_left (bool_eq closed sealed) (variants_eq xs ys) more) in
+    let same : xs ≡ ys = same_variants xs ys (and_right (bool_eq closed sealed) (variants_eq xs ys) more) in
+    λ i. adjacent (tags i) (contents i) (ends i) (same i)
 same_shape (literal d) (literal e) h = ap literal (json_eq-same d e h)
 same_shape s t h = cc
 

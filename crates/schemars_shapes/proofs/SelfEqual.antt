@@ -17,7 +17,7 @@ use Rattle.std.specs.Cmp.Lexicographic.{pointwise}
 use Rattle.schemars_shapes.specs.Shape.{Field, Flattened, Fields, Shape, Entry, null, bool, int, non_zero, number, text, char, formatted}
 use Rattle.schemars_shapes.specs.Shape.{any, bytes, schema_itself, option, seq, set, array as array_shape, up_to, tuple}
 use Rattle.schemars_shapes.specs.Shape.{struct, newtype, result, bound, range, either, map_from, external, untagged}
-use Rattle.schemars_shapes.specs.Shape.{internal, literal}
+use Rattle.schemars_shapes.specs.Shape.{internal, adjacent, literal}
 use Rattle.schemars_shapes.specs.Shape.{Payload, Variant, no_payload, newtype_payload, tuple_payload, struct_payload}
 use Rattle.schemars_shapes.specs.Equality.{bool_eq, field_eq, flattened_eq, fields_eq, list_eq, payload_eq, variants_eq, shape_eq, entry_eq}
 use Rattle.schemars_shapes.specs.Decimals.{fields_have_float, payload_has_float, variants_have_float, shape_has_float, entry_has_float}
@@ -128,6 +128,8 @@ shape_eq-refl (map_from n m) h = rw ((Decides-eqb n n).1 refl, (Decides-eqb m m)
 shape_eq-refl (external xs) h = variants_eq-refl xs h
 shape_eq-refl (untagged xs) h = variants_eq-refl xs h
 shape_eq-refl (internal tag closed xs) h = rw ((bytes_eq-Decides tag tag).1 refl, bool_eq-refl closed, variants_eq-refl xs h) refl
+shape_eq-refl (adjacent tag content closed xs) h =
+    rw ((bytes_eq-Decides tag tag).1 refl, (bytes_eq-Decides content content).1 refl, bool_eq-refl closed, variants_eq-refl xs h) refl
 shape_eq-refl (literal d) h = json_eq-refl d h
 
 pub entry_eq-refl : (e : Entry) → entry_has_float e ≡ false → entry_eq e e ≡ true

@@ -3,7 +3,7 @@ ghost use Rattle.std.specs.Prelude.{◌≡◌, map, IfOk};
 ghost use Rattle.schemars_shapes.specs.Shape.{variant_of, internal_variant_of};
 
 use crate::shape::{Field, Fields, Shape, TypeEntry};
-use crate::variant::{Internal, InternalPayload, InternalVariant, Payload, Variant};
+use crate::variant::{Adjacent, Internal, InternalPayload, InternalVariant, Payload, Variant};
 use std::alloc::AllocError;
 
 impl Clone for TypeEntry {
@@ -54,6 +54,7 @@ impl Clone for Shape {
             Shape::External(variants) => Shape::External(copies(variants)?),
             Shape::Untagged(variants) => Shape::Untagged(copies(variants)?),
             Shape::Internal(internal) => Shape::Internal(internal.clone()?),
+            Shape::Adjacent(adjacent) => Shape::Adjacent(adjacent.clone()?),
             Shape::Literal(schema) => Shape::Literal(schema.clone()?),
         })
     }
@@ -113,6 +114,21 @@ fn internal_copies(variants: &Vec<InternalVariant>) -> Result<Vec<InternalVarian
         ≡ map internal_variant_of variants.now.items) }
 {
     variants.clone()
+}
+
+impl Clone for Adjacent {
+    ghost use Rattle.schemars_shapes.specs.Shape.{adjacent_view};
+
+    ghost is_clone = { λ x y. adjacent_view y ≡ adjacent_view x };
+
+    fn clone(&self) -> Result<Adjacent, AllocError> {
+        Ok(Adjacent {
+            tag: self.tag.clone()?,
+            content: self.content.clone()?,
+            closed: self.closed,
+            variants: copies(&self.variants)?,
+        })
+    }
 }
 
 impl Clone for InternalVariant {

@@ -1,4 +1,5 @@
 //! The edges of a table: the rows to which a shape refers.
+pub(crate) mod adjacent;
 pub(crate) mod fields;
 pub(crate) mod internal;
 pub(crate) mod names;

@@ -13,4 +13,6 @@ pub use edges::unknown::first_unknown_among;
 pub use shape::{
     Field, Fields, Flattened, IntKind, IntegerKeys, Required, Shape, TypeEntry, TypeNo,
 };
-pub use variant::{Internal, InternalPayload, InternalVariant, Payload, Variant, is_bare_unit};
+pub use variant::{
+    Adjacent, Internal, InternalPayload, InternalVariant, Payload, Variant, is_bare_unit,
+};

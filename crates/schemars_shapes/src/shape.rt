@@ -7,7 +7,7 @@ ghost use Rattle.std.specs.Cmp.Lexicographic.{pointwise};
 ghost use Rattle.schemars_shapes.specs.Equality.{shape_eq, list_eq, field_eq, flattened_eq};
 ghost use Rattle.schemars_shapes.specs.Equality.{fields_eq, entry_eq};
 
-use crate::variant::{Internal, Variant, variants_equal};
+use crate::variant::{Adjacent, Internal, Variant, variants_equal};
 use schemars_schema::{Schema, json_eq, json_eq_members};
 use serde_json::{Map, Value};
 use std::alloc::Global;
@@ -173,6 +173,8 @@ pub enum Shape {
     Untagged(Vec<Variant>),
     /// a map with the name of a variant under a tag, and beside it what the variant has
     Internal(Internal),
+    /// a map with the name of a variant under one key and what the variant has under another
+    Adjacent(Adjacent),
     /// a value that this schema accepts
     Literal(Schema),
 }
@@ -254,6 +256,7 @@ impl Shape {
             (Shape::External(a), Shape::External(b)) => variants_equal(a, b),
             (Shape::Untagged(a), Shape::Untagged(b)) => variants_equal(a, b),
             (Shape::Internal(a), Shape::Internal(b)) => a.is_equal(b),
+            (Shape::Adjacent(a), Shape::Adjacent(b)) => a.is_equal(b),
             (Shape::Literal(a), Shape::Literal(b)) => json_eq(a.as_value(), b.as_value()),
             _ => false,
         }

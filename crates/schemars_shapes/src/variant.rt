@@ -1,7 +1,7 @@
 //! The variants of enums.
 ghost use Rattle.std.specs.Prelude.{◌≡◌, ◌&&◌, map, bytes_eq};
 ghost use Rattle.schemars_shapes.specs.Shape.{payload_of, variant_of, internal_payload_of};
-ghost use Rattle.schemars_shapes.specs.Shape.{internal_variant_of, internal_view};
+ghost use Rattle.schemars_shapes.specs.Shape.{internal_variant_of, internal_view, adjacent_view};
 ghost use Rattle.schemars_shapes.specs.Equality.{bool_eq, payload_eq, variant_eq, variants_eq};
 ghost use Rattle.schemars_shapes.specs.Units.{is_bare_unit};
 
@@ -47,6 +47,19 @@ pub struct InternalVariant {
     /// Annotations that are inserted into the variant's schema.
     pub notes: Map<String, Value>,
     pub payload: InternalPayload,
+}
+
+/// The variants of an enum whose values are maps, with the variant's name under one key and what
+/// the variant has under another.
+#[derive(Drop)]
+pub struct Adjacent {
+    /// the key of the name
+    pub tag: String,
+    /// the key of what a variant has, which is not there for a unit
+    pub content: String,
+    /// No other keys are allowed.
+    pub closed: bool,
+    pub variants: Vec<Variant>,
 }
 
 /// What the map of a variant has beside the tag.
@@ -110,6 +123,20 @@ pub(crate) fn variants_equal(a: &[Variant], b: &[Variant]) -> bool
         }
     }
     others.next().is_none()
+}
+
+impl Adjacent {
+    pub(crate) fn is_equal(&self, other: &Adjacent) -> bool
+        ensures { result ≡ (bytes_eq (adjacent_view self.now).0 (adjacent_view other.now).0
+            && (bytes_eq (adjacent_view self.now).1 (adjacent_view other.now).1
+            && (bool_eq (adjacent_view self.now).2 (adjacent_view other.now).2
+            && variants_eq (adjacent_view self.now).3 (adjacent_view other.now).3))) }
+    {
+        self.tag == other.tag
+            && self.content == other.content
+            && self.closed == other.closed
+            && variants_equal(&self.variants, &other.variants)
+    }
 }
 
 impl InternalPayload {

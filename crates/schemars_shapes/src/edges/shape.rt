@@ -6,7 +6,7 @@ ghost use Rattle.schemars_shapes.specs.Repeated.{AreDistinctLists, IsFirstRepeat
 
 use crate::edges::unknown::first_unknown_among;
 use crate::edges::variant::{Rows, first_unknown_in, repeated_in, rows_in};
-use crate::edges::{fields, internal};
+use crate::edges::{adjacent, fields, internal};
 use crate::shape::{Shape, TypeNo};
 use std::alloc::{AllocError, Global};
 
@@ -23,6 +23,7 @@ pub fn first_unknown(shape: &Shape, len: usize) -> Option<TypeNo>
         Shape::Map(key, value) => first_unknown_among(&[*key, *value], len),
         Shape::External(variants) | Shape::Untagged(variants) => first_unknown_in(variants, len),
         Shape::Internal(internal) => internal::first_unknown(internal, len),
+        Shape::Adjacent(adjacent) => first_unknown_in(&adjacent.variants, len),
         Shape::Tuple(parts) => first_unknown_among(parts, len),
         Shape::Struct(fields) => fields::first_unknown(fields, len),
         Shape::Null | Shape::Bool | Shape::Int(_) | Shape::NonZero(_) => None,
@@ -48,6 +49,7 @@ pub fn numbers(alloc: Global, shape: &Shape) -> Result<Vec<TypeNo>, AllocError>
             variants,
         ),
         Shape::Internal(internal) => internal::rows(alloc, internal, Rows::All),
+        Shape::Adjacent(adjacent) => rows_in(alloc, Rows::All, &adjacent.variants),
         Shape::Tuple(parts) => parts.clone(),
         Shape::Struct(fields) => fields::numbers(alloc, fields),
         Shape::Null | Shape::Bool | Shape::Int(_) | Shape::NonZero(_) => Ok(Vec::new(alloc)),
@@ -66,6 +68,7 @@ pub fn same_value_numbers(alloc: Global, shape: &Shape) -> Result<Vec<TypeNo>, A
         Shape::External(variants) => rows_in(alloc, Rows::Flattened, variants),
         Shape::Untagged(variants) => rows_in(alloc, Rows::Same, variants),
         Shape::Internal(internal) => internal::rows(alloc, internal, Rows::Same),
+        Shape::Adjacent(adjacent) => rows_in(alloc, Rows::Flattened, &adjacent.variants),
         Shape::Null | Shape::Bool | Shape::Int(_) | Shape::NonZero(_) => Ok(Vec::new(alloc)),
         Shape::Number | Shape::Text | Shape::Char | Shape::Formatted(_) => Ok(Vec::new(alloc)),
         Shape::Any | Shape::Bytes | Shape::SchemaItself | Shape::Literal(_) => Ok(Vec::new(alloc)),
@@ -87,6 +90,7 @@ pub fn flattened_numbers(alloc: Global, shape: &Shape) -> Result<Vec<TypeNo>, Al
             variants,
         ),
         Shape::Internal(internal) => internal::rows(alloc, internal, Rows::Flattened),
+        Shape::Adjacent(adjacent) => rows_in(alloc, Rows::Flattened, &adjacent.variants),
         Shape::Null | Shape::Bool | Shape::Int(_) | Shape::NonZero(_) => Ok(Vec::new(alloc)),
         Shape::Number | Shape::Text | Shape::Char | Shape::Formatted(_) => Ok(Vec::new(alloc)),
         Shape::Any | Shape::Bytes | Shape::SchemaItself | Shape::Literal(_) => Ok(Vec::new(alloc)),
@@ -111,6 +115,7 @@ pub fn asked_numbers(alloc: Global, shape: &Shape) -> Result<Vec<TypeNo>, AllocE
             variants,
         ),
         Shape::Internal(internal) => internal::rows(alloc, internal, Rows::Same),
+        Shape::Adjacent(adjacent) => rows_in(alloc, Rows::Flattened, &adjacent.variants),
         Shape::Null | Shape::Bool | Shape::Int(_) | Shape::NonZero(_) => Ok(Vec::new(alloc)),
         Shape::Number | Shape::Text | Shape::Char | Shape::Formatted(_) => Ok(Vec::new(alloc)),
         Shape::Any | Shape::Bytes | Shape::SchemaItself | Shape::Literal(_) => Ok(Vec::new(alloc)),
@@ -122,7 +127,8 @@ pub fn asked_numbers(alloc: Global, shape: &Shape) -> Result<Vec<TypeNo>, AllocE
 }
 
 /// The first name that is met a second time: in the list of fields, or in that of variants, or
-/// else in the list of fields of a variant.
+/// else in the list of fields of a variant. The keys of an adjacently tagged enum come before its
+/// variants.
 pub fn repeated_name(alloc: Global, shape: &Shape) -> Result<Option<String>, AllocError>
     ensures { IfOk result (λ r. MatchOption r (AreDistinctLists (names_of (shape_of shape.now)))
         (λ s. IsFirstRepeated (names_of (shape_of shape.now)) (string_bytes s))) }
@@ -131,6 +137,7 @@ pub fn repeated_name(alloc: Global, shape: &Shape) -> Result<Option<String>, All
         Shape::Struct(fields) => fields::repeated_name(alloc, fields),
         Shape::External(variants) | Shape::Untagged(variants) => repeated_in(alloc, variants),
         Shape::Internal(internal) => internal::repeated_name(alloc, internal),
+        Shape::Adjacent(adjacent) => adjacent::repeated_name(alloc, adjacent),
         Shape::Null | Shape::Bool | Shape::Int(_) | Shape::NonZero(_) => Ok(None),
         Shape::Number | Shape::Text | Shape::Char | Shape::Formatted(_) => Ok(None),
         Shape::Any | Shape::Bytes | Shape::SchemaItself => Ok(None),
