@@ -18,14 +18,15 @@ use Rattle.schemars_shapes.specs.declared.shape.Shape as src-shape
 use Rattle.schemars_shapes.specs.declared.shape.Shape.TheVariants as src
 use Rattle.schemars_shapes.specs.declared.variant.Variant as src-variant
 use Rattle.schemars_shapes.specs.declared.variant.Internal as src-internal
+use Rattle.schemars_shapes.specs.declared.variant.Adjacent as src-adjacent
 use Rattle.schemars_shapes.specs.declared.variant.InternalVariant as src-internal-variant
-use Rattle.schemars_shapes.specs.Shape.{Variant, shape_of, internal_view, variant_of, internal_variant_of}
+use Rattle.schemars_shapes.specs.Shape.{Variant, shape_of, internal_view, adjacent_view, variant_of, internal_variant_of}
 use Rattle.schemars_types.specs.Rows.{Row}
 use Rattle.schemars_shapes.specs.declared.shape.IntegerKeys.{IntegerKeys}
 use Rattle.schemars_shapes.specs.declared.shape.IntegerKeys.TheVariants.{Unsigned, Signed}
 use Rattle.schemars_types.specs.KeyOptions.{KeyOptions, keys, any_text, or_any_text, either_integers, either_options}
 use Rattle.schemars_types.specs.KeyOptions.{distinct_options, member_options, members_options, untagged_options, shape_options}
-use Rattle.schemars_types.specs.KeyOptions.{external_options, internal_options, literal_options, typed_options}
+use Rattle.schemars_types.specs.KeyOptions.{external_options, tagged_options, literal_options, typed_options}
 use Rattle.schemars_types.specs.Found.{adding, some_takes_all, options_at, AreAmong, HoldsRows}
 use Rattle.schemars_types.proofs.Texts.{listed_more, listed_own, nothing_joins, insert_all-append, once_by_joining}
 
@@ -196,9 +197,13 @@ external_takes [] = refl
 external_takes (x ∷ xs) = not_empty x xs
 
 pub internal_takes : (xs : List src-internal-variant.InternalVariant)
-    → length xs == 0 ≡ is_none (internal_options (map internal_variant_of xs))
+    → length xs == 0 ≡ is_none (tagged_options (map internal_variant_of xs))
 internal_takes [] = refl
 internal_takes (x ∷ xs) = not_empty x xs
+
+pub adjacent_takes : (xs : List src-variant.Variant) → length xs == 0 ≡ is_none (tagged_options (map variant_of xs))
+adjacent_takes [] = refl
+adjacent_takes (x ∷ xs) = not_empty x xs
 
 pub untagged_takes : (part : ℕ → Option KeyOptions) (xs : List src-variant.Variant)
     → length xs == 0 ≡ is_none (untagged_options part (map variant_of xs))
@@ -222,9 +227,9 @@ literal_or_any (string s) = refl
 literal_or_any (array ds) = refl
 literal_or_any (object ms) = refl
 
-of_internal : (xs : List Variant) → or_any_text (internal_options xs) ≡ any_text
-of_internal [] = refl
-of_internal (x ∷ xs) = refl
+of_tagged : (xs : List Variant) → or_any_text (tagged_options xs) ≡ any_text
+of_tagged [] = refl
+of_tagged (x ∷ xs) = refl
 
 -- a shape that is none of these allows any text
 pub other_shape : (part : ℕ → Option KeyOptions) (s : src-shape.Shape) → ((k : IntKind) → s ≡ src.Int k → ⊥)
@@ -256,7 +261,8 @@ other_shape part (src.Bound n) i z w x u l = refl
 other_shape part (src.Range n) i z w x u l = refl
 other_shape part (src.Either a b) i z w x u l = refl
 other_shape part (src.Map key value) i z w x u l = refl
-other_shape part (src.Internal internal) i z w x u l = of_internal (internal_view internal).2
+other_shape part (src.Internal internal) i z w x u l = of_tagged (internal_view internal).2
+other_shape part (src.Adjacent adjacent) i z w x u l = of_tagged (adjacent_view adjacent).3
 other_shape part (src.External xs) i z w x u l = absurd (x xs refl)
 other_shape part (src.Untagged xs) i z w x u l = absurd (u xs refl)
 other_shape part (src.Literal d) i z w x u l = absurd (l d refl)
@@ -264,37 +270,38 @@ other_shape part (src.Literal d) i z w x u l = absurd (l d refl)
 -- one that is none of these leaves keys to others
 pub other_leaves : (part : ℕ → Option KeyOptions) (s : src-shape.Shape) → (s ≡ src.Any → ⊥)
     → ((n : ℕ) → s ≡ src.Newtype n → ⊥) → ((xs : Vec src-variant.Variant Global) → s ≡ src.External xs → ⊥)
-    → ((x : src-internal.Internal) → s ≡ src.Internal x → ⊥)
+    → ((x : src-internal.Internal) → s ≡ src.Internal x → ⊥) → ((x : src-adjacent.Adjacent) → s ≡ src.Adjacent x → ⊥)
     → ((xs : Vec src-variant.Variant Global) → s ≡ src.Untagged xs → ⊥) → ((d : Data) → s ≡ src.Literal d → ⊥)
     → is_none (shape_options part (shape_of s)) ≡ false
-other_leaves part src.Null y w x g u l = refl
-other_leaves part src.Bool y w x g u l = refl
-other_leaves part (src.Int k) y w x g u l = refl
-other_leaves part (src.NonZero k) y w x g u l = refl
-other_leaves part src.Number y w x g u l = refl
-other_leaves part src.Text y w x g u l = refl
-other_leaves part src.Char y w x g u l = refl
-other_leaves part (src.Formatted t) y w x g u l = refl
-other_leaves part src.Any y w x g u l = absurd (y refl)
-other_leaves part src.Bytes y w x g u l = refl
-other_leaves part src.SchemaItself y w x g u l = refl
-other_leaves part (src.Option n) y w x g u l = refl
-other_leaves part (src.Seq n) y w x g u l = refl
-other_leaves part (src.Set n) y w x g u l = refl
-other_leaves part (src.Array n len) y w x g u l = refl
-other_leaves part (src.UpTo n cap) y w x g u l = refl
-other_leaves part (src.Tuple ns) y w x g u l = refl
-other_leaves part (src.Struct fields) y w x g u l = refl
-other_leaves part (src.Newtype n) y w x g u l = absurd (w n refl)
-other_leaves part (src.Result a b) y w x g u l = refl
-other_leaves part (src.Bound n) y w x g u l = refl
-other_leaves part (src.Range n) y w x g u l = refl
-other_leaves part (src.Either a b) y w x g u l = refl
-other_leaves part (src.Map key value) y w x g u l = refl
-other_leaves part (src.Internal internal) y w x g u l = absurd (g internal refl)
-other_leaves part (src.External xs) y w x g u l = absurd (x xs refl)
-other_leaves part (src.Untagged xs) y w x g u l = absurd (u xs refl)
-other_leaves part (src.Literal d) y w x g u l = absurd (l d refl)
+other_leaves part src.Null y w x g a u l = refl
+other_leaves part src.Bool y w x g a u l = refl
+other_leaves part (src.Int k) y w x g a u l = refl
+other_leaves part (src.NonZero k) y w x g a u l = refl
+other_leaves part src.Number y w x g a u l = refl
+other_leaves part src.Text y w x g a u l = refl
+other_leaves part src.Char y w x g a u l = refl
+other_leaves part (src.Formatted t) y w x g a u l = refl
+other_leaves part src.Any y w x g a u l = absurd (y refl)
+other_leaves part src.Bytes y w x g a u l = refl
+other_leaves part src.SchemaItself y w x g a u l = refl
+other_leaves part (src.Option n) y w x g a u l = refl
+other_leaves part (src.Seq n) y w x g a u l = refl
+other_leaves part (src.Set n) y w x g a u l = refl
+other_leaves part (src.Array n len) y w x g a u l = refl
+other_leaves part (src.UpTo n cap) y w x g a u l = refl
+other_leaves part (src.Tuple ns) y w x g a u l = refl
+other_leaves part (src.Struct fields) y w x g a u l = refl
+other_leaves part (src.Newtype n) y w x g a u l = absurd (w n refl)
+other_leaves part (src.Result n m) y w x g a u l = refl
+other_leaves part (src.Bound n) y w x g a u l = refl
+other_leaves part (src.Range n) y w x g a u l = refl
+other_leaves part (src.Either n m) y w x g a u l = refl
+other_leaves part (src.Map key value) y w x g a u l = refl
+other_leaves part (src.Internal internal) y w x g a u l = absurd (g internal refl)
+other_leaves part (src.Adjacent adjacent) y w x g a u l = absurd (a adjacent refl)
+other_leaves part (src.External xs) y w x g a u l = absurd (x xs refl)
+other_leaves part (src.Untagged xs) y w x g a u l = absurd (u xs refl)
+other_leaves part (src.Literal d) y w x g a u l = absurd (l d refl)
 
 -- a text joins as the program holds them
 abbrev now_of : Bor (List ℕ) → Text

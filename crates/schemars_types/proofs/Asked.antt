@@ -60,6 +60,7 @@ same_number (shape.either a b) m c = absurd (nothing_among m c)
 same_number (shape.map_from key value) m c = absurd (nothing_among m c)
 same_number (shape.external xs) m c = of_variants_among payload_flattened flattened_of_payload xs m c
 same_number (shape.internal tag closed xs) m c = of_variants_among payload_same same_of_payload xs m c
+same_number (shape.adjacent tag content closed xs) m c = of_variants_among payload_flattened flattened_of_payload xs m c
 same_number (shape.literal d) m c = absurd (nothing_among m c)
 same_number (shape.untagged xs) m c = of_variants_among payload_same same_of_payload xs m c
 

@@ -16,5 +16,6 @@ pub mod Texts
 pub mod Adding
 pub mod Asked
 pub mod Settling
+pub mod Options
 pub mod Shapes
 mod Examples

@@ -265,6 +265,39 @@ no_tagged : has Deserialize (shape.internal (codes "t") false []) (object_of (me
 unfolding has table belongs_within member_of
 no_tagged = refl
 
+-- ---- name and content under two keys
+
+beside : Bool → Shape
+beside closed = shape.adjacent (codes "t") (codes "c") closed variants
+
+-- a unit is its name under the tag; where the map is open, its content is free
+units_under_the_tag : TellsApart Deserialize (beside false) (object_of (member_of "c" null ∷ member_of "t" (text "U") ∷ []))
+    (object_of (member_of "c" null ∷ []))
+unfolding TellsApart has table belongs_within variants member_of beside
+units_under_the_tag = (refl, refl)
+
+units_alone : TellsApart Deserialize (beside true) (object_of (member_of "t" (text "U") ∷ []))
+    (object_of (member_of "c" (whole 1) ∷ member_of "t" (text "U") ∷ []))
+unfolding TellsApart has table belongs_within variants member_of beside
+units_alone = (refl, refl)
+
+-- another variant has its content, under the other key
+contents_beside_the_tag : TellsApart Deserialize (beside false)
+    (object_of (member_of "c" (whole 255) ∷ member_of "t" (text "V") ∷ member_of "z" null ∷ []))
+    (object_of (member_of "c" (whole 256) ∷ member_of "t" (text "V") ∷ []))
+unfolding TellsApart has table belongs_within variants member_of beside
+contents_beside_the_tag = (refl, refl)
+
+missing_contents : TellsApart Deserialize (beside true) (object_of (member_of "c" (whole 1) ∷ member_of "t" (text "V") ∷ []))
+    (object_of (member_of "t" (text "V") ∷ []))
+unfolding TellsApart has table belongs_within variants member_of beside
+missing_contents = (refl, refl)
+
+closed_contents : TellsApart Deserialize (beside true) (object_of (member_of "c" (whole 1) ∷ member_of "t" (text "V") ∷ []))
+    (object_of (member_of "c" (whole 1) ∷ member_of "t" (text "V") ∷ member_of "z" null ∷ []))
+unfolding TellsApart has table belongs_within variants member_of beside
+closed_contents = (refl, refl)
+
 -- ---- flattened rows
 
 -- a field of bytes beside the members of row n

@@ -62,6 +62,7 @@ shape_alike f g (shape.either a b) h = refl
 shape_alike f g (shape.map_from key value) h = refl
 shape_alike f g (shape.external xs) h = refl
 shape_alike f g (shape.internal tag closed xs) h = refl
+shape_alike f g (shape.adjacent tag content closed xs) h = refl
 shape_alike f g (shape.literal d) h = refl
 shape_alike f g (shape.untagged []) h = refl
 shape_alike f g (shape.untagged (x ∷ xs)) h = ap (λ o. Some (or_any_text o)) (members_alike f g (x ∷ xs) h)

@@ -191,6 +191,7 @@ fn takes_all(types: &Types, n: TypeNo) -> bool
         Shape::Newtype(m) => takes_all(types, *m),
         Shape::External(variants) => variants.is_empty(),
         Shape::Internal(internal) => internal.variants.is_empty(),
+        Shape::Adjacent(adjacent) => adjacent.variants.is_empty(),
         Shape::Untagged(variants) => variants.is_empty(),
         Shape::Literal(schema) => schema.as_bool().is_some(),
         _ => false,

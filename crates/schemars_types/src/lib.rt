@@ -6,14 +6,16 @@ mod constructors;
 mod contract;
 mod error;
 mod keys;
+mod optional;
 mod table;
 
 pub use contract::Contract;
 pub use error::TypesError;
 pub use keys::key_options;
 pub use keys::options::KeyOptions;
+pub use optional::{row_inside, without_options};
 pub use schemars_shapes::{
-    Field, Fields, Flattened, IntKind, IntegerKeys, Internal, InternalPayload, InternalVariant,
-    Payload, Required, Shape, TypeEntry, TypeNo, Variant,
+    Adjacent, Field, Fields, Flattened, IntKind, IntegerKeys, Internal, InternalPayload,
+    InternalVariant, Payload, Required, Shape, TypeEntry, TypeNo, Variant,
 };
 pub use table::Types;

@@ -78,8 +78,8 @@ impl Types {
         }
     }
 
-    /// Returns the number of rows. Each row number in an entry is less than it, and no two rows have
-    /// one id.
+    /// Returns the number of rows. Each row number in an entry is less than it, and no two rows
+    /// have one id.
     pub fn len(&self) -> usize
         ensures len { result ≡ length self.now }
         ensures above { RefersWithin self.now }

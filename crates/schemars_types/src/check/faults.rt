@@ -5,12 +5,13 @@ ghost use Rattle.schemars_shapes.specs.Shape.{shape_of, numbers_of};
 ghost use Rattle.schemars_types.specs.Walks.{Leads, OnCycle, IsFree, IsLeast};
 ghost use Rattle.schemars_types.specs.Search.{HasTargets};
 ghost use Rattle.schemars_shapes.specs.Repeated.{AreDistinctLists, IsFirstRepeated};
-ghost use Rattle.schemars_types.specs.Edges.{is_inline_at, is_row, asked_in, below, option_at};
+ghost use Rattle.schemars_types.specs.Edges.{is_inline_at, is_row, asked_in, below};
 ghost use Rattle.schemars_types.specs.Edges.{names_at, RefersWithin};
 ghost use Rattle.schemars_types.specs.EdgeKind.{targets_along};
 ghost use Rattle.schemars_types.specs.Undefined.{IsUndefined};
 
 use crate::check::cycles::least_on_cycle;
+use crate::optional::row_inside;
 use crate::table::Types;
 use schemars_shapes::{
     Shape, TypeNo, asked_numbers, flattened_numbers, numbers, same_value_numbers,
@@ -173,23 +174,13 @@ fn add_below(types: &Types, n: TypeNo, rows: &mut Vec<TypeNo>) -> Result<(), All
 {
     let mut at = n;
     for _step in 0..types.len() {
-        let Some(inner) = option(types, at) else {
+        let Some(inner) = row_inside(types, at) else {
             return Ok(());
         };
         rows.push(inner)?;
         at = inner;
     }
     Ok(())
-}
-
-// The row in row `n`, an Option.
-fn option(types: &Types, n: TypeNo) -> Option<TypeNo>
-    ensures { result ≡ option_at types.now n }
-{
-    match types.entry(n) {
-        Some(entry) => entry.shape.option(),
-        None => None,
-    }
 }
 
 fn is_inline(types: &Types, n: TypeNo) -> bool

@@ -3,7 +3,7 @@ use Rattle.std.specs.Prelude.{◌==◌, is_none, is_some}
 use Rattle.schemars_shapes.specs.declared.shape.Shape.TheVariants as src
 use Rattle.schemars_types.specs.Edges.{SameValueEdge, rank}
 use Rattle.schemars_types.specs.KeyOptions.{all_options}
-use Rattle.schemars_types.proofs.Adding.{external_takes, internal_takes, untagged_takes, literal_takes, other_leaves}
+use Rattle.schemars_types.proofs.Adding.{external_takes, internal_takes, adjacent_takes, untagged_takes, literal_takes, other_leaves}
 use Rattle.schemars_types.proofs.Settling.{all_options-none}
 use Rattle.schemars_types.proofs.Shapes.{of_shape, edge_of_shape}
 use Rattle.schemars_types.proofs.keys.+takes_all.Goals as goal
@@ -43,6 +43,13 @@ returns-in-Internal t c =
     c.is_empty-in-Internal.ensures ∙ (ap (λ n. n == 0) (omega (arith, c.in-Internal.internal.variants.ok.0))
     ∙ (internal_takes c.in-Internal.internal.variants.items ∙ ap is_none (sym own)))
 
+pub returns-in-Adjacent : goal.returns-in-Adjacent
+returns-in-Adjacent t c =
+    let own = of_shape c.args.types.now c.requires c.args.n c.in-Some.entry.now c.in-Some.ensures
+    (src.Adjacent c.in-Adjacent.adjacent) c.in-Adjacent.is in
+    c.is_empty-in-Adjacent.ensures ∙ (ap (λ n. n == 0) (omega (arith, c.in-Adjacent.adjacent.variants.ok.0))
+    ∙ (adjacent_takes c.in-Adjacent.adjacent.variants.items ∙ ap is_none (sym own)))
+
 pub returns-in-Untagged : goal.returns-in-Untagged
 returns-in-Untagged t c =
     let own = of_shape c.args.types.now c.requires c.args.n c.in-Some.entry.now c.in-Some.ensures
@@ -62,4 +69,4 @@ returns-in_default-shape t c =
     let other = c.in_default-shape in
     let own = of_shape c.args.types.now c.requires c.args.n e c.in-Some.ensures e.shape refl in
     sym (ap is_none own ∙ other_leaves (all_options c.args.types.now) e.shape other.not-Any other.not-Newtype
-    other.not-External other.not-Internal other.not-Untagged other.not-Literal)
+    other.not-External other.not-Internal other.not-Adjacent other.not-Untagged other.not-Literal)
