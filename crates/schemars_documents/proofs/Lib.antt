@@ -5,3 +5,4 @@ pub mod Templates
 pub mod Literals
 pub mod Items
 pub mod Units
+pub mod Answering

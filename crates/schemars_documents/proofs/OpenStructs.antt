@@ -1,5 +1,5 @@
 -- In a plain table only structs that have to be there are flattened: no row has another meaning, and the table is plain under each contract.
-use Rattle.std.proofs.Common.{◌≡◌, ℕ, zero, suc, List, [], ◌∷◌, ◌++◌, map, Option, Some, None, Bool, true, false, refl, sym, ap, ◌∙◌}
+use Rattle.std.proofs.Common.{◌≡◌, ℕ, zero, suc, List, [], ◌∷◌, ◌++◌, map, Option, Some, None, Bool, false, refl, sym, ap, ◌∙◌}
 use Rattle.std.proofs.Common.{subst, true≢false, length}
 use Rattle.std.proofs.Math.Path.{fun_ext}
 use Rattle.std.specs.Prelude.{if◌then◌else◌, is_some, option_and_then, ◌&&◌, ◌||◌, not, ◌+◌, ◌*◌}
@@ -18,11 +18,11 @@ use Rattle.schemars_types.specs.Effective.{without_options_within, without_optio
 use Rattle.schemars_types.specs.Effective.{fields_within, row_fields, flattened_enums, shape_enums, enums_within, part_enums, enum_at}
 use Rattle.schemars_types.specs.Effective.{spread_fields, spread_payload, spread_variant, spread_in}
 use Rattle.schemars_types.specs.declared.contract.Contract.{Contract}
-use Rattle.schemars_types.specs.Meaning.{Choice, is_required, has_payload, has_variant, has_internal, has_shape, belongs_within}
+use Rattle.schemars_types.specs.Meaning.{Choice, is_required, has_payload, has_variant, has_internal, has_adjacent, has_shape, belongs_within}
 use Rattle.schemars_types.specs.Meaning.{choices_within, belongs}
 use Rattle.schemars_types.specs.OpenStructs.{joined_fields, joined_payload, joined_variant, joined_shape, struct_fields_within, joined_in}
 use Rattle.schemars_types.specs.OpenStructs.{no_choices, belongs_plainly_within, belongs_plainly}
-use Rattle.schemars_documents.specs.PlainTable.{IsNoName, IsPlainPayload, IsTagged, AreTagged, IsPlainShape, IsOpenStruct, IsPlainPart}
+use Rattle.schemars_documents.specs.PlainTable.{IsTagged, AreTagged, IsPlainShape, IsOpenStruct, IsPlainPart}
 use Rattle.schemars_documents.specs.PlainTable.{ArePlainParts, IsPlainEntry, IsPlainTable, parts_in, payload_parts, variant_parts}
 use Rattle.schemars_documents.specs.PlainTable.{PayloadHasNamesApart, VariantsHaveNamesApart, ShapeHasNamesApart, enum_names_at}
 use Rattle.schemars_documents.specs.PlainTable.{may_miss, IsPartShape, IsPartEntry, IsPartUnder, ArePartsUnder, IsEntryUnder, IsPlainUnder}
@@ -130,6 +130,7 @@ module _ (rows : List Row) where
     spread_joins (shape.external xs) h = ap shape.external (variants_join xs h)
     spread_joins (shape.untagged xs) h = ap shape.untagged (variants_join xs h)
     spread_joins (shape.internal tag closed xs) h = ap (shape.internal tag closed) (variants_join xs h)
+    spread_joins (shape.adjacent tag key closed xs) h = ap (shape.adjacent tag key closed) (variants_join xs h)
     spread_joins s h = refl
 
     abbrev G : Flattened → List Field
@@ -157,6 +158,7 @@ module _ (rows : List Row) where
     shape_plainly (shape.external xs) h = ap shape.external (variants_plainly xs h)
     shape_plainly (shape.untagged xs) h = ap shape.untagged (variants_plainly xs h)
     shape_plainly (shape.internal tag closed xs) h = ap (shape.internal tag closed) (variants_plainly xs h)
+    shape_plainly (shape.adjacent tag key closed xs) h = ap (shape.adjacent tag key closed) (variants_plainly xs h)
     shape_plainly s h = refl
 
 -- ---- the meaning of a shape into which nothing is flattened
@@ -185,6 +187,14 @@ module _ (contract : Contract) (C : ℕ → Data → List Choice) (P : ℕ → D
   internal_means tag closed name (tuple_payload ns) notes v = refl
   internal_means tag closed name (struct_payload x) notes v = refl
 
+  adjacent_means : (tag key : Text) (closed : Bool) (name : Text) (p : Payload) (notes : Members) (v : Data)
+      → has_adjacent contract P C tag key closed v (record { name = name; payload = joined_payload part p; notes = notes })
+      ≡ has_adjacent contract P no_choices tag key closed v (record { name = name; payload = joined_payload part p; notes = notes })
+  adjacent_means tag key closed name no_payload notes v = refl
+  adjacent_means tag key closed name (newtype_payload n) notes v = refl
+  adjacent_means tag key closed name (tuple_payload ns) notes v = refl
+  adjacent_means tag key closed name (struct_payload x) notes v = refl
+
   any_variant : (xs : List Variant) (v : Data) → list_any (has_variant contract P C v) (map (joined_variant part) xs)
       ≡ list_any (has_variant contract P no_choices v) (map (joined_variant part) xs)
   any_variant [] v = refl
@@ -203,11 +213,19 @@ module _ (contract : Contract) (C : ℕ → Data → List Choice) (P : ℕ → D
   any_internal tag closed (x ∷ xs) v =
       λ i. internal_means tag closed x.name x.payload x.notes v i || any_internal tag closed xs v i
 
+  any_adjacent : (tag key : Text) (closed : Bool) (xs : List Variant) (v : Data)
+      → list_any (has_adjacent contract P C tag key closed v) (map (joined_variant part) xs)
+      ≡ list_any (has_adjacent contract P no_choices tag key closed v) (map (joined_variant part) xs)
+  any_adjacent tag key closed [] v = refl
+  any_adjacent tag key closed (x ∷ xs) v =
+      λ i. adjacent_means tag key closed x.name x.payload x.notes v i || any_adjacent tag key closed xs v i
+
   pub shape_means : (patterns : Patterns) (keys : ℕ → KeyOptions) (s : Shape) (v : Data)
       → has_shape contract patterns keys C P (joined_shape part s) v ≡ has_shape contract patterns keys no_choices P (joined_shape part s) v
   shape_means patterns keys (shape.external xs) v = any_variant xs v
   shape_means patterns keys (shape.untagged xs) v = any_payload xs v
   shape_means patterns keys (shape.internal tag closed xs) v = any_internal tag closed xs v
+  shape_means patterns keys (shape.adjacent tag key closed xs) v = any_adjacent tag key closed xs v
   shape_means patterns keys s v = refl
 
 -- ---- the meaning of a row
@@ -274,6 +292,7 @@ module _ (names : ℕ → List Text) (part : Flattened → List Field) where
   shape_apart (shape.external xs) h = variants_apart xs
   shape_apart (shape.untagged xs) h = variants_apart xs
   shape_apart (shape.internal tag closed xs) h = tags_apart tag xs h.2
+  shape_apart (shape.adjacent tag key closed xs) h = variants_apart xs
   shape_apart s h = tt
 
 module _ (rows : List Row) (contract : Contract) where

@@ -1,5 +1,5 @@
 -- What a template says, apart from where it lies in memory.
-use Rattle.std.specs.Prelude.{List, map}
+use Rattle.std.specs.Prelude.{List, [], ◌∷◌, map}
 use Rattle.std.specs.Borrow.{Bor}
 use Rattle.serde_json.specs.View.{view, members_view}
 use Rattle.schemars_schema.specs.Json.{Text}
@@ -16,6 +16,11 @@ ask_of (ask.Part n) = spec.part n
 ask_of (ask.MembersOf n required) = spec.members_of n required
 ask_of (ask.Content n) = spec.content n
 
+-- the keywords of these answers are put in, one after another
+abbrev pub with_answers : spec.Template → List spec.Ask → spec.Template
+with_answers t [] = t
+with_answers t (a ∷ rest) = with_answers (spec.with_keywords t (spec.asked a)) rest
+
 -- one node, whose inner templates are seen already
 abbrev pub node_view : Template-F spec.Template → spec.Template
 node_view (Template-F.Value v) = spec.finished (view v)
@@ -25,7 +30,7 @@ node_view (Template-F.Object keys v) = spec.members (map (λ k. k.now) keys.item
 node_view (Template-F.Nullable t) = spec.nullable t.value
 node_view (Template-F.Noted notes t) = spec.noted (members_view notes.now.entries) t.value
 node_view (Template-F.Titled name t) = spec.noted (title_alone name.now) t.value
-node_view (Template-F.WithKeywords t u) = spec.with_keywords t.value u.value
+node_view (Template-F.WithMembers t asks) = with_answers t.value (map ask_of asks.items)
 node_view (Template-F.Tagged tag name closed t) = spec.tagged tag.now name.now closed t.value
 
 abbrev pub template_view : Template → spec.Template

@@ -14,6 +14,7 @@ use crate::documents::{
     bytes_document, char_document, formatted_document, schema_document, type_alone,
 };
 use crate::integers::{int_document, non_zero_document};
+use crate::shape::adjacent::adjacent_template;
 use crate::shape::choices::{bound_template, either_template, result_template};
 use crate::shape::enums::{external_template, untagged_template};
 use crate::shape::keyed::values_template;
@@ -86,6 +87,7 @@ fn template_of<'t>(
             variants,
         ),
         Shape::Internal(internal) => internal_template(alloc, basis.contract, internal),
+        Shape::Adjacent(adjacent) => adjacent_template(alloc, basis.contract, adjacent),
         Shape::Literal(schema) => literal_template(schema),
     }
 }

@@ -1,4 +1,5 @@
 //! The templates of shapes.
+pub(crate) mod adjacent;
 pub(crate) mod choices;
 pub(crate) mod enums;
 pub(crate) mod keyed;

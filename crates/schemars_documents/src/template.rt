@@ -7,10 +7,12 @@ ghost use Rattle.schemars_builders.specs.AllowNull.{allow_null};
 ghost use Rattle.schemars_builders.specs.Properties.{internally_tagged_variant};
 ghost use Rattle.schemars_flatten.specs.Flatten.{flattened};
 ghost use Rattle.schemars_documents.specs.Documents.{annotated};
-ghost use Rattle.schemars_documents.specs.Template.{asks_of, filled, filled_in, left, left_in};
+ghost use Rattle.schemars_documents.specs.Template.{finished, asks_of, filled, filled_in};
+ghost use Rattle.schemars_documents.specs.Template.{left, left_in};
 ghost use Rattle.schemars_documents.specs.Template.{first, behind, keyed};
 ghost use Rattle.schemars_documents.specs.OfShape.{title_alone};
 ghost use Rattle.schemars_documents.specs.View.{ask_of, template_view, templates_view};
+ghost use Rattle.schemars_documents.specs.View.{with_answers};
 
 pub mod basis;
 pub mod nodes;
@@ -52,8 +54,8 @@ pub enum Template<'t> {
     Noted(&'t Map<String, Value>, Box<Template<'t>>),
     /// A schema with this title.
     Titled(&'t str, Box<Template<'t>>),
-    /// A schema with the keywords of another put in.
-    WithKeywords(Box<Template<'t>>, Box<Template<'t>>),
+    /// A schema with the keywords of what these answer put in, one after another.
+    WithMembers(Box<Template<'t>>, Vec<Ask>),
     /// A schema of maps with a variant's name under the tag; of null's, other keys are excluded if
     /// so.
     Tagged(&'t str, &'t str, bool, Box<Template<'t>>),
@@ -92,9 +94,10 @@ fn add_asks(template: &Template<'_>, asks: &mut Vec<Ask>) -> Result<(), AllocErr
         Template::Nullable(inner) => add_asks(inner, asks),
         Template::Noted(_, inner) => add_asks(inner, asks),
         Template::Titled(_, inner) => add_asks(inner, asks),
-        Template::WithKeywords(inner, other) => {
+        Template::WithMembers(inner, members) => {
             add_asks(inner, asks)?;
-            add_asks(other, asks)
+            asks.extend_from_slice(members)?;
+            Ok(())
         }
         Template::Tagged(_, _, _, inner) => add_asks(inner, asks),
     }
@@ -152,10 +155,9 @@ fn fill_value(
             let inner = fill_value(alloc, Box::into_inner(inner), parts)?;
             titled(alloc, inner, title)
         }
-        Template::WithKeywords(inner, other) => {
+        Template::WithMembers(inner, members) => {
             let inner = fill_value(alloc, Box::into_inner(inner), parts)?;
-            let other = fill_value(alloc, Box::into_inner(other), parts)?;
-            with_keywords(alloc, inner, other)
+            with_members(alloc, inner, &members, parts)
         }
         Template::Tagged(tag, name, closed, inner) => {
             let inner = fill_value(alloc, Box::into_inner(inner), parts)?;
@@ -253,6 +255,28 @@ fn titled(alloc: Global, value: Value, title: &str) -> Result<Value, AllocError>
         Value::try_from_str(alloc, title)?,
     )?;
     noted(alloc, value, &notes)
+}
+
+// The keywords of as many parts join as members are asked for.
+fn with_members(
+    alloc: Global,
+    value: Value,
+    members: &[Ask],
+    parts: &mut VecDeque<Schema>,
+) -> Result<Value, AllocError>
+    ensures value { IfOk result (λ v. view v
+        ≡ filled (with_answers (finished (view value)) (map ask_of members.now))
+        parts.old.items) }
+    ensures left { OnOk result (parts.new.items
+        ≡ left (with_answers (finished (view value)) (map ask_of members.now))
+        parts.old.items) }
+{
+    let mut whole = value;
+    for _member in members {
+        let part = next_part(parts);
+        whole = with_keywords(alloc, whole, part)?;
+    }
+    Ok(whole)
 }
 
 fn with_keywords(alloc: Global, value: Value, other: Value) -> Result<Value, AllocError>

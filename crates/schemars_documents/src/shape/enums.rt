@@ -212,7 +212,7 @@ fn titled<'t>(
 }
 
 // What a variant has beside its name.
-fn payload_template<'t>(
+pub(crate) fn payload_template<'t>(
     alloc: Global,
     contract: Contract,
     payload: &'t Payload,

@@ -2,13 +2,15 @@
 ghost use Rattle.std.specs.Prelude.{◌≡◌, ◌∷◌, ◌++◌, [], map, IfOk, OnOk};
 ghost use Rattle.serde_json.specs.View.{items_view};
 ghost use Rattle.schemars_shapes.specs.Shape.{field_of, flattened_of, fields_of};
-ghost use Rattle.schemars_documents.specs.View.{template_view, keyword_view};
+ghost use Rattle.schemars_builders.specs.NullLaw.{text_items};
+ghost use Rattle.schemars_documents.specs.View.{ask_of, template_view, keyword_view};
 ghost use Rattle.schemars_documents.specs.OfShape.{typed_template, property, properties_at};
 ghost use Rattle.schemars_documents.specs.OfShape.{required_at};
 ghost use Rattle.schemars_documents.specs.OfShape.{closed_keyword, object_with};
 ghost use Rattle.schemars_documents.specs.OfShape.{map_template, fields_template, with_flattened};
+ghost use Rattle.schemars_documents.specs.OfShape.{members_asked};
 ghost use Rattle.schemars_documents.specs.OfShape.{struct_template};
-ghost use Rattle.schemars_documents.specs.OfShape.{member_template, range_template};
+ghost use Rattle.schemars_documents.specs.OfShape.{member_template, whole_template, range_template};
 
 use crate::documents::{is_required, required_names};
 use crate::template::nodes::{object_with, row, text};
@@ -149,13 +151,27 @@ fn with_flattened<'t>(
     ensures { IfOk result (λ t. template_view t
         ≡ with_flattened contract (map flattened_of flatten.now) (template_view own.entry)) }
 {
-    let mut template = own;
+    if flatten.is_empty() {
+        return Ok(own);
+    }
+    let members = members_of(alloc, contract, flatten)?;
+    Ok(Template::WithMembers(Box::new(alloc, own)?, members))
+}
+
+fn members_of(
+    alloc: Global,
+    contract: Contract,
+    flatten: &[Flattened],
+) -> Result<Vec<Ask>, AllocError>
+    ensures { IfOk result (λ v. map ask_of v.items
+        ≡ map (members_asked contract) (map flattened_of flatten.now)) }
+{
+    let mut members = Vec::new(alloc);
     for part in flatten {
         let required = is_required(contract, part.required);
-        let members = Template::Asked(Ask::MembersOf(part.ty, required));
-        template = Template::WithKeywords(Box::new(alloc, template)?, Box::new(alloc, members)?);
+        members.push(Ask::MembersOf(part.ty, required))?;
     }
-    Ok(template)
+    Ok(members)
 }
 
 // The fields' schemas under their names, each with its notes.
@@ -186,6 +202,34 @@ pub fn member_template<'t>(
     let properties: Vec<(&'t str, Template<'t>)> = vec![in alloc; (name, part)]?;
     let required = vec![in alloc; Value::try_from_str(alloc, name)?]?;
     map_template(alloc, properties, required, closed)
+}
+
+/// A map with these members, each of which has to be there.
+pub fn whole_template<'t>(
+    alloc: Global,
+    properties: Vec<(&'t str, Template<'t>)>,
+    closed: bool,
+) -> Result<Template<'t>, AllocError>
+    ensures { IfOk result (λ t. template_view t
+        ≡ whole_template (map keyword_view properties.entry.items) closed) }
+{
+    let required = names(alloc, &properties)?;
+    map_template(alloc, properties, required, closed)
+}
+
+fn names<'t>(
+    alloc: Global,
+    properties: &[(&'t str, Template<'t>)],
+) -> Result<Vec<Value>, AllocError>
+    ensures { IfOk result (λ v. items_view v.items
+        ≡ text_items (map (λ e. e.0) (map keyword_view properties.now))) }
+{
+    let mut names = Vec::new(alloc);
+    for property in properties {
+        let name = Value::try_from_str(alloc, property.0)?;
+        serde_json::push(&mut names, name)?;
+    }
+    Ok(names)
 }
 
 /// A map with a start and an end of this row.

@@ -1,0 +1,39 @@
+-- A template with the keywords of answers put in: what it asks, and how it is filled.
+use Rattle.std.proofs.Common.{rules, Box, Vec, Global, ◌≡◌, List, [], ◌∷◌, ◌++◌, map, refl, sym, ◌∙◌, append-nil, append_assoc}
+use Rattle.serde_json.specs.Data.{Data}
+use Rattle.schemars_shapes.specs.Shape.{Flattened}
+use Rattle.schemars_types.specs.declared.contract.Contract.{Contract}
+use Rattle.schemars_documents.specs.declared.template.Ask as src-ask
+use Rattle.schemars_documents.specs.declared.template.Template as src
+use Rattle.schemars_documents.specs.declared.template.Template.{the_lemmas}
+use Rattle.schemars_documents.specs.Template.{Ask, Template, finished, asked, with_keywords, asks_of, filled, left}
+use Rattle.schemars_documents.specs.View.{ask_of, template_view, with_answers}
+use Rattle.schemars_documents.specs.OfShape.{members_asked, with_flattened}
+
+pub seen_members : (t : Box src.Template Global) (asks : Vec src-ask.Ask Global)
+    → template_view (src.WithMembers t asks) ≡ with_answers (template_view t.value) (map ask_of asks.items)
+seen_members t asks = search (rules, the_lemmas)
+
+pub answers_asked : (t : Template) (rest : List Ask) → asks_of (with_answers t rest) ≡ asks_of t ++ rest
+answers_asked t [] = sym (append-nil (asks_of t))
+answers_asked t (a ∷ rest) = answers_asked (with_keywords t (asked a)) rest ∙ append_assoc (asks_of t) (a ∷ []) rest
+
+-- the template may be filled first
+pub answers_filled : (t : Template) (rest : List Ask) (ts : List Data)
+    → filled (with_answers t rest) ts ≡ filled (with_answers (finished (filled t ts)) rest) (left t ts)
+answers_filled t [] ts = refl
+answers_filled t (a ∷ rest) ts =
+    answers_filled (with_keywords t (asked a)) rest ts
+    ∙ sym (answers_filled (with_keywords (finished (filled t ts)) (asked a)) rest (left t ts))
+
+pub answers_left : (t : Template) (rest : List Ask) (ts : List Data)
+    → left (with_answers t rest) ts ≡ left (with_answers (finished (filled t ts)) rest) (left t ts)
+answers_left t [] ts = refl
+answers_left t (a ∷ rest) ts =
+    answers_left (with_keywords t (asked a)) rest ts
+    ∙ sym (answers_left (with_keywords (finished (filled t ts)) (asked a)) rest (left t ts))
+
+pub flattened_answers : (contract : Contract) (ps : List Flattened) (t : Template)
+    → with_answers t (map (members_asked contract) ps) ≡ with_flattened contract ps t
+flattened_answers contract [] t = refl
+flattened_answers contract (p ∷ ps) t = flattened_answers contract ps (with_keywords t (asked (members_asked contract p)))

@@ -1,0 +1,12 @@
+-- The items so far, and those of the variants that are left.
+use Rattle.std.proofs.Common.{◌≡◌, ◌++◌, map, drop}
+use Rattle.schemars_shapes.specs.Shape.{variant_of}
+use Rattle.schemars_documents.specs.View.{template_view}
+use Rattle.schemars_documents.specs.OfShape.{adjacent_item}
+use Rattle.schemars_documents.proofs.shape.adjacent.adjacent_items.Given as goal
+
+abbrev pub invariant-loop-variant : goal.invariant-loop-variant
+invariant-loop-variant l =
+    map template_view l.items.items
+    ++ map (adjacent_item l.contract l.tag l.content l.closed) (map variant_of (drop l.variant-index l.variants))
+    ≡ map (adjacent_item l.contract l.tag l.content l.closed) (map variant_of l.variants)
