@@ -1,5 +1,5 @@
 -- Fields of structs and of the rows flattened into them.
-use Rattle.std.proofs.Common.{◌≡◌, ℕ, zero, suc, List, [], ◌∷◌, ◌++◌, Option, Some, None, Bool, true, false, refl, sym, ap, ◌∙◌}
+use Rattle.std.proofs.Common.{◌≡◌, ℕ, suc, List, [], ◌∷◌, ◌++◌, Option, Some, None, Bool, true, false, refl, sym, ap, ◌∙◌}
 use Rattle.std.proofs.Common.{map, append_assoc, append-nil, ◌<◌, ◌+◌, length, get_or, drop}
 use Rattle.std.specs.Prelude.{is_some, if◌then◌else◌, option_and_then}
 use Rattle.std.proofs.lemmas.List.{map-append, drop_more}
@@ -9,19 +9,9 @@ use Rattle.schemars_shapes.specs.declared.shape.Flattened as src
 use Rattle.schemars_shapes.specs.Shape as shape
 use Rattle.schemars_types.specs.Rows.{Row, entry_at}
 use Rattle.schemars_types.specs.Edges.{option_at}
-use Rattle.schemars_types.specs.Effective.{without_options, without_options_within, fields_within, effective, flattened_fields}
+use Rattle.schemars_types.specs.Effective.{without_options, fields_within, effective, flattened_fields}
 use Rattle.schemars_types.specs.Effective.{part_fields, weakened, shape_fields}
 use Rattle.schemars_plain.specs.Decided.{Said, said, struct_of}
-
--- ---- Options
-
-pub stops : (rows : List Row) (steps n : ℕ) → option_at rows n ≡ None → without_options_within rows steps n ≡ n
-stops rows zero n none = refl
-stops rows (suc steps) n none = ap (λ o. elim o [ None ↦ n | Some m ↦ without_options_within rows steps m ]) none
-
-pub goes : (rows : List Row) (steps n m : ℕ) → option_at rows n ≡ Some m
-    → without_options_within rows (suc steps) n ≡ without_options_within rows steps m
-goes rows steps n m some = ap (λ o. elim o [ None ↦ n | Some k ↦ without_options_within rows steps k ]) some
 
 -- ---- what is said of fields
 
@@ -89,6 +79,7 @@ own_fields part (Some e) = go e.shape
     go (shape.external xs) = refl
     go (shape.untagged xs) = refl
     go (shape.internal tag closed xs) = refl
+    go (shape.adjacent tag content closed xs) = refl
     go (shape.literal d) = refl
 
 -- a row has the fields of its struct

@@ -26,6 +26,10 @@ use Rattle.schemars_plain.proofs.Literals.{always, itself, notes_decided}
 never : Decides false ⊥
 never = (λ e. absurd (true≢false (sym e)), λ p. absurd p)
 
+differ_decided : (b : Bool) → Decides (not b) (b ≡ false)
+differ_decided true = (λ t. absurd (true≢false (sym t)), λ p. absurd (true≢false p))
+differ_decided false = (λ _. refl, λ _. refl)
+
 -- ---- fields
 
 not_or : {P : Type 0} (a b c : Bool) → a ≡ c → Decides (not b) P → Decides (not (a || b)) ((c ≡ false) × P)
@@ -121,6 +125,14 @@ internal_decided rows tag closed xs =
     (spread_names_decided rows xs) inside in
     (λ t. let p = all.0 t in (p.0, p.1.0, p.1.1), λ p. all.1 (p.0, (p.1, p.2)))
 
+pub adjacent_decided : (rows : List Row) (tag content : Text) (closed : Bool) (xs : List Variant)
+    → Decides (not (bytes_eq tag content) && (all_differ (variant_names xs) && are_plain_variants (map (spread_variant_in rows) xs)))
+    (IsPlainShape (spread_in rows (shape.adjacent tag content closed xs)))
+adjacent_decided rows tag content closed xs =
+    let named = all_differ (variant_names xs) && are_plain_variants (map (spread_variant_in rows) xs) in
+    let all = Decides-and (not (bytes_eq tag content)) named (differ_decided (bytes_eq tag content)) (external_decided rows xs) in
+    (λ t. let p = all.0 t in (p.0, p.1.0, p.1.1), λ p. all.1 (p.0, (p.1, p.2)))
+
 -- ---- flattened rows
 
 open_decided : (o : Option Entry) → Decides (is_open o) (IsOpenStruct o)
@@ -167,6 +179,7 @@ open_decided (Some e) = go e.shape refl
     go (shape.external xs) is = not_open (shape.external xs) is (λ x same. cc)
     go (shape.untagged xs) is = not_open (shape.untagged xs) is (λ x same. cc)
     go (shape.internal tag closed xs) is = not_open (shape.internal tag closed xs) is (λ x same. cc)
+    go (shape.adjacent tag content closed xs) is = not_open (shape.adjacent tag content closed xs) is (λ x same. cc)
     go (shape.literal d) is = not_open (shape.literal d) is (λ x same. cc)
 
 part_decided : (rows : List Row) (p : Flattened) → Decides (is_plain_part rows p) (IsPlainPart rows p)

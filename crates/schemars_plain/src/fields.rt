@@ -2,8 +2,7 @@
 ghost use Rattle.std.specs.Prelude.{◌≡◌, ◌++◌, List, map, IfOk, OnOk, option_map, option_and_then};
 ghost use Rattle.schemars_shapes.specs.Shape.{field_of, fields_of};
 ghost use Rattle.schemars_types.specs.Rows.{entry_at};
-ghost use Rattle.schemars_types.specs.Edges.{option_at};
-ghost use Rattle.schemars_types.specs.Effective.{without_options, fields_within, effective};
+ghost use Rattle.schemars_types.specs.Effective.{fields_within, effective};
 ghost use Rattle.schemars_types.specs.Effective.{part_fields, flattened_in};
 ghost use Rattle.schemars_plain.specs.Decided.{said, all_noted, is_plain_list, names_of};
 ghost use Rattle.schemars_plain.specs.Decided.{struct_of, is_named};
@@ -11,7 +10,7 @@ ghost use Rattle.schemars_plain.specs.Decided.{struct_of, is_named};
 use crate::names::all_differ;
 use crate::notes::are_annotations;
 use schemars_schema::edits::is_listed;
-use schemars_types::{Field, Fields, Shape, TypeNo, Types};
+use schemars_types::{Field, Fields, Shape, TypeNo, Types, without_options};
 use std::alloc::{AllocError, Global};
 
 /// Whether the fields of a struct, and those of the rows flattened into it, have annotations alone
@@ -134,29 +133,5 @@ pub(crate) fn struct_at(types: &Types, n: TypeNo) -> Option<&Fields>
     match &types.entry(n)?.shape {
         Shape::Struct(fields) => Some(fields),
         _ => None,
-    }
-}
-
-// Row `n` without the Options around it.
-fn without_options(types: &Types, n: TypeNo) -> TypeNo
-    ensures { result ≡ without_options types.now n }
-{
-    let mut at = n;
-    for _step in 0..types.len() {
-        let Some(inner) = option(types, at) else {
-            return at;
-        };
-        at = inner;
-    }
-    at
-}
-
-// The row in row `n`, an Option.
-fn option(types: &Types, n: TypeNo) -> Option<TypeNo>
-    ensures { result ≡ option_at types.now n }
-{
-    match types.entry(n) {
-        Some(entry) => entry.shape.option(),
-        None => None,
     }
 }

@@ -28,6 +28,7 @@ fn parts_are_plain(types: &Types, shape: &Shape) -> bool
         Shape::Struct(fields) => are_plain_parts(types, &fields.flatten),
         Shape::External(variants) | Shape::Untagged(variants) => of_variants(types, variants),
         Shape::Internal(internal) => of_internal_variants(types, &internal.variants),
+        Shape::Adjacent(adjacent) => of_variants(types, &adjacent.variants),
         Shape::Null | Shape::Bool | Shape::Int(_) | Shape::NonZero(_) => true,
         Shape::Number | Shape::Text | Shape::Char | Shape::Formatted(_) => true,
         Shape::Any | Shape::Bytes | Shape::SchemaItself | Shape::Literal(_) => true,

@@ -1,6 +1,6 @@
 //! Rows and tables.
-ghost use Rattle.std.specs.Prelude.{◌≡◌, ◌↔◌, ◌&&◌, IsTrue, IfOk, map};
-ghost use Rattle.schemars_shapes.specs.Shape.{shape_of, variant_of, internal_view};
+ghost use Rattle.std.specs.Prelude.{◌≡◌, ◌↔◌, ◌&&◌, IsTrue, IfOk, map, not, bytes_eq};
+ghost use Rattle.schemars_shapes.specs.Shape.{shape_of, variant_of, internal_view, adjacent_view};
 ghost use Rattle.schemars_types.specs.Rows.{entry_at};
 ghost use Rattle.schemars_types.specs.Effective.{spread_in};
 ghost use Rattle.schemars_documents.specs.PlainTable.{IsPlainShape, IsPlainEntry, IsPlainTable};
@@ -14,7 +14,7 @@ use crate::parts::have_plain_parts;
 use crate::variants::{
     are_plain_inside, are_plain_variants, are_tagged, names_differ, names_differ_inside,
 };
-use schemars_types::{Internal, Shape, TypeNo, Types, Variant};
+use schemars_types::{Adjacent, Internal, Shape, TypeNo, Types, Variant};
 use std::alloc::{AllocError, Global};
 
 /// Returns whether a table is plain: whether it is promised that the documents of its types accept
@@ -66,9 +66,10 @@ pub fn is_plain_shape(alloc: Global, types: &Types, shape: &Shape) -> Result<boo
 {
     match shape {
         Shape::Struct(fields) => are_plain(alloc, types, fields),
-        Shape::External(variants) => is_plain_external(alloc, types, variants),
+        Shape::External(variants) => are_named_and_plain(alloc, types, variants),
         Shape::Untagged(variants) => are_plain_variants(alloc, types, variants),
         Shape::Internal(internal) => is_plain_internal(alloc, types, internal),
+        Shape::Adjacent(adjacent) => is_plain_adjacent(alloc, types, adjacent),
         Shape::Literal(schema) => Ok(is_plain_literal(schema)),
         Shape::Null | Shape::Bool | Shape::Int(_) | Shape::NonZero(_) => Ok(true),
         Shape::Number | Shape::Text | Shape::Char | Shape::Formatted(_) => Ok(true),
@@ -80,7 +81,12 @@ pub fn is_plain_shape(alloc: Global, types: &Types, shape: &Shape) -> Result<boo
     }
 }
 
-fn is_plain_external(alloc: Global, types: &Types, variants: &[Variant]) -> Result<bool, AllocError>
+// Variants that are told by their names.
+fn are_named_and_plain(
+    alloc: Global,
+    types: &Types,
+    variants: &[Variant],
+) -> Result<bool, AllocError>
     ensures { IfOk result (λ b. b ≡ (all_differ (variant_names (map variant_of variants.now))
         && are_plain_variants (map (spread_variant_in types.now) (map variant_of variants.now)))) }
 {
@@ -103,4 +109,16 @@ fn is_plain_internal(alloc: Global, types: &Types, value: &Internal) -> Result<b
         return Ok(false);
     }
     are_tagged(alloc, types, value.tag.as_str(), &value.variants)
+}
+
+fn is_plain_adjacent(alloc: Global, types: &Types, value: &Adjacent) -> Result<bool, AllocError>
+    ensures { IfOk result (λ b. b
+        ≡ (not (bytes_eq (adjacent_view value.now).0 (adjacent_view value.now).1)
+        && (all_differ (variant_names (adjacent_view value.now).3)
+        && are_plain_variants (map (spread_variant_in types.now) (adjacent_view value.now).3)))) }
+{
+    if value.tag == value.content {
+        return Ok(false);
+    }
+    are_named_and_plain(alloc, types, &value.variants)
 }
