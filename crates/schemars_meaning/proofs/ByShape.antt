@@ -27,6 +27,7 @@ use Rattle.schemars_meaning.proofs.MapDocument.{map_document}
 use Rattle.schemars_meaning.proofs.Spread.{field_keywords, IsFieldsDocument, AnswersFields}
 use Rattle.schemars_meaning.proofs.Filling.{ArePartsWritten, Fit, rows_asked, parts_answered}
 use Rattle.schemars_meaning.proofs.Flattened.{struct_fills}
+use Rattle.schemars_documents.specs.OfShape.{adjacent_template}
 
 -- ---- lists
 
@@ -133,6 +134,7 @@ IsDocument A has basis (shape.map_from key value) s = Fills A (values_template (
 IsDocument A has basis (shape.external xs) s = Fills A (external_template basis.contract xs) s
 IsDocument A has basis (shape.untagged xs) s = Fills A (untagged_template basis.contract basis.titles xs) s
 IsDocument A has basis (shape.internal tag closed xs) s = Fills A (internal_template basis.contract tag closed xs) s
+IsDocument A has basis (shape.adjacent tag key closed xs) s = Fills A (adjacent_template basis.contract tag key closed xs) s
 IsDocument A has basis (shape.literal d) s = s ≡ literal_document d
 
 -- ---- what fills a template
@@ -217,6 +219,7 @@ module _ (A : Ask → Data → Type 0) where
     others_fill (shape.external xs) s ts p h e = record { parts = ts; answered = h; is = e }
     others_fill (shape.untagged xs) s ts p h e = record { parts = ts; answered = h; is = e }
     others_fill (shape.internal tag closed xs) s ts p h e = record { parts = ts; answered = h; is = e }
+    others_fill (shape.adjacent tag key closed xs) s ts p h e = record { parts = ts; answered = h; is = e }
     others_fill (shape.literal d) s ts p h e = e
 
   module _ (has : Flattened → List Field) (basis : Basis) (fields : AnswersFields has basis.rows basis.contract A) where

@@ -24,6 +24,7 @@ use Rattle.schemars_meaning.proofs.ByShape.{tuple_fills}
 use Rattle.schemars_meaning.proofs.Ready.{tuple_ready, one_of_ready, any_of_ready, units_ready}
 use Rattle.schemars_meaning.proofs.Notes.{judge-annotated, ready-annotated, annotated-schema}
 use Rattle.schemars_meaning.proofs.Choices.{Say, any_of_says}
+use Rattle.schemars_documents.specs.OfShape.{adjacent_item, adjacent_template}
 
 -- ---- null can be added
 
@@ -44,6 +45,12 @@ pub internal_ready : (contract : Contract) (tag : Text) (closed : Bool) (xs : Li
 internal_ready contract tag closed [] us = tt
 internal_ready contract tag closed (x ∷ xs) us =
     one_of_ready (filled_in (templates_of (map (internal_item contract tag closed) (x ∷ xs))) us) _ refl
+
+pub adjacent_ready : (contract : Contract) (tag key : Text) (closed : Bool) (xs : List Variant) (us : List Data)
+    → IsReady (filled (adjacent_template contract tag key closed xs) us)
+adjacent_ready contract tag key closed [] us = tt
+adjacent_ready contract tag key closed (x ∷ xs) us =
+    one_of_ready (filled_in (templates_of (map (adjacent_item contract tag key closed) (x ∷ xs))) us) _ refl
 
 -- `Under` says what may be flattened, so that null can be added to the document of a struct
 module _ (A : Ask → Data → Type 0) (basis : Basis) (Under : List Flattened → Type 0)

@@ -1,19 +1,19 @@
 -- An enum that is told by its names, where it is flattened: units without notes, and any others.
-use Rattle.std.proofs.Common.{◌≡◌, ℕ, ◌<◌, List, [], ◌∷◌, ◌++◌, Bool, true, false, map, refl, sym, ap, ◌∙◌, subst, append-nil}
+use Rattle.std.proofs.Common.{◌≡◌, ℕ, ◌<◌, List, [], ◌∷◌, ◌++◌, Bool, true, false, map, refl, sym, subst, append-nil}
 use Rattle.std.specs.Prelude.{if◌then◌else◌}
-use Rattle.serde_json.specs.Data.{Data, Members, no_members, depth}
+use Rattle.serde_json.specs.Data.{Data, Members, depth}
 use Rattle.schemars_schema.specs.Json.{Text, IsJson}
 use Rattle.schemars_schema.specs.SchemaData.{IsSchema}
 use Rattle.schemars_schema.specs.Annotations.{AreNotes}
 use Rattle.schemars_schema.specs.Verdict.{verdict}
-use Rattle.schemars_schema.specs.Acceptance.{Context, Judge, judge, is_null}
+use Rattle.schemars_schema.specs.Acceptance.{Context, judge, is_null}
 use Rattle.schemars_builders.specs.AllowNull.{null_schema}
 use Rattle.schemars_flatten.specs.Parts.{flattened_part}
-use Rattle.schemars_shapes.specs.Shape.{Field, Payload, Variant, no_payload, newtype_payload, tuple_payload, struct_payload}
+use Rattle.schemars_shapes.specs.Shape.{Payload, Variant, no_payload, newtype_payload, tuple_payload, struct_payload}
 use Rattle.schemars_shapes.specs.Units.{is_bare_unit}
 use Rattle.schemars_types.specs.declared.contract.Contract.{Contract}
 use Rattle.schemars_documents.specs.Documents.{annotated}
-use Rattle.schemars_documents.specs.Template.{Ask, part, Template, noted, asks_of, asks_in, filled, filled_in}
+use Rattle.schemars_documents.specs.Template.{Ask, Template, noted, asks_of, asks_in, filled, filled_in}
 use Rattle.schemars_documents.specs.OfShape.{templates_of, member_template, payload_template, named_template, bare_units, other_items}
 use Rattle.schemars_documents.specs.OfShape.{choice_of, external_template}
 use Rattle.schemars_types.specs.Meaning.{Choice, member_choice}
@@ -21,7 +21,7 @@ use Rattle.schemars_meaning.proofs.Filling.{Fit, without_end, parted}
 use Rattle.schemars_meaning.proofs.Items.{IsItem, AnyItems, member_item}
 use Rattle.schemars_meaning.proofs.StructDocuments.{IsPart}
 use Rattle.schemars_meaning.proofs.PartDocuments.{enum_part}
-use Rattle.schemars_meaning.proofs.UnitMembers.{AreSame, kept, moved, same-parted, reordered, mixed_part, lone_part, unit_offer}
+use Rattle.schemars_meaning.proofs.UnitMembers.{kept, moved, same-parted, reordered, mixed_part, lone_part, unit_offer}
 
 abbrev IsNoUnit : Payload → Type 0
 IsNoUnit no_payload = ⊥

@@ -1,6 +1,6 @@
 -- In a plain table a flattened struct has the document of a map with its fields, and null can be added to each document.
-use Rattle.std.proofs.Common.{◌≡◌, ◌⊎◌, inl, inr, ℕ, zero, suc, List, [], ◌∷◌, Option, Some, None, Bool, true, false, refl, sym, ap}
-use Rattle.std.proofs.Common.{◌∙◌, subst, arith, true≢false}
+use Rattle.std.proofs.Common.{◌≡◌, inl, inr, ℕ, zero, suc, List, [], ◌∷◌, Option, Some, None, Bool, false, refl, sym, ap}
+use Rattle.std.proofs.Common.{◌∙◌, subst, arith}
 use Rattle.std.specs.Prelude.{is_some, ◌&&◌}
 use Rattle.std.specs.Option.{option_map_or}
 use Rattle.serde_json.specs.Data.{Data}
@@ -10,7 +10,7 @@ use Rattle.schemars_builders.specs.AllowNull.{allow_null}
 use Rattle.schemars_builders.specs.NullLaw.{IsDraft, AcceptsNullToo}
 use Rattle.schemars_builders.proofs.Nulls.{IsReady, ready-law}
 use Rattle.schemars_shapes.specs.Shape.{Field, Flattened, Fields, Shape, Entry}
-use Rattle.schemars_types.specs.Rows.{Row, entry_at}
+use Rattle.schemars_types.specs.Rows.{entry_at}
 use Rattle.schemars_types.specs.Edges.{option_at}
 use Rattle.schemars_types.specs.Effective.{effective, part_fields, flattened_in, part_enums, shape_fields, fields_within}
 use Rattle.schemars_flatten.specs.Parts.{flattened_part}

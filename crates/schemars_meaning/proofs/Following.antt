@@ -1,11 +1,10 @@
 -- A document accepts just what belongs to its row, through references and rows that lead back to themselves.
-use Rattle.std.proofs.Common.{◌≡◌, ◌⊎◌, inl, inr, ℕ, zero, suc, ◌+◌, ◌*◌, ◌<◌, ◌≤◌, List, [], ◌∷◌, ◌++◌, map, Option, Some, None}
-use Rattle.std.proofs.Common.{Bool, true, false, refl, sym, ap, ◌∙◌, subst, arith, add-one, true≢false}
+use Rattle.std.proofs.Common.{◌≡◌, ◌⊎◌, inl, inr, ℕ, zero, suc, ◌+◌, ◌*◌, ◌<◌, ◌≤◌, List, [], ◌∷◌, Option, Some, None}
+use Rattle.std.proofs.Common.{Bool, true, false, refl, ap, ◌∙◌, arith, add-one}
 use Rattle.std.specs.Prelude.{nat_lt, if◌then◌else◌, length}
-use Rattle.std.specs.Option.{option_map_or}
 use Rattle.std.proofs.Math.Nat.{mul-le-mul_right}
 use Rattle.std.proofs.lemmas.Bool.Decides.{nat_tests}
-use Rattle.serde_json.specs.Data.{Data, null, depth}
+use Rattle.serde_json.specs.Data.{Data, depth}
 use Rattle.schemars_schema.specs.Verdict.{verdict}
 use Rattle.schemars_schema.specs.Json.{Text, IsJson}
 use Rattle.schemars_schema.specs.Lookup.{resolved}
@@ -13,23 +12,19 @@ use Rattle.schemars_schema.specs.Acceptance.{Patterns, Judge, draft2020_12, judg
 use Rattle.schemars_schema.proofs.Verdicts.{both-yes}
 use Rattle.schemars_builders.specs.NullLaw.{context2020_12}
 use Rattle.schemars_builders.proofs.Nulls.{IsReady, ready-schema}
-use Rattle.schemars_shapes.specs.Shape as shape
-use Rattle.schemars_shapes.specs.Shape.{Flattened, Fields, Shape, Entry, Payload, Variant, no_payload, newtype_payload, tuple_payload}
-use Rattle.schemars_shapes.specs.Shape.{struct_payload}
+use Rattle.schemars_shapes.specs.Shape.{Entry}
 use Rattle.schemars_types.specs.Rows.{Row, entry_at}
 use Rattle.schemars_types.specs.KeyOptions.{key_options}
 use Rattle.schemars_types.specs.Effective.{row_fields, flattened_in, shape_fields, part_enums, enums_within, shape_enums, spread_in}
 use Rattle.schemars_types.specs.declared.contract.Contract.{Contract}
 use Rattle.schemars_types.specs.Meaning.{Choice, has_shape, belongs_within, choices_within}
-use Rattle.schemars_documents.specs.Documents.{reference, annotated}
-use Rattle.schemars_documents.specs.PlainTable.{IsPlainShape, IsEntryUnder, IsPlainUnder, ArePartsUnder, parts_in}
+use Rattle.schemars_documents.specs.Documents.{reference}
+use Rattle.schemars_documents.specs.PlainTable.{IsEntryUnder, IsPlainUnder, parts_in}
 use Rattle.schemars_documents.specs.Basis.{Basis}
-use Rattle.schemars_documents.specs.Template.{Ask, asks_of, filled}
-use Rattle.schemars_documents.specs.OfShape.{template_of, struct_template}
+use Rattle.schemars_documents.specs.Template.{Ask, filled}
+use Rattle.schemars_documents.specs.OfShape.{template_of}
 use Rattle.schemars_documents.specs.Describes.{Fills, IsOwnDocument, IsAnswered, IsWritten, Describes}
-use Rattle.schemars_meaning.proofs.Filling.{Fit}
 use Rattle.schemars_meaning.proofs.Notes.{judge-annotated}
-use Rattle.schemars_meaning.proofs.Schemas.{written_schema, filled_schema}
 use Rattle.schemars_meaning.proofs.Meanings.{IsSame, Inside}
 use Rattle.schemars_meaning.proofs.Heights as heights
 use Rattle.schemars_meaning.proofs.StructsCounted.{HasRoom}

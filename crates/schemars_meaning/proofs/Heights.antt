@@ -1,5 +1,5 @@
 -- Smaller values first, for documents of every depth; then references; then the depth of the document.
-use Rattle.std.proofs.Common.{◌≡◌, ◌⊎◌, inl, inr, ℕ, zero, suc, ◌+◌, ◌*◌, ◌<◌, ◌≤◌, Some, Bool, refl, sym, ap, ◌∙◌, subst, arith}
+use Rattle.std.proofs.Common.{◌≡◌, ◌⊎◌, inl, inr, ℕ, zero, suc, ◌+◌, ◌*◌, ◌<◌, ◌≤◌, Some, Bool, sym, ap, ◌∙◌, subst, arith}
 use Rattle.serde_json.specs.Data.{Data, depth}
 use Rattle.schemars_schema.specs.Json.{Text, IsJson}
 use Rattle.schemars_schema.specs.Verdict.{verdict}

@@ -60,22 +60,35 @@ found p (member l e ms) k w every is =
     go Greater same own is later = later is
 
 -- the text under the tag
-told_in : Text → Members → Option Text
+pub told_in : Text → Members → Option Text
 told_in tag ms = option_and_then as_str (get_member tag ms)
 
-told : Text → Data → Option Text
+pub told : Text → Data → Option Text
 told tag v = option_and_then (told_in tag) (as_object v)
+
+pub told_object : (tag : Text) (ms : Members) → told tag (object ms) ≡ told_in tag ms
+unfolding told
+told_object tag ms = refl
 
 text_is : (name : Text) (o : Option Text) → holds o (bytes_eq name) ≡ true → o ≡ Some name
 text_is name None h = absurd (true≢false (sym h))
 text_is name (Some s) h = ap Some (sym ((bytes_eq-Decides name s).0 h))
+
+-- where every member passes, that under the tag is the name
+pub named_under : (tag name : Text) (p : Text → Data → Bool) → ((w : Data) → p tag w ≡ true → is_text name w ≡ true)
+    → (ms : Members) → is_some (get_member tag ms) ≡ true → every_member p ms ≡ true → told_in tag ms ≡ Some name
+unfolding told_in
+named_under tag name p says ms there every = go (get_member tag ms) refl there
+  where
+    go : (o : Option Data) → get_member tag ms ≡ o → is_some o ≡ true → option_and_then as_str o ≡ Some name
+    go None at there = absurd (true≢false (sym there))
+    go (Some w) at there = text_is name (as_str w) (says w (found p ms tag w every at))
 
 module _ (contract : Contract) (M : ℕ → Data → Bool) (C : ℕ → Data → List Choice) (tag : Text) where
   member_told : (ps : List (List Choice)) (xs : List Field) (closed : Bool) (name : Text) (ms : Members)
       → is_some (get_member tag ms) && (every_part ps && (every_member (λ k w. tagged_fits M xs (shut closed ps k) tag name k w) ms
       && has_required contract xs ms)) ≡ true
       → told_in tag ms ≡ Some name
-  unfolding told_in
   member_told ps xs closed name ms h =
       let parts = and_parts (is_some (get_member tag ms)) (every_part ps && (every_member
       (λ k w. tagged_fits M xs (shut closed ps k) tag name k w) ms && has_required contract xs ms)) h in
@@ -83,20 +96,15 @@ module _ (contract : Contract) (M : ℕ → Data → Bool) (C : ℕ → Data →
       && has_required contract xs ms) parts.1 in
       let every = and_parts (every_member (λ k w. tagged_fits M xs (shut closed ps k) tag name k w) ms)
       (has_required contract xs ms) rest.1 in
-      go (get_member tag ms) refl parts.0 every.0
+      named_under tag name (λ k w. tagged_fits M xs (shut closed ps k) tag name k w)
+      (λ w fits. same (bytes_eq tag tag) w ((bytes_eq-Decides tag tag).1 refl) fits) ms parts.0 every.0
     where
       same : (b : Bool) (w : Data) → b ≡ true → (if b then is_text name w else member_fits M xs (shut closed ps tag) tag w) ≡ true
           → is_text name w ≡ true
       same true w e h = h
       same false w e h = absurd (true≢false (sym e))
 
-      go : (o : Option Data) → get_member tag ms ≡ o → is_some o ≡ true
-          → every_member (λ k w. tagged_fits M xs (shut closed ps k) tag name k w) ms ≡ true → option_and_then as_str o ≡ Some name
-      go None at there every = absurd (true≢false (sym there))
-      go (Some w) at there every = text_is name (as_str w) (same (bytes_eq tag tag) w ((bytes_eq-Decides tag tag).1 refl)
-          (found (λ k w. tagged_fits M xs (shut closed ps k) tag name k w) ms tag w every at))
-
-  tagged_told : (ps : List (List Choice)) (xs : List Field) (closed : Bool) (name : Text) (v : Data)
+  pub tagged_told : (ps : List (List Choice)) (xs : List Field) (closed : Bool) (name : Text) (v : Data)
       → has_tagged contract M ps tag xs closed name v ≡ true → told tag v ≡ Some name
   unfolding told
   tagged_told ps xs closed name (object ms) h = member_told ps xs closed name ms h
@@ -141,7 +149,7 @@ module _ (P : Variant → Bool) (claimed : Option Text) (claims : (x : Variant) 
   none_other k claim [] h = refl
   none_other k claim (x ∷ xs) h = rw (other_false (P x) k x.name claim h.0 (claims x), none_other k claim xs h.1) refl
 
-  one_if_any : (xs : List Variant) → AreDistinctVariants xs → exactly_one (map P xs) ≡ list_any P xs
+  pub one_if_any : (xs : List Variant) → AreDistinctVariants xs → exactly_one (map P xs) ≡ list_any P xs
   one_if_any [] h = refl
   one_if_any (x ∷ xs) h = go (P x) (claims x) (one_if_any xs h.1)
     where

@@ -34,6 +34,7 @@ pub mod Tags
 pub mod InternalParts
 pub mod ExternalSays
 pub mod InternalSays
+pub mod AdjacentSays
 pub mod StructReady
 pub mod Meanings
 pub mod FieldsDescribed

@@ -31,6 +31,7 @@ use Rattle.schemars_builders.proofs.LiteralNulls.{literal_ready}
 use Rattle.schemars_documents.proofs.Literals.{literal_document-schema}
 use Rattle.schemars_meaning.proofs.Choices.{result_says, bound_says, range_says, either_says}
 use Rattle.std.specs.Prelude.{codes}
+use Rattle.schemars_meaning.proofs.Enums.{adjacent_ready}
 
 -- ---- null can be added to each document
 
@@ -92,6 +93,8 @@ module _ (A : Ask → Data → Type 0) (has : Flattened → List Field) (basis :
   shape_ready (shape.untagged xs) s others enums p flat is =
       rw is.is (untagged_ready A basis Under apart ready structs xs others enums p flat is.parts is.answered)
   shape_ready (shape.internal tag closed xs) s others enums p flat is = rw is.is (internal_ready basis.contract tag closed xs is.parts)
+  shape_ready (shape.adjacent tag key closed xs) s others enums p flat is =
+      rw is.is (adjacent_ready basis.contract tag key closed xs is.parts)
   shape_ready (shape.literal d) s others enums p flat is =
       rw (is ∙ literal_document-schema d (literal_is_schema d p)) (literal_ready d p)
 
@@ -126,6 +129,7 @@ IsSame (shape.map_from key value) j = ⊥
 IsSame (shape.external xs) j = ⊥
 IsSame (shape.untagged xs) j = IsNewtypeIn j xs
 IsSame (shape.internal tag closed xs) j = ⊥
+IsSame (shape.adjacent tag key closed xs) j = ⊥
 IsSame (shape.literal d) j = ⊥
 
 -- where a part is asked: inside the value, or of the value itself
@@ -138,6 +142,7 @@ IsSimple (shape.struct x) = ⊥
 IsSimple (shape.external xs) = ⊥
 IsSimple (shape.untagged xs) = ⊥
 IsSimple (shape.internal tag closed xs) = ⊥
+IsSimple (shape.adjacent tag key closed xs) = ⊥
 IsSimple kind = Unit {0}
 
 module _ (patterns : Patterns) (f : Text → Judge) (basis : Basis) (A : Ask → Data → Type 0) (M : ℕ → Data → Bool)
@@ -204,3 +209,4 @@ module _ (patterns : Patterns) (f : Text → Judge) (basis : Basis) (A : Ask →
   simple_says (shape.external xs) s simple p is v json agree = absurd simple
   simple_says (shape.untagged xs) s simple p is v json agree = absurd simple
   simple_says (shape.internal tag closed xs) s simple p is v json agree = absurd simple
+  simple_says (shape.adjacent tag key closed xs) s simple p is v json agree = absurd simple

@@ -13,7 +13,7 @@ use Rattle.schemars_schema.specs.Verdict.{verdict, one_of, is_yes}
 use Rattle.schemars_schema.specs.Acceptance.{Context, Judge, judge, read_data, read_items, judged_by, judged_by_some}
 use Rattle.schemars_schema.specs.Acceptance.{judged_by_list, each_says}
 use Rattle.schemars_schema.proofs.Verdicts.{both-yes}
-use Rattle.schemars_schema.proofs.Objects.{schema-judge, says}
+use Rattle.schemars_schema.proofs.Objects.{schema-judge}
 use Rattle.schemars_schema.proofs.Members.{get_member-later}
 use Rattle.schemars_flatten.specs.Flatten.{alone}
 use Rattle.schemars_types.specs.Meaning.{exactly_one}

@@ -1,8 +1,8 @@
 -- Null can be added to each document of a table that is plain under its contract.
-use Rattle.std.proofs.Common.{◌≡◌, ◌⊎◌, inl, inr, ℕ, zero, suc, ◌+◌, ◌*◌, ◌<◌, ◌≤◌, List, [], Option, Some, None, Bool, true, false, refl}
+use Rattle.std.proofs.Common.{◌≡◌, inl, inr, ℕ, zero, suc, ◌<◌, List, Option, Some, None, refl}
 use Rattle.std.proofs.Common.{sym}
-use Rattle.std.proofs.Common.{ap, ◌∙◌, subst, length, arith}
-use Rattle.serde_json.specs.Data.{Data, null, depth}
+use Rattle.std.proofs.Common.{subst, length, arith}
+use Rattle.serde_json.specs.Data.{Data, null}
 use Rattle.schemars_schema.specs.Json.{Text}
 use Rattle.schemars_schema.specs.Acceptance.{Patterns, Judge}
 use Rattle.schemars_builders.specs.NullLaw.{context2020_12}
@@ -10,8 +10,8 @@ use Rattle.schemars_builders.proofs.Nulls.{IsReady}
 use Rattle.schemars_shapes.specs.Shape as shape
 use Rattle.schemars_shapes.specs.Shape.{Fields, Shape, Entry}
 use Rattle.schemars_types.specs.Rows.{Row, entry_at}
-use Rattle.schemars_types.specs.Effective.{effective, row_fields, flattened_in, shape_fields, flattened_enums, part_enums, enums_within}
-use Rattle.schemars_types.specs.Effective.{shape_enums, enum_at, spread_in}
+use Rattle.schemars_types.specs.Effective.{row_fields, flattened_in, shape_fields, part_enums, enums_within}
+use Rattle.schemars_types.specs.Effective.{shape_enums, spread_in}
 use Rattle.schemars_types.specs.declared.contract.Contract.{Contract}
 use Rattle.schemars_documents.specs.PlainTable.{IsPlainShape, ArePartsUnder, IsEntryUnder, IsPlainUnder, parts_in}
 use Rattle.schemars_documents.specs.Basis.{Basis}

@@ -50,6 +50,9 @@ use Rattle.schemars_meaning.proofs.SpreadMaps.{answered_left, IsMapAt, map_keeps
 use Rattle.schemars_meaning.proofs.SpreadMaps.{part_holds, tag_holds, struct_holds, names_in, more_names, names_apart}
 use Rattle.schemars_meaning.proofs.SpreadMaps.{tag_apart, apart-first}
 use Rattle.schemars_meaning.proofs.NodeReferences.{AsSchema, AsNamed, AreItems, AreNamed, refers_schema, kept_schema}
+use Rattle.schemars_documents.specs.OfShape.{said, whole_template, adjacent_payload, adjacent_item, adjacent_template}
+use Rattle.schemars_schema.proofs.Members.{flipped}
+use Rattle.schemars_builders.specs.Variants.{unit_variant}
 
 -- ---- each shape
 
@@ -107,6 +110,7 @@ IsNotedShape (shape.struct x) = AreNoted x.list
 IsNotedShape (shape.external xs) = AreNotedVariants xs
 IsNotedShape (shape.untagged xs) = AreNotedVariants xs
 IsNotedShape (shape.internal tag closed xs) = AreNotedVariants xs
+IsNotedShape (shape.adjacent tag key closed xs) = AreNotedVariants xs
 IsNotedShape (shape.literal d) = IsPlainLiteral d
 IsNotedShape _ = Unit {0}
 
@@ -157,6 +161,7 @@ plain-shape_noted rows (shape.map_from key value) h = tt
 plain-shape_noted rows (shape.external xs) h = plain-variants_noted (flattened_in rows) (part_enums rows) xs h.1
 plain-shape_noted rows (shape.untagged xs) h = plain-variants_noted (flattened_in rows) (part_enums rows) xs h
 plain-shape_noted rows (shape.internal tag closed xs) h = plain-variants_noted (flattened_in rows) (part_enums rows) xs h.1
+plain-shape_noted rows (shape.adjacent tag key closed xs) h = plain-variants_noted (flattened_in rows) (part_enums rows) xs h.2
 plain-shape_noted rows (shape.literal d) h = h
 
 -- a plain entry has such notes
@@ -284,6 +289,13 @@ module _ (Q : Type 0) (Answers : Ask → Data → Type 0) (basis : Basis)
   member_as_schema : (name : Text) (t : Template) → Schema t → Schema (member_template true name t)
   member_as_schema name t h = map_as_schema ((name, t) ∷ []) (text_items (name ∷ [])) true ((h, tt), λ q. (tt, tt))
 
+  two_as_schema : (tag key name : Text) (closed : Bool) (t : Template) → Schema t → (Q → bytes_eq tag key ≡ false)
+      → Schema (whole_template (said tag (unit_variant name) ∷ (key, t) ∷ []) closed)
+  unfolding found_in
+  two_as_schema tag key name closed t h apart =
+      map_as_schema (said tag (unit_variant name) ∷ (key, t) ∷ []) (text_items (tag ∷ key ∷ [])) closed
+      ((refl, (h, tt)), λ q. ((flipped tag key (apart q), tt), (tt, tt)))
+
   named_as_schema : (name : Text) (p : Payload) → IsNotedPayload p → (Q → IsPlainContent p)
       → Schema (named_template basis.contract name p)
   unfolding found_in
@@ -371,6 +383,37 @@ module _ (Q : Type 0) (Answers : Ask → Data → Type 0) (basis : Basis)
   unfolding found_in
   internal_as_schema tag closed [] h g = refl
   internal_as_schema tag closed (x ∷ xs) h g = search (internals_as_items tag closed (x ∷ xs) h g)
+
+  -- name and payload under two keys
+  beside_as_schema : (tag key name : Text) (closed : Bool) (p : Payload) → IsNotedPayload p
+      → (Q → IsPlainContent p × (bytes_eq tag key ≡ false))
+      → Schema (whole_template (said tag (unit_variant name) ∷ adjacent_payload basis.contract key p) closed)
+  unfolding found_in
+  beside_as_schema tag key name closed no_payload h g =
+      map_as_schema (said tag (unit_variant name) ∷ []) (text_items (tag ∷ [])) closed ((refl, tt), λ q. (tt, tt))
+  beside_as_schema tag key name closed (newtype_payload n) h g = two_as_schema tag key name closed (row n) tt (λ q. (g q).1)
+  beside_as_schema tag key name closed (tuple_payload ns) h g =
+      two_as_schema tag key name closed (tuple_template ns) (tuple_as_schema ns) (λ q. (g q).1)
+  beside_as_schema tag key name closed (struct_payload x) h g =
+      two_as_schema tag key name closed (struct_template basis.contract x)
+      (struct_as_schema x h (λ q. ((g q).0.0.0, (g q).0.1))) (λ q. (g q).1)
+
+  abbrev AreBeside : Text → Text → List Variant → Type 0
+  AreBeside tag key xs = ArePlainContents xs × (bytes_eq tag key ≡ false)
+
+  besides_as_items : (tag key : Text) (closed : Bool) (xs : List Variant) → AreNotedVariants xs → (Q → AreBeside tag key xs)
+      → EachSchema (templates_of (map (adjacent_item basis.contract tag key closed) xs))
+  besides_as_items tag key closed [] h g = tt
+  besides_as_items tag key closed (x ∷ xs) h g = (
+    (h.0, beside_as_schema tag key x.name closed x.payload h.1 (λ q. (here x xs (g q).0, (g q).1))),
+    besides_as_items tag key closed xs h.2 (λ q. (later x xs (g q).0, (g q).1)),
+  )
+
+  adjacent_as_schema : (tag key : Text) (closed : Bool) (xs : List Variant) → AreNotedVariants xs → (Q → AreBeside tag key xs)
+      → Schema (adjacent_template basis.contract tag key closed xs)
+  unfolding found_in
+  adjacent_as_schema tag key closed [] h g = refl
+  adjacent_as_schema tag key closed (x ∷ xs) h g = search (besides_as_items tag key closed (x ∷ xs) h g)
 
   -- ---- maps
 
@@ -464,6 +507,8 @@ module _ (Q : Type 0) (Answers : Ask → Data → Type 0) (basis : Basis)
   shape_as_schema (shape.untagged xs) p g = untagged_as_schema basis.titles xs p g
   shape_as_schema (shape.internal tag closed xs) p g =
       internal_as_schema tag closed xs p (λ q. (((g q).0.1, (g q).1), (g q).0.2))
+  shape_as_schema (shape.adjacent tag key closed xs) p g =
+      adjacent_as_schema tag key closed xs p (λ q. (((g q).0.2, (g q).1), (g q).0.0))
   shape_as_schema (shape.literal d) p g =
       ap references (literal_document-schema d (literal_is_schema d p)) ∙ literal_refers_nowhere d p
 

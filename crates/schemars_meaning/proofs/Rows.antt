@@ -21,6 +21,8 @@ use Rattle.schemars_documents.specs.OfShape.{struct_template, template_of, paylo
 use Rattle.schemars_documents.specs.OfShape.{bare_units, other_items, choice_of, KeywordTemplate, values_template, values_of, all_patterns}
 use Rattle.schemars_documents.specs.OfShape.{pattern_properties_at, properties_at, payload_item, titled}
 use Rattle.schemars_documents.specs.OfShape.{untagged_template, internal_item, internal_template}
+use Rattle.schemars_documents.specs.OfShape.{said, whole_template, adjacent_payload, adjacent_item, adjacent_template}
+use Rattle.schemars_builders.specs.Variants.{unit_variant}
 
 abbrev pub asks_at : List Field → List Ask
 asks_at xs = asks_in (templates_of (map (λ e. e.1) (map property xs)))
@@ -222,6 +224,39 @@ module _ (P : Ask → Type 0) where
       ended (asks_in (templates_of (map (internal_item contract tag closed) (x ∷ xs))))
       (contents_all contract tag closed (x ∷ xs) h g f)
 
+  beside_all : (contract : Contract) (tag key name : Text) (closed : Bool) (p : Payload) → Parts (payload_numbers p)
+      → Members (payload_flattened p)
+      → All P (asks_of (whole_template (said tag (unit_variant name) ∷ adjacent_payload contract key p) closed))
+  beside_all contract tag key name false no_payload h g = nothing
+  beside_all contract tag key name true no_payload h g = nothing
+  beside_all contract tag key name false (newtype_payload n) h g = keyed_all (part n ∷ []) (one n [] h)
+  beside_all contract tag key name true (newtype_payload n) h g = keyed_all (part n ∷ []) (one n [] h)
+  beside_all contract tag key name false (tuple_payload ns) h g = keyed_all (asks_of (tuple_template ns)) (tuple_all ns h)
+  beside_all contract tag key name true (tuple_payload ns) h g = keyed_all (asks_of (tuple_template ns)) (tuple_all ns h)
+  beside_all contract tag key name false (struct_payload x) h g =
+      keyed_all (asks_of (struct_template contract x)) (struct_all contract x h g)
+  beside_all contract tag key name true (struct_payload x) h g =
+      keyed_all (asks_of (struct_template contract x)) (struct_all contract x h g)
+
+  besides_all : (contract : Contract) (tag key : Text) (closed : Bool) (xs : List Variant) → EachPart xs → EachMember xs
+      → All P (asks_in (templates_of (map (adjacent_item contract tag key closed) xs)))
+  besides_all contract tag key closed [] h g = nothing
+  besides_all contract tag key closed (x ∷ xs) h g =
+      joined (asks_of (adjacent_item contract tag key closed x)) _
+      (beside_all contract tag key x.name closed x.payload
+      (λ m is. h m (Contains-append_left (payload_numbers x.payload) (variant_numbers xs) m is))
+      (λ m b is. g m b (Contains-append_left (payload_flattened x.payload) (of_variants payload_flattened xs) m is)))
+      (besides_all contract tag key closed xs
+      (λ m is. h m (Contains-append_right (payload_numbers x.payload) (variant_numbers xs) m is))
+      (λ m b is. g m b (Contains-append_right (payload_flattened x.payload) (of_variants payload_flattened xs) m is)))
+
+  adjacent_all : (contract : Contract) (tag key : Text) (closed : Bool) (xs : List Variant) → EachPart xs → EachMember xs
+      → All P (asks_of (adjacent_template contract tag key closed xs))
+  adjacent_all contract tag key closed [] h g = nothing
+  adjacent_all contract tag key closed (x ∷ xs) h g =
+      ended (asks_in (templates_of (map (adjacent_item contract tag key closed) (x ∷ xs))))
+      (besides_all contract tag key closed (x ∷ xs) h g)
+
   -- ---- maps
 
   abbrev text_asks : ℕ → List Text → List Ask
@@ -284,4 +319,5 @@ module _ (P : Ask → Type 0) where
       choice_all (bare_units xs) (other_items basis.contract xs) (others_all basis.contract xs h g)
   all_asks basis (shape.untagged xs) h g f = untagged_all basis.contract basis.titles xs h g
   all_asks basis (shape.internal tag closed xs) h g f = internal_all basis.contract tag closed xs h g f
+  all_asks basis (shape.adjacent tag key closed xs) h g f = adjacent_all basis.contract tag key closed xs h g
   all_asks basis (shape.literal d) h g f = nothing

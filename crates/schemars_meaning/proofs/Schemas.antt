@@ -22,6 +22,7 @@ use Rattle.schemars_documents.specs.Describes.{AreAnswered, IsAnswered, IsWritte
 use Rattle.schemars_meaning.proofs.Notes.{annotated-schema}
 use Rattle.schemars_meaning.proofs.Parts.{answers_all, first_all, answer_holds, described_holds, written_holds}
 use Rattle.schemars_meaning.proofs.ReferencesKept.{allow_null-schema}
+use Rattle.schemars_documents.specs.OfShape.{adjacent_template}
 
 abbrev pub AreSchemas : List Data → Type 0
 AreSchemas = AllByRecursion IsSchema
@@ -63,6 +64,11 @@ internal_makes : (contract : Contract) (tag : Text) (closed : Bool) (xs : List V
     → MakesSchema (internal_template contract tag closed xs)
 internal_makes contract tag closed [] = tt
 internal_makes contract tag closed (x ∷ xs) = tt
+
+adjacent_makes : (contract : Contract) (tag key : Text) (closed : Bool) (xs : List Variant)
+    → MakesSchema (adjacent_template contract tag key closed xs)
+adjacent_makes contract tag key closed [] = tt
+adjacent_makes contract tag key closed (x ∷ xs) = tt
 
 choice_makes : (ks : List Text) (ts : List Template) → MakesSchema (choice_of ks ts)
 choice_makes [] [] = tt
@@ -117,6 +123,7 @@ shape_makes basis (shape.map_from key value) = values_make (key_options basis.ro
 shape_makes basis (shape.external xs) = choice_makes (bare_units xs) (other_items basis.contract xs)
 shape_makes basis (shape.untagged xs) = untagged_makes basis.contract basis.titles xs
 shape_makes basis (shape.internal tag closed xs) = internal_makes basis.contract tag closed xs
+shape_makes basis (shape.adjacent tag key closed xs) = adjacent_makes basis.contract tag key closed xs
 shape_makes basis (shape.literal d) = literal_makes d
 
 -- the filled template of an entry is a schema, where the answers are

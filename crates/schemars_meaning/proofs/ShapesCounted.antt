@@ -37,6 +37,7 @@ use Rattle.schemars_meaning.proofs.InternalSays.{IsInside, AreInside, internal_s
 use Rattle.schemars_meaning.proofs.PartsDescribed.{under_apart}
 use Rattle.schemars_meaning.proofs.StructsCounted.{HasRoom, Told, Tell, struct_stands, struct_says, tuple_tells, tell_inside}
 use Rattle.schemars_meaning.proofs.StructDocuments.{both_empty}
+use Rattle.schemars_meaning.proofs.AdjacentSays.{adjacent_says}
 
 room_apart : (ranks : ℕ) (v : Data) (m : ℕ) (ps qs : List Flattened) → HasRoom ranks v m (ps ++ qs)
     → HasRoom ranks v m ps × HasRoom ranks v m qs
@@ -186,6 +187,9 @@ module _ (patterns : Patterns) (f : Text → Judge) (basis : Basis) (Refers : �
         (part_enums rows) StructTold
         (λ y told us fit. struct_stands patterns f basis Refers plain fields_settled enums_settled ranks some top said v json within m enough
         d y told.1 told.0 tell us fit) tag closed xs fine.0 (inside_each tag xs fine.1 fine.2 under room) h.parts h.answered)
+    shape_says (shape.adjacent tag key closed xs) room fine under s h agree =
+        rw h.is (adjacent_says c refl contract (Answer d) (B m) (C m) v json (unit_says patterns f basis (B m)) (flattened_in rows)
+        (part_enums rows) IsTold (tell m enough d) tag key fine.0 closed xs fine.1 (told_each xs fine.2 under) h.parts h.answered)
     shape_says kind room fine under s h agree =
         simple_says patterns f basis (Answer d) (B m) (C m) (flattened_in rows) (part_enums rows) (ready d) kind s tt fine
         (others_fill (Answer d) (flattened_in rows) basis kind s h.parts tt h.answered h.is) v json agree

@@ -1,9 +1,9 @@
 -- The documents of structs with flattened enums, put into one another, and what they mean.
-use Rattle.std.proofs.Common.{◌≡◌, ℕ, ◌<◌, List, [], ◌∷◌, ◌++◌, map, Option, Some, None, Bool, true, false, option_map, refl, sym, ap}
+use Rattle.std.proofs.Common.{◌≡◌, ℕ, ◌<◌, List, [], ◌∷◌, ◌++◌, Option, Some, None, Bool, true, false, option_map, refl, sym, ap}
 use Rattle.std.proofs.Common.{◌∙◌, subst, true≢false}
 use Rattle.std.specs.Prelude.{codes, bytes_eq, if◌then◌else◌, ◌&&◌, ◌||◌, not, option_and_then}
 use Rattle.serde_json.specs.Data.{Data, null, array, object, number, boolean, string, Items, Members, no_members, member}
-use Rattle.serde_json.specs.Data.{put, depth}
+use Rattle.serde_json.specs.Data.{depth}
 use Rattle.serde_json.specs.Find.{get, get_member, as_str, as_array}
 use Rattle.serde_json.specs.View.{items_of}
 use Rattle.schemars_schema.specs.Json.{Text, IsJson}

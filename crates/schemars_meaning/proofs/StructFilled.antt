@@ -1,26 +1,22 @@
 -- What fills the template of a struct is the document of a struct with its own fields and enums and those of the rows flattened into
 -- it, whatever these are.
-use Rattle.std.proofs.Common.{◌≡◌, ℕ, ◌<◌, List, [], ◌∷◌, ◌++◌, Bool, true, false, map, refl, sym, ap, ◌∙◌, subst, append_assoc, append-nil}
-use Rattle.std.specs.Prelude.{if◌then◌else◌}
-use Rattle.serde_json.specs.Data.{Data, Members, no_members, depth}
-use Rattle.schemars_schema.specs.Json.{Text, IsJson}
-use Rattle.schemars_schema.specs.Acceptance.{Context, Judge, judge}
-use Rattle.schemars_builders.specs.NullLaw.{text_items}
+use Rattle.std.proofs.Common.{◌≡◌, ℕ, List, [], ◌∷◌, ◌++◌, Bool, true, refl, sym, subst, append_assoc, append-nil}
+use Rattle.serde_json.specs.Data.{Data}
+use Rattle.schemars_schema.specs.Acceptance.{Context}
 use Rattle.schemars_flatten.specs.Flatten.{flattened}
 use Rattle.schemars_shapes.specs.Shape.{Field, Flattened, Fields}
 use Rattle.schemars_types.specs.declared.contract.Contract.{Contract}
 use Rattle.schemars_types.specs.Meaning.{is_required}
-use Rattle.schemars_documents.specs.Documents.{Keyword, annotated, required_names}
-use Rattle.schemars_documents.specs.Template.{Ask, part, members_of, Template, asked, with_keywords, asks_of, asks_in, filled, filled_in}
-use Rattle.schemars_documents.specs.Template.{first, keyed}
-use Rattle.schemars_documents.specs.OfShape.{templates_of, property, map_template, with_flattened, struct_template, fields_template}
-use Rattle.schemars_types.specs.Meaning.{Choice, every_part, claims}
+use Rattle.schemars_documents.specs.Documents.{required_names}
+use Rattle.schemars_documents.specs.Template.{Ask, part, members_of, Template, asked, with_keywords, asks_of, filled}
+use Rattle.schemars_documents.specs.Template.{first}
+use Rattle.schemars_documents.specs.OfShape.{with_flattened, struct_template, fields_template}
+use Rattle.schemars_types.specs.Meaning.{Choice}
 use Rattle.schemars_types.specs.Effective.{flattened_fields}
-use Rattle.schemars_meaning.proofs.MapDocument.{map_document}
 use Rattle.schemars_meaning.proofs.MapKeywords.{keywords}
 use Rattle.schemars_meaning.proofs.Flattened.{map_fills}
-use Rattle.schemars_meaning.proofs.Filling.{Fit, without_end, parted}
-use Rattle.schemars_meaning.proofs.Spread.{field_keywords, AreWritten}
+use Rattle.schemars_meaning.proofs.Filling.{Fit, parted}
+use Rattle.schemars_meaning.proofs.Spread.{field_keywords}
 use Rattle.schemars_meaning.proofs.Opened.{no_parts, map_form}
 use Rattle.schemars_meaning.proofs.StructDocuments.{IsStruct, IsPart, flattened_struct}
 

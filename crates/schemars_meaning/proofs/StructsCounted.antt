@@ -1,29 +1,26 @@
 -- Structs and payloads of a table that is plain under its contract say under 2020-12 what they mean, with steps counted down, where
 -- smaller values are told rightly.
-use Rattle.std.proofs.Common.{◌≡◌, ◌⊎◌, inl, inr, ℕ, zero, suc, ◌+◌, ◌*◌, ◌<◌, ◌≤◌, List, [], ◌∷◌, ◌++◌, Option, Some, None, Bool, true}
-use Rattle.std.proofs.Common.{false}
+use Rattle.std.proofs.Common.{◌≡◌, ◌⊎◌, inl, inr, ℕ, zero, suc, ◌+◌, ◌*◌, ◌<◌, ◌≤◌, List, [], ◌∷◌, Some, Bool}
 use Rattle.std.proofs.Common.{map, refl, sym, ap, ◌∙◌, subst, length, arith}
 use Rattle.std.proofs.Math.Nat.{mul-le-mul_right}
 use Rattle.serde_json.specs.Data.{Data, depth}
 use Rattle.schemars_schema.specs.Json.{Text, IsJson}
 use Rattle.schemars_schema.specs.SchemaData.{IsSchema}
-use Rattle.schemars_schema.specs.Annotations.{AreNotes}
 use Rattle.schemars_schema.specs.Verdict.{verdict}
 use Rattle.schemars_schema.specs.Acceptance.{Context, Judge, Patterns, judge}
 use Rattle.schemars_builders.specs.NullLaw.{context2020_12}
 use Rattle.schemars_builders.proofs.Nulls.{ready-schema}
-use Rattle.schemars_shapes.specs.Shape as shape
 use Rattle.schemars_shapes.specs.Shape.{Field, Fields, Flattened, Entry, Payload, no_payload, newtype_payload, tuple_payload}
 use Rattle.schemars_shapes.specs.Shape.{struct_payload}
 use Rattle.schemars_types.specs.Rows.{Row, entry_at}
 use Rattle.schemars_types.specs.Effective.{effective, row_fields, flattened_in, shape_fields, flattened_enums, part_enums, enums_within}
-use Rattle.schemars_types.specs.Effective.{shape_enums, enum_at, spread_payload, spread_in}
+use Rattle.schemars_types.specs.Effective.{shape_enums, enum_at, spread_payload}
 use Rattle.schemars_types.specs.declared.contract.Contract.{Contract}
 use Rattle.schemars_types.specs.Meaning.{Choice, is_required, offers, has_payload, belongs_within, choices_within}
 use Rattle.schemars_flatten.proofs.Schemas.{flattened-schema}
 use Rattle.schemars_documents.specs.PlainTable.{IsPlainPayload, IsPlainUnder, IsPartUnder, ArePartsUnder, payload_parts}
 use Rattle.schemars_documents.specs.Basis.{Basis}
-use Rattle.schemars_documents.specs.Template.{Ask, Template, part, members_of, asked, with_keywords, asks_of, filled, first, left}
+use Rattle.schemars_documents.specs.Template.{Ask, Template, members_of, asked, with_keywords, asks_of, filled, first, left}
 use Rattle.schemars_documents.specs.OfShape.{struct_template, payload_template, fields_template, with_flattened}
 use Rattle.schemars_documents.specs.Describes.{IsAnswered, IsWritten, Describes}
 use Rattle.schemars_meaning.proofs.Filling.{Fit}
