@@ -17,6 +17,7 @@ use Rattle.std.proofs.lemmas.Map.Keys.{IsDistinct-push, IsDistinct-head, IsDisti
 use Rattle.std.proofs.lemmas.Map.Made.{length-le_from_is_member}
 use Rattle.std.proofs.lemmas.Slice.Eq.{bytes_eq-Decides}
 use Rattle.schemars_schema.specs.Json.{Text}
+use Rattle.schemars_schema.proofs.Members.{bytes_eq_comm}
 use Rattle.schemars_types.specs.declared.contract.Contract.{Contract}
 use Rattle.schemars_types.specs.declared.contract.Contract.TheVariants.{Deserialize, Serialize}
 use Rattle.schemars_build.specs.declared.names.Owner.{Owner}
@@ -26,9 +27,6 @@ use Rattle.schemars_build.specs.Naming.{NamedRow, Naming, is_of, name_of, is_use
 use Rattle.schemars_build.specs.Owners.{named_row, naming_of}
 
 -- ---- tests
-
-bytes_eq_comm : (a b : Text) → bytes_eq a b ≡ bytes_eq b a
-bytes_eq_comm a b = same_from_decides _ _ (bytes_eq-Decides a b) (Decides-like (bytes_eq b a) sym sym (bytes_eq-Decides b a))
 
 eqb_comm : (m n : ℕ) → (m == n) ≡ (n == m)
 eqb_comm m n = same_from_decides _ _ (Decides-eqb m n) (Decides-like (n == m) sym sym (Decides-eqb n m))

@@ -6,10 +6,9 @@ ghost use Rattle.schemars_build.specs.Placed.{is_in_place};
 ghost use Rattle.schemars_build.specs.Work as specs;
 ghost use Rattle.schemars_build.specs.Work.{Step, undone, reference_to};
 ghost use Rattle.schemars_build.specs.Plans.{plan_of};
-ghost use Rattle.schemars_types.specs.Edges.{is_inline_at, option_at};
+ghost use Rattle.schemars_types.specs.Edges.{is_inline_at};
 ghost use Rattle.schemars_documents.specs.Template as spec;
 ghost use Rattle.schemars_documents.specs.View.{ask_of};
-ghost use Rattle.schemars_documents.specs.Describes.{without_options};
 ghost use Rattle.schemars_build.specs.Missing.{row_asked};
 ghost use Rattle.schemars_build.specs.Parts.{IsAnswer, IsOwn};
 ghost use Rattle.schemars_build.specs.Making.{Wanted, own, asked, wanted, row_wanted, IsReply};
@@ -27,7 +26,7 @@ use schemars_documents::template::{Ask, Template, fill};
 use schemars_flatten::{as_flattened, open_inside, stands_in_place};
 use schemars_schema::Schema;
 use schemars_schema::encoding::encode_ref_name;
-use schemars_types::{Contract, TypeNo, Types};
+use schemars_types::{Contract, TypeNo, Types, row_inside, without_options};
 use std::alloc::{AllocError, Global};
 use std::collections::VecDeque;
 
@@ -240,7 +239,7 @@ fn reply_to<'t>(
         Ask::Part(n) => part(alloc, plan, work, making, in_definition, n),
         Ask::MembersOf(n, required) => {
             let inner = without_options(plan.types, n);
-            let is_optional = !required && option(plan.types, n).is_some();
+            let is_optional = !required && row_inside(plan.types, n).is_some();
             let purpose = Purpose::Members(is_optional);
             opened(alloc, plan, making, in_definition, inner, purpose)
         }
@@ -434,30 +433,6 @@ fn closed<'t>(
             open_inside(alloc, &mut schema)?;
             Ok(Some(schema))
         }
-    }
-}
-
-// Row `n` without the Options around it.
-fn without_options(types: &Types, n: TypeNo) -> TypeNo
-    ensures { result ≡ without_options types.now n }
-{
-    let mut at = n;
-    for _step in 0..types.len() {
-        let Some(inner) = option(types, at) else {
-            return at;
-        };
-        at = inner;
-    }
-    at
-}
-
-// The row in row `n`, an Option.
-fn option(types: &Types, n: TypeNo) -> Option<TypeNo>
-    ensures { result ≡ option_at types.now n }
-{
-    match types.entry(n) {
-        Some(entry) => entry.shape.option(),
-        None => None,
     }
 }
 
