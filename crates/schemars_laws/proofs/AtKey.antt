@@ -21,9 +21,9 @@ use Rattle.schemars_laws.proofs.Moved.{Moves, IsLed, Leads, schema-moved}
 use Rattle.schemars_laws.proofs.Paths.{names_get, schema-kept, all-members}
 
 module _ {R : Type 0} (ρ : Rules R) (r : R) (key : Text) (at : place_under key ≡ SchemasByName) (old new : Dialect) (Q : Members → Type 0)
-    (h : Moves ρ key old new Q) (ms : Members) (map : IsMap (get_member key ms)) (a : Everywhere (Named key Q) (object ms)) where
+    (h : Moves ρ key old new Q) (ms : Members) (map : IsMap (get_member key ms)) (a : Everywhere (Named old key Q) (object ms)) where
   abbrev P : Members → Type 0
-  P = Named key Q
+  P = Named old key Q
 
   abbrev inner : R
   inner = ρ.inside r (object ms)
@@ -84,7 +84,7 @@ module _ {R : Type 0} (ρ : Rules R) (r : R) (key : Text) (at : place_under key 
   name-leads k t name (Some (string s)) there is = absurd is
   name-leads k t name (Some (array ds)) there is = absurd is
 
-  key-leads : Leads ρ (IsName key) Q (object ms) (object news)
+  key-leads : Leads ρ old (IsName key) Q (object ms) (object news)
   key-leads t (inl is) =
       subst (λ o. IsLed ρ P o (resolved (object news) t)) (sym (ap (resolved (object ms)) is ∙ resolved-whole ms))
       (subst (λ o. IsLed ρ P (Some (object ms)) o) (sym (ap (resolved (object news)) is ∙ resolved-whole news))

@@ -15,7 +15,7 @@ use Rattle.schemars_transform.specs.Unevaluated.{unevaluated_as_additional}
 use Rattle.schemars_laws.specs.Everywhere.{Everywhere}
 use Rattle.schemars_laws.specs.Classes.{HasPlainItems, HasPlainReference, HasPlainType, HasNoUnevaluated, IsTypes, IsConstAlone}
 use Rattle.schemars_laws.specs.Classes.{without_unevaluated, with_nullable_read, alone_by, without_const}
-use Rattle.schemars_laws.specs.Names.{NamedBy}
+use Rattle.schemars_laws.specs.Names.{HasPlainUnevaluated, NamedBy}
 use Rattle.schemars_laws.specs.Paths.{IsDefinitionAt, EachEverywhere, each_changed, components, components_of}
 use Rattle.schemars_laws.specs.Stages.{AreSomeTypes, Stands, IsForOpenApi, AfterNullable, AfterSiblings, Anything}
 use Rattle.schemars_laws.specs.Laws.{MovesToOpenApi, for_openapi3}
@@ -25,6 +25,7 @@ use Rattle.schemars_laws.proofs.Preserved.{Preserves, after, weaker}
 use Rattle.schemars_laws.proofs.Nullable.{nullable_change}
 use Rattle.schemars_laws.proofs.BoolSchemas.{bool_schemas}
 use Rattle.schemars_laws.proofs.Paths.{names_get, definition-leads}
+use Rattle.schemars_laws.proofs.Plain.{none-plain, unread-plain}
 use Rattle.schemars_laws.proofs.Laws.{unevaluated-moves, nullable-moves, siblings-moves, example-moves, const-moves, prefix-moves}
 use Rattle.schemars_laws.proofs.Steps.{text-alone, text-named}
 use Rattle.schemars_laws.proofs.Seven.{keep-unevaluated, keep-bool, keep-nullable, keep-siblings, keep-example, keep-const, keep-positions}
@@ -35,13 +36,10 @@ pub components-found : (es : Members) → pointer components (components_of es) 
 components-found es = pointer-components (member (codes "components") (object (member (codes "schemas") (object es) no_members)) no_members)
     (member (codes "schemas") (object es) no_members) (object es) refl refl
 
-naming : (N : Text → Type 0) (P Q : Members → Type 0) → ((ms : Members) → Stands N P ms → Q ms) → (ms : Members) → Stands N P ms
-    → NamedBy N Q ms
-naming N P Q own ms is = (text-named N (get_member (codes "$ref") ms) is.reference, is.closed, own ms is)
-
 -- what a transform moves, and what it keeps
 record Moving (N : Text → Type 0) {R : Type 0} (ρ : Rules R) (old new : Dialect) (P Q : Members → Type 0) : Type 1 where
   asks : Members → Type 0
+  unevaluated : (ms : Members) → Stands N P ms → HasPlainUnevaluated old ms
   own : (ms : Members) → Stands N P ms → asks ms
   rewrites : Rewrites ρ old new asks
   keeps : Preserves ρ (Stands N P) (Stands N Q)
@@ -116,7 +114,7 @@ module _ (N : Text → Type 0) (are : (t : Text) → N t → IsDefinitionAt comp
         → accepts new (components_of (in_names ρ r es)) patterns n (rewritten ρ r part) v ≡ accepts old (components_of es) patterns n part v
     step es all patterns n part v is =
         schema-moved ρ N old new h.asks h.rewrites (components_of es) (components_of (in_names ρ r es))
-        (λ t is. definition-leads ρ r components plain-components N h.asks (components_of es)
+        (λ t is. definition-leads ρ r components plain-components (NamedBy old N h.asks) (components_of es)
         (components_of (in_names ρ r es)) h.rewrites.schema (record {
           entries = es;
           before = components-found es;
@@ -124,14 +122,17 @@ module _ (N : Text → Type 0) (are : (t : Text) → N t → IsDefinitionAt comp
           each = λ k d found. down d (all k d found);
         }) t (are t is)) patterns n r part v (down part is)
       where
-        down : (d : Data) → Everywhere (Stands N P) d → Everywhere (NamedBy N h.asks) d
-        down d is = weaker (Stands N P) (NamedBy N h.asks) (naming N P h.asks h.own) d is
+        down : (d : Data) → Everywhere (Stands N P) d → Everywhere (NamedBy old N h.asks) d
+        down d is =
+            weaker (Stands N P) (NamedBy old N h.asks)
+            (λ ms is. (text-named N (get_member (codes "$ref") ms) is.reference, h.unevaluated ms is, h.own ms is)) d is
 
   -- ---- the seven
 
   first : Moving N (change_rules unevaluated_as_additional) draft2020_12 unevaluated_gone IsForOpenApi IsForOpenApi
   first = record {
     asks = HasNoUnevaluated;
+    unevaluated = λ ms is. none-plain draft2020_12 ms is.own.unevaluated;
     own = λ ms is. is.own.unevaluated;
     rewrites = (unevaluated-moves (codes "$defs") refl draft2020_12 (differ (codes "$defs") (codes "properties") refl)).rewrites;
     keeps = keep-unevaluated N;
@@ -140,6 +141,7 @@ module _ (N : Text → Type 0) (are : (t : Text) → N t → IsDefinitionAt comp
   second : Moving N bool_rules unevaluated_gone unevaluated_gone IsForOpenApi IsForOpenApi
   second = record {
     asks = IsForOpenApi;
+    unevaluated = λ ms is. unread-plain unevaluated_gone ms refl;
     own = λ ms is. is.own;
     rewrites = (bool_schemas (codes "$defs") unevaluated_gone IsForOpenApi).rewrites;
     keeps = keep-bool N;
@@ -148,6 +150,7 @@ module _ (N : Text → Type 0) (are : (t : Text) → N t → IsDefinitionAt comp
   third : Moving N (change_rules nullable_change) unevaluated_gone nullable_read IsForOpenApi AfterNullable
   third = record {
     asks = HasPlainType;
+    unevaluated = λ ms is. unread-plain unevaluated_gone ms refl;
     own = λ ms is. (are_types (get_member (codes "type") ms) is.own.type.0, is.own.type.1, is.own.type.2);
     rewrites = (nullable-moves (codes "$defs") refl unevaluated_gone).rewrites;
     keeps = keep-nullable N;
@@ -156,6 +159,7 @@ module _ (N : Text → Type 0) (are : (t : Text) → N t → IsDefinitionAt comp
   fourth : Moving N (change_rules without_siblings) nullable_read siblings_passed AfterNullable AfterSiblings
   fourth = record {
     asks = HasPlainReference;
+    unevaluated = λ ms is. unread-plain nullable_read ms refl;
     own = λ ms is. (is.once, text-alone N (get_member (codes "$ref") ms) is.reference, is.own.0);
     rewrites = (siblings-moves (codes "$defs") refl nullable_read).rewrites;
     keeps = keep-siblings N;
@@ -166,6 +170,7 @@ module _ (N : Text → Type 0) (are : (t : Text) → N t → IsDefinitionAt comp
       let moved = (example-moves (codes "$defs") refl siblings_passed AfterSiblings).rewrites in
       record {
         asks = AfterSiblings;
+        unevaluated = λ ms is. unread-plain siblings_passed ms refl;
         own = λ ms is. is.own;
         rewrites = moved;
         keeps = keep-example N (λ s is. moved.schema tt s is);
@@ -176,6 +181,7 @@ module _ (N : Text → Type 0) (are : (t : Text) → N t → IsDefinitionAt comp
       let moved = (const-moves (codes "$defs") refl siblings_passed).rewrites in
       record {
         asks = IsConstAlone;
+        unevaluated = λ ms is. unread-plain siblings_passed ms refl;
         own = λ ms is. is.own.0;
         rewrites = moved;
         keeps = keep-const N (λ s is. moved.schema tt s is);
@@ -186,6 +192,7 @@ module _ (N : Text → Type 0) (are : (t : Text) → N t → IsDefinitionAt comp
       let moved = (prefix-moves (codes "$defs") refl const_passed).rewrites in
       record {
         asks = HasPlainItems;
+        unevaluated = λ ms is. unread-plain const_passed ms refl;
         own = λ ms is. is.own;
         rewrites = moved;
         keeps = keep-positions N (λ s is. moved.schema tt s is)

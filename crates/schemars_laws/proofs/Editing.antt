@@ -14,7 +14,6 @@ use Rattle.schemars_schema.specs.Edits.{without, replaced, with_item, with_last}
 use Rattle.schemars_schema.proofs.Members.{differ, get_member-member, unequal, without-put as put_without}
 use Rattle.schemars_transform.specs.Built.{referring}
 use Rattle.schemars_laws.specs.Everywhere.{asked, asked_of_items, asked_of_keywords}
-use Rattle.schemars_laws.specs.Names.{IsNoObject}
 use Rattle.schemars_laws.specs.Classes.{IsOnce, is_null_alone, IsConstAlone}
 use Rattle.schemars_laws.proofs.Looked.{without-other}
 use Rattle.schemars_laws.proofs.Siblings.{replaced-other, moved_members, get-moved}
@@ -209,11 +208,10 @@ const-alike ns ms a b is = (a.others ∙ is.0, either is.1)
     either (inl out) = inl (a.first ∙ out)
     either (inr out) = inr (b.first ∙ out)
 
-pub stands-alike : (N : Text → Type 0) (P Q : Members → Type 0) (ns ms : Members) → Alike (codes "$ref") ns ms
-    → Alike (codes "unevaluatedProperties") ns ms → Q ns → Stands N P ms → Stands N Q ns
-stands-alike N P Q ns ms a b own is = record {
+pub stands-alike : (N : Text → Type 0) (P Q : Members → Type 0) (ns ms : Members) → Alike (codes "$ref") ns ms → Q ns → Stands N P ms
+    → Stands N Q ns
+stands-alike N P Q ns ms a own is = record {
   reference = subst (IsTextWith N) (sym a.first) is.reference;
   once = a.others ∙ is.once;
-  closed = subst IsNoObject (sym b.first) is.closed;
   own = own;
 }

@@ -2,7 +2,7 @@
 use Rattle.std.proofs.Common.{◌≡◌, ◌⊎◌, inl, inr, Option, Some, None, Bool, true, false, codes, option_map, refl, sym, ap, ◌∙◌, subst}
 use Rattle.std.proofs.Math.Path.{fun_ext}
 use Rattle.std.proofs.lemmas.Slice.Eq.{bytes_eq-Decides}
-use Rattle.std.specs.Prelude.{bytes_eq, if◌then◌else◌}
+use Rattle.std.specs.Prelude.{bytes_eq, if◌then◌else◌, ◌&&◌}
 use Rattle.serde_json.specs.Data.{Data, null, boolean, number, string, array, object, Items, no_items, item, Members, no_members, member}
 use Rattle.serde_json.specs.Find.{get_member}
 use Rattle.schemars_schema.specs.Json.{Text}
@@ -14,7 +14,7 @@ use Rattle.schemars_schema.proofs.Objects.{schema-judge, reading_at-members}
 use Rattle.schemars_walk.specs.Rewritten.{Rules, form_at, forms, in_items, in_names, in_keywords}
 use Rattle.schemars_walk.proofs.KeywordLaws.{keywords_get}
 use Rattle.schemars_laws.specs.Everywhere.{asked, asked_at, asked_of_items, asked_of_members, asked_of_keywords}
-use Rattle.schemars_laws.specs.Names.{IsNoObject}
+use Rattle.schemars_laws.specs.Names.{IsNoObject, HasPlainUnevaluated}
 use Rattle.schemars_laws.proofs.Seen.{AgreeOn, seen, seen_under, place_read, at_no_schemas, unread_under, keywords-seen, keywords-unread, keywords-follow}
 
 abbrev pub IsTruth : Data → Type 0
@@ -34,7 +34,7 @@ pub record Keeps {R : Type 0} (ρ : Rules R) (before after : Context) (P : Membe
   pub of_object : (r : R) (ms : Members) → P ms → judge after (ρ.finish r (object (in_keywords ρ r ms)))
       ≡ keywords (record before { follow = after.follow }) (λ k. get_member k (in_keywords ρ r ms))
       (reading_at (read_members after (in_keywords ρ r ms)))
-  pub unevaluated : (ms : Members) → P ms → IsNoObject (get_member (codes "unevaluatedProperties") ms)
+  pub unevaluated : (ms : Members) → P ms → HasPlainUnevaluated before.dialect ms
   pub reference : (ms : Members) → P ms → AgreeOn after.follow before.follow (get_member (codes "$ref") ms)
 
 schema-listed : (c : Context) (s : Data) → IsSchema s → (read_data c s).listed ≡ None
@@ -149,14 +149,14 @@ module _ {R : Type 0} (ρ : Rules R) (before after : Context) (P : Members → T
       go SchemaOrList is = refl
       go SchemasByName is = refl
 
-  -- what stands under `unevaluatedProperties` is read alike
-  unevaluated-read : (r : R) (ms : Members) → P ms
+  -- what stands under `unevaluatedProperties` is read alike, if it is read
+  unevaluated-read : (r : R) (ms : Members) → P ms → before.dialect.reads_unevaluated ≡ true
       → option_map (seen OneSchema) (reading_at (read_members after (in_keywords ρ r ms)) (codes "unevaluatedProperties"))
       ≡ option_map (seen OneSchema) (reading_at (read_members before ms) (codes "unevaluatedProperties"))
-  unevaluated-read r ms p =
+  unevaluated-read r ms p reads =
       ap (option_map (seen OneSchema)) (reading_at-members after (in_keywords ρ r ms) (codes "unevaluatedProperties")
       ∙ ap (option_map (read_data after)) (raw-kept r ms (codes "unevaluatedProperties") refl))
-      ∙ (go (get_member (codes "unevaluatedProperties") ms) (h.unevaluated ms p)
+      ∙ (go (get_member (codes "unevaluatedProperties") ms) (h.unevaluated ms p reads)
       ∙ sym (ap (option_map (seen OneSchema)) (reading_at-members before ms (codes "unevaluatedProperties"))))
     where
       go : (o : Option Data) → IsNoObject o
@@ -167,18 +167,20 @@ module _ {R : Type 0} (ρ : Rules R) (before after : Context) (P : Members → T
   read-kept : (r : R) (ms : Members) → P ms
       → ((k : Text) → option_map (seen (place_under k)) (reading_at (read_members after (in_keywords ρ r ms)) k)
       ≡ option_map (seen (place_under k)) (reading_at (read_members before ms) k))
-      → (k : Text) → option_map (seen (place_read k)) (reading_at (read_members after (in_keywords ρ r ms)) k)
-      ≡ option_map (seen (place_read k)) (reading_at (read_members before ms) k)
-  read-kept r ms p same k = go (bytes_eq k (codes "unevaluatedProperties")) refl
+      → (k : Text)
+      → option_map (seen (place_read before.dialect.reads_unevaluated k)) (reading_at (read_members after (in_keywords ρ r ms)) k)
+      ≡ option_map (seen (place_read before.dialect.reads_unevaluated k)) (reading_at (read_members before ms) k)
+  read-kept r ms p same k = go (bytes_eq k (codes "unevaluatedProperties")) before.dialect.reads_unevaluated refl refl
     where
-      go : (b : Bool) → bytes_eq k (codes "unevaluatedProperties") ≡ b
-          → option_map (seen (if b then OneSchema else place_under k)) (reading_at (read_members after (in_keywords ρ r ms)) k)
-          ≡ option_map (seen (if b then OneSchema else place_under k)) (reading_at (read_members before ms) k)
-      go true is =
+      go : (b reads : Bool) → bytes_eq k (codes "unevaluatedProperties") ≡ b → before.dialect.reads_unevaluated ≡ reads
+          → option_map (seen (if b && reads then OneSchema else place_under k)) (reading_at (read_members after (in_keywords ρ r ms)) k)
+          ≡ option_map (seen (if b && reads then OneSchema else place_under k)) (reading_at (read_members before ms) k)
+      go true true is reads =
           subst (λ l. option_map (seen OneSchema) (reading_at (read_members after (in_keywords ρ r ms)) l)
           ≡ option_map (seen OneSchema) (reading_at (read_members before ms) l))
-          (sym ((bytes_eq-Decides k (codes "unevaluatedProperties")).0 is)) (unevaluated-read r ms p)
-      go false is = same k
+          (sym ((bytes_eq-Decides k (codes "unevaluatedProperties")).0 is)) (unevaluated-read r ms p reads)
+      go true false is reads = same k
+      go false reads is at = same k
 
   said : (r : R) (ms : Members) → P ms
       → ((k : Text) → option_map (seen (place_under k)) (reading_at (read_members after (in_keywords ρ r ms)) k)
@@ -188,15 +190,16 @@ module _ {R : Type 0} (ρ : Rules R) (before after : Context) (P : Members → T
       ≡ keywords before (λ k. get_member k ms) (reading_at (read_members before ms))
   said r ms a same =
       let c : Context = record before { follow = after.follow } in
+      let reads : Bool = before.dialect.reads_unevaluated in
       let raw : Raw = λ k. get_member k ms in
       let new : Raw = λ k. get_member k (in_keywords ρ r ms) in
       let read : Readings = reading_at (read_members before ms) in
       let reread : Readings = reading_at (read_members after (in_keywords ρ r ms)) in
       sym (keywords-seen c new reread)
-      ∙ (sym (keywords-unread c new (seen_under reread))
-      ∙ (ap (λ g. keywords c g (seen_under reread)) (fun_ext (raw-same r ms))
+      ∙ (sym (keywords-unread c new (seen_under reads reread))
+      ∙ (ap (λ g. keywords c g (seen_under reads reread)) (fun_ext (raw-same r ms))
       ∙ (ap (keywords c (unread_under raw)) (fun_ext (read-kept r ms a same))
-      ∙ (keywords-unread c raw (seen_under read)
+      ∙ (keywords-unread c raw (seen_under reads read)
       ∙ (keywords-seen c raw read
       ∙ keywords-follow before after.follow raw read (h.reference ms a))))))
 

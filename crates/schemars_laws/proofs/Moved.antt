@@ -41,14 +41,14 @@ IsLed ρ P None (Some e) = ⊥
 IsLed ρ P (Some d) None = ⊥
 IsLed {R} ρ P (Some d) (Some e) = Everywhere P d × ((r : R) × SaysAs e (forms ρ r d).as_schema)
 
-abbrev pub Leads : {R : Type 0} → Rules R → (Text → Type 0) → (Members → Type 0) → Data → Data → Type 0
-Leads ρ N Q old new = (t : Text) → N t → IsLed ρ (NamedBy N Q) (resolved old t) (resolved new t)
+abbrev pub Leads : {R : Type 0} → Rules R → Dialect → (Text → Type 0) → (Members → Type 0) → Data → Data → Type 0
+Leads ρ d N Q old new = (t : Text) → N t → IsLed ρ (NamedBy d N Q) (resolved old t) (resolved new t)
 
 judged : (c d : Context) (s t : Data) → (read_data c s).schema ≡ (read_data d t).schema → judge c s ≡ judge d t
 judged c d s t e = ap (λ o. elim o [ None ↦ nothing | Some j ↦ j ]) e
 
 module _ {R : Type 0} (ρ : Rules R) (N : Text → Type 0) (old new : Dialect) (Q : Members → Type 0) (h : Rewrites ρ old new Q)
-    (before after : Data) (leads : Leads ρ N Q before after) (patterns : Patterns) where
+    (before after : Data) (leads : Leads ρ old N Q before after) (patterns : Patterns) where
   old_at : ℕ → Context
   old_at n = context old before patterns n
 
@@ -58,7 +58,7 @@ module _ {R : Type 0} (ρ : Rules R) (N : Text → Type 0) (old new : Dialect) (
   AgreeAt : ℕ → Type 0
   AgreeAt n = (t : Text) → N t → follow new after patterns n t ≡ follow old before patterns n t
 
-  keeps : (n : ℕ) → AgreeAt n → Keeps ρ (old_at n) (new_at n) (NamedBy N Q)
+  keeps : (n : ℕ) → AgreeAt n → Keeps ρ (old_at n) (new_at n) (NamedBy old N Q)
   unfolding old_at new_at AgreeAt
   keeps n agree = record {
     place = h.place;
@@ -79,15 +79,15 @@ module _ {R : Type 0} (ρ : Rules R) (N : Text → Type 0) (old new : Dialect) (
       named (Some (array ds)) is = tt
       named (Some (object es)) is = tt
 
-  moved : (n : ℕ) → AgreeAt n → (r : R) (d : Data) → Everywhere (NamedBy N Q) d
+  moved : (n : ℕ) → AgreeAt n → (r : R) (d : Data) → Everywhere (NamedBy old N Q) d
       → judge (new_at n) (forms ρ r d).as_schema ≡ judge (old_at n) d
   moved n agree r d is =
-      judged (new_at n) (old_at n) (forms ρ r d).as_schema d (one ρ (old_at n) (new_at n) (NamedBy N Q) (keeps n agree) r d is)
+      judged (new_at n) (old_at n) (forms ρ r d).as_schema d (one ρ (old_at n) (new_at n) (NamedBy old N Q) (keeps n agree) r d is)
 
   abbrev to_judge : Context → Option Data → Judge
   to_judge c o = elim o [ None ↦ unanswered | Some s ↦ judge c s ]
 
-  led : (n : ℕ) → AgreeAt n → (o p : Option Data) → IsLed ρ (NamedBy N Q) o p → to_judge (new_at n) p ≡ to_judge (old_at n) o
+  led : (n : ℕ) → AgreeAt n → (o p : Option Data) → IsLed ρ (NamedBy old N Q) o p → to_judge (new_at n) p ≡ to_judge (old_at n) o
   led n agree None None is = refl
   led n agree None (Some e) is = absurd is
   led n agree (Some d) None is = absurd is
@@ -103,7 +103,7 @@ module _ {R : Type 0} (ρ : Rules R) (N : Text → Type 0) (old new : Dialect) (
   agree (suc n) t is = agree-after n (agree n) t is
 
   -- a schema says in the new document, rewritten, what it said in the old one
-  pub schema-moved : (n : ℕ) (r : R) (d v : Data) → Everywhere (NamedBy N Q) d
+  pub schema-moved : (n : ℕ) (r : R) (d v : Data) → Everywhere (NamedBy old N Q) d
       → accepts new after patterns n (forms ρ r d).as_schema v ≡ accepts old before patterns n d v
   unfolding new_at old_at
   schema-moved n r d v is = ap (λ j. j.fits v) (moved n (agree n) r d is)

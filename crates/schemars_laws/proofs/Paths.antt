@@ -83,21 +83,21 @@ pub record Stand {R : Type 0} (ρ : Rules R) (r : R) (path : Text) (P : Members 
   pub after : pointer path new ≡ Some (object (in_names ρ r entries))
   pub each : EachEverywhere P entries
 
-module _ {R : Type 0} (ρ : Rules R) (r : R) (path : Text) (plain : IsPlain path) (N : Text → Type 0) (Q : Members → Type 0) (old new : Data)
-    (schema : (r : R) (s : Data) → IsSchema s → IsSchema (ρ.finish r s)) (stand : Stand ρ r path (NamedBy N Q) old new) where
-  led : (o : Option Data) → ((d : Data) → o ≡ Some d → Everywhere (NamedBy N Q) d)
-      → IsLed ρ (NamedBy N Q) (option_and_then schema_only o) (option_and_then schema_only (option_map (λ d. (forms ρ r d).as_schema) o))
+module _ {R : Type 0} (ρ : Rules R) (r : R) (path : Text) (plain : IsPlain path) (P : Members → Type 0) (old new : Data)
+    (schema : (r : R) (s : Data) → IsSchema s → IsSchema (ρ.finish r s)) (stand : Stand ρ r path P old new) where
+  led : (o : Option Data) → ((d : Data) → o ≡ Some d → Everywhere P d)
+      → IsLed ρ P (option_and_then schema_only o) (option_and_then schema_only (option_map (λ d. (forms ρ r d).as_schema) o))
   led None each = tt
   led (Some d) each =
-      subst (λ b. IsLed ρ (NamedBy N Q) (if is_schema d then Some d else None) (if b then Some (forms ρ r d).as_schema else None))
+      subst (λ b. IsLed ρ P (if is_schema d then Some d else None) (if b then Some (forms ρ r d).as_schema else None))
       (sym (schema-kept ρ r d schema)) (go (is_schema d))
     where
-      go : (b : Bool) → IsLed ρ (NamedBy N Q) (if b then Some d else None) (if b then Some (forms ρ r d).as_schema else None)
+      go : (b : Bool) → IsLed ρ P (if b then Some d else None) (if b then Some (forms ρ r d).as_schema else None)
       go true = (each d refl, (r, λ c. refl))
       go false = tt
 
   -- a reference to a definition at the path
-  pub definition-leads : (t : Text) → IsDefinitionAt path t → IsLed ρ (NamedBy N Q) (resolved old t) (resolved new t)
+  pub definition-leads : (t : Text) → IsDefinitionAt path t → IsLed ρ P (resolved old t) (resolved new t)
   unfolding resolved
   definition-leads t (k, text, is) =
       let old_at : lookup t old ≡ get_member k stand.entries =
@@ -105,22 +105,22 @@ module _ {R : Type 0} (ρ : Rules R) (r : R) (path : Text) (plain : IsPlain path
       let new_at : lookup t new ≡ option_map (λ d. (forms ρ r d).as_schema) (get_member k stand.entries) =
       ap (λ x. lookup x new) is ∙ (lookup-definition path k new (in_names ρ r stand.entries) plain stand.after text
       ∙ names_get ρ r k stand.entries) in
-      subst (λ o. IsLed ρ (NamedBy N Q) (option_and_then schema_only o) (resolved new t)) (sym old_at)
-      (subst (λ o. IsLed ρ (NamedBy N Q) (option_and_then schema_only (get_member k stand.entries)) (option_and_then schema_only o))
+      subst (λ o. IsLed ρ P (option_and_then schema_only o) (resolved new t)) (sym old_at)
+      (subst (λ o. IsLed ρ P (option_and_then schema_only (get_member k stand.entries)) (option_and_then schema_only o))
       (sym new_at)
       (led (get_member k stand.entries) (stand.each k)))
 
 -- so do all names, where the new document says what the old one says, rewritten
-pub names-lead : {R : Type 0} (ρ : Rules R) (r : R) (path : Text) → IsPlain path → (Q : Members → Type 0) (ms ns : Members)
-    → ((r : R) (s : Data) → IsSchema s → IsSchema (ρ.finish r s)) → Stand ρ r path (NamedBy (IsNameAt path) Q) (object ms) (object ns)
-    → Everywhere (NamedBy (IsNameAt path) Q) (object ms) → SaysAs (object ns) (rewritten ρ r (object ms))
-    → Leads ρ (IsNameAt path) Q (object ms) (object ns)
-names-lead ρ r path plain Q ms ns schema stand whole says t (inl is) =
-    let P : Members → Type 0 = NamedBy (IsNameAt path) Q in
+pub names-lead : {R : Type 0} (ρ : Rules R) (r : R) (path : Text) → IsPlain path → (d : Dialect) (Q : Members → Type 0) (ms ns : Members)
+    → ((r : R) (s : Data) → IsSchema s → IsSchema (ρ.finish r s)) → Stand ρ r path (NamedBy d (IsNameAt path) Q) (object ms) (object ns)
+    → Everywhere (NamedBy d (IsNameAt path) Q) (object ms) → SaysAs (object ns) (rewritten ρ r (object ms))
+    → Leads ρ d (IsNameAt path) Q (object ms) (object ns)
+names-lead ρ r path plain d Q ms ns schema stand whole says t (inl is) =
+    let P : Members → Type 0 = NamedBy d (IsNameAt path) Q in
     subst (λ o. IsLed ρ P o (resolved (object ns) t)) (sym (ap (resolved (object ms)) is ∙ resolved-whole ms))
     (subst (λ o. IsLed ρ P (Some (object ms)) o) (sym (ap (resolved (object ns)) is ∙ resolved-whole ns)) (whole, (r, says)))
-names-lead ρ r path plain Q ms ns schema stand whole says t (inr is) =
-    definition-leads ρ r path plain (IsNameAt path) Q (object ms) (object ns) schema stand t is
+names-lead ρ r path plain d Q ms ns schema stand whole says t (inr is) =
+    definition-leads ρ r path plain (NamedBy d (IsNameAt path) Q) (object ms) (object ns) schema stand t is
 
 -- ---- the laws at /components/schemas
 
@@ -128,7 +128,7 @@ pub moves-components : {R : Type 0} (ρ : Rules R) (r : R) (old new : Dialect) (
     → ((ms : Members) → (ns : Members) × (rewritten ρ r (object ms) ≡ object ns)) → MovesComponents (rewritten ρ r) old new Q
 moves-components ρ r old new Q h whole ms parts es at inside all each patterns n part v part_is =
     schema-moved ρ (IsNameAt components) old new Q h (object ms) (object ns)
-    (names-lead ρ r components plain-components Q ms ns h.schema (record {
+    (names-lead ρ r components plain-components old Q ms ns h.schema (record {
       entries = es;
       before = pointer-components ms parts (object es) at inside;
       after = pointer-components ns now (object (in_names ρ r es))

@@ -1,5 +1,5 @@
 -- The kinds of schema objects that laws speak of are kept by a walk, and by changes of other keywords.
-use Rattle.std.proofs.Common.{◌≡◌, ◌≢◌, Some, Bool, true, false, codes, refl, sym, ap, ◌∙◌, subst}
+use Rattle.std.proofs.Common.{◌≡◌, ◌≢◌, Some, Bool, true, false, codes, refl, sym, ap, ◌∙◌, subst, true≢false}
 use Rattle.std.proofs.lemmas.Slice.Eq.{bytes_eq-Decides}
 use Rattle.std.specs.Prelude.{bytes_eq, if◌then◌else◌, option_and_then}
 use Rattle.serde_json.specs.Data.{Data, Members, no_members, member}
@@ -8,21 +8,26 @@ use Rattle.schemars_schema.specs.Json.{Text}
 use Rattle.schemars_schema.specs.SchemaData.{IsSchema}
 use Rattle.schemars_schema.specs.Edits.{without}
 use Rattle.schemars_schema.specs.References.{NoSchemas, place_under}
+use Rattle.schemars_schema.specs.Acceptance.{Dialect}
 use Rattle.schemars_schema.proofs.Members.{differ, get_member-member, unequal}
 use Rattle.schemars_walk.specs.Rewritten.{Rules, in_keywords}
-use Rattle.schemars_laws.specs.Names.{IsNamedBy, HasNameOf, IsNoObject}
-use Rattle.schemars_laws.specs.Classes.{IsText, IsSchemaList, IsNoList, HasPlainItems, HasPlainReference}
+use Rattle.schemars_laws.specs.Names.{IsNamedBy, HasNameOf, IsNoObject, HasPlainUnevaluated}
+use Rattle.schemars_laws.specs.Classes.{IsText, IsSchemaList, IsNoList, HasPlainItems, HasPlainReference, HasNoUnevaluated}
 use Rattle.schemars_laws.proofs.Walking.{without-walked, raw-walked as raw-walked_by}
 use Rattle.schemars_laws.proofs.Looked.{without-other, walked, raw-walked, once-walked, list-walked}
+
+-- ---- no `unevaluatedProperties`, or none that are read
+
+pub none-plain : (d : Dialect) (ms : Members) → HasNoUnevaluated ms → HasPlainUnevaluated d ms
+none-plain d ms none reads = subst IsNoObject (sym none.1) tt
+
+pub unread-plain : (d : Dialect) (ms : Members) → d.reads_unevaluated ≡ false → HasPlainUnevaluated d ms
+unread-plain d ms unread reads = absurd (true≢false (sym reads ∙ unread))
 
 -- ---- by a walk
 
 pub named-walked : (f : Data → Data) (N : Text → Type 0) (ms : Members) → HasNameOf N ms → HasNameOf N (walked f ms)
 named-walked f N ms is = subst (λ o. IsNamedBy N (option_and_then as_str o)) (sym (raw-walked f (codes "$ref") ms refl)) is
-
-pub closed-walked : (f : Data → Data) (ms : Members) → IsNoObject (get_member (codes "unevaluatedProperties") ms)
-    → IsNoObject (get_member (codes "unevaluatedProperties") (walked f ms))
-closed-walked f ms is = subst IsNoObject (sym (raw-walked f (codes "unevaluatedProperties") ms refl)) is
 
 module _ (f : Data → Data) (schema : (s : Data) → IsSchema s → IsSchema (f s)) where
   pub reference-walked : (ms : Members) → HasPlainReference ms → HasPlainReference (walked f ms)

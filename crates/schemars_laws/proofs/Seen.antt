@@ -15,8 +15,12 @@ use Rattle.schemars_schema.specs.Acceptance.{reference_alone, judged_by, judged_
 use Rattle.schemars_schema.specs.Acceptance.{unevaluated_properties_say, judged_beside, is_covered, stands_schema, judged_by_list}
 
 -- the place under a keyword whose schemas are read, whether a walk reaches them or not
-abbrev pub place_read : Text → Place
-place_read k = if bytes_eq k (codes "unevaluatedProperties") then OneSchema else place_under k
+abbrev pub place_read : Bool → Text → Place
+place_read reads_unevaluated k = if bytes_eq k (codes "unevaluatedProperties") && reads_unevaluated then OneSchema else place_under k
+
+-- that of `unevaluatedProperties`
+abbrev pub place_unevaluated : Bool → Place
+place_unevaluated reads = if reads then OneSchema else NoSchemas
 
 abbrev pub seen : Place → Reading → Reading
 seen NoSchemas x = record { schema = None; listed = None; named = None }
@@ -25,8 +29,8 @@ seen SchemaList x = record { schema = None; listed = x.listed; named = None }
 seen SchemaOrList x = record { schema = x.schema; listed = x.listed; named = None }
 seen SchemasByName x = record { schema = None; listed = None; named = x.named }
 
-abbrev pub seen_under : Readings → Readings
-seen_under read k = option_map (seen (place_read k)) (read k)
+abbrev pub seen_under : Bool → Readings → Readings
+seen_under reads_unevaluated read k = option_map (seen (place_read reads_unevaluated k)) (read k)
 
 pub judge_ext : (a b : Judge) → ((v : Data) → a.fits v ≡ b.fits v) → ((v : Data) (k : Text) → a.judges v k ≡ b.judges v k) → a ≡ b
 judge_ext a b fit judged =
@@ -66,7 +70,7 @@ additional-seen covered None v = refl
 additional-seen covered (Some x) v = refl
 
 unevaluated-seen : (b : Bool) (judged : Text → Bool) (o : Option Reading) (v : Data)
-    → unevaluated_properties_say b judged (option_map (seen OneSchema) o) v ≡ unevaluated_properties_say b judged o v
+    → unevaluated_properties_say b judged (option_map (seen (place_unevaluated b)) o) v ≡ unevaluated_properties_say b judged o v
 unevaluated-seen true judged o v = additional-seen judged o v
 unevaluated-seen false judged o v = refl
 
@@ -82,6 +86,11 @@ stands-seen : (o : Option Reading) → stands_schema (option_map (seen OneSchema
 stands-seen None = refl
 stands-seen (Some x) = refl
 
+stands_unevaluated-seen : (b : Bool) (o : Option Reading)
+    → b && stands_schema (option_map (seen (place_unevaluated b)) o) ≡ b && stands_schema o
+stands_unevaluated-seen true o = stands-seen o
+stands_unevaluated-seen false o = refl
+
 judged_list-seen : (o : Option Reading) (v : Data) (k : Text) → judged_by_list (option_map (seen SchemaList) o) v k ≡ judged_by_list o v k
 judged_list-seen None v k = refl
 judged_list-seen (Some x) v k = refl
@@ -93,7 +102,7 @@ or-else : (a : Bool) {c d : Bool} → c ≡ d → a || c ≡ a || d
 or-else a h = ap (λ x. a || x) h
 
 judged-seen : (c : Context) (raw : Raw) (read : Readings) (v : Data) (k : Text)
-    → judged_beside c raw (seen_under read) v k ≡ judged_beside c raw read v k
+    → judged_beside c raw (seen_under c.dialect.reads_unevaluated read) v k ≡ judged_beside c raw read v k
 judged-seen c raw read v k =
     or-cong (ap (λ f. f k) (covered-seen c.patterns (read (codes "properties")) (read (codes "patternProperties"))))
     (or-cong (stands-seen (read (codes "additionalProperties")))
@@ -110,11 +119,12 @@ additional_covered-seen patterns o p a v =
     ∙ additional-seen (is_covered patterns o p) a v
 
 unevaluated_judged-seen : (c : Context) (raw : Raw) (read : Readings) (o : Option Reading) (v : Data)
-    → unevaluated_properties_say c.dialect.reads_unevaluated (judged_beside c raw (seen_under read) v) (option_map (seen OneSchema) o) v
+    → unevaluated_properties_say c.dialect.reads_unevaluated (judged_beside c raw (seen_under c.dialect.reads_unevaluated read) v)
+    (option_map (seen (place_unevaluated c.dialect.reads_unevaluated)) o) v
     ≡ unevaluated_properties_say c.dialect.reads_unevaluated (judged_beside c raw read v) o v
 unevaluated_judged-seen c raw read o v =
-    ap (λ f. unevaluated_properties_say c.dialect.reads_unevaluated f (option_map (seen OneSchema) o) v)
-    (fun_ext (judged-seen c raw read v))
+    ap (λ f. unevaluated_properties_say c.dialect.reads_unevaluated f
+    (option_map (seen (place_unevaluated c.dialect.reads_unevaluated)) o) v) (fun_ext (judged-seen c raw read v))
     ∙ unevaluated-seen c.dialect.reads_unevaluated (judged_beside c raw read v) o v
 
 cons : {x y : Verdict} {xs ys : List Verdict} → x ≡ y → xs ≡ ys → x ∷ xs ≡ y ∷ ys
@@ -123,7 +133,8 @@ cons {y} {xs} e h = ap (λ z. z ∷ xs) e ∙ ap (λ zs. y ∷ zs) h
 same : {xs ys : List Verdict} {x : Verdict} → xs ≡ ys → x ∷ xs ≡ x ∷ ys
 same {x} h = ap (λ zs. x ∷ zs) h
 
-verdicts-seen : (c : Context) (raw : Raw) (read : Readings) (v : Data) → all_say c raw (seen_under read) v ≡ all_say c raw read v
+verdicts-seen : (c : Context) (raw : Raw) (read : Readings) (v : Data)
+    → all_say c raw (seen_under c.dialect.reads_unevaluated read) v ≡ all_say c raw read v
 verdicts-seen c raw read v =
     same (same (same (same (same (same (same (same (same (same (same (same
     (cons (items-seen c.dialect.reads_prefix_items (read (codes "prefixItems")) (read (codes "items")) (read (codes "additionalItems")) v)
@@ -139,17 +150,18 @@ verdicts-seen c raw read v =
     (cons (unevaluated_judged-seen c raw read (read (codes "unevaluatedProperties")) v) refl)))))))))))))))))))))
 
 fits-seen : (c : Context) (raw : Raw) (read : Readings) (v : Data)
-    → (all_keywords c raw (seen_under read)).fits v ≡ (all_keywords c raw read).fits v
+    → (all_keywords c raw (seen_under c.dialect.reads_unevaluated read)).fits v ≡ (all_keywords c raw read).fits v
 fits-seen c raw read v =
-    fits-all c raw (seen_under read) v ∙ (ap all_of (verdicts-seen c raw read v) ∙ sym (fits-all c raw read v))
+    fits-all c raw (seen_under c.dialect.reads_unevaluated read) v ∙ (ap all_of (verdicts-seen c raw read v) ∙ sym (fits-all c raw read v))
 
 judges-seen : (c : Context) (raw : Raw) (read : Readings) (v : Data) (k : Text)
-    → (all_keywords c raw (seen_under read)).judges v k ≡ (all_keywords c raw read).judges v k
+    → (all_keywords c raw (seen_under c.dialect.reads_unevaluated read)).judges v k ≡ (all_keywords c raw read).judges v k
 unfolding all_keywords
 judges-seen c raw read v k =
-    or-cong (judged-seen c raw read v k) (ap (λ b. c.dialect.reads_unevaluated && b) (stands-seen (read (codes "unevaluatedProperties"))))
+    or-cong (judged-seen c raw read v k) (stands_unevaluated-seen c.dialect.reads_unevaluated (read (codes "unevaluatedProperties")))
 
-all_keywords-seen : (c : Context) (raw : Raw) (read : Readings) → all_keywords c raw (seen_under read) ≡ all_keywords c raw read
+all_keywords-seen : (c : Context) (raw : Raw) (read : Readings)
+    → all_keywords c raw (seen_under c.dialect.reads_unevaluated read) ≡ all_keywords c raw read
 all_keywords-seen c raw read = judge_ext _ _ (fits-seen c raw read) (judges-seen c raw read)
 
 -- ---- and on the schema that its own reference leads to
@@ -227,5 +239,6 @@ pub keywords-unread : (c : Context) (raw : Raw) (read : Readings) → keywords c
 unfolding all_keywords
 keywords-unread c raw read = refl
 
-pub keywords-seen : (c : Context) (raw : Raw) (read : Readings) → keywords c raw (seen_under read) ≡ keywords c raw read
+pub keywords-seen : (c : Context) (raw : Raw) (read : Readings)
+    → keywords c raw (seen_under c.dialect.reads_unevaluated read) ≡ keywords c raw read
 keywords-seen c raw read = rw (all_keywords-seen c raw read) refl

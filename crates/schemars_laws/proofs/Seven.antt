@@ -16,7 +16,6 @@ use Rattle.schemars_transform.specs.Built.{value_as_enum, const_as_enum, prefix_
 use Rattle.schemars_transform.specs.Nullable.{all_null, nulls_in, nullable_by, null_taken_out, type_without_null}
 use Rattle.schemars_transform.specs.Unevaluated.{unevaluated_as_additional, closed_by}
 use Rattle.schemars_laws.specs.Everywhere.{asked, asked_at, asked_of_keywords}
-use Rattle.schemars_laws.specs.Names.{IsNoObject}
 use Rattle.schemars_laws.specs.Classes.{IsSchemaList, is_null_alone, IsConstAlone, HasPlainItems, plain_nullable}
 use Rattle.schemars_laws.proofs.Looked.{change_rules}
 use Rattle.schemars_laws.proofs.Siblings.{schema-siblings, moved_members}
@@ -37,7 +36,6 @@ module _ (N : Text → Type 0) where
   without-unevaluated ns is = record {
     reference = subst (IsTextWith N) (sym (a (codes "$ref") refl).first) is.reference;
     once = (a (codes "$ref") refl).others ∙ is.once;
-    closed = subst IsNoObject (sym is.own.unevaluated.0) tt;
     own = record {
       unevaluated = (absent-once (codes "unevaluatedProperties") (without (codes "unevaluatedProperties") ns) is.own.unevaluated.0, is.own.unevaluated.0);
       type = type-alike (without (codes "unevaluatedProperties") ns) ns (a (codes "type") refl) (a (codes "nullable") refl) (a (codes "const") refl) is.own.type;
@@ -64,7 +62,6 @@ module _ (N : Text → Type 0) where
   nothing-first = record {
     reference = tt;
     once = refl;
-    closed = tt;
     own = record {
       unevaluated = (refl, refl);
       type = (tt, refl, inl refl);
@@ -79,7 +76,6 @@ module _ (N : Text → Type 0) where
   not-first = record {
     reference = tt;
     once = refl;
-    closed = tt;
     own = record {
       unevaluated = (refl, refl);
       type = (tt, refl, inl refl);
@@ -144,11 +140,11 @@ module _ (N : Text → Type 0) where
         go true is false all = taken (get_member (codes "type") (nulled ms))
     by_kind (Some (object es)) here = missing
 
-  after-alike : (ns ms : Members) → Alike (codes "$ref") ns ms → Alike (codes "unevaluatedProperties") ns ms → Alike (codes "allOf") ns ms
-      → IsConstAlone ns → Alike (codes "prefixItems") ns ms → Alike (codes "items") ns ms → Alike (codes "additionalItems") ns ms
+  after-alike : (ns ms : Members) → Alike (codes "$ref") ns ms → Alike (codes "allOf") ns ms → IsConstAlone ns
+      → Alike (codes "prefixItems") ns ms → Alike (codes "items") ns ms → Alike (codes "additionalItems") ns ms
       → Stands N IsForOpenApi ms → Stands N AfterNullable ns
-  after-alike ns ms ref rest all const prefix items additional is =
-      stands-alike N IsForOpenApi AfterNullable ns ms ref rest
+  after-alike ns ms ref all const prefix items additional is =
+      stands-alike N IsForOpenApi AfterNullable ns ms ref
       (subst IsSchemaList (sym all.first) is.own.all_of, const, items-alike ns ms prefix items additional is.own.items) is
 
   made : (P : Members → Type 0) (ns : Members) → Stands N P ns → asked_of_keywords (Stands N P) ns
@@ -178,14 +174,14 @@ module _ (N : Text → Type 0) where
           Q = Stands N AfterNullable
 
           same : Q ns
-          same = stands-alike N IsForOpenApi AfterNullable ns ns (alike-same (codes "$ref") ns) (alike-same (codes "unevaluatedProperties") ns)
+          same = stands-alike N IsForOpenApi AfterNullable ns ns (alike-same (codes "$ref") ns)
               (is.own.all_of, is.own.const, is.own.items) is
 
           n : (k : Text) → bytes_eq k (codes "nullable") ≡ false → Alike k (nulled ns) ns
           n k out = alike-put k (codes "nullable") (boolean true) ns out
 
           nulls : Q (nulled ns)
-          nulls = after-alike (nulled ns) ns (n (codes "$ref") refl) (n (codes "unevaluatedProperties") refl) (n (codes "allOf") refl)
+          nulls = after-alike (nulled ns) ns (n (codes "$ref") refl) (n (codes "allOf") refl)
               (const-alike (nulled ns) ns (n (codes "const") refl) (n (codes "enum") refl) is.own.const)
               (n (codes "prefixItems") refl) (n (codes "items") refl) (n (codes "additionalItems") refl) is
 
@@ -197,7 +193,7 @@ module _ (N : Text → Type 0) where
           t d k out null_out = alike-then k (replaced (codes "type") d (nulled ns)) (nulled ns) ns (alike-replaced k (codes "type") d (nulled ns) out) (n k null_out)
 
           among : (d : Data) → Q (replaced (codes "type") d (nulled ns))
-          among d = after-alike (replaced (codes "type") d (nulled ns)) ns (t d (codes "$ref") refl refl) (t d (codes "unevaluatedProperties") refl refl)
+          among d = after-alike (replaced (codes "type") d (nulled ns)) ns (t d (codes "$ref") refl refl)
               (t d (codes "allOf") refl refl)
               (const-alike (replaced (codes "type") d (nulled ns)) ns (t d (codes "const") refl refl) (t d (codes "enum") refl refl) is.own.const)
               (t d (codes "prefixItems") refl refl) (t d (codes "items") refl refl) (t d (codes "additionalItems") refl refl) is
@@ -223,7 +219,7 @@ module _ (N : Text → Type 0) where
           no_enum only (inr none) = none
 
           alone : is_null_alone (get_member (codes "type") ns) ≡ true → Q (alone_members ns)
-          alone only = after-alike (alone_members ns) ns (c (codes "$ref") refl refl refl) (c (codes "unevaluatedProperties") refl refl refl)
+          alone only = after-alike (alone_members ns) ns (c (codes "$ref") refl refl refl)
               (c (codes "allOf") refl refl refl) (
                 (alike-without (codes "const") (codes "type") (put (codes "const") null (nulled ns)) refl).others
                     ∙ once-put (codes "const") null (nulled ns) ((n (codes "const") refl).first ∙ no_const only is.own.type.2),
@@ -251,14 +247,13 @@ module _ (N : Text → Type 0) where
           Q = Stands N AfterSiblings
 
           same : Q ns
-          same = stands-alike N AfterNullable AfterSiblings ns ns (alike-same (codes "$ref") ns) (alike-same (codes "unevaluatedProperties") ns)
+          same = stands-alike N AfterNullable AfterSiblings ns ns (alike-same (codes "$ref") ns)
               (is.own.1, is.own.2) is
 
           gone : Q (without (codes "$ref") ns)
           gone = record {
             reference = subst (IsTextWith N) (sym is.once) tt;
             once = absent-once (codes "$ref") (without (codes "$ref") ns) is.once;
-            closed = subst IsNoObject (sym (w (codes "unevaluatedProperties") refl).first) is.closed;
             own = (
               const-alike (without (codes "$ref") ns) ns (w (codes "const") refl) (w (codes "enum") refl) is.own.1,
               items-alike (without (codes "$ref") ns) ns (w (codes "prefixItems") refl) (w (codes "items") refl) (w (codes "additionalItems") refl) is.own.2,
@@ -272,7 +267,6 @@ module _ (N : Text → Type 0) where
           moved r = record {
             reference = subst (IsTextWith N) (sym (gone-moved r ns is.once)) tt;
             once = once-moved r ns is.once;
-            closed = subst IsNoObject (sym (w (codes "unevaluatedProperties") refl refl).first) is.closed;
             own = (
               const-alike (moved_members r ns) ns (w (codes "const") refl refl) (w (codes "enum") refl refl) is.own.1,
               items-alike (moved_members r ns) ns (w (codes "prefixItems") refl refl) (w (codes "items") refl refl) (w (codes "additionalItems") refl refl) is.own.2,
@@ -283,7 +277,7 @@ module _ (N : Text → Type 0) where
               w k out ref_out = alike-moved r k ns out ref_out
 
           alone : (r : Data) → IsTextWith N (Some r) → Q (member (codes "$ref") r no_members)
-          alone r text = record { reference = text; once = refl; closed = tt; own = ((refl, inl refl), (refl, tt, tt, refl)) }
+          alone r text = record { reference = text; once = refl; own = ((refl, inl refl), (refl, tt, tt, refl)) }
 
           each : (b : Bool) (o : Option Data) → get_member (codes "$ref") ns ≡ o
               → (asked Q (if b then object ns else reference_moved o (object (without (codes "$ref") ns)))).as_schema
@@ -313,7 +307,7 @@ module _ (N : Text → Type 0) where
 
           kept : (ls ms : Members) → ((k : Text) → bytes_eq k (codes "examples") ≡ false → bytes_eq k (codes "example") ≡ false → Alike k ls ms) → Q ms → Q ls
           kept ls ms w is =
-              stands-alike N AfterSiblings AfterSiblings ls ms (w (codes "$ref") refl refl) (w (codes "unevaluatedProperties") refl refl) (
+              stands-alike N AfterSiblings AfterSiblings ls ms (w (codes "$ref") refl refl) (
                 const-alike ls ms (w (codes "const") refl refl) (w (codes "enum") refl refl) is.own.0,
                 items-alike ls ms (w (codes "prefixItems") refl refl) (w (codes "items") refl refl) (w (codes "additionalItems") refl refl) is.own.1,
               ) is
@@ -354,7 +348,7 @@ module _ (N : Text → Type 0) where
           kept : (P : Members → Type 0) (ls ms : Members) → ((k : Text) → bytes_eq k (codes "const") ≡ false → bytes_eq k (codes "enum") ≡ false → Alike k ls ms)
               → HasPlainItems ms → Stands N P ms → Q ls
           kept P ls ms w items is =
-              stands-alike N P HasPlainItems ls ms (w (codes "$ref") refl refl) (w (codes "unevaluatedProperties") refl refl)
+              stands-alike N P HasPlainItems ls ms (w (codes "$ref") refl refl)
               (items-alike ls ms (w (codes "prefixItems") refl refl) (w (codes "items") refl refl) (w (codes "additionalItems") refl refl) items) is
 
           gone : (asked Q (object (without (codes "const") ns))).as_schema
@@ -387,22 +381,20 @@ module _ (N : Text → Type 0) where
           Q : Members → Type 0
           Q = Stands N Anything
 
-          kept : (P : Members → Type 0) (ls ms : Members) → Alike (codes "$ref") ls ms → Alike (codes "unevaluatedProperties") ls ms → Stands N P ms → Q ls
-          kept P ls ms v w is = stands-alike N P Anything ls ms v w tt is
+          kept : (P : Members → Type 0) (ls ms : Members) → Alike (codes "$ref") ls ms → Stands N P ms → Q ls
+          kept P ls ms v is = stands-alike N P Anything ls ms v tt is
 
           old : Members
           old = without (codes "prefixItems") ns
 
           gone : (asked Q (object (without (codes "prefixItems") ns))).as_schema
           gone = (
-            kept HasPlainItems (without (codes "prefixItems") ns) ns (alike-without (codes "$ref") (codes "prefixItems") ns refl)
-                (alike-without (codes "unevaluatedProperties") (codes "prefixItems") ns refl) is,
+            kept HasPlainItems (without (codes "prefixItems") ns) ns (alike-without (codes "$ref") (codes "prefixItems") ns refl) is,
             asked-without Q (codes "prefixItems") ns a,
           )
 
-          more : (ms : Members) (k : Text) (d : Data) → bytes_eq (codes "$ref") k ≡ false → bytes_eq (codes "unevaluatedProperties") k ≡ false → Q ms → Q (put k d ms)
-          more ms k d ref rest is =
-              kept Anything (put k d ms) ms (alike-put (codes "$ref") k d ms ref) (alike-put (codes "unevaluatedProperties") k d ms rest) is
+          more : (ms : Members) (k : Text) (d : Data) → bytes_eq (codes "$ref") k ≡ false → Q ms → Q (put k d ms)
+          more ms k d ref is = kept Anything (put k d ms) ms (alike-put (codes "$ref") k d ms ref) is
 
           list : (p : Data) → IsSchemaList (Some p) → (asked Q p).as_list → asked_at SchemaOrList (asked Q p)
           list (array ds) is a = (tt, a)
@@ -417,10 +409,10 @@ module _ (N : Text → Type 0) where
 
           each : (p : Data) → asked_at SchemaOrList (asked Q p) → (o : Option Data) → get_member (codes "items") (without (codes "prefixItems") ns) ≡ o
               → (asked Q (old_items_moved o (object (put (codes "items") p (without (codes "prefixItems") ns))))).as_schema
-          each p here None at = (more (without (codes "prefixItems") ns) (codes "items") p refl refl gone.0, with p here)
+          each p here None at = (more (without (codes "prefixItems") ns) (codes "items") p refl gone.0, with p here)
           each p here (Some i) at = (
-            more (put (codes "items") p (without (codes "prefixItems") ns)) (codes "additionalItems") i refl refl
-                (more (without (codes "prefixItems") ns) (codes "items") p refl refl gone.0),
+            more (put (codes "items") p (without (codes "prefixItems") ns)) (codes "additionalItems") i refl
+                (more (without (codes "prefixItems") ns) (codes "items") p refl gone.0),
             asked-put Q (codes "additionalItems") i (put (codes "items") p (without (codes "prefixItems") ns))
                 (asked-get Q (codes "items") (without (codes "prefixItems") ns) i at gone.1).0 (with p here),
           )

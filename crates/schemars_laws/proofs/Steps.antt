@@ -86,7 +86,7 @@ module _ {R : Type 0} (ρ : Rules R)
 
   pub stands-walked : (Q : Members → Type 0) → (Q ms → Q ns) → Stands N Q ms → Stands N Q ns
   stands-walked Q own is =
-      stands-alike N Q Q ns ms (same (codes "$ref") refl refl) (same (codes "unevaluatedProperties") refl refl) (own is.own) is
+      stands-alike N Q Q ns ms (same (codes "$ref") refl refl) (own is.own) is
 
 -- a change of every schema keeps a class by what it makes of one whose subschemas are done
 pub by_change : (f : Data → Data) (N : Text → Type 0) (P Q : Members → Type 0) → ((s : Data) → IsSchema s → IsSchema (f s))

@@ -17,8 +17,8 @@ use Rattle.schemars_laws.specs.Stages.{Stands, IsForOpenApi}
 -- in the transformed document, transformed, what it accepted, with as many references followed within one another.
 abbrev pub MovesAcceptance : (Data → Data) → Dialect → Dialect → Text → (Members → Type 0) → Type 0
 MovesAcceptance transform old new key Q =
-    (ms : Members) → IsMap (get_member key ms) → Everywhere (Named key Q) (object ms)
-    → (patterns : Patterns) (n : ℕ) (part v : Data) → Everywhere (Named key Q) part
+    (ms : Members) → IsMap (get_member key ms) → Everywhere (Named old key Q) (object ms)
+    → (patterns : Patterns) (n : ℕ) (part v : Data) → Everywhere (Named old key Q) part
     → accepts new (transform (object ms)) patterns n (transform part) v ≡ accepts old (object ms) patterns n part v
 
 -- at the key of either draft

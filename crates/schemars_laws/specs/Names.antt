@@ -1,9 +1,10 @@
 -- References that name the document or one of its definitions.
-use Rattle.std.specs.Prelude.{◌≡◌, ◌⊎◌, Option, Some, None, option_and_then, codes}
+use Rattle.std.specs.Prelude.{◌≡◌, ◌⊎◌, Option, Some, None, true, option_and_then, codes}
 use Rattle.serde_json.specs.Data.{Data, null, boolean, number, string, array, object, Members}
 use Rattle.serde_json.specs.Find.{get_member, as_str}
 use Rattle.schemars_schema.specs.Json.{Text}
 use Rattle.schemars_schema.specs.Encoding.{lookup}
+use Rattle.schemars_schema.specs.Acceptance.{Dialect}
 
 -- where a map stands at key in a document, the reference leads to its member k, and to nothing where nothing stands there
 pub record IsNameOf (key k reference : Text) : Type 0 where
@@ -32,14 +33,17 @@ IsNoObject (Some (string s)) = Unit {0}
 IsNoObject (Some (array ds)) = Unit {0}
 IsNoObject (Some (object ms)) = ⊥
 
--- a schema object with such a reference, of which Q holds; under `unevaluatedProperties`, where a walk doesn't lead, there is
--- no schema object
-abbrev pub NamedBy : (Text → Type 0) → (Members → Type 0) → Members → Type 0
-NamedBy N Q ms = HasNameOf N ms × IsNoObject (get_member (codes "unevaluatedProperties") ms) × Q ms
+-- where the dialect reads `unevaluatedProperties`, no schema object stands there, since a walk doesn't lead to it
+abbrev pub HasPlainUnevaluated : Dialect → Members → Type 0
+HasPlainUnevaluated d ms = d.reads_unevaluated ≡ true → IsNoObject (get_member (codes "unevaluatedProperties") ms)
+
+-- a schema object with such a reference and such `unevaluatedProperties`, of which Q holds
+abbrev pub NamedBy : Dialect → (Text → Type 0) → (Members → Type 0) → Members → Type 0
+NamedBy d N Q ms = HasNameOf N ms × HasPlainUnevaluated d ms × Q ms
 
 -- whose reference names the document or a definition
-abbrev pub Named : Text → (Members → Type 0) → Members → Type 0
-Named key Q = NamedBy (IsName key) Q
+abbrev pub Named : Dialect → Text → (Members → Type 0) → Members → Type 0
+Named d key Q = NamedBy d (IsName key) Q
 
 -- the definitions are a map, or there are none
 abbrev pub IsMap : Option Data → Type 0

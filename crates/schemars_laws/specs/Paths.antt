@@ -49,7 +49,7 @@ abbrev pub MovesComponents : (Data → Data) → Dialect → Dialect → (Member
 MovesComponents transform old new Q =
     (ms parts definitions : Members) → get_member (codes "components") ms ≡ Some (object parts)
     → get_member (codes "schemas") parts ≡ Some (object definitions)
-    → Everywhere (NamedBy (IsNameAt components) Q) (object ms) → EachEverywhere (NamedBy (IsNameAt components) Q) definitions
-    → (patterns : Patterns) (n : ℕ) (part v : Data) → Everywhere (NamedBy (IsNameAt components) Q) part
+    → Everywhere (NamedBy old (IsNameAt components) Q) (object ms) → EachEverywhere (NamedBy old (IsNameAt components) Q) definitions
+    → (patterns : Patterns) (n : ℕ) (part v : Data) → Everywhere (NamedBy old (IsNameAt components) Q) part
     → accepts new (with_components transform ms parts definitions) patterns n (transform part) v
     ≡ accepts old (object ms) patterns n part v

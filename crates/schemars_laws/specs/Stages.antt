@@ -3,7 +3,6 @@ use Rattle.std.specs.Prelude.{◌≡◌, ◌⊎◌, Option, Some, None, false, c
 use Rattle.serde_json.specs.Data.{Data, null, boolean, number, string, array, object, no_items, item, Members}
 use Rattle.serde_json.specs.Find.{get_member}
 use Rattle.schemars_schema.specs.Json.{Text}
-use Rattle.schemars_laws.specs.Names.{IsNoObject}
 use Rattle.schemars_laws.specs.Classes.{IsOnce, IsSchemaList, is_null_alone, IsConstAlone, HasPlainItems, HasNoUnevaluated, AreTexts}
 
 -- a text of which N holds, if anything
@@ -16,11 +15,10 @@ IsTextWith N (Some (string t)) = N t
 IsTextWith N (Some (array ds)) = ⊥
 IsTextWith N (Some (object ms)) = ⊥
 
--- what holds before each transform: one reference at most, of which N holds, and no schema object where a walk doesn't lead
+-- what holds before each transform: one reference at most, of which N holds
 pub record Stands (N : Text → Type 0) (Q : Members → Type 0) (ms : Members) : Type 0 where
   pub reference : IsTextWith N (get_member (codes "$ref") ms)
   pub once : IsOnce (codes "$ref") ms
-  pub closed : IsNoObject (get_member (codes "unevaluatedProperties") ms)
   pub own : Q ms
 
 -- a list of types is one of texts, and not empty, so that null that joins it is not alone
