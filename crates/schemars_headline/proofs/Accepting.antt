@@ -16,6 +16,7 @@ use Rattle.schemars_laws.specs.Classes.{IsDraft07, HasPlainItems}
 use Rattle.schemars_laws.specs.Stages.{Stands, IsForOpenApi}
 use Rattle.schemars_laws.specs.Laws.{MovesAcceptance, for_draft07, for_draft2019_09}
 use Rattle.schemars_laws.proofs.Drafts.{draft07-law, draft2019_09-law}
+use Rattle.schemars_headline.proofs.Changes.{IsDraft2019_09}
 use Rattle.schemars_headline.proofs.Classes.{good-named, items-named}
 use Rattle.schemars_headline.proofs.RootClass.{IsReady, stands-place}
 use Rattle.schemars_headline.proofs.Definitions.{Stay, stay-same, Has, prefix-has, siblings-has, unevaluated-has, count-has}
@@ -23,18 +24,18 @@ use Rattle.schemars_headline.proofs.Definitions.{Stay, stay-same, Has, prefix-ha
 -- a transform that moves acceptance
 pub moved : (T : Data → Data) (dialect : Dialect) (key : Text) (Q : Members → Type 0)
     → MovesAcceptance T draft2020_12 dialect key Q
-    → (document : Data) (ms : Members) → document ≡ object ms → IsMap (get_member key ms) → Everywhere (Named key Q) document
+    → (document : Data) (ms : Members) → document ≡ object ms → IsMap (get_member key ms) → Everywhere (Named draft2020_12 key Q) document
     → (patterns : Patterns) (followed : ℕ) (v : Data)
     → accepts dialect (T document) patterns followed (T document) v ≡ accepts draft2020_12 document patterns followed document v
 moved T dialect key Q law document ms is map all patterns followed v =
-    subst (λ d. Everywhere (Named key Q) d → accepts dialect (T d) patterns followed (T d) v
+    subst (λ d. Everywhere (Named draft2020_12 key Q) d → accepts dialect (T d) patterns followed (T d) v
     ≡ accepts draft2020_12 d patterns followed d v) (sym is)
     (λ here. law ms map here patterns followed (object ms) v here) all
 
 -- one that keeps the number of definitions too
 accepts-moved : (T : Data → Data) (dialect : Dialect) (key : Text) (Q : Members → Type 0)
     → MovesAcceptance T draft2020_12 dialect key Q
-    → (document : Data) (ms : Members) → document ≡ object ms → IsMap (get_member key ms) → Everywhere (Named key Q) document
+    → (document : Data) (ms : Members) → document ≡ object ms → IsMap (get_member key ms) → Everywhere (Named draft2020_12 key Q) document
     → (rows : List Row) (contract : Contract) (path : Text) (n : ℕ)
     → count_of_definitions path (T document) ≡ count_of_definitions path document
     → AcceptsItsValues draft2020_12 rows contract path n document document
@@ -78,10 +79,10 @@ module _ (rows : List Row) (contract : Contract) (path : Text) (n : ℕ) (key : 
       ∙ sym (count-has path key at definitions document has))
       means.accepts_its_values
 
-  pub draft2019_09_accepts : IsReady (Stands (IsName key) HasPlainItems) key definitions document
+  pub draft2019_09_accepts : IsReady (Stands (IsName key) IsDraft2019_09) key definitions document
       → AcceptsItsValues draft2019_09 rows contract path n (for_draft2019_09 document) (for_draft2019_09 document)
   draft2019_09_accepts ready =
-      let has = ready-has (Stands (IsName key) HasPlainItems) key definitions document ready in
+      let has = ready-has (Stands (IsName key) IsDraft2019_09) key definitions document ready in
       accepts-moved for_draft2019_09 draft2019_09 key HasPlainItems
       (draft2019_09-law key (stands-place path key at) (not-properties path key at))
       document ready.inside ready.is_object ready.is_map (items-named key document ready.everywhere) rows contract path n

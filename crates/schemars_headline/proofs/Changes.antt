@@ -12,7 +12,7 @@ use Rattle.schemars_schema.specs.SchemaData.{IsSchema, members_in, put_members}
 use Rattle.schemars_schema.specs.Annotations.{is_annotation, AreNotes}
 use Rattle.schemars_schema.specs.Edits.{without, replaced, holds_text, with_item}
 use Rattle.schemars_schema.specs.References.{NoSchemas, place_under, with_schema, with_list, keywords_with_names}
-use Rattle.schemars_schema.specs.Acceptance.{is_null}
+use Rattle.schemars_schema.specs.Acceptance.{draft2020_12, is_null}
 use Rattle.schemars_schema.proofs.Objects.{annotation-not_listed}
 use Rattle.schemars_schema.proofs.Members.{differ, unequal}
 use Rattle.schemars_builders.specs.AllowNull.{is_null_choice, is_combined, or_null, allow_null, type_with_null, null_in_type}
@@ -20,9 +20,9 @@ use Rattle.schemars_builders.specs.AllowNull.{enum_with_null, null_in_enum, cons
 use Rattle.schemars_documents.specs.Documents.{annotated}
 use Rattle.schemars_meaning.proofs.MapDocument.{noted_by, AllNotes}
 use Rattle.schemars_laws.specs.Everywhere.{Everywhere, asked, asked_at, asked_of_keywords}
-use Rattle.schemars_laws.specs.Names.{IsNoObject}
+use Rattle.schemars_laws.specs.Names.{IsNoObject, HasPlainUnevaluated}
 use Rattle.schemars_laws.specs.Classes.{IsOnce, IsSchemaList, AreTexts, is_null_alone, IsConstAlone, HasPlainItems, HasNoUnevaluated}
-use Rattle.schemars_laws.specs.Stages.{IsTextWith, Stands, IsForOpenApi, AreSomeTypes, HasSomeTypes, Anything}
+use Rattle.schemars_laws.specs.Stages.{IsTextWith, Stands, IsForOpenApi, AreSomeTypes, HasSomeTypes}
 use Rattle.schemars_laws.proofs.Editing.{without-put, alike-put, alike-replaced, once-put, absent-once, type-alike, values-alike}
 use Rattle.schemars_laws.proofs.Editing.{const-alike, stands-alike}
 use Rattle.schemars_laws.proofs.Looked.{without-other}
@@ -75,6 +75,7 @@ pub record Demand : Type 1 where
   pub rest : Members → Type 0
   pub stays : (ns ms : Members) → Alike (codes "unevaluatedProperties") ns ms → rest ms → rest ns
   pub lacking : (ms : Members) → HasNoUnevaluated ms → rest ms
+  pub plain : (ms : Members) → rest ms → IsNoObject (get_member (codes "unevaluatedProperties") ms)
 
 -- there are no `unevaluatedProperties`: so OpenAPI and Draft 7 ask
 abbrev pub without_rest : (Text → Type 0) → Demand
@@ -83,11 +84,18 @@ without_rest N = record {
   rest = HasNoUnevaluated;
   stays = λ ns ms a is. (a.others ∙ is.0, a.first ∙ is.1);
   lacking = λ ms is. is;
+  plain = λ ms is. subst IsNoObject (sym is.1) tt;
 }
 
--- they may stand there: 2019-09 reads them
+-- no schema object stands there: so 2019-09 asks, which reads them
 abbrev pub with_rest : (Text → Type 0) → Demand
-with_rest N = record { refers = N; rest = Anything; stays = λ ns ms a is. tt; lacking = λ ms is. tt }
+with_rest N = record {
+  refers = N;
+  rest = λ ms. IsNoObject (get_member (codes "unevaluatedProperties") ms);
+  stays = λ ns ms a is. subst IsNoObject (sym a.first) is;
+  lacking = λ ms is. subst IsNoObject (sym is.1) tt;
+  plain = λ ms is. is;
+}
 
 -- what the laws of the drafts and of OpenAPI ask for beside the reference
 pub record HasPlainKeywords (R : Demand) (ms : Members) : Type 0 where
@@ -107,7 +115,6 @@ pub for_openapi : (N : Text → Type 0) (s : Data) → Everywhere (Class (withou
 for_openapi N s is = weaker (Class (without_rest N)) (Stands N IsForOpenApi) (λ ms h. record {
   reference = h.reference;
   once = h.once;
-  closed = h.closed;
   own = record {
     unevaluated = h.own.rest;
     type = h.own.type;
@@ -119,24 +126,25 @@ for_openapi N s is = weaker (Class (without_rest N)) (Stands N IsForOpenApi) (λ
 }) s is
 
 -- that of 2019-09
-pub for_items : (R : Demand) (s : Data) → Everywhere (Class R) s → Everywhere (Stands R.refers HasPlainItems) s
-for_items R s is = weaker (Class R) (Stands R.refers HasPlainItems) (λ ms h. record {
+abbrev pub IsDraft2019_09 : Members → Type 0
+IsDraft2019_09 ms = HasPlainUnevaluated draft2020_12 ms × HasPlainItems ms
+
+pub for_items : (R : Demand) (s : Data) → Everywhere (Class R) s → Everywhere (Stands R.refers IsDraft2019_09) s
+for_items R s is = weaker (Class R) (Stands R.refers IsDraft2019_09) (λ ms h. record {
   reference = h.reference;
   once = h.once;
-  closed = h.closed;
-  own = h.own.items;
+  own = (λ reads. R.plain ms h.own.rest, h.own.items);
 }) s is
 
 -- ---- members put in, and taken out
 
 module _ (R : Demand) where
-  keeps : (ns ms : Members) → Alike (codes "$ref") ns ms → Alike (codes "unevaluatedProperties") ns ms → HasPlainKeywords R ns
-      → Class R ms → Class R ns
+  keeps : (ns ms : Members) → Alike (codes "$ref") ns ms → HasPlainKeywords R ns → Class R ms → Class R ns
   keeps = stands-alike R.refers (HasPlainKeywords R) (HasPlainKeywords R)
 
   class-alike : (ns ms : Members) → ((k : Text) → is_listed k watched ≡ true → Alike k ns ms) → Class R ms → Class R ns
   class-alike ns ms a is =
-      keeps ns ms (a (codes "$ref") refl) (a (codes "unevaluatedProperties") refl) (record {
+      keeps ns ms (a (codes "$ref") refl) (record {
         rest = R.stays ns ms (a (codes "unevaluatedProperties") refl) is.own.rest;
         type = type-alike ns ms (a (codes "type") refl) (a (codes "nullable") refl) (a (codes "const") refl) is.own.type;
         values = values-alike ns ms (a (codes "type") refl) (a (codes "enum") refl) is.own.values;
@@ -180,7 +188,6 @@ module _ (R : Demand) where
       let ns = put (codes "type") t ms in
       let here : get_member (codes "type") (put (codes "type") t ms) ≡ Some t = get_member-put (codes "type") t ms in
       keeps (put (codes "type") t ms) ms (other (codes "type") (codes "$ref") t ms refl)
-      (other (codes "type") (codes "unevaluatedProperties") t ms refl)
       (record {
         rest = R.stays (put (codes "type") t ms) ms (other (codes "type") (codes "unevaluatedProperties") t ms refl) is.own.rest;
         type = (subst AreSomeTypes (sym here) types, (other (codes "type") (codes "nullable") t ms refl).first ∙ is.own.type.1, no_const here alone);
@@ -207,7 +214,7 @@ module _ (R : Demand) where
   class-values : (ns ms : Members) → ((k : Text) → is_listed k (codes "const" ∷ codes "enum" ∷ []) ≡ false → is_listed k watched ≡ true → Alike k ns ms)
       → IsConstAlone ns → is_null_alone (get_member (codes "type") ms) ≡ false → Class R ms → Class R ns
   class-values ns ms a const alone is =
-      keeps ns ms (a (codes "$ref") refl refl) (a (codes "unevaluatedProperties") refl refl) (record {
+      keeps ns ms (a (codes "$ref") refl refl) (record {
         rest = R.stays ns ms (a (codes "unevaluatedProperties") refl refl) is.own.rest;
         type = (
           subst AreSomeTypes (sym (a (codes "type") refl refl).first) is.own.type.0,
@@ -264,13 +271,12 @@ module _ (R : Demand) where
 
   -- members are of the class where there is neither `nullable`, `const` nor `enum`, and what else it asks about is as it asks
   pub class-of : (ms : Members) → IsTextWith R.refers (get_member (codes "$ref") ms) → IsOnce (codes "$ref") ms
-      → IsNoObject (get_member (codes "unevaluatedProperties") ms) → R.rest ms → AreSomeTypes (get_member (codes "type") ms)
+      → R.rest ms → AreSomeTypes (get_member (codes "type") ms)
       → get_member (codes "nullable") ms ≡ None → get_member (codes "const") ms ≡ None → get_member (codes "enum") ms ≡ None
       → IsSchemaList (get_member (codes "allOf") ms) → HasPlainItems ms → Class R ms
-  class-of ms reference once closed rest types nullable const enum all items = record {
+  class-of ms reference once rest types nullable const enum all items = record {
     reference = reference;
     once = once;
-    closed = closed;
     own = record {
       rest = rest;
       type = (types, nullable, inr const);
@@ -284,7 +290,7 @@ module _ (R : Demand) where
   pub nothing : AreGood no_members
   unfolding asked_of_keywords
   nothing = record {
-    own = class-of no_members tt refl tt (R.lacking no_members (refl, refl)) tt refl refl refl tt (refl, tt, tt, refl);
+    own = class-of no_members tt refl (R.lacking no_members (refl, refl)) tt refl refl refl tt (refl, tt, tt, refl);
     inside = tt;
   }
 

@@ -11,8 +11,10 @@ use Rattle.schemars_laws.specs.Everywhere.{Everywhere}
 use Rattle.schemars_laws.specs.Names.{IsName, Named}
 use Rattle.schemars_laws.specs.Classes.{IsDraft07, HasPlainItems}
 use Rattle.schemars_laws.proofs.Preserved.{weaker}
+use Rattle.schemars_laws.proofs.Plain.{none-plain}
 use Rattle.schemars_laws.proofs.Steps.{text-alone, text-named}
 use Rattle.schemars_laws.specs.Stages.{Stands, IsForOpenApi}
+use Rattle.schemars_schema.specs.Acceptance.{draft2020_12}
 use Rattle.schemars_schema.specs.Annotations.{AreNotes}
 use Rattle.schemars_schema.proofs.Literals.{literal_is_schema}
 use Rattle.schemars_builders.specs.Variants.{unit_variant}
@@ -37,12 +39,12 @@ use Rattle.schemars_meaning.proofs.ByShape.{IsDocument, others_fill, member_docu
 use Rattle.schemars_meaning.proofs.References.{IsNotedShape}
 use Rattle.schemars_meaning.proofs.Referring.{IsNotedRow, AreNotedRows, plain_rows}
 use Rattle.schemars_meaning.proofs.FieldsDescribed.{described_fields}
-use Rattle.schemars_headline.proofs.Changes.{Demand, IsGood, good_truth, good-annotated, good-allow_null}
+use Rattle.schemars_headline.proofs.Changes.{Demand, IsDraft2019_09, IsGood, good_truth, good-annotated, good-allow_null}
 use Rattle.schemars_headline.proofs.Documents.{type-good, int-good, non_zero-good, char-good, formatted-good, bytes-good}
 use Rattle.schemars_headline.proofs.Documents.{schema_itself-good, reference-good, empty_list-good, seq-good, set-good}
 use Rattle.schemars_headline.proofs.Documents.{array-good, up_to-good, tuple-good, parts-good, fields-good, one_of-good}
 use Rattle.schemars_headline.proofs.Documents.{member-good, map-good, unit-good, literal-good}
-use Rattle.schemars_headline.proofs.Filled.{noted-effective, external-makes, untagged-makes, internal-makes, values-make}
+use Rattle.schemars_headline.proofs.Filled.{noted-effective, external-makes, untagged-makes, internal-makes, adjacent-makes, values-make}
 
 -- all shapes but structs
 abbrev IsNoStruct : Shape → Type 0
@@ -110,6 +112,8 @@ module _ (R : Demand) (A : Ask → Data → Type 0) (basis : Basis) (Under : Lis
       rw is.is (untagged-makes R A basis Under apart structs parts xs own flat is.parts is.answered)
   other-good (shape.internal tag closed xs) s others enums other p own flat is =
       rw is.is (internal-makes R A basis Under apart structs parts others enums tag closed xs p.2 own flat is.parts is.answered)
+  other-good (shape.adjacent tag key closed xs) s others enums other p own flat is =
+      rw is.is (adjacent-makes R A basis Under apart structs parts tag key closed xs own flat is.parts is.answered)
   other-good (shape.literal d) s others enums other p own flat is =
       rw (is ∙ literal_document-schema d (literal_is_schema d p)) (literal-good R d p)
 
@@ -226,17 +230,19 @@ module _ (R : Demand) (basis : Basis) (Refers : ℕ → Text → Type 0) (names 
 
 -- ---- where references are names
 
-pub class-named : (key : Text) (ms : Members) → Stands (IsName key) IsForOpenApi ms → Named key IsDraft07 ms
+pub class-named : (key : Text) (ms : Members) → Stands (IsName key) IsForOpenApi ms → Named draft2020_12 key IsDraft07 ms
 class-named key ms is = (
   text-named (IsName key) (get_member (codes "$ref") ms) is.reference,
-  is.closed,
+  none-plain draft2020_12 ms is.own.unevaluated,
   (is.own.unevaluated, (is.once, text-alone (IsName key) (get_member (codes "$ref") ms) is.reference, is.own.all_of), is.own.items),
 )
 
-pub good-named : (key : Text) (s : Data) → Everywhere (Stands (IsName key) IsForOpenApi) s → Everywhere (Named key IsDraft07) s
-good-named key s is = weaker (Stands (IsName key) IsForOpenApi) (Named key IsDraft07) (class-named key) s is
+pub good-named : (key : Text) (s : Data) → Everywhere (Stands (IsName key) IsForOpenApi) s
+    → Everywhere (Named draft2020_12 key IsDraft07) s
+good-named key s is = weaker (Stands (IsName key) IsForOpenApi) (Named draft2020_12 key IsDraft07) (class-named key) s is
 
-pub items-named : (key : Text) (s : Data) → Everywhere (Stands (IsName key) HasPlainItems) s → Everywhere (Named key HasPlainItems) s
+pub items-named : (key : Text) (s : Data) → Everywhere (Stands (IsName key) IsDraft2019_09) s
+    → Everywhere (Named draft2020_12 key HasPlainItems) s
 items-named key s is =
-    weaker (Stands (IsName key) HasPlainItems) (Named key HasPlainItems)
-    (λ ms h. (text-named (IsName key) (get_member (codes "$ref") ms) h.reference, h.closed, h.own)) s is
+    weaker (Stands (IsName key) IsDraft2019_09) (Named draft2020_12 key HasPlainItems)
+    (λ ms h. (text-named (IsName key) (get_member (codes "$ref") ms) h.reference, h.own.0, h.own.1)) s is

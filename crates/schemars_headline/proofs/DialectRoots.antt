@@ -31,10 +31,9 @@ use Rattle.schemars_headline.proofs.Placed.{StandsAt, holds_put, draft_key}
 use Rattle.schemars_headline.proofs.Calls.{definitions_in, root_means, plain_for}
 use Rattle.schemars_laws.specs.Names.{IsNameOf, IsName, IsMap}
 use Rattle.schemars_laws.specs.Laws.{for_draft07, for_draft2019_09}
-use Rattle.schemars_laws.specs.Classes.{HasPlainItems}
 use Rattle.schemars_laws.specs.Stages.{Stands, IsForOpenApi}
 use Rattle.schemars_headline.specs.Drafts.{Draft2020_12, Draft2019_09, Draft07, DraftHeadlines}
-use Rattle.schemars_headline.proofs.Changes.{Class, without_rest, with_rest, for_openapi, for_items}
+use Rattle.schemars_headline.proofs.Changes.{Class, IsDraft2019_09, without_rest, with_rest, for_openapi, for_items}
 use Rattle.schemars_headline.proofs.Classes.{described-good}
 use Rattle.schemars_headline.proofs.StructClass.{described-under}
 use Rattle.schemars_headline.proofs.RootClass.{IsReady, ready-as, entries, root_call-ready, may_refer-name, stands-place, to-name}
@@ -141,14 +140,14 @@ module _ (s : State) (n : ℕ) (w : Work) (document : Data) (root : IsRootOf s n
         (for_draft07 document) (draft07-refers One document (ready One (may_refer-one plan w key at standing)).everywhere);
   }
 
-  draft2019_09_from : IsReadyAs HasPlainItems → MeansItsType draft2020_12 s.rows contract (path_of s) n document
+  draft2019_09_from : IsReadyAs IsDraft2019_09 → MeansItsType draft2020_12 s.rows contract (path_of s) n document
       → MeansItsType draft2019_09 s.rows contract (path_of s) n (for_draft2019_09 document)
   draft2019_09_from ready means = record {
     accepts_its_values = draft2019_09_accepts s.rows contract (path_of s) n key at w.definitions document means
         (ready (IsName key) (may_refer-name plan w key at standing));
     references_resolve = each-resolves One (for_draft2019_09 document)
         (one-resolves key w.definitions (for_draft2019_09 document)
-        (prefix-has key (stands-place (path_of s) key at) w.definitions document (has HasPlainItems ready)))
+        (prefix-has key (stands-place (path_of s) key at) w.definitions document (has IsDraft2019_09 ready)))
         (for_draft2019_09 document) (draft2019_09-refers One document (ready One (may_refer-one plan w key at standing)).everywhere);
   }
 
@@ -160,9 +159,9 @@ module _ (s : State) (n : ℕ) (w : Work) (document : Data) (root : IsRootOf s n
       (described-good (without_rest N) (basis_of_plan plan) (MayRefer plan w) refer plain))
 
   -- and in one that is plain under the contract
-  wide_ready : IsChecked s.rows → IsPlainUnder contract s.rows → IsReadyAs HasPlainItems
+  wide_ready : IsChecked s.rows → IsPlainUnder contract s.rows → IsReadyAs IsDraft2019_09
   wide_ready checked plain N refer =
-      ready-as (Class (with_rest N)) (Stands N HasPlainItems) (for_items (with_rest N)) key w.definitions document
+      ready-as (Class (with_rest N)) (Stands N IsDraft2019_09) (for_items (with_rest N)) key w.definitions document
       (root_call-ready s n w document key root (under_rows contract s.rows plain) once standing at (with_rest N)
       (described-under N (basis_of_plan plan) (MayRefer plan w) refer plain (λ j e found. fields_settled s.rows checked j
       ∙ ap (λ o. option_map_or (λ e. shape_fields (flattened_in s.rows) e.shape) o []) found) (enums_settled s.rows checked)))

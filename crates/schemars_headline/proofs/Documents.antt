@@ -39,7 +39,6 @@ use Rattle.schemars_meaning.proofs.Spread.{field_keywords, AreWritten, IsFieldsD
 use Rattle.schemars_meaning.proofs.ByShape.{seq_document, set_document, array_document, up_to_document, tuple_document}
 use Rattle.schemars_meaning.proofs.ByShape.{items_from, one_of_document, any_of_document, units_document, member_document}
 use Rattle.schemars_laws.specs.Everywhere.{Everywhere, asked, asked_of_items, asked_of_members, asked_of_keywords}
-use Rattle.schemars_laws.specs.Names.{IsNoObject}
 use Rattle.schemars_laws.specs.Classes.{IsOnce, IsNoList, AreSchemas, IsSchemaList, AreTexts, is_null_alone, HasPlainItems}
 use Rattle.schemars_laws.specs.Stages.{IsTextWith, AreSomeTypes}
 use Rattle.schemars_laws.proofs.Editing.{absent-once}
@@ -66,7 +65,7 @@ module _ (R : Demand) where
       → get_member (codes "unevaluatedProperties") ms ≡ None → get_member (codes "nullable") ms ≡ None → get_member (codes "const") ms ≡ None
       → get_member (codes "enum") ms ≡ None → get_member (codes "allOf") ms ≡ None → HasPlainItems ms → Class R ms
   own-items ms types ref rest nullable const enum all items =
-      class-of R ms (subst (IsTextWith R.refers) (sym ref) tt) (absent-once (codes "$ref") ms ref) (subst IsNoObject (sym rest) tt)
+      class-of R ms (subst (IsTextWith R.refers) (sym ref) tt) (absent-once (codes "$ref") ms ref)
       (R.lacking ms (absent-once (codes "unevaluatedProperties") ms rest, rest)) types nullable const enum
       (subst IsSchemaList (sym all) tt) items
 
@@ -78,7 +77,7 @@ module _ (R : Demand) where
   reference-good r is =
       let ms : Members = member (codes "$ref") (string r) no_members in
       good R ms (record {
-        own = class-of R ms is refl tt (R.lacking ms (refl, refl)) tt refl refl refl tt (refl, tt, tt, refl);
+        own = class-of R ms is refl (R.lacking ms (refl, refl)) tt refl refl refl tt (refl, tt, tt, refl);
         inside = (tt, tt);
       })
 
@@ -488,7 +487,6 @@ module _ (R : Demand) where
   literal-class ms plain = record {
     reference = subst (IsTextWith R.refers) (sym (none (codes "$ref") refl)) tt;
     once = each-once (codes "$ref") ms plain.members;
-    closed = subst IsNoObject (sym (none (codes "unevaluatedProperties") refl)) tt;
     own = record {
       rest = R.lacking ms (each-once (codes "unevaluatedProperties") ms plain.members, none (codes "unevaluatedProperties") refl);
       type = (types (get_member (codes "type") ms) refl, none (codes "nullable") refl, beside (is_null_alone (get_member (codes "type") ms)) refl);

@@ -5,6 +5,7 @@ use Rattle.serde_json.specs.Data.{Data, string, Members, no_members, put}
 use Rattle.schemars_schema.specs.Json.{Text}
 use Rattle.schemars_schema.specs.SchemaData.{put_all}
 use Rattle.schemars_schema.specs.Annotations.{AreNotes}
+use Rattle.schemars_builders.specs.Variants.{unit_variant}
 use Rattle.schemars_shapes.specs.Shape.{Field, Fields, Flattened, Payload, Variant, no_payload, newtype_payload, tuple_payload}
 use Rattle.schemars_shapes.specs.Shape.{struct_payload}
 use Rattle.schemars_shapes.specs.Units.{is_bare_unit}
@@ -21,15 +22,17 @@ use Rattle.schemars_documents.specs.OfShape.{bare_units, other_items, units_temp
 use Rattle.schemars_documents.specs.OfShape.{titled, payload_item, untagged_template, content_template, struct_template, internal_item}
 use Rattle.schemars_documents.specs.OfShape.{internal_template, KeywordTemplate, typed_template, object_with, values_of, all_patterns}
 use Rattle.schemars_documents.specs.OfShape.{pattern_properties_at, properties_at, other_values, values_template}
+use Rattle.schemars_documents.specs.OfShape.{said, whole_template, adjacent_payload, adjacent_item, adjacent_template}
 use Rattle.schemars_meaning.proofs.Parts.{first_all, left_all}
 use Rattle.schemars_meaning.proofs.Filling.{Fit, without_end, parted}
+use Rattle.schemars_meaning.proofs.MapDocument.{map_document}
 use Rattle.schemars_meaning.proofs.ByShape.{tuple_fills}
 use Rattle.schemars_meaning.proofs.Enums.{title_noted}
 use Rattle.schemars_meaning.proofs.References.{IsNotedPayload, AreNotedVariants}
 use Rattle.schemars_laws.specs.Everywhere.{asked, asked_of_members}
 use Rattle.schemars_headline.proofs.Changes.{Demand, Class, AreGood, are-put, IsGood, good, good_truth, good-annotated}
 use Rattle.schemars_headline.proofs.Documents.{AllGood, are-typed, type-good, tuple-good, parts-good, tagged-good, unit-good}
-use Rattle.schemars_headline.proofs.Documents.{units-good, one_of-good, any_of-good, member-good, AllNamed, asked-all}
+use Rattle.schemars_headline.proofs.Documents.{units-good, one_of-good, any_of-good, member-good, map-good, AllNamed, asked-all}
 
 noted-append : (xs ys : List Field) → AreNoted xs → AreNoted ys → AreNoted (xs ++ ys)
 noted-append [] ys a b = b
@@ -186,6 +189,50 @@ module _ (R : Demand) (A : Ask → Data → Type 0) (basis : Basis) (Under : Lis
     internal-makes [] are own flat us fit = good_truth R false
     internal-makes (x ∷ xs) are own flat us fit =
         one-makes (map (internal_item contract tag closed) (x ∷ xs)) (internals-make (x ∷ xs) are own flat) us fit
+
+  -- ---- the name under one key, and the rest under another
+
+  module _ (tag key : Text) where
+    alone-makes : (closed : Bool) (name : Text) → Makes (whole_template (said tag (unit_variant name) ∷ []) closed)
+    alone-makes false name us fit = member-good R false tag (unit_variant name) (unit-good R name)
+    alone-makes true name us fit = member-good R true tag (unit_variant name) (unit-good R name)
+
+    both-good : (closed : Bool) (name : Text) (t : Template) → Makes t → (us : List Data) → Fit A ((asks_of t ++ []) ++ []) us
+        → IsGood R (map_document ((tag, unit_variant name) ∷ (key, filled t us) ∷ []) (tag ∷ key ∷ []) closed)
+    both-good closed name t make us fit =
+        map-good R ((tag, unit_variant name) ∷ (key, filled t us) ∷ []) (tag ∷ key ∷ []) closed
+        (unit-good R name, (make us (without_end A (asks_of t) us (without_end A (asks_of t ++ []) us fit)), tt))
+
+    both-make : (closed : Bool) (name : Text) (t : Template) → Makes t
+        → Makes (whole_template (said tag (unit_variant name) ∷ (key, t) ∷ []) closed)
+    both-make false name t make us fit = both-good false name t make us fit
+    both-make true name t make us fit = both-good true name t make us fit
+
+    variant-makes : (closed : Bool) (name : Text) (p : Payload) → IsNotedPayload p → Under (payload_parts p)
+        → Makes (whole_template (said tag (unit_variant name) ∷ adjacent_payload contract key p) closed)
+    variant-makes closed name no_payload own flat us fit = alone-makes closed name us fit
+    variant-makes closed name (newtype_payload n) own flat us fit =
+        both-make closed name (payload_template contract (newtype_payload n)) (payload-makes (newtype_payload n) own flat) us fit
+    variant-makes closed name (tuple_payload ns) own flat us fit =
+        both-make closed name (payload_template contract (tuple_payload ns)) (payload-makes (tuple_payload ns) own flat) us fit
+    variant-makes closed name (struct_payload x) own flat us fit =
+        both-make closed name (payload_template contract (struct_payload x)) (payload-makes (struct_payload x) own flat) us fit
+
+    adjacents-make : (closed : Bool) (xs : List Variant) → AreNotedVariants xs → Under (variant_parts xs)
+        → AllMake (map (adjacent_item contract tag key closed) xs)
+    adjacents-make closed [] own flat = tt
+    adjacents-make closed (x ∷ xs) own flat =
+        let flats = apart (payload_parts x.payload) (variant_parts xs) flat in (
+          noted-makes x.notes (whole_template (said tag (unit_variant x.name) ∷ adjacent_payload contract key x.payload) closed)
+              own.0 (variant-makes closed x.name x.payload own.1 flats.0),
+          adjacents-make closed xs own.2 flats.1,
+        )
+
+    pub adjacent-makes : (closed : Bool) (xs : List Variant) → AreNotedVariants xs → Under (variant_parts xs)
+        → Makes (adjacent_template contract tag key closed xs)
+    adjacent-makes closed [] own flat us fit = good_truth R false
+    adjacent-makes closed (x ∷ xs) own flat us fit =
+        one-makes (map (adjacent_item contract tag key closed) (x ∷ xs)) (adjacents-make closed (x ∷ xs) own flat) us fit
 
 -- ---- maps
 

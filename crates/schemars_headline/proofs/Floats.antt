@@ -43,7 +43,8 @@ use Rattle.schemars_documents.specs.OfShape.{KeywordTemplate, templates_of, prop
 use Rattle.schemars_documents.specs.OfShape.{with_flattened, struct_template, content_template}
 use Rattle.schemars_documents.specs.OfShape.{payload_template, named_template, bare_units, other_items, choice_of}
 use Rattle.schemars_documents.specs.OfShape.{values_template, payload_item, titled, untagged_template, template_of}
-use Rattle.schemars_documents.specs.OfShape.{entry_template, internal_item, internal_template}
+use Rattle.schemars_documents.specs.OfShape.{entry_template, internal_item, internal_template, said, adjacent_payload, adjacent_item}
+use Rattle.schemars_documents.specs.OfShape.{adjacent_template}
 use Rattle.schemars_documents.specs.Describes.{IsWritten, Describes}
 use Rattle.schemars_flatten.proofs.Floats.{flattened-whole, flattened_part-whole, opened_inside-whole}
 use Rattle.schemars_documents.specs.PlainTable.{FieldsHaveNoFloat, PayloadHasNoFloat, VariantsHaveNoFloat, ShapeHasNoFloat}
@@ -420,6 +421,28 @@ internal_whole : (contract : Contract) (tag : Text) (closed : Bool) (xs : List V
 internal_whole contract tag closed [] n = refl
 internal_whole contract tag closed (x ∷ xs) n = (internals_whole contract tag closed (x ∷ xs) n, tt)
 
+-- beside the name
+beside_whole : (contract : Contract) (key : Text) (p : Payload) → PayloadHasNoFloat p
+    → SayWhole (templates_of (map (λ e. e.1) (adjacent_payload contract key p)))
+beside_whole contract key no_payload n = tt
+beside_whole contract key (newtype_payload j) n = (tt, tt)
+beside_whole contract key (tuple_payload js) n = (tuple_whole js, tt)
+beside_whole contract key (struct_payload x) n = (struct_whole contract x n, tt)
+
+adjacents_whole : (contract : Contract) (tag key : Text) (closed : Bool) (xs : List Variant) → VariantsHaveNoFloat xs
+    → SayWhole (templates_of (map (adjacent_item contract tag key closed) xs))
+adjacents_whole contract tag key closed [] n = tt
+adjacents_whole contract tag key closed (x ∷ xs) n =
+    let es : List KeywordTemplate = said tag (unit_variant x.name) ∷ adjacent_payload contract key x.payload in
+    let keys : List Text = map (λ e. e.0) es in
+    let one = map_whole es (text_items keys) closed (refl, beside_whole contract key x.payload n.1) (texts_whole keys) in
+    ((n.0, one), adjacents_whole contract tag key closed xs n.2)
+
+adjacent_whole : (contract : Contract) (tag key : Text) (closed : Bool) (xs : List Variant) → VariantsHaveNoFloat xs
+    → SaysWhole (adjacent_template contract tag key closed xs)
+adjacent_whole contract tag key closed [] n = refl
+adjacent_whole contract tag key closed (x ∷ xs) n = (adjacents_whole contract tag key closed (x ∷ xs) n, tt)
+
 -- ---- by shape
 
 texts_whole_at : (value : ℕ) (texts : List Text)
@@ -473,6 +496,7 @@ shape_whole basis (shape.map_from key value) n = values_whole (key_options basis
 shape_whole basis (shape.external xs) n = choice_whole (bare_units xs) (other_items basis.contract xs) (others_whole basis.contract xs n)
 shape_whole basis (shape.untagged xs) n = untagged_whole basis.contract basis.titles xs n
 shape_whole basis (shape.internal tag closed xs) n = internal_whole basis.contract tag closed xs n
+shape_whole basis (shape.adjacent tag key closed xs) n = adjacent_whole basis.contract tag key closed xs n
 shape_whole basis (shape.literal d) n = either IsWhole (is_schema d) d (boolean true) n refl
 
 -- ---- the document of a row

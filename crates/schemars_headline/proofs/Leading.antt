@@ -95,6 +95,7 @@ shape_case (shape.struct x) = flattened_case x.flatten
 shape_case (shape.external xs) = variants_case payload_flattened payload_case xs
 shape_case (shape.untagged xs) = variants_case payload_same same_case xs
 shape_case (shape.internal tag closed xs) = variants_case payload_same same_case xs
+shape_case (shape.adjacent tag key closed xs) = variants_case payload_flattened payload_case xs
 shape_case kind = inl refl
 
 ranks_above : (rows : List Row) → IsChecked rows → (n : ℕ) (e : Entry) → entry_at rows n ≡ Some e

@@ -143,6 +143,8 @@ shape_other basis (shape.untagged []) p = (refl, refl)
 shape_other basis (shape.untagged (x ∷ xs)) p = search
 shape_other basis (shape.internal tag closed []) p = (refl, refl)
 shape_other basis (shape.internal tag closed (x ∷ xs)) p = search
+shape_other basis (shape.adjacent tag key closed []) p = (refl, refl)
+shape_other basis (shape.adjacent tag key closed (x ∷ xs)) p = search
 shape_other basis (shape.literal d) p = literal_other d p
 
 module _ (key : Text) (is_key : IsDefinitionsKey key) where

@@ -14,7 +14,7 @@ use Rattle.schemars_transform.specs.Built.{reference_moved, without_siblings, re
 use Rattle.schemars_transform.specs.Built.{prefix_as_items}
 use Rattle.schemars_transform.specs.Unevaluated.{unevaluated_as_additional, closed_by, replace_unevaluated_properties}
 use Rattle.schemars_laws.specs.Everywhere.{Everywhere, asked, asked_of_keywords}
-use Rattle.schemars_laws.specs.Classes.{IsOnce, IsSchemaList, HasPlainReference, HasPlainItems}
+use Rattle.schemars_laws.specs.Classes.{IsOnce, IsSchemaList, HasPlainReference}
 use Rattle.schemars_laws.proofs.Looked.{change_rules, walked, list-walked, raw-walked, once-walked, without-other}
 use Rattle.schemars_laws.proofs.Siblings.{schema-siblings, moved_members, get-moved}
 use Rattle.schemars_laws.proofs.PrefixItems.{prefix_items}
@@ -24,6 +24,7 @@ use Rattle.schemars_laws.proofs.Editing.{without-put, absent-once, asked-moved}
 use Rattle.schemars_laws.proofs.Plain.{Alike, reference-walked, reference-alike, alike-without, without-swap}
 use Rattle.schemars_laws.specs.Laws.{for_draft07, for_draft2019_09}
 use Rattle.schemars_laws.specs.Stages.{IsTextWith, Stands, IsForOpenApi}
+use Rattle.schemars_headline.proofs.Changes.{IsDraft2019_09}
 use Rattle.schemars_laws.proofs.Steps.{text-alone}
 
 module _ (R : Text → Type 0) where
@@ -210,10 +211,10 @@ module _ (R : Text → Type 0) where
 
   -- ---- whole documents
 
-  pub draft2019_09-refers : (d : Data) → Everywhere (Stands R HasPlainItems) d → Everywhere RefersOnce (for_draft2019_09 d)
+  pub draft2019_09-refers : (d : Data) → Everywhere (Stands R IsDraft2019_09) d → Everywhere RefersOnce (for_draft2019_09 d)
   draft2019_09-refers d is =
       after (change_rules prefix_as_items) WithItems RefersOnce after-prefix tt d
-      (weaker (Stands R HasPlainItems) WithItems (λ ms h. (h.reference, h.once, h.own.1)) d is)
+      (weaker (Stands R IsDraft2019_09) WithItems (λ ms h. (h.reference, h.once, h.own.1.1)) d is)
 
   pub draft07-refers : (d : Data) → Everywhere (Stands R IsForOpenApi) d → Everywhere RefersOnce (for_draft07 d)
   draft07-refers d is =

@@ -30,20 +30,21 @@ use Rattle.schemars_headline.specs.Headline.{with_definitions, IsDraftPath}
 use Rattle.schemars_headline.proofs.Keys.{IsDefinitionsKey}
 use Rattle.schemars_headline.proofs.Placed.{StandsAt, IsPlaced, placed_in, draft_key}
 use Rattle.schemars_laws.specs.Everywhere.{Everywhere, asked, asked_of_members}
-use Rattle.schemars_laws.specs.Names.{NamedBy}
+use Rattle.schemars_laws.specs.Names.{HasPlainUnevaluated, NamedBy}
 use Rattle.schemars_laws.specs.Classes.{IsOnce, AreSchemas, HasPlainItems, HasPlainReference, HasNoUnevaluated}
 use Rattle.schemars_laws.specs.Classes.{alone_by, without_unevaluated}
 use Rattle.schemars_laws.specs.Stages.{IsTextWith, Stands, IsForOpenApi, AfterNullable, AfterSiblings}
 use Rattle.schemars_laws.specs.Laws.{for_draft07, for_draft2019_09}
 use Rattle.schemars_laws.proofs.Looked.{change_rules}
 use Rattle.schemars_laws.proofs.Moved.{Rewrites, schema-moved}
+use Rattle.schemars_laws.proofs.Plain.{none-plain, unread-plain}
 use Rattle.schemars_laws.proofs.Preserved.{after, weaker}
 use Rattle.schemars_laws.proofs.Seven.{keep-unevaluated, keep-siblings}
 use Rattle.schemars_laws.proofs.Steps.{text-alone, text-named}
 use Rattle.schemars_laws.proofs.Laws.{unevaluated-moves, siblings-moves, prefix-moves}
 use Rattle.schemars_headline.specs.Drafts.{Draft, Draft2020_12, Draft2019_09, Draft07, dialect_of, made_for}
 use Rattle.schemars_headline.specs.Drafts.{AcceptsExampleUnder, DraftSamples}
-use Rattle.schemars_headline.proofs.Changes.{Demand, without_rest, Class, for_openapi, for_items, AreGood, are-put, IsGood, good}
+use Rattle.schemars_headline.proofs.Changes.{Demand, without_rest, Class, IsDraft2019_09, for_openapi, for_items, AreGood, are-put, IsGood, good}
 use Rattle.schemars_headline.proofs.Changes.{good_truth, good-members, good-allow_null}
 use Rattle.schemars_headline.proofs.Documents.{own-items, type-good, are-typed, char-good, bytes-good, seq-good, AllGood, asked-items}
 use Rattle.schemars_headline.proofs.Documents.{any_of-good, asked-named}
@@ -211,16 +212,16 @@ stands-silent path key (inr at) = ap (λ k. is_listed k keyword_names) at.1
 
 -- where nothing is referred to, a transform moves acceptance in whatever document
 alone-moved : {R : Type 0} (ρ : Rules R) (r : R) (old new : Dialect) (Q : Members → Type 0) → Rewrites ρ old new Q → (document : Data)
-    (patterns : Patterns) (followed : ℕ) (part v : Data) → Everywhere (NamedBy Never Q) part
+    (patterns : Patterns) (followed : ℕ) (part v : Data) → Everywhere (NamedBy old Never Q) part
     → accepts new document patterns followed (rewritten ρ r part) v ≡ accepts old document patterns followed part v
 alone-moved ρ r old new Q moves document patterns followed part v is =
     schema-moved ρ Never old new Q moves document document (λ t never. absurd never) patterns followed r part v is
 
-named : (P Q : Members → Type 0) → ((ms : Members) → P ms → Q ms) → (s : Data) → Everywhere (Stands Never P) s
-    → Everywhere (NamedBy Never Q) s
-named P Q own s is =
-    weaker (Stands Never P) (NamedBy Never Q)
-    (λ ms h. (text-named Never (get_member (codes "$ref") ms) h.reference, h.closed, own ms h.own)) s is
+named : (d : Dialect) (P Q : Members → Type 0) → ((ms : Members) → Stands Never P ms → HasPlainUnevaluated d ms × Q ms) → (s : Data)
+    → Everywhere (Stands Never P) s → Everywhere (NamedBy d Never Q) s
+named d P Q own s is =
+    weaker (Stands Never P) (NamedBy d Never Q)
+    (λ ms h. (text-named Never (get_member (codes "$ref") ms) h.reference, (own ms h).0, (own ms h).1)) s is
 
 own_of : (C : Members → Type 0) (s : Data) (ms : Members) → s ≡ object ms → Everywhere C s → C ms
 unfolding asked
@@ -254,21 +255,12 @@ module _ (ns : Members) (is : Everywhere (Stands Never IsForOpenApi) (object ns)
       (weaker (Stands Never IsForOpenApi) (Stands Never AfterNullable) (λ ms h. record {
         reference = h.reference;
         once = h.once;
-        closed = h.closed;
         own = (h.own.all_of, h.own.const, h.own.items);
       }) first is-first)
 
   plain_reference : (ms : Members) → IsForOpenApi ms → IsOnce (codes "$ref") ms → IsTextWith Never (get_member (codes "$ref") ms)
       → HasPlainReference ms
   plain_reference ms own once reference = (once, text-alone Never (get_member (codes "$ref") ms) reference, own.all_of)
-
-  referred : (s : Data) → Everywhere (Stands Never IsForOpenApi) s → Everywhere (NamedBy Never HasPlainReference) s
-  referred s all =
-      weaker (Stands Never IsForOpenApi) (NamedBy Never HasPlainReference) (λ ms h. (
-        text-named Never (get_member (codes "$ref") ms) h.reference,
-        h.closed,
-        plain_reference ms h.own h.once h.reference,
-      )) s all
 
   -- in whatever document, Draft 7 reads what the transforms made as 2020-12 read it before
   draft07-alone : (document : Data) (patterns : Patterns) (followed : ℕ) (v : Data)
@@ -277,12 +269,16 @@ module _ (ns : Members) (is : Everywhere (Stands Never IsForOpenApi) (object ns)
   draft07-alone document patterns followed v =
       alone-moved (change_rules prefix_as_items) tt (alone_by gone) draft07 HasPlainItems
       (prefix-moves (codes "$defs") refl (alone_by gone)).rewrites document patterns followed second v
-      (named AfterSiblings HasPlainItems (λ ms h. h.1) second is-second)
+      (named (alone_by gone) AfterSiblings HasPlainItems (λ ms h. (unread-plain (alone_by gone) ms refl, h.own.1)) second is-second)
       ∙ (alone-moved (change_rules without_siblings) tt gone (alone_by gone) HasPlainReference
-      (siblings-moves (codes "$defs") refl gone).rewrites document patterns followed first v (referred first is-first)
+      (siblings-moves (codes "$defs") refl gone).rewrites document patterns followed first v
+      (named gone IsForOpenApi HasPlainReference
+      (λ ms h. (unread-plain gone ms refl, plain_reference ms h.own h.once h.reference)) first is-first)
       ∙ alone-moved (change_rules unevaluated_as_additional) tt draft2020_12 gone HasNoUnevaluated
       (unevaluated-moves (codes "$defs") refl draft2020_12 (differ (codes "$defs") (codes "properties") refl)).rewrites document patterns
-      followed (object ns) v (named IsForOpenApi HasNoUnevaluated (λ ms h. h.unevaluated) (object ns) is))
+      followed (object ns) v
+      (named draft2020_12 IsForOpenApi HasNoUnevaluated
+      (λ ms h. (none-plain draft2020_12 ms h.own.unevaluated, h.own.unevaluated)) (object ns) is))
     where
       gone : Dialect
       gone = without_unevaluated draft2020_12
@@ -334,7 +330,7 @@ module _ (x : Example) (document : Data) (key : Text) (silent : IsSilent key) (n
       (λ ms same. tt)))
       ∙ (alone-moved (change_rules prefix_as_items) tt draft2020_12 draft2019_09 HasPlainItems
       (prefix-moves (codes "$defs") refl draft2020_12).rewrites made patterns followed (object ns) json
-      (named HasPlainItems HasPlainItems (λ ms h. h) (object ns) (for_items unreferred (object ns) class))
+      (named draft2020_12 IsDraft2019_09 HasPlainItems (λ ms h. h.own) (object ns) (for_items unreferred (object ns) class))
       ∙ before made patterns followed json is)
 
 -- what is made of an example accepts it in each draft

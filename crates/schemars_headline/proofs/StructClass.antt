@@ -113,7 +113,7 @@ module _ (N : Text → Type 0) where
     own =
         class-of R ms (subst (IsTextWith N) (sym (form.at (codes "$ref") refl)) tt)
         (absent-once (codes "$ref") ms (form.at (codes "$ref") refl))
-        (subst IsNoObject (sym (form.at (codes "unevaluatedProperties") refl)) (no_object ps closed)) tt
+        (subst IsNoObject (sym (form.at (codes "unevaluatedProperties") refl)) (no_object ps closed))
         (subst AreSomeTypes (sym (form.at (codes "type") refl)) tt) (form.at (codes "nullable") refl) (form.at (codes "const") refl)
         (form.at (codes "enum") refl) (subst IsSchemaList (sym (form.at (codes "allOf") refl)) (all_list ps.all)) (
           absent-once (codes "prefixItems") ms (form.at (codes "prefixItems") refl),

@@ -24,8 +24,8 @@ IsReferenceOf old new n d =
     × (d ≡ reference (reference_to (path_of old) name))
 
 -- what is added: names by the rule of names, and definitions of the rows of these names
-abbrev pub Adds : State → State → Type 0
-Adds old new = Step (state_plan old None) (work_of old) (work_of new)
+abbrev pub HasAdded : State → State → Type 0
+HasAdded old new = Step (state_plan old None) (work_of old) (work_of new)
 
 -- in a plain table, all that is added is reached from these references
 abbrev pub IsNeeded : State → State → List Data → Type 0
