@@ -17,6 +17,7 @@ use Rattle.serde_json.specs.Read.{is_integer, float_of, number_from, number_of, 
 use Rattle.schemars_schema.specs.Json.{Text}
 use Rattle.schemars_schema.proofs.SortedMembers.{IsSorted, sorted-put}
 use Rattle.schemagen_input.specs.SampleInput.{IsReadNumber, IsAsRead, AreAsRead, AreMembersAsRead}
+use Rattle.schemars_sample.proofs.Results.{if_mapped, if_next}
 
 -- ---- numbers
 
@@ -78,15 +79,6 @@ are_read no_members sorted each = tt
 are_read (member k d ms) sorted each = (each.0, sorted.0, are_read ms sorted.1 each.1)
 
 -- ---- values
-
-module _ {A B : Type 0} (P : A → Type 0) (Q : B → Type 0) where
-  pub if_mapped : (f : A → B) (o : Option A) → ((a : A) → P a → Q (f a)) → IfSome o P → IfSome (option_map f o) Q
-  if_mapped f None keeps h = tt
-  if_mapped f (Some a) keeps h = keeps a h
-
-  pub if_next : (f : A → Option B) (o : Option A) → ((a : A) → P a → IfSome (f a) Q) → IfSome o P → IfSome (option_and_then f o) Q
-  if_next f None keeps h = tt
-  if_next f (Some a) keeps h = keeps a h
 
 mutual
   value_read : (j : json.Json) → IfSome (of_json j) IsAsRead

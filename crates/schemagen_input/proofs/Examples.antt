@@ -9,7 +9,7 @@ use Rattle.schemars_shapes.specs.declared.shape.IntKind.TheVariants.{U8, I32, I1
 use Rattle.schemars_shapes.specs.Shape.{Shape, Field, Flattened, Fields, Required, bare_fields, without_notes, in_place, int, non_zero}
 use Rattle.schemars_shapes.specs.Shape.{formatted, char, any}
 use Rattle.schemars_shapes.specs.Shape.{option, seq, struct, external, untagged, internal, Payload, Variant, no_payload, newtype_payload}
-use Rattle.schemars_shapes.specs.Shape.{tuple_payload, struct_payload}
+use Rattle.schemars_shapes.specs.Shape.{tuple_payload, struct_payload, adjacent}
 use Rattle.schemars_types.specs.Rows.{Row}
 use Rattle.schemagen_input.specs.Forms.{required}
 use Rattle.schemagen_input.specs.Input.{input_of}
@@ -32,6 +32,9 @@ titled = member (codes "title") (string (codes "t")) no_members
 
 noted_unit : Text → Variant
 noted_unit name = record { name = name; payload = no_payload; notes = titled }
+
+noted_tuple : Text → List ℕ → Variant
+noted_tuple name ns = record { name = name; payload = tuple_payload ns; notes = titled }
 
 -- a field of the first row, with a note
 noted_field : Field
@@ -183,6 +186,49 @@ tagged_tuple : said
     (codes "{\"types\":[{\"id\":\"E\",\"name\":\"E\",\"shape\":{\"internal\":{\"tag\":\"t\",\"variants\":[{\"name\":\"A\",\"payload\":{\"tuple\":[]}}]}}}],\"root\":0}") ≡ None
 unfolding serde_json_on_literals said
 tagged_tuple = refl
+
+-- under the second key stands any payload; other keys are allowed where nothing else is said
+adjacent_variants : said
+    (codes "{\"types\":[{\"id\":\"E\",\"name\":\"E\",\"shape\":{\"adjacent\":{\"tag\":\"t\",\"content\":\"c\",\"variants\":[{\"name\":\"A\"},{\"name\":\"B\",\"payload\":{\"tuple\":[0,0]},\"notes\":{\"title\":\"t\"}},{\"name\":\"C\",\"payload\":{\"struct\":{\"fields\":[{\"name\":\"t\",\"type\":0}]}}}]}}}],\"root\":0}")
+    ≡ Some (
+      named (codes "E") (adjacent (codes "t") (codes "c") false (
+          variant (codes "A") no_payload ∷ noted_tuple (codes "B") (0 ∷ 0 ∷ [])
+          ∷ variant (codes "C") (struct_payload (bare_fields (field (codes "t") 0 (required true true) ∷ []) false)) ∷ [])) ∷ [],
+      0,
+    )
+unfolding serde_json_on_literals said named field variant noted_tuple titled
+adjacent_variants = refl
+
+-- one text for both keys is read here, and refused by the table
+adjacent_by_one_key : said
+    (codes "{\"types\":[{\"id\":\"E\",\"name\":\"E\",\"shape\":{\"adjacent\":{\"tag\":\"t\",\"content\":\"t\",\"closed\":true}}}],\"root\":0}")
+    ≡ Some (named (codes "E") (adjacent (codes "t") (codes "t") true []) ∷ [], 0)
+unfolding serde_json_on_literals said named
+adjacent_by_one_key = refl
+
+adjacent_without_content : said
+    (codes "{\"types\":[{\"id\":\"E\",\"name\":\"E\",\"shape\":{\"adjacent\":{\"tag\":\"t\",\"variants\":[{\"name\":\"A\"}]}}}],\"root\":0}") ≡ None
+unfolding serde_json_on_literals said
+adjacent_without_content = refl
+
+adjacent_without_a_tag : said
+    (codes "{\"types\":[{\"id\":\"E\",\"name\":\"E\",\"shape\":{\"adjacent\":{\"content\":\"c\",\"variants\":[{\"name\":\"A\"}]}}}],\"root\":0}") ≡ None
+unfolding serde_json_on_literals said
+adjacent_without_a_tag = refl
+
+content_key_as_a_number : said (codes "{\"types\":[{\"id\":\"E\",\"name\":\"E\",\"shape\":{\"adjacent\":{\"tag\":\"t\",\"content\":0}}}],\"root\":0}") ≡ None
+unfolding serde_json_on_literals said
+content_key_as_a_number = refl
+
+another_member_beside_a_content : said
+    (codes "{\"types\":[{\"id\":\"E\",\"name\":\"E\",\"shape\":{\"adjacent\":{\"tag\":\"t\",\"content\":\"c\",\"open\":true}}}],\"root\":0}") ≡ None
+unfolding serde_json_on_literals said
+another_member_beside_a_content = refl
+
+content_of_no_row : said
+    (codes "{\"types\":[{\"id\":\"E\",\"name\":\"E\",\"shape\":{\"adjacent\":{\"tag\":\"t\",\"content\":\"c\",\"variants\":[{\"name\":\"A\",\"payload\":{\"newtype\":1}}]}}}],\"root\":0}") ≡ None
+unfolding serde_json_on_literals said
+content_of_no_row = refl
 
 another_member_of_a_variant : said
     (codes "{\"types\":[{\"id\":\"E\",\"name\":\"E\",\"shape\":{\"external\":{\"variants\":[{\"name\":\"A\",\"type\":0}]}}}],\"root\":0}")

@@ -9,7 +9,7 @@ use Rattle.schemars_schema.specs.Json.{Text}
 use Rattle.schemars_shapes.specs.Shape.{Payload, no_payload, newtype_payload, tuple_payload, struct_payload, Variant, Entry, internal}
 use Rattle.schemars_types.specs.Rows.{Row, with_entry}
 use Rattle.schemagen_input.specs.Forms.{variant_in, variant_inside, payload_inside, internals_in, internals_said, internal_in, lone_in}
-use Rattle.schemagen_input.specs.Forms.{needed_member}
+use Rattle.schemagen_input.specs.Forms.{needed_member, adjacent_in}
 use Rattle.schemagen_input.specs.Input.{shape_named, shape_under, plain_under, list_under, fixed_under, literal_in, shape_in}
 use Rattle.schemagen_input.specs.Input.{entry_in, heading_in, row_in, rows_in}
 use Rattle.schemagen_input.specs.Written.{is_library_shape, has_library_shape}
@@ -92,6 +92,9 @@ internal_passes d = search (either_passes, then_passes, none_passes, inside)
     inside tag closed =
         map_keeps (list_all is_inside) is_library_shape (internal tag closed) (internals_said d) (λ xs all. all) (said_pass d)
 
+adjacent_passes : (d : Data) → Passes is_library_shape (adjacent_in d)
+adjacent_passes d = search (either_passes, then_passes, map_passes, none_passes) depth 12
+
 literal_passes : (d : Data) → Passes is_library_shape (literal_in d)
 literal_passes null = none_passes is_library_shape
 literal_passes (boolean b) = some_passes is_library_shape _ refl
@@ -113,7 +116,7 @@ plain_passes : (name : Text) (d : Data) → Passes is_library_shape (plain_under
 plain_passes name d = search (either_passes, map_passes, literal_passes, list_passes) depth 12
 
 under_passes : (name : Text) (d : Data) → Passes is_library_shape (shape_under name d)
-under_passes name d = search (either_passes, map_passes, internal_passes, plain_passes) depth 12
+under_passes name d = search (either_passes, map_passes, internal_passes, adjacent_passes, plain_passes) depth 12
 
 shape_passes : (d : Data) → Passes is_library_shape (shape_in d)
 shape_passes null = none_passes is_library_shape

@@ -16,7 +16,7 @@ use Rattle.schemars_sample.specs.Example.{Examples, example, Entries, entry}
 use Rattle.schemars_sample.specs.SampleJson.{sample_json, items_json, entries_json}
 use Rattle.schemagen_input.specs.SampleInput.{sample_input, items_input, members_input}
 use Rattle.schemagen_input.specs.SampleInput.{IsAsRead, AreAsRead, AreMembersAsRead}
-use Rattle.schemagen_input.proofs.AsRead.{if_mapped, if_next}
+use Rattle.schemars_sample.proofs.Results.{if_mapped, if_next}
 
 -- a member before all that are put in stays the first
 put_members-first : (k : Text) (d : Data) (new ms : Members) → IsAbove k new

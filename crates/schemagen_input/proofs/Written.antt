@@ -13,7 +13,7 @@ use Rattle.schemars_shapes.specs.Shape.{Field, Flattened, Payload, Variant, Shap
 use Rattle.schemars_shapes.specs.Shape.{no_payload, newtype_payload, tuple_payload, struct_payload}
 use Rattle.schemars_shapes.specs.Shape.{null as null_shape, bool, int, non_zero, number as number_shape, text, char, formatted, any, bytes}
 use Rattle.schemars_shapes.specs.Shape.{schema_itself, option, seq, set, array as array_shape, up_to, tuple, struct, newtype}
-use Rattle.schemars_shapes.specs.Shape.{result, bound, range, either, map_from, external, untagged, internal, literal}
+use Rattle.schemars_shapes.specs.Shape.{result, bound, range, either, map_from, external, untagged, internal, adjacent, literal}
 use Rattle.schemars_types.specs.Rows.{Row}
 use Rattle.schemagen_input.specs.Forms.{kind_in, fields_in, all_flattened_in, numbers_in, payload_in}
 use Rattle.schemagen_input.specs.Forms.{variants_in, payload_inside, internals_in}
@@ -105,6 +105,7 @@ shape_back (map_from key value) h = refl
 shape_back (external xs) h = rw (variants_back xs) refl
 shape_back (untagged xs) h = rw (variants_back xs) refl
 shape_back (internal tag closed xs) h = rw (internals_back xs h) refl
+shape_back (adjacent tag content closed xs) h = rw (variants_back xs) refl
 shape_back (literal d) h = rw h refl
 
 -- ---- rows

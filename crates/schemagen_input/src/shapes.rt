@@ -13,7 +13,7 @@ use crate::fields::struct_in;
 use crate::members::{
     flag_in, has_only, kind_in, lone_member, notes_in, number_in, number_of, parts_in,
 };
-use crate::variants::{external_in, internal_in, untagged_in};
+use crate::variants::{adjacent_in, external_in, internal_in, untagged_in};
 use schemars_schema::Schema;
 use schemars_types::{Shape, TypeEntry, TypeNo};
 use serde_json::{Map, Value};
@@ -79,6 +79,7 @@ fn shape_under(alloc: Global, name: &str, value: &Value) -> Result<Shape, InputE
         "external" => external_in(alloc, value),
         "untagged" => untagged_in(alloc, value),
         "internal" => internal_in(alloc, value),
+        "adjacent" => adjacent_in(alloc, value),
         _ => match plain_under(alloc, name, value)? {
             Some(shape) => Ok(shape),
             None => Err(InputError::BadTable),

@@ -5,7 +5,7 @@ ghost use Rattle.serde_json.specs.View.{view, items_view};
 ghost use Rattle.schemars_shapes.specs.Shape.{shape_of, no_payload, payload_of, variant_of};
 ghost use Rattle.schemars_shapes.specs.Shape.{internal_payload_of, internal_variant_of};
 ghost use Rattle.schemagen_input.specs.Forms.{payload_named, payload_under, payload_in, variant_in};
-ghost use Rattle.schemagen_input.specs.Forms.{variants_in};
+ghost use Rattle.schemagen_input.specs.Forms.{variants_in, variants_said, adjacent_in};
 ghost use Rattle.schemagen_input.specs.Forms.{enum_in, external_in, untagged_in};
 ghost use Rattle.schemagen_input.specs.Forms.{payload_inside, variant_inside, internals_in};
 ghost use Rattle.schemagen_input.specs.Forms.{internals_said, internal_in, optional_member};
@@ -13,7 +13,9 @@ ghost use Rattle.schemagen_input.specs.Forms.{internals_said, internal_in, optio
 use crate::error::InputError;
 use crate::fields::fields_said;
 use crate::members::{flag_in, has_only, lone_member, notes_in, number_in, parts_in, text_in};
-use schemars_types::{Internal, InternalPayload, InternalVariant, Payload, Shape, Variant};
+use schemars_types::{
+    Adjacent, Internal, InternalPayload, InternalVariant, Payload, Shape, Variant,
+};
 use serde_json::Value;
 use std::alloc::Global;
 
@@ -116,13 +118,12 @@ fn variants_in(alloc: Global, values: &[Value]) -> Result<Vec<Variant>, InputErr
 }
 
 // The variants of an enum; there are none where they are missing.
-fn enum_in(alloc: Global, value: &Value) -> Result<Vec<Variant>, InputError>
-    ensures ok { IfOk result (λ v. enum_in (view value.now) ≡ Some (map variant_of v.items)) }
-    ensures bad { IfErr result (λ e. e ≡ InputError.BadTable → enum_in (view value.now) ≡ None) }
+fn variants_said(alloc: Global, value: &Value) -> Result<Vec<Variant>, InputError>
+    ensures ok { IfOk result (λ v. variants_said (view value.now)
+        ≡ Some (map variant_of v.items)) }
+    ensures bad { IfErr result (λ e. e ≡ InputError.BadTable
+        → variants_said (view value.now) ≡ None) }
 {
-    if !has_only(value, &["variants"]) {
-        return Err(InputError::BadTable);
-    }
     let Some(variants) = value.get("variants") else {
         return Ok(Vec::new(alloc));
     };
@@ -130,6 +131,17 @@ fn enum_in(alloc: Global, value: &Value) -> Result<Vec<Variant>, InputError>
         Some(values) => variants_in(alloc, values),
         None => Err(InputError::BadTable),
     }
+}
+
+// The variants of an enum of which nothing else is said.
+fn enum_in(alloc: Global, value: &Value) -> Result<Vec<Variant>, InputError>
+    ensures ok { IfOk result (λ v. enum_in (view value.now) ≡ Some (map variant_of v.items)) }
+    ensures bad { IfErr result (λ e. e ≡ InputError.BadTable → enum_in (view value.now) ≡ None) }
+{
+    if !has_only(value, &["variants"]) {
+        return Err(InputError::BadTable);
+    }
+    variants_said(alloc, value)
 }
 
 /// An enum whose variants are tagged by their names.
@@ -237,6 +249,34 @@ pub fn internal_in(alloc: Global, value: &Value) -> Result<Shape, InputError>
     let tag = String::from_str(alloc, tag)?;
     Ok(Shape::Internal(Internal {
         tag,
+        closed,
+        variants,
+    }))
+}
+
+const ADJACENT_KEYS: [&str; 4] = ["tag", "content", "closed", "variants"];
+
+/// An enum whose variants have name and content under two keys.
+pub fn adjacent_in(alloc: Global, value: &Value) -> Result<Shape, InputError>
+    ensures ok { IfOk result (λ s. adjacent_in (view value.now) ≡ Some (shape_of s)) }
+    ensures bad { IfErr result (λ e. e ≡ InputError.BadTable
+        → adjacent_in (view value.now) ≡ None) }
+{
+    if !has_only(value, &ADJACENT_KEYS) {
+        return Err(InputError::BadTable);
+    }
+    let (Some(tag), Some(content)) = (text_in(value, "tag"), text_in(value, "content")) else {
+        return Err(InputError::BadTable);
+    };
+    let Some(closed) = flag_in(value, "closed") else {
+        return Err(InputError::BadTable);
+    };
+    let variants = variants_said(alloc, value)?;
+    let tag = String::from_str(alloc, tag)?;
+    let content = String::from_str(alloc, content)?;
+    Ok(Shape::Adjacent(Adjacent {
+        tag,
+        content,
         closed,
         variants,
     }))

@@ -18,7 +18,7 @@ use Rattle.schemars_documents.specs.PlainTable.{IsPlainTable, HasPlainNotes, Has
 use Rattle.schemars_generate.specs.declared.error.GenerateError.{GenerateError}
 use Rattle.schemars_generate.specs.declared.error.GenerateError.TheVariants.{OutOfMemory, DefinitionsPath}
 use Rattle.schemars_headline.specs.Headline.{Headline, CannotPlace}
-use Rattle.schemars_headline.specs.Calls.{IsLastRootCall, IsPartOf, Adds, IsNeeded}
+use Rattle.schemars_headline.specs.Calls.{IsLastRootCall, IsPartOf, HasAdded, IsNeeded}
 use Rattle.schemars_headline.specs.Drafts as drafts
 use Rattle.schemars_headline.specs.Drafts.{Draft, dialect_of, AcceptsExampleUnder}
 use Rattle.schemars_headline.specs.Taken.{TakenHeadline, MeanTheirRows}
@@ -104,7 +104,7 @@ IsWrittenDocument asked rows root document =
 -- what a generator holds after it has made a part for this row, and its definitions, through these transforms
 abbrev pub AreTakenAt : List (GenTransform NoTransform) → State → ℕ → State → Members → Type 0
 AreTakenAt ts old root s taken =
-    (part : Data) × IsPartOf s root part × (s ≡ record old { names = s.names; definitions = s.definitions }) × Adds old s
+    (part : Data) × IsPartOf s root part × (s ≡ record old { names = s.names; definitions = s.definitions }) × HasAdded old s
     × (HasOwnDefinitions old → HasOwnDefinitions s) × IsNeeded old s (references part) × (taken ≡ each_made_by ts s.definitions)
 
 -- the definitions that a part for this row leads to, through these transforms; through those of OpenAPI they mean their rows

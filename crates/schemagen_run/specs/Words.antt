@@ -53,5 +53,5 @@ Asks words (Types asked) = AskFor words asked
 Asks words (Sample dialect) = AskForExample words dialect
 
 -- the words that the program knows: for the document of a table's root, or of an example
-abbrev pub AreKnown : List (String Global) → Type 0
-AreKnown words = AskForTypes words ⊎ AskForSample words
+abbrev pub AreCommands : List (String Global) → Type 0
+AreCommands words = AskForTypes words ⊎ AskForSample words

@@ -14,7 +14,7 @@ ghost use Rattle.schemars_sample.specs.SampleJson.{sample_json};
 ghost use Rattle.schemagen_input.specs.Input.{is_table, input_of};
 ghost use Rattle.schemagen_input.specs.SampleInput.{sample_input, IsAsRead};
 ghost use Rattle.schemagen_run.specs.declared.words.Dialect.TheVariants.{OpenApi3};
-ghost use Rattle.schemagen_run.specs.Words.{AskForTypes, AskForSample, AreKnown};
+ghost use Rattle.schemagen_run.specs.Words.{AskForTypes, AskForSample, AreCommands};
 ghost use Rattle.schemagen_run.specs.Run.{GivesAll, IsTextOf, IsNoJson, IsBadTable, IsTableText};
 ghost use Rattle.schemagen_run.specs.Run.{IsAcceptedText, IsNotedText, IsFaultyTable, IsRefusal};
 ghost use Rattle.schemagen_run.specs.Run.{IsLineRefusal};
@@ -67,11 +67,11 @@ pub fn run<S: Source, K: Sink>(
     source: &mut S,
     sink: &mut K,
 ) -> Result<(), Fault>
-    ensures usage { (result ≡ Err Fault.Usage) ↔ ¬ (AreKnown words.now) }
-    ensures known { result ≢ Err Fault.Usage → AreKnown words.now }
+    ensures usage { (result ≡ Err Fault.Usage) ↔ ¬ (AreCommands words.now) }
+    ensures known { result ≢ Err Fault.Usage → AreCommands words.now }
     ensures unread { result ≡ Err Fault.Usage → source.new ≡ source.old }
 
-    ensures read { AreKnown words.now
+    ensures read { AreCommands words.now
         → ((result ≡ Err (Fault.Refused READ)) ↔ IsTrue (S.has_failed source.new)) }
     ensures not_json { result ≡ Err (Fault.Refused NOT_JSON)
         → GivesAll (S.left source.old) (S.left source.new) IsNoJson }

@@ -1,7 +1,7 @@
 //! What the words of a run ask for.
 ghost use Rattle.std.specs.Prelude.{◌≡◌, ◌↔◌, IsTrue, MatchOption, bytes_eq, codes, [], ◌∷◌};
 ghost use Rattle.schemagen_run.specs.Words.{AskFor, AskForTypes, AskForExample, AskForSample};
-ghost use Rattle.schemagen_run.specs.Words.{AreKnown, Asks};
+ghost use Rattle.schemagen_run.specs.Words.{AreCommands, Asks};
 ghost use Rattle.schemagen_run.specs.Words.{word_for, IsDialect, IsAskedBy, IsKnown};
 
 use schemars::Contract;
@@ -57,7 +57,7 @@ fn dialect_of(word: &str) -> Option<Dialect>
 
 // What the words ask for.
 pub(crate) fn command_in(words: &[String]) -> Option<Command>
-    ensures { MatchOption result (¬ (AreKnown words.now)) (Asks words.now) }
+    ensures { MatchOption result (¬ (AreCommands words.now)) (Asks words.now) }
 {
     match asked_in(words) {
         Some(asked) => Some(Command::Types(asked)),

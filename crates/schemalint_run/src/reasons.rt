@@ -89,8 +89,15 @@ fn add_shape(
             add_variants(alloc, place, variants, lines)
         }
         Shape::Internal(internal) => add_internal(alloc, place, &internal.variants, lines),
+        Shape::Adjacent(adjacent) => add_variants(alloc, place, &adjacent.variants, lines),
         Shape::Literal(schema) => add_literal(alloc, place, schema, lines),
-        _ => Ok(()),
+        Shape::Null | Shape::Bool | Shape::Int(_) | Shape::NonZero(_) => Ok(()),
+        Shape::Number | Shape::Text | Shape::Char | Shape::Formatted(_) => Ok(()),
+        Shape::Any | Shape::Bytes | Shape::SchemaItself => Ok(()),
+        Shape::Option(_) | Shape::Newtype(_) | Shape::Seq(_) | Shape::Set(_) => Ok(()),
+        Shape::Array(..) | Shape::UpTo(..) | Shape::Tuple(_) => Ok(()),
+        Shape::Result(..) | Shape::Either(..) => Ok(()),
+        Shape::Bound(_) | Shape::Range(_) | Shape::Map(..) => Ok(()),
     }
 }
 

@@ -2,7 +2,7 @@
 use crate::lines::add_line;
 use crate::places::row_place;
 use crate::reach::reached;
-use schemars_types::{Field, InternalPayload, Payload, Shape, TypeEntry, TypeNo, Types};
+use schemars_types::{Field, InternalPayload, Payload, Shape, TypeEntry, TypeNo, Types, Variant};
 use std::alloc::{AllocError, Global};
 use std::collections::BTreeMap;
 
@@ -64,7 +64,12 @@ fn is_primitive(shape: &Shape) -> bool {
         Shape::Null | Shape::Bool | Shape::Int(_) | Shape::NonZero(_) => true,
         Shape::Number | Shape::Text | Shape::Char | Shape::Formatted(_) => true,
         Shape::Any | Shape::Bytes | Shape::SchemaItself => true,
-        _ => false,
+        Shape::Option(_) | Shape::Newtype(_) | Shape::Seq(_) | Shape::Set(_) => false,
+        Shape::Array(..) | Shape::UpTo(..) | Shape::Tuple(_) | Shape::Struct(_) => false,
+        Shape::Result(..) | Shape::Either(..) => false,
+        Shape::Bound(_) | Shape::Range(_) | Shape::Map(..) => false,
+        Shape::External(_) | Shape::Untagged(_) | Shape::Internal(_) | Shape::Adjacent(_) => false,
+        Shape::Literal(_) => false,
     }
 }
 
@@ -99,12 +104,7 @@ fn warn_of_options(
     match shape {
         Shape::Struct(fields) => warn_of_fields(alloc, types, n, &fields.list, lines),
         Shape::External(variants) | Shape::Untagged(variants) => {
-            for variant in variants {
-                if let Payload::Struct(fields) = &variant.payload {
-                    warn_of_fields(alloc, types, n, &fields.list, lines)?;
-                }
-            }
-            Ok(())
+            warn_of_variants(alloc, types, n, variants, lines)
         }
         Shape::Internal(internal) => {
             for variant in &internal.variants {
@@ -114,8 +114,33 @@ fn warn_of_options(
             }
             Ok(())
         }
-        _ => Ok(()),
+        Shape::Adjacent(adjacent) => {
+            warn_of_variants(alloc, types, n, &adjacent.variants, lines)
+        }
+        Shape::Null | Shape::Bool | Shape::Int(_) | Shape::NonZero(_) => Ok(()),
+        Shape::Number | Shape::Text | Shape::Char | Shape::Formatted(_) => Ok(()),
+        Shape::Any | Shape::Bytes | Shape::SchemaItself => Ok(()),
+        Shape::Option(_) | Shape::Newtype(_) | Shape::Seq(_) | Shape::Set(_) => Ok(()),
+        Shape::Array(..) | Shape::UpTo(..) | Shape::Tuple(_) => Ok(()),
+        Shape::Result(..) | Shape::Either(..) => Ok(()),
+        Shape::Bound(_) | Shape::Range(_) | Shape::Map(..) => Ok(()),
+        Shape::Literal(_) => Ok(()),
     }
+}
+
+fn warn_of_variants(
+    alloc: Global,
+    types: &Types,
+    n: TypeNo,
+    variants: &[Variant],
+    lines: &mut String,
+) -> Result<(), AllocError> {
+    for variant in variants {
+        if let Payload::Struct(fields) = &variant.payload {
+            warn_of_fields(alloc, types, n, &fields.list, lines)?;
+        }
+    }
+    Ok(())
 }
 
 fn warn_of_fields(

@@ -18,6 +18,7 @@ use Rattle.schemars_sample.specs.SampleJson.{sample_json, items_json, entries_js
 use Rattle.schemars_sample.specs.SampleSchema.{sample_schema, item_schemas, entry_schemas, value_schemas}
 use Rattle.schemars_sample.specs.SampleSchema.{choice_among, one_beside, shared_by}
 use Rattle.schemars_sample.specs.SampleSchema.{titled_schema, with_name, with_example, sample_root}
+use Rattle.schemars_sample.proofs.Results.{if_mapped, if_next}
 use Rattle.schemars_sample.proofs.Choices.{one_beside-holds, shared_by-holds}
 use Rattle.schemars_headline.proofs.Floats.{bound_whole, whole_items, whole_allow_null, whole_members_in, whole_with_meta_schema}
 
@@ -31,15 +32,6 @@ abbrev AreWholeMembers : Members → Type 0
 AreWholeMembers ms = members_have_float ms ≡ false
 
 -- ---- its JSON, where it has one
-
-module _ {A B : Type 0} (P : A → Type 0) (Q : B → Type 0) where
-  if_mapped : (f : A → B) (o : Option A) → ((a : A) → P a → Q (f a)) → IfSome o P → IfSome (option_map f o) Q
-  if_mapped f None keeps h = tt
-  if_mapped f (Some a) keeps h = keeps a h
-
-  if_next : (f : A → Option B) (o : Option A) → ((a : A) → P a → IfSome (f a) Q) → IfSome o P → IfSome (option_and_then f o) Q
-  if_next f None keeps h = tt
-  if_next f (Some a) keeps h = keeps a h
 
 bytes_whole : (bs : List ℕ) → AreWhole (map (λ b. number (unsigned b)) bs)
 bytes_whole [] = tt

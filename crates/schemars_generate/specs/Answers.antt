@@ -9,13 +9,13 @@ use Rattle.schemars_documents.specs.Template.{Ask, part}
 use Rattle.schemars_build.specs.Parts.{IsAnswer}
 use Rattle.schemars_headline.specs.State.{State, state_plan, work_of, HasOwnDefinitions, ReferencesNameKeys}
 use Rattle.schemars_headline.specs.Headline.{SubschemaHeadline, IsInlined}
-use Rattle.schemars_headline.specs.Calls.{IsPartOf, IsReferenceOf, Adds}
+use Rattle.schemars_headline.specs.Calls.{IsPartOf, IsReferenceOf, HasAdded}
 use Rattle.schemars_headline.specs.Inlined.{NeedsNoDefinitions}
 use Rattle.schemars_headline.specs.Notes.{HasPlainNotesThroughout}
 
 -- the answer to this ask, and what is added for it
 pub record IsAnswerFor (old new : State) (a : Ask) (d : Data) : Type 0 where
-  pub adds : Adds old new
+  pub adds : HasAdded old new
   pub is : IsAnswer (state_plan old None) true (work_of old) (work_of new) a d
 
 -- the schema of row n for use inside a document that holds the definitions; in a plain table, null can be added to it under each draft

@@ -8,3 +8,4 @@ mod Characters
 pub mod Accepting
 mod Seen
 mod Parts
+pub mod Results

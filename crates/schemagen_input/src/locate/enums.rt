@@ -95,6 +95,15 @@ pub fn check_internal(alloc: Global, value: &Value, rows: usize) -> Result<(), S
     check_variants(alloc, value, rows, true)
 }
 
+/// The keys of name and content, and the variants.
+pub fn check_adjacent(alloc: Global, value: &Value, rows: usize) -> Result<(), Stop> {
+    check_names(alloc, value, &["tag", "content", "closed", "variants"])?;
+    check_text(alloc, value, "tag")?;
+    check_text(alloc, value, "content")?;
+    check_flag(alloc, value, "closed")?;
+    check_variants(alloc, value, rows, false)
+}
+
 fn check_variants(alloc: Global, value: &Value, rows: usize, beside_tag: bool) -> Result<(), Stop> {
     match value.get("variants") {
         None => Ok(()),

@@ -1,5 +1,5 @@
 //! Tables, rows and shapes.
-use crate::locate::enums::{check_enum, check_fields, check_internal};
+use crate::locate::enums::{check_adjacent, check_enum, check_fields, check_internal};
 use crate::locate::members::{
     check_count, check_flag, check_kind, check_names, check_notes, check_row, check_row_in,
     check_rows, check_text, missing,
@@ -91,6 +91,7 @@ fn check_shape_under(alloc: Global, name: &str, value: &Value, rows: usize) -> R
         "struct" => check_fields(alloc, value, rows),
         "external" | "untagged" => check_enum(alloc, value, rows),
         "internal" => check_internal(alloc, value, rows),
+        "adjacent" => check_adjacent(alloc, value, rows),
         "int" | "nonzero" => check_kind(alloc, value),
         "format" if value.is_string() => Ok(()),
         "format" => refuse(alloc, "a text is expected here"),
