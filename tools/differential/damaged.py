@@ -7,9 +7,11 @@ TOKENS = ["{", "}", "[", "]", ",", ":", '"', "0", "-", "-0", "00", "1.", ".5", "
           "\u0001", "\u007f", "\u00a0", "\u2028", " ", "\u000c", "\u0000", "1.0", "-9223372036854775809",
           "18446744073709551616", "99999999999999999999999", '""', "[]", "{}", '"a":1,', ",,"]
 VALUES = [None, True, 0, -1, 99, 1.0, -0.0, 2**64, "", "null", "unit", "u9", [], {}, [0], {"newtype": 0},
-          {"int": "i8"}, {"tuple": []}, {"deserialize": True}, {"deserialize": True, "serialize": False}]
+          {"int": "i8"}, {"tuple": []}, {"adjacent": {"tag": "t", "content": "c"}}, {"deserialize": True},
+          {"deserialize": True, "serialize": False}]
 MEMBERS = ["notes", "inline", "required", "closed", "flatten", "fields", "payload", "extra", "name", "id",
-           "type", "variants", "tag", "shape", "root", "types", "of", "len", "newtype", "struct", "tuple"]
+           "type", "variants", "tag", "content", "shape", "root", "types", "of", "len", "newtype", "struct",
+           "tuple"]
 OTHER_WORDS = ["", "types", "2020-12", "types draft-7", "types 2019-09 --inline --inline", "types openapi", "types 2020-12 --Inline", "types --inline 2020-12", "sample",
                "types 2020-12 --inline --inline", "types 2020-12 --serialize x", "Types 2020-12"]
 

@@ -223,6 +223,15 @@ class Generator:
             members.append(with_notes(tagged, variant.notes))
         return {"oneOf": members} if members else False
 
+    def _adjacent(self, enum):
+        members = []
+        for variant in enum.variants:
+            properties = {enum.tag: {"type": "string", "const": variant.name}}
+            if variant.payload.kind != "unit":
+                properties[enum.content] = self._shape(variant.payload)
+            members.append(with_notes(_object(properties, enum.closed), variant.notes))
+        return {"oneOf": members} if members else False
+
     def _content(self, number):
         """What a tag is put on: a reference only where the document can take the tag beside it."""
         document = self.document(number)

@@ -7,7 +7,8 @@ NAMED = ["null", "bool", "number", "text", "char", "any", "bytes", "schema"]
 OF_ONE = ["option", "seq", "set", "newtype", "bound", "range"]
 SIZED = {"array": "len", "up_to": "cap"}
 PAIRS = {"map": ("key", "value"), "result": ("ok", "err"), "either": ("left", "right")}
-ENUMS = ["external", "untagged", "internal"]
+ENUMS = ["external", "untagged", "internal", "adjacent"]
+OF_SAME_VALUES = ["untagged", "internal"]
 
 
 class Refused(Exception):
@@ -93,11 +94,13 @@ def _row_reader(count):
     tagged = _object_of({"tag": _text}, closed=_truth, variants=variants(payloads))
     tuple_payloads = payloads | {"tuple": _list_of(number)}
     enum = _object_of({}, variants=variants(tuple_payloads))
+    keyed = _object_of({"tag": _text, "content": _text}, closed=_truth, variants=variants(tuple_payloads))
     shapes = dict.fromkeys(OF_ONE, number) | tuple_payloads
     shapes |= {kind: _object_of({"of": number, size: _size}) for kind, size in SIZED.items()}
     shapes |= {kind: _object_of(dict.fromkeys(names, number)) for kind, names in PAIRS.items()}
     shapes |= {"int": _integer, "nonzero": _integer, "format": _text}
-    shapes |= {"external": enum, "untagged": enum, "internal": tagged, "literal": _instance_of(bool, dict)}
+    shapes |= {"external": enum, "untagged": enum, "internal": tagged, "adjacent": keyed,
+               "literal": _instance_of(bool, dict)}
     shape = _one_of(NAMED, shapes)
     return _object_of({"id": _text, "name": _text, "shape": shape}, inline=_truth, notes=_notes)
 
@@ -114,8 +117,9 @@ class Table:
 
     def check(self):
         """Refuses names that stand twice, and cycles that no document or no value comes out of."""
-        for row in self.rows:
-            _check_names(row.shape)
+        names = [each for row in self.rows for each in _names(row.shape)]
+        if any(len(set(each)) < len(each) for each in names):
+            raise Refused("3 RepeatedName")
         links = [list(self._links(row.shape)) for row in self.rows]
         _check_cycles([[row for row, direct, _ in uses if direct] for uses in links], "4 DirectCycle")
         _check_cycles([[row for row, _, same in uses if same] for uses in links], "5 EmptyCycle")
@@ -148,7 +152,7 @@ class Table:
         elif kind in ENUMS:
             for payload in (variant.payload for variant in content.variants):
                 if payload.kind == "newtype":
-                    yield self._link(payload.content, direct=kind == "internal", same=kind != "external")
+                    yield self._link(payload.content, direct=kind == "internal", same=kind in OF_SAME_VALUES)
                 else:
                     yield from self._links(payload)
 
@@ -162,16 +166,16 @@ class Table:
             yield self._link(row, direct=True)
 
 
-def _check_names(shape):
-    names = []
+def _names(shape):
+    """Lists of names in a shape; in none of them may a name stand twice."""
     if shape.kind == "struct":
-        names = [field.name for field in shape.content.fields]
+        yield [field.name for field in shape.content.fields]
     elif shape.kind in ENUMS:
-        names = [variant.name for variant in shape.content.variants]
+        if shape.kind == "adjacent":
+            yield [shape.content.tag, shape.content.content]
+        yield [variant.name for variant in shape.content.variants]
         for variant in shape.content.variants:
-            _check_names(variant.payload)
-    if len(set(names)) < len(names):
-        raise Refused("3 RepeatedName")
+            yield from _names(variant.payload)
 
 
 def _check_cycles(targets, refusal):

@@ -11,8 +11,10 @@ ODD_NAMES = ["a\nb", '"q"', "back\\slash", "\u0001", "\u007f", "🚀", "~0", "%"
 NUMBERED = [["Config", "Config2", "Config22", "Config3", "Config23", "Config222"], ["", "2", "22", "3", "23"],
             ["Tree", "Tree1", "Tree10", "Tree2", "Tree3", "Tree4"], ["1", "11", "12", "2", "21"], ["é", "é2", "é3"], ["A"]]
 POOLS = [NAMES, NAMES, NAMES + ODD_NAMES, ["A", "B", "Config"], *NUMBERED]
+PAYLOADS = ["newtype", "newtype", "newtype", "tuple", "struct"]
 VARIANTS = ["U", "V", "W", "type", "a/b", "é", "A", "B", "x", "a", "", "x y", "properties", "$ref", "null"]
 TAGS = ["t", "type", "a", "tag", "x", "", "é", "properties"]
+CONTENTS = ["c", "content", "value", "b", "x y", "required", "$ref", "", "a"]
 
 ANNOTATIONS = {"title": "own", "description": "d", "format": "f", "default": 1, "deprecated": True,
                "examples": [{"b": 1, "a": 2}], "readOnly": False, "x-k": {"z": 1, "type": 2}}
@@ -33,16 +35,20 @@ LEAVES = {"null": 1, "bool": 1, "number": 1, "text": 1, "char": 1, "any": 1, "by
           "int": 2, "nonzero": 2, "format": 1}
 STRUCTS = LEAVES | {"struct": 8, "option": 4, "tuple": 3, "newtype": 2, "array": 2, "set": 2, "seq": 2,
                     "up_to": 1}
-ENUMS = STRUCTS | {"external": 4, "untagged": 4, "internal": 4, "result": 3, "bound": 2, "range": 2,
-                   "either": 2, "map": 3}
-PARTS = {"struct": 20, "external": 8, "internal": 5, "untagged": 5, "option": 16, "literal": 12, "newtype": 4,
-         "map": 4, "result": 2}
-NULLABLE = {"option": 16, "literal": 10, "newtype": 6, "struct": 4, "untagged": 3, "external": 2, "either": 2}
+ENUMS = STRUCTS | {"external": 4, "untagged": 4, "internal": 4, "adjacent": 4, "result": 3, "bound": 2,
+                   "range": 2, "either": 2, "map": 3}
+PARTS = {"struct": 20, "external": 8, "internal": 5, "adjacent": 5, "untagged": 5, "option": 16, "literal": 12,
+         "newtype": 4, "map": 4, "result": 2}
+NULLABLE = {"option": 16, "literal": 10, "newtype": 6, "struct": 4, "untagged": 3, "external": 2,
+            "adjacent": 2, "either": 2}
 KEYS = {"map": 3, "untagged": 24, "newtype": 4, "literal": 16, "external": 5, "int": 4, "nonzero": 1,
-        "any": 8, "option": 1, "text": 1, "internal": 1}
-TAGGED = {"internal": 16, "struct": 10, "newtype": 6, "literal": 6, "external": 4, "untagged": 4, "map": 4,
-          "option": 3, "null": 6}
-CYCLIC = {"struct": 8, "newtype": 6, "untagged": 5, "internal": 5, "option": 5, "external": 2, "map": 2}
+        "any": 8, "option": 1, "text": 1, "internal": 1, "adjacent": 2}
+TAGGED = {"internal": 16, "adjacent": 4, "struct": 10, "newtype": 6, "literal": 6, "external": 4, "untagged": 4,
+          "map": 4, "option": 3, "null": 6}
+KEYED = {"adjacent": 20, "struct": 8, "option": 5, "newtype": 4, "internal": 4, "external": 2, "untagged": 2,
+         "literal": 3, "map": 3, "tuple": 2, "seq": 2}
+CYCLIC = {"struct": 8, "newtype": 6, "untagged": 5, "internal": 5, "adjacent": 5, "option": 5, "external": 2,
+          "map": 2}
 
 
 class Profile(NamedTuple):
@@ -66,6 +72,7 @@ PROFILES = {
     "keys": Profile(KEYS, "map", notes=0.1, literals=[TEXT_LITERALS]),
     "flattened": Profile(LEAVES | PARTS, "struct", notes=0.15, flattened=0.8),
     "tagged": Profile(LEAVES | TAGGED, "internal", notes=0.25, flattened=0.3),
+    "keyed": Profile(LEAVES | KEYED, "adjacent", notes=0.25, flattened=0.3),
     "definitions": Profile(ENUMS, root_notes=True, in_place=(0, 0.2)),
     "names": Profile(ENUMS | {"struct": 20, "tuple": 10}, loops=0.3, pools=NUMBERED, in_place=(0, 0.1, 0.3)),
     "faults": Profile(CYCLIC, flattened=0.7, loops=0.7, in_place=(0, 0, 0.2, 0.4)),
@@ -187,9 +194,12 @@ class Rows:
         if kind == "internal":
             return {"tag": self.draw.pick(TAGS), "closed": self.draw.chance(0.4),
                     "variants": self._variants(["newtype", "newtype", "struct"], 0.2)}
+        if kind == "adjacent":
+            return {"tag": self.draw.pick(TAGS), "content": self.draw.pick(CONTENTS),
+                    "closed": self.draw.chance(0.4), "variants": self._variants(PAYLOADS, 0.3)}
         if kind in ("external", "untagged"):
             units = self.draw.pick([0.35, 0.8, 1]) if kind == "external" else 0.2
-            return {"variants": self._variants(["newtype", "newtype", "newtype", "tuple", "struct"], units)}
+            return {"variants": self._variants(PAYLOADS, units)}
         if kind == "literal":
             return self._literal()
         return self.draw.pick(["date", "", "uuid", "é"] if kind == "format" else INTEGERS)

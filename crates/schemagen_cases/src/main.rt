@@ -14,12 +14,13 @@ use crate::cases::{Asked, work_cases};
 use std::{fs, io};
 
 // The files, and whom their cases ask.
-const FILES: [(&str, Asked); 17] = [
+const FILES: [(&str, Asked); 19] = [
     ("tables.tsv", Asked::Program),
     ("examples.tsv", Asked::Program),
     ("rows.tsv", Asked::Program),
     ("structs.tsv", Asked::Program),
     ("enums.tsv", Asked::Program),
+    ("adjacent.tsv", Asked::Program),
     ("inline.tsv", Asked::Program),
     ("literals.tsv", Asked::Program),
     ("flattened.tsv", Asked::Program),
@@ -27,6 +28,7 @@ const FILES: [(&str, Asked); 17] = [
     ("corners.tsv", Asked::Program),
     ("upstream.tsv", Asked::Program),
     ("damaged.tsv", Asked::Program),
+    ("hostile.tsv", Asked::Program),
     ("samples.tsv", Asked::Program),
     ("dialects.tsv", Asked::Program),
     ("calls.tsv", Asked::Libraries),
