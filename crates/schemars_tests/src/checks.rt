@@ -5,7 +5,7 @@ use std::alloc::Global;
 use std::test::Fail;
 
 // A table, the number of what its check finds, its row and its field.
-const TABLES: [(&str, u32, TypeNo, &str); 5] = [
+const TABLES: [(&str, u32, TypeNo, &str); 9] = [
     (
         r#"{"types":[{"id":"a","name":"A","shape":{"struct":{"fields":[{"name":"first","type":0},{"name":"next","type":0}]}}}],"root":0}"#,
         0,
@@ -34,6 +34,30 @@ const TABLES: [(&str, u32, TypeNo, &str); 5] = [
         r#"{"types":[{"id":"n","name":"N","inline":true,"shape":"null"},{"id":"a","name":"A","shape":{"newtype":2}},{"id":"o","name":"O","inline":true,"shape":{"option":1}}],"root":0}"#,
         5,
         1,
+        "",
+    ),
+    (
+        r#"{"types":[{"id":"o","name":"O","inline":true,"shape":{"option":1}},{"id":"s","name":"S","shape":{"struct":{"fields":[],"flatten":[{"type":0,"required":false}]}}}],"root":1}"#,
+        4,
+        1,
+        "",
+    ),
+    (
+        r#"{"types":[{"id":"b","name":"B","inline":true,"shape":"bool"},{"id":"m","name":"M","shape":{"map":{"key":1,"value":0}}}],"root":1}"#,
+        4,
+        1,
+        "",
+    ),
+    (
+        r#"{"types":[{"id":"b","name":"B","inline":true,"shape":"bool"},{"id":"e","name":"E","shape":{"untagged":{"variants":[{"name":"V","payload":{"newtype":2}}]}}},{"id":"f","name":"F","shape":{"untagged":{"variants":[{"name":"V","payload":{"newtype":1}}]}}}],"root":0}"#,
+        5,
+        1,
+        "",
+    ),
+    (
+        r#"{"types":[{"id":"t","name":"T","shape":{"struct":{"fields":[],"flatten":[{"type":1,"required":false}]}}},{"id":"o","name":"O","inline":true,"shape":{"option":2}},{"id":"s","name":"S","shape":{"struct":{"fields":[{"name":"o","type":1}]}}}],"root":0}"#,
+        0,
+        0,
         "",
     ),
 ];

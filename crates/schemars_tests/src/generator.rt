@@ -62,6 +62,15 @@ const INLINED_A: &str =
 const INLINED_B: &str =
     r##"{"type":"object","properties":{"a":{"type":["object","null"],"properties":{"b":{"$ref":"#defs/B"}},"required":["b"]}}}"##;
 
+// There is no place for definitions, and the generator is as it was.
+const NO_PLACE: [Answer; 2] = [("root", 2, "9 DefinitionsPath"), ("definitions", 0, "{}")];
+
+const AT_DEFS: &str =
+    r##"{"$schema":"https://json-schema.org/draft/2020-12/schema","title":"L","type":"array","maxItems":2,"minItems":2,"prefixItems":[{"$ref":"#/$defs/Config"},{"$ref":"#/$defs/Config2"}],"$defs":{"Config":{"type":"boolean"},"Config2":{"type":"string"}}}"##;
+
+const AT_A_SLASH: &str =
+    r##"{"$schema":"https://json-schema.org/draft/2020-12/schema","title":"L","type":"array","a/b":{"Config":{"type":"boolean"},"Config2":{"type":"string"}},"maxItems":2,"minItems":2,"prefixItems":[{"$ref":"#/a~1b/Config"},{"$ref":"#/a~1b/Config2"}]}"##;
+
 // What the settings say beside the path.
 #[derive(Clone, Copy)]
 enum Asks {
@@ -72,7 +81,7 @@ enum Asks {
 
 // The path of the definitions, what else the settings say, a table, and calls of a generator in
 // order.
-const CALLS: [(&str, Asks, &str, &[Answer]); 9] = [
+const CALLS: [(&str, Asks, &str, &[Answer]); 17] = [
     // A root document that refers to itself leaves no definitions, and a part has those it leads
     // to.
     (
@@ -131,6 +140,15 @@ const CALLS: [(&str, Asks, &str, &[Answer]); 9] = [
             ("part", 1, r##"{"$ref":"#defs/Config"}"##),
         ],
     ),
+    // Nor has any path that leads to no member, or to one that holds no members.
+    ("", Asks::Nothing, CONFIGS, &NO_PLACE),
+    ("/", Asks::Nothing, CONFIGS, &NO_PLACE),
+    ("//", Asks::Nothing, CONFIGS, &NO_PLACE),
+    ("#", Asks::Nothing, CONFIGS, &NO_PLACE),
+    ("#/", Asks::Nothing, CONFIGS, &NO_PLACE),
+    ("/title", Asks::Nothing, CONFIGS, &NO_PLACE),
+    ("#/$defs/", Asks::Nothing, CONFIGS, &[("root", 2, AT_DEFS)]),
+    ("/a~1b", Asks::Nothing, CONFIGS, &[("root", 2, AT_A_SLASH)]),
     // Without definitions there is no need of a path.
     ("defs", Asks::Nothing, BOOL, &[("root", 0, BOOL_ROOT)]),
     // A name is in a reference by the encoding of pointers and of addresses.

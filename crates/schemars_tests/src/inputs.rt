@@ -46,3 +46,18 @@ fn inputs_are_texts(rt: HostRuntime) -> Result<(), Fail> {
     assert_eq!(rt; result, Err(Fault::Refused(20)));
     Ok(())
 }
+
+// The list of optional bytes.
+const BYTES: &[u8] =
+    br#"{"types":[{"id":"uint8","name":"uint8","inline":true,"shape":{"int":"u8"}},{"id":"Option<uint8>","name":"Nullable_uint8","inline":true,"shape":{"option":0}},{"id":"[Option<uint8>]","name":"Array_of_Nullable_uint8","inline":true,"shape":{"seq":1}}],"root":2}"#;
+
+#[test]
+fn beginnings_are_no_inputs(rt: HostRuntime) -> Result<(), Fail> {
+    let words = words_of(rt.alloc(), &["types", "2020-12"])?;
+    for end in 0..BYTES.len() {
+        let result = ended(rt.alloc(), &words, &BYTES[..end]);
+        assert_eq!(rt; result, Err(Fault::Refused(20)));
+    }
+    assert_eq!(rt; ended(rt.alloc(), &words, BYTES), Ok(()));
+    Ok(())
+}

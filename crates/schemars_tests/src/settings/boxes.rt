@@ -1,9 +1,9 @@
 //! User-defined transforms of two types in one list.
 use crate::settings::own::{Own, Refusing};
-use schemars::transform::{GenTransform, Transform, TransformError};
+use schemars::transform::{GenTransform, RecursiveTransform, Transform, TransformError};
 use schemars::types::{TypeNo, Types};
 use schemars::{GenerateError, Schema, SchemaGenerator, SchemaSettings};
-use serde_json::Value;
+use serde_json::{Map, Value};
 use std::alloc::{AllocError, Global};
 use std::test::Fail;
 
@@ -91,3 +91,40 @@ const FIRST: &str =
 // The refused call was counted too.
 const THIRD: &str =
     r#"{"$schema":"http://json-schema.org/draft-07/schema#","title":"boolean","type":"boolean","$comment":"in a box","x-n":3}"#;
+
+// Makes each schema deeper.
+#[derive(Drop)]
+struct Deepening;
+
+impl Transform for Deepening {
+    ghost makes = { λ t s r u v. Unit {0} };
+
+    fn transform(&mut self, alloc: Global, schema: &mut Schema) -> Result<(), TransformError> {
+        let key = String::from_str(alloc, "not")?;
+        schema.insert(alloc, key, Value::Object(Map::new(alloc)))?;
+        Ok(())
+    }
+}
+
+// The texts of a refusal, and of a document without the transform that refused.
+fn deep_texts(alloc: Global) -> Result<[String; 2], GenerateError> {
+    let deepening = Box::new(alloc, RecursiveTransform(Deepening))?;
+    let settings = SchemaSettings::draft2020_12(alloc).with_transform(GenTransform::Own(
+        deepening,
+    ))?;
+    let mut service = service_of(alloc, settings)?;
+    let refused = service.text(alloc)?;
+    service.replace_last();
+    Ok([refused, service.text(alloc)?])
+}
+
+#[test]
+fn a_schema_that_grows_is_refused(rt: HostRuntime) -> Result<(), Fail> {
+    let [refused, document] = deep_texts(rt.alloc())?;
+    assert_eq!(rt; refused.as_str(), "10 Transform");
+    assert_eq!(rt; document.as_str(), UNTRANSFORMED);
+    Ok(())
+}
+
+const UNTRANSFORMED: &str =
+    r#"{"$schema":"https://json-schema.org/draft/2020-12/schema","title":"boolean","type":"boolean"}"#;
