@@ -6,6 +6,8 @@ import subprocess
 import tempfile
 
 LONGEST_RUN = 60
+# Of memory, where no limit is asked for: so much that no program takes the machine's.
+AMPLE = 4 << 30
 
 
 def run(program, words, source, sink=subprocess.PIPE, limit=None, env=None):
@@ -14,7 +16,7 @@ def run(program, words, source, sink=subprocess.PIPE, limit=None, env=None):
         resource.setrlimit(resource.RLIMIT_CORE, (0, 0))
         for number in (signal.SIGPIPE, signal.SIGXFSZ):
             signal.signal(number, signal.SIG_IGN)
-        for which, most in (limit or {}).items():
+        for which, most in (limit or {resource.RLIMIT_DATA: AMPLE}).items():
             resource.setrlimit(which, (most, most))
     try:
         done = subprocess.run([program, *words], stdin=source, stdout=sink, stderr=subprocess.PIPE, timeout=LONGEST_RUN,
