@@ -27,7 +27,7 @@ use Rattle.schemars_types.specs.declared.error.TypesError.TheVariants.{UnknownTy
 use Rattle.schemars_types.proofs.Within.{length-defined}
 use Rattle.schemagen_input.specs.Forms.{number_in, has_only, needed_member}
 use Rattle.schemagen_input.specs.Input.{table_in, unentered, row_names, heading_in}
-use Rattle.schemagen_input.specs.Input.{entry_in, row_in, rows_in, all_differ, ids_of, refers_within}
+use Rattle.schemagen_input.specs.Input.{entry_in, row_in, rows_in, ids_differ, ids_of, refers_within}
 use Rattle.schemagen_input.specs.Input.{all_fit, is_complete}
 use Rattle.schemagen_input.specs.Reading.{headings_in, reserved_after, fitting_after}
 
@@ -58,14 +58,14 @@ any-middle t u [] after same = let e : u ≡ t = sym ((bytes_eq-Decides t u).0 s
 any-middle t u (v ∷ before) after same = rw (any-middle t u before after same) (or-true (bytes_eq v t))
 
 -- a text that is there already
-all_differ-again : (before after : List Text) (t : Text) → list_any (λ u. bytes_eq u t) before ≡ true
-    → all_differ (before ++ t ∷ after) ≡ false
-all_differ-again [] after t there = cc
-all_differ-again (u ∷ before) after t there = by (bytes_eq u t) refl there (all_differ-again before after t)
+ids_differ-again : (before after : List Text) (t : Text) → list_any (λ u. bytes_eq u t) before ≡ true
+    → ids_differ (before ++ t ∷ after) ≡ false
+ids_differ-again [] after t there = cc
+ids_differ-again (u ∷ before) after t there = by (bytes_eq u t) refl there (ids_differ-again before after t)
   where
     by : (b : Bool) → bytes_eq u t ≡ b → b || list_any (λ v. bytes_eq v t) before ≡ true
-        → (list_any (λ v. bytes_eq v t) before ≡ true → all_differ (before ++ t ∷ after) ≡ false)
-        → all_differ ((u ∷ before) ++ t ∷ after) ≡ false
+        → (list_any (λ v. bytes_eq v t) before ≡ true → ids_differ (before ++ t ∷ after) ≡ false)
+        → ids_differ ((u ∷ before) ++ t ∷ after) ≡ false
     by true same h rest = rw (any-middle u t before after same)
     by false other h rest = rw (rest h) (and-false _)
 
@@ -79,15 +79,15 @@ any-append p (x ∷ xs) t none e = by (p x) none (λ h. any-append p xs t h e)
     by false h rest = rest h
 
 -- a new text joins at the end
-all_differ-joined : (ts : List Text) (t : Text) → all_differ ts ≡ true → list_any (λ u. bytes_eq u t) ts ≡ false
-    → all_differ (ts ++ t ∷ []) ≡ true
-all_differ-joined [] t differ none = refl
-all_differ-joined (u ∷ ts) t differ none =
-    let parts = and_parts (not (list_any (λ v. bytes_eq v u) ts)) (all_differ ts) differ in
-    by (bytes_eq u t) refl none parts.0 (all_differ-joined ts t parts.1)
+ids_differ-joined : (ts : List Text) (t : Text) → ids_differ ts ≡ true → list_any (λ u. bytes_eq u t) ts ≡ false
+    → ids_differ (ts ++ t ∷ []) ≡ true
+ids_differ-joined [] t differ none = refl
+ids_differ-joined (u ∷ ts) t differ none =
+    let parts = and_parts (not (list_any (λ v. bytes_eq v u) ts)) (ids_differ ts) differ in
+    by (bytes_eq u t) refl none parts.0 (ids_differ-joined ts t parts.1)
   where
     by : (b : Bool) → bytes_eq u t ≡ b → b || list_any (λ v. bytes_eq v t) ts ≡ false → not (list_any (λ v. bytes_eq v u) ts) ≡ true
-        → (list_any (λ v. bytes_eq v t) ts ≡ false → all_differ (ts ++ t ∷ []) ≡ true) → all_differ ((u ∷ ts) ++ t ∷ []) ≡ true
+        → (list_any (λ v. bytes_eq v t) ts ≡ false → ids_differ (ts ++ t ∷ []) ≡ true) → ids_differ ((u ∷ ts) ++ t ∷ []) ≡ true
     by true same h apart rest = cc
     by false other h apart rest = rw (any-append (λ v. bytes_eq v u) ts t (not-true _ apart) (flipped u t other)) (rest h)
 
@@ -100,15 +100,15 @@ ids_of-append (x ∷ xs) ys = ap (λ ts. x.id ∷ ts) (ids_of-append xs ys)
 -- the first `n` rows have their headings in the table, and the rest are still to be read
 pub record Reserving (rows : List Value) (n : ℕ) (types : List Row) : Type 0 where
   pub rest : reserved_after [] (items_view rows) ≡ reserved_after types (items_view (drop n rows))
-  pub differ : all_differ (ids_of types) ≡ true
+  pub differ : ids_differ (ids_of types) ≡ true
 
 reserved_after-item : (types : List Row) (d : Data) (ds : Items) (r : Row) → heading_in d ≡ Some r
     → reserved_after types (item d ds) ≡ reserved_after (types ++ r ∷ []) ds
 reserved_after-item types d ds r is = rw is (by (headings_in ds))
   where
-    by : (o : Option (List Row)) → option_and_then (λ rs. cond (all_differ (ids_of (types ++ rs))) (Some (types ++ rs)) None)
+    by : (o : Option (List Row)) → option_and_then (λ rs. cond (ids_differ (ids_of (types ++ rs))) (Some (types ++ rs)) None)
         (option_map (λ rs. r ∷ rs) o)
-        ≡ option_and_then (λ rs. cond (all_differ (ids_of ((types ++ r ∷ []) ++ rs))) (Some ((types ++ r ∷ []) ++ rs)) None) o
+        ≡ option_and_then (λ rs. cond (ids_differ (ids_of ((types ++ r ∷ []) ++ rs))) (Some ((types ++ r ∷ []) ++ rs)) None) o
     by None = refl
     by (Some rs) = rw (append_assoc types (r ∷ []) rs)
 
@@ -124,8 +124,8 @@ reserving_goes_on rows n types new row id name is here before heading absent gro
       rest = before.rest ∙ ap (reserved_after types) (from_here rows n row here is)
           ∙ reserved_after-item types (view row) (items_view (drop (n + 1) rows)) r heading
           ∙ ap (λ (rs : List Row). reserved_after rs (items_view (drop (n + 1) rows))) (sym joined);
-      differ = ap (λ (rs : List Row). all_differ (ids_of rs)) joined ∙ ap all_differ (ids_of-append types (r ∷ []))
-          ∙ all_differ-joined (ids_of types) id before.differ free;
+      differ = ap (λ (rs : List Row). ids_differ (ids_of rs)) joined ∙ ap ids_differ (ids_of-append types (r ∷ []))
+          ∙ ids_differ-joined (ids_of types) id before.differ free;
     }
 
 -- an id is there already
@@ -136,12 +136,12 @@ pub reserving_repeats : (rows : List Value) (n : ℕ) (types : List Row) (row : 
 reserving_repeats rows n types row id name is here before heading there =
     before.rest ∙ ap (reserved_after types) (from_here rows n row here is) ∙ rw heading (by (headings_in (items_view (drop (n + 1) rows))))
   where
-    by : (o : Option (List Row)) → option_and_then (λ rs. cond (all_differ (ids_of (types ++ rs))) (Some (types ++ rs)) None)
+    by : (o : Option (List Row)) → option_and_then (λ rs. cond (ids_differ (ids_of (types ++ rs))) (Some (types ++ rs)) None)
         (option_map (λ rs. unentered id name ∷ rs) o) ≡ None
     by None = refl
     by (Some rs) =
-        let again = ap all_differ (ids_of-append types (unentered id name ∷ rs))
-        ∙ all_differ-again (ids_of types) (ids_of rs) id (sym (is_some-position_from id types 0) ∙ there) in
+        let again = ap ids_differ (ids_of-append types (unentered id name ∷ rs))
+        ∙ ids_differ-again (ids_of types) (ids_of rs) id (sym (is_some-position_from id types 0) ∙ there) in
         rw again
 
 -- ---- entries
@@ -387,15 +387,15 @@ tabled-not_reserved ds root none = by (headings_in ds) refl none
     refuted true rs e = cc
     refuted false rs e = refl
 
-    with_rows : (hs : List Row) (o : Option (List Row)) → rows_in ds ≡ o → headings_in ds ≡ Some hs → all_differ (ids_of hs) ≡ false
+    with_rows : (hs : List Row) (o : Option (List Row)) → rows_in ds ≡ o → headings_in ds ≡ Some hs → ids_differ (ids_of hs) ≡ false
         → option_and_then {U = List Row × ℕ} (λ rows. cond (is_complete rows) (Some (rows, root)) None) o ≡ None
     with_rows hs None e f again = refl
     with_rows hs (Some rs) e f again = rw (same_ids ds rs hs e f, again)
 
-    by : (o : Option (List Row)) → headings_in ds ≡ o → option_and_then (λ rs. cond (all_differ (ids_of rs)) (Some rs) None) o ≡ None
+    by : (o : Option (List Row)) → headings_in ds ≡ o → option_and_then (λ rs. cond (ids_differ (ids_of rs)) (Some rs) None) o ≡ None
         → tabled ds root ≡ None
     by None e h = rw (headings_of_rows ds e)
-    by (Some hs) e h = with_rows hs (rows_in ds) refl e (refuted (all_differ (ids_of hs)) hs h)
+    by (Some hs) e h = with_rows hs (rows_in ds) refl e (refuted (ids_differ (ids_of hs)) hs h)
 
 -- rows with the same ids are as many
 same_length : (rs hs : List Row) → ids_of rs ≡ ids_of hs → length rs ≡ length hs
@@ -405,8 +405,8 @@ same_length rs hs e = sym (length-map rs (λ (r : Row). r.id)) ∙ ap length e �
 pub tabled-not_fitting : (ds : Items) (root : ℕ) (headings : List Row) → reserved_after [] ds ≡ Some headings
     → fitting_after (length headings) [] ds ≡ None → tabled ds root ≡ None
 tabled-not_fitting ds root headings reserved none =
-    let first = then_some (λ rs. cond (all_differ (ids_of rs)) (Some rs) None) (headings_in ds) headings reserved in
-    by (rows_in ds) refl (first.1 ∙ ap Some (kept (all_differ (ids_of first.0)) first.0 headings first.2)) none
+    let first = then_some (λ rs. cond (ids_differ (ids_of rs)) (Some rs) None) (headings_in ds) headings reserved in
+    by (rows_in ds) refl (first.1 ∙ ap Some (kept (ids_differ (ids_of first.0)) first.0 headings first.2)) none
   where
     kept : (b : Bool) (xs ys : List Row) → cond b (Some xs) None ≡ Some ys → xs ≡ ys
     kept true xs ys e = cc
@@ -422,15 +422,15 @@ tabled-not_fitting ds root headings reserved none =
     by None is hs e = refl
     by (Some rs) is hs e =
         let many = same_length rs headings (same_ids ds rs headings is hs) in
-        rw (many, refuted (all_fit (length headings) rs) rs e, and-false (all_differ (ids_of rs)))
+        rw (many, refuted (all_fit (length headings) rs) rs e, and-false (ids_differ (ids_of rs)))
 
 -- the rows, where nothing was refused
 pub rows_done : (ds : Items) (headings rows : List Row) → reserved_after [] ds ≡ Some headings
     → fitting_after (length headings) [] ds ≡ Some rows → (rows_in ds ≡ Some rows) × (is_complete rows ≡ true)
 rows_done ds headings rows reserved fitting =
-    let first = then_some (λ rs. cond (all_differ (ids_of rs)) (Some rs) None) (headings_in ds) headings reserved in
+    let first = then_some (λ rs. cond (ids_differ (ids_of rs)) (Some rs) None) (headings_in ds) headings reserved in
     let second = then_some (λ rs. cond (all_fit (length headings) rs) (Some rs) None) (rows_in ds) rows fitting in
-    let differ = kept (all_differ (ids_of first.0)) first.0 headings first.2 in
+    let differ = kept (ids_differ (ids_of first.0)) first.0 headings first.2 in
     let fit = kept (all_fit (length headings) second.0) second.0 rows second.2 in
     let ids = same_ids ds second.0 first.0 second.1 first.1 in
     let many : length second.0 ≡ length headings = same_length second.0 first.0 ids ∙ ap length differ.1 in

@@ -17,7 +17,7 @@ use Rattle.schemars_shapes.specs.Shape.{result, bound, range, either, map_from, 
 use Rattle.schemars_types.specs.Rows.{Row}
 use Rattle.schemagen_input.specs.Forms.{kind_in, fields_in, all_flattened_in, numbers_in, payload_in}
 use Rattle.schemagen_input.specs.Forms.{variants_in, payload_inside, internals_in}
-use Rattle.schemagen_input.specs.Input.{shape_in, row_in, rows_in, refers_within, all_fit, all_differ, ids_of}
+use Rattle.schemagen_input.specs.Input.{shape_in, row_in, rows_in, refers_within, all_fit, ids_differ, ids_of}
 use Rattle.schemagen_input.specs.Input.{table_in, input_of}
 use Rattle.schemagen_input.specs.Written.{whole, field_json, flattened_json, payload_json, variant_json, kind_json}
 use Rattle.schemagen_input.specs.Written.{shape_json, row_json, json_of, is_library_shape, has_library_shape, CanBeWritten}
@@ -132,7 +132,7 @@ rows_back count (r ∷ rows) fit shapes =
 
 pub table_back : (rows : List Row) (root : ℕ) → CanBeWritten rows → table_in (json_of rows root) ≡ Some (rows, root)
 table_back rows root h =
-    let fit = and_parts (all_differ (ids_of rows)) (all_fit (length rows) rows) h.complete in
+    let fit = and_parts (ids_differ (ids_of rows)) (all_fit (length rows) rows) h.complete in
     rw (rows_back (length rows) rows fit.1 h.shapes, h.complete) refl
 
 pub input_back : (rows : List Row) (root : ℕ) → CanBeWritten rows → root < length rows

@@ -138,9 +138,9 @@ rows_in (item d ds) = option_and_then (λ r. option_map (λ rs. r ∷ rs) (rows_
 -- ---- tables
 
 -- no two texts are the same
-abbrev pub all_differ : List Text → Bool
-all_differ [] = true
-all_differ (t ∷ ts) = not (list_any (λ u. bytes_eq u t) ts) && all_differ ts
+abbrev pub ids_differ : List Text → Bool
+ids_differ [] = true
+ids_differ (t ∷ ts) = not (list_any (λ u. bytes_eq u t) ts) && ids_differ ts
 
 abbrev pub ids_of : List Row → List Text
 ids_of rows = map (λ r. r.id) rows
@@ -155,7 +155,7 @@ all_fit count rows = list_all (λ r. option_map_or (refers_within count) r.entry
 
 -- the rows of a table: the ids all differ, and every number in an entry is a row's
 abbrev pub is_complete : List Row → Bool
-is_complete rows = all_differ (ids_of rows) && all_fit (length rows) rows
+is_complete rows = ids_differ (ids_of rows) && all_fit (length rows) rows
 
 -- the rows that a value says, and the number that it says for the root
 abbrev pub table_in : Data → Option (List Row × ℕ)

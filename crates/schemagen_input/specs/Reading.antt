@@ -2,7 +2,7 @@
 use Rattle.std.specs.Prelude.{ℕ, List, [], ◌∷◌, ◌++◌, Option, Some, None, option_map, option_and_then, if◌then◌else◌}
 use Rattle.serde_json.specs.Data.{Items, no_items, item}
 use Rattle.schemars_types.specs.Rows.{Row}
-use Rattle.schemagen_input.specs.Input.{heading_in, rows_in, all_differ, ids_of, all_fit}
+use Rattle.schemagen_input.specs.Input.{heading_in, rows_in, ids_differ, ids_of, all_fit}
 
 abbrev pub headings_in : Items → Option (List Row)
 headings_in no_items = Some []
@@ -10,7 +10,7 @@ headings_in (item d ds) = option_and_then (λ r. option_map (λ rs. r ∷ rs) (h
 
 -- the rows whose ids differ, where these come after the rows so far
 abbrev pub reserved_after : List Row → Items → Option (List Row)
-reserved_after done ds = option_and_then (λ rs. if all_differ (ids_of (done ++ rs)) then Some (done ++ rs) else None) (headings_in ds)
+reserved_after done ds = option_and_then (λ rs. if ids_differ (ids_of (done ++ rs)) then Some (done ++ rs) else None) (headings_in ds)
 
 -- the rows that fit into a table of so many, where these come after the rows so far
 abbrev pub fitting_after : ℕ → List Row → Items → Option (List Row)

@@ -28,8 +28,8 @@ abbrev pub list_of : {T : Type 0} → (T → Data) → List T → Data
 list_of json xs = array (items_of (map json xs))
 
 -- an object with this one member
-abbrev pub alone : Text → Data → Data
-alone key d = object (member key d no_members)
+abbrev pub with_one_member : Text → Data → Data
+with_one_member key d = object (member key d no_members)
 
 -- an object with two numbers
 abbrev pub two_of : Text → ℕ → Text → ℕ → Data
@@ -57,16 +57,16 @@ fields_json x =
 
 abbrev pub payload_json : Payload → Data
 payload_json no_payload = string (codes "unit")
-payload_json (newtype_payload n) = alone (codes "newtype") (whole n)
-payload_json (tuple_payload ns) = alone (codes "tuple") (list_of whole ns)
-payload_json (struct_payload x) = alone (codes "struct") (fields_json x)
+payload_json (newtype_payload n) = with_one_member (codes "newtype") (whole n)
+payload_json (tuple_payload ns) = with_one_member (codes "tuple") (list_of whole ns)
+payload_json (struct_payload x) = with_one_member (codes "struct") (fields_json x)
 
 abbrev pub variant_json : Variant → Data
 variant_json x =
     object_of ((codes "name", string x.name) ∷ (codes "notes", object x.notes) ∷ (codes "payload", payload_json x.payload) ∷ [])
 
 abbrev pub variants_json : List Variant → Data
-variants_json xs = alone (codes "variants") (list_of variant_json xs)
+variants_json xs = with_one_member (codes "variants") (list_of variant_json xs)
 
 abbrev pub internal_json : Text → Bool → List Variant → Data
 internal_json tag closed xs =
@@ -96,33 +96,33 @@ kind_json Usize = string (codes "usize")
 abbrev pub shape_json : Shape → Data
 shape_json null = string (codes "null")
 shape_json bool = string (codes "bool")
-shape_json (int k) = alone (codes "int") (kind_json k)
-shape_json (non_zero k) = alone (codes "nonzero") (kind_json k)
+shape_json (int k) = with_one_member (codes "int") (kind_json k)
+shape_json (non_zero k) = with_one_member (codes "nonzero") (kind_json k)
 shape_json number_shape = string (codes "number")
 shape_json text = string (codes "text")
 shape_json char = string (codes "char")
-shape_json (formatted t) = alone (codes "format") (string t)
+shape_json (formatted t) = with_one_member (codes "format") (string t)
 shape_json any = string (codes "any")
 shape_json bytes = string (codes "bytes")
 shape_json schema_itself = string (codes "schema")
-shape_json (option n) = alone (codes "option") (whole n)
-shape_json (seq n) = alone (codes "seq") (whole n)
-shape_json (set n) = alone (codes "set") (whole n)
-shape_json (array_shape n len) = alone (codes "array") (two_of (codes "of") n (codes "len") len)
-shape_json (up_to n cap) = alone (codes "up_to") (two_of (codes "of") n (codes "cap") cap)
-shape_json (tuple ns) = alone (codes "tuple") (list_of whole ns)
-shape_json (struct x) = alone (codes "struct") (fields_json x)
-shape_json (newtype n) = alone (codes "newtype") (whole n)
-shape_json (result ok err) = alone (codes "result") (two_of (codes "ok") ok (codes "err") err)
-shape_json (bound n) = alone (codes "bound") (whole n)
-shape_json (range n) = alone (codes "range") (whole n)
-shape_json (either left right) = alone (codes "either") (two_of (codes "left") left (codes "right") right)
-shape_json (map_from key value) = alone (codes "map") (two_of (codes "key") key (codes "value") value)
-shape_json (external xs) = alone (codes "external") (variants_json xs)
-shape_json (untagged xs) = alone (codes "untagged") (variants_json xs)
-shape_json (internal tag closed xs) = alone (codes "internal") (internal_json tag closed xs)
-shape_json (adjacent tag content closed xs) = alone (codes "adjacent") (adjacent_json tag content closed xs)
-shape_json (literal d) = alone (codes "literal") d
+shape_json (option n) = with_one_member (codes "option") (whole n)
+shape_json (seq n) = with_one_member (codes "seq") (whole n)
+shape_json (set n) = with_one_member (codes "set") (whole n)
+shape_json (array_shape n len) = with_one_member (codes "array") (two_of (codes "of") n (codes "len") len)
+shape_json (up_to n cap) = with_one_member (codes "up_to") (two_of (codes "of") n (codes "cap") cap)
+shape_json (tuple ns) = with_one_member (codes "tuple") (list_of whole ns)
+shape_json (struct x) = with_one_member (codes "struct") (fields_json x)
+shape_json (newtype n) = with_one_member (codes "newtype") (whole n)
+shape_json (result ok err) = with_one_member (codes "result") (two_of (codes "ok") ok (codes "err") err)
+shape_json (bound n) = with_one_member (codes "bound") (whole n)
+shape_json (range n) = with_one_member (codes "range") (whole n)
+shape_json (either left right) = with_one_member (codes "either") (two_of (codes "left") left (codes "right") right)
+shape_json (map_from key value) = with_one_member (codes "map") (two_of (codes "key") key (codes "value") value)
+shape_json (external xs) = with_one_member (codes "external") (variants_json xs)
+shape_json (untagged xs) = with_one_member (codes "untagged") (variants_json xs)
+shape_json (internal tag closed xs) = with_one_member (codes "internal") (internal_json tag closed xs)
+shape_json (adjacent tag content closed xs) = with_one_member (codes "adjacent") (adjacent_json tag content closed xs)
+shape_json (literal d) = with_one_member (codes "literal") d
 
 -- ---- tables
 

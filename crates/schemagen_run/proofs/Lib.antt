@@ -3,3 +3,4 @@ pub mod Results
 pub mod Tables
 pub mod Runs
 pub mod Samples
+pub mod Writing

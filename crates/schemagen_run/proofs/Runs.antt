@@ -1,5 +1,5 @@
 -- Which words a run knows, and what it refuses.
-use Rattle.std.proofs.Common.{◌≡◌, ◌≢◌, ◌⊎◌, ◌<◌, refl, inl, inr, ℕ, map, List, [], ◌∷◌, ◌++◌, append-nil, subst}
+use Rattle.std.proofs.Common.{◌≡◌, ◌≢◌, ◌⊎◌, refl, inl, inr, ℕ, map, List, [], ◌∷◌, ◌++◌, append-nil, subst}
 use Rattle.std.proofs.Common.{Option, Some, None}
 use Rattle.std.proofs.Common.{length, get_or, ◌&&◌, true, String, Global, string_bytes, codes, sym, ap}
 use Rattle.std.proofs.Common.{◌∙◌, arith}
@@ -102,25 +102,6 @@ sample_words (u ∷ v ∷ []) a b two first second sample (Some dialect) word =
 
 -- ---- lines
 
--- a line has its newline at least
-ends : (t : List ℕ) → 0 < length (t ++ 10 ∷ [])
-ends [] = omega arith
-ends (x ∷ t) = omega arith
-
--- a line has its newline
-pub line_is_some : (asked : Asked) (rows : List Row) (root : ℕ) (line : List ℕ) → IsLineOf asked rows root line
-    → 0 < length line
-line_is_some asked rows root line of = by asked.dialect of
-  where
-    of_document : IsDocumentLine asked rows root line → 0 < length line
-    of_document (document, of, (text, ordered, same)) = subst (λ (t : List ℕ). 0 < length t) (sym same) (ends text)
-
-    by : (dialect : Dialect) → IsLineIn dialect asked rows root line → 0 < length line
-    by Draft2020_12 of = of_document of
-    by Draft2019_09 of = of_document of
-    by Draft07 of = of_document of
-    by OpenApi3 (taken, of, (text, ordered, same)) = subst (λ (t : List ℕ). 0 < length t) (sym same) (ends text)
-
 -- the line of a document, where the dialect has one
 pub in_draft : (asked : Asked) (rows : List Row) (root : ℕ) (line : List ℕ) (dialect : Dialect) → dialect ≢ OpenApi3
     → IsDocumentLine asked rows root line → IsLineIn dialect asked rows root line
@@ -135,10 +116,6 @@ pub gives_line : {Q : List ℕ → Type 0} (asked : Asked) (rows : List Row) (ro
     → GivesAll old new (λ bytes. IsTableLine asked bytes Q)
 gives_line asked rows root line old new (bytes, consumed, end, text) accepted of holds =
     (bytes, consumed, end, (rows, (root, (line, text, accepted, of, holds))))
-
-pub some_in_example_line : (dialect : Dialect) (d : Data) (line : List ℕ) → IsSampleLineOf dialect d line → 0 < length line
-some_in_example_line dialect d line (x, is, json, (document, of, (text, ordered, same))) =
-    subst (λ (t : List ℕ). 0 < length t) (sym same) (ends text)
 
 -- that of the example that is read
 pub gives_sample_line : {Q : List ℕ → Type 0} (dialect : Dialect) (d : Data) (line : List ℕ) (old new : Option (List ℕ))

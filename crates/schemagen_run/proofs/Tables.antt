@@ -26,7 +26,7 @@ use Rattle.schemars_documents.specs.PlainTable.{IsPlainTable, HasPlainNotes, Has
 use Rattle.schemars_generate.specs.declared.settings.SchemaSettings.{SchemaSettings}
 use Rattle.schemars_generate.specs.Generator.{Generator, generator_over, settings_of, state}
 use Rattle.schemars_generate.specs.Through.{IsUntransformed, IsRefused}
-use Rattle.schemars_headline.specs.State.{Settings, State, stripped, path_of, HasOwnDefinitions}
+use Rattle.schemars_headline.specs.State.{State, stripped, path_of, HasOwnDefinitions}
 use Rattle.schemars_laws.specs.Paths.{components}
 use Rattle.schemars_generate.specs.Settings.{transforms_openapi3}
 use Rattle.schemagen_input.specs.Input.{is_complete, is_table, table_in, input_of}

@@ -1,5 +1,7 @@
 -- The faults that a run may end in, and the exit status of each.
 use Rattle.std.specs.Prelude.{◌≡◌, ◌⊎◌, ℕ}
+use Rattle.schemars_schema.specs.declared.error.OrderedError.{OrderedError}
+use Rattle.schemars_schema.specs.declared.error.OrderedError.TheVariants as ordered
 use Rattle.schemagen_run.specs.declared.fault.Fault.{Fault}
 use Rattle.schemagen_run.specs.declared.fault.Fault.TheVariants.{Usage, Refused}
 use Rattle.schemagen_run.specs.declared.fault.TheConstants.{OUT_OF_MEMORY, UNDEFINED_TYPE, REPEATED_NAME, DIRECT_CYCLE}
@@ -9,6 +11,11 @@ use Rattle.schemagen_run.specs.declared.fault.TheConstants.{READ, WRITE}
 abbrev pub status_of : Fault → ℕ
 status_of Usage = 2
 status_of (Refused code) = 1
+
+-- why a text was not written to its end
+abbrev pub fault_of_writing : OrderedError → Fault
+fault_of_writing ordered.OutOfMemory = Refused OUT_OF_MEMORY
+fault_of_writing ordered.Write = Refused WRITE
 
 -- while a JSON value is read
 abbrev pub IsValueFault : Fault → Type 0

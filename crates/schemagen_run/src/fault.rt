@@ -1,4 +1,5 @@
 use schemars::GenerateError;
+use schemars::schema::OrderedError;
 use std::alloc::AllocError;
 use std::fmt;
 
@@ -89,6 +90,20 @@ impl From<GenerateError> for Fault {
 
     fn from(e: GenerateError) -> Fault {
         Fault::Refused(e.code())
+    }
+}
+
+impl From<OrderedError> for Fault {
+    ghost use Rattle.std.specs.Prelude.{◌≡◌};
+    ghost use Rattle.schemagen_run.specs.Fault.{fault_of_writing};
+
+    ghost from_gives = { λ e f. f ≡ fault_of_writing e };
+
+    fn from(e: OrderedError) -> Fault {
+        match e {
+            OrderedError::OutOfMemory => Fault::Refused(OUT_OF_MEMORY),
+            OrderedError::Write => Fault::Refused(WRITE),
+        }
     }
 }
 

@@ -8,7 +8,7 @@ ghost use Rattle.schemars_types.specs.Faults.{IsAccepted};
 ghost use Rattle.schemars_generate.specs.Refusals.{HasFault};
 ghost use Rattle.schemars_generate.specs.Generator.{settings_of, state, transforms_of};
 ghost use Rattle.schemars_transform.specs.Member.{some_own};
-ghost use Rattle.schemagen_run.specs.Streams.{AppendsBeginning};
+ghost use Rattle.schemars_schema.specs.Sink.{AppendsBeginning};
 ghost use Rattle.schemars_sample.specs.Example.{example_of};
 ghost use Rattle.schemars_sample.specs.SampleJson.{sample_json};
 ghost use Rattle.schemagen_input.specs.Input.{is_table, input_of};
@@ -26,20 +26,22 @@ ghost use Rattle.schemagen_run.specs.Run.{AreDefinitionsOf, AreTaken, IsDefiniti
 ghost use Rattle.schemagen_run.specs.Run.{IsNotWhole, IsSampleText, IsSampleDocument};
 ghost use Rattle.schemagen_run.specs.Run.{IsExampleLine, IsSampleLineOf, IsSampleLine};
 ghost use Rattle.schemagen_run.specs.Run.{IsLineFor, IsUnplacedFor};
+ghost use Rattle.schemagen_run.specs.Writing.{WritesLine};
 ghost use Rattle.schemagen_run.specs.Fault.{IsValueFault, IsReadFault, IsTableFault, IsOutside};
 ghost use Rattle.schemagen_run.specs.Fault.{IsTypesFault, IsSampleFault, IsFault};
 
 use crate::fault::{
     BAD_TABLE, DEFINITIONS_PATH, Fault, NOT_JSON, NOT_WHOLE, OUT_OF_MEMORY, READ, WRITE,
 };
-use crate::streams::{Failed, ReadError, Sink, Source, read_all, write_all};
+use crate::streams::{Failed, ReadError, Sink, Source, read_all};
 use crate::words::{Asked, Command, Dialect, command_in};
 use schemagen_input::{InputError, SampleError, read_input, read_sample};
 use schemars::generate::{SchemaGenerator, SchemaSettings};
 use schemars::sample::Sample;
-use schemars::schema::definitions_to_ordered_string;
+use schemars::schema::write_ordered_definitions;
 use schemars::transform::NoTransform;
 use schemars::{GenerateError, Schema};
+use schemars_schema::sink::write_all;
 use schemars_types::{TypeNo, Types};
 use serde_json::{Map, Value};
 use std::alloc::{AllocError, Global};
@@ -145,11 +147,7 @@ fn run_types<S: Source, K: Sink>(
         → IfErr result IsOutside }
 {
     let (types, root) = read_table(alloc, source)?;
-    let line = line_for(alloc, asked, types, root)?;
-    match write_all(sink, line.as_bytes()) {
-        Ok(()) => Ok(()),
-        Err(Failed) => Err(Fault::Refused(WRITE)),
-    }
+    write_line(alloc, asked, types, root, sink)
 }
 
 // The document of an example.
@@ -179,11 +177,7 @@ fn run_sample<S: Source, K: Sink>(
         → IfErr result IsOutside }
 {
     let value = read_value(alloc, source)?;
-    let line = sample_line(alloc, dialect, &value)?;
-    match write_all(sink, line.as_bytes()) {
-        Ok(()) => Ok(()),
-        Err(_) => Err(Fault::Refused(WRITE)),
-    }
+    write_sample_line(alloc, dialect, &value, sink)
 }
 
 // The table that the source's bytes are, and its root.
@@ -284,86 +278,112 @@ fn settings_for(alloc: Global, asked: Asked) -> Result<SchemaSettings<NoTransfor
     Ok(settings)
 }
 
-// The line of this row.
-fn line_for(alloc: Global, asked: Asked, types: Types, root: TypeNo) -> Result<String, Fault>
+// Writes the line of this row.
+fn write_line<K: Sink>(
+    alloc: Global,
+    asked: Asked,
+    types: Types,
+    root: TypeNo,
+    sink: &mut K,
+) -> Result<(), Fault>
     requires { is_table types root ≡ true }
-    ensures ok { IfOk result (λ s. IsLineOf asked types root (string_bytes s)) }
-    ensures accepted { OnOk result (IsAccepted types) }
-    ensures refused { IfErr result (IsLineRefusal asked types root) }
+    ensures written { WritesLine K.bytes K.has_failed
+        (λ line. IsAccepted types × IsLineOf asked types root line) result sink.old sink.new }
+    ensures refused { IfErr result
+        (λ e. (e ≡ Fault.Refused WRITE) ⊎ IsLineRefusal asked types root e) }
 {
     match asked.dialect {
-        Dialect::OpenApi3 => definitions_line(alloc, asked, types, root),
-        Dialect::Draft2020_12 => document_line(alloc, asked, types, root),
-        Dialect::Draft2019_09 => document_line(alloc, asked, types, root),
-        Dialect::Draft07 => document_line(alloc, asked, types, root),
+        Dialect::OpenApi3 => write_definitions(alloc, asked, types, root, sink),
+        Dialect::Draft2020_12 => write_document(alloc, asked, types, root, sink),
+        Dialect::Draft2019_09 => write_document(alloc, asked, types, root, sink),
+        Dialect::Draft07 => write_document(alloc, asked, types, root, sink),
     }
 }
 
-// The line of the root document of this row.
-fn document_line(alloc: Global, asked: Asked, types: Types, root: TypeNo) -> Result<String, Fault>
+// Writes the line of the root document of this row.
+fn write_document<K: Sink>(
+    alloc: Global,
+    asked: Asked,
+    types: Types,
+    root: TypeNo,
+    sink: &mut K,
+) -> Result<(), Fault>
     requires table { is_table types root ≡ true }
     requires draft { asked.dialect ≢ OpenApi3 }
-    ensures ok { IfOk result (λ s. IsDocumentLine asked types root (string_bytes s)) }
-    ensures accepted { OnOk result (IsAccepted types) }
-    ensures refused { IfErr result (IsLineRefusal asked types root) }
+    ensures written { WritesLine K.bytes K.has_failed
+        (λ line. IsAccepted types × IsDocumentLine asked types root line) result
+        sink.old sink.new }
+    ensures refused { IfErr result
+        (λ e. (e ≡ Fault.Refused WRITE) ⊎ IsLineRefusal asked types root e) }
 {
     let document = document_of(alloc, asked, types, root)?;
-    let line = line_of(alloc, &document)?;
+    let answer = write_text(alloc, &document, sink);
     leave(document);
-    Ok(line)
+    answer
 }
 
-// Leaves a document where it is. A run ends soon after its text is made, and the pages of its
+// Leaves a document where it is. A run ends soon after its text is written, and the pages of its
 // memory are then given back at once: that is much faster than each part of the document by itself.
 fn leave(document: Schema) {
     let _kept = ManuallyDrop::new(document);
 }
 
-// The text of a document, and a newline.
-fn line_of(alloc: Global, document: &Schema) -> Result<String, AllocError>
-    ensures { IfOk result (λ s. IsTextLine document.now (string_bytes s)) }
+// Writes the text of a document, and a newline.
+fn write_text<K: Sink>(alloc: Global, document: &Schema, sink: &mut K) -> Result<(), Fault>
+    ensures written { WritesLine K.bytes K.has_failed (IsTextLine document.now) result
+        sink.old sink.new }
+    ensures faults { IfErr result
+        (λ e. (e ≡ Fault.Refused WRITE) ⊎ (e ≡ Fault.Refused OUT_OF_MEMORY)) }
 {
-    let text = document.to_ordered_string(alloc)?;
-    with_newline(text)
+    document.write_ordered(alloc, sink)?;
+    end_line(sink)
 }
 
-// The line of the definitions that this row leads to.
-fn definitions_line(
+// Writes the line of the definitions that this row leads to.
+fn write_definitions<K: Sink>(
     alloc: Global,
     asked: Asked,
     types: Types,
     root: TypeNo,
-) -> Result<String, Fault>
+    sink: &mut K,
+) -> Result<(), Fault>
     requires table { is_table types root ≡ true }
     requires openapi3 { asked.dialect ≡ OpenApi3 }
-    ensures ok { IfOk result (λ s. (taken : _) × AreDefinitionsOf asked types root taken
-        × IsDefinitionsLine taken (string_bytes s)) }
-    ensures accepted { OnOk result (IsAccepted types) }
-    ensures refused { IfErr result (IsLineRefusal asked types root) }
+    ensures written { WritesLine K.bytes K.has_failed (λ line. IsAccepted types
+        × ((taken : _) × AreDefinitionsOf asked types root taken × IsDefinitionsLine taken line))
+        result sink.old sink.new }
+    ensures refused { IfErr result
+        (λ e. (e ≡ Fault.Refused WRITE) ⊎ IsLineRefusal asked types root e) }
 {
     let definitions = definitions_of(alloc, asked, types, root)?;
-    let line = line_of_definitions(alloc, &definitions)?;
-    Ok(line)
+    write_definitions_text(alloc, &definitions, sink)
 }
 
-// The text of definitions, and a newline.
-fn line_of_definitions(
+// Writes the text of definitions, and a newline.
+fn write_definitions_text<K: Sink>(
     alloc: Global,
     definitions: &Map<String, Value>,
-) -> Result<String, AllocError>
-    ensures { IfOk result (λ s. IsDefinitionsLine (members_view definitions.now.entries)
-        (string_bytes s)) }
+    sink: &mut K,
+) -> Result<(), Fault>
+    ensures written { WritesLine K.bytes K.has_failed
+        (IsDefinitionsLine (members_view definitions.now.entries)) result sink.old sink.new }
+    ensures faults { IfErr result
+        (λ e. (e ≡ Fault.Refused WRITE) ⊎ (e ≡ Fault.Refused OUT_OF_MEMORY)) }
 {
-    let text = definitions_to_ordered_string(alloc, definitions)?;
-    with_newline(text)
+    write_ordered_definitions(alloc, definitions, sink)?;
+    end_line(sink)
 }
 
-fn with_newline(text: String) -> Result<String, AllocError>
-    ensures { IfOk result (λ s. string_bytes s ≡ string_bytes text ++ 10 ∷ []) }
+// Writes a newline.
+fn end_line<K: Sink>(sink: &mut K) -> Result<(), Fault>
+    ensures written { WritesLine K.bytes K.has_failed (λ line. line ≡ 10 ∷ []) result
+        sink.old sink.new }
+    ensures fault { IfErr result (λ e. e ≡ Fault.Refused WRITE) }
 {
-    let mut line = text;
-    line.push_str("\n")?;
-    Ok(line)
+    match write_all(sink, b"\n") {
+        Ok(()) => Ok(()),
+        Err(Failed) => Err(Fault::Refused(WRITE)),
+    }
 }
 
 // A generator for what is asked, over this table.
@@ -432,27 +452,38 @@ fn taken_definitions(
     generator.take_definitions(alloc, true)
 }
 
-// The line of the document of the example that the value is.
-fn sample_line(alloc: Global, dialect: Dialect, value: &Value) -> Result<String, Fault>
-    ensures ok { IfOk result (λ s. IsAsRead (view value.now)
-        → IsSampleLineOf dialect (view value.now) (string_bytes s)) }
+// Writes the line of the document of the example that the value is.
+fn write_sample_line<K: Sink>(
+    alloc: Global,
+    dialect: Dialect,
+    value: &Value,
+    sink: &mut K,
+) -> Result<(), Fault>
+    ensures written { IsAsRead (view value.now) → WritesLine K.bytes K.has_failed
+        (IsSampleLineOf dialect (view value.now)) result sink.old sink.new }
     ensures not_whole { result ≡ Err (Fault.Refused NOT_WHOLE)
         → sample_input (view value.now) ≡ None }
-    ensures faults { IfErr result (λ e. (e ≡ Fault.Refused OUT_OF_MEMORY)
-        ⊎ (e ≡ Fault.Refused NOT_WHOLE)) }
+    ensures faults { IfErr result (λ e. (e ≡ Fault.Refused WRITE)
+        ⊎ (e ≡ Fault.Refused OUT_OF_MEMORY) ⊎ (e ≡ Fault.Refused NOT_WHOLE)) }
 {
     let sample = sample_of(alloc, value)?;
-    example_line(alloc, dialect, &sample)
+    write_example(alloc, dialect, &sample, sink)
 }
 
-// The line of the document of the example.
-fn example_line(alloc: Global, dialect: Dialect, sample: &Sample) -> Result<String, Fault>
-    ensures ok { IfOk result (λ s. IsExampleLine dialect (example_of sample.now) (string_bytes s)) }
-    ensures only_memory { IfErr result (λ e. e ≡ Fault.Refused OUT_OF_MEMORY) }
+// Writes the line of the document of the example.
+fn write_example<K: Sink>(
+    alloc: Global,
+    dialect: Dialect,
+    sample: &Sample,
+    sink: &mut K,
+) -> Result<(), Fault>
+    ensures written { WritesLine K.bytes K.has_failed
+        (IsExampleLine dialect (example_of sample.now)) result sink.old sink.new }
+    ensures faults { IfErr result
+        (λ e. (e ≡ Fault.Refused WRITE) ⊎ (e ≡ Fault.Refused OUT_OF_MEMORY)) }
 {
     let document = sample_document(alloc, dialect, sample)?;
-    let line = line_of(alloc, &document)?;
-    Ok(line)
+    write_text(alloc, &document, sink)
 }
 
 // The example that the value is.

@@ -15,7 +15,7 @@ use Rattle.schemars_build.specs.Placed.{is_pending, pending_in, is_in_place}
 use Rattle.schemars_build.specs.Work.{Plan, Work}
 use Rattle.schemars_documents.specs.Template.{Ask, part, members_of, content}
 use Rattle.schemars_documents.specs.Describes.{without_options}
-use Rattle.schemars_build.specs.Missing.{failing_below, missing, fresh, depth_in_place, IsLower, IsAskedIn}
+use Rattle.schemars_build.specs.Missing.{failing_below, missing, idle, depth_in_place, IsLower, IsAskedIn}
 use Rattle.schemars_build.specs.Left.{width, places, left_of_definition, left_of_part, left_of_own_document, left_of_filled}
 use Rattle.schemars_build.specs.Left.{left_of_members, left_of_content, left_of_asked}
 use Rattle.schemars_build.proofs.Counting.{failing-fewer, failing-less}
@@ -45,9 +45,9 @@ module _ (rows : List Row) (n : ℕ) (e : Entry) (h : IsChecked rows) (at : entr
 
 -- ---- what is pending
 
-fresh-bound : (rows : List Row) (pending : List ℕ) → fresh rows pending ≤ length rows
-unfolding fresh
-fresh-bound rows pending = below (length rows)
+idle-bound : (rows : List Row) (pending : List ℕ) → idle rows pending ≤ length rows
+unfolding idle
+idle-bound rows pending = below (length rows)
   where
     one : (b : Bool) (k n : ℕ) → k ≤ n → (if b then 0 else 1) + k ≤ suc n
     one true k n h = omega arith
@@ -75,16 +75,16 @@ entered_pending pending n none =
     ap (λ ns. is_pending ns n) grown
     ∙ (list_any-append (nat_eq n) pending (n ∷ []) ∙ (λ i. none i || (itself i || false)))
 
-fresh-entered : (rows : List Row) (inlines : Bool) (pending : List ℕ) (n : ℕ)
-    → fresh rows (pending_in inlines pending n) ≤ fresh rows pending
-unfolding fresh
-fresh-entered rows inlines pending n = failing-fewer (is_pending pending) (is_pending (pending_in inlines pending n))
+idle-entered : (rows : List Row) (inlines : Bool) (pending : List ℕ) (n : ℕ)
+    → idle rows (pending_in inlines pending n) ≤ idle rows pending
+unfolding idle
+idle-entered rows inlines pending n = failing-fewer (is_pending pending) (is_pending (pending_in inlines pending n))
     (still_pending inlines pending n) (length rows)
 
-fresh-less : (rows : List Row) (pending : List ℕ) (n : ℕ) → n < length rows → is_pending pending n ≡ false
-    → fresh rows (insert_key nat_eq pending n) < fresh rows pending
-unfolding fresh
-fresh-less rows pending n less none = failing-less (is_pending pending) (is_pending (insert_key nat_eq pending n))
+idle-less : (rows : List Row) (pending : List ℕ) (n : ℕ) → n < length rows → is_pending pending n ≡ false
+    → idle rows (insert_key nat_eq pending n) < idle rows pending
+unfolding idle
+idle-less rows pending n less none = failing-less (is_pending pending) (is_pending (insert_key nat_eq pending n))
     (still_pending true pending n) (length rows) n less none (entered_pending pending n none)
 
 -- ---- one step down
@@ -107,7 +107,7 @@ places-fewer : (p : Plan) (w v : Work) → missing p.rows p.contract v ≤ missi
 places-fewer p w v fewer same =
     let e : missing p.rows p.contract v * suc (length p.rows) ≤ missing p.rows p.contract w * suc (length p.rows) =
     mul-le-mul_right (suc (length p.rows)) fewer in
-    let f : fresh p.rows v.pending ≡ fresh p.rows w.pending = ap (fresh p.rows) same in
+    let f : idle p.rows v.pending ≡ idle p.rows w.pending = ap (idle p.rows) same in
     omega (arith, e, f)
 
 -- on the same row or a lower one
@@ -157,13 +157,13 @@ to_own p w n checked less placed = by (is_inline_at p.rows n) refl
     goal_at depth = inner * width p.rows + (8 * height p.rows n + 8) < places p w w.pending * width p.rows + (8 * depth + 1)
 
     fewer : inner ≤ places p w w.pending
-    fewer = let e = fresh-entered p.rows p.inlines w.pending n in omega (arith, e)
+    fewer = let e = idle-entered p.rows p.inlines w.pending n in omega (arith, e)
 
     entered : (b c : Bool) → p.inlines ≡ b → is_pending w.pending n ≡ c → b && not c ≡ true → inner < places p w w.pending
     entered true false inlines none h =
-        let e : fresh p.rows (insert_key nat_eq w.pending n) < fresh p.rows w.pending = fresh-less p.rows w.pending n less none in
-        let same : fresh p.rows (pending_in p.inlines w.pending n) ≡ fresh p.rows (insert_key nat_eq w.pending n) =
-        ap (λ b. fresh p.rows (pending_in b w.pending n)) inlines in
+        let e : idle p.rows (insert_key nat_eq w.pending n) < idle p.rows w.pending = idle-less p.rows w.pending n less none in
+        let same : idle p.rows (pending_in p.inlines w.pending n) ≡ idle p.rows (insert_key nat_eq w.pending n) =
+        ap (λ b. idle p.rows (pending_in b w.pending n)) inlines in
         omega (arith, e, same)
     entered true true inlines none h = cc
     entered false c inlines none h = cc
@@ -191,9 +191,9 @@ pub to_definition : (p : Plan) (w v : Work) (n : ℕ) → IsChecked p.rows → m
 to_definition p w v n h fewer =
     let bound = h.height_bound n in
     let inner = pending_in p.inlines v.pending n in
-    let small : fresh p.rows inner < suc (length p.rows) = let e = fresh-bound p.rows inner in omega (arith, e) in
+    let small : idle p.rows inner < suc (length p.rows) = let e = idle-bound p.rows inner in omega (arith, e) in
     let less : places p v inner < places p w w.pending =
-    let e = closer (missing p.rows p.contract v) (missing p.rows p.contract w) (suc (length p.rows)) (fresh p.rows inner) fewer small in
+    let e = closer (missing p.rows p.contract v) (missing p.rows p.contract w) (suc (length p.rows)) (idle p.rows inner) fewer small in
     omega (arith, e) in
     closer (places p v inner) (places p w w.pending) (width p.rows) (8 * height p.rows n + 8) less (omega (arith, bound))
 
@@ -203,7 +203,7 @@ pub to_filled : (p : Plan) (w v : Work) (n : ℕ) → missing p.rows p.contract 
 to_filled p w v n fewer same =
     let e : missing p.rows p.contract v * suc (length p.rows) ≤ missing p.rows p.contract w * suc (length p.rows) =
     mul-le-mul_right (suc (length p.rows)) fewer in
-    let f : fresh p.rows v.pending ≡ fresh p.rows (pending_in p.inlines w.pending n) = ap (fresh p.rows) same in
+    let f : idle p.rows v.pending ≡ idle p.rows (pending_in p.inlines w.pending n) = ap (idle p.rows) same in
     let less : places p v v.pending ≤ places p w (pending_in p.inlines w.pending n) = omega (arith, e, f) in
     let g : places p v v.pending * width p.rows ≤ places p w (pending_in p.inlines w.pending n) * width p.rows =
     mul-le-mul_right (width p.rows) less in

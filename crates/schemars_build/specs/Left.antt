@@ -9,7 +9,7 @@ use Rattle.schemars_build.specs.Work.{Plan, Work, basis_of_plan, without_last}
 use Rattle.schemars_documents.specs.Template.{Ask, part, members_of, content, asks_of}
 use Rattle.schemars_documents.specs.OfShape.{entry_template}
 use Rattle.schemars_documents.specs.Describes.{without_options}
-use Rattle.schemars_build.specs.Missing.{missing, fresh, depth_in_place}
+use Rattle.schemars_build.specs.Missing.{missing, idle, depth_in_place}
 use Rattle.schemars_build.specs.declared.build.Document.{Document}
 use Rattle.schemars_build.specs.declared.build.Purpose.{Purpose}
 use Rattle.schemars_build.specs.declared.build.Purpose.TheVariants as purpose
@@ -20,7 +20,7 @@ width rows = 8 * length rows + 12
 
 -- the definitions that may still be made, and then the rows that may still be entered
 abbrev pub places : Plan → Work → List ℕ → ℕ
-places p w pending = missing p.rows p.contract w * suc (length p.rows) + fresh p.rows pending
+places p w pending = missing p.rows p.contract w * suc (length p.rows) + idle p.rows pending
 
 abbrev pub left_of_definition : Plan → Work → ℕ
 left_of_definition p w = places p w w.pending * width p.rows

@@ -7,7 +7,7 @@ use Rattle.schemars_schema.specs.Annotations.{AreNotes}
 use Rattle.schemars_schema.specs.Literal.{IsPlainLiteral}
 use Rattle.schemars_shapes.specs.Shape as shape
 use Rattle.schemars_shapes.specs.Shape.{Shape, Field, Flattened, Fields, Entry, Payload, Variant, no_payload, newtype_payload}
-use Rattle.schemars_shapes.specs.Shape.{tuple_payload, struct_payload}
+use Rattle.schemars_shapes.specs.Shape.{tuple_payload, struct_payload, payload_names}
 use Rattle.schemars_shapes.specs.Units.{is_none}
 use Rattle.schemars_types.specs.Rows.{Row, entry_at}
 use Rattle.schemars_types.specs.Edges.{option_at}
@@ -144,10 +144,6 @@ IsPlainTable rows = (n : ℕ) → IsPlainEntry rows (entry_at rows n)
 -- ---- Options and enums among what is flattened
 
 -- the names that an enum puts into a map
-abbrev pub payload_names : Payload → List Text
-payload_names (struct_payload x) = map (λ f. f.name) x.list
-payload_names _ = []
-
 abbrev pub all_payload_names : List Variant → List Text
 all_payload_names [] = []
 all_payload_names (x ∷ xs) = payload_names x.payload ++ all_payload_names xs

@@ -19,7 +19,7 @@ use Rattle.schemars_builders.specs.AllowNull.{is_null_choice, is_combined, or_nu
 use Rattle.schemars_builders.specs.AllowNull.{enum_with_null, null_in_enum, const_or_null, null_in_const, null_in_values}
 use Rattle.schemars_documents.specs.Documents.{annotated}
 use Rattle.schemars_meaning.proofs.MapDocument.{noted_by, AllNotes}
-use Rattle.schemars_laws.specs.Everywhere.{Everywhere, asked, asked_at, asked_of_keywords}
+use Rattle.schemars_laws.specs.Everywhere.{Everywhere, asked, demanded, asked_of_keywords}
 use Rattle.schemars_laws.specs.Names.{IsNoObject, HasPlainUnevaluated}
 use Rattle.schemars_laws.specs.Classes.{IsOnce, IsSchemaList, AreTexts, is_null_alone, IsConstAlone, HasPlainItems, HasNoUnevaluated}
 use Rattle.schemars_laws.specs.Stages.{IsTextWith, Stands, IsForOpenApi, AreSomeTypes, HasSomeTypes}
@@ -64,8 +64,8 @@ note-place k note =
 
 -- where no schema stands, nothing is asked
 pub asked-nothing : (P : Members → Type 0) (k : Text) (d : Data) → place_under k ≡ NoSchemas
-    → asked_at (place_under k) (asked P d)
-asked-nothing P k d is = subst (λ p. asked_at p (asked P d)) (sym is) tt
+    → demanded (place_under k) (asked P d)
+asked-nothing P k d is = subst (λ p. demanded p (asked P d)) (sym is) tt
 
 -- ---- classes of schema objects
 
@@ -168,11 +168,11 @@ module _ (R : Demand) where
     pub own : Class R ms
     pub inside : asked_of_keywords (Class R) ms
 
-  pub are-put : (l : Text) (d : Data) (ms : Members) → IsUnwatched l → asked_at (place_under l) (asked (Class R) d) → AreGood ms
+  pub are-put : (l : Text) (d : Data) (ms : Members) → IsUnwatched l → demanded (place_under l) (asked (Class R) d) → AreGood ms
       → AreGood (put l d ms)
   are-put l d ms out here is = record { own = class-put l d ms out is.own; inside = asked-put (Class R) l d ms here is.inside }
 
-  pub are-replaced : (l : Text) (d : Data) (ms : Members) → IsUnwatched l → asked_at (place_under l) (asked (Class R) d) → AreGood ms
+  pub are-replaced : (l : Text) (d : Data) (ms : Members) → IsUnwatched l → demanded (place_under l) (asked (Class R) d) → AreGood ms
       → AreGood (replaced l d ms)
   are-replaced l d ms out here is =
       record { own = class-replaced l d ms out is.own; inside = asked-replaced (Class R) l d ms here is.inside }

@@ -12,7 +12,7 @@ use Rattle.schemars_schema.specs.References.{Place, NoSchemas, OneSchema, Schema
 use Rattle.schemars_schema.specs.References.{at_place, found_in, found_in_items, found_in_members, found_in_keywords, references}
 use Rattle.schemars_schema.specs.References.{resolves, all_resolve}
 use Rattle.schemars_schema.proofs.Members.{get_member-member as get_member-first}
-use Rattle.schemars_laws.specs.Everywhere.{Everywhere, asked, asked_at, asked_of_items, asked_of_members, asked_of_keywords}
+use Rattle.schemars_laws.specs.Everywhere.{Everywhere, asked, demanded, asked_of_items, asked_of_members, asked_of_keywords}
 use Rattle.schemars_laws.specs.Stages.{IsTextWith}
 use Rattle.schemars_headline.proofs.Resolving.{all_pass, all_pass-resolve}
 use Rattle.schemars_headline.proofs.ReferencesKept.{RefersOnce}
@@ -91,7 +91,7 @@ module _ (R : Text → Type 0) (test : Data → Bool) (leads : (t : Text) → R 
 
   at : (p : Place) (d : Data) → ((asked P d).as_schema → Resolve (references d))
       → ((asked P d).as_list → Resolve (found_in d).in_list)
-      → ((asked P d).by_name → Resolve (found_in d).by_name) → asked_at p (asked P d) → Resolve (at_place p (found_in d))
+      → ((asked P d).by_name → Resolve (found_in d).by_name) → demanded p (asked P d) → Resolve (at_place p (found_in d))
   at NoSchemas d one list names a = refl
   at OneSchema d one list names a = one a
   at SchemaList d one list names a = list a

@@ -16,7 +16,7 @@ use Rattle.schemars_flatten.specs.Opening.{same_object_place}
 use Rattle.schemars_flatten.specs.Parts.{unit_object, flattened_part}
 use Rattle.schemars_flatten.proofs.Kept.{AllMembers, AllItems, IsByKeyword}
 use Rattle.schemars_flatten.proofs.Kept as kept
-use Rattle.schemars_laws.specs.Everywhere.{Everywhere, asked, asked_at, asked_of_items, asked_of_members, asked_of_keywords}
+use Rattle.schemars_laws.specs.Everywhere.{Everywhere, asked, demanded, asked_of_items, asked_of_members, asked_of_keywords}
 use Rattle.schemars_headline.proofs.Changes.{Demand, Class, nothing, good}
 use Rattle.schemars_headline.proofs.Documents.{type-good, member-good, asked-named}
 
@@ -65,25 +65,25 @@ unfoldable mutual
   pub HoldsUnder : (Members → Type 0) → Members → Type 0
   HoldsUnder C no_members = Unit {0}
   HoldsUnder C (member k d ms) =
-      by_place (same_object_place k) (Holds C d) (HoldsList C d) (asked_at (place_under k) (asked C d)) × HoldsUnder C ms
+      by_place (same_object_place k) (Holds C d) (HoldsList C d) (demanded (place_under k) (asked C d)) × HoldsUnder C ms
 
 abbrev pub HoldsAt : (Members → Type 0) → Text → Data → Type 0
-HoldsAt C k d = by_place (same_object_place k) (Holds C d) (HoldsList C d) (asked_at (place_under k) (asked C d))
+HoldsAt C k d = by_place (same_object_place k) (Holds C d) (HoldsList C d) (demanded (place_under k) (asked C d))
 
 module _ (C : Members → Type 0) where
   -- what a keyword with schemas of the same object holds
   holds-at : (k : Text) (d : Data) → ((asked C d).as_schema → Holds C d) → ((asked C d).as_list → HoldsList C d)
-      → asked_at (place_under k) (asked C d) → HoldsAt C k d
+      → demanded (place_under k) (asked C d) → HoldsAt C k d
   holds-at k d one each a = go (is_listed k with_same_object) (is_listed k with_same_objects) refl refl a
     where
       go : (holds lists : Bool) → is_listed k with_same_object ≡ holds → is_listed k with_same_objects ≡ lists
-          → asked_at (place_under k) (asked C d)
+          → demanded (place_under k) (asked C d)
           → by_place (if holds then OneSchema else if lists then SchemaList else NoSchemas) (Holds C d) (HoldsList C d)
-          (asked_at (place_under k) (asked C d))
+          (demanded (place_under k) (asked C d))
       go true lists is also a =
-          by_listed (λ x. asked_at (place_under x) (asked C d) → Holds C d) k with_same_object (one, (one, (one, tt))) is a
+          by_listed (λ x. demanded (place_under x) (asked C d) → Holds C d) k with_same_object (one, (one, (one, tt))) is a
       go false true is also a =
-          by_listed (λ x. asked_at (place_under x) (asked C d) → HoldsList C d) k with_same_objects (each, (each, (each, tt))) also a
+          by_listed (λ x. demanded (place_under x) (asked C d) → HoldsList C d) k with_same_objects (each, (each, (each, tt))) also a
       go false false is also a = a
 
   mutual

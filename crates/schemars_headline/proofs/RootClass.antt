@@ -28,7 +28,7 @@ use Rattle.schemars_headline.proofs.Keys.{AllMembers, all_members, IsDefinitions
 use Rattle.schemars_headline.proofs.OwnKeys.{no_definitions_in}
 use Rattle.schemars_headline.proofs.Standing.{MayRefer, AllStand, refers_may}
 use Rattle.schemars_headline.proofs.Placed.{StandsAt, IsPlaced, stands_key, placed_in}
-use Rattle.schemars_laws.specs.Everywhere.{Everywhere, asked, asked_at, asked_of_members}
+use Rattle.schemars_laws.specs.Everywhere.{Everywhere, asked, demanded, asked_of_members}
 use Rattle.schemars_laws.specs.Names.{IsName, IsMap}
 use Rattle.schemars_laws.proofs.References.{defs-name, definitions-name}
 use Rattle.schemars_headline.proofs.Changes.{IsUnwatched, Demand, Class, AreGood, are-put, IsGood, good, good-members, watched}
@@ -116,7 +116,7 @@ module _ (R : Demand) where
   unfolding asked
   with-definitions path key at definitions ms all is =
       are-put R key (object definitions) ms (stands-unwatched path key at)
-      (subst (λ p. asked_at p (asked (Class R) (object definitions))) (sym (stands-place path key at))
+      (subst (λ p. demanded p (asked (Class R) (object definitions))) (sym (stands-place path key at))
       (definitions-asked definitions all)) is
 
 -- an object of such schema objects, with these definitions under a key, if there are any

@@ -16,7 +16,7 @@ use Rattle.schemars_schema.proofs.Members.{get_member-here, get_member-later}
 use Rattle.schemars_flatten.specs.Flatten.{flattened}
 use Rattle.schemars_flatten.proofs.Kept as kept
 use Rattle.schemars_schema.specs.References.{with_same_object, with_same_objects}
-use Rattle.schemars_laws.specs.Everywhere.{Everywhere, asked, asked_at, asked_of_items, asked_of_keywords}
+use Rattle.schemars_laws.specs.Everywhere.{Everywhere, asked, demanded, asked_of_items, asked_of_keywords}
 use Rattle.schemars_laws.specs.Names.{IsNoObject}
 use Rattle.schemars_laws.specs.Classes.{AreSchemas, IsSchemaList, IsNoList}
 use Rattle.schemars_laws.specs.Stages.{IsTextWith, AreSomeTypes}
@@ -55,7 +55,7 @@ use Rattle.schemars_headline.proofs.Classes.{In, Answer, StructsGood, IsNotedUnd
 -- ---- what stands under each key of members in order
 
 asked-each : (P : Members → Type 0) (ms : Members) → IsSorted ms
-    → ((k : Text) (d : Data) → get_member k ms ≡ Some d → asked_at (place_under k) (asked P d)) → asked_of_keywords P ms
+    → ((k : Text) (d : Data) → get_member k ms ≡ Some d → demanded (place_under k) (asked P d)) → asked_of_keywords P ms
 unfolding asked
 asked-each P no_members sorted each = tt
 asked-each P (member k d ms) sorted each = (
@@ -123,7 +123,7 @@ module _ (N : Text → Type 0) where
         )
 
     abbrev Asked : Text → Data → Type 0
-    Asked k d = asked_at (place_under k) (asked C d)
+    Asked k d = demanded (place_under k) (asked C d)
 
     missing : (k : Text) (d : Data) (Q : Type 0) → get_member k ms ≡ None → get_member k ms ≡ Some d → Q
     missing k d Q none found = let never : None ≡ Some d = sym none ∙ found in cc

@@ -16,7 +16,7 @@ use Rattle.schemars_transform.specs.Built.{first_as_example, with_single_example
 use Rattle.schemars_transform.specs.Built.{old_items_moved, prefix_moved, prefix_as_items}
 use Rattle.schemars_transform.specs.Nullable.{all_null, is_null_name, without_null, one_or_list, type_without_null, null_taken_out}
 use Rattle.schemars_transform.specs.Nullable.{null_alone, null_among, nullable_by, with_nullable, nulls_in}
-use Rattle.schemars_transform.specs.Unevaluated.{with_names, named_in, properties_made, properties_named, property_names}
+use Rattle.schemars_transform.specs.Unevaluated.{with_names, object_with_names, properties_made, properties_named, property_names}
 use Rattle.schemars_transform.specs.Unevaluated.{with_properties, closed_by, unevaluated_as_additional}
 use Rattle.schemars_transform.specs.Formats.{format_rules, format_stays}
 use Rattle.schemars_transform.specs.BuiltIn.{function_of, made_by, value_made_by, each_made_by}
@@ -244,7 +244,7 @@ whole_with_names (k ∷ ks) ms h = whole_with_names ks (put_missing k (boolean t
     go true = h
     go false = members_have_float-put k (boolean true) ms refl h
 
-whole_named : (ks : List Text) (d : Data) → IsWhole d → IsWhole (named_in ks d)
+whole_named : (ks : List Text) (d : Data) → IsWhole d → IsWhole (object_with_names ks d)
 whole_named ks null h = h
 whole_named ks (boolean b) h = h
 whole_named ks (number n) h = h
@@ -260,7 +260,7 @@ whole_properties : (ks : List Text) (o : Option Data) (s : Data) → ((d : Data)
     → IsWhole (properties_named ks o s)
 whole_properties ks None s at h = whole_made (with_names ks no_members) s (whole_with_names ks no_members refl) h
 whole_properties ks (Some properties) s at h =
-    whole_inserted (codes "properties") (named_in ks properties) s (whole_named ks properties (at properties refl)) h
+    whole_inserted (codes "properties") (object_with_names ks properties) s (whole_named ks properties (at properties refl)) h
 
 whole_with_properties : (s : Data) → IsWhole s → IsWhole (with_properties s)
 whole_with_properties s h =

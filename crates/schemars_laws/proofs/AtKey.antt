@@ -12,7 +12,7 @@ use Rattle.schemars_schema.specs.Acceptance.{Dialect, judge, accepts}
 use Rattle.schemars_schema.proofs.Placings.{resolved-whole}
 use Rattle.schemars_walk.specs.Rewritten.{Rules, form_at, forms, in_names, in_keywords, rewritten}
 use Rattle.schemars_walk.proofs.KeywordLaws.{keywords_get}
-use Rattle.schemars_laws.specs.Everywhere.{asked, asked_at, Everywhere}
+use Rattle.schemars_laws.specs.Everywhere.{asked, demanded, Everywhere}
 use Rattle.schemars_laws.specs.Names.{IsNameOf, IsName, Named, IsMap}
 use Rattle.schemars_laws.specs.Laws.{MovesAcceptance}
 use Rattle.schemars_laws.proofs.Kept.{IsTruth}
@@ -77,7 +77,7 @@ module _ {R : Type 0} (ρ : Rules R) (r : R) (key : Text) (at : place_under key 
       by_lookup t (get_member k es) (option_map (λ d. (forms ρ inner d).as_schema) (get_member k es)) (name.there ms es there)
       (name.there news (in_names ρ inner es) (now (Some (object es)) there ∙ ap Some (placed es)) ∙ names_get ρ inner k es)
       (led (get_member k es)
-      (all-members P es (subst (λ p. asked_at p (asked P (object es))) at (asked-get P key ms (object es) there a.1)) k))
+      (all-members P es (subst (λ p. demanded p (asked P (object es))) at (asked-get P key ms (object es) there a.1)) k))
   name-leads k t name (Some null) there is = absurd is
   name-leads k t name (Some (boolean b)) there is = absurd is
   name-leads k t name (Some (number x)) there is = absurd is

@@ -13,7 +13,7 @@ use Rattle.schemars_schema.specs.Acceptance.{read_data, read_items, read_members
 use Rattle.schemars_schema.proofs.Objects.{schema-judge, reading_at-members}
 use Rattle.schemars_walk.specs.Rewritten.{Rules, form_at, forms, in_items, in_names, in_keywords}
 use Rattle.schemars_walk.proofs.KeywordLaws.{keywords_get}
-use Rattle.schemars_laws.specs.Everywhere.{asked, asked_at, asked_of_items, asked_of_members, asked_of_keywords}
+use Rattle.schemars_laws.specs.Everywhere.{asked, demanded, asked_of_items, asked_of_members, asked_of_keywords}
 use Rattle.schemars_laws.specs.Names.{IsNoObject, HasPlainUnevaluated}
 use Rattle.schemars_laws.proofs.Seen.{AgreeOn, seen, seen_under, place_read, at_no_schemas, unread_under, keywords-seen, keywords-unread, keywords-follow}
 
@@ -96,7 +96,7 @@ module _ {R : Type 0} (ρ : Rules R) (before after : Context) (P : Members → T
   module _ (r : R) (d : Data) (one : (asked P d).as_schema → KeptSchema (forms ρ r d).as_schema d)
       (list : (asked P d).as_list → KeptList (forms ρ r d).as_list d)
       (names : (asked P d).by_name → KeptNames (forms ρ r d).by_name d) where
-    at-place : (p : Place) → asked_at p (asked P d) → seen p (read_data after (form_at p d (forms ρ r d))) ≡ seen p (read_data before d)
+    at-place : (p : Place) → demanded p (asked P d) → seen p (read_data after (form_at p d (forms ρ r d))) ≡ seen p (read_data before d)
     at-place NoSchemas a = refl
     at-place OneSchema a = ap (λ s. record { schema = s; listed = None; named = None }) (one a)
     at-place SchemaList a = ap (λ s. record { schema = None; listed = s; named = None }) (list a)
@@ -106,7 +106,7 @@ module _ {R : Type 0} (ρ : Rules R) (before after : Context) (P : Members → T
         ∙ ap (λ s. record { schema = (read_data before d).schema; listed = s; named = None }) (either-listed r d (list a.1))
     at-place SchemasByName a = ap (λ s. record { schema = None; listed = None; named = s }) (names a)
 
-    at-key : (k : Text) → asked_at (place_under k) (asked P d)
+    at-key : (k : Text) → demanded (place_under k) (asked P d)
         → seen (place_under k) (read_data after (form_at (ρ.place r k d) d (forms ρ r d))) ≡ seen (place_under k) (read_data before d)
     at-key k a = go (h.place r k d)
       where

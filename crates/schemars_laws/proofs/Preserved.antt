@@ -12,7 +12,7 @@ use Rattle.schemars_schema.specs.SchemaData.{IsSchema}
 use Rattle.schemars_schema.specs.Edits.{without, replaced}
 use Rattle.schemars_schema.specs.References.{Place, NoSchemas, OneSchema, SchemaList, SchemaOrList, SchemasByName, place_under}
 use Rattle.schemars_walk.specs.Rewritten.{Rules, forms, form_at, in_items, in_names, in_keywords}
-use Rattle.schemars_laws.specs.Everywhere.{asked, asked_at, asked_of_items, asked_of_members, asked_of_keywords}
+use Rattle.schemars_laws.specs.Everywhere.{asked, demanded, asked_of_items, asked_of_members, asked_of_keywords}
 use Rattle.schemars_laws.proofs.Kept.{IsTruth}
 use Rattle.schemars_laws.proofs.Looked.{change_rules, walked}
 
@@ -28,7 +28,7 @@ module _ (Q : Members → Type 0) where
       go true rest = a.1
       go false rest = (a.0, rest)
 
-  pub asked-put : (k : Text) (d : Data) (ms : Members) → asked_at (place_under k) (asked Q d) → asked_of_keywords Q ms
+  pub asked-put : (k : Text) (d : Data) (ms : Members) → demanded (place_under k) (asked Q d) → asked_of_keywords Q ms
       → asked_of_keywords Q (put k d ms)
   unfolding asked_of_keywords
   asked-put k d no_members here a = (here, tt)
@@ -38,10 +38,10 @@ module _ (Q : Members → Type 0) where
           → asked_of_keywords Q (match_ordering o (member k d (member l e ms)) (member l d ms) (member l e (put k d ms)))
       go Less is rest = (here, a)
       go Equal is rest =
-          (subst (λ x. asked_at (place_under x) (asked Q d)) ((bytes_eq-Decides k l).0 (sym (is_eq-slice_cmp k l) ∙ ap is_eq is)) here, a.1)
+          (subst (λ x. demanded (place_under x) (asked Q d)) ((bytes_eq-Decides k l).0 (sym (is_eq-slice_cmp k l) ∙ ap is_eq is)) here, a.1)
       go Greater is rest = (a.0, rest)
 
-  pub asked-replaced : (k : Text) (d : Data) (ms : Members) → asked_at (place_under k) (asked Q d) → asked_of_keywords Q ms
+  pub asked-replaced : (k : Text) (d : Data) (ms : Members) → demanded (place_under k) (asked Q d) → asked_of_keywords Q ms
       → asked_of_keywords Q (replaced k d ms)
   unfolding asked_of_keywords
   asked-replaced k d no_members here a = tt
@@ -49,11 +49,11 @@ module _ (Q : Members → Type 0) where
     where
       go : (b : Bool) → bytes_eq k l ≡ b → asked_of_keywords Q (replaced k d ms)
           → asked_of_keywords Q (if b then member l d ms else member l e (replaced k d ms))
-      go true is rest = (subst (λ x. asked_at (place_under x) (asked Q d)) ((bytes_eq-Decides k l).0 is) here, a.1)
+      go true is rest = (subst (λ x. demanded (place_under x) (asked Q d)) ((bytes_eq-Decides k l).0 is) here, a.1)
       go false is rest = (a.0, rest)
 
   pub asked-get : (k : Text) (ms : Members) (d : Data) → get_member k ms ≡ Some d → asked_of_keywords Q ms
-      → asked_at (place_under k) (asked Q d)
+      → demanded (place_under k) (asked Q d)
   unfolding asked_of_keywords
   asked-get k no_members d is a = cc
   asked-get k (member l e ms) d is a = go (slice_cmp nat_cmp k l) refl is (λ there. asked-get k ms d there a.1)
@@ -62,11 +62,11 @@ module _ (Q : Members → Type 0) where
       some e = cc
 
       go : (o : Ordering) → slice_cmp nat_cmp k l ≡ o → match_ordering o (get_member k ms) (Some e) (get_member k ms) ≡ Some d
-          → (get_member k ms ≡ Some d → asked_at (place_under k) (asked Q d)) → asked_at (place_under k) (asked Q d)
+          → (get_member k ms ≡ Some d → demanded (place_under k) (asked Q d)) → demanded (place_under k) (asked Q d)
       go Less same is later = later is
       go Equal same is later =
-          subst (λ x. asked_at (place_under k) (asked Q x)) (some is)
-          (subst (λ x. asked_at (place_under x) (asked Q e))
+          subst (λ x. demanded (place_under k) (asked Q x)) (some is)
+          (subst (λ x. demanded (place_under x) (asked Q e))
           (sym ((bytes_eq-Decides k l).0 (sym (is_eq-slice_cmp k l) ∙ ap is_eq same))) a.0)
       go Greater same is later = later is
 
@@ -83,7 +83,7 @@ module _ (Q : Members → Type 0) where
 
 weaker-at : (P Q : Members → Type 0) (d : Data) → ((asked P d).as_schema → (asked Q d).as_schema)
     → ((asked P d).as_list → (asked Q d).as_list)
-    → ((asked P d).by_name → (asked Q d).by_name) → (p : Place) → asked_at p (asked P d) → asked_at p (asked Q d)
+    → ((asked P d).by_name → (asked Q d).by_name) → (p : Place) → demanded p (asked P d) → demanded p (asked Q d)
 weaker-at P Q d one list names NoSchemas a = tt
 weaker-at P Q d one list names OneSchema a = one a
 weaker-at P Q d one list names SchemaList a = list a
@@ -145,34 +145,34 @@ module _ {R : Type 0} (ρ : Rules R) (P Q : Members → Type 0) (h : Preserves �
   module _ (r : R) (d : Data) (one : (asked P d).as_schema → (asked Q (forms ρ r d).as_schema).as_schema)
       (more : (asked P d).as_list → (asked Q (forms ρ r d).as_list).as_list)
       (named : (asked P d).by_name → (asked Q (forms ρ r d).by_name).by_name) where
-    either : (e : Data) → e ≡ d → asked_at SchemaOrList (asked P d) → asked_at SchemaOrList (asked Q (forms ρ r d).as_either)
+    either : (e : Data) → e ≡ d → demanded SchemaOrList (asked P d) → demanded SchemaOrList (asked Q (forms ρ r d).as_either)
     unfolding asked forms
-    either null is a = subst (λ x. asked_at SchemaOrList (asked Q (forms ρ r x).as_either)) is (tt, tt)
+    either null is a = subst (λ x. demanded SchemaOrList (asked Q (forms ρ r x).as_either)) is (tt, tt)
     either (boolean b) is a =
-        subst (λ x. asked_at SchemaOrList (asked Q (forms ρ r x).as_either)) is (
+        subst (λ x. demanded SchemaOrList (asked Q (forms ρ r x).as_either)) is (
           h.of_truth (ρ.inside r (boolean b)) b,
           schema-no_list Q (ρ.finish (ρ.inside r (boolean b)) (boolean b)) (h.schema (ρ.inside r (boolean b)) (boolean b) tt),
         )
-    either (number n) is a = subst (λ x. asked_at SchemaOrList (asked Q (forms ρ r x).as_either)) is (tt, tt)
-    either (string s) is a = subst (λ x. asked_at SchemaOrList (asked Q (forms ρ r x).as_either)) is (tt, tt)
+    either (number n) is a = subst (λ x. demanded SchemaOrList (asked Q (forms ρ r x).as_either)) is (tt, tt)
+    either (string s) is a = subst (λ x. demanded SchemaOrList (asked Q (forms ρ r x).as_either)) is (tt, tt)
     either (array ds) is a =
-        subst (λ x. asked_at SchemaOrList (asked Q (forms ρ r x).as_either)) is
+        subst (λ x. demanded SchemaOrList (asked Q (forms ρ r x).as_either)) is
         (tt, subst (λ x. (asked Q (forms ρ r x).as_list).as_list) (sym is) (more a.1))
     either (object ms) is a =
-        subst (λ x. asked_at SchemaOrList (asked Q (forms ρ r x).as_either)) is (
+        subst (λ x. demanded SchemaOrList (asked Q (forms ρ r x).as_either)) is (
           subst (λ x. (asked Q (forms ρ r x).as_schema).as_schema) (sym is) (one a.0),
           schema-no_list Q (ρ.finish (ρ.inside r (object ms)) (object (in_keywords ρ (ρ.inside r (object ms)) ms)))
               (h.schema (ρ.inside r (object ms)) (object (in_keywords ρ (ρ.inside r (object ms)) ms)) tt),
         )
 
-    by_place : (p : Place) → asked_at p (asked P d) → asked_at p (asked Q (form_at p d (forms ρ r d)))
+    by_place : (p : Place) → demanded p (asked P d) → demanded p (asked Q (form_at p d (forms ρ r d)))
     by_place NoSchemas a = tt
     by_place OneSchema a = one a
     by_place SchemaList a = more a
     by_place SchemaOrList a = either d refl a
     by_place SchemasByName a = named a
 
-  of_a_truth : (p : Place) (d : Data) → IsTruth d → asked_at p (asked Q d)
+  of_a_truth : (p : Place) (d : Data) → IsTruth d → demanded p (asked Q d)
   unfolding asked
   of_a_truth NoSchemas (boolean b) is = tt
   of_a_truth OneSchema (boolean b) is = tt
@@ -188,16 +188,16 @@ module _ {R : Type 0} (ρ : Rules R) (P Q : Members → Type 0) (h : Preserves �
   at : (r : R) (k : Text) (d : Data) → ((asked P d).as_schema → (asked Q (forms ρ r d).as_schema).as_schema)
       → ((asked P d).as_list → (asked Q (forms ρ r d).as_list).as_list)
       → ((asked P d).by_name → (asked Q (forms ρ r d).by_name).by_name)
-      → asked_at (place_under k) (asked P d) → asked_at (place_under k) (asked Q (form_at (ρ.place r k d) d (forms ρ r d)))
+      → demanded (place_under k) (asked P d) → demanded (place_under k) (asked Q (form_at (ρ.place r k d) d (forms ρ r d)))
   at r k d one more named a = go (h.place r k d)
     where
       go : (ρ.place r k d ≡ place_under k) ⊎ ((ρ.place r k d ≡ NoSchemas) × IsTruth d)
-          → asked_at (place_under k) (asked Q (form_at (ρ.place r k d) d (forms ρ r d)))
+          → demanded (place_under k) (asked Q (form_at (ρ.place r k d) d (forms ρ r d)))
       go (inl is) =
-          subst (λ p. asked_at (place_under k) (asked Q (form_at p d (forms ρ r d)))) (sym is)
+          subst (λ p. demanded (place_under k) (asked Q (form_at p d (forms ρ r d)))) (sym is)
           (by_place r d one more named (place_under k) a)
       go (inr is) =
-          subst (λ p. asked_at (place_under k) (asked Q (form_at p d (forms ρ r d)))) (sym is.0) (of_a_truth (place_under k) d is.1)
+          subst (λ p. demanded (place_under k) (asked Q (form_at p d (forms ρ r d)))) (sym is.0) (of_a_truth (place_under k) d is.1)
 
   mutual
     unfolding asked forms

@@ -15,7 +15,7 @@ use Rattle.schemars_transform.specs.Built.{bool_rules, reference_moved, without_
 use Rattle.schemars_transform.specs.Built.{value_as_enum, const_as_enum, prefix_as_items, prefix_moved, old_items_moved}
 use Rattle.schemars_transform.specs.Nullable.{all_null, nulls_in, nullable_by, null_taken_out, type_without_null}
 use Rattle.schemars_transform.specs.Unevaluated.{unevaluated_as_additional, closed_by}
-use Rattle.schemars_laws.specs.Everywhere.{asked, asked_at, asked_of_keywords}
+use Rattle.schemars_laws.specs.Everywhere.{asked, demanded, asked_of_keywords}
 use Rattle.schemars_laws.specs.Classes.{IsSchemaList, is_null_alone, IsConstAlone, HasPlainItems, plain_nullable}
 use Rattle.schemars_laws.proofs.Looked.{change_rules}
 use Rattle.schemars_laws.proofs.Siblings.{schema-siblings, moved_members}
@@ -396,7 +396,7 @@ module _ (N : Text → Type 0) where
           more : (ms : Members) (k : Text) (d : Data) → bytes_eq (codes "$ref") k ≡ false → Q ms → Q (put k d ms)
           more ms k d ref is = kept Anything (put k d ms) ms (alike-put (codes "$ref") k d ms ref) is
 
-          list : (p : Data) → IsSchemaList (Some p) → (asked Q p).as_list → asked_at SchemaOrList (asked Q p)
+          list : (p : Data) → IsSchemaList (Some p) → (asked Q p).as_list → demanded SchemaOrList (asked Q p)
           list (array ds) is a = (tt, a)
           list null is a = absurd is
           list (boolean b) is a = absurd is
@@ -404,10 +404,10 @@ module _ (N : Text → Type 0) where
           list (string s) is a = absurd is
           list (object ms) is a = absurd is
 
-          with : (p : Data) → asked_at SchemaOrList (asked Q p) → asked_of_keywords Q (put (codes "items") p (without (codes "prefixItems") ns))
+          with : (p : Data) → demanded SchemaOrList (asked Q p) → asked_of_keywords Q (put (codes "items") p (without (codes "prefixItems") ns))
           with p here = asked-put Q (codes "items") p (without (codes "prefixItems") ns) here gone.1
 
-          each : (p : Data) → asked_at SchemaOrList (asked Q p) → (o : Option Data) → get_member (codes "items") (without (codes "prefixItems") ns) ≡ o
+          each : (p : Data) → demanded SchemaOrList (asked Q p) → (o : Option Data) → get_member (codes "items") (without (codes "prefixItems") ns) ≡ o
               → (asked Q (old_items_moved o (object (put (codes "items") p (without (codes "prefixItems") ns))))).as_schema
           each p here None at = (more (without (codes "prefixItems") ns) (codes "items") p refl gone.0, with p here)
           each p here (Some i) at = (

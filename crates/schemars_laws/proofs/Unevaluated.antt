@@ -13,7 +13,7 @@ use Rattle.schemars_schema.specs.Acceptance.{Dialect, Context, Raw, Readings, ju
 use Rattle.schemars_schema.specs.Acceptance.{read_data, read_members, reading_at, unevaluated_properties_say, judged_beside, stands_schema}
 use Rattle.schemars_schema.proofs.Objects.{judge-agree, reading_at-members}
 use Rattle.schemars_schema.proofs.Members.{differ}
-use Rattle.schemars_transform.specs.Unevaluated.{unevaluated_as_additional, closed_by, property_names, properties_made, properties_named, named_in, with_names}
+use Rattle.schemars_transform.specs.Unevaluated.{unevaluated_as_additional, closed_by, property_names, properties_made, properties_named, object_with_names, with_names}
 use Rattle.schemars_laws.specs.Classes.{HasNoUnevaluated, with_unevaluated, without_unevaluated}
 use Rattle.schemars_laws.proofs.Seen.{judge_ext}
 use Rattle.schemars_laws.proofs.Formats.{truth-judge}
@@ -77,7 +77,7 @@ module _ (P : Data → Type 0) (ks : List Text) (xs : Members) (stay : P (object
 
   by_properties : (o : Option Data) → P (properties_named ks o (object xs))
   by_properties None = by_names (with_names ks no_members)
-  by_properties (Some d) = made (named_in ks d)
+  by_properties (Some d) = made (object_with_names ks d)
 
 abbrev closed_members : Data → Members → Members
 closed_members rest ms = put (codes "additionalProperties") rest (without (codes "unevaluatedProperties") ms)

@@ -11,12 +11,12 @@ pub record Asked : Type 1 where
 abbrev pub nothing_asked : Asked
 nothing_asked = record { as_schema = Unit {0}; as_list = Unit {0}; by_name = Unit {0} }
 
-abbrev pub asked_at : Place → Asked → Type 0
-asked_at NoSchemas a = Unit {0}
-asked_at OneSchema a = a.as_schema
-asked_at SchemaList a = a.as_list
-asked_at SchemaOrList a = a.as_schema × a.as_list
-asked_at SchemasByName a = a.by_name
+abbrev pub demanded : Place → Asked → Type 0
+demanded NoSchemas a = Unit {0}
+demanded OneSchema a = a.as_schema
+demanded SchemaList a = a.as_list
+demanded SchemaOrList a = a.as_schema × a.as_list
+demanded SchemasByName a = a.by_name
 
 unfoldable mutual
   pub asked : (Members → Type 0) → Data → Asked
@@ -37,7 +37,7 @@ unfoldable mutual
 
   pub asked_of_keywords : (Members → Type 0) → Members → Type 0
   asked_of_keywords P no_members = Unit {0}
-  asked_of_keywords P (member k d ms) = asked_at (place_under k) (asked P d) × asked_of_keywords P ms
+  asked_of_keywords P (member k d ms) = demanded (place_under k) (asked P d) × asked_of_keywords P ms
 
 -- P holds of the members of the schema, where it is an object, and of those of each schema inside it
 abbrev pub Everywhere : (Members → Type 0) → Data → Type 0

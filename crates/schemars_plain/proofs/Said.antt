@@ -11,38 +11,39 @@ use Rattle.schemars_types.specs.Rows.{Row, entry_at}
 use Rattle.schemars_types.specs.Edges.{option_at}
 use Rattle.schemars_types.specs.Effective.{without_options, fields_within, effective, flattened_fields}
 use Rattle.schemars_types.specs.Effective.{part_fields, weakened, shape_fields}
-use Rattle.schemars_plain.specs.Decided.{Said, said, struct_of}
+use Rattle.schemars_plain.specs.Decided.{Said, as_said, struct_of}
 
 -- ---- what is said of fields
 
 -- whether a field has to be there does not count
-weakened_said : (r : Required) (fs : List Field) → map said (map (weakened r) fs) ≡ map said fs
+weakened_said : (r : Required) (fs : List Field) → map as_said (map (weakened r) fs) ≡ map as_said fs
 weakened_said r [] = refl
-weakened_said r (f ∷ fs) = ap (λ rest. said f ∷ rest) (weakened_said r fs)
+weakened_said r (f ∷ fs) = ap (λ rest. as_said f ∷ rest) (weakened_said r fs)
 
 part_said : (rows : List Row) (own : ℕ → List Field) (p : Flattened)
-    → map said (part_fields rows own p) ≡ map said (own (without_options rows p.ty))
+    → map as_said (part_fields rows own p) ≡ map as_said (own (without_options rows p.ty))
 part_said rows own p = go (is_some (option_at rows p.ty))
   where
-    go : (b : Bool) → map said (if b then map (weakened p.required) (own (without_options rows p.ty)) else own (without_options rows p.ty))
-        ≡ map said (own (without_options rows p.ty))
+    go : (b : Bool)
+        → map as_said (if b then map (weakened p.required) (own (without_options rows p.ty)) else own (without_options rows p.ty))
+        ≡ map as_said (own (without_options rows p.ty))
     go true = weakened_said p.required (own (without_options rows p.ty))
     go false = refl
 
 pub part_joins : (found : List Said) (rows : List Row) (own : ℕ → List Field) (p : Flattened) (ps : List Flattened)
-    → (found ++ map said (own (without_options rows p.ty))) ++ map said (flattened_fields (part_fields rows own) ps)
-    ≡ found ++ map said (flattened_fields (part_fields rows own) (p ∷ ps))
+    → (found ++ map as_said (own (without_options rows p.ty))) ++ map as_said (flattened_fields (part_fields rows own) ps)
+    ≡ found ++ map as_said (flattened_fields (part_fields rows own) (p ∷ ps))
 part_joins found rows own p ps =
-    append_assoc found (map said (own (without_options rows p.ty))) (map said (flattened_fields (part_fields rows own) ps))
+    append_assoc found (map as_said (own (without_options rows p.ty))) (map as_said (flattened_fields (part_fields rows own) ps))
     ∙ ap (λ s. found ++ s) (
-    ap (λ s. s ++ map said (flattened_fields (part_fields rows own) ps)) (sym (part_said rows own p))
-    ∙ sym (map-append said (part_fields rows own p) (flattened_fields (part_fields rows own) ps)))
+    ap (λ s. s ++ map as_said (flattened_fields (part_fields rows own) ps)) (sym (part_said rows own p))
+    ∙ sym (map-append as_said (part_fields rows own p) (flattened_fields (part_fields rows own) ps)))
 
 pub own_joins : (found : List Said) (part : Flattened → List Field) (x : Fields)
-    → (found ++ map said x.list) ++ map said (flattened_fields part x.flatten) ≡ found ++ map said (effective part x)
+    → (found ++ map as_said x.list) ++ map as_said (flattened_fields part x.flatten) ≡ found ++ map as_said (effective part x)
 own_joins found part x =
-    append_assoc found (map said x.list) (map said (flattened_fields part x.flatten))
-    ∙ ap (λ s. found ++ s) (sym (map-append said x.list (flattened_fields part x.flatten)))
+    append_assoc found (map as_said x.list) (map as_said (flattened_fields part x.flatten))
+    ∙ ap (λ s. found ++ s) (sym (map-append as_said x.list (flattened_fields part x.flatten)))
 
 -- ---- rows
 
@@ -108,17 +109,17 @@ no_struct rows steps below n one is =
     ∙ (within_struct rows below n ∙ ap (λ o. option_map_or (effective (part_fields rows (fields_within rows below))) o []) (sym is))
 
 -- nothing is added
-pub adds_none : (found : List Said) (fs : List Field) → fs ≡ [] → found ≡ found ++ map said fs
-adds_none found fs none = sym (ap (λ gs. found ++ map said gs) none ∙ append-nil found)
+pub adds_none : (found : List Said) (fs : List Field) → fs ≡ [] → found ≡ found ++ map as_said fs
+adds_none found fs none = sym (ap (λ gs. found ++ map as_said gs) none ∙ append-nil found)
 
 -- one more part
 pub part_step : (found more : List Said) (rows : List Row) (own : ℕ → List Field) (items : List src.Flattened) (i m : ℕ) (d : src.Flattened)
-    (whole : List Said) → i < length items → m ≡ without_options rows (get_or items i d).ty → more ≡ found ++ map said (own m)
-    → found ++ map said (flattened_fields (part_fields rows own) (map flattened_of (drop i items))) ≡ whole
-    → more ++ map said (flattened_fields (part_fields rows own) (map flattened_of (drop (i + 1) items))) ≡ whole
+    (whole : List Said) → i < length items → m ≡ without_options rows (get_or items i d).ty → more ≡ found ++ map as_said (own m)
+    → found ++ map as_said (flattened_fields (part_fields rows own) (map flattened_of (drop i items))) ≡ whole
+    → more ++ map as_said (flattened_fields (part_fields rows own) (map flattened_of (drop (i + 1) items))) ≡ whole
 part_step found more rows own items i m d whole below at joins before =
     let rest = map flattened_of (drop (i + 1) items) in
-    ap (λ s. s ++ map said (flattened_fields (part_fields rows own) rest)) (joins ∙ ap (λ n. found ++ map said (own n)) at)
+    ap (λ s. s ++ map as_said (flattened_fields (part_fields rows own) rest)) (joins ∙ ap (λ n. found ++ map as_said (own n)) at)
     ∙ (part_joins found rows own (flattened_of (get_or items i d)) rest
-    ∙ (ap (λ ps. found ++ map said (flattened_fields (part_fields rows own) (map flattened_of ps)))
+    ∙ (ap (λ ps. found ++ map as_said (flattened_fields (part_fields rows own) (map flattened_of ps)))
     (sym (drop_more items i d below)) ∙ before))

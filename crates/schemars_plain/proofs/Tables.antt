@@ -18,8 +18,8 @@ use Rattle.schemars_documents.specs.PlainTable.{IsNoName, AreDistinct, AreNoted,
 use Rattle.schemars_documents.specs.PlainTable.{ArePlainVariants, IsTagged, AreTagged, payload_parts, variant_parts, IsOpenStruct}
 use Rattle.schemars_documents.specs.PlainTable.{IsPlainPart, ArePlainParts, IsPlainShape, IsPlainEntry, IsPlainTable}
 use Rattle.std.proofs.lemmas.Option.{slice_get_cases}
-use Rattle.schemars_plain.specs.Decided.{said, names_of, all_noted, all_differ, are_annotations, is_plain_list, is_named, struct_of}
-use Rattle.schemars_plain.specs.Decided.{is_plain_payload, is_plain_variant, are_plain_variants, variant_names, is_tagged, are_tagged}
+use Rattle.schemars_plain.specs.Decided.{as_said, names_said, all_noted, all_differ, are_annotations, is_plain_list, is_named, struct_of}
+use Rattle.schemars_plain.specs.Decided.{is_plain_payload, is_plain_variant, are_plain_variants, names_of_variants, is_tagged, are_tagged}
 use Rattle.schemars_plain.specs.Decided.{spread_variant_in, is_open, is_plain_part, are_plain_parts, payloads_have_plain_parts}
 use Rattle.schemars_plain.proofs.Literals.{always, itself, notes_decided}
 
@@ -40,18 +40,18 @@ named_decided : (k : Text) (fs : List Field) → Decides (not (is_named k fs)) (
 named_decided k [] = always
 named_decided k (f ∷ fs) = not_or (bytes_eq k f.name) (is_named k fs) (bytes_eq f.name k) (bytes_eq_comm k f.name) (named_decided k fs)
 
-distinct_decided : (fs : List Field) → Decides (all_differ (names_of (map said fs))) (AreDistinct fs)
+distinct_decided : (fs : List Field) → Decides (all_differ (names_said (map as_said fs))) (AreDistinct fs)
 distinct_decided [] = always
 distinct_decided (f ∷ fs) =
-    Decides-and (not (is_named f.name fs)) (all_differ (names_of (map said fs))) (named_decided f.name fs) (distinct_decided fs)
+    Decides-and (not (is_named f.name fs)) (all_differ (names_said (map as_said fs))) (named_decided f.name fs) (distinct_decided fs)
 
-noted_decided : (fs : List Field) → Decides (all_noted (map said fs)) (AreNoted fs)
+noted_decided : (fs : List Field) → Decides (all_noted (map as_said fs)) (AreNoted fs)
 noted_decided [] = always
-noted_decided (f ∷ fs) = Decides-and (are_annotations f.notes) (all_noted (map said fs)) (notes_decided f.notes) (noted_decided fs)
+noted_decided (f ∷ fs) = Decides-and (are_annotations f.notes) (all_noted (map as_said fs)) (notes_decided f.notes) (noted_decided fs)
 
 list_decided : (fs : List Field) → Decides (is_plain_list fs) (AreDistinct fs × AreNoted fs)
 list_decided fs =
-    Decides-and (all_differ (names_of (map said fs))) (all_noted (map said fs)) (distinct_decided fs) (noted_decided fs)
+    Decides-and (all_differ (names_said (map as_said fs))) (all_noted (map as_said fs)) (distinct_decided fs) (noted_decided fs)
 
 -- ---- variants
 
@@ -68,14 +68,14 @@ variants_decided (x ∷ xs) =
     let all = Decides-and (is_plain_variant x) (are_plain_variants xs) one (variants_decided xs) in
     (λ t. let p = all.0 t in (p.0.0, p.0.1, p.1), λ p. all.1 ((p.0, p.1), p.2))
 
-no_variant_decided : (k : Text) (xs : List Variant) → Decides (not (is_listed k (variant_names xs))) (IsNoVariant k xs)
+no_variant_decided : (k : Text) (xs : List Variant) → Decides (not (is_listed k (names_of_variants xs))) (IsNoVariant k xs)
 no_variant_decided k [] = always
 no_variant_decided k (x ∷ xs) =
-    not_or (bytes_eq k x.name) (is_listed k (variant_names xs)) (bytes_eq x.name k) (bytes_eq_comm k x.name) (no_variant_decided k xs)
+    not_or (bytes_eq k x.name) (is_listed k (names_of_variants xs)) (bytes_eq x.name k) (bytes_eq_comm k x.name) (no_variant_decided k xs)
 
-names_decided : (xs : List Variant) → Decides (all_differ (variant_names xs)) (AreDistinctVariants xs)
+names_decided : (xs : List Variant) → Decides (all_differ (names_of_variants xs)) (AreDistinctVariants xs)
 names_decided [] = always
-names_decided (x ∷ xs) = Decides-and (not (is_listed x.name (variant_names xs))) (all_differ (variant_names xs))
+names_decided (x ∷ xs) = Decides-and (not (is_listed x.name (names_of_variants xs))) (all_differ (names_of_variants xs))
     (no_variant_decided x.name xs) (names_decided xs)
 
 tagged_decided : (tag : Text) (p : Payload) → Decides (is_tagged tag p) (IsTagged tag p)
@@ -90,12 +90,12 @@ all_tagged_decided tag (x ∷ xs) = Decides-and (is_tagged tag x.payload) (are_t
     (all_tagged_decided tag xs)
 
 -- the flattened fields change no variant's name
-spread_names : (rows : List Row) (xs : List Variant) → variant_names (map (spread_variant_in rows) xs) ≡ variant_names xs
+spread_names : (rows : List Row) (xs : List Variant) → names_of_variants (map (spread_variant_in rows) xs) ≡ names_of_variants xs
 spread_names rows [] = refl
 spread_names rows (x ∷ xs) = ap (λ ks. x.name ∷ ks) (spread_names rows xs)
 
 spread_names_decided : (rows : List Row) (xs : List Variant)
-    → Decides (all_differ (variant_names xs)) (AreDistinctVariants (map (spread_variant_in rows) xs))
+    → Decides (all_differ (names_of_variants xs)) (AreDistinctVariants (map (spread_variant_in rows) xs))
 spread_names_decided rows xs =
     rw (sym (ap all_differ (spread_names rows xs))) (names_decided (map (spread_variant_in rows) xs))
 
@@ -106,9 +106,9 @@ pub struct_decided : (rows : List Row) (x : Fields)
 struct_decided rows x = list_decided (effective (flattened_in rows) x)
 
 pub external_decided : (rows : List Row) (xs : List Variant)
-    → Decides (all_differ (variant_names xs) && are_plain_variants (map (spread_variant_in rows) xs))
+    → Decides (all_differ (names_of_variants xs) && are_plain_variants (map (spread_variant_in rows) xs))
     (IsPlainShape (spread_in rows (shape.external xs)))
-external_decided rows xs = Decides-and (all_differ (variant_names xs)) (are_plain_variants (map (spread_variant_in rows) xs))
+external_decided rows xs = Decides-and (all_differ (names_of_variants xs)) (are_plain_variants (map (spread_variant_in rows) xs))
     (spread_names_decided rows xs) (variants_decided (map (spread_variant_in rows) xs))
 
 pub untagged_decided : (rows : List Row) (xs : List Variant)
@@ -116,20 +116,20 @@ pub untagged_decided : (rows : List Row) (xs : List Variant)
 untagged_decided rows xs = variants_decided (map (spread_variant_in rows) xs)
 
 pub internal_decided : (rows : List Row) (tag : Text) (closed : Bool) (xs : List Variant)
-    → Decides (all_differ (variant_names xs) && (are_plain_variants (map (spread_variant_in rows) xs)
+    → Decides (all_differ (names_of_variants xs) && (are_plain_variants (map (spread_variant_in rows) xs)
     && are_tagged tag (map (spread_variant_in rows) xs))) (IsPlainShape (spread_in rows (shape.internal tag closed xs)))
 internal_decided rows tag closed xs =
     let ys = map (spread_variant_in rows) xs in
     let inside = Decides-and (are_plain_variants ys) (are_tagged tag ys) (variants_decided ys) (all_tagged_decided tag ys) in
-    let all = Decides-and (all_differ (variant_names xs)) (are_plain_variants ys && are_tagged tag ys)
+    let all = Decides-and (all_differ (names_of_variants xs)) (are_plain_variants ys && are_tagged tag ys)
     (spread_names_decided rows xs) inside in
     (λ t. let p = all.0 t in (p.0, p.1.0, p.1.1), λ p. all.1 (p.0, (p.1, p.2)))
 
 pub adjacent_decided : (rows : List Row) (tag content : Text) (closed : Bool) (xs : List Variant)
-    → Decides (not (bytes_eq tag content) && (all_differ (variant_names xs) && are_plain_variants (map (spread_variant_in rows) xs)))
+    → Decides (not (bytes_eq tag content) && (all_differ (names_of_variants xs) && are_plain_variants (map (spread_variant_in rows) xs)))
     (IsPlainShape (spread_in rows (shape.adjacent tag content closed xs)))
 adjacent_decided rows tag content closed xs =
-    let named = all_differ (variant_names xs) && are_plain_variants (map (spread_variant_in rows) xs) in
+    let named = all_differ (names_of_variants xs) && are_plain_variants (map (spread_variant_in rows) xs) in
     let all = Decides-and (not (bytes_eq tag content)) named (differ_decided (bytes_eq tag content)) (external_decided rows xs) in
     (λ t. let p = all.0 t in (p.0, p.1.0, p.1.1), λ p. all.1 (p.0, (p.1, p.2)))
 

@@ -34,12 +34,12 @@ are_annotations (member k d ms) = is_annotation k && are_annotations ms
 abbrev pub Said : Type 0
 Said = Text × Members
 
-abbrev pub said : Field → Said
-said f = (f.name, f.notes)
+abbrev pub as_said : Field → Said
+as_said f = (f.name, f.notes)
 
-abbrev pub names_of : List Said → List Text
-names_of [] = []
-names_of (s ∷ ss) = s.0 ∷ names_of ss
+abbrev pub names_said : List Said → List Text
+names_said [] = []
+names_said (s ∷ ss) = s.0 ∷ names_said ss
 
 abbrev pub all_noted : List Said → Bool
 all_noted [] = true
@@ -47,11 +47,11 @@ all_noted (s ∷ ss) = are_annotations s.1 && all_noted ss
 
 -- the names all differ, and the notes are annotations
 abbrev pub is_plain_list : List Field → Bool
-is_plain_list fs = all_differ (names_of (map said fs)) && all_noted (map said fs)
+is_plain_list fs = all_differ (names_said (map as_said fs)) && all_noted (map as_said fs)
 
 -- one of the fields has this name
 abbrev pub is_named : Text → List Field → Bool
-is_named k fs = is_listed k (names_of (map said fs))
+is_named k fs = is_listed k (names_said (map as_said fs))
 
 abbrev pub struct_of : Shape → Option Fields
 struct_of (struct x) = Some x
@@ -72,9 +72,9 @@ abbrev pub are_plain_variants : List Variant → Bool
 are_plain_variants [] = true
 are_plain_variants (x ∷ xs) = is_plain_variant x && are_plain_variants xs
 
-abbrev pub variant_names : List Variant → List Text
-variant_names [] = []
-variant_names (x ∷ xs) = x.name ∷ variant_names xs
+abbrev pub names_of_variants : List Variant → List Text
+names_of_variants [] = []
+names_of_variants (x ∷ xs) = x.name ∷ names_of_variants xs
 
 -- a unit, or fields of which none is named as the tag
 abbrev pub is_tagged : Text → Payload → Bool

@@ -4,7 +4,7 @@ ghost use Rattle.schemars_shapes.specs.Shape.{field_of, fields_of};
 ghost use Rattle.schemars_types.specs.Rows.{entry_at};
 ghost use Rattle.schemars_types.specs.Effective.{fields_within, effective};
 ghost use Rattle.schemars_types.specs.Effective.{part_fields, flattened_in};
-ghost use Rattle.schemars_plain.specs.Decided.{said, all_noted, is_plain_list, names_of};
+ghost use Rattle.schemars_plain.specs.Decided.{as_said, all_noted, is_plain_list, names_said};
 ghost use Rattle.schemars_plain.specs.Decided.{struct_of, is_named};
 
 use crate::names::all_differ;
@@ -44,8 +44,8 @@ fn all_fields<'t>(
     types: &'t Types,
     fields: &'t Fields,
 ) -> Result<Vec<&'t Field>, AllocError>
-    ensures { IfOk result (λ v. map (λ f. said (field_of f.now)) v.items
-        ≡ map said (effective (flattened_in types.now) (fields_of fields.now))) }
+    ensures { IfOk result (λ v. map (λ f. as_said (field_of f.now)) v.items
+        ≡ map as_said (effective (flattened_in types.now) (fields_of fields.now))) }
 {
     let mut found = Vec::new(alloc);
     add_fields(types, types.len(), fields, &mut found)?;
@@ -54,7 +54,7 @@ fn all_fields<'t>(
 
 fn names<'t>(alloc: Global, fields: &[&'t Field]) -> Result<Vec<&'t str>, AllocError>
     ensures { IfOk result (λ v. map (λ n. n.now) v.items
-        ≡ names_of (map (λ f. said (field_of f.now)) fields.now)) }
+        ≡ names_said (map (λ f. as_said (field_of f.now)) fields.now)) }
 {
     let mut names = Vec::new(alloc);
     for field in fields {
@@ -64,7 +64,7 @@ fn names<'t>(alloc: Global, fields: &[&'t Field]) -> Result<Vec<&'t str>, AllocE
 }
 
 fn are_noted(fields: &[&Field]) -> bool
-    ensures { result ≡ all_noted (map (λ f. said (field_of f.now)) fields.now) }
+    ensures { result ≡ all_noted (map (λ f. as_said (field_of f.now)) fields.now) }
 {
     for field in fields {
         if !are_annotations(&field.notes) {
@@ -82,9 +82,9 @@ fn add_fields<'t>(
     fields: &'t Fields,
     found: &mut Vec<&'t Field>,
 ) -> Result<(), AllocError>
-    ensures { OnOk result (map (λ f. said (field_of f.now)) found.new.items
-        ≡ map (λ f. said (field_of f.now)) found.old.items
-        ++ map said (effective (part_fields types.now (fields_within types.now steps))
+    ensures { OnOk result (map (λ f. as_said (field_of f.now)) found.new.items
+        ≡ map (λ f. as_said (field_of f.now)) found.old.items
+        ++ map as_said (effective (part_fields types.now (fields_within types.now steps))
         (fields_of fields.now))) }
 {
     add_own(fields, found)?;
@@ -102,9 +102,9 @@ fn add_row<'t>(
     n: TypeNo,
     found: &mut Vec<&'t Field>,
 ) -> Result<(), AllocError>
-    ensures { OnOk result (map (λ f. said (field_of f.now)) found.new.items
-        ≡ map (λ f. said (field_of f.now)) found.old.items
-        ++ map said (fields_within types.now steps n)) }
+    ensures { OnOk result (map (λ f. as_said (field_of f.now)) found.new.items
+        ≡ map (λ f. as_said (field_of f.now)) found.old.items
+        ++ map as_said (fields_within types.now steps n)) }
 {
     if steps == 0 {
         return Ok(());
@@ -116,9 +116,9 @@ fn add_row<'t>(
 }
 
 fn add_own<'t>(fields: &'t Fields, found: &mut Vec<&'t Field>) -> Result<(), AllocError>
-    ensures { OnOk result (map (λ f. said (field_of f.now)) found.new.items
-        ≡ map (λ f. said (field_of f.now)) found.old.items
-        ++ map said (fields_of fields.now).list) }
+    ensures { OnOk result (map (λ f. as_said (field_of f.now)) found.new.items
+        ≡ map (λ f. as_said (field_of f.now)) found.old.items
+        ++ map as_said (fields_of fields.now).list) }
 {
     for field in &fields.list {
         found.push(field)?;

@@ -4,7 +4,7 @@ ghost use Rattle.schemars_shapes.specs.Shape.{shape_of, variant_of, internal_vie
 ghost use Rattle.schemars_types.specs.Rows.{entry_at};
 ghost use Rattle.schemars_types.specs.Effective.{spread_in};
 ghost use Rattle.schemars_documents.specs.PlainTable.{IsPlainShape, IsPlainEntry, IsPlainTable};
-ghost use Rattle.schemars_plain.specs.Decided.{all_differ, variant_names, are_plain_variants};
+ghost use Rattle.schemars_plain.specs.Decided.{all_differ, names_of_variants, are_plain_variants};
 ghost use Rattle.schemars_plain.specs.Decided.{are_tagged, spread_variant_in};
 
 use crate::fields::are_plain;
@@ -87,7 +87,7 @@ fn are_named_and_plain(
     types: &Types,
     variants: &[Variant],
 ) -> Result<bool, AllocError>
-    ensures { IfOk result (λ b. b ≡ (all_differ (variant_names (map variant_of variants.now))
+    ensures { IfOk result (λ b. b ≡ (all_differ (names_of_variants (map variant_of variants.now))
         && are_plain_variants (map (spread_variant_in types.now) (map variant_of variants.now)))) }
 {
     if !names_differ(alloc, variants)? {
@@ -97,7 +97,7 @@ fn are_named_and_plain(
 }
 
 fn is_plain_internal(alloc: Global, types: &Types, value: &Internal) -> Result<bool, AllocError>
-    ensures { IfOk result (λ b. b ≡ (all_differ (variant_names (internal_view value.now).2)
+    ensures { IfOk result (λ b. b ≡ (all_differ (names_of_variants (internal_view value.now).2)
         && (are_plain_variants (map (spread_variant_in types.now) (internal_view value.now).2)
         && are_tagged (internal_view value.now).0
         (map (spread_variant_in types.now) (internal_view value.now).2)))) }
@@ -114,7 +114,7 @@ fn is_plain_internal(alloc: Global, types: &Types, value: &Internal) -> Result<b
 fn is_plain_adjacent(alloc: Global, types: &Types, value: &Adjacent) -> Result<bool, AllocError>
     ensures { IfOk result (λ b. b
         ≡ (not (bytes_eq (adjacent_view value.now).0 (adjacent_view value.now).1)
-        && (all_differ (variant_names (adjacent_view value.now).3)
+        && (all_differ (names_of_variants (adjacent_view value.now).3)
         && are_plain_variants (map (spread_variant_in types.now) (adjacent_view value.now).3)))) }
 {
     if value.tag == value.content {

@@ -4,7 +4,7 @@ ghost use Rattle.serde_json.specs.View.{members_view};
 ghost use Rattle.schemars_shapes.specs.Shape.{payload_of, variant_of};
 ghost use Rattle.schemars_shapes.specs.Shape.{internal_payload_of, internal_variant_of};
 ghost use Rattle.schemars_plain.specs.Decided.{is_plain_payload, is_plain_variant};
-ghost use Rattle.schemars_plain.specs.Decided.{are_plain_variants, variant_names, all_differ};
+ghost use Rattle.schemars_plain.specs.Decided.{are_plain_variants, names_of_variants, all_differ};
 ghost use Rattle.schemars_plain.specs.Decided.{is_tagged, are_tagged};
 ghost use Rattle.schemars_plain.specs.Decided.{spread_variant_in, spread_payload_in};
 
@@ -54,7 +54,7 @@ fn is_plain_payload(alloc: Global, types: &Types, payload: &Payload) -> Result<b
 
 /// Whether the names of the variants all differ.
 pub fn names_differ(alloc: Global, variants: &[Variant]) -> Result<bool, AllocError>
-    ensures { IfOk result (λ b. b ≡ all_differ (variant_names (map variant_of variants.now))) }
+    ensures { IfOk result (λ b. b ≡ all_differ (names_of_variants (map variant_of variants.now))) }
 {
     let mut names = Vec::new(alloc);
     for variant in variants {
@@ -111,7 +111,7 @@ fn is_plain_content(
 /// Whether the names of the variants all differ.
 pub fn names_differ_inside(alloc: Global, variants: &[InternalVariant]) -> Result<bool, AllocError>
     ensures { IfOk result (λ b. b
-        ≡ all_differ (variant_names (map internal_variant_of variants.now))) }
+        ≡ all_differ (names_of_variants (map internal_variant_of variants.now))) }
 {
     let mut names = Vec::new(alloc);
     for variant in variants {

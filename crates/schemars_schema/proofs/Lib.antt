@@ -1,6 +1,10 @@
 -- Lemmas that several proofs share.
 pub mod Outputs
 pub mod OrderedTexts
+pub mod FixedMembers
+pub mod Becomings
+pub mod Begun
+pub mod Escapes
 pub mod Encodings
 pub mod Equalities
 pub mod Verdicts

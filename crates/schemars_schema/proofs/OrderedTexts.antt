@@ -1,22 +1,17 @@
 -- Text that is written value by value, and members that are looked up by their keys.
-use Rattle.std.proofs.Common.{◌≡◌, ◌<◌, ◌+◌, ℕ, List, [], ◌∷◌, ◌++◌, length, get_or, drop, map, Bor, option_map}
-use Rattle.std.proofs.Common.{add-one, drop-cons, Bool, true, false, ◌||◌, Option, Some, None, Ordering, Less, Equal}
-use Rattle.std.proofs.Common.{Greater, is_eq, nat_cmp, string_bytes, refl, sym, ap, ◌∙◌, append_assoc, append-nil}
+use Rattle.std.proofs.Common.{◌≡◌, ◌<◌, ◌+◌, ℕ, List, [], ◌∷◌, ◌++◌, length, get_or, drop, map, Bor}
+use Rattle.std.proofs.Common.{add-one, drop-cons, Bool, true, false, ◌||◌, Some, None, Ordering, Less, Equal}
+use Rattle.std.proofs.Common.{Greater, is_eq, nat_cmp, refl, sym, ap, ◌∙◌, append_assoc, append-nil}
 use Rattle.std.proofs.lemmas.Bool.{or_parts}
 use Rattle.std.proofs.lemmas.Map.Text.{is_eq-slice_cmp}
 use Rattle.std.proofs.lemmas.Slice.Eq.{bytes_eq-Decides}
 use Rattle.std.specs.Prelude.{bytes_eq}
 use Rattle.std.specs.Cmp.Lexicographic.{slice_cmp}
 use Rattle.std.specs.Ordering.{match_ordering}
-use Rattle.std.specs.Map.{lookup}
-use Rattle.std.specs.BTreeMap.{is_at}
 use Rattle.json.specs.Token.{Token, begin_object, end_object, begin_array, end_array}
 use Rattle.json.specs.Print.{begins, ends, separator, token_text, quoted}
 use Rattle.serde_json.specs.Data.{Data, array, object, Items, Members, no_members, member}
 use Rattle.serde_json.specs.Find.{get_member}
-use Rattle.serde_json.specs.View.{view, members_view}
-use Rattle.serde_json.specs.declared.value.Value.{Value}
-use Rattle.serde_json.proofs.Views.{Entry, view-lookup}
 use Rattle.serde_json.specs.Written.{comma_if, has_float, items_have_float, members_have_float}
 use Rattle.schemars_schema.specs.Json.{Text}
 use Rattle.schemars_schema.specs.Output.{Output, with_token, with_value, with_values}
@@ -139,26 +134,19 @@ from o ks i ms = with_values o (texts (each_written_at (map (λ k. k.now) (drop 
 next_keyword : (ks : Keywords) (i : ℕ) (other : Bor Text) → i < length ks → drop i ks ≡ get_or ks i other ∷ drop (i + 1) ks
 next_keyword ks i other within = rw add-one (drop-cons ks i other within)
 
-looked_up : (k : Text) (es : List Entry) (r : Option Value) → r ≡ lookup (is_at (λ l. slice_cmp nat_cmp k (string_bytes l))) es
-    → get_member k (members_view es) ≡ option_map view r
-looked_up k es r is = sym (view-lookup k es) ∙ ap (option_map view) (sym is)
-
-pub keyword_found : (o a : Output) (ks : Keywords) (i : ℕ) (other : Bor Text) (v : Value) (es : List Entry) (all : Output) → i < length ks
-    → Some v ≡ lookup (is_at (λ l. slice_cmp nat_cmp (get_or ks i other).now (string_bytes l))) es
-    → (has_float (view v) ≡ false → a ≡ with_value o (written_member (get_or ks i other).now (view v)).text)
-    → members_have_float (members_view es) ≡ false → from o ks i (members_view es) ≡ all → from a ks (i + 1) (members_view es) ≡ all
-keyword_found o a ks i other v es all within is written none before =
+pub keyword_found : (o a : Output) (ks : Keywords) (i : ℕ) (other : Bor Text) (d : Data) (ms : Members) (all : Output) → i < length ks
+    → get_member (get_or ks i other).now ms ≡ Some d
+    → (has_float d ≡ false → a ≡ with_value o (written_member (get_or ks i other).now d).text)
+    → members_have_float ms ≡ false → from o ks i ms ≡ all → from a ks (i + 1) ms ≡ all
+keyword_found o a ks i other d ms all within found written none before =
     let k = (get_or ks i other).now in
-    let found = looked_up k es (Some v) is in
-    let here = rw (next_keyword ks i other within, written_at-found k (view v) (members_view es) found) at before in
-    rw (written (has_float-found k (view v) (members_view es) found none)) here
+    let here = rw (next_keyword ks i other within, written_at-found k d ms found) at before in
+    rw (written (has_float-found k d ms found none)) here
 
-pub keyword_missing : (o : Output) (ks : Keywords) (i : ℕ) (other : Bor Text) (es : List Entry) (all : Output) → i < length ks
-    → None ≡ lookup (is_at (λ l. slice_cmp nat_cmp (get_or ks i other).now (string_bytes l))) es
-    → from o ks i (members_view es) ≡ all → from o ks (i + 1) (members_view es) ≡ all
-keyword_missing o ks i other es all within is before =
-    let k = (get_or ks i other).now in
-    rw (next_keyword ks i other within, written_at-missing k (members_view es) (looked_up k es None is)) at before
+pub keyword_missing : (o : Output) (ks : Keywords) (i : ℕ) (other : Bor Text) (ms : Members) (all : Output) → i < length ks
+    → get_member (get_or ks i other).now ms ≡ None → from o ks i ms ≡ all → from o ks (i + 1) ms ≡ all
+keyword_missing o ks i other ms all within missing before =
+    rw (next_keyword ks i other within, written_at-missing (get_or ks i other).now ms missing) at before
 
 -- ---- whole values
 

@@ -6,7 +6,7 @@ use Rattle.json.specs.Token.{Token}
 use Rattle.json.specs.Print.{print, ends, ends_value}
 use Rattle.json.proofs.Printed.Tokens.{print_from_push}
 use Rattle.serde_json.specs.Data.{Num, unsigned, negative, float}
-use Rattle.serde_json.specs.Find.{as_u64, as_i64}
+use Rattle.serde_json.specs.Find.{as_u64, as_i64, is_float}
 use Rattle.serde_json.specs.Written.{number_text}
 use Rattle.schemars_schema.specs.Output.{Output, with_token}
 
@@ -36,3 +36,8 @@ pub number_text_of_i64 : (n : Num) (z : ℤ) → as_i64 n ≡ Some z → number_
 number_text_of_i64 (unsigned m) z e = ap signed_decimal (either_number (nat_lt m (2 ^ 63)) m z e)
 number_text_of_i64 (negative y) z e = let same : y ≡ z = cc in ap signed_decimal same
 number_text_of_i64 (float x) z e = cc
+
+pub whole_or_float : (n : Num) → as_u64 n ≡ None → as_i64 n ≡ None → is_float n ≡ false → ⊥
+whole_or_float (unsigned m) no_unsigned no_signed no_float = cc
+whole_or_float (negative z) no_unsigned no_signed no_float = cc
+whole_or_float (float x) no_unsigned no_signed no_float = cc

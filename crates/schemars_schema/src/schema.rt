@@ -18,6 +18,7 @@ mod serialized;
 
 use crate::error::NotASchema;
 pub use crate::text::ordered::definitions_to_ordered_string;
+pub use crate::text::writing::write_ordered_definitions;
 use serde_json::{Map, Value};
 use std::alloc::{AllocError, Global};
 use std::marker::Model;

@@ -18,6 +18,8 @@ mod inputs;
 #[cfg(test)]
 mod names;
 #[cfg(test)]
+mod narrow;
+#[cfg(test)]
 mod registered;
 #[cfg(test)]
 mod schema;
@@ -25,3 +27,5 @@ mod schema;
 mod settings;
 #[cfg(test)]
 mod streams;
+#[cfg(test)]
+mod writers;

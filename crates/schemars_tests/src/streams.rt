@@ -1,5 +1,6 @@
 //! Sources and sinks that fail.
 use crate::inputs::words_of;
+use crate::narrow::Narrow;
 use schemagen_run::fault::Fault;
 use schemagen_run::run::run;
 use schemagen_run::streams::{Sink, SinkOf, Source, SourceOf};
@@ -44,50 +45,21 @@ impl Read for Trickle<'_> {
     }
 }
 
-// Takes a block a call. Once the calls are used up, it fails or takes none.
-#[derive(Drop)]
-struct Narrow {
-    taken: Vec<u8>,
-    block: usize,
-    calls: usize,
-    fails: bool,
-}
-
-impl Write for Narrow {
-    fn write(&mut self, buf: &[u8]) -> io::Result<usize> {
-        if self.calls == 0 && self.fails {
-            return Err(Error::from(ErrorKind::BrokenPipe));
-        }
-        if self.calls == 0 || buf.is_empty() {
-            return Ok(0);
-        }
-        self.calls -= 1;
-        let count = buf.len().min(self.block);
-        self.taken.extend_from_slice(&buf[..count])?;
-        Ok(count)
-    }
-
-    fn flush(&mut self) -> io::Result<()> {
-        Ok(())
-    }
-}
-
-fn unwritten(alloc: Global, calls: Calls) -> Narrow {
-    Narrow {
-        taken: Vec::new(alloc),
+fn trickle_of(calls: Calls) -> Trickle<'static> {
+    Trickle {
+        left: ANY,
         block: calls.block,
-        calls: calls.writes,
-        fails: calls.fails,
+        calls: calls.reads,
     }
+}
+
+fn narrow_of(alloc: Global, calls: Calls) -> Narrow {
+    Narrow::new(alloc, calls.block, calls.writes, calls.fails)
 }
 
 // How a run ends over such streams.
 fn ended(alloc: Global, words: &[String], calls: Calls, narrow: &mut Narrow) -> Result<(), Fault> {
-    let mut source = SourceOf::new(Trickle {
-        left: ANY,
-        block: calls.block,
-        calls: calls.reads,
-    });
+    let mut source = SourceOf::new(trickle_of(calls));
     let mut sink = SinkOf::new(narrow);
     run(alloc, words, &mut source, &mut sink)
 }
@@ -100,14 +72,14 @@ fn ends(
     end: Result<(), Fault>,
     taken: usize,
 ) -> bool {
-    let mut narrow = unwritten(alloc, calls);
+    let mut narrow = narrow_of(alloc, calls);
     let result = ended(alloc, words, calls, &mut narrow);
     result == end && narrow.taken.len() == taken && LINE.starts_with(&narrow.taken)
 }
 
 // Whether a run over such streams writes the line, or is refused for its sink behind a beginning.
 fn ends_somewhere(alloc: Global, words: &[String], calls: Calls) -> bool {
-    let mut narrow = unwritten(alloc, calls);
+    let mut narrow = narrow_of(alloc, calls);
     match ended(alloc, words, calls, &mut narrow) {
         Ok(()) => narrow.taken.as_slice() == LINE,
         Err(fault) => {
@@ -117,8 +89,8 @@ fn ends_somewhere(alloc: Global, words: &[String], calls: Calls) -> bool {
     }
 }
 
-// Sizes of blocks, and how many calls read the input to its end.
-const BLOCKS: [(usize, usize); 3] = [(1, 71), (7, 11), (4096, 2)];
+// Sizes of blocks, how many calls read the input to its end, and how many write the line.
+const BLOCKS: [(usize, usize, usize); 3] = [(1, 71, 71), (7, 11, 11), (4096, 2, 2)];
 
 fn calls_of(block: usize, reads: usize, writes: usize, fails: bool) -> Calls {
     Calls {
@@ -133,7 +105,7 @@ fn calls_of(block: usize, reads: usize, writes: usize, fails: bool) -> Calls {
 fn failed_sources_are_told(rt: HostRuntime) -> Result<(), Fail> {
     let words = words_of(rt.alloc(), &["types", "2020-12"])?;
     let refused = Err(Fault::Refused(23));
-    for (block, all) in BLOCKS {
+    for (block, all, _) in BLOCKS {
         for reads in 0..all {
             let calls = calls_of(block, reads, 1000, true);
             assert!(rt; ends(rt.alloc(), &words, calls, refused, 0));
@@ -162,7 +134,7 @@ fn failed_sinks_are_told(rt: HostRuntime) -> Result<(), Fail> {
 #[test]
 fn sinks_fail_in_blocks(rt: HostRuntime) -> Result<(), Fail> {
     let words = words_of(rt.alloc(), &["types", "2020-12"])?;
-    for (block, _) in BLOCKS {
+    for (block, _, _) in BLOCKS {
         for writes in 0..LINE.len() {
             let calls = calls_of(block, 1000, writes, true);
             assert!(rt; ends_somewhere(rt.alloc(), &words, calls));
@@ -181,7 +153,98 @@ fn streams_stay_failed(rt: HostRuntime) {
     let mut buf = [0u8; 8];
     assert!(rt; source.read(&mut buf).is_err());
     assert!(rt; source.read(&mut buf).is_err());
-    let mut sink = SinkOf::new(unwritten(rt.alloc(), calls_of(1, 0, 0, false)));
+    let mut sink = SinkOf::new(Narrow::new(rt.alloc(), 1, 0, false));
     assert!(rt; sink.write(b"a").is_err());
     assert!(rt; sink.write(b"").is_err());
+}
+
+// A signal comes first three times, and then before every other call.
+#[derive(Drop)]
+struct Interrupted<T> {
+    stream: T,
+    signals: usize,
+    seen: usize,
+}
+
+impl<T> Interrupted<T> {
+    fn new(stream: T) -> Interrupted<T> {
+        Interrupted {
+            stream,
+            signals: 3,
+            seen: 0,
+        }
+    }
+
+    // Whether a signal comes before this call.
+    fn is_interrupted(&mut self) -> bool {
+        if self.signals == 0 {
+            self.signals = 1;
+            return false;
+        }
+        self.signals -= 1;
+        self.seen = self.seen.saturating_add(1);
+        true
+    }
+}
+
+impl<R: Read> Read for Interrupted<R> {
+    fn read(&mut self, buf: &mut [u8]) -> io::Result<usize> {
+        if self.is_interrupted() {
+            return Err(Error::from(ErrorKind::Interrupted));
+        }
+        self.stream.read(buf)
+    }
+}
+
+impl<W: Write> Write for Interrupted<W> {
+    fn write(&mut self, buf: &[u8]) -> io::Result<usize> {
+        if self.is_interrupted() {
+            return Err(Error::from(ErrorKind::Interrupted));
+        }
+        self.stream.write(buf)
+    }
+
+    fn flush(&mut self) -> io::Result<()> {
+        self.stream.flush()
+    }
+}
+
+// How a run over interrupted streams of these calls ends, and how many signals came before reads
+// and before writes.
+fn signals_of(
+    alloc: Global,
+    words: &[String],
+    calls: Calls,
+    narrow: &mut Narrow,
+) -> (Result<(), Fault>, usize, usize) {
+    let mut reader = Interrupted::new(trickle_of(calls));
+    let mut writer = Interrupted::new(narrow);
+    let result = run(
+        alloc,
+        words,
+        &mut SourceOf::new(&mut reader),
+        &mut SinkOf::new(&mut writer),
+    );
+    (result, reader.seen, writer.seen)
+}
+
+// Two more signals come than there are calls.
+#[test]
+fn interrupted_calls_are_made_again(rt: HostRuntime) -> Result<(), Fail> {
+    let words = words_of(rt.alloc(), &["types", "2020-12"])?;
+    for (block, reads, writes) in BLOCKS {
+        let calls = calls_of(block, reads, writes, true);
+        let mut narrow = narrow_of(rt.alloc(), calls);
+        let (result, before_reads, before_writes) = signals_of(
+            rt.alloc(),
+            &words,
+            calls,
+            &mut narrow,
+        );
+        assert_eq!(rt; result, Ok(()));
+        assert!(rt; narrow.taken.as_slice() == LINE);
+        assert_eq!(rt; before_reads, reads.saturating_add(2));
+        assert_eq!(rt; before_writes, writes.saturating_add(2));
+    }
+    Ok(())
 }

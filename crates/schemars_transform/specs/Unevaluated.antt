@@ -63,13 +63,13 @@ abbrev pub with_names : List Text → Members → Members
 with_names [] ms = ms
 with_names (k ∷ ks) ms = with_names ks (put_missing k (boolean true) ms)
 
-abbrev pub named_in : List Text → Data → Data
-named_in ks null = null
-named_in ks (boolean b) = boolean b
-named_in ks (number n) = number n
-named_in ks (string s) = string s
-named_in ks (array ds) = array ds
-named_in ks (object ms) = object (with_names ks ms)
+abbrev pub object_with_names : List Text → Data → Data
+object_with_names ks null = null
+object_with_names ks (boolean b) = boolean b
+object_with_names ks (number n) = number n
+object_with_names ks (string s) = string s
+object_with_names ks (array ds) = array ds
+object_with_names ks (object ms) = object (with_names ks ms)
 
 -- `properties` with these names; none are made where there is no name, and what is no object stays
 abbrev pub properties_made : Members → Data → Data
@@ -78,7 +78,7 @@ properties_made (member k d ms) s = inserted (codes "properties") (object (membe
 
 abbrev pub properties_named : List Text → Option Data → Data → Data
 properties_named ks None s = properties_made (with_names ks no_members) s
-properties_named ks (Some properties) s = inserted (codes "properties") (named_in ks properties) s
+properties_named ks (Some properties) s = inserted (codes "properties") (object_with_names ks properties) s
 
 -- the names in the subschemas go into `properties`
 abbrev pub with_properties : Data → Data

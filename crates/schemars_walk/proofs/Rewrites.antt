@@ -1,48 +1,21 @@
 -- A rewrite from the bottom up, call by call.
-use Rattle.std.proofs.Common.{◌≡◌, ℕ, zero, suc, ◌+◌, ◌<◌, ◌≤◌, max, List, [], ◌∷◌, ◌++◌, length, get_or, take}
-use Rattle.std.proofs.Common.{drop, set, String, Global, Some, None, string_bytes, string_cmp, sym, ap, ◌∙◌, subst, refl, add-one, arith}
-use Rattle.std.specs.List.Sorted.{IsStrictlySortedBy}
-use Rattle.std.specs.Map.{keys_of}
-use Rattle.std.specs.BTreeMap.{insert_entry}
+use Rattle.std.proofs.Common.{◌≡◌, ℕ, zero, suc, ◌+◌, ◌<◌, ◌≤◌, max, List, [], ◌∷◌, length, get_or, take}
+use Rattle.std.proofs.Common.{drop, set, Some, None, sym, ap, ◌∙◌, refl, add-one, arith}
 use Rattle.serde_json.specs.Data.{Data, null, boolean, number, string, array, object, Items}
-use Rattle.serde_json.specs.Data.{no_items, item, Members, no_members, member, depth, items_depth, members_depth}
+use Rattle.serde_json.specs.Data.{no_items, item, Members, no_members, member, depth, items_depth}
 use Rattle.serde_json.specs.Find.{as_array, as_object}
-use Rattle.serde_json.specs.View.{view, items_view, members_view}
+use Rattle.serde_json.specs.View.{view, items_view}
 use Rattle.serde_json.specs.declared.value.Value.{Value}
-use Rattle.serde_json.proofs.Views.{Entry}
 use Rattle.schemars_schema.specs.Json.{Text}
 use Rattle.schemars_schema.specs.SchemaData.{IsSchema}
 use Rattle.schemars_schema.specs.References.{SchemaList, SchemaOrList, SchemasByName}
 use Rattle.schemars_schema.proofs.Lists.{nothing_left}
 use Rattle.schemars_walk.specs.Rewritten.{Rules, form_at, forms, in_items, in_names}
 use Rattle.schemars_walk.specs.Rewritten.{in_keywords, read_at, as_schema_in, rewritten, with_subschemas}
-use Rattle.schemars_walk.proofs.Walks.{then_items, then_members, then_items-none, then_members-none}
-use Rattle.schemars_walk.proofs.Walks.{member_put_back, item_written, items_from, all_taken}
+use Rattle.schemars_walk.proofs.Walks.{then_items, then_items-none}
+use Rattle.schemars_walk.proofs.Walks.{item_written, items_from, all_taken}
 
 -- ---- depths
-
-pub depth_of_object : (d : Data) (ms : Members) → Some ms ≡ as_object d → depth d ≡ suc (members_depth ms)
-depth_of_object null ms e = cc
-depth_of_object (boolean b) ms e = cc
-depth_of_object (number n) ms e = cc
-depth_of_object (string s) ms e = cc
-depth_of_object (array ds) ms e = cc
-depth_of_object (object fs) ms e = let same : fs ≡ ms = cc in ap (λ m. suc (members_depth m)) same
-
-pub depth_of_array : (d : Data) (ds : Items) → Some ds ≡ as_array d → depth d ≡ suc (items_depth ds)
-depth_of_array null ds e = cc
-depth_of_array (boolean b) ds e = cc
-depth_of_array (number n) ds e = cc
-depth_of_array (string s) ds e = cc
-depth_of_array (array fs) ds e = let same : fs ≡ ds = cc in ap (λ m. suc (items_depth m)) same
-depth_of_array (object ms) ds e = cc
-
-pub depth_of_first : (it more : List Entry) (k : String Global) (v : Value) → it ≡ (k, v) ∷ more
-    → (depth (view v) ≤ members_depth (members_view it)) × (members_depth (members_view more) ≤ members_depth (members_view it))
-depth_of_first it more k v e =
-    let same : members_depth (members_view it) ≡ max (depth (view v)) (members_depth (members_view more)) = ap (λ i. members_depth
-    (members_view i)) e in
-    (omega arith, omega arith)
 
 pub depth_at : (xs : List Value) (i : ℕ) (d : Value) → i < length xs → depth (view (get_or xs i d)) ≤ items_depth (items_view (drop i xs))
 depth_at [] i d h = absurd (omega arith)
@@ -57,29 +30,6 @@ depth_past xs i v h =
     rw add-one (omega arith)
 
 -- ---- loops
-
--- one turn of a loop over members that go back one after another, for a function that works member by member
-module _ (f : Members → Members) (g : Text → Data → Data) (cons : (k : Text) (d : Data) (ms : Members)
-    → f (member k d ms) ≡ member k (g k d) (f ms)) where
-  pub member_done : (all : Members) (it done more now : List Entry) (k : String Global) (v x : Value)
-      → IsStrictlySortedBy string_cmp (keys_of (done ++ it)) → it ≡ (k, v) ∷ more
-      → now ≡ insert_entry string_cmp done k x → view x ≡ g (string_bytes k) (view v)
-      → then_members (members_view done) (f (members_view it)) ≡ all
-      → then_members (members_view now) (f (members_view more)) ≡ all
-  member_done all it done more now k v x sorted step put call before =
-      let order : IsStrictlySortedBy string_cmp (keys_of (done ++ (k, v) ∷ more)) = subst (λ i. IsStrictlySortedBy string_cmp (keys_of
-      (done ++ i))) step sorted in
-      member_put_back done now more k v x (f (members_view more)) order put
-      ∙ ap (then_members (members_view done)) (ap (λ d. member (string_bytes k) d (f (members_view more))) call ∙ sym (cons (string_bytes
-      k) (view v) (members_view more)) ∙ ap (λ i. f (members_view i)) (sym step))
-      ∙ before
-
-module _ (f : Members → Members) (nothing : f no_members ≡ no_members) where
-  pub members_done : (all : Members) (it done : List Entry) → it ≡ [] → then_members (members_view done) (f (members_view it)) ≡ all
-      → members_view done ≡ all
-  members_done all it done end before =
-      sym (then_members-none (members_view done)) ∙ ap (then_members (members_view done)) (sym nothing ∙ ap (λ i. f (members_view i))
-      (sym end)) ∙ before
 
 module _ (f : Items → Items) (g : Data → Data) (cons : (d : Data) (ds : Items) → f (item d ds) ≡ item (g d) (f ds)) where
   pub item_done : (all : Items) (xs : List Value) (i : ℕ) (d v : Value) → i < length xs → view v ≡ g (view (get_or xs i d))

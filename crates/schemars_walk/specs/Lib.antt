@@ -1,4 +1,5 @@
 -- The definitions that contracts cite.
 pub mod Walk
 pub mod Order
+pub mod Parts
 pub mod Rewritten

@@ -1,10 +1,13 @@
 //! Rewrites of all schemas inside a schema, from the bottom up.
-ghost use Rattle.std.specs.Prelude.{◌≡◌, OnOk};
+ghost use Rattle.std.specs.Prelude.{◌≡◌, ◌∷◌, List, length, map, zip, false, IsTrue, OnOk, IfOk};
+ghost use Rattle.std.specs.Map.{keys_of, values_of};
+ghost use Rattle.std.specs.Vec.Iter.{into_iter_items};
 ghost use Rattle.serde_json.specs.Data.{Data};
 ghost use Rattle.serde_json.specs.View.{view, items_view, members_view};
 ghost use Rattle.schemars_schema.specs.Json.{Text};
 ghost use Rattle.schemars_schema.specs.References.{Place};
 ghost use Rattle.schemars_walk.specs.Walk.{place_meant};
+ghost use Rattle.schemars_walk.specs.Parts.{all_unread, member_places, in_places};
 ghost use Rattle.schemars_walk.specs.Rewritten.{Rules, rewritten, with_subschemas, read_at};
 ghost use Rattle.schemars_walk.specs.Rewritten.{as_schema_in, in_items, in_names, in_keywords};
 
@@ -12,7 +15,6 @@ pub mod change;
 pub mod place;
 
 use crate::rewrite::place::Place;
-use crate::walk::put_member;
 use schemars_schema::{NotASchema, Schema};
 use serde_json::{Map, Value};
 use std::alloc::{AllocError, Global};
@@ -43,7 +45,15 @@ pub fn rewrite<R: Rule>(rule: R, alloc: Global, schema: &mut Schema) -> Result<(
 {
     let inner = rule.inside(schema.as_value());
     rewrite_subschemas(inner, alloc, schema)?;
-    inner.finish(alloc, schema)
+    finish(inner, alloc, schema)
+}
+
+// Out of line, since what it takes of the machine stack would be taken at each level.
+#[inline(never)]
+fn finish<R: Rule>(rule: R, alloc: Global, schema: &mut Schema) -> Result<(), AllocError>
+    ensures { OnOk result (schema.new ≡ R.rules.finish rule schema.old) }
+{
+    rule.finish(alloc, schema)
 }
 
 #[cycle(rewrite)]
@@ -60,6 +70,9 @@ fn rewrite_subschemas<R: Rule>(
     }
 }
 
+// The values are taken out, rewritten and put back, so that no walk over the map is under way while
+// what is below is rewritten: it would take of the machine stack at each level. Where memory runs
+// out, values are lost.
 #[cycle(rewrite)]
 fn rewrite_keywords<R: Rule>(
     rule: R,
@@ -69,12 +82,29 @@ fn rewrite_keywords<R: Rule>(
     ensures { OnOk result (members_view members.new.entries
         ≡ in_keywords R.rules rule (members_view members.old.entries)) }
 {
-    let old = mem::replace(members, Map::new(alloc));
-    for (key, member) in old {
-        let mut value = member;
-        let place = rule.place(key.as_str(), &value);
-        rewrite_place(rule, alloc, place, &mut value)?;
-        put_member(members, key, value)?;
+    if !holds_schemas(rule, members) {
+        return Ok(());
+    }
+    let places = places_in(rule, alloc, members)?;
+    let mut values = take_values(alloc, members)?;
+    rewrite_values(rule, alloc, &places, &mut values)?;
+    put_values(members, values);
+    Ok(())
+}
+
+#[cycle(rewrite)]
+fn rewrite_values<R: Rule>(
+    rule: R,
+    alloc: Global,
+    places: &[Place],
+    values: &mut [Value],
+) -> Result<(), AllocError>
+    requires { length places.now ≡ length values.old }
+    ensures { OnOk result (items_view values.new
+        ≡ in_places R.rules rule (map place_meant places.now) (items_view values.old)) }
+{
+    for index in 0..places.len() {
+        rewrite_place(rule, alloc, places[index], &mut values[index])?;
     }
     Ok(())
 }
@@ -127,12 +157,9 @@ fn rewrite_names<R: Rule>(
     ensures { OnOk result (members_view members.new.entries
         ≡ in_names R.rules rule (members_view members.old.entries)) }
 {
-    let old = mem::replace(members, Map::new(alloc));
-    for (key, member) in old {
-        let mut value = member;
-        rewrite_schema(rule, alloc, &mut value)?;
-        put_member(members, key, value)?;
-    }
+    let mut values = take_values(alloc, members)?;
+    rewrite_items(rule, alloc, &mut values)?;
+    put_values(members, values);
     Ok(())
 }
 
@@ -151,4 +178,68 @@ fn rewrite_schema<R: Rule>(rule: R, alloc: Global, value: &mut Value) -> Result<
             Ok(())
         }
     }
+}
+
+// Whether schemas stand in the value of any member.
+#[inline(never)]
+fn holds_schemas<R: Rule>(rule: R, members: &Map<String, Value>) -> bool
+    ensures { result ≡ false → all_unread (R.rules.place rule) (members_view members.now.entries) }
+{
+    for (key, value) in members.iter() {
+        if !matches!(rule.place(key.as_str(), value), Place::Nothing) {
+            return true;
+        }
+    }
+    false
+}
+
+// Where schemas stand in the value of each member.
+#[inline(never)]
+fn places_in<R: Rule>(
+    rule: R,
+    alloc: Global,
+    members: &Map<String, Value>,
+) -> Result<Vec<Place>, AllocError>
+    ensures { IfOk result (λ places. map place_meant places.items
+        ≡ member_places (R.rules.place rule) (members_view members.now.entries)) }
+{
+    let mut places = Vec::with_capacity(alloc, members.len())?;
+    for (key, value) in members.iter() {
+        places.push(rule.place(key.as_str(), value))?;
+    }
+    Ok(places)
+}
+
+// Takes the value of each member, in order, and leaves a null in its place.
+#[inline(never)]
+fn take_values(alloc: Global, members: &mut Map<String, Value>) -> Result<Vec<Value>, AllocError>
+    ensures keys { keys_of members.new.entries ≡ keys_of members.old.entries }
+    ensures values { IfOk result (λ values. values.items ≡ values_of members.old.entries) }
+{
+    let mut values = Vec::with_capacity(alloc, members.len())?;
+    for value in members.values_mut() {
+        values.push(mem::replace(value, Value::Null))?;
+    }
+    Ok(values)
+}
+
+// Puts a value over that of each member, in order.
+#[inline(never)]
+fn put_values(members: &mut Map<String, Value>, values: Vec<Value>)
+    ensures { length values.items ≡ length members.old.entries
+        → members.new.entries ≡ zip (keys_of members.old.entries) values.items }
+{
+    let mut rest = values.into_iter();
+    members.retain(
+        |_: &String, value: &mut Value| -> bool
+            ensures { IsTrue result × ((v : Value) (vs : List Value)
+                → into_iter_items rest.entry ≡ v ∷ vs
+                → (value.exit.now ≡ v) × (into_iter_items rest.exit ≡ vs)) }
+        {
+            if let Some(next) = rest.next() {
+                *value = next;
+            }
+            true
+        },
+    );
 }

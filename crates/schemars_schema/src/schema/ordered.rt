@@ -1,11 +1,14 @@
 //! The text of a schema, with its keywords in a fixed order.
-ghost use Rattle.std.specs.Prelude.{◌≡◌, false, string_bytes, IfOk};
+ghost use Rattle.std.specs.Prelude.{◌≡◌, Err, false, string_bytes, IfOk, OnOk, IsTrue};
 ghost use Rattle.json.specs.Lex.{tokens};
 ghost use Rattle.json.specs.Print.{print};
 ghost use Rattle.serde_json.specs.Written.{has_float};
 ghost use Rattle.schemars_schema.specs.OrderedText.{ordered_text};
+ghost use Rattle.schemars_schema.specs.Sent.{IsSent, IsSentInPart};
 
+use crate::error::OrderedError;
 use crate::schema::Schema;
+use crate::sink::Sink;
 use std::alloc::{AllocError, Global};
 
 impl Schema {
@@ -28,5 +31,23 @@ impl Schema {
         ensures compact { IfOk result (λ s. string_bytes s ≡ print (tokens (string_bytes s))) }
     {
         crate::text::ordered::to_ordered_string(alloc, self.as_value())
+    }
+
+    /// Writes the schema to the sink, as `to_ordered_string` gives it.
+    ///
+    /// # Errors
+    ///
+    /// `OutOfMemory` if there is no memory for the texts of numbers that are no whole numbers of 64
+    /// bits: nothing was written then. `Write` if the sink has failed: it has a beginning of the
+    /// text.
+    pub fn write_ordered<K: Sink>(&self, alloc: Global, sink: &mut K) -> Result<(), OrderedError>
+        ensures written { OnOk result (IsSent (has_float self.now) (ordered_text self.now)
+            (K.bytes sink.old) (K.bytes sink.new) (K.has_failed sink.new)) }
+        ensures beginning { result ≡ Err OrderedError.Write → IsSentInPart (has_float self.now)
+            (ordered_text self.now) (K.bytes sink.old) (K.bytes sink.new) }
+        ensures failed { result ≡ Err OrderedError.Write → IsTrue (K.has_failed sink.new) }
+        ensures memory { result ≡ Err OrderedError.OutOfMemory → sink.new ≡ sink.old }
+    {
+        crate::text::writing::write_ordered(alloc, self.as_value(), sink)
     }
 }

@@ -1,10 +1,15 @@
 //! The text of a schema, with its keywords in a fixed order.
-ghost use Rattle.std.specs.Prelude.{◌≡◌, ◌∷◌, ◌++◌, ◌||◌, false, map, string_bytes, IfOk, OnOk};
+ghost use Rattle.std.specs.Prelude.{◌≡◌, ◌∷◌, ◌++◌, false, map, string_bytes, IfOk};
+ghost use Rattle.std.specs.Prelude.{length, option_map};
 ghost use Rattle.json.specs.Lex.{tokens};
 ghost use Rattle.json.specs.Print.{print, quoted};
-ghost use Rattle.serde_json.specs.View.{view, items_view, members_view};
+ghost use Rattle.json.specs.Token.{boolean, number, string};
+ghost use Rattle.serde_json.specs.Data.{Members};
+ghost use Rattle.serde_json.specs.Find.{get_member, is_float};
+ghost use Rattle.serde_json.specs.View.{view, number_view, items_view, members_view};
 ghost use Rattle.serde_json.specs.Written.{has_float, items_have_float, members_have_float};
-ghost use Rattle.schemars_schema.specs.OrderedText.{first_keywords, last_keywords, is_listed};
+ghost use Rattle.serde_json.specs.Written.{number_text};
+ghost use Rattle.schemars_schema.specs.OrderedText.{first_keywords, last_keywords};
 ghost use Rattle.schemars_schema.specs.OrderedText.{holds_plain_json};
 ghost use Rattle.schemars_schema.specs.OrderedText.{holds_named_schemas, SchemaLayout};
 ghost use Rattle.schemars_schema.specs.OrderedText.{layout_under, layout_inside};
@@ -12,12 +17,14 @@ ghost use Rattle.schemars_schema.specs.OrderedText.{each_written_at, others, arr
 ghost use Rattle.schemars_schema.specs.OrderedText.{ordered_text, text_in};
 ghost use Rattle.schemars_schema.specs.OrderedText.{item_texts, member_texts, definitions_text};
 ghost use Rattle.schemars_schema.specs.OrderedText.{object_text};
-ghost use Rattle.schemars_schema.specs.Output.{with_value, with_values, layout_meant};
+ghost use Rattle.schemars_schema.specs.Output.{with_token, with_value, with_values, layout_meant};
+ghost use Rattle.schemars_schema.specs.Target.{Becomes};
 
-use crate::edits::is_listed;
-use crate::text::output::Output;
+use crate::text::memory::InMemory;
+use crate::text::places::{FIRST_KEYWORDS, LAST_KEYWORDS, find_fixed, has_fixed_place};
+use crate::text::target::Target;
 use json::Token;
-use serde_json::{Map, Value};
+use serde_json::{Map, Number, Value};
 use std::alloc::{AllocError, Global};
 
 /// A schema as compact JSON, with the members of each schema object in a fixed order: `$id`,
@@ -34,9 +41,9 @@ pub fn to_ordered_string(alloc: Global, schema: &Value) -> Result<String, AllocE
         → string_bytes s ≡ ordered_text (view schema.now)) }
     ensures compact { IfOk result (λ s. string_bytes s ≡ print (tokens (string_bytes s))) }
 {
-    let mut out = Output::new(alloc);
-    write_value(schema, Layout::Schema, &mut out)?;
-    Ok(out.into_string())
+    let mut text = InMemory::new(alloc);
+    write_value(schema, Layout::Schema, &mut (), &mut text);
+    text.into_string()
 }
 
 /// Definitions as compact JSON: one object in map order, with each definition written as by
@@ -50,9 +57,9 @@ pub fn definitions_to_ordered_string(
         → string_bytes s ≡ definitions_text (members_view definitions.now.entries)) }
     ensures compact { IfOk result (λ s. string_bytes s ≡ print (tokens (string_bytes s))) }
 {
-    let mut out = Output::new(alloc);
-    write_object(definitions, Layout::NamedSchemas, &mut out)?;
-    Ok(out.into_string())
+    let mut text = InMemory::new(alloc);
+    write_object(definitions, Layout::NamedSchemas, &mut (), &mut text);
+    text.into_string()
 }
 
 // How a value is written.
@@ -97,18 +104,6 @@ impl Layout {
     }
 }
 
-pub(crate) const FIRST_KEYWORDS: [&str; 7] = [
-    "$id",
-    "$schema",
-    "title",
-    "description",
-    "type",
-    "format",
-    "properties",
-];
-
-pub(crate) const LAST_KEYWORDS: [&str; 2] = ["$defs", "definitions"];
-
 fn holds_plain_json(key: &str) -> bool
     ensures { result ≡ holds_plain_json key.now }
 {
@@ -125,149 +120,196 @@ fn holds_named_schemas(key: &str) -> bool
         || key == "definitions"
 }
 
-pub(crate) fn has_fixed_place(key: &str) -> bool
-    ensures { result ≡ is_listed key.now first_keywords || is_listed key.now last_keywords }
-{
-    is_listed(key, &FIRST_KEYWORDS) || is_listed(key, &LAST_KEYWORDS)
-}
-
 #[cycle(write)]
 #[tactic(auto, unfolding(crate::specs::OrderedText::text_in))]
-fn write_value(value: &Value, layout: Layout, out: &mut Output) -> Result<(), AllocError>
-    ensures { OnOk result (has_float (view value.now) ≡ false
-        → out.new ≡ with_value out.old (text_in (layout_meant layout) (view value.now))) }
+pub(crate) fn write_value<S, T: Target<S>>(value: &Value, layout: Layout, lent: &mut S, out: &mut T)
+    ensures { Becomes (T.has out.old lent.old) (T.has out.new lent.new)
+        (has_float (view value.now))
+        (λ o. with_value o (text_in (layout_meant layout) (view value.now))) }
 {
     match value {
-        Value::Null => out.token(Token::Null)?,
-        Value::Bool(b) => out.token(Token::Bool(*b))?,
-        Value::Number(n) => out.number(*n)?,
-        Value::String(text) => out.token(Token::String(text.as_str()))?,
+        Value::Null => out.token(lent, Token::Null),
+        Value::Bool(b) => write_bool(*b, lent, out),
+        Value::Number(n) => write_number(*n, lent, out),
+        Value::String(text) => write_text(text.as_str(), lent, out),
         Value::Array(items) => {
-            out.token(Token::BeginArray)?;
-            write_items(items, layout.inside(), out)?;
-            out.token(Token::EndArray)?;
+            out.token(lent, Token::BeginArray);
+            write_items(items, layout.inside(), lent, out);
+            out.token(lent, Token::EndArray);
         }
-        Value::Object(members) => write_object(members, layout, out)?,
+        Value::Object(members) => write_object(members, layout, lent, out),
     }
-    Ok(())
+}
+
+// Three functions that keep their stack frames apart, so that values in one another need less.
+#[inline(never)]
+fn write_bool<S, T: Target<S>>(b: bool, lent: &mut S, out: &mut T)
+    ensures { Becomes (T.has out.old lent.old) (T.has out.new lent.new) false
+        (λ o. with_token o (boolean b)) }
+{
+    out.token(lent, Token::Bool(b));
+}
+
+#[inline(never)]
+fn write_number<S, T: Target<S>>(n: Number, lent: &mut S, out: &mut T)
+    ensures { Becomes (T.has out.old lent.old) (T.has out.new lent.new)
+        (is_float (number_view n))
+        (λ o. with_token o (number (number_text (number_view n)))) }
+{
+    out.number(lent, n);
+}
+
+#[inline(never)]
+fn write_text<S, T: Target<S>>(text: &str, lent: &mut S, out: &mut T)
+    ensures { Becomes (T.has out.old lent.old) (T.has out.new lent.new) false
+        (λ o. with_token o (string text.now)) }
+{
+    out.token(lent, Token::String(text));
 }
 
 #[cycle(write)]
-fn write_object(
+pub(crate) fn write_object<S, T: Target<S>>(
     members: &Map<String, Value>,
     layout: Layout,
-    out: &mut Output,
-) -> Result<(), AllocError>
-    ensures { OnOk result (members_have_float (members_view members.now.entries) ≡ false
-        → out.new
-        ≡ with_value out.old (object_text (layout_meant layout)
+    lent: &mut S,
+    out: &mut T,
+)
+    ensures { Becomes (T.has out.old lent.old) (T.has out.new lent.new)
+        (members_have_float (members_view members.now.entries))
+        (λ o. with_value o (object_text (layout_meant layout)
         (members_view members.now.entries))) }
 {
-    out.token(Token::BeginObject)?;
-    write_members(members, layout, out)?;
-    out.token(Token::EndObject)?;
-    Ok(())
+    out.token(lent, Token::BeginObject);
+    write_members(members, layout, lent, out);
+    out.token(lent, Token::EndObject);
 }
 
 #[cycle(write)]
 #[tactic(auto, unfolding(crate::specs::OrderedText::item_texts))]
-fn write_items(items: &Vec<Value>, layout: Layout, out: &mut Output) -> Result<(), AllocError>
-    ensures { OnOk result (items_have_float (items_view items.now.items) ≡ false
-        → out.new ≡ with_values out.old
-        (item_texts (layout_meant layout) (items_view items.now.items))) }
+fn write_items<S, T: Target<S>>(items: &Vec<Value>, layout: Layout, lent: &mut S, out: &mut T)
+    ensures { Becomes (T.has out.old lent.old) (T.has out.new lent.new)
+        (items_have_float (items_view items.now.items))
+        (λ o. with_values o (item_texts (layout_meant layout) (items_view items.now.items))) }
 {
     for item in items {
-        write_value(item, layout, out)?;
+        write_value(item, layout, lent, out);
     }
-    Ok(())
 }
 
 #[cycle(write)]
-fn write_members(
+fn write_members<S, T: Target<S>>(
     members: &Map<String, Value>,
     layout: Layout,
-    out: &mut Output,
-) -> Result<(), AllocError>
-    ensures { OnOk result (members_have_float (members_view members.now.entries) ≡ false
-        → out.new ≡ with_values out.old (texts (arranged (layout_meant layout)
+    lent: &mut S,
+    out: &mut T,
+)
+    ensures { Becomes (T.has out.old lent.old) (T.has out.new lent.new)
+        (members_have_float (members_view members.now.entries))
+        (λ o. with_values o (texts (arranged (layout_meant layout)
         (member_texts (layout_meant layout) (members_view members.now.entries))))) }
 {
     match layout {
         Layout::Schema => {
-            write_keywords(members, &FIRST_KEYWORDS, out)?;
-            write_others(members, out)?;
-            write_keywords(members, &LAST_KEYWORDS, out)?;
+            let last = write_first(members, lent, out);
+            write_others(members, lent, out);
+            write_keywords(&LAST_KEYWORDS, &last, lent, out);
         }
-        Layout::PlainJson | Layout::NamedSchemas => write_in_map_order(members, layout, out)?,
+        Layout::PlainJson | Layout::NamedSchemas => write_in_map_order(members, layout, lent, out),
     }
-    Ok(())
 }
 
 #[cycle(write)]
+#[inline(never)]
 #[tactic(auto, unfolding(crate::specs::OrderedText::member_texts))]
-fn write_in_map_order(
+fn write_in_map_order<S, T: Target<S>>(
     members: &Map<String, Value>,
     layout: Layout,
-    out: &mut Output,
-) -> Result<(), AllocError>
-    ensures { OnOk result (members_have_float (members_view members.now.entries) ≡ false
-        → out.new ≡ with_values out.old
-        (texts (member_texts (layout_meant layout) (members_view members.now.entries)))) }
+    lent: &mut S,
+    out: &mut T,
+)
+    ensures { Becomes (T.has out.old lent.old) (T.has out.new lent.new)
+        (members_have_float (members_view members.now.entries))
+        (λ o. with_values o (texts (member_texts (layout_meant layout)
+        (members_view members.now.entries)))) }
 {
     for (key, value) in members.iter() {
-        write_member(key.as_str(), value, layout, out)?;
+        write_member(key.as_str(), value, layout, lent, out);
     }
-    Ok(())
 }
 
-// Writes those members of a schema that have one of these keys, in the order of the keys.
+// Writes what stands under `FIRST_KEYWORDS`, and answers what stands under `LAST_KEYWORDS`.
 #[cycle(write)]
-fn write_keywords(
-    members: &Map<String, Value>,
-    keywords: &[&str],
-    out: &mut Output,
-) -> Result<(), AllocError>
-    ensures { OnOk result (members_have_float (members_view members.now.entries) ≡ false
-        → out.new ≡ with_values out.old (texts (each_written_at (map (λ k. k.now) keywords.now)
+#[inline(never)]
+fn write_first<'v, S, T: Target<S>>(
+    members: &'v Map<String, Value>,
+    lent: &mut S,
+    out: &mut T,
+) -> [Option<&'v Value>; 2]
+    ensures written { Becomes (T.has out.old lent.old) (T.has out.new lent.new)
+        (members_have_float (members_view members.now.entries))
+        (λ o. with_values o (texts (each_written_at first_keywords
         (member_texts SchemaLayout (members_view members.now.entries))))) }
+    ensures last { map (λ s. option_map (λ v. view v.now) s) result
+        ≡ map (λ k. get_member k (members_view members.now.entries)) last_keywords }
 {
-    for keyword in keywords {
-        if let Some(value) = members.get(*keyword) {
-            write_member(keyword, value, Layout::Schema, out)?;
+    let mut found = [None; 9];
+    find_fixed(members, &mut found);
+    write_keywords(&FIRST_KEYWORDS, &found[..7], lent, out);
+    [found[7], found[8]]
+}
+
+// Writes what was found under these keys, in the order of the keys.
+#[cycle(write)]
+fn write_keywords<S, T: Target<S>>(
+    keywords: &[&str],
+    found: &[Option<&Value>],
+    lent: &mut S,
+    out: &mut T,
+)
+    requires { length found.now ≡ length keywords.now }
+    ensures { (ms : Members) → map (λ s. option_map (λ v. view v.now) s) found.now
+        ≡ map (λ k. get_member k.now ms) keywords.now
+        → Becomes (T.has out.old lent.old) (T.has out.new lent.new) (members_have_float ms)
+        (λ o. with_values o (texts (each_written_at (map (λ k. k.now) keywords.now)
+        (member_texts SchemaLayout ms)))) }
+{
+    for (place, keyword) in keywords.iter().enumerate() {
+        if let Some(value) = found[place] {
+            write_member(keyword, value, Layout::Schema, lent, out);
         }
     }
-    Ok(())
 }
 
 // Writes those members of a schema that have no place of their own, in map order.
 #[cycle(write)]
+#[inline(never)]
 #[tactic(auto, unfolding(crate::specs::OrderedText::member_texts))]
-fn write_others(members: &Map<String, Value>, out: &mut Output) -> Result<(), AllocError>
-    ensures { OnOk result (members_have_float (members_view members.now.entries) ≡ false
-        → out.new ≡ with_values out.old
-        (texts (others (member_texts SchemaLayout (members_view members.now.entries))))) }
+fn write_others<S, T: Target<S>>(members: &Map<String, Value>, lent: &mut S, out: &mut T)
+    ensures { Becomes (T.has out.old lent.old) (T.has out.new lent.new)
+        (members_have_float (members_view members.now.entries))
+        (λ o. with_values o (texts (others (member_texts SchemaLayout
+        (members_view members.now.entries))))) }
 {
     for (key, value) in members.iter() {
         if !has_fixed_place(key.as_str()) {
-            write_member(key.as_str(), value, Layout::Schema, out)?;
+            write_member(key.as_str(), value, Layout::Schema, lent, out);
         }
     }
-    Ok(())
 }
 
 #[cycle(write)]
-fn write_member(
+fn write_member<S, T: Target<S>>(
     key: &str,
     value: &Value,
     layout: Layout,
-    out: &mut Output,
-) -> Result<(), AllocError>
-    ensures { OnOk result (has_float (view value.now) ≡ false
-        → out.new ≡ with_value out.old
-        (quoted key.now ++ 58 ∷ text_in (layout_under (layout_meant layout) key.now)
-        (view value.now))) }
+    lent: &mut S,
+    out: &mut T,
+)
+    ensures { Becomes (T.has out.old lent.old) (T.has out.new lent.new)
+        (has_float (view value.now))
+        (λ o. with_value o (quoted key.now
+        ++ 58 ∷ text_in (layout_under (layout_meant layout) key.now) (view value.now))) }
 {
-    out.token(Token::Key(key))?;
-    write_value(value, layout.under(key), out)?;
-    Ok(())
+    out.token(lent, Token::Key(key));
+    write_value(value, layout.under(key), lent, out);
 }

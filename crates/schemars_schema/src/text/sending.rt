@@ -1,5 +1,6 @@
 //! Schemas sent to a serializer, with their keywords in a fixed order.
-use crate::text::ordered::{FIRST_KEYWORDS, LAST_KEYWORDS, Layout, has_fixed_place};
+use crate::text::ordered::Layout;
+use crate::text::places::{FIRST_KEYWORDS, LAST_KEYWORDS, has_fixed_place};
 use serde::{Serialize, Serializer};
 use serde_json::{Map, Value};
 

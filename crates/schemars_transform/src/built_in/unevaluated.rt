@@ -7,7 +7,8 @@ ghost use Rattle.schemars_schema.specs.References.{with_same_object, with_same_o
 ghost use Rattle.schemars_transform.specs.Unevaluated.{keys, keys_in};
 ghost use Rattle.schemars_transform.specs.Unevaluated.{names_in, names_in_items, names_in_keywords};
 ghost use Rattle.schemars_transform.specs.Unevaluated.{names_under, property_names};
-ghost use Rattle.schemars_transform.specs.Unevaluated.{with_names, named_in, properties_made};
+ghost use Rattle.schemars_transform.specs.Unevaluated.{with_names, object_with_names};
+ghost use Rattle.schemars_transform.specs.Unevaluated.{properties_made};
 ghost use Rattle.schemars_transform.specs.Unevaluated.{with_properties};
 
 use crate::built_in::keywords::put;
@@ -69,7 +70,8 @@ fn add_properties(alloc: Global, schema: &mut Schema) -> Result<(), AllocError>
 
 // An object with the names of a schema.
 fn with_named(alloc: Global, schema: &Schema, properties: Value) -> Result<Value, AllocError>
-    ensures { IfOk result (λ v. view v ≡ named_in (property_names schema.now) (view properties)) }
+    ensures { IfOk result (λ v. view v
+        ≡ object_with_names (property_names schema.now) (view properties)) }
 {
     match properties {
         Value::Object(members) => {

@@ -40,24 +40,36 @@ pub fn place_under(key: &str) -> Place
 fn holds_schema(key: &str) -> bool
     ensures { result ≡ is_listed key.now with_schema }
 {
-    key == "not"
-        || key == "if"
-        || key == "then"
-        || key == "else"
-        || key == "contains"
-        || key == "additionalProperties"
-        || key == "propertyNames"
-        || key == "additionalItems"
+    match key.len() {
+        2 => key == "if",
+        3 => key == "not",
+        4 => key == "then" || key == "else",
+        8 => key == "contains",
+        13 => key == "propertyNames",
+        15 => key == "additionalItems",
+        20 => key == "additionalProperties",
+        _ => false,
+    }
 }
 
 fn holds_list(key: &str) -> bool
     ensures { result ≡ is_listed key.now with_list }
 {
-    key == "allOf" || key == "anyOf" || key == "oneOf" || key == "prefixItems"
+    match key.len() {
+        5 => key == "allOf" || key == "anyOf" || key == "oneOf",
+        11 => key == "prefixItems",
+        _ => false,
+    }
 }
 
 fn holds_names(key: &str) -> bool
     ensures { result ≡ is_listed key.now keywords_with_names }
 {
-    key == "properties" || key == "patternProperties" || key == "$defs" || key == "definitions"
+    match key.len() {
+        5 => key == "$defs",
+        10 => key == "properties",
+        11 => key == "definitions",
+        17 => key == "patternProperties",
+        _ => false,
+    }
 }

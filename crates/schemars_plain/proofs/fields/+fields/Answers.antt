@@ -2,7 +2,7 @@ use Rattle.std.proofs.Common.{◌≡◌, ◌∙◌, ◌++◌, ◌-◌, suc, sym,
 use Rattle.std.proofs.lemmas.Result.{on_ok_weaker}
 use Rattle.schemars_shapes.specs.Shape.{fields_of, field_of}
 use Rattle.schemars_types.specs.Effective.{fields_within}
-use Rattle.schemars_plain.specs.Decided.{said}
+use Rattle.schemars_plain.specs.Decided.{as_said}
 use Rattle.schemars_plain.proofs.Said.{within_none, some_struct, no_struct, adds_none, part_step}
 use Rattle.schemars_plain.proofs.fields.+fields.Goals as goal
 
@@ -23,7 +23,7 @@ add_row-returns-in-Some t c =
     let one : suc (c.args.steps - 1) ≡ c.args.steps = omega arith in
     let same = some_struct rows c.args.steps (c.args.steps - 1) c.args.n (fields_of c.in-Some.fields.now) one c.in-Some.ensures in
     on_ok_weaker c.add_fields.result
-    (λ added. added ∙ ap (λ fs. map (λ f. said (field_of f.now)) c.args.found.now.items ++ map said fs) (sym same))
+    (λ added. added ∙ ap (λ fs. map (λ f. as_said (field_of f.now)) c.args.found.now.items ++ map as_said fs) (sym same))
     c.add_fields.ensures
 
 pub add_row-returns-in-None : goal.add_row-returns-in-None

@@ -2,7 +2,7 @@
 use Rattle.std.proofs.Common.{◌≡◌, ◌+◌, ◌*◌, ◌++◌, map, drop}
 use Rattle.schemars_shapes.specs.Shape.{field_of, fields_of, flattened_of}
 use Rattle.schemars_types.specs.Effective.{fields_within, effective, flattened_fields, part_fields}
-use Rattle.schemars_plain.specs.Decided.{said}
+use Rattle.schemars_plain.specs.Decided.{as_said}
 use Rattle.schemars_plain.proofs.fields.+fields.Given as goal
 
 abbrev pub decreases-add_fields : goal.decreases-add_fields
@@ -13,7 +13,8 @@ decreases-add_row l = 2 * l.steps
 
 abbrev pub invariant-add_fields-loop-part : goal.invariant-add_fields-loop-part
 invariant-add_fields-loop-part l =
-    map (λ f. said (field_of f.now)) l.found.items
-    ++ map said (flattened_fields (part_fields l.types (fields_within l.types l.steps)) (map flattened_of (drop l.part-index l.part-items)))
-    ≡ map (λ f. said (field_of f.now)) l.fn.found.items
-    ++ map said (effective (part_fields l.types (fields_within l.types l.steps)) (fields_of l.fields))
+    map (λ f. as_said (field_of f.now)) l.found.items
+    ++ map as_said (flattened_fields (part_fields l.types (fields_within l.types l.steps))
+    (map flattened_of (drop l.part-index l.part-items)))
+    ≡ map (λ f. as_said (field_of f.now)) l.fn.found.items
+    ++ map as_said (effective (part_fields l.types (fields_within l.types l.steps)) (fields_of l.fields))

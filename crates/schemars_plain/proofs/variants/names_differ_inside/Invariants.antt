@@ -1,10 +1,10 @@
 -- The names so far, and those of the variants that are left.
 use Rattle.std.proofs.Common.{◌≡◌, ◌++◌, map, drop}
 use Rattle.schemars_shapes.specs.Shape.{internal_variant_of}
-use Rattle.schemars_plain.specs.Decided.{variant_names}
+use Rattle.schemars_plain.specs.Decided.{names_of_variants}
 use Rattle.schemars_plain.proofs.variants.names_differ_inside.Given as goal
 
 abbrev pub invariant-loop-variant : goal.invariant-loop-variant
 invariant-loop-variant l =
-    map (λ n. n.now) l.names.items ++ variant_names (map internal_variant_of (drop l.variant-index l.variants))
-    ≡ variant_names (map internal_variant_of l.variants)
+    map (λ n. n.now) l.names.items ++ names_of_variants (map internal_variant_of (drop l.variant-index l.variants))
+    ≡ names_of_variants (map internal_variant_of l.variants)

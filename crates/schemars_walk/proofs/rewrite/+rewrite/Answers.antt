@@ -1,16 +1,22 @@
 -- What each call of the rewrite adds.
-use Rattle.std.proofs.Common.{◌≡◌, ◌<◌, length, sym, ap, ◌∙◌, subst, arith}
-use Rattle.std.proofs.lemmas.List.{with_items_is}
+use Rattle.std.proofs.Common.{◌≡◌, ◌<◌, ◌≤◌, length, map, refl, sym, ap, ◌∙◌, subst, arith}
+use Rattle.std.specs.Map.{keys_of, values_of}
+use Rattle.std.proofs.lemmas.Map.Entries.{length-keys_of, length-values_of}
+use Rattle.std.proofs.lemmas.List.{with_items_is, length-set}
 use Rattle.std.proofs.lemmas.Result.{on_ok_weaker}
-use Rattle.serde_json.specs.Data.{array, object}
+use Rattle.serde_json.specs.Data.{array, object, items_depth}
 use Rattle.serde_json.specs.View.{view, items_view, members_view}
 use Rattle.serde_json.proofs.Views.{view-Array, view-Object}
 use Rattle.schemars_schema.specs.SchemaData.{IsSchema}
-use Rattle.schemars_walk.specs.Rewritten.{form_at, forms, in_items, in_names, in_keywords, rewritten, with_subschemas}
-use Rattle.schemars_walk.proofs.Walks.{turn_sorted_at}
-use Rattle.schemars_walk.proofs.Rewrites.{depth_of_first, depth_past, member_done, members_done, item_done, items_done, keywords_more, keywords_none, names_more, names_none}
+use Rattle.schemars_walk.specs.Walk.{place_meant}
+use Rattle.schemars_walk.specs.Parts.{member_places, in_places}
+use Rattle.schemars_walk.specs.declared.rewrite.place.Place.TheVariants.{Nothing}
+use Rattle.schemars_walk.specs.Rewritten.{forms, in_items, rewritten, with_subschemas}
+use Rattle.schemars_walk.proofs.Rewrites.{depth_past, depth_at, item_done, items_done}
 use Rattle.schemars_walk.proofs.Rewrites.{items_more, items_none, a_list, no_list, either_list}
 use Rattle.schemars_walk.proofs.Rewrites.{either_schema, some_names, no_names, no_schema, rewritten_by, subschemas_of_object}
+use Rattle.schemars_walk.proofs.Parts.{as_many, depth_of_values, same_members, keywords_unread, keywords_together, names_together}
+use Rattle.schemars_walk.proofs.Parts.{value_done, values_done}
 use Rattle.schemars_walk.proofs.rewrite.+rewrite.Goals as goal
 
 pub rewrite-returns : goal.rewrite-returns
@@ -44,45 +50,6 @@ rewrite_items-returns g t c =
     let ρ = g.R.Rule.rules in let r = c.args.rule in
     items_done (in_items ρ r) (items_none ρ r) (in_items ρ r (items_view c.args.items.now)) c.loop-item.items c.loop-item.item-index
     (omega (arith, c.loop-item.auto.items, c.loop-item-test.false)) c.loop-item.invariant.rest
-
-pub rewrite_keywords-loop-key-preserved : goal.rewrite_keywords-loop-key-preserved
-rewrite_keywords-loop-key-preserved g t c =
-    let ρ = g.R.Rule.rules in let r = c.args.rule in let l = c.loop-key in
-    let falls = depth_of_first l.key-iterator c.next.new.self c.in-Some.key c.in-Some.member c.in-Some.ensures.steps in record {
-      sorted = turn_sorted_at l.key-iterator l.members.entries c.next.new.self c.put_member.new.members.entries c.in-Some.key
-          c.in-Some.member c.rewrite_place.new.value l.invariant.sorted c.in-Some.ensures.steps c.in_ok-put_member.ensures;
-      deep = omega (arith, falls.1, l.invariant.deep);
-      rest = member_done (in_keywords ρ r) (λ k d. form_at (ρ.place r k d) d (forms ρ r d)) (keywords_more ρ r) (in_keywords ρ r
-          (members_view c.args.members.now.entries)) l.key-iterator l.members.entries c.next.new.self c.put_member.new.members.entries
-          c.in-Some.key c.in-Some.member c.rewrite_place.new.value
-          l.invariant.sorted c.in-Some.ensures.steps c.in_ok-put_member.ensures (rw (← c.as_str.ensures.value, ← c.place-place.ensures)
-          c.in_ok-rewrite_place.ensures) l.invariant.rest;
-    }
-
-pub rewrite_keywords-returns : goal.rewrite_keywords-returns
-rewrite_keywords-returns g t c =
-    let ρ = g.R.Rule.rules in let r = c.args.rule in
-    members_done (in_keywords ρ r) (keywords_none ρ r) (in_keywords ρ r (members_view c.args.members.now.entries))
-    c.loop-key.key-iterator c.loop-key.members.entries c.in-None.ensures.steps.0 c.loop-key.invariant.rest
-
-pub rewrite_names-loop-key-preserved : goal.rewrite_names-loop-key-preserved
-rewrite_names-loop-key-preserved g t c =
-    let ρ = g.R.Rule.rules in let r = c.args.rule in let l = c.loop-key in
-    let falls = depth_of_first l.key-iterator c.next.new.self c.in-Some.key c.in-Some.member c.in-Some.ensures.steps in record {
-      sorted = turn_sorted_at l.key-iterator l.members.entries c.next.new.self c.put_member.new.members.entries c.in-Some.key
-          c.in-Some.member c.rewrite_schema.new.value l.invariant.sorted c.in-Some.ensures.steps c.in_ok-put_member.ensures;
-      deep = omega (arith, falls.1, l.invariant.deep);
-      rest = member_done (in_names ρ r) (λ k d. (forms ρ r d).as_schema) (names_more ρ r) (in_names ρ r (members_view
-          c.args.members.now.entries)) l.key-iterator l.members.entries c.next.new.self c.put_member.new.members.entries c.in-Some.key
-          c.in-Some.member c.rewrite_schema.new.value
-          l.invariant.sorted c.in-Some.ensures.steps c.in_ok-put_member.ensures c.in_ok-rewrite_schema.ensures l.invariant.rest;
-    }
-
-pub rewrite_names-returns : goal.rewrite_names-returns
-rewrite_names-returns g t c =
-    let ρ = g.R.Rule.rules in let r = c.args.rule in
-    members_done (in_names ρ r) (names_none ρ r) (in_names ρ r (members_view c.args.members.now.entries)) c.loop-key.key-iterator
-    c.loop-key.members.entries c.in-None.ensures.steps.0 c.loop-key.invariant.rest
 
 pub rewrite_place-returns-in-Some : goal.rewrite_place-returns-in-Some
 rewrite_place-returns-in-Some g t c =
@@ -137,3 +104,96 @@ rewrite_schema-returns-in-Err g t c =
     let h = c.in-Err.ensures in
     ap view (h.0 ∙ c.replace.ensures.value) ∙ no_schema g.R.Rule.rules c.args.rule (view c.args.value.now) (subst (λ v. ¬ IsSchema (view
     v)) c.replace.ensures.value h.1)
+
+pub rewrite_keywords-returns-then-not-holds_schemas : goal.rewrite_keywords-returns-then-not-holds_schemas
+rewrite_keywords-returns-then-not-holds_schemas g t c = keywords_unread g.R.Rule.rules c.args.rule (members_view c.args.members.now.entries)
+    (c.holds_schemas.ensures c.if-not-holds_schemas.true)
+
+pub rewrite_keywords-rewrite_values-requires : goal.rewrite_keywords-rewrite_values-requires
+rewrite_keywords-rewrite_values-requires g t c =
+    let es = c.args.members.now.entries in
+    let taken : c.deref_mut.result.now ≡ values_of es = c.deref_mut.ensures.value ∙ c.in_ok-values.ensures.values in
+    let deep = ap (λ vs. items_depth (items_view vs)) taken ∙ depth_of_values es in
+    let many = ap length c.deref.ensures.value ∙ as_many (g.R.Rule.rules.place c.args.rule) c.in_ok-places.places.items es
+    c.in_ok-places.ensures ∙ ap length (sym taken) in
+    λ κs s. (omega (arith, deep, c.decreases), (s, many))
+
+pub rewrite_keywords-returns : goal.rewrite_keywords-returns
+rewrite_keywords-returns g t c =
+    let ρ = g.R.Rule.rules in let r = c.args.rule in let es = c.args.members.now.entries in
+    let new = c.rewrite_values.new.values in
+    let keys = c.take_values.ensures.keys in
+    let taken : c.deref_mut.result.now ≡ values_of es = c.deref_mut.ensures.value ∙ c.in_ok-values.ensures.values in
+    let places : map place_meant c.deref.result.now ≡ member_places (ρ.place r) (members_view es) = ap (map place_meant) c.deref.ensures.value ∙
+    c.in_ok-places.ensures in
+    let call = c.in_ok-rewrite_values.ensures ∙ ap (λ vs. in_places ρ r (map place_meant c.deref.result.now) (items_view vs)) taken ∙ ap (λ
+    ps. in_places ρ r ps (items_view (values_of es))) places in
+    let written = with_items_is c.in_ok-values.values new (omega (
+      arith,
+      c.rewrite_values.auto.values,
+      ap length c.deref_mut.ensures.value,
+      c.in_ok-values.values.ok.0,
+    )) in
+    let full = ap length written ∙ c.rewrite_values.auto.values ∙ ap length taken ∙ length-values_of es ∙ sym (length-keys_of es)
+    ∙ ap length (sym keys) ∙ length-keys_of _ in
+    ap members_view (c.put_values.ensures full) ∙ same_members (keys_of es) (keys_of c.take_values.new.members.entries) _ new keys written ∙
+    keywords_together ρ r es new call
+
+pub rewrite_names-rewrite_items-requires : goal.rewrite_names-rewrite_items-requires
+rewrite_names-rewrite_items-requires g t c =
+    let es = c.args.members.now.entries in
+    let taken : c.deref_mut.result.now ≡ values_of es = c.deref_mut.ensures.value ∙ c.in_ok-values.ensures.values in
+    let deep = ap (λ vs. items_depth (items_view vs)) taken ∙ depth_of_values es in
+    λ κs s. (omega (arith, deep, c.decreases), s)
+
+pub rewrite_names-returns : goal.rewrite_names-returns
+rewrite_names-returns g t c =
+    let ρ = g.R.Rule.rules in let r = c.args.rule in let es = c.args.members.now.entries in
+    let new = c.rewrite_items.new.items in
+    let keys = c.take_values.ensures.keys in
+    let taken : c.deref_mut.result.now ≡ values_of es = c.deref_mut.ensures.value ∙ c.in_ok-values.ensures.values in
+    let call = c.in_ok-rewrite_items.ensures ∙ ap (λ vs. in_items ρ r (items_view vs)) taken in
+    let written = with_items_is c.in_ok-values.values new (omega (
+      arith,
+      c.rewrite_items.auto.items,
+      ap length c.deref_mut.ensures.value,
+      c.in_ok-values.values.ok.0,
+    )) in
+    let full = ap length written ∙ c.rewrite_items.auto.items ∙ ap length taken ∙ length-values_of es ∙ sym (length-keys_of es) ∙ ap length
+    (sym keys) ∙ length-keys_of _ in
+    ap members_view (c.put_values.ensures full) ∙ same_members (keys_of es) (keys_of c.take_values.new.members.entries) _ new keys written ∙
+    names_together ρ r es new call
+
+pub rewrite_values-loop-index-init : goal.rewrite_values-loop-index-init
+rewrite_values-loop-index-init g t c = record {
+  many = refl;
+  deep = omega arith;
+  rest = refl;
+}
+
+pub rewrite_values-rewrite_place-requires : goal.rewrite_values-rewrite_place-requires
+rewrite_values-rewrite_place-requires g t c =
+    let within : c.loop-index.index < length c.loop-index.values =
+    omega (arith, c.loop-index.invariant.many, c.requires, c.loop-index-test.true) in
+    let here = depth_at c.loop-index.values c.loop-index.index c.index-values-index.result within in
+    λ κs s. (omega (arith, here, c.loop-index.invariant.deep, c.decreases), s)
+
+pub rewrite_values-loop-index-preserved : goal.rewrite_values-loop-index-preserved
+rewrite_values-loop-index-preserved g t c =
+    let ρ = g.R.Rule.rules in let r = c.args.rule in let i = c.loop-index.index in let xs = c.loop-index.values in
+    let few : i < length c.args.places.now = omega (arith, c.loop-index-test.true) in
+    let within : i < length xs = omega (arith, few, c.loop-index.invariant.many, c.requires) in
+    let past = depth_past xs i c.rewrite_place.new.value within in record {
+      many = length-set xs i c.rewrite_place.new.value ∙ c.loop-index.invariant.many;
+      deep = omega (arith, past, c.loop-index.invariant.deep);
+      rest = value_done ρ r (in_places ρ r (map place_meant c.args.places.now) (items_view c.args.values.now)) c.args.places.now xs i
+          Nothing c.index-values-index.result c.rewrite_place.new.value few within c.in_ok-rewrite_place.ensures
+          c.loop-index.invariant.rest;
+    }
+
+pub rewrite_values-returns : goal.rewrite_values-returns
+rewrite_values-returns g t c =
+    let ρ = g.R.Rule.rules in let r = c.args.rule in
+    let end : length c.args.places.now ≤ c.loop-index.index = omega (arith, c.loop-index-test.false) in
+    values_done ρ r (in_places ρ r (map place_meant c.args.places.now) (items_view c.args.values.now)) c.args.places.now c.loop-index.values
+    c.loop-index.index end (omega (arith, end, c.loop-index.invariant.many, c.requires)) c.loop-index.invariant.rest

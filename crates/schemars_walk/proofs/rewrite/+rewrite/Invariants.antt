@@ -1,33 +1,36 @@
 -- What is left, rewritten after what is done, is the whole rewritten; and nothing that is left is deeper.
-use Rattle.std.proofs.Common.{◌≡◌, ◌+◌, ◌*◌, ◌≤◌, take, drop, ◌++◌, string_cmp}
-use Rattle.std.specs.List.Sorted.{IsStrictlySortedBy}
-use Rattle.std.specs.Map.{keys_of}
+use Rattle.std.proofs.Common.{◌≡◌, ◌+◌, ◌*◌, ◌≤◌, length, map, take, drop}
 use Rattle.serde_json.specs.Data.{depth, items_depth, members_depth}
 use Rattle.serde_json.specs.View.{view, items_view, members_view}
-use Rattle.schemars_walk.specs.Rewritten.{in_items, in_names, in_keywords}
-use Rattle.schemars_walk.proofs.Walks.{then_items, then_members}
+use Rattle.schemars_walk.specs.Walk.{place_meant}
+use Rattle.schemars_walk.specs.Parts.{in_places}
+use Rattle.schemars_walk.specs.Rewritten.{in_items}
+use Rattle.schemars_walk.proofs.Walks.{then_items}
 use Rattle.schemars_walk.proofs.rewrite.+rewrite.Given as goal
 
 abbrev pub decreases-rewrite : goal.decreases-rewrite
-decreases-rewrite g l = 6 * depth l.schema.now + 2
+decreases-rewrite g l = 8 * depth l.schema.now + 2
 
 abbrev pub decreases-rewrite_subschemas : goal.decreases-rewrite_subschemas
-decreases-rewrite_subschemas g l = 6 * depth l.schema.now + 1
+decreases-rewrite_subschemas g l = 8 * depth l.schema.now + 1
 
 abbrev pub decreases-rewrite_keywords : goal.decreases-rewrite_keywords
-decreases-rewrite_keywords g l = 6 * members_depth (members_view l.members.now.entries) + 5
+decreases-rewrite_keywords g l = 8 * members_depth (members_view l.members.now.entries) + 7
+
+abbrev pub decreases-rewrite_values : goal.decreases-rewrite_values
+decreases-rewrite_values g l = 8 * items_depth (items_view l.values.now) + 6
 
 abbrev pub decreases-rewrite_place : goal.decreases-rewrite_place
-decreases-rewrite_place g l = 6 * depth (view l.value.now) + 4
+decreases-rewrite_place g l = 8 * depth (view l.value.now) + 5
 
 abbrev pub decreases-rewrite_items : goal.decreases-rewrite_items
-decreases-rewrite_items g l = 6 * items_depth (items_view l.items.now) + 5
+decreases-rewrite_items g l = 8 * items_depth (items_view l.items.now) + 7
 
 abbrev pub decreases-rewrite_names : goal.decreases-rewrite_names
-decreases-rewrite_names g l = 6 * members_depth (members_view l.members.now.entries) + 5
+decreases-rewrite_names g l = 8 * members_depth (members_view l.members.now.entries) + 8
 
 abbrev pub decreases-rewrite_schema : goal.decreases-rewrite_schema
-decreases-rewrite_schema g l = 6 * depth (view l.value.now) + 3
+decreases-rewrite_schema g l = 8 * depth (view l.value.now) + 4
 
 abbrev pub invariant-rewrite_items-loop-item : goal.invariant-rewrite_items-loop-item
 invariant-rewrite_items-loop-item g l = record {
@@ -36,18 +39,10 @@ invariant-rewrite_items-loop-item g l = record {
       in_items g.R.Rule.rules l.rule (items_view l.fn.items);
 }
 
-abbrev pub invariant-rewrite_keywords-loop-key : goal.invariant-rewrite_keywords-loop-key
-invariant-rewrite_keywords-loop-key g l = record {
-  sorted : IsStrictlySortedBy string_cmp (keys_of (l.members.entries ++ l.key-iterator));
-  deep : members_depth (members_view l.key-iterator) ≤ members_depth (members_view l.fn.members.entries);
-  rest : then_members (members_view l.members.entries) (in_keywords g.R.Rule.rules l.rule (members_view l.key-iterator)) ≡ in_keywords
-      g.R.Rule.rules l.rule (members_view l.fn.members.entries);
-}
-
-abbrev pub invariant-rewrite_names-loop-key : goal.invariant-rewrite_names-loop-key
-invariant-rewrite_names-loop-key g l = record {
-  sorted : IsStrictlySortedBy string_cmp (keys_of (l.members.entries ++ l.key-iterator));
-  deep : members_depth (members_view l.key-iterator) ≤ members_depth (members_view l.fn.members.entries);
-  rest : then_members (members_view l.members.entries) (in_names g.R.Rule.rules l.rule (members_view l.key-iterator)) ≡ in_names
-      g.R.Rule.rules l.rule (members_view l.fn.members.entries);
+abbrev pub invariant-rewrite_values-loop-index : goal.invariant-rewrite_values-loop-index
+invariant-rewrite_values-loop-index g l = record {
+  many : length l.values ≡ length l.fn.values;
+  deep : items_depth (items_view (drop l.index l.values)) ≤ items_depth (items_view l.fn.values);
+  rest : then_items (items_view (take l.index l.values)) (in_places g.R.Rule.rules l.rule (map place_meant (drop l.index l.places))
+      (items_view (drop l.index l.values))) ≡ in_places g.R.Rule.rules l.rule (map place_meant l.fn.places) (items_view l.fn.values);
 }

@@ -1,12 +1,10 @@
--- The text is that of the object that was written.
-use Rattle.std.proofs.Common.{ap, ◌∙◌}
-use Rattle.serde_json.specs.View.{members_view}
-use Rattle.schemars_schema.specs.Output.{Output, with_value}
-use Rattle.schemars_schema.specs.OrderedText.{object_text, NamedSchemas}
+-- The text is that of what was written.
+use Rattle.std.proofs.Common.{None, ap, ◌∙◌}
+use Rattle.std.proofs.lemmas.Result.{IfOk-weaker}
+use Rattle.schemars_schema.specs.Output.{Output}
 use Rattle.schemars_schema.proofs.text.ordered.definitions_to_ordered_string.Goals as goal
 
 pub returns-clause-ordered : goal.returns-clause-ordered
-returns-clause-ordered c = λ whole.
-    let text = object_text NamedSchemas (members_view c.args.definitions.now.entries) in
-    c.into_string.ensures.text
-    ∙ ap (λ (o : Output). o.text) (c.in_ok-write_object.ensures whole ∙ ap (λ (o : Output). with_value o text) c.new-out.ensures)
+returns-clause-ordered c =
+    let (p, at_p, is) = c.write_object.ensures None _ (λ _. c.new-text.ensures) in
+    IfOk-weaker c.into_string.result _ _ (λ s h whole. h.1 ∙ ap (λ (o : Output). o.text) (at_p h.0 ∙ is whole)) c.into_string.ensures.text

@@ -1,0 +1,32 @@
+-- The line of the definitions has their text, and a refusal of the generator is told by its number.
+use Rattle.std.proofs.Common.{◌≡◌, refl, inr}
+use Rattle.std.proofs.lemmas.Result.{IfErr-weaker}
+use Rattle.schemars_generate.specs.Refusals.{code_of}
+use Rattle.schemagen_run.specs.declared.fault.Fault.{Fault}
+use Rattle.schemagen_run.specs.declared.fault.Fault.TheVariants.{Refused}
+use Rattle.schemagen_run.specs.Run.{IsLineRefusal}
+use Rattle.schemagen_run.proofs.Results.{passed_on, err_passed}
+use Rattle.schemagen_run.proofs.Runs.{line_refused}
+use Rattle.schemagen_run.proofs.Writing.{weaker, refused_line, or_memory}
+use Rattle.schemagen_run.proofs.run.write_definitions.Goals as goal
+
+pub returns-in_err-definitions : goal.returns-in_err-definitions
+returns-in_err-definitions g c =
+    let e = c.in_err-definitions.field-0.0 in
+    let r = c.from_residual.result in
+    let passed = c.from_residual.ensures.1 in
+    let why : (f : Fault) → f ≡ Refused (code_of e) → IsLineRefusal c.args.asked c.args.types c.args.root f =
+    λ f same. line_refused c.args.asked c.args.types c.args.root e f c.in_err-definitions.ensures.refused same in
+    record {
+      written = refused_line _ _ _ r (Refused (code_of e)) _ _ (passed_on r (Refused (code_of e)) passed) (why _ refl) refl;
+      refused = err_passed r passed (λ f same. inr (why f same));
+    }
+
+pub returns : goal.returns
+returns g c = record {
+  written = weaker _ _ c.write_definitions_text.result _ _ (λ line of. (
+    c.in_ok-definitions.ensures.accepted,
+    (_, c.in_ok-definitions.ensures.ok, of),
+  )) c.write_definitions_text.ensures.written;
+  refused = IfErr-weaker c.write_definitions_text.result _ _ (λ e told. or_memory e told) c.write_definitions_text.ensures.faults;
+}

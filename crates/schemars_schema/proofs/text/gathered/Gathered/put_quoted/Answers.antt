@@ -1,0 +1,10 @@
+-- A quote, the escaped text and a quote.
+use Rattle.std.proofs.Common.{append_assoc}
+use Rattle.schemars_schema.proofs.text.gathered.Gathered.put_quoted.Goals as goal
+
+pub returns-clause-adds : goal.returns-clause-adds
+returns-clause-adds g c = λ start text h.
+    let opened = c.put.ensures.adds start text h in
+    let escaped = c.put_escaped.ensures.adds start _ opened in
+    let closed = c.put-2.ensures.adds start _ escaped in
+    simp append_assoc at closed

@@ -1,0 +1,59 @@
+//! The members of a schema that have a fixed place in its text.
+ghost use Rattle.std.specs.Prelude.{◌≡◌, ◌++◌, ◌||◌, map, option_map};
+ghost use Rattle.serde_json.specs.Find.{get_member};
+ghost use Rattle.serde_json.specs.View.{view, members_view};
+ghost use Rattle.schemars_schema.specs.OrderedText.{first_keywords, last_keywords, is_listed};
+ghost use Rattle.schemars_schema.specs.Places.{place_in};
+
+use serde_json::{Map, Value};
+
+pub(crate) const FIRST_KEYWORDS: [&str; 7] = [
+    "$id",
+    "$schema",
+    "title",
+    "description",
+    "type",
+    "format",
+    "properties",
+];
+
+pub(crate) const LAST_KEYWORDS: [&str; 2] = ["$defs", "definitions"];
+
+// Finds what stands under `FIRST_KEYWORDS` and then `LAST_KEYWORDS`, in one pass.
+#[inline(never)]
+pub(crate) fn find_fixed<'v>(members: &'v Map<String, Value>, found: &mut [Option<&'v Value>; 9])
+    ensures { map (λ s. option_map (λ v. view v.now) s) found.new
+        ≡ map (λ k. get_member k (members_view members.now.entries))
+        (first_keywords ++ last_keywords) }
+{
+    *found = [None; 9];
+    for (key, value) in members.iter() {
+        if let Some(place) = place_of(key.as_str()) {
+            found[place] = found[place].or(Some(value));
+        }
+    }
+}
+
+#[tactic(auto, using(crate::proofs::FixedMembers::has_place))]
+pub(crate) fn has_fixed_place(key: &str) -> bool
+    ensures { result ≡ is_listed key.now first_keywords || is_listed key.now last_keywords }
+{
+    place_of(key).is_some()
+}
+
+fn place_of(key: &str) -> Option<usize>
+    ensures { result ≡ place_in key.now (first_keywords ++ last_keywords) }
+{
+    match key {
+        "$id" => Some(0),
+        "$schema" => Some(1),
+        "title" => Some(2),
+        "description" => Some(3),
+        "type" => Some(4),
+        "format" => Some(5),
+        "properties" => Some(6),
+        "$defs" => Some(7),
+        "definitions" => Some(8),
+        _ => None,
+    }
+}
