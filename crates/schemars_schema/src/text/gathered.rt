@@ -77,15 +77,39 @@ impl<'f> Gathered<'f> {
         }
     }
 
+    fn put_byte<K: Sink>(&mut self, sink: &mut K, byte: u8)
+        ensures adds { AddsText (K.bytes sink.old) (K.has_failed sink.old) self.old.block.items
+            self.old.failed (K.bytes sink.new) (K.has_failed sink.new) self.new.block.items
+            self.new.failed (byte ∷ []) }
+        ensures after { self.new.after_value ≡ self.old.after_value }
+    {
+        match self.block.try_push(byte) {
+            Ok(()) => {}
+            Err(_full) => self.put_anew(sink, &[byte]),
+        }
+    }
+
+    // Puts what stands between the end of a value and the beginning of the next.
+    fn put_comma<K: Sink>(&mut self, sink: &mut K, begins: bool)
+        ensures adds { AddsText (K.bytes sink.old) (K.has_failed sink.old) self.old.block.items
+            self.old.failed (K.bytes sink.new) (K.has_failed sink.new) self.new.block.items
+            self.new.failed (cond (self.old.after_value && begins) (44 ∷ []) []) }
+        ensures after { self.new.after_value ≡ self.old.after_value }
+    {
+        if self.after_value && begins {
+            self.put_byte(sink, b',');
+        }
+    }
+
     fn put_quoted<K: Sink>(&mut self, sink: &mut K, text: &[u8])
         ensures adds { AddsText (K.bytes sink.old) (K.has_failed sink.old) self.old.block.items
             self.old.failed (K.bytes sink.new) (K.has_failed sink.new) self.new.block.items
             self.new.failed (quoted text.now) }
         ensures after { self.new.after_value ≡ self.old.after_value }
     {
-        self.put(sink, b"\"");
+        self.put_byte(sink, b'"');
         self.put_escaped(sink, text);
-        self.put(sink, b"\"");
+        self.put_byte(sink, b'"');
     }
 
     // Bytes that need no escape are put together.
@@ -115,13 +139,13 @@ impl<'f> Gathered<'f> {
         ensures after { self.new.after_value ≡ self.old.after_value }
     {
         match token {
-            Token::BeginObject => self.put(sink, b"{"),
-            Token::EndObject => self.put(sink, b"}"),
-            Token::BeginArray => self.put(sink, b"["),
-            Token::EndArray => self.put(sink, b"]"),
+            Token::BeginObject => self.put_byte(sink, b'{'),
+            Token::EndObject => self.put_byte(sink, b'}'),
+            Token::BeginArray => self.put_byte(sink, b'['),
+            Token::EndArray => self.put_byte(sink, b']'),
             Token::Key(name) => {
                 self.put_quoted(sink, name.as_bytes());
-                self.put(sink, b":");
+                self.put_byte(sink, b':');
             }
             Token::String(text) => self.put_quoted(sink, text.as_bytes()),
             Token::Number(text) => self.put(sink, text.as_bytes()),
@@ -159,14 +183,14 @@ impl<'f, K: Sink> Target<K> for Gathered<'f> {
         (K.bytes sink) (K.has_failed sink) w.block.items w.failed };
 
     fn token(&mut self, lent: &mut K, token: Token<'_>) {
-        self.put(lent, comma(self.after_value, begins(token)));
+        self.put_comma(lent, begins(token));
         self.put_token(lent, token);
         self.after_value = ends(token);
     }
 
     fn number(&mut self, lent: &mut K, n: Number) {
         let mut buffer = itoa::Buffer::new();
-        self.put(lent, comma(self.after_value, true));
+        self.put_comma(lent, true);
         self.after_value = true;
         if let Some(whole) = n.as_u64() {
             self.put(lent, buffer.format(whole).as_bytes());
@@ -195,13 +219,6 @@ fn hand<K: Sink>(sink: &mut K, failed: bool, bytes: &[u8]) -> bool
         Ok(()) => false,
         Err(Failed) => true,
     }
-}
-
-// What stands between the end of a value and the beginning of the next.
-fn comma(after_value: bool, begins: bool) -> &'static [u8]
-    ensures { result.now ≡ cond (after_value && begins) (44 ∷ []) [] }
-{
-    if after_value && begins { b"," } else { b"" }
 }
 
 fn begins(token: Token<'_>) -> bool

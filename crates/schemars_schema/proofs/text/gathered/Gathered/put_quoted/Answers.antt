@@ -4,7 +4,7 @@ use Rattle.schemars_schema.proofs.text.gathered.Gathered.put_quoted.Goals as goa
 
 pub returns-clause-adds : goal.returns-clause-adds
 returns-clause-adds g c = λ start text h.
-    let opened = c.put.ensures.adds start text h in
+    let opened = c.put_byte.ensures.adds start text h in
     let escaped = c.put_escaped.ensures.adds start _ opened in
-    let closed = c.put-2.ensures.adds start _ escaped in
+    let closed = c.put_byte-2.ensures.adds start _ escaped in
     simp append_assoc at closed

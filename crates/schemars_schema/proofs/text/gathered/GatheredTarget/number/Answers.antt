@@ -13,13 +13,13 @@ use Rattle.schemars_schema.proofs.text.gathered.GatheredTarget.number.Goals as g
 pub returns-in-Some : goal.returns-in-Some
 returns-in-Some g c = λ start o h.
     let t = number_text (number_view c.args.n) in
-    let due = c.comma.ensures ∙ ap (λ (after : Bool). cond (after && true) (44 ∷ []) []) h.0 in
+    let due = ap (λ (after : Bool). cond (after && true) (44 ∷ []) []) h.0 in
     let digits = c.as_bytes.ensures.value ∙ c.format.ensures.text ∙ sym (number_text_of_u64 _ _ (sym c.in-Some.ensures)) in (
       with_token o (number t),
       (
-        c.put-in-Some.ensures.after,
+        c.put.ensures.after,
         gathered_same start o.text _ _ _ _ _ _ (ap₂ (λ (l d : List ℕ). l ++ d) due digits)
-            (adds_then _ _ _ _ _ _ _ _ _ _ _ _ _ _ c.put.ensures.adds c.put-in-Some.ensures.adds start o.text h.1),
+            (adds_then _ _ _ _ _ _ _ _ _ _ _ _ _ _ c.put_comma.ensures.adds c.put.ensures.adds start o.text h.1),
       ),
       λ _. refl,
     )
@@ -27,14 +27,14 @@ returns-in-Some g c = λ start o h.
 pub returns-in-Some-as_i64 : goal.returns-in-Some-as_i64
 returns-in-Some-as_i64 g c = λ start o h.
     let t = number_text (number_view c.args.n) in
-    let due = c.comma.ensures ∙ ap (λ (after : Bool). cond (after && true) (44 ∷ []) []) h.0 in
     let text : c.format-in-Some-as_i64.result.now ≡ signed_decimal c.in-Some-as_i64.below_zero = search rules in
+    let due = ap (λ (after : Bool). cond (after && true) (44 ∷ []) []) h.0 in
     let digits = c.as_bytes-in-Some-as_i64.ensures.value ∙ text ∙ sym (number_text_of_i64 _ _ (sym c.in-Some-as_i64.ensures)) in (
       with_token o (number t),
       (
         c.put-in-Some-as_i64.ensures.after,
         gathered_same start o.text _ _ _ _ _ _ (ap₂ (λ (l d : List ℕ). l ++ d) due digits)
-            (adds_then _ _ _ _ _ _ _ _ _ _ _ _ _ _ c.put.ensures.adds c.put-in-Some-as_i64.ensures.adds start o.text h.1),
+            (adds_then _ _ _ _ _ _ _ _ _ _ _ _ _ _ c.put_comma.ensures.adds c.put-in-Some-as_i64.ensures.adds start o.text h.1),
       ),
       λ _. refl,
     )
@@ -44,10 +44,10 @@ returns-in_default-as_i64 g c = λ start o h.
     let no_unsigned : as_u64 (number_view c.args.n) ≡ None = search rules in
     let no_signed : as_i64 (number_view c.args.n) ≡ None = search rules in
     let adds = rw (c.next_float-text.ensures.block, c.next_float-text.ensures.failed) at c.put-in_default-as_i64.ensures.adds in (
-      record { text = o.text ++ (c.comma.result.now ++ c.next_float-text.result.now); after_value = true },
+      record { text = o.text ++ (cond (o.after_value && true) (44 ∷ []) [] ++ c.next_float-text.result.now); after_value = true },
       (
         c.put-in_default-as_i64.ensures.after ∙ c.next_float-text.ensures.after_value,
-        adds_then _ _ _ _ _ _ _ _ _ _ _ _ _ _ c.put.ensures.adds adds start o.text h.1,
+        rw (sym h.0) (adds_then _ _ _ _ _ _ _ _ _ _ _ _ _ _ c.put_comma.ensures.adds adds start o.text h.1),
       ),
       λ whole. absurd (whole_or_float (number_view c.args.n) no_unsigned no_signed whole),
     )
