@@ -107,17 +107,25 @@ impl Layout {
 fn holds_plain_json(key: &str) -> bool
     ensures { result ≡ holds_plain_json key.now }
 {
-    key == "examples" || key == "default" || key.starts_with("x-")
+    let is_listed = match key.len() {
+        7 => key == "default",
+        8 => key == "examples",
+        _ => false,
+    };
+    is_listed || key.starts_with("x-")
 }
 
 fn holds_named_schemas(key: &str) -> bool
     ensures { result ≡ holds_named_schemas key.now }
 {
-    key == "properties"
-        || key == "patternProperties"
-        || key == "dependentSchemas"
-        || key == "$defs"
-        || key == "definitions"
+    match key.len() {
+        5 => key == "$defs",
+        10 => key == "properties",
+        11 => key == "definitions",
+        16 => key == "dependentSchemas",
+        17 => key == "patternProperties",
+        _ => false,
+    }
 }
 
 #[cycle(write)]

@@ -1,5 +1,6 @@
 //! The members of a schema that have a fixed place in its text.
-ghost use Rattle.std.specs.Prelude.{◌≡◌, ◌++◌, ◌||◌, map, option_map};
+ghost use Rattle.std.specs.Prelude.{◌≡◌, ◌++◌, ◌||◌, map, option_map, Some, None};
+ghost use Rattle.std.specs.Prelude.{if◌then◌else◌};
 ghost use Rattle.serde_json.specs.Find.{get_member};
 ghost use Rattle.serde_json.specs.View.{view, members_view};
 ghost use Rattle.schemars_schema.specs.OrderedText.{first_keywords, last_keywords, is_listed};
@@ -44,16 +45,22 @@ pub(crate) fn has_fixed_place(key: &str) -> bool
 fn place_of(key: &str) -> Option<usize>
     ensures { result ≡ place_in key.now (first_keywords ++ last_keywords) }
 {
-    match key {
-        "$id" => Some(0),
-        "$schema" => Some(1),
-        "title" => Some(2),
-        "description" => Some(3),
-        "type" => Some(4),
-        "format" => Some(5),
-        "properties" => Some(6),
-        "$defs" => Some(7),
-        "definitions" => Some(8),
+    match key.len() {
+        3 => place_if(key == "$id", 0),
+        4 => place_if(key == "type", 4),
+        5 if key == "title" => Some(2),
+        5 => place_if(key == "$defs", 7),
+        6 => place_if(key == "format", 5),
+        7 => place_if(key == "$schema", 1),
+        10 => place_if(key == "properties", 6),
+        11 if key == "description" => Some(3),
+        11 => place_if(key == "definitions", 8),
         _ => None,
     }
+}
+
+fn place_if(is_there: bool, place: usize) -> Option<usize>
+    ensures { result ≡ if is_there then Some place else None }
+{
+    if is_there { Some(place) } else { None }
 }
