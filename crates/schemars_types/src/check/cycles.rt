@@ -30,64 +30,47 @@ pub fn least_on_cycle(alloc: Global, graph: &[Vec<usize>]) -> Result<Option<usiz
 }
 
 // Ranks that fall along each edge, where there are any: a number is ranked once its targets are.
+// 0 is the rank of a number that was not met, and the greatest that of one whose targets are not
+// ranked yet.
 fn ranks(alloc: Global, graph: &[Vec<usize>]) -> Result<Vec<usize>, AllocError> {
-    let sources = reversed(alloc, graph)?;
-    let mut left = Vec::with_capacity(alloc, graph.len())?;
-    let mut ranked = Vec::new(alloc);
-    for (n, targets) in graph.iter().enumerate() {
-        left.push(targets.len())?;
-        if targets.is_empty() {
-            ranked.push(n)?;
-        }
-    }
     let mut ranks = vec![in alloc; 0; graph.len()]?;
-    for rank in 0..graph.len() {
-        let Some(m) = ranked.get(rank).copied() else {
-            break;
-        };
-        if let Some(place) = ranks.get_mut(m) {
-            *place = rank;
-        }
-        if let Some(sources) = sources.get(m) {
-            count_down(&mut left, &mut ranked, sources)?;
+    let mut waiting = Vec::new(alloc);
+    let mut last: usize = 0;
+    for n in 0..graph.len() {
+        begin(&mut ranks, &mut waiting, n)?;
+        for _ in 0..u64::MAX {
+            let Some((m, place)) = waiting.pop() else {
+                break;
+            };
+            if let Some(target) = target_at(graph, m, place) {
+                waiting.push((m, place.saturating_add(1)))?;
+                begin(&mut ranks, &mut waiting, target)?;
+            } else if let Some(rank) = ranks.get_mut(m) {
+                last = last.saturating_add(1);
+                *rank = last;
+            }
         }
     }
     Ok(ranks)
 }
 
-// One target of each of these is ranked. Those of which no target is left come next.
-fn count_down(
-    left: &mut [usize],
-    ranked: &mut Vec<usize>,
-    sources: &[usize],
+// A number that was not met waits until its targets are ranked, from the first on.
+fn begin(
+    ranks: &mut [usize],
+    waiting: &mut Vec<(usize, usize)>,
+    n: usize,
 ) -> Result<(), AllocError> {
-    for n in sources {
-        if let Some(count) = left.get_mut(*n)
-            && *count > 0
-        {
-            *count -= 1;
-            if *count == 0 {
-                ranked.push(*n)?;
-            }
-        }
+    if let Some(rank) = ranks.get_mut(n)
+        && *rank == 0
+    {
+        *rank = usize::MAX;
+        waiting.push((n, 0))?;
     }
     Ok(())
 }
 
-// The numbers that lead to each.
-fn reversed(alloc: Global, graph: &[Vec<usize>]) -> Result<Vec<Vec<usize>>, AllocError> {
-    let mut sources = Vec::with_capacity(alloc, graph.len())?;
-    for _ in graph {
-        sources.push(Vec::new(alloc))?;
-    }
-    for (n, targets) in graph.iter().enumerate() {
-        for m in targets {
-            if let Some(place) = sources.get_mut(*m) {
-                place.push(n)?;
-            }
-        }
-    }
-    Ok(sources)
+fn target_at(graph: &[Vec<usize>], n: usize, place: usize) -> Option<usize> {
+    graph.get(n)?.get(place).copied()
 }
 
 fn falls(graph: &[Vec<usize>], ranks: &[usize]) -> bool

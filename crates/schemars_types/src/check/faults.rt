@@ -111,7 +111,7 @@ fn targets(
         EdgeKind::Direct => direct_targets(alloc, types, &entry.shape),
         EdgeKind::SameValue => {
             let numbers = same_value_numbers(alloc, &entry.shape)?;
-            rows_among(alloc, types, numbers)
+            Ok(rows_among(types, numbers))
         }
     }
 }
@@ -122,36 +122,28 @@ fn direct_targets(alloc: Global, types: &Types, shape: &Shape) -> Result<Vec<Typ
         ++ filter (is_row types.now)
         (asked_in types.now (shape_of shape.now))) }
 {
-    let mut targets = in_place_among(alloc, types, numbers(alloc, shape)?)?;
-    let mut asked = rows_among(alloc, types, asked(alloc, types, shape)?)?;
+    let mut targets = in_place_among(types, numbers(alloc, shape)?);
+    let mut asked = rows_among(types, asked(alloc, types, shape)?);
     targets.append(&mut asked)?;
     Ok(targets)
 }
 
 // Those of these numbers that are numbers of rows in place.
-fn in_place_among(
-    alloc: Global,
-    types: &Types,
-    numbers: Vec<TypeNo>,
-) -> Result<Vec<TypeNo>, AllocError>
-    ensures { IfOk result (λ v. v.items
-        ≡ filter (is_inline_at types.now) numbers.items) }
+fn in_place_among(types: &Types, numbers: Vec<TypeNo>) -> Vec<TypeNo>
+    ensures { result.items ≡ filter (is_inline_at types.now) numbers.items }
 {
+    let mut numbers = numbers;
+    numbers.retain(|m| is_inline(types, *m));
     numbers
-        .into_iter()
-        .filter(|m| is_inline(types, *m))
-        .collect(alloc)
 }
 
 // Those of these numbers that are numbers of rows.
-fn rows_among(alloc: Global, types: &Types, numbers: Vec<TypeNo>) -> Result<Vec<TypeNo>, AllocError>
-    ensures { IfOk result (λ v. v.items
-        ≡ filter (is_row types.now) numbers.items) }
+fn rows_among(types: &Types, numbers: Vec<TypeNo>) -> Vec<TypeNo>
+    ensures { result.items ≡ filter (is_row types.now) numbers.items }
 {
+    let mut numbers = numbers;
+    numbers.retain(|m| *m < types.len());
     numbers
-        .into_iter()
-        .filter(|m| *m < types.len())
-        .collect(alloc)
 }
 
 // The rows that a shape asks, whether they are written in place or not.
