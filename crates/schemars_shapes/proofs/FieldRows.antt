@@ -88,6 +88,35 @@ repeated_at fs i d name met below is h there =
       is_first = subst (λ (ns : List Text). IsDistinct bytes_eq ns) (sym front) h.differ;
     }
 
+-- ---- few names, compared with one another
+
+any_of_texts : (q : Text) (fs : List (Bor (List ℕ))) → list_any (λ f. bytes_eq q f.now) fs ≡ list_any (bytes_eq q) (map now_of fs)
+any_of_texts q [] = refl
+any_of_texts q (f ∷ fs) = ap (λ b. bytes_eq q f.now || b) (any_of_texts q fs)
+
+pub few_more : (fs : List (Bor (List ℕ))) (i : ℕ) (d name : Bor (List ℕ)) → i < length fs → name.now ≡ now_of (get_or fs i d)
+    → IsDistinct bytes_eq (map now_of (take i fs)) → list_any (λ f. bytes_eq name.now f.now) (take i fs) ≡ false
+    → IsDistinct bytes_eq (map now_of (take (i + 1) fs))
+few_more fs i d name below is differ absent =
+    let before : List Text = map now_of (take i fs) in
+    let grown : map now_of (take (i + 1) fs) ≡ before ++ name.now ∷ [] =
+    name_more fs i d below ∙ ap (λ (n : Text). before ++ n ∷ []) (sym is) in
+    subst (λ (ns : List Text). IsDistinct bytes_eq ns) (sym grown)
+    (IsDistinct-push nat_list_eq_equiv before name.now differ (sym (any_of_texts name.now (take i fs)) ∙ absent))
+
+pub few_repeated : (fs : List (Bor (List ℕ))) (i : ℕ) (d name : Bor (List ℕ)) → i < length fs → name.now ≡ now_of (get_or fs i d)
+    → IsDistinct bytes_eq (map now_of (take i fs)) → list_any (λ f. bytes_eq name.now f.now) (take i fs) ≡ true
+    → IsRepeated (map now_of fs) name.now
+few_repeated fs i d name below is differ there =
+    let front : take i (map now_of fs) ≡ map now_of (take i fs) = take-map now_of i fs in
+    record {
+      place = i;
+      is_there = slice_get-map now_of fs i ∙ ap (option_map now_of) (slice_get-get_or fs i d below) ∙ ap Some (sym is);
+      is_before = subst (λ (ns : List Text). Contains ns name.now) (sym front)
+          (Contains-from_any name.now (map now_of (take i fs)) (sym (any_of_texts name.now (take i fs)) ∙ there));
+      is_first = subst (λ (ns : List Text). IsDistinct bytes_eq ns) (sym front) differ;
+    }
+
 pub from_not_false : (a b : Bool) → a ≡ not b → a ≡ false → b ≡ true
 from_not_false a true e h = refl
 from_not_false a false e h = cc

@@ -5,7 +5,7 @@ use Rattle.std.proofs.lemmas.List.{take_all}
 use Rattle.schemars_schema.specs.Json.{Text}
 use Rattle.schemars_shapes.specs.Repeated.{IsRepeated}
 use Rattle.schemars_shapes.proofs.FieldRows.{now_of, met_none, met_more, repeated_at, from_not_false, from_not_true}
-use Rattle.schemars_shapes.proofs.edges.names.first_repeated.Goals as goal
+use Rattle.schemars_shapes.proofs.edges.names.first_of_many.Goals as goal
 
 abbrev borrowed : Text → Bor (List ℕ)
 borrowed t = record { ref_ptr = (0, 0); now = t }
