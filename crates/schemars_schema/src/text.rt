@@ -1,5 +1,4 @@
 //! The text of schemas, with keywords in a fixed order.
-pub(crate) mod floats;
 pub(crate) mod gathered;
 pub(crate) mod memory;
 pub(crate) mod ordered;

@@ -1,5 +1,5 @@
 //! The text of a schema, with its keywords in a fixed order.
-ghost use Rattle.std.specs.Prelude.{◌≡◌, Err, false, string_bytes, IfOk, OnOk, IsTrue};
+ghost use Rattle.std.specs.Prelude.{◌≡◌, ◌≢◌, Err, false, string_bytes, IfOk, OnOk, IsTrue};
 ghost use Rattle.json.specs.Lex.{tokens};
 ghost use Rattle.json.specs.Print.{print};
 ghost use Rattle.serde_json.specs.Written.{has_float};
@@ -37,17 +37,15 @@ impl Schema {
     ///
     /// # Errors
     ///
-    /// `OutOfMemory` if there is no memory for the texts of numbers that are no whole numbers of 64
-    /// bits: nothing was written then. `Write` if the sink has failed: it has a beginning of the
-    /// text.
-    pub fn write_ordered<K: Sink>(&self, alloc: Global, sink: &mut K) -> Result<(), OrderedError>
+    /// `Write` if the sink has failed: it has a beginning of the text. No memory is taken.
+    pub fn write_ordered<K: Sink>(&self, sink: &mut K) -> Result<(), OrderedError>
         ensures written { OnOk result (IsSent (has_float self.now) (ordered_text self.now)
             (K.bytes sink.old) (K.bytes sink.new) (K.has_failed sink.new)) }
         ensures beginning { result ≡ Err OrderedError.Write → IsSentInPart (has_float self.now)
             (ordered_text self.now) (K.bytes sink.old) (K.bytes sink.new) }
         ensures failed { result ≡ Err OrderedError.Write → IsTrue (K.has_failed sink.new) }
-        ensures memory { result ≡ Err OrderedError.OutOfMemory → sink.new ≡ sink.old }
+        ensures memory { result ≢ Err OrderedError.OutOfMemory }
     {
-        crate::text::writing::write_ordered(alloc, self.as_value(), sink)
+        crate::text::writing::write_ordered(self.as_value(), sink)
     }
 }

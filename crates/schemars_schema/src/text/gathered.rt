@@ -15,25 +15,21 @@ use arrayvec::ArrayVec;
 use json::Token;
 use serde_json::Number;
 
-// What is left of the floats' texts, what is to be handed on, whether a value has just ended, and
-// whether the sink has failed.
+// What is to be handed on, whether a value has just ended, and whether the sink has failed.
 #[derive(Drop)]
-pub(crate) struct Gathered<'f> {
-    floats: &'f [u8],
+pub(crate) struct Gathered {
     block: ArrayVec<u8, 4096>,
     after_value: bool,
     failed: bool,
 }
 
-impl<'f> Gathered<'f> {
-    // The floats' texts have commas between them.
-    pub(crate) fn new(floats: &'f [u8]) -> Gathered<'f>
+impl Gathered {
+    pub(crate) fn new() -> Gathered
         ensures block { result.block.items ≡ [] }
         ensures after_value { result.after_value ≡ false }
         ensures failed { result.failed ≡ false }
     {
         Gathered {
-            floats,
             block: ArrayVec::new(),
             after_value: false,
             failed: false,
@@ -44,7 +40,7 @@ impl<'f> Gathered<'f> {
     pub(crate) fn finish<K: Sink>(mut self, sink: &mut K) -> bool
         ensures { (start : Option (List ℕ)) (text : List ℕ)
             → IsGathered start text (K.bytes sink.old) (K.has_failed sink.old)
-            self.entry.block.items self.entry.failed
+            self.block.items self.failed
             → IsGathered start text (K.bytes sink.new) (K.has_failed sink.new) [] (not result) }
     {
         !hand(sink, self.failed, self.block.as_slice())
@@ -155,27 +151,9 @@ impl<'f> Gathered<'f> {
             Token::Bad => {}
         }
     }
-
-    // The text of the next float.
-    fn next_float(&mut self) -> &'f [u8]
-        ensures block { self.new.block ≡ self.old.block }
-        ensures after_value { self.new.after_value ≡ self.old.after_value }
-        ensures failed { self.new.failed ≡ self.old.failed }
-    {
-        let mut len = 0;
-        while len < self.floats.len() && self.floats[len] != b',' {
-            len += 1;
-        }
-        let (text, rest) = self.floats.split_at(len);
-        self.floats = match rest.split_first() {
-            Some((_comma, rest)) => rest,
-            None => rest,
-        };
-        text
-    }
 }
 
-impl<'f, K: Sink> Target<K> for Gathered<'f> {
+impl<K: Sink> Target<K> for Gathered {
     ghost use Rattle.std.specs.Prelude.{◌≡◌};
     ghost use Rattle.schemars_schema.specs.Target.{IsGathered};
 
@@ -189,16 +167,15 @@ impl<'f, K: Sink> Target<K> for Gathered<'f> {
     }
 
     fn number(&mut self, lent: &mut K, n: Number) {
-        let mut buffer = itoa::Buffer::new();
         self.put_comma(lent, true);
         self.after_value = true;
         if let Some(whole) = n.as_u64() {
-            self.put(lent, buffer.format(whole).as_bytes());
+            self.put(lent, itoa::Buffer::new().format(whole).as_bytes());
         } else if let Some(below_zero) = n.as_i64() {
-            self.put(lent, buffer.format(below_zero).as_bytes());
-        } else {
-            let text = self.next_float();
-            self.put(lent, text);
+            self.put(lent, itoa::Buffer::new().format(below_zero).as_bytes());
+        } else if let Some(x) = n.as_f64() {
+            let mut buffer = ryu::Buffer::new();
+            self.put(lent, buffer.format_finite_with_plus(x).as_bytes());
         }
     }
 }

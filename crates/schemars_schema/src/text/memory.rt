@@ -1,4 +1,4 @@
-//! Text that is written into memory, all of it or only its floats.
+//! Text that is written into memory.
 ghost use Rattle.std.specs.Prelude.{◌≡◌, None, [], false, IfOk, string_bytes};
 ghost use Rattle.json.specs.Lex.{tokens};
 ghost use Rattle.json.specs.Print.{print};
@@ -60,44 +60,6 @@ impl Target<()> for InMemory {
                 Ok(()) => {}
                 Err(error) => self.error = Some(error),
             },
-        }
-    }
-}
-
-// The texts of the floats alone, in order, with commas between them.
-#[derive(Drop)]
-pub(crate) struct Floats {
-    out: Output,
-    error: Option<AllocError>,
-}
-
-impl Floats {
-    pub(crate) fn new(alloc: Global) -> Floats {
-        Floats {
-            out: Output::new(alloc),
-            error: None,
-        }
-    }
-
-    pub(crate) fn into_string(self) -> Result<String, AllocError> {
-        let Floats { out, error } = self;
-        match error {
-            Some(error) => Err(error),
-            None => Ok(out.into_string()),
-        }
-    }
-}
-
-impl Target<()> for Floats {
-    ghost use Rattle.std.specs.Prelude.{⊤};
-
-    ghost has = { λ _ _ _ _. ⊤ };
-
-    fn token(&mut self, _lent: &mut (), _token: Token<'_>) {}
-
-    fn number(&mut self, _lent: &mut (), n: Number) {
-        if n.is_f64() && self.error.is_none() {
-            self.error = self.out.number(n).err();
         }
     }
 }

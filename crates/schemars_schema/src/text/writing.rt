@@ -1,5 +1,5 @@
 //! The text of schemas, written to a sink.
-ghost use Rattle.std.specs.Prelude.{◌≡◌, Err, OnOk, IsTrue};
+ghost use Rattle.std.specs.Prelude.{◌≡◌, ◌≢◌, Err, OnOk, IsTrue};
 ghost use Rattle.serde_json.specs.View.{view, members_view};
 ghost use Rattle.serde_json.specs.Written.{has_float, members_have_float};
 ghost use Rattle.schemars_schema.specs.OrderedText.{ordered_text, definitions_text};
@@ -7,33 +7,21 @@ ghost use Rattle.schemars_schema.specs.Sent.{IsSent, IsSentInPart};
 
 use crate::error::OrderedError;
 use crate::sink::Sink;
-use crate::text::floats::{holds_float, members_hold_float};
 use crate::text::gathered::Gathered;
-use crate::text::memory::Floats;
 use crate::text::ordered::{Layout, write_object, write_value};
 use serde_json::{Map, Value};
-use std::alloc::Global;
 
 /// Writes a schema to the sink, as `to_ordered_string` gives it.
-pub fn write_ordered<K: Sink>(
-    alloc: Global,
-    schema: &Value,
-    sink: &mut K,
-) -> Result<(), OrderedError>
+pub fn write_ordered<K: Sink>(schema: &Value, sink: &mut K) -> Result<(), OrderedError>
     ensures written { OnOk result (IsSent (has_float (view schema.now))
         (ordered_text (view schema.now)) (K.bytes sink.old) (K.bytes sink.new)
         (K.has_failed sink.new)) }
     ensures beginning { result ≡ Err OrderedError.Write → IsSentInPart (has_float (view schema.now))
         (ordered_text (view schema.now)) (K.bytes sink.old) (K.bytes sink.new) }
     ensures failed { result ≡ Err OrderedError.Write → IsTrue (K.has_failed sink.new) }
-    ensures memory { result ≡ Err OrderedError.OutOfMemory → sink.new ≡ sink.old }
+    ensures memory { result ≢ Err OrderedError.OutOfMemory }
 {
-    let mut floats = Floats::new(alloc);
-    if holds_float(schema) {
-        write_value(schema, Layout::Schema, &mut (), &mut floats);
-    }
-    let floats = floats.into_string()?;
-    let mut out = Gathered::new(floats.as_bytes());
+    let mut out = Gathered::new();
     write_value(schema, Layout::Schema, sink, &mut out);
     if out.finish(sink) {
         Ok(())
@@ -46,10 +34,8 @@ pub fn write_ordered<K: Sink>(
 ///
 /// # Errors
 ///
-/// `OutOfMemory` if there is no memory for the texts of numbers that are no whole numbers of 64
-/// bits: nothing was written then. `Write` if the sink has failed: it has a beginning of the text.
+/// `Write` if the sink has failed: it has a beginning of the text. No memory is taken.
 pub fn write_ordered_definitions<K: Sink>(
-    alloc: Global,
     definitions: &Map<String, Value>,
     sink: &mut K,
 ) -> Result<(), OrderedError>
@@ -62,14 +48,9 @@ pub fn write_ordered_definitions<K: Sink>(
         (definitions_text (members_view definitions.now.entries)) (K.bytes sink.old)
         (K.bytes sink.new) }
     ensures failed { result ≡ Err OrderedError.Write → IsTrue (K.has_failed sink.new) }
-    ensures memory { result ≡ Err OrderedError.OutOfMemory → sink.new ≡ sink.old }
+    ensures memory { result ≢ Err OrderedError.OutOfMemory }
 {
-    let mut floats = Floats::new(alloc);
-    if members_hold_float(definitions) {
-        write_object(definitions, Layout::NamedSchemas, &mut (), &mut floats);
-    }
-    let floats = floats.into_string()?;
-    let mut out = Gathered::new(floats.as_bytes());
+    let mut out = Gathered::new();
     write_object(definitions, Layout::NamedSchemas, sink, &mut out);
     if out.finish(sink) {
         Ok(())

@@ -39,15 +39,24 @@ returns-in-Some-as_i64 g c = λ start o h.
       λ _. refl,
     )
 
-pub returns-in_default-as_i64 : goal.returns-in_default-as_i64
-returns-in_default-as_i64 g c = λ start o h.
+pub returns-in-Some-as_f64 : goal.returns-in-Some-as_f64
+returns-in-Some-as_f64 g c = λ start o h.
     let no_unsigned : as_u64 (number_view c.args.n) ≡ None = search rules in
-    let no_signed : as_i64 (number_view c.args.n) ≡ None = search rules in
-    let adds = rw (c.next_float-text.ensures.block, c.next_float-text.ensures.failed) at c.put-in_default-as_i64.ensures.adds in (
-      record { text = o.text ++ (cond (o.after_value && true) (44 ∷ []) [] ++ c.next_float-text.result.now); after_value = true },
+    let no_signed : as_i64 (number_view c.args.n) ≡ None = search rules in (
+      record { text = o.text ++ (cond (o.after_value && true) (44 ∷ []) [] ++ c.as_bytes-in-Some-as_f64.result.now); after_value = true },
       (
-        c.put-in_default-as_i64.ensures.after ∙ c.next_float-text.ensures.after_value,
-        rw (sym h.0) (adds_then _ _ _ _ _ _ _ _ _ _ _ _ _ _ c.put_comma.ensures.adds adds start o.text h.1),
+        c.put-in-Some-as_f64.ensures.after,
+        rw (sym h.0)
+            (adds_then _ _ _ _ _ _ _ _ _ _ _ _ _ _ c.put_comma.ensures.adds c.put-in-Some-as_f64.ensures.adds start o.text h.1),
       ),
+      λ whole. absurd (whole_or_float (number_view c.args.n) no_unsigned no_signed whole),
+    )
+
+pub returns-in_default-as_f64 : goal.returns-in_default-as_f64
+returns-in_default-as_f64 g c = λ start o h.
+    let no_unsigned : as_u64 (number_view c.args.n) ≡ None = search rules in
+    let no_signed : as_i64 (number_view c.args.n) ≡ None = search rules in (
+      record { text = o.text ++ cond (o.after_value && true) (44 ∷ []) []; after_value = true },
+      (refl, rw (sym h.0) (c.put_comma.ensures.adds start o.text h.1)),
       λ whole. absurd (whole_or_float (number_view c.args.n) no_unsigned no_signed whole),
     )
