@@ -3,7 +3,10 @@ pub mod Reading
 pub mod Written
 pub mod LibraryShapes
 mod Examples
+mod BorrowedMembers
+mod BorrowedReading
 mod WrittenExamples
 mod Samples
 mod SampleJson
 pub mod AsRead
+mod Roots

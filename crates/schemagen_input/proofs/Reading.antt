@@ -14,11 +14,11 @@ use Rattle.std.proofs.lemmas.Bool.{and_parts, not-true}
 use Rattle.std.proofs.Math.Bool.{and-false, or-true}
 use Rattle.serde_json.specs.Data.{Data, Items, no_items, item}
 use Rattle.serde_json.specs.Find.{as_str, as_array, get}
-use Rattle.serde_json.specs.View.{view, items_view}
-use Rattle.serde_json.specs.declared.value.Value.{Value}
+use Rattle.schemagen_input.specs.BorrowedValue.{data_of, items_data}
+use Rattle.schemagen_input.specs.declared.borrowed_value.BorrowedValue.{BorrowedValue}
 use Rattle.schemars_schema.specs.Json.{Text}
 use Rattle.schemars_schema.proofs.Members.{flipped}
-use Rattle.schemars_schema.proofs.Lists.{from_here}
+use Rattle.schemagen_input.proofs.BorrowedMembers.{from_here}
 use Rattle.schemars_shapes.specs.Shape.{Entry, numbers_of}
 use Rattle.schemars_types.specs.Rows.{Row, place_of, with_entry, defined, reserved, unknown_in, holds_another}
 use Rattle.schemars_types.specs.Refusals.{refusal_of}
@@ -98,8 +98,8 @@ ids_of-append (x ∷ xs) ys = ap (λ ts. x.id ∷ ts) (ids_of-append xs ys)
 -- ---- headings
 
 -- the first `n` rows have their headings in the table, and the rest are still to be read
-pub record Reserving (rows : List Value) (n : ℕ) (types : List Row) : Type 0 where
-  pub rest : reserved_after [] (items_view rows) ≡ reserved_after types (items_view (drop n rows))
+pub record Reserving (rows : List BorrowedValue) (n : ℕ) (types : List Row) : Type 0 where
+  pub rest : reserved_after [] (items_data rows) ≡ reserved_after types (items_data (drop n rows))
   pub differ : ids_differ (ids_of types) ≡ true
 
 reserved_after-item : (types : List Row) (d : Data) (ds : Items) (r : Row) → heading_in d ≡ Some r
@@ -112,9 +112,9 @@ reserved_after-item types d ds r is = rw is (by (headings_in ds))
     by None = refl
     by (Some rs) = rw (append_assoc types (r ∷ []) rs)
 
-pub reserving_goes_on : (rows : List Value) (n : ℕ) (types new : List Row) (row : Value) (id name : Text) → row ≡ get_or rows n row
+pub reserving_goes_on : (rows : List BorrowedValue) (n : ℕ) (types new : List Row) (row : BorrowedValue) (id name : Text) → row ≡ get_or rows n row
     → n < length rows
-    → Reserving rows n types → heading_in (view row) ≡ Some (unentered id name) → is_some (place_of id types) ≡ false
+    → Reserving rows n types → heading_in (data_of row) ≡ Some (unentered id name) → is_some (place_of id types) ≡ false
     → new ≡ reserved id name types → Reserving rows (n + 1) new
 reserving_goes_on rows n types new row id name is here before heading absent grown =
     let r = unentered id name in
@@ -122,19 +122,19 @@ reserving_goes_on rows n types new row id name is here before heading absent gro
     let free : list_any (λ u. bytes_eq u id) (ids_of types) ≡ false = sym (is_some-position_from id types 0) ∙ absent in
     record {
       rest = before.rest ∙ ap (reserved_after types) (from_here rows n row here is)
-          ∙ reserved_after-item types (view row) (items_view (drop (n + 1) rows)) r heading
-          ∙ ap (λ (rs : List Row). reserved_after rs (items_view (drop (n + 1) rows))) (sym joined);
+          ∙ reserved_after-item types (data_of row) (items_data (drop (n + 1) rows)) r heading
+          ∙ ap (λ (rs : List Row). reserved_after rs (items_data (drop (n + 1) rows))) (sym joined);
       differ = ap (λ (rs : List Row). ids_differ (ids_of rs)) joined ∙ ap ids_differ (ids_of-append types (r ∷ []))
           ∙ ids_differ-joined (ids_of types) id before.differ free;
     }
 
 -- an id is there already
-pub reserving_repeats : (rows : List Value) (n : ℕ) (types : List Row) (row : Value) (id name : Text) → row ≡ get_or rows n row
+pub reserving_repeats : (rows : List BorrowedValue) (n : ℕ) (types : List Row) (row : BorrowedValue) (id name : Text) → row ≡ get_or rows n row
     → n < length rows
-    → Reserving rows n types → heading_in (view row) ≡ Some (unentered id name) → is_some (place_of id types) ≡ true
-    → reserved_after [] (items_view rows) ≡ None
+    → Reserving rows n types → heading_in (data_of row) ≡ Some (unentered id name) → is_some (place_of id types) ≡ true
+    → reserved_after [] (items_data rows) ≡ None
 reserving_repeats rows n types row id name is here before heading there =
-    before.rest ∙ ap (reserved_after types) (from_here rows n row here is) ∙ rw heading (by (headings_in (items_view (drop (n + 1) rows))))
+    before.rest ∙ ap (reserved_after types) (from_here rows n row here is) ∙ rw heading (by (headings_in (items_data (drop (n + 1) rows))))
   where
     by : (o : Option (List Row)) → option_and_then (λ rs. cond (ids_differ (ids_of (types ++ rs))) (Some (types ++ rs)) None)
         (option_map (λ rs. unentered id name ∷ rs) o) ≡ None
@@ -160,14 +160,14 @@ is_within [] after r = omega arith
 is_within (q ∷ done) after r = let h = is_within done after r in omega arith
 
 -- the entries of the first `n` rows are in the table of so many rows, and those of the rest are still to be read
-pub record Defining (rows : List Value) (count n : ℕ) (types : List Row) : Type 0 where
+pub record Defining (rows : List BorrowedValue) (count n : ℕ) (types : List Row) : Type 0 where
   pub done : List Row
   pub after : List Row
   pub split : types ≡ done ++ after
   pub place : length done ≡ n
   pub long : length types ≡ count
-  pub headings : headings_in (items_view (drop n rows)) ≡ Some after
-  pub rest : fitting_after count [] (items_view rows) ≡ fitting_after count done (items_view (drop n rows))
+  pub headings : headings_in (items_data (drop n rows)) ≡ Some after
+  pub rest : fitting_after count [] (items_data rows) ≡ fitting_after count done (items_data (drop n rows))
   pub fit : all_fit count done ≡ true
 
 -- the heading of the next row, and those after it
@@ -194,11 +194,11 @@ fitting_after-item count done d ds r is = rw is (by (rows_in ds))
     by None = refl
     by (Some rs) = rw (append_assoc done (r ∷ []) rs)
 
-next_headings : (rows : List Value) (count n : ℕ) (row : Value) (types : List Row) → row ≡ get_or rows n row → n < length rows
+next_headings : (rows : List BorrowedValue) (count n : ℕ) (row : BorrowedValue) (types : List Row) → row ≡ get_or rows n row → n < length rows
     → (before : Defining rows count n types)
-    → Next (view row) (items_view (drop (n + 1) rows)) before.after
+    → Next (data_of row) (items_data (drop (n + 1) rows)) before.after
 next_headings rows count n row types is here before =
-    next_heading (view row) (items_view (drop (n + 1) rows)) before.after
+    next_heading (data_of row) (items_data (drop (n + 1) rows)) before.after
     (ap headings_in (sym (from_here rows n row here is)) ∙ before.headings)
 
 -- ---- numbers
@@ -274,15 +274,15 @@ refused_is_not_within done after r e x none refused =
 
 -- ---- entries join the table
 
-pub defining_goes_on : (rows : List Value) (count n : ℕ) (types new : List Row) (row : Value) (e : Entry) → row ≡ get_or rows n row
+pub defining_goes_on : (rows : List BorrowedValue) (count n : ℕ) (types new : List Row) (row : BorrowedValue) (e : Entry) → row ≡ get_or rows n row
     → n < length rows
-    → Defining rows count n types → entry_in (view row) ≡ Some e → refusal_of types n e ≡ None
+    → Defining rows count n types → entry_in (data_of row) ≡ Some e → refusal_of types n e ≡ None
     → new ≡ defined n e types → Defining rows count (n + 1) new
 defining_goes_on rows count n types new row e is here before entry taken grown =
     let next = next_headings rows count n row types is here before in
     let done = before.done in
     let r = with_entry e next.heading in
-    let whole : row_in (view row) ≡ Some r = rw (next.here, entry) in
+    let whole : row_in (data_of row) ≡ Some r = rw (next.here, entry) in
     let replaced : new ≡ done ++ r ∷ next.later = grown ∙ ap (λ (k : ℕ). defined k e types) (sym before.place)
     ∙ ap (defined (length done) e) (before.split ∙ ap (λ rs. done ++ rs) next.is) ∙ defined-middle done next.later next.heading e in
     let within : refers_within count e ≡ true = ap (λ (k : ℕ). refers_within k e) (sym before.long) ∙ taken_is_within types n e taken in
@@ -294,7 +294,7 @@ defining_goes_on rows count n types new row e is here before entry taken grown =
       long = ap length grown ∙ length-defined n e types ∙ before.long;
       headings = next.there;
       rest = before.rest ∙ ap (fitting_after count done) (from_here rows n row here is)
-          ∙ fitting_after-item count done (view row) (items_view (drop (n + 1) rows)) r whole;
+          ∙ fitting_after-item count done (data_of row) (items_data (drop (n + 1) rows)) r whole;
       fit = list_all-append (λ q. option_map_or (refers_within count) q.entry false) done (r ∷ [])
           ∙ rw (before.fit, within);
     }
@@ -304,15 +304,15 @@ defining_goes_on rows count n types new row e is here before entry taken grown =
     length-snoc (y ∷ xs) x = let h = length-snoc xs x in omega arith
 
 -- a row's entry does not fit
-does_not_fit : (rows : List Value) (count n : ℕ) (types : List Row) (row : Value) (e : Entry) → row ≡ get_or rows n row → n < length rows
-    → Defining rows count n types → entry_in (view row) ≡ Some e → refers_within count e ≡ false
-    → fitting_after count [] (items_view rows) ≡ None
+does_not_fit : (rows : List BorrowedValue) (count n : ℕ) (types : List Row) (row : BorrowedValue) (e : Entry) → row ≡ get_or rows n row → n < length rows
+    → Defining rows count n types → entry_in (data_of row) ≡ Some e → refers_within count e ≡ false
+    → fitting_after count [] (items_data rows) ≡ None
 does_not_fit rows count n types row e is here before entry bad =
     let next = next_headings rows count n row types is here before in
     let r = with_entry e next.heading in
-    let whole : row_in (view row) ≡ Some r = rw (next.here, entry) in
+    let whole : row_in (data_of row) ≡ Some r = rw (next.here, entry) in
     before.rest ∙ ap (fitting_after count before.done) (from_here rows n row here is)
-    ∙ rw whole (by before.done r (rows_in (items_view (drop (n + 1) rows))) refl)
+    ∙ rw whole (by before.done r (rows_in (items_data (drop (n + 1) rows))) refl)
   where
     unfit : (done : List Row) (r : Row) (rs : List Row) → r.entry ≡ Some e → all_fit count (done ++ r ∷ rs) ≡ false
     unfit done r rs has = list_all-append (λ q. option_map_or (refers_within count) q.entry false) done (r ∷ rs)
@@ -324,17 +324,17 @@ does_not_fit rows count n types row e is here before entry bad =
     by done r (Some rs) has = rw (unfit done r rs has)
 
 -- the table refuses the entry
-pub defining_is_refused : (rows : List Value) (count n : ℕ) (types : List Row) (row : Value) (e : Entry) (x : TypesError)
+pub defining_is_refused : (rows : List BorrowedValue) (count n : ℕ) (types : List Row) (row : BorrowedValue) (e : Entry) (x : TypesError)
     → row ≡ get_or rows n row → n < length rows
-    → Defining rows count n types → entry_in (view row) ≡ Some e → refusal_of types n e ≡ Some x
-    → fitting_after count [] (items_view rows) ≡ None
+    → Defining rows count n types → entry_in (data_of row) ≡ Some e → refusal_of types n e ≡ Some x
+    → fitting_after count [] (items_data rows) ≡ None
 defining_is_refused rows count n types row e x is here before entry refused =
     let next = next_headings rows count n row types is here before in
     let whole : types ≡ before.done ++ next.heading ∷ next.later = before.split ∙ ap (λ rs. before.done ++ rs) next.is in
     let at_place : refusal_of (before.done ++ next.heading ∷ next.later) (length before.done) e ≡ Some x =
     ap (λ (k : ℕ). refusal_of (before.done ++ next.heading ∷ next.later) k e) before.place
     ∙ ap (λ (rs : List Row). refusal_of rs n e) (sym whole) ∙ refused in
-    let outside = refused_is_not_within before.done next.later next.heading e x (no_entry (view row) next.heading next.here) at_place in
+    let outside = refused_is_not_within before.done next.later next.heading e x (no_entry (data_of row) next.heading next.here) at_place in
     let so_many : count ≡ length (before.done ++ next.heading ∷ next.later) = sym before.long ∙ ap length whole in
     does_not_fit rows count n types row e is here before entry (ap (λ (k : ℕ). refers_within k e) so_many ∙ outside)
 

@@ -1,5 +1,6 @@
 -- The definitions that contracts cite.
 pub mod Forms
+pub mod BorrowedValue
 pub mod Errors
 pub mod Input
 pub mod Written

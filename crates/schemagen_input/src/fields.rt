@@ -1,6 +1,6 @@
 //! Fields of structs.
 ghost use Rattle.std.specs.Prelude.{◌≡◌, true, None, Some, IfOk, IfErr, option_map, map, codes};
-ghost use Rattle.serde_json.specs.View.{view, items_view};
+ghost use Rattle.schemagen_input.specs.BorrowedValue.{data_of, items_data};
 ghost use Rattle.schemars_shapes.specs.Shape.{shape_of, field_of, flattened_of, fields_of};
 ghost use Rattle.schemars_shapes.specs.Shape.{required_of};
 ghost use Rattle.schemagen_input.specs.Forms.{required, required_each, required_in, field_in};
@@ -8,15 +8,15 @@ ghost use Rattle.schemagen_input.specs.Forms.{fields_in, list_in, fields_said, s
 ghost use Rattle.schemagen_input.specs.Forms.{optional_member, flattened_from, all_flattened_in};
 ghost use Rattle.schemagen_input.specs.Forms.{flatten_in};
 
+use crate::borrowed_value::BorrowedValue;
 use crate::error::InputError;
 use crate::members::{flag_in, has_only, notes_in, number_of, text_in};
 use schemars_types::{Field, Fields, Flattened, Required, Shape};
-use serde_json::Value;
 use std::alloc::Global;
 
 // Whether a member has to be there, said for values that are read and for those that are written.
-fn required_each(value: &Value) -> Option<Required>
-    ensures { option_map required_of result ≡ required_each (view value.now) }
+fn required_each(value: &BorrowedValue<'_>) -> Option<Required>
+    ensures { option_map required_of result ≡ required_each (data_of value.now) }
 {
     if !has_only(value, &["deserialize", "serialize"]) {
         return None;
@@ -29,8 +29,8 @@ fn required_each(value: &Value) -> Option<Required>
     })
 }
 
-fn required_in(value: &Value) -> Option<Required>
-    ensures { option_map required_of result ≡ required_in (view value.now) }
+fn required_in(value: &BorrowedValue<'_>) -> Option<Required>
+    ensures { option_map required_of result ≡ required_in (data_of value.now) }
 {
     match value.as_bool() {
         Some(both) => Some(Required {
@@ -42,9 +42,9 @@ fn required_in(value: &Value) -> Option<Required>
 }
 
 // What a field says under `required`; where that is missing, it has to be there.
-fn need_in(value: &Value) -> Option<Required>
+fn need_in(value: &BorrowedValue<'_>) -> Option<Required>
     ensures { option_map required_of result
-        ≡ optional_member (required true true) required_in (codes "required") (view value.now) }
+        ≡ optional_member (required true true) required_in (codes "required") (data_of value.now) }
 {
     match value.get("required") {
         None => Some(Required {
@@ -57,9 +57,9 @@ fn need_in(value: &Value) -> Option<Required>
 
 const FIELD_NAMES: [&str; 4] = ["name", "type", "required", "notes"];
 
-fn field_in(alloc: Global, value: &Value) -> Result<Field, InputError>
-    ensures ok { IfOk result (λ f. field_in (view value.now) ≡ Some (field_of f)) }
-    ensures bad { IfErr result (λ e. e ≡ InputError.BadTable → field_in (view value.now) ≡ None) }
+fn field_in(alloc: Global, value: &BorrowedValue<'_>) -> Result<Field, InputError>
+    ensures ok { IfOk result (λ f. field_in (data_of value.now) ≡ Some (field_of f)) }
+    ensures bad { IfErr result (λ e. e ≡ InputError.BadTable → field_in (data_of value.now) ≡ None) }
 {
     if !has_only(value, &FIELD_NAMES) {
         return Err(InputError::BadTable);
@@ -81,11 +81,11 @@ fn field_in(alloc: Global, value: &Value) -> Result<Field, InputError>
     })
 }
 
-fn fields_in(alloc: Global, values: &[Value]) -> Result<Vec<Field>, InputError>
-    ensures ok { IfOk result (λ v. fields_in (items_view values.now)
+fn fields_in(alloc: Global, values: &[BorrowedValue<'_>]) -> Result<Vec<Field>, InputError>
+    ensures ok { IfOk result (λ v. fields_in (items_data values.now)
         ≡ Some (map field_of v.items)) }
     ensures bad { IfErr result
-        (λ e. e ≡ InputError.BadTable → fields_in (items_view values.now) ≡ None) }
+        (λ e. e ≡ InputError.BadTable → fields_in (items_data values.now) ≡ None) }
 {
     let mut fields = Vec::new(alloc);
     for value in values {
@@ -96,9 +96,9 @@ fn fields_in(alloc: Global, values: &[Value]) -> Result<Vec<Field>, InputError>
 }
 
 // The fields of a struct; there are none where they are missing.
-fn list_in(alloc: Global, value: &Value) -> Result<Vec<Field>, InputError>
-    ensures ok { IfOk result (λ v. list_in (view value.now) ≡ Some (map field_of v.items)) }
-    ensures bad { IfErr result (λ e. e ≡ InputError.BadTable → list_in (view value.now) ≡ None) }
+fn list_in(alloc: Global, value: &BorrowedValue<'_>) -> Result<Vec<Field>, InputError>
+    ensures ok { IfOk result (λ v. list_in (data_of value.now) ≡ Some (map field_of v.items)) }
+    ensures bad { IfErr result (λ e. e ≡ InputError.BadTable → list_in (data_of value.now) ≡ None) }
 {
     let Some(list) = value.get("fields") else {
         return Ok(Vec::new(alloc));
@@ -109,8 +109,8 @@ fn list_in(alloc: Global, value: &Value) -> Result<Vec<Field>, InputError>
     }
 }
 
-fn flattened_in(value: &Value) -> Option<Flattened>
-    ensures { option_map flattened_of result ≡ flattened_from (view value.now) }
+fn flattened_in(value: &BorrowedValue<'_>) -> Option<Flattened>
+    ensures { option_map flattened_of result ≡ flattened_from (data_of value.now) }
 {
     if !has_only(value, &["type", "required"]) {
         return None;
@@ -120,11 +120,14 @@ fn flattened_in(value: &Value) -> Option<Flattened>
     Some(Flattened { ty, required })
 }
 
-fn all_flattened_in(alloc: Global, values: &[Value]) -> Result<Vec<Flattened>, InputError>
-    ensures ok { IfOk result (λ v. all_flattened_in (items_view values.now)
+fn all_flattened_in(
+    alloc: Global,
+    values: &[BorrowedValue<'_>],
+) -> Result<Vec<Flattened>, InputError>
+    ensures ok { IfOk result (λ v. all_flattened_in (items_data values.now)
         ≡ Some (map flattened_of v.items)) }
     ensures bad { IfErr result
-        (λ e. e ≡ InputError.BadTable → all_flattened_in (items_view values.now) ≡ None) }
+        (λ e. e ≡ InputError.BadTable → all_flattened_in (items_data values.now) ≡ None) }
 {
     let mut rows = Vec::new(alloc);
     for value in values {
@@ -137,9 +140,9 @@ fn all_flattened_in(alloc: Global, values: &[Value]) -> Result<Vec<Flattened>, I
 }
 
 // The rows flattened into a struct; there are none where they are missing.
-fn flatten_in(alloc: Global, value: &Value) -> Result<Vec<Flattened>, InputError>
-    ensures ok { IfOk result (λ v. flatten_in (view value.now) ≡ Some (map flattened_of v.items)) }
-    ensures bad { IfErr result (λ e. e ≡ InputError.BadTable → flatten_in (view value.now) ≡ None) }
+fn flatten_in(alloc: Global, value: &BorrowedValue<'_>) -> Result<Vec<Flattened>, InputError>
+    ensures ok { IfOk result (λ v. flatten_in (data_of value.now) ≡ Some (map flattened_of v.items)) }
+    ensures bad { IfErr result (λ e. e ≡ InputError.BadTable → flatten_in (data_of value.now) ≡ None) }
 {
     let Some(rows) = value.get("flatten") else {
         return Ok(Vec::new(alloc));
@@ -151,10 +154,10 @@ fn flatten_in(alloc: Global, value: &Value) -> Result<Vec<Flattened>, InputError
 }
 
 /// The fields of a struct, the rows flattened into it, and whether other keys are excluded.
-pub fn fields_said(alloc: Global, value: &Value) -> Result<Fields, InputError>
-    ensures ok { IfOk result (λ f. fields_said (view value.now) ≡ Some (fields_of f)) }
+pub fn fields_said(alloc: Global, value: &BorrowedValue<'_>) -> Result<Fields, InputError>
+    ensures ok { IfOk result (λ f. fields_said (data_of value.now) ≡ Some (fields_of f)) }
     ensures bad { IfErr result (λ e. e ≡ InputError.BadTable
-        → fields_said (view value.now) ≡ None) }
+        → fields_said (data_of value.now) ≡ None) }
 {
     if !has_only(value, &["fields", "flatten", "closed"]) {
         return Err(InputError::BadTable);
@@ -172,9 +175,9 @@ pub fn fields_said(alloc: Global, value: &Value) -> Result<Fields, InputError>
 }
 
 /// A struct.
-pub fn struct_in(alloc: Global, value: &Value) -> Result<Shape, InputError>
-    ensures ok { IfOk result (λ s. struct_in (view value.now) ≡ Some (shape_of s)) }
-    ensures bad { IfErr result (λ e. e ≡ InputError.BadTable → struct_in (view value.now) ≡ None) }
+pub fn struct_in(alloc: Global, value: &BorrowedValue<'_>) -> Result<Shape, InputError>
+    ensures ok { IfOk result (λ s. struct_in (data_of value.now) ≡ Some (shape_of s)) }
+    ensures bad { IfErr result (λ e. e ≡ InputError.BadTable → struct_in (data_of value.now) ≡ None) }
 {
     let fields = fields_said(alloc, value)?;
     Ok(Shape::Struct(fields))

@@ -1,7 +1,7 @@
 //! The table that a JSON value says.
 ghost use Rattle.std.specs.Prelude.{◌≡◌, ◌≢◌, ◌<◌, ℕ, List, [], true, None, Some, IfOk, IfErr};
 ghost use Rattle.std.specs.Prelude.{option_map, length};
-ghost use Rattle.serde_json.specs.View.{view, items_view};
+ghost use Rattle.schemagen_input.specs.BorrowedValue.{data_of, items_data};
 ghost use Rattle.schemagen_input.specs.Forms.{needed_member};
 ghost use Rattle.schemagen_input.specs.Input.{heading_in, unentered, is_complete, table_in};
 ghost use Rattle.schemagen_input.specs.Input.{input_of};
@@ -10,18 +10,18 @@ ghost use Rattle.schemars_types.specs.Rows.{Row};
 ghost use Rattle.schemagen_input.specs.Reading.{headings_in, reserved_after, fitting_after};
 ghost use Rattle.serde_json.specs.Find.{as_array};
 
+use crate::borrowed_value::BorrowedValue;
 use crate::error::InputError;
 use crate::members::{has_only, number_of, text_in};
 use crate::shapes::entry_in;
 use schemars_types::{TypeNo, Types};
-use serde_json::Value;
 use std::alloc::Global;
 
 const ROW_NAMES: [&str; 5] = ["id", "name", "inline", "notes", "shape"];
 
 // The id and the name of a row.
-fn heading_in(value: &Value) -> Option<(&str, &str)>
-    ensures { option_map (λ h. unentered h.0.now h.1.now) result ≡ heading_in (view value.now) }
+fn heading_in<'a>(value: &BorrowedValue<'a>) -> Option<(&'a str, &'a str)>
+    ensures { option_map (λ h. unentered h.0.now h.1.now) result ≡ heading_in (data_of value.now) }
 {
     if !has_only(value, &ROW_NAMES) {
         return None;
@@ -32,10 +32,10 @@ fn heading_in(value: &Value) -> Option<(&str, &str)>
 }
 
 // A table with the ids and the names of these rows.
-fn reserve_rows(alloc: Global, rows: &[Value]) -> Result<Types, InputError>
-    ensures ok { IfOk result (λ t. reserved_after [] (items_view rows.now) ≡ Some t) }
+fn reserve_rows(alloc: Global, rows: &[BorrowedValue<'_>]) -> Result<Types, InputError>
+    ensures ok { IfOk result (λ t. reserved_after [] (items_data rows.now) ≡ Some t) }
     ensures bad { IfErr result (λ e. e ≡ InputError.BadTable
-        → reserved_after [] (items_view rows.now) ≡ None) }
+        → reserved_after [] (items_data rows.now) ≡ None) }
 {
     let mut types = Types::new(alloc);
     for row in rows {
@@ -53,11 +53,15 @@ fn reserve_rows(alloc: Global, rows: &[Value]) -> Result<Types, InputError>
 }
 
 // Gives the rows of the table their entries. A table takes no number that is no row's.
-fn define_rows(alloc: Global, mut types: Types, rows: &[Value]) -> Result<Types, InputError>
-    requires { headings_in (items_view rows.now) ≡ Some types }
-    ensures ok { IfOk result (λ t. fitting_after (length types) [] (items_view rows.now) ≡ Some t) }
+fn define_rows(
+    alloc: Global,
+    mut types: Types,
+    rows: &[BorrowedValue<'_>],
+) -> Result<Types, InputError>
+    requires { headings_in (items_data rows.now) ≡ Some types }
+    ensures ok { IfOk result (λ t. fitting_after (length types) [] (items_data rows.now) ≡ Some t) }
     ensures bad { IfErr result (λ e. e ≡ InputError.BadTable
-        → fitting_after (length types) [] (items_view rows.now) ≡ None) }
+        → fitting_after (length types) [] (items_data rows.now) ≡ None) }
 {
     for (n, row) in rows.iter().enumerate() {
         let entry = entry_in(alloc, row)?;
@@ -66,9 +70,9 @@ fn define_rows(alloc: Global, mut types: Types, rows: &[Value]) -> Result<Types,
     Ok(types)
 }
 
-fn items_in<'v>(value: &'v Value, name: &str) -> Option<&'v Vec<Value>>
-    ensures { option_map (λ v. items_view v.now.items) result
-        ≡ needed_member as_array name.now (view value.now) }
+fn items_in<'v, 'a>(value: &'v BorrowedValue<'a>, name: &str) -> Option<&'v Vec<BorrowedValue<'a>>>
+    ensures { option_map (λ v. items_data v.now.items) result
+        ≡ needed_member as_array name.now (data_of value.now) }
 {
     value.get(name)?.as_array()
 }
@@ -82,14 +86,14 @@ fn items_in<'v>(value: &'v Value, name: &str) -> Option<&'v Vec<Value>>
 /// members.
 ///
 /// The JSON of a table reads back as that table, and each table that is read can be written so.
-pub fn read_input(alloc: Global, value: &Value) -> Result<(Types, TypeNo), InputError>
-    ensures ok { IfOk result (λ t. table_in (view value.now) ≡ Some (t.0, t.1)) }
+pub fn read_input(alloc: Global, value: &BorrowedValue<'_>) -> Result<(Types, TypeNo), InputError>
+    ensures ok { IfOk result (λ t. table_in (data_of value.now) ≡ Some (t.0, t.1)) }
     ensures complete { IfOk result (λ t. is_complete t.0 ≡ true) }
-    ensures bad { IfErr result (λ e. e ≡ InputError.BadTable → table_in (view value.now) ≡ None) }
+    ensures bad { IfErr result (λ e. e ≡ InputError.BadTable → table_in (data_of value.now) ≡ None) }
     ensures read_back { (rows : List Row) (root : ℕ) → CanBeWritten rows
-        → view value.now ≡ json_of rows root → IfOk result (λ t. (t.0 ≡ rows) × (t.1 ≡ root)) }
+        → data_of value.now ≡ json_of rows root → IfOk result (λ t. (t.0 ≡ rows) × (t.1 ≡ root)) }
     ensures not_refused { (rows : List Row) (root : ℕ) → CanBeWritten rows
-        → view value.now ≡ json_of rows root → IfErr result (λ e. e ≢ InputError.BadTable) }
+        → data_of value.now ≡ json_of rows root → IfErr result (λ e. e ≢ InputError.BadTable) }
     ensures can_be_written { IfOk result (λ t. CanBeWritten t.0) }
     ensures input { (rows : List Row) (root : ℕ) → CanBeWritten rows
         → root < length rows → input_of (json_of rows root) ≡ Some (rows, root) }

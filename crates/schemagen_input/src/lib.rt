@@ -1,6 +1,7 @@
 //! Reads tables of types, and example values, from JSON values.
 #![tactic(auto)]
 
+mod borrowed_value;
 mod error;
 mod fields;
 mod input;
@@ -8,9 +9,12 @@ mod locate;
 mod members;
 mod sample;
 mod shapes;
+mod text;
 mod variants;
 
+pub use borrowed_value::{BorrowedValue, ParseError};
 pub use error::InputError;
 pub use input::read_input;
 pub use locate::{InputFault, find_fault};
 pub use sample::{SampleError, read_sample};
+pub use text::{TextError, read_table};

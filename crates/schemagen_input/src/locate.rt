@@ -1,6 +1,6 @@
 //! Where a value is no table, and why.
 ghost use Rattle.std.specs.Prelude.{◌≡◌, None, IfOk, IsSome, MatchOption, string_bytes};
-ghost use Rattle.serde_json.specs.View.{view};
+ghost use Rattle.schemagen_input.specs.BorrowedValue.{data_of};
 ghost use Rattle.serde_json.specs.Find.{pointer as points_to};
 ghost use Rattle.schemagen_input.specs.Input.{table_in};
 
@@ -9,11 +9,11 @@ mod members;
 mod rows;
 mod stop;
 
+use crate::borrowed_value::BorrowedValue;
 use crate::error::InputError;
 use crate::input::read_input;
 use crate::locate::rows::check_table;
 use crate::locate::stop::Stop;
-use serde_json::Value;
 use std::alloc::{AllocError, Global};
 
 /// Where a value is no table, and why.
@@ -30,10 +30,13 @@ pub struct InputFault {
 /// # Errors
 ///
 /// Only where memory runs out.
-pub fn find_fault(alloc: Global, value: &Value) -> Result<Option<InputFault>, AllocError>
-    ensures { IfOk result (λ r. MatchOption r (IsSome (table_in (view value.now)))
-        (λ f. (table_in (view value.now) ≡ None)
-        × IsSome (points_to (string_bytes f.place) (view value.now)))) }
+pub fn find_fault(
+    alloc: Global,
+    value: &BorrowedValue<'_>,
+) -> Result<Option<InputFault>, AllocError>
+    ensures { IfOk result (λ r. MatchOption r (IsSome (table_in (data_of value.now)))
+        (λ f. (table_in (data_of value.now) ≡ None)
+        × IsSome (points_to (string_bytes f.place) (data_of value.now)))) }
 {
     match read_input(alloc, value) {
         Ok(_) => Ok(None),
@@ -46,12 +49,13 @@ pub fn find_fault(alloc: Global, value: &Value) -> Result<Option<InputFault>, Al
 }
 
 // The place in a value that is no table.
-fn locate(alloc: Global, value: &Value) -> Result<InputFault, AllocError>
-    ensures { IfOk result (λ f. IsSome (points_to (string_bytes f.place) (view value.now))) }
+fn locate(alloc: Global, value: &BorrowedValue<'_>) -> Result<InputFault, AllocError>
+    ensures { IfOk result (λ f. IsSome (points_to (string_bytes f.place) (data_of value.now))) }
 {
+    let owned = value.to_value(alloc)?;
     match check_table(alloc, value) {
         Err(Stop::OutOfMemory) => Err(AllocError),
-        Err(Stop::Fault(fault)) if value.pointer(fault.place.as_str()).is_some() => Ok(fault),
+        Err(Stop::Fault(fault)) if owned.pointer(fault.place.as_str()).is_some() => Ok(fault),
         _ => Ok(InputFault {
             place: String::new(alloc),
             reason: String::from_str(alloc, "this is no table")?,

@@ -1,13 +1,15 @@
 //! The members of objects, and what single values say.
 ghost use Rattle.std.specs.Prelude.{◌≡◌, false, None, Some, IfOk, IfErr, option_map, string_bytes};
 ghost use Rattle.std.specs.Prelude.{map};
-ghost use Rattle.serde_json.specs.View.{view, items_view, members_view};
+ghost use Rattle.serde_json.specs.View.{members_view};
+ghost use Rattle.schemagen_input.specs.BorrowedValue.{data_of, items_data, members_data};
 ghost use Rattle.schemars_schema.specs.OrderedText.{is_listed};
 ghost use Rattle.schemagen_input.specs.Forms.{has_only, lone_in, number_in, notes_in, kind_named};
 ghost use Rattle.schemagen_input.specs.Forms.{kind_in, parts_from, numbers_in};
 ghost use Rattle.schemagen_input.specs.Forms.{optional_member, needed_member};
 ghost use Rattle.serde_json.specs.Find.{as_bool, as_str};
 
+use crate::borrowed_value::{BorrowedValue, copy_members};
 use crate::error::InputError;
 use schemars_schema::edits::is_listed;
 use schemars_types::{IntKind, TypeNo};
@@ -15,42 +17,52 @@ use serde_json::{Map, Value};
 use std::alloc::{AllocError, Global};
 
 /// Whether the value is an object whose members all have one of these names.
-pub fn has_only(value: &Value, names: &[&str]) -> bool
-    ensures { result ≡ has_only (map (λ n. n.now) names.now) (view value.now) }
+pub fn has_only(value: &BorrowedValue<'_>, names: &[&str]) -> bool
+    ensures { result ≡ has_only (map (λ n. n.now) names.now) (data_of value.now) }
 {
     let Some(members) = value.as_object() else {
         return false;
     };
-    for (name, _) in members.iter() {
-        if !is_listed(name.as_str(), names) {
+    for (name, _) in members {
+        if !is_listed(name, names) {
             return false;
         }
     }
     true
 }
 
-/// The member of an object that has no other.
-pub fn lone_member(members: &Map<String, Value>) -> Option<(&String, &Value)>
-    ensures { option_map (λ m. (string_bytes m.0.now, view m.1.now)) result
-        ≡ lone_in (members_view members.now.entries) }
+/// The name of all members of an object that has one alone, and what it says.
+pub fn lone_member<'v, 'a>(
+    members: &'v Vec<(&'a str, BorrowedValue<'a>)>,
+) -> Option<(&'a str, &'v BorrowedValue<'a>)>
+    ensures { option_map (λ m. (m.0.now, data_of m.1.now)) result
+        ≡ lone_in (members_data members.now.items) }
 {
-    let mut entries = members.iter();
-    match (entries.next(), entries.next()) {
-        (Some(member), None) => Some(member),
-        _ => None,
+    if members.is_empty() {
+        return None;
     }
+    let (name, last) = &members[members.len() - 1];
+    for (other, _) in members {
+        if other != name {
+            return None;
+        }
+    }
+    Some((*name, last))
 }
 
 /// A number of a row.
-pub fn number_in(value: &Value) -> Option<TypeNo>
-    ensures { result ≡ number_in (view value.now) }
+pub fn number_in(value: &BorrowedValue<'_>) -> Option<TypeNo>
+    ensures { result ≡ number_in (data_of value.now) }
 {
     let number = value.as_u64()?;
     Some(number as usize)
 }
 
-fn numbers_in(alloc: Global, values: &[Value]) -> Result<Option<Vec<TypeNo>>, AllocError>
-    ensures { IfOk result (λ r. option_map (λ v. v.items) r ≡ numbers_in (items_view values.now)) }
+fn numbers_in(
+    alloc: Global,
+    values: &[BorrowedValue<'_>],
+) -> Result<Option<Vec<TypeNo>>, AllocError>
+    ensures { IfOk result (λ r. option_map (λ v. v.items) r ≡ numbers_in (items_data values.now)) }
 {
     let mut numbers = Vec::new(alloc);
     for value in values {
@@ -63,8 +75,8 @@ fn numbers_in(alloc: Global, values: &[Value]) -> Result<Option<Vec<TypeNo>>, Al
 }
 
 /// The rows that a list says.
-pub fn parts_in(alloc: Global, value: &Value) -> Result<Option<Vec<TypeNo>>, AllocError>
-    ensures { IfOk result (λ r. option_map (λ v. v.items) r ≡ parts_from (view value.now)) }
+pub fn parts_in(alloc: Global, value: &BorrowedValue<'_>) -> Result<Option<Vec<TypeNo>>, AllocError>
+    ensures { IfOk result (λ r. option_map (λ v. v.items) r ≡ parts_from (data_of value.now)) }
 {
     match value.as_array() {
         Some(values) => numbers_in(alloc, values),
@@ -93,29 +105,29 @@ fn kind_named(name: &str) -> Option<IntKind>
 }
 
 /// A kind of whole number.
-pub fn kind_in(value: &Value) -> Option<IntKind>
-    ensures { result ≡ kind_in (view value.now) }
+pub fn kind_in(value: &BorrowedValue<'_>) -> Option<IntKind>
+    ensures { result ≡ kind_in (data_of value.now) }
 {
     kind_named(value.as_str()?)
 }
 
 /// The text of a member that has to be there.
-pub fn text_in<'v>(value: &'v Value, name: &str) -> Option<&'v str>
-    ensures { option_map (λ t. t.now) result ≡ needed_member as_str name.now (view value.now) }
+pub fn text_in<'a>(value: &BorrowedValue<'a>, name: &str) -> Option<&'a str>
+    ensures { option_map (λ t. t.now) result ≡ needed_member as_str name.now (data_of value.now) }
 {
     value.get(name)?.as_str()
 }
 
 /// The number of a member that has to be there.
-pub fn number_of(value: &Value, name: &str) -> Option<TypeNo>
-    ensures { result ≡ needed_member number_in name.now (view value.now) }
+pub fn number_of(value: &BorrowedValue<'_>, name: &str) -> Option<TypeNo>
+    ensures { result ≡ needed_member number_in name.now (data_of value.now) }
 {
     number_in(value.get(name)?)
 }
 
 /// The truth value of a member; one that is missing is false.
-pub fn flag_in(value: &Value, name: &str) -> Option<bool>
-    ensures { result ≡ optional_member false as_bool name.now (view value.now) }
+pub fn flag_in(value: &BorrowedValue<'_>, name: &str) -> Option<bool>
+    ensures { result ≡ optional_member false as_bool name.now (data_of value.now) }
 {
     match value.get(name) {
         None => Some(false),
@@ -124,15 +136,15 @@ pub fn flag_in(value: &Value, name: &str) -> Option<bool>
 }
 
 /// The notes of a row, a field or a variant: none where they are missing.
-pub fn notes_in(alloc: Global, value: &Value) -> Result<Map<String, Value>, InputError>
-    ensures ok { IfOk result (λ m. notes_in (view value.now) ≡ Some (members_view m.entries)) }
-    ensures bad { IfErr result (λ e. e ≡ InputError.BadTable → notes_in (view value.now) ≡ None) }
+pub fn notes_in(alloc: Global, value: &BorrowedValue<'_>) -> Result<Map<String, Value>, InputError>
+    ensures ok { IfOk result (λ m. notes_in (data_of value.now) ≡ Some (members_view m.entries)) }
+    ensures bad { IfErr result (λ e. e ≡ InputError.BadTable → notes_in (data_of value.now) ≡ None) }
 {
     let Some(notes) = value.get("notes") else {
         return Ok(Map::new(alloc));
     };
-    match notes.clone()? {
-        Value::Object(members) => Ok(members),
-        _ => Err(InputError::BadTable),
+    match notes.as_object() {
+        Some(members) => Ok(copy_members(alloc, members)?),
+        None => Err(InputError::BadTable),
     }
 }

@@ -1,6 +1,6 @@
 //! Shapes and entries.
 ghost use Rattle.std.specs.Prelude.{◌≡◌, None, Some, IfOk, IfErr, option_map};
-ghost use Rattle.serde_json.specs.View.{view};
+ghost use Rattle.schemagen_input.specs.BorrowedValue.{data_of};
 ghost use Rattle.schemars_shapes.specs.Shape.{shape_of, entry_of, formatted};
 ghost use Rattle.schemagen_input.specs.Input.{counted_in, array_in, up_to_in, tuple_in, list_under};
 ghost use Rattle.schemagen_input.specs.Input.{plain_under, literal_in, two_in, result_in};
@@ -8,6 +8,7 @@ ghost use Rattle.schemagen_input.specs.Input.{either_in, map_in, fixed_under};
 ghost use Rattle.schemagen_input.specs.Input.{shape_named, shape_under, shape_in, entry_in};
 ghost use Rattle.serde_json.specs.Find.{as_str};
 
+use crate::borrowed_value::BorrowedValue;
 use crate::error::InputError;
 use crate::fields::struct_in;
 use crate::members::{
@@ -16,7 +17,6 @@ use crate::members::{
 use crate::variants::{adjacent_in, external_in, internal_in, untagged_in};
 use schemars_schema::Schema;
 use schemars_types::{Shape, TypeEntry, TypeNo};
-use serde_json::{Map, Value};
 use std::alloc::{AllocError, Global};
 
 fn shape_named(name: &str) -> Option<Shape>
@@ -36,8 +36,8 @@ fn shape_named(name: &str) -> Option<Shape>
 }
 
 // The row of a list's items, and their number under this name.
-fn counted_in(value: &Value, count: &str) -> Option<(TypeNo, u64)>
-    ensures { result ≡ counted_in count.now (view value.now) }
+fn counted_in(value: &BorrowedValue<'_>, count: &str) -> Option<(TypeNo, u64)>
+    ensures { result ≡ counted_in count.now (data_of value.now) }
 {
     if !has_only(value, &["of", count]) {
         return None;
@@ -47,32 +47,32 @@ fn counted_in(value: &Value, count: &str) -> Option<(TypeNo, u64)>
     Some((n, count))
 }
 
-fn array_in(value: &Value) -> Option<Shape>
-    ensures { option_map shape_of result ≡ array_in (view value.now) }
+fn array_in(value: &BorrowedValue<'_>) -> Option<Shape>
+    ensures { option_map shape_of result ≡ array_in (data_of value.now) }
 {
     let (n, len) = counted_in(value, "len")?;
     Some(Shape::Array(n, len))
 }
 
-fn up_to_in(value: &Value) -> Option<Shape>
-    ensures { option_map shape_of result ≡ up_to_in (view value.now) }
+fn up_to_in(value: &BorrowedValue<'_>) -> Option<Shape>
+    ensures { option_map shape_of result ≡ up_to_in (data_of value.now) }
 {
     let (n, cap) = counted_in(value, "cap")?;
     Some(Shape::UpTo(n, cap))
 }
 
-fn tuple_in(alloc: Global, value: &Value) -> Result<Option<Shape>, AllocError>
-    ensures { IfOk result (λ s. option_map shape_of s ≡ tuple_in (view value.now)) }
+fn tuple_in(alloc: Global, value: &BorrowedValue<'_>) -> Result<Option<Shape>, AllocError>
+    ensures { IfOk result (λ s. option_map shape_of s ≡ tuple_in (data_of value.now)) }
 {
     let parts = parts_in(alloc, value)?;
     Ok(parts.map(Shape::Tuple))
 }
 
 // The shape that an object with this one member says.
-fn shape_under(alloc: Global, name: &str, value: &Value) -> Result<Shape, InputError>
-    ensures ok { IfOk result (λ s. shape_under name.now (view value.now) ≡ Some (shape_of s)) }
+fn shape_under(alloc: Global, name: &str, value: &BorrowedValue<'_>) -> Result<Shape, InputError>
+    ensures ok { IfOk result (λ s. shape_under name.now (data_of value.now) ≡ Some (shape_of s)) }
     ensures bad { IfErr result
-        (λ e. e ≡ InputError.BadTable → shape_under name.now (view value.now) ≡ None) }
+        (λ e. e ≡ InputError.BadTable → shape_under name.now (data_of value.now) ≡ None) }
 {
     match name {
         "struct" => struct_in(alloc, value),
@@ -88,8 +88,12 @@ fn shape_under(alloc: Global, name: &str, value: &Value) -> Result<Shape, InputE
 }
 
 // A shape without fields and variants.
-fn plain_under(alloc: Global, name: &str, value: &Value) -> Result<Option<Shape>, AllocError>
-    ensures { IfOk result (λ s. option_map shape_of s ≡ plain_under name.now (view value.now)) }
+fn plain_under(
+    alloc: Global,
+    name: &str,
+    value: &BorrowedValue<'_>,
+) -> Result<Option<Shape>, AllocError>
+    ensures { IfOk result (λ s. option_map shape_of s ≡ plain_under name.now (data_of value.now)) }
 {
     Ok(match name {
         "int" => kind_in(value).map(Shape::Int),
@@ -97,24 +101,28 @@ fn plain_under(alloc: Global, name: &str, value: &Value) -> Result<Option<Shape>
         "format" => format_in(alloc, value)?,
         "option" => number_in(value).map(Shape::Option),
         "newtype" => number_in(value).map(Shape::Newtype),
-        "literal" => literal_in(value)?,
+        "literal" => literal_in(alloc, value)?,
         _ => list_under(alloc, name, value)?,
     })
 }
 
 // A schema that stands as it is written.
-fn literal_in(value: &Value) -> Result<Option<Shape>, AllocError>
-    ensures { IfOk result (λ s. option_map shape_of s ≡ literal_in (view value.now)) }
+fn literal_in(alloc: Global, value: &BorrowedValue<'_>) -> Result<Option<Shape>, AllocError>
+    ensures { IfOk result (λ s. option_map shape_of s ≡ literal_in (data_of value.now)) }
 {
-    match Schema::try_from(value.clone()?) {
+    match Schema::try_from(value.to_value(alloc)?) {
         Ok(schema) => Ok(Some(Shape::Literal(schema))),
         Err(_) => Ok(None),
     }
 }
 
 // A list, of the kind that this name tells.
-fn list_under(alloc: Global, name: &str, value: &Value) -> Result<Option<Shape>, AllocError>
-    ensures { IfOk result (λ s. option_map shape_of s ≡ list_under name.now (view value.now)) }
+fn list_under(
+    alloc: Global,
+    name: &str,
+    value: &BorrowedValue<'_>,
+) -> Result<Option<Shape>, AllocError>
+    ensures { IfOk result (λ s. option_map shape_of s ≡ list_under name.now (data_of value.now)) }
 {
     Ok(match name {
         "seq" => number_in(value).map(Shape::Seq),
@@ -127,8 +135,8 @@ fn list_under(alloc: Global, name: &str, value: &Value) -> Result<Option<Shape>,
 }
 
 // Two rows under these names.
-fn two_in(value: &Value, first: &str, second: &str) -> Option<(TypeNo, TypeNo)>
-    ensures { result ≡ two_in first.now second.now (view value.now) }
+fn two_in(value: &BorrowedValue<'_>, first: &str, second: &str) -> Option<(TypeNo, TypeNo)>
+    ensures { result ≡ two_in first.now second.now (data_of value.now) }
 {
     if !has_only(value, &[first, second]) {
         return None;
@@ -138,30 +146,30 @@ fn two_in(value: &Value, first: &str, second: &str) -> Option<(TypeNo, TypeNo)>
     Some((m, n))
 }
 
-fn result_in(value: &Value) -> Option<Shape>
-    ensures { option_map shape_of result ≡ result_in (view value.now) }
+fn result_in(value: &BorrowedValue<'_>) -> Option<Shape>
+    ensures { option_map shape_of result ≡ result_in (data_of value.now) }
 {
     let (ok, err) = two_in(value, "ok", "err")?;
     Some(Shape::Result(ok, err))
 }
 
-fn either_in(value: &Value) -> Option<Shape>
-    ensures { option_map shape_of result ≡ either_in (view value.now) }
+fn either_in(value: &BorrowedValue<'_>) -> Option<Shape>
+    ensures { option_map shape_of result ≡ either_in (data_of value.now) }
 {
     let (left, right) = two_in(value, "left", "right")?;
     Some(Shape::Either(left, right))
 }
 
-fn map_in(value: &Value) -> Option<Shape>
-    ensures { option_map shape_of result ≡ map_in (view value.now) }
+fn map_in(value: &BorrowedValue<'_>) -> Option<Shape>
+    ensures { option_map shape_of result ≡ map_in (data_of value.now) }
 {
     let (key, value) = two_in(value, "key", "value")?;
     Some(Shape::Map(key, value))
 }
 
 // A map, of the kind that this name tells.
-fn fixed_under(name: &str, value: &Value) -> Option<Shape>
-    ensures { option_map shape_of result ≡ fixed_under name.now (view value.now) }
+fn fixed_under(name: &str, value: &BorrowedValue<'_>) -> Option<Shape>
+    ensures { option_map shape_of result ≡ fixed_under name.now (data_of value.now) }
 {
     match name {
         "bound" => number_in(value).map(Shape::Bound),
@@ -173,9 +181,9 @@ fn fixed_under(name: &str, value: &Value) -> Option<Shape>
     }
 }
 
-fn format_in(alloc: Global, value: &Value) -> Result<Option<Shape>, AllocError>
+fn format_in(alloc: Global, value: &BorrowedValue<'_>) -> Result<Option<Shape>, AllocError>
     ensures { IfOk result (λ s. option_map shape_of s
-        ≡ option_map formatted (as_str (view value.now))) }
+        ≡ option_map formatted (as_str (data_of value.now))) }
 {
     let Some(format) = value.as_str() else {
         return Ok(None);
@@ -183,26 +191,26 @@ fn format_in(alloc: Global, value: &Value) -> Result<Option<Shape>, AllocError>
     Ok(Some(Shape::Formatted(String::from_str(alloc, format)?)))
 }
 
-fn shape_in(alloc: Global, value: &Value) -> Result<Shape, InputError>
-    ensures ok { IfOk result (λ s. shape_in (view value.now) ≡ Some (shape_of s)) }
-    ensures bad { IfErr result (λ e. e ≡ InputError.BadTable → shape_in (view value.now) ≡ None) }
+fn shape_in(alloc: Global, value: &BorrowedValue<'_>) -> Result<Shape, InputError>
+    ensures ok { IfOk result (λ s. shape_in (data_of value.now) ≡ Some (shape_of s)) }
+    ensures bad { IfErr result (λ e. e ≡ InputError.BadTable → shape_in (data_of value.now) ≡ None) }
 {
     match value {
-        Value::String(name) => shape_named(name.as_str()).ok_or(InputError::BadTable),
-        Value::Object(members) => {
+        BorrowedValue::String(name) => shape_named(name).ok_or(InputError::BadTable),
+        BorrowedValue::Object(members) => {
             let Some((name, part)) = lone_member(members) else {
                 return Err(InputError::BadTable);
             };
-            shape_under(alloc, name.as_str(), part)
+            shape_under(alloc, name, part)
         }
         _ => Err(InputError::BadTable),
     }
 }
 
 /// The entry of a row.
-pub fn entry_in(alloc: Global, value: &Value) -> Result<TypeEntry, InputError>
-    ensures ok { IfOk result (λ e. entry_in (view value.now) ≡ Some (entry_of e)) }
-    ensures bad { IfErr result (λ e. e ≡ InputError.BadTable → entry_in (view value.now) ≡ None) }
+pub fn entry_in(alloc: Global, value: &BorrowedValue<'_>) -> Result<TypeEntry, InputError>
+    ensures ok { IfOk result (λ e. entry_in (data_of value.now) ≡ Some (entry_of e)) }
+    ensures bad { IfErr result (λ e. e ≡ InputError.BadTable → entry_in (data_of value.now) ≡ None) }
 {
     let (Some(inline), Some(shape)) = (flag_in(value, "inline"), value.get("shape")) else {
         return Err(InputError::BadTable);

@@ -1,7 +1,7 @@
 //! Variants of enums.
 ghost use Rattle.std.specs.Prelude.{◌≡◌, None, Some, IfOk, IfErr, option_map, option_and_then, map};
 ghost use Rattle.std.specs.Prelude.{codes};
-ghost use Rattle.serde_json.specs.View.{view, items_view};
+ghost use Rattle.schemagen_input.specs.BorrowedValue.{data_of, items_data};
 ghost use Rattle.schemars_shapes.specs.Shape.{shape_of, no_payload, payload_of, variant_of};
 ghost use Rattle.schemars_shapes.specs.Shape.{internal_payload_of, internal_variant_of};
 ghost use Rattle.schemagen_input.specs.Forms.{payload_named, payload_under, payload_in, variant_in};
@@ -10,13 +10,13 @@ ghost use Rattle.schemagen_input.specs.Forms.{enum_in, external_in, untagged_in}
 ghost use Rattle.schemagen_input.specs.Forms.{payload_inside, variant_inside, internals_in};
 ghost use Rattle.schemagen_input.specs.Forms.{internals_said, internal_in, optional_member};
 
+use crate::borrowed_value::BorrowedValue;
 use crate::error::InputError;
 use crate::fields::fields_said;
 use crate::members::{flag_in, has_only, lone_member, notes_in, number_in, parts_in, text_in};
 use schemars_types::{
     Adjacent, Internal, InternalPayload, InternalVariant, Payload, Shape, Variant,
 };
-use serde_json::Value;
 use std::alloc::Global;
 
 fn payload_named(name: &str) -> Option<Payload>
@@ -29,10 +29,14 @@ fn payload_named(name: &str) -> Option<Payload>
 }
 
 // What an object with this one member says that a variant has beside its name.
-fn payload_under(alloc: Global, name: &str, value: &Value) -> Result<Payload, InputError>
-    ensures ok { IfOk result (λ p. payload_under name.now (view value.now) ≡ Some (payload_of p)) }
+fn payload_under(
+    alloc: Global,
+    name: &str,
+    value: &BorrowedValue<'_>,
+) -> Result<Payload, InputError>
+    ensures ok { IfOk result (λ p. payload_under name.now (data_of value.now) ≡ Some (payload_of p)) }
     ensures bad { IfErr result
-        (λ e. e ≡ InputError.BadTable → payload_under name.now (view value.now) ≡ None) }
+        (λ e. e ≡ InputError.BadTable → payload_under name.now (data_of value.now) ≡ None) }
 {
     match name {
         "newtype" => match number_in(value) {
@@ -51,29 +55,29 @@ fn payload_under(alloc: Global, name: &str, value: &Value) -> Result<Payload, In
     }
 }
 
-fn payload_in(alloc: Global, value: &Value) -> Result<Payload, InputError>
-    ensures ok { IfOk result (λ p. payload_in (view value.now) ≡ Some (payload_of p)) }
-    ensures bad { IfErr result (λ e. e ≡ InputError.BadTable → payload_in (view value.now) ≡ None) }
+fn payload_in(alloc: Global, value: &BorrowedValue<'_>) -> Result<Payload, InputError>
+    ensures ok { IfOk result (λ p. payload_in (data_of value.now) ≡ Some (payload_of p)) }
+    ensures bad { IfErr result (λ e. e ≡ InputError.BadTable → payload_in (data_of value.now) ≡ None) }
 {
     match value {
-        Value::String(name) => payload_named(name.as_str()).ok_or(InputError::BadTable),
-        Value::Object(members) => {
+        BorrowedValue::String(name) => payload_named(name).ok_or(InputError::BadTable),
+        BorrowedValue::Object(members) => {
             let Some((name, part)) = lone_member(members) else {
                 return Err(InputError::BadTable);
             };
-            payload_under(alloc, name.as_str(), part)
+            payload_under(alloc, name, part)
         }
         _ => Err(InputError::BadTable),
     }
 }
 
 // What a variant says under `payload`; where that is missing, it is a unit.
-fn payload_said(alloc: Global, value: &Value) -> Result<Payload, InputError>
+fn payload_said(alloc: Global, value: &BorrowedValue<'_>) -> Result<Payload, InputError>
     ensures ok { IfOk result (λ p. optional_member no_payload payload_in (codes "payload")
-        (view value.now)
+        (data_of value.now)
         ≡ Some (payload_of p)) }
     ensures bad { IfErr result (λ e. e ≡ InputError.BadTable
-        → optional_member no_payload payload_in (codes "payload") (view value.now) ≡ None) }
+        → optional_member no_payload payload_in (codes "payload") (data_of value.now) ≡ None) }
 {
     match value.get("payload") {
         None => Ok(Payload::Unit),
@@ -83,9 +87,9 @@ fn payload_said(alloc: Global, value: &Value) -> Result<Payload, InputError>
 
 const VARIANT_KEYS: [&str; 3] = ["name", "notes", "payload"];
 
-fn variant_in(alloc: Global, value: &Value) -> Result<Variant, InputError>
-    ensures ok { IfOk result (λ x. variant_in (view value.now) ≡ Some (variant_of x)) }
-    ensures bad { IfErr result (λ e. e ≡ InputError.BadTable → variant_in (view value.now) ≡ None) }
+fn variant_in(alloc: Global, value: &BorrowedValue<'_>) -> Result<Variant, InputError>
+    ensures ok { IfOk result (λ x. variant_in (data_of value.now) ≡ Some (variant_of x)) }
+    ensures bad { IfErr result (λ e. e ≡ InputError.BadTable → variant_in (data_of value.now) ≡ None) }
 {
     if !has_only(value, &VARIANT_KEYS) {
         return Err(InputError::BadTable);
@@ -103,11 +107,11 @@ fn variant_in(alloc: Global, value: &Value) -> Result<Variant, InputError>
     })
 }
 
-fn variants_in(alloc: Global, values: &[Value]) -> Result<Vec<Variant>, InputError>
-    ensures ok { IfOk result (λ v. variants_in (items_view values.now)
+fn variants_in(alloc: Global, values: &[BorrowedValue<'_>]) -> Result<Vec<Variant>, InputError>
+    ensures ok { IfOk result (λ v. variants_in (items_data values.now)
         ≡ Some (map variant_of v.items)) }
     ensures bad { IfErr result
-        (λ e. e ≡ InputError.BadTable → variants_in (items_view values.now) ≡ None) }
+        (λ e. e ≡ InputError.BadTable → variants_in (items_data values.now) ≡ None) }
 {
     let mut variants = Vec::new(alloc);
     for value in values {
@@ -118,11 +122,11 @@ fn variants_in(alloc: Global, values: &[Value]) -> Result<Vec<Variant>, InputErr
 }
 
 // The variants of an enum; there are none where they are missing.
-fn variants_said(alloc: Global, value: &Value) -> Result<Vec<Variant>, InputError>
-    ensures ok { IfOk result (λ v. variants_said (view value.now)
+fn variants_said(alloc: Global, value: &BorrowedValue<'_>) -> Result<Vec<Variant>, InputError>
+    ensures ok { IfOk result (λ v. variants_said (data_of value.now)
         ≡ Some (map variant_of v.items)) }
     ensures bad { IfErr result (λ e. e ≡ InputError.BadTable
-        → variants_said (view value.now) ≡ None) }
+        → variants_said (data_of value.now) ≡ None) }
 {
     let Some(variants) = value.get("variants") else {
         return Ok(Vec::new(alloc));
@@ -134,9 +138,9 @@ fn variants_said(alloc: Global, value: &Value) -> Result<Vec<Variant>, InputErro
 }
 
 // The variants of an enum of which nothing else is said.
-fn enum_in(alloc: Global, value: &Value) -> Result<Vec<Variant>, InputError>
-    ensures ok { IfOk result (λ v. enum_in (view value.now) ≡ Some (map variant_of v.items)) }
-    ensures bad { IfErr result (λ e. e ≡ InputError.BadTable → enum_in (view value.now) ≡ None) }
+fn enum_in(alloc: Global, value: &BorrowedValue<'_>) -> Result<Vec<Variant>, InputError>
+    ensures ok { IfOk result (λ v. enum_in (data_of value.now) ≡ Some (map variant_of v.items)) }
+    ensures bad { IfErr result (λ e. e ≡ InputError.BadTable → enum_in (data_of value.now) ≡ None) }
 {
     if !has_only(value, &["variants"]) {
         return Err(InputError::BadTable);
@@ -145,20 +149,20 @@ fn enum_in(alloc: Global, value: &Value) -> Result<Vec<Variant>, InputError>
 }
 
 /// An enum whose variants are tagged by their names.
-pub fn external_in(alloc: Global, value: &Value) -> Result<Shape, InputError>
-    ensures ok { IfOk result (λ s. external_in (view value.now) ≡ Some (shape_of s)) }
+pub fn external_in(alloc: Global, value: &BorrowedValue<'_>) -> Result<Shape, InputError>
+    ensures ok { IfOk result (λ s. external_in (data_of value.now) ≡ Some (shape_of s)) }
     ensures bad { IfErr result (λ e. e ≡ InputError.BadTable
-        → external_in (view value.now) ≡ None) }
+        → external_in (data_of value.now) ≡ None) }
 {
     let variants = enum_in(alloc, value)?;
     Ok(Shape::External(variants))
 }
 
 /// An enum whose variants are tagged by nothing.
-pub fn untagged_in(alloc: Global, value: &Value) -> Result<Shape, InputError>
-    ensures ok { IfOk result (λ s. untagged_in (view value.now) ≡ Some (shape_of s)) }
+pub fn untagged_in(alloc: Global, value: &BorrowedValue<'_>) -> Result<Shape, InputError>
+    ensures ok { IfOk result (λ s. untagged_in (data_of value.now) ≡ Some (shape_of s)) }
     ensures bad { IfErr result (λ e. e ≡ InputError.BadTable
-        → untagged_in (view value.now) ≡ None) }
+        → untagged_in (data_of value.now) ≡ None) }
 {
     let variants = enum_in(alloc, value)?;
     Ok(Shape::Untagged(variants))
@@ -192,11 +196,14 @@ fn variant_inside(variant: Variant) -> Option<InternalVariant>
     })
 }
 
-fn internals_in(alloc: Global, values: &[Value]) -> Result<Vec<InternalVariant>, InputError>
-    ensures ok { IfOk result (λ v. internals_in (items_view values.now)
+fn internals_in(
+    alloc: Global,
+    values: &[BorrowedValue<'_>],
+) -> Result<Vec<InternalVariant>, InputError>
+    ensures ok { IfOk result (λ v. internals_in (items_data values.now)
         ≡ Some (map internal_variant_of v.items)) }
     ensures bad { IfErr result
-        (λ e. e ≡ InputError.BadTable → internals_in (items_view values.now) ≡ None) }
+        (λ e. e ≡ InputError.BadTable → internals_in (items_data values.now) ≡ None) }
 {
     let mut variants = Vec::new(alloc);
     for value in values {
@@ -206,23 +213,29 @@ fn internals_in(alloc: Global, values: &[Value]) -> Result<Vec<InternalVariant>,
     Ok(variants)
 }
 
-fn internal_variant_in(alloc: Global, value: &Value) -> Result<InternalVariant, InputError>
-    ensures ok { IfOk result (λ x. option_and_then variant_inside (variant_in (view value.now))
+fn internal_variant_in(
+    alloc: Global,
+    value: &BorrowedValue<'_>,
+) -> Result<InternalVariant, InputError>
+    ensures ok { IfOk result (λ x. option_and_then variant_inside (variant_in (data_of value.now))
         ≡ Some (internal_variant_of x)) }
     ensures bad { IfErr result
         (λ e. e ≡ InputError.BadTable
-        → option_and_then variant_inside (variant_in (view value.now)) ≡ None) }
+        → option_and_then variant_inside (variant_in (data_of value.now)) ≡ None) }
 {
     let variant = variant_in(alloc, value)?;
     variant_inside(variant).ok_or(InputError::BadTable)
 }
 
 // The variants beside a tag; there are none where they are missing.
-fn internals_said(alloc: Global, value: &Value) -> Result<Vec<InternalVariant>, InputError>
-    ensures ok { IfOk result (λ v. internals_said (view value.now)
+fn internals_said(
+    alloc: Global,
+    value: &BorrowedValue<'_>,
+) -> Result<Vec<InternalVariant>, InputError>
+    ensures ok { IfOk result (λ v. internals_said (data_of value.now)
         ≡ Some (map internal_variant_of v.items)) }
     ensures bad { IfErr result (λ e. e ≡ InputError.BadTable
-        → internals_said (view value.now) ≡ None) }
+        → internals_said (data_of value.now) ≡ None) }
 {
     let Some(variants) = value.get("variants") else {
         return Ok(Vec::new(alloc));
@@ -234,10 +247,10 @@ fn internals_said(alloc: Global, value: &Value) -> Result<Vec<InternalVariant>, 
 }
 
 /// An enum whose variants are named by a member of their own maps.
-pub fn internal_in(alloc: Global, value: &Value) -> Result<Shape, InputError>
-    ensures ok { IfOk result (λ s. internal_in (view value.now) ≡ Some (shape_of s)) }
+pub fn internal_in(alloc: Global, value: &BorrowedValue<'_>) -> Result<Shape, InputError>
+    ensures ok { IfOk result (λ s. internal_in (data_of value.now) ≡ Some (shape_of s)) }
     ensures bad { IfErr result (λ e. e ≡ InputError.BadTable
-        → internal_in (view value.now) ≡ None) }
+        → internal_in (data_of value.now) ≡ None) }
 {
     if !has_only(value, &["tag", "closed", "variants"]) {
         return Err(InputError::BadTable);
@@ -257,10 +270,10 @@ pub fn internal_in(alloc: Global, value: &Value) -> Result<Shape, InputError>
 const ADJACENT_KEYS: [&str; 4] = ["tag", "content", "closed", "variants"];
 
 /// An enum whose variants have name and content under two keys.
-pub fn adjacent_in(alloc: Global, value: &Value) -> Result<Shape, InputError>
-    ensures ok { IfOk result (λ s. adjacent_in (view value.now) ≡ Some (shape_of s)) }
+pub fn adjacent_in(alloc: Global, value: &BorrowedValue<'_>) -> Result<Shape, InputError>
+    ensures ok { IfOk result (λ s. adjacent_in (data_of value.now) ≡ Some (shape_of s)) }
     ensures bad { IfErr result (λ e. e ≡ InputError.BadTable
-        → adjacent_in (view value.now) ≡ None) }
+        → adjacent_in (data_of value.now) ≡ None) }
 {
     if !has_only(value, &ADJACENT_KEYS) {
         return Err(InputError::BadTable);

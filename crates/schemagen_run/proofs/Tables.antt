@@ -42,23 +42,6 @@ both false b e = cc
 pub root_is_within : (rows : List Row) (root : ℕ) → is_table rows root ≡ true → root < length rows
 root_is_within rows root table = ltb-true root (length rows) (both (is_complete rows) (nat_lt root (length rows)) table).1
 
-below : (m n : ℕ) → m < n → nat_lt m n ≡ true
-below m n h = grind (arith, nat_tests)
-
-above : (m n : ℕ) → m ≤ n → nat_lt n m ≡ false
-above m n h = grind (arith, nat_tests)
-
-pub has_root : (rows : List Row) (root count : ℕ) → is_complete rows ≡ true → count ≡ length rows → root < count → is_table rows root ≡ true
-has_root rows root count complete many within = rw (complete, below root (length rows) (omega (arith, many, within)))
-
-pub is_input : (d : Data) (rows : List Row) (root count : ℕ) → table_in d ≡ Some (rows, root) → count ≡ length rows → root < count
-    → input_of d ≡ Some (rows, root)
-is_input d rows root count table many within = rw (table, below root (length rows) (omega (arith, many, within)))
-
-pub is_no_input : (d : Data) (rows : List Row) (root count : ℕ) → table_in d ≡ Some (rows, root) → count ≡ length rows
-    → count ≤ root → input_of d ≡ None
-is_no_input d rows root count table many past = rw (table, above (length rows) root (subst (λ n. n ≤ root) many past))
-
 -- ---- kinds of refusals
 
 is_faulty : {U : Type 0} (rows : List Row) (e f : GenerateError) → (e ≡ OutOfMemory) ⊎ HasFault rows e → f ≡ e

@@ -2,7 +2,7 @@
 ghost use Rattle.std.specs.Prelude.{◌≡◌, ◌≢◌, ◌⊎◌, ◌↔◌, ℕ, List, Some, None, false, true, Err};
 ghost use Rattle.std.specs.Prelude.{IsTrue, IfOk, IfErr, OnOk};
 ghost use Rattle.std.specs.Prelude.{string_bytes, [], ◌∷◌, ◌++◌, ◌<◌, length};
-ghost use Rattle.std.specs.Io.KnownBytes.{Appends};
+ghost use Rattle.std.specs.Io.KnownBytes.{Appends, Consumes, IsAtEnd};
 ghost use Rattle.serde_json.specs.View.{view, members_view};
 ghost use Rattle.schemars_types.specs.Faults.{IsAccepted};
 ghost use Rattle.schemars_generate.specs.Refusals.{HasFault};
@@ -11,7 +11,7 @@ ghost use Rattle.schemars_transform.specs.Member.{some_own};
 ghost use Rattle.schemars_schema.specs.Sink.{AppendsBeginning};
 ghost use Rattle.schemars_sample.specs.Example.{example_of};
 ghost use Rattle.schemars_sample.specs.SampleJson.{sample_json};
-ghost use Rattle.schemagen_input.specs.Input.{is_table, input_of};
+ghost use Rattle.schemagen_input.specs.Input.{is_table};
 ghost use Rattle.schemagen_input.specs.SampleInput.{sample_input, IsAsRead};
 ghost use Rattle.schemagen_run.specs.declared.words.Dialect.TheVariants.{OpenApi3};
 ghost use Rattle.schemagen_run.specs.Words.{AskForTypes, AskForSample, AreCommands};
@@ -35,7 +35,7 @@ use crate::fault::{
 };
 use crate::streams::{Failed, ReadError, Sink, Source, read_all};
 use crate::words::{Asked, Command, Dialect, command_in};
-use schemagen_input::{InputError, SampleError, read_input, read_sample};
+use schemagen_input::{SampleError, TextError, read_sample};
 use schemars::generate::{SchemaGenerator, SchemaSettings};
 use schemars::sample::Sample;
 use schemars::schema::write_ordered_definitions;
@@ -192,8 +192,8 @@ fn read_table<S: Source>(alloc: Global, source: &mut S) -> Result<(Types, TypeNo
         → GivesAll (S.left source.old) (S.left source.new) IsBadTable }
     ensures faults { IfErr result IsReadFault }
 {
-    let value = read_value(alloc, source)?;
-    input_of(alloc, &value)
+    let bytes = read_bytes(alloc, source)?;
+    table_of(alloc, &bytes)
 }
 
 // The value that the source's bytes are the text of.
@@ -205,12 +205,40 @@ fn read_value<S: Source>(alloc: Global, source: &mut S) -> Result<Value, Fault>
         → GivesAll (S.left source.old) (S.left source.new) IsNoJson }
     ensures faults { IfErr result IsValueFault }
 {
-    let bytes = match read_all(alloc, source) {
-        Ok(bytes) => bytes,
-        Err(ReadError::OutOfMemory) => return Err(Fault::Refused(OUT_OF_MEMORY)),
-        Err(ReadError::Failed) => return Err(Fault::Refused(READ)),
-    };
+    let bytes = read_bytes(alloc, source)?;
     value_of(alloc, &bytes)
+}
+
+// All bytes that the source has left.
+fn read_bytes<S: Source>(alloc: Global, source: &mut S) -> Result<Vec<u8>, Fault>
+    ensures bytes { IfOk result (λ b. Consumes (S.left source.old) (S.left source.new) b.items) }
+    ensures end { OnOk result (IsAtEnd (S.left source.new)) }
+    ensures read { (result ≡ Err (Fault.Refused READ)) ↔ IsTrue (S.has_failed source.new) }
+    ensures faults { IfErr result
+        (λ e. (e ≡ Fault.Refused OUT_OF_MEMORY) ⊎ (e ≡ Fault.Refused READ)) }
+{
+    match read_all(alloc, source) {
+        Ok(bytes) => Ok(bytes),
+        Err(ReadError::OutOfMemory) => Err(Fault::Refused(OUT_OF_MEMORY)),
+        Err(ReadError::Failed) => Err(Fault::Refused(READ)),
+    }
+}
+
+// The table that is written in the bytes, and its root.
+fn table_of(alloc: Global, bytes: &[u8]) -> Result<(Types, TypeNo), Fault>
+    ensures ok { IfOk result (λ t. IsTableText t.0 t.1 bytes.now) }
+    ensures table { IfOk result (λ t. is_table t.0 t.1 ≡ true) }
+    ensures not_json { result ≡ Err (Fault.Refused NOT_JSON) → IsNoJson bytes.now }
+    ensures bad_table { result ≡ Err (Fault.Refused BAD_TABLE) → IsBadTable bytes.now }
+    ensures faults { IfErr result (λ e. (e ≡ Fault.Refused OUT_OF_MEMORY)
+        ⊎ (e ≡ Fault.Refused NOT_JSON) ⊎ (e ≡ Fault.Refused BAD_TABLE)) }
+{
+    match schemagen_input::read_table(alloc, bytes) {
+        Ok(table) => Ok(table),
+        Err(TextError::OutOfMemory) => Err(Fault::Refused(OUT_OF_MEMORY)),
+        Err(TextError::NotJson) => Err(Fault::Refused(NOT_JSON)),
+        Err(TextError::BadTable) => Err(Fault::Refused(BAD_TABLE)),
+    }
 }
 
 // The value that is written in the bytes.
@@ -228,26 +256,6 @@ fn value_of(alloc: Global, bytes: &[u8]) -> Result<Value, Fault>
         Err(error) if error.is_memory() => Err(Fault::Refused(OUT_OF_MEMORY)),
         Err(_) => Err(Fault::Refused(NOT_JSON)),
     }
-}
-
-// The table that the value says, and its root, which is one of the rows.
-fn input_of(alloc: Global, value: &Value) -> Result<(Types, TypeNo), Fault>
-    ensures ok { IfOk result (λ t. input_of (view value.now) ≡ Some (t.0, t.1)) }
-    ensures table { IfOk result (λ t. is_table t.0 t.1 ≡ true) }
-    ensures bad_table { result ≡ Err (Fault.Refused BAD_TABLE) → input_of (view value.now) ≡ None }
-    ensures faults { IfErr result
-        (λ e. (e ≡ Fault.Refused OUT_OF_MEMORY) ⊎ (e ≡ Fault.Refused BAD_TABLE)) }
-{
-    let (types, root) = match read_input(alloc, value) {
-        Ok(input) => input,
-        Err(InputError::OutOfMemory) => return Err(Fault::Refused(OUT_OF_MEMORY)),
-        Err(InputError::BadTable) => return Err(Fault::Refused(BAD_TABLE)),
-    };
-    let is_row = root < types.len();
-    if !is_row {
-        return Err(Fault::Refused(BAD_TABLE));
-    }
-    Ok((types, root))
 }
 
 // The settings of a dialect.

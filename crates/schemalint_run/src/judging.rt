@@ -1,19 +1,18 @@
 //! The judgement of a text.
-ghost use Rattle.std.specs.Prelude.{◌≡◌, ◌≢◌, ◌↔◌, ◌++◌, IfOk, IsTrue, MatchOption, None, Some};
+ghost use Rattle.std.specs.Prelude.{◌≡◌, ◌≢◌, ◌↔◌, ◌++◌, IfOk, IsTrue};
 ghost use Rattle.std.specs.Prelude.{string_bytes};
-ghost use Rattle.serde_json.specs.View.{view};
 ghost use Rattle.schemars_schema.specs.Json.{Text};
 ghost use Rattle.schemars_types.specs.Faults.{IsAccepted};
-ghost use Rattle.schemagen_input.specs.Input.{input_of};
-ghost use Rattle.schemagen_input.specs.Texts.{IsTextOf, IsNoJson, IsAcceptedText};
+ghost use Rattle.schemagen_input.specs.Texts.{IsAcceptedText};
 ghost use Rattle.schemalint_run.specs.Lint.{IsPlainText, Judges, verdict_line};
 
 use crate::lines::{add_fault, add_row_fault};
 use crate::reasons::add_reasons;
 use crate::warnings::add_warnings;
-use schemagen_input::{InputError, find_fault, read_input};
+use json::Scratch;
+use schemagen_input::{BorrowedValue, ParseError, TextError, find_fault, read_input, read_table};
 use schemars_plain::is_plain;
-use schemars_types::{TypeNo, Types, TypesError};
+use schemars_types::{Types, TypesError};
 use serde_json::Value;
 use std::alloc::{AllocError, Global};
 
@@ -71,11 +70,13 @@ fn with_verdict(lines: String, verdict: Verdict) -> Result<String, AllocError>
 fn judge(alloc: Global, bytes: &[u8], lines: &mut String) -> Result<Verdict, AllocError>
     ensures { IfOk result (λ v. Judges v bytes.now) }
 {
-    let Some(value) = value_of(alloc, bytes, lines)? else {
-        return Ok(Verdict::Refused);
-    };
-    let Some((types, root)) = table_of(alloc, &value, lines)? else {
-        return Ok(Verdict::Refused);
+    let (types, root) = match read_table(alloc, bytes) {
+        Ok(table) => table,
+        Err(TextError::OutOfMemory) => return Err(AllocError),
+        Err(TextError::NotJson | TextError::BadTable) => {
+            add_refusal(alloc, bytes, lines)?;
+            return Ok(Verdict::Refused);
+        }
     };
     if !is_accepted(alloc, &types, lines)? {
         return Ok(Verdict::Refused);
@@ -88,57 +89,46 @@ fn judge(alloc: Global, bytes: &[u8], lines: &mut String) -> Result<Verdict, All
     Ok(Verdict::NotPlain)
 }
 
-// The value that the text says, if it is JSON.
-fn value_of(alloc: Global, bytes: &[u8], lines: &mut String) -> Result<Option<Value>, AllocError>
-    ensures { IfOk result (λ r. MatchOption r (IsNoJson bytes.now)
-        (λ v. IsTextOf (view v) bytes.now)) }
-{
+// Adds why the text says no table.
+fn add_refusal(alloc: Global, bytes: &[u8], lines: &mut String) -> Result<(), AllocError> {
     let Ok(text) = std::str::from_utf8(bytes) else {
-        add_fault(alloc, lines, "", "this is no UTF-8")?;
-        return Ok(None);
+        return add_fault(alloc, lines, "", "this is no UTF-8");
     };
+    let mut scratch = Scratch::new(alloc);
+    match BorrowedValue::from_str(alloc, text, &mut scratch) {
+        Ok(value) => add_bad_table(alloc, &value, lines),
+        Err(ParseError::OutOfMemory) => Err(AllocError),
+        Err(ParseError::NotJson) => add_syntax_error(alloc, text, lines),
+    }
+}
+
+// Adds where the text is no JSON, and why.
+fn add_syntax_error(alloc: Global, text: &str, lines: &mut String) -> Result<(), AllocError> {
     match Value::from_str(alloc, text) {
-        Ok(value) => Ok(Some(value)),
-        Err(error) if error.is_memory() => Err(AllocError),
-        Err(error) => {
+        Err(error) if !error.is_memory() => {
             let reason = format!(in alloc; "this is no JSON: {error}")?;
-            add_fault(alloc, lines, "", reason.as_str())?;
-            Ok(None)
+            add_fault(alloc, lines, "", reason.as_str())
         }
+        _ => Err(AllocError),
     }
 }
 
-// The table that the value says, and its root, which is one of the rows.
-fn table_of(
+// Adds where the value is no table, or that its root is none of the rows.
+fn add_bad_table(
     alloc: Global,
-    value: &Value,
+    value: &BorrowedValue<'_>,
     lines: &mut String,
-) -> Result<Option<(Types, TypeNo)>, AllocError>
-    ensures { IfOk result (λ r. MatchOption r (input_of (view value.now) ≡ None)
-        (λ t. input_of (view value.now) ≡ Some (t.0, t.1))) }
-{
-    let (types, root) = match read_input(alloc, value) {
-        Ok(input) => input,
-        Err(InputError::OutOfMemory) => return Err(AllocError),
-        Err(InputError::BadTable) => {
-            add_bad_table(alloc, value, lines)?;
-            return Ok(None);
-        }
-    };
-    let rows = types.len();
-    let is_row = root < rows;
-    if !is_row {
-        let reason = format!(in alloc; "{root} is no row of a table of {rows}")?;
-        add_fault(alloc, lines, "/root", reason.as_str())?;
-        return Ok(None);
+) -> Result<(), AllocError> {
+    if let Some(fault) = find_fault(alloc, value)? {
+        return add_fault(alloc, lines, fault.place.as_str(), fault.reason.as_str());
     }
-    Ok(Some((types, root)))
-}
-
-fn add_bad_table(alloc: Global, value: &Value, lines: &mut String) -> Result<(), AllocError> {
-    match find_fault(alloc, value)? {
-        Some(fault) => add_fault(alloc, lines, fault.place.as_str(), fault.reason.as_str()),
-        None => Ok(()),
+    match read_input(alloc, value) {
+        Ok((types, root)) => {
+            let rows = types.len();
+            let reason = format!(in alloc; "{root} is no row of a table of {rows}")?;
+            add_fault(alloc, lines, "/root", reason.as_str())
+        }
+        Err(_) => Err(AllocError),
     }
 }
 

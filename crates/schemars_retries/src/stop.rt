@@ -1,5 +1,5 @@
 //! Why the program stops.
-use schemagen_input::{InputError, SampleError};
+use schemagen_input::{SampleError, TextError};
 use schemagen_run::fault::{Fault, OUT_OF_MEMORY};
 use schemars::GenerateError;
 use schemars::schema::OrderedError;
@@ -62,9 +62,9 @@ impl From<Fault> for Stop {
     }
 }
 
-impl From<InputError> for Stop {
-    fn from(error: InputError) -> Stop {
-        stop_at(error == InputError::OutOfMemory)
+impl From<TextError> for Stop {
+    fn from(error: TextError) -> Stop {
+        stop_at(error == TextError::OutOfMemory)
     }
 }
 

@@ -1,6 +1,6 @@
 //! The tables, and what is read.
 use crate::stop::Stop;
-use schemagen_input::{read_input, read_sample};
+use schemagen_input::{read_sample, read_table};
 use schemars::sample::Sample;
 use schemars::types::{TypeNo, Types};
 use serde_json::Value;
@@ -38,8 +38,7 @@ pub(crate) const EXAMPLE: &str = r#"{"name":"Ada","tags":["a",1,null],"inner":{"
 
 /// The table of a text, and its root.
 pub(crate) fn table_of(alloc: Global, text: &str) -> Result<(Types, TypeNo), Stop> {
-    let value = Value::from_str(alloc, text)?;
-    Ok(read_input(alloc, &value)?)
+    Ok(read_table(alloc, text.as_bytes())?)
 }
 
 /// An example value.

@@ -1,5 +1,5 @@
 //! What the tests share.
-use schemagen_input::read_input;
+use schemagen_input::read_table;
 use schemars::types::{TypeNo, Types, TypesError};
 use serde_json::{Map, Value};
 use std::alloc::{AllocError, Global};
@@ -17,8 +17,7 @@ pub(crate) fn owned(alloc: Global, text: &str) -> Result<String, AllocError> {
 
 /// The table of a text.
 pub(crate) fn table_of(alloc: Global, text: &str) -> Result<Types, Fail> {
-    let value = Value::from_str(alloc, text)?;
-    let (types, _root) = read_input(alloc, &value)?;
+    let (types, _root) = read_table(alloc, text.as_bytes())?;
     Ok(types)
 }
 

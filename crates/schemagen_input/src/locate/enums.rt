@@ -1,14 +1,14 @@
 //! Fields of structs and variants of enums.
+use crate::borrowed_value::BorrowedValue;
 use crate::locate::members::{
     check_flag, check_names, check_notes, check_row, check_row_in, check_rows, check_text, missing,
 };
 use crate::locate::stop::{Stop, inside, inside_item, refuse};
 use crate::members::lone_member;
-use serde_json::Value;
 use std::alloc::Global;
 
 /// The fields of a struct, and the rows flattened into it.
-pub fn check_fields(alloc: Global, value: &Value, rows: usize) -> Result<(), Stop> {
+pub fn check_fields(alloc: Global, value: &BorrowedValue<'_>, rows: usize) -> Result<(), Stop> {
     check_names(alloc, value, &["fields", "flatten", "closed"])?;
     check_flag(alloc, value, "closed")?;
     if let Some(fields) = value.get("fields") {
@@ -20,7 +20,7 @@ pub fn check_fields(alloc: Global, value: &Value, rows: usize) -> Result<(), Sto
     }
 }
 
-fn check_each_field(alloc: Global, value: &Value, rows: usize) -> Result<(), Stop> {
+fn check_each_field(alloc: Global, value: &BorrowedValue<'_>, rows: usize) -> Result<(), Stop> {
     let Some(fields) = value.as_array() else {
         return refuse(alloc, "a list is expected here");
     };
@@ -30,7 +30,7 @@ fn check_each_field(alloc: Global, value: &Value, rows: usize) -> Result<(), Sto
     Ok(())
 }
 
-fn check_field(alloc: Global, value: &Value, rows: usize) -> Result<(), Stop> {
+fn check_field(alloc: Global, value: &BorrowedValue<'_>, rows: usize) -> Result<(), Stop> {
     check_names(alloc, value, &["name", "type", "required", "notes"])?;
     check_text(alloc, value, "name")?;
     check_row_in(alloc, value, "type", rows)?;
@@ -38,7 +38,7 @@ fn check_field(alloc: Global, value: &Value, rows: usize) -> Result<(), Stop> {
     check_notes(alloc, value)
 }
 
-fn check_each_part(alloc: Global, value: &Value, rows: usize) -> Result<(), Stop> {
+fn check_each_part(alloc: Global, value: &BorrowedValue<'_>, rows: usize) -> Result<(), Stop> {
     let Some(parts) = value.as_array() else {
         return refuse(alloc, "a list is expected here");
     };
@@ -48,24 +48,24 @@ fn check_each_part(alloc: Global, value: &Value, rows: usize) -> Result<(), Stop
     Ok(())
 }
 
-fn check_part(alloc: Global, value: &Value, rows: usize) -> Result<(), Stop> {
+fn check_part(alloc: Global, value: &BorrowedValue<'_>, rows: usize) -> Result<(), Stop> {
     check_names(alloc, value, &["type", "required"])?;
     check_row_in(alloc, value, "type", rows)?;
     check_need(alloc, value)
 }
 
 // Whether a member has to be there, if it is said.
-fn check_need(alloc: Global, value: &Value) -> Result<(), Stop> {
+fn check_need(alloc: Global, value: &BorrowedValue<'_>) -> Result<(), Stop> {
     match value.get("required") {
-        Some(need) if !need.is_boolean() => {
+        Some(need) if need.as_bool().is_none() => {
             inside(alloc, "required", check_each_need(alloc, need))
         }
         _ => Ok(()),
     }
 }
 
-fn check_each_need(alloc: Global, value: &Value) -> Result<(), Stop> {
-    if !value.is_object() {
+fn check_each_need(alloc: Global, value: &BorrowedValue<'_>) -> Result<(), Stop> {
+    if value.as_object().is_none() {
         return refuse(alloc, "a truth value is expected here, or an object of two");
     }
     check_names(alloc, value, &["deserialize", "serialize"])?;
@@ -74,7 +74,7 @@ fn check_each_need(alloc: Global, value: &Value) -> Result<(), Stop> {
 }
 
 // A truth value that has to be there.
-fn check_said(alloc: Global, value: &Value, name: &str) -> Result<(), Stop> {
+fn check_said(alloc: Global, value: &BorrowedValue<'_>, name: &str) -> Result<(), Stop> {
     match value.get(name) {
         None => missing(alloc, name),
         Some(_) => check_flag(alloc, value, name),
@@ -82,13 +82,13 @@ fn check_said(alloc: Global, value: &Value, name: &str) -> Result<(), Stop> {
 }
 
 /// The variants of an enum that is tagged by names, or by nothing.
-pub fn check_enum(alloc: Global, value: &Value, rows: usize) -> Result<(), Stop> {
+pub fn check_enum(alloc: Global, value: &BorrowedValue<'_>, rows: usize) -> Result<(), Stop> {
     check_names(alloc, value, &["variants"])?;
     check_variants(alloc, value, rows, false)
 }
 
 /// A tag, and the variants beside it.
-pub fn check_internal(alloc: Global, value: &Value, rows: usize) -> Result<(), Stop> {
+pub fn check_internal(alloc: Global, value: &BorrowedValue<'_>, rows: usize) -> Result<(), Stop> {
     check_names(alloc, value, &["tag", "closed", "variants"])?;
     check_text(alloc, value, "tag")?;
     check_flag(alloc, value, "closed")?;
@@ -96,7 +96,7 @@ pub fn check_internal(alloc: Global, value: &Value, rows: usize) -> Result<(), S
 }
 
 /// The keys of name and content, and the variants.
-pub fn check_adjacent(alloc: Global, value: &Value, rows: usize) -> Result<(), Stop> {
+pub fn check_adjacent(alloc: Global, value: &BorrowedValue<'_>, rows: usize) -> Result<(), Stop> {
     check_names(alloc, value, &["tag", "content", "closed", "variants"])?;
     check_text(alloc, value, "tag")?;
     check_text(alloc, value, "content")?;
@@ -104,7 +104,12 @@ pub fn check_adjacent(alloc: Global, value: &Value, rows: usize) -> Result<(), S
     check_variants(alloc, value, rows, false)
 }
 
-fn check_variants(alloc: Global, value: &Value, rows: usize, beside_tag: bool) -> Result<(), Stop> {
+fn check_variants(
+    alloc: Global,
+    value: &BorrowedValue<'_>,
+    rows: usize,
+    beside_tag: bool,
+) -> Result<(), Stop> {
     match value.get("variants") {
         None => Ok(()),
         Some(list) => inside(
@@ -117,7 +122,7 @@ fn check_variants(alloc: Global, value: &Value, rows: usize, beside_tag: bool) -
 
 fn check_each_variant(
     alloc: Global,
-    value: &Value,
+    value: &BorrowedValue<'_>,
     rows: usize,
     beside_tag: bool,
 ) -> Result<(), Stop> {
@@ -130,7 +135,12 @@ fn check_each_variant(
     Ok(())
 }
 
-fn check_variant(alloc: Global, value: &Value, rows: usize, beside_tag: bool) -> Result<(), Stop> {
+fn check_variant(
+    alloc: Global,
+    value: &BorrowedValue<'_>,
+    rows: usize,
+    beside_tag: bool,
+) -> Result<(), Stop> {
     check_names(alloc, value, &["name", "notes", "payload"])?;
     check_text(alloc, value, "name")?;
     check_notes(alloc, value)?;
@@ -144,14 +154,19 @@ fn check_variant(alloc: Global, value: &Value, rows: usize, beside_tag: bool) ->
     }
 }
 
-fn check_payload(alloc: Global, value: &Value, rows: usize, beside_tag: bool) -> Result<(), Stop> {
+fn check_payload(
+    alloc: Global,
+    value: &BorrowedValue<'_>,
+    rows: usize,
+    beside_tag: bool,
+) -> Result<(), Stop> {
     match value {
-        Value::String(name) if name.as_str() == "unit" => Ok(()),
-        Value::Object(members) => match lone_member(members) {
+        BorrowedValue::String(name) if *name == "unit" => Ok(()),
+        BorrowedValue::Object(members) => match lone_member(members) {
             Some((name, part)) => inside(
                 alloc,
-                name.as_str(),
-                check_payload_under(alloc, name.as_str(), part, rows, beside_tag),
+                name,
+                check_payload_under(alloc, name, part, rows, beside_tag),
             ),
             None => refuse(alloc, "an object of one member is expected here"),
         },
@@ -165,7 +180,7 @@ fn check_payload(alloc: Global, value: &Value, rows: usize, beside_tag: bool) ->
 fn check_payload_under(
     alloc: Global,
     name: &str,
-    value: &Value,
+    value: &BorrowedValue<'_>,
     rows: usize,
     beside_tag: bool,
 ) -> Result<(), Stop> {

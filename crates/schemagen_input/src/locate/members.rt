@@ -1,20 +1,20 @@
 //! The members of objects, and what single values say.
+use crate::borrowed_value::BorrowedValue;
 use crate::locate::stop::{Stop, fault_here, inside, inside_item, refuse};
 use crate::members::kind_in;
 use schemars_schema::edits::is_listed;
-use serde_json::Value;
 use std::alloc::Global;
 
 /// An object whose members all have one of these names.
-pub fn check_names(alloc: Global, value: &Value, names: &[&str]) -> Result<(), Stop> {
+pub fn check_names(alloc: Global, value: &BorrowedValue<'_>, names: &[&str]) -> Result<(), Stop> {
     let Some(members) = value.as_object() else {
         return refuse(alloc, "an object is expected here");
     };
-    for (name, _) in members.iter() {
-        if !is_listed(name.as_str(), names) {
+    for (name, _) in members {
+        if !is_listed(name, names) {
             return inside(
                 alloc,
-                name.as_str(),
+                name,
                 refuse(alloc, "no member of this name is known here"),
             );
         }
@@ -29,18 +29,18 @@ pub fn missing(alloc: Global, name: &str) -> Result<(), Stop> {
 }
 
 /// A member that has to be there, with a text.
-pub fn check_text(alloc: Global, value: &Value, name: &str) -> Result<(), Stop> {
+pub fn check_text(alloc: Global, value: &BorrowedValue<'_>, name: &str) -> Result<(), Stop> {
     match value.get(name) {
         None => missing(alloc, name),
-        Some(text) if text.is_string() => Ok(()),
+        Some(text) if text.as_str().is_some() => Ok(()),
         Some(_) => inside(alloc, name, refuse(alloc, "a text is expected here")),
     }
 }
 
 /// A truth value, if the member is there.
-pub fn check_flag(alloc: Global, value: &Value, name: &str) -> Result<(), Stop> {
+pub fn check_flag(alloc: Global, value: &BorrowedValue<'_>, name: &str) -> Result<(), Stop> {
     match value.get(name) {
-        Some(flag) if !flag.is_boolean() => {
+        Some(flag) if flag.as_bool().is_none() => {
             inside(alloc, name, refuse(alloc, "a truth value is expected here"))
         }
         _ => Ok(()),
@@ -48,9 +48,9 @@ pub fn check_flag(alloc: Global, value: &Value, name: &str) -> Result<(), Stop> 
 }
 
 /// An object, if there are notes.
-pub fn check_notes(alloc: Global, value: &Value) -> Result<(), Stop> {
+pub fn check_notes(alloc: Global, value: &BorrowedValue<'_>) -> Result<(), Stop> {
     match value.get("notes") {
-        Some(notes) if !notes.is_object() => {
+        Some(notes) if notes.as_object().is_none() => {
             inside(alloc, "notes", refuse(alloc, "an object is expected here"))
         }
         _ => Ok(()),
@@ -58,10 +58,10 @@ pub fn check_notes(alloc: Global, value: &Value) -> Result<(), Stop> {
 }
 
 /// A whole number, not below 0.
-pub fn check_count(alloc: Global, value: &Value, name: &str) -> Result<(), Stop> {
+pub fn check_count(alloc: Global, value: &BorrowedValue<'_>, name: &str) -> Result<(), Stop> {
     match value.get(name) {
         None => missing(alloc, name),
-        Some(count) if count.is_u64() => Ok(()),
+        Some(count) if count.as_u64().is_some() => Ok(()),
         Some(_) => inside(
             alloc,
             name,
@@ -71,7 +71,7 @@ pub fn check_count(alloc: Global, value: &Value, name: &str) -> Result<(), Stop>
 }
 
 /// The number of one of `rows` rows.
-pub fn check_row(alloc: Global, value: &Value, rows: usize) -> Result<(), Stop> {
+pub fn check_row(alloc: Global, value: &BorrowedValue<'_>, rows: usize) -> Result<(), Stop> {
     let Some(n) = value.as_u64() else {
         return refuse(alloc, "the number of a row is expected here");
     };
@@ -83,7 +83,12 @@ pub fn check_row(alloc: Global, value: &Value, rows: usize) -> Result<(), Stop> 
 }
 
 /// A member that has to be there, with the number of a row.
-pub fn check_row_in(alloc: Global, value: &Value, name: &str, rows: usize) -> Result<(), Stop> {
+pub fn check_row_in(
+    alloc: Global,
+    value: &BorrowedValue<'_>,
+    name: &str,
+    rows: usize,
+) -> Result<(), Stop> {
     match value.get(name) {
         None => missing(alloc, name),
         Some(row) => inside(alloc, name, check_row(alloc, row, rows)),
@@ -91,7 +96,7 @@ pub fn check_row_in(alloc: Global, value: &Value, name: &str, rows: usize) -> Re
 }
 
 /// A list of the numbers of rows.
-pub fn check_rows(alloc: Global, value: &Value, rows: usize) -> Result<(), Stop> {
+pub fn check_rows(alloc: Global, value: &BorrowedValue<'_>, rows: usize) -> Result<(), Stop> {
     let Some(values) = value.as_array() else {
         return refuse(alloc, "a list is expected here");
     };
@@ -102,7 +107,7 @@ pub fn check_rows(alloc: Global, value: &Value, rows: usize) -> Result<(), Stop>
 }
 
 /// The name of a kind of integers.
-pub fn check_kind(alloc: Global, value: &Value) -> Result<(), Stop> {
+pub fn check_kind(alloc: Global, value: &BorrowedValue<'_>) -> Result<(), Stop> {
     match kind_in(value) {
         Some(_) => Ok(()),
         None => refuse(alloc, "a kind of integers is expected here, such as `i32`"),

@@ -1,4 +1,5 @@
 //! Tables, rows and shapes.
+use crate::borrowed_value::BorrowedValue;
 use crate::locate::enums::{check_adjacent, check_enum, check_fields, check_internal};
 use crate::locate::members::{
     check_count, check_flag, check_kind, check_names, check_notes, check_row, check_row_in,
@@ -7,7 +8,6 @@ use crate::locate::members::{
 use crate::locate::stop::{Stop, fault_here, inside, inside_item, refuse};
 use crate::members::{lone_member, text_in};
 use schemars_schema::edits::is_listed;
-use serde_json::Value;
 use std::alloc::Global;
 
 const SHAPES: [&str; 8] = [
@@ -15,7 +15,7 @@ const SHAPES: [&str; 8] = [
 ];
 
 /// Stops at the first place at which a value is no table.
-pub fn check_table(alloc: Global, value: &Value) -> Result<(), Stop> {
+pub fn check_table(alloc: Global, value: &BorrowedValue<'_>) -> Result<(), Stop> {
     check_names(alloc, value, &["types", "root"])?;
     check_count(alloc, value, "root")?;
     match value.get("types") {
@@ -27,7 +27,7 @@ pub fn check_table(alloc: Global, value: &Value) -> Result<(), Stop> {
     }
 }
 
-fn check_each_row(alloc: Global, rows: &[Value]) -> Result<(), Stop> {
+fn check_each_row(alloc: Global, rows: &[BorrowedValue<'_>]) -> Result<(), Stop> {
     for (n, row) in rows.iter().enumerate() {
         inside_item(alloc, n, check_heading(alloc, row))?;
         inside_item(alloc, n, check_id(alloc, &rows[..n], row))?;
@@ -38,14 +38,18 @@ fn check_each_row(alloc: Global, rows: &[Value]) -> Result<(), Stop> {
     Ok(())
 }
 
-fn check_heading(alloc: Global, row: &Value) -> Result<(), Stop> {
+fn check_heading(alloc: Global, row: &BorrowedValue<'_>) -> Result<(), Stop> {
     check_names(alloc, row, &["id", "name", "inline", "notes", "shape"])?;
     check_text(alloc, row, "id")?;
     check_text(alloc, row, "name")
 }
 
 // No row before has the id of this one.
-fn check_id(alloc: Global, before: &[Value], row: &Value) -> Result<(), Stop> {
+fn check_id(
+    alloc: Global,
+    before: &[BorrowedValue<'_>],
+    row: &BorrowedValue<'_>,
+) -> Result<(), Stop> {
     let Some(id) = text_in(row, "id") else {
         return Ok(());
     };
@@ -58,7 +62,7 @@ fn check_id(alloc: Global, before: &[Value], row: &Value) -> Result<(), Stop> {
     Ok(())
 }
 
-fn check_entry(alloc: Global, row: &Value, rows: usize) -> Result<(), Stop> {
+fn check_entry(alloc: Global, row: &BorrowedValue<'_>, rows: usize) -> Result<(), Stop> {
     check_flag(alloc, row, "inline")?;
     check_notes(alloc, row)?;
     match row.get("shape") {
@@ -67,16 +71,12 @@ fn check_entry(alloc: Global, row: &Value, rows: usize) -> Result<(), Stop> {
     }
 }
 
-fn check_shape(alloc: Global, value: &Value, rows: usize) -> Result<(), Stop> {
+fn check_shape(alloc: Global, value: &BorrowedValue<'_>, rows: usize) -> Result<(), Stop> {
     match value {
-        Value::String(name) if is_listed(name.as_str(), &SHAPES) => Ok(()),
-        Value::String(_) => refuse(alloc, "no shape has this name, or this one says more"),
-        Value::Object(members) => match lone_member(members) {
-            Some((name, part)) => inside(
-                alloc,
-                name.as_str(),
-                check_shape_under(alloc, name.as_str(), part, rows),
-            ),
+        BorrowedValue::String(name) if is_listed(name, &SHAPES) => Ok(()),
+        BorrowedValue::String(_) => refuse(alloc, "no shape has this name, or this one says more"),
+        BorrowedValue::Object(members) => match lone_member(members) {
+            Some((name, part)) => inside(alloc, name, check_shape_under(alloc, name, part, rows)),
             None => refuse(alloc, "an object of one member is expected here"),
         },
         _ => refuse(
@@ -86,16 +86,21 @@ fn check_shape(alloc: Global, value: &Value, rows: usize) -> Result<(), Stop> {
     }
 }
 
-fn check_shape_under(alloc: Global, name: &str, value: &Value, rows: usize) -> Result<(), Stop> {
+fn check_shape_under(
+    alloc: Global,
+    name: &str,
+    value: &BorrowedValue<'_>,
+    rows: usize,
+) -> Result<(), Stop> {
     match name {
         "struct" => check_fields(alloc, value, rows),
         "external" | "untagged" => check_enum(alloc, value, rows),
         "internal" => check_internal(alloc, value, rows),
         "adjacent" => check_adjacent(alloc, value, rows),
         "int" | "nonzero" => check_kind(alloc, value),
-        "format" if value.is_string() => Ok(()),
+        "format" if value.as_str().is_some() => Ok(()),
         "format" => refuse(alloc, "a text is expected here"),
-        "literal" if value.is_object() || value.is_boolean() => Ok(()),
+        "literal" if value.as_object().is_some() || value.as_bool().is_some() => Ok(()),
         "literal" => refuse(
             alloc,
             "a schema is expected here: an object, or a truth value",
@@ -114,7 +119,12 @@ fn check_shape_under(alloc: Global, name: &str, value: &Value, rows: usize) -> R
 }
 
 // The row of a list's items, and how many there are.
-fn check_counted(alloc: Global, value: &Value, count: &str, rows: usize) -> Result<(), Stop> {
+fn check_counted(
+    alloc: Global,
+    value: &BorrowedValue<'_>,
+    count: &str,
+    rows: usize,
+) -> Result<(), Stop> {
     check_names(alloc, value, &["of", count])?;
     check_row_in(alloc, value, "of", rows)?;
     check_count(alloc, value, count)
@@ -122,7 +132,7 @@ fn check_counted(alloc: Global, value: &Value, count: &str, rows: usize) -> Resu
 
 fn check_two(
     alloc: Global,
-    value: &Value,
+    value: &BorrowedValue<'_>,
     first: &str,
     second: &str,
     rows: usize,

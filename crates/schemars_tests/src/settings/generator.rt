@@ -1,12 +1,11 @@
 //! Generators that apply transforms.
 use crate::settings::own::{Own, Refusing};
 use crate::settings::settings_of;
-use schemagen_input::read_input;
+use schemagen_input::read_table;
 use schemars::generate::SchemaGenerator;
 use schemars::transform::{GenTransform, RecursiveTransform, TransformError};
 use schemars::types::{TypeNo, Types};
 use schemars::{GenerateError, Schema};
-use serde_json::Value;
 use std::alloc::{AllocError, Global};
 use std::process::Abort;
 use std::test::Fail;
@@ -149,8 +148,7 @@ fn own_of(name: &str) -> Option<Own> {
 }
 
 fn table_of(alloc: Global, text: &str) -> Result<Types, Fail> {
-    let value = Value::from_str(alloc, text)?;
-    let (types, _root) = read_input(alloc, &value)?;
+    let (types, _root) = read_table(alloc, text.as_bytes())?;
     Ok(types)
 }
 

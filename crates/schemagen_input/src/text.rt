@@ -1,0 +1,65 @@
+//! The table that a text says.
+ghost use Rattle.std.specs.Prelude.{◌≡◌, ◌≢◌, true, None, Some, Err, IfOk};
+ghost use Rattle.schemagen_input.specs.BorrowedValue.{data_of};
+ghost use Rattle.schemagen_input.specs.Input.{is_table, input_of};
+ghost use Rattle.schemagen_input.specs.Texts.{IsTableText, IsNoJson, IsBadTable};
+
+use crate::borrowed_value::{BorrowedValue, ParseError};
+use crate::error::InputError;
+use crate::input::read_input;
+use json::Scratch;
+use schemars_types::{TypeNo, Types};
+use std::alloc::Global;
+
+/// Why a text says no table.
+#[derive(Clone, Copy, Debug, PartialEq, Eq)]
+pub enum TextError {
+    /// Memory ran out.
+    OutOfMemory,
+    /// The bytes are no UTF-8, or no JSON.
+    NotJson,
+    /// The value is no table, or its root is none of the rows.
+    BadTable,
+}
+
+/// The table that the bytes of a text say, and its root, which is one of the rows.
+///
+/// # Errors
+///
+/// `NotJson` if the bytes are no JSON, `BadTable` if the JSON value is no table with a root, and
+/// want of memory.
+pub fn read_table(alloc: Global, bytes: &[u8]) -> Result<(Types, TypeNo), TextError>
+    ensures ok { IfOk result (λ t. IsTableText t.0 t.1 bytes.now) }
+    ensures table { IfOk result (λ t. is_table t.0 t.1 ≡ true) }
+    ensures not_json { result ≡ Err TextError.NotJson → IsNoJson bytes.now }
+    ensures bad_table { result ≡ Err TextError.BadTable → IsBadTable bytes.now }
+{
+    let Ok(text) = std::str::from_utf8(bytes) else {
+        return Err(TextError::NotJson);
+    };
+    let mut scratch = Scratch::new(alloc);
+    match BorrowedValue::from_str(alloc, text, &mut scratch) {
+        Ok(value) => rooted_table(alloc, &value),
+        Err(ParseError::OutOfMemory) => Err(TextError::OutOfMemory),
+        Err(ParseError::NotJson) => Err(TextError::NotJson),
+    }
+}
+
+// The table that the value says, and its root, which is one of the rows.
+fn rooted_table(alloc: Global, value: &BorrowedValue<'_>) -> Result<(Types, TypeNo), TextError>
+    ensures ok { IfOk result (λ t. input_of (data_of value.now) ≡ Some (t.0, t.1)) }
+    ensures table { IfOk result (λ t. is_table t.0 t.1 ≡ true) }
+    ensures json { result ≢ Err TextError.NotJson }
+    ensures bad_table { result ≡ Err TextError.BadTable → input_of (data_of value.now) ≡ None }
+{
+    let (types, root) = match read_input(alloc, value) {
+        Ok(input) => input,
+        Err(InputError::OutOfMemory) => return Err(TextError::OutOfMemory),
+        Err(InputError::BadTable) => return Err(TextError::BadTable),
+    };
+    let is_row = root < types.len();
+    if !is_row {
+        return Err(TextError::BadTable);
+    }
+    Ok((types, root))
+}
