@@ -325,7 +325,7 @@ fn write_document<K: Sink>(
         (λ e. (e ≡ Fault.Refused WRITE) ⊎ IsLineRefusal asked types root e) }
 {
     let document = document_of(alloc, asked, types, root)?;
-    let answer = write_text(alloc, &document, sink);
+    let answer = write_text(&document, sink);
     leave(document);
     answer
 }
@@ -337,13 +337,12 @@ fn leave(document: Schema) {
 }
 
 // Writes the text of a document, and a newline.
-fn write_text<K: Sink>(alloc: Global, document: &Schema, sink: &mut K) -> Result<(), Fault>
+fn write_text<K: Sink>(document: &Schema, sink: &mut K) -> Result<(), Fault>
     ensures written { WritesLine K.bytes K.has_failed (IsTextLine document.now) result
         sink.old sink.new }
-    ensures faults { IfErr result
-        (λ e. (e ≡ Fault.Refused WRITE) ⊎ (e ≡ Fault.Refused OUT_OF_MEMORY)) }
+    ensures fault { IfErr result (λ e. e ≡ Fault.Refused WRITE) }
 {
-    document.write_ordered(alloc, sink)?;
+    document.write_ordered(sink)?;
     end_line(sink)
 }
 
@@ -364,21 +363,19 @@ fn write_definitions<K: Sink>(
         (λ e. (e ≡ Fault.Refused WRITE) ⊎ IsLineRefusal asked types root e) }
 {
     let definitions = definitions_of(alloc, asked, types, root)?;
-    write_definitions_text(alloc, &definitions, sink)
+    write_definitions_text(&definitions, sink)
 }
 
 // Writes the text of definitions, and a newline.
 fn write_definitions_text<K: Sink>(
-    alloc: Global,
     definitions: &Map<String, Value>,
     sink: &mut K,
 ) -> Result<(), Fault>
     ensures written { WritesLine K.bytes K.has_failed
         (IsDefinitionsLine (members_view definitions.now.entries)) result sink.old sink.new }
-    ensures faults { IfErr result
-        (λ e. (e ≡ Fault.Refused WRITE) ⊎ (e ≡ Fault.Refused OUT_OF_MEMORY)) }
+    ensures fault { IfErr result (λ e. e ≡ Fault.Refused WRITE) }
 {
-    write_ordered_definitions(alloc, definitions, sink)?;
+    write_ordered_definitions(definitions, sink)?;
     end_line(sink)
 }
 
@@ -491,7 +488,7 @@ fn write_example<K: Sink>(
         (λ e. (e ≡ Fault.Refused WRITE) ⊎ (e ≡ Fault.Refused OUT_OF_MEMORY)) }
 {
     let document = sample_document(alloc, dialect, sample)?;
-    write_text(alloc, &document, sink)
+    write_text(&document, sink)
 }
 
 // The example that the value is.

@@ -33,5 +33,5 @@ pub(crate) fn show<R: Alloc<A = Global> + Print>(rt: &R, schema: &Schema) -> Res
 }
 
 fn write<R: Alloc<A = Global> + Print>(rt: &R, schema: &Schema) -> Result<(), Stop> {
-    Ok(schema.write_ordered(rt.alloc(), &mut SinkOf::new(io::writer(rt)))?)
+    Ok(schema.write_ordered(&mut SinkOf::new(io::writer(rt)))?)
 }

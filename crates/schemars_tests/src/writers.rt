@@ -66,10 +66,10 @@ impl Written {
         }
     }
 
-    fn write<K: Sink>(&self, alloc: Global, sink: &mut K) -> Result<(), OrderedError> {
+    fn write<K: Sink>(&self, sink: &mut K) -> Result<(), OrderedError> {
         match self {
-            Written::Schema(schema) => schema.write_ordered(alloc, sink),
-            Written::Definitions(map) => write_ordered_definitions(alloc, map, sink),
+            Written::Schema(schema) => schema.write_ordered(sink),
+            Written::Definitions(map) => write_ordered_definitions(map, sink),
         }
     }
 }
@@ -146,7 +146,7 @@ const SIZES: [usize; 9] = [1, 2, 3, 5, 7, 64, 4095, 4096, 4097];
 // Whether a sink that takes so many bytes a call gets the text.
 fn arrives(alloc: Global, case: &Case, size: usize) -> bool {
     let mut narrow = Narrow::new(alloc, size, usize::MAX, true);
-    let written = case.written.write(alloc, &mut SinkOf::new(&mut narrow));
+    let written = case.written.write(&mut SinkOf::new(&mut narrow));
     written.is_ok() && narrow.taken.as_slice() == case.text.as_bytes()
 }
 
@@ -203,13 +203,13 @@ fn end_of(alloc: Global, case: &Case, size: usize, calls: usize) -> End {
         sink: SinkOf::new(&mut narrow),
         calls: 0,
     };
-    let first = case.written.write(alloc, &mut sink);
+    let first = case.written.write(&mut sink);
     let counted = sink.calls;
     if first.is_ok() {
         let whole = narrow.taken.as_slice() == case.text.as_bytes() && narrow.refused == 0;
         return if whole { End::Whole } else { End::Otherwise };
     }
-    let again = case.written.write(alloc, &mut sink);
+    let again = case.written.write(&mut sink);
     let refused = is_write_error(first) && is_write_error(again);
     let once = counted == calls.saturating_add(1) && narrow.refused == 1;
     if refused && once && is_part(&narrow, &case.text) {

@@ -28,5 +28,5 @@ returns g c = record {
     c.in_ok-definitions.ensures.accepted,
     (_, c.in_ok-definitions.ensures.ok, of),
   )) c.write_definitions_text.ensures.written;
-  refused = IfErr-weaker c.write_definitions_text.result _ _ (λ e told. or_memory e told) c.write_definitions_text.ensures.faults;
+  refused = IfErr-weaker c.write_definitions_text.result _ _ (λ e told. inl told) c.write_definitions_text.ensures.fault;
 }

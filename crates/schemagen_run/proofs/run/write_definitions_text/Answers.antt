@@ -11,7 +11,7 @@ returns-in_err-write_ordered_definitions-clause-written g c =
     let why = c.in_err-write_ordered_definitions.ensures in
     let r = c.from_residual.result in
     stopped _ _ _ _ _ _ e r (passed_on r (fault_of_writing e) c.from_residual.ensures.1) (λ is. why.beginning (ap Err is))
-    (λ is. why.failed (ap Err is)) (λ is. why.memory (ap Err is))
+    (λ is. why.failed (ap Err is)) (λ is. absurd (why.memory (ap Err is)))
 
 pub returns-clause-written : goal.returns-clause-written
 returns-clause-written g c =
