@@ -255,16 +255,6 @@ line_refused asked rows root e f why same = record {
   only_memory = λ accepted plain. of_code e OutOfMemory f same (why.only_memory accepted plain);
 }
 
--- so does out of memory
-pub line_wants_memory : (asked : Asked) (rows : List Row) (root : ℕ) (f : Fault) → f ≡ Refused OUT_OF_MEMORY
-    → IsLineRefusal asked rows root f
-line_wants_memory asked rows root f memory = record {
-  refused = inl memory;
-  faults = inl memory;
-  unfaulty = λ _. inl memory;
-  only_memory = λ _ _. memory;
-}
-
 -- a refusal of its document
 pub has_no_place : {U : Type 0} (rows : List Row) (e : Fault)
     → (e ≡ Refused OUT_OF_MEMORY) ⊎ Tells rows e ⊎ ((e ≡ Refused DEFINITIONS_PATH) × U) → e ≡ Refused DEFINITIONS_PATH

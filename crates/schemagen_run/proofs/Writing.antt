@@ -20,7 +20,7 @@ use Rattle.schemagen_run.specs.declared.fault.TheConstants.{OUT_OF_MEMORY, WRITE
 use Rattle.schemagen_run.specs.Fault.{IsTableFault, IsTypesFault, IsOutside, fault_of_writing}
 use Rattle.schemagen_run.specs.Run.{GivesAll, IsTableText, IsFaultyTable, IsUnplaced, IsLineRefusal}
 use Rattle.schemagen_run.specs.Writing.{WritesLine}
-use Rattle.schemagen_run.proofs.Runs.{is_line_fault, line_is_no_other, line_wants_memory, read_is_faulty, has_no_place, is_outside}
+use Rattle.schemagen_run.proofs.Runs.{is_line_fault, line_is_no_other, read_is_faulty, has_no_place, is_outside}
 
 -- a text, which is the stated one where there are no floats, and a newline
 abbrev pub IsLine : Bool → Text → Text → Type 0
@@ -123,11 +123,6 @@ pub refused_line : {S T : Type 0} (bytes : S → Option Text) (has_failed : S �
     → WritesLine bytes has_failed P r old new
 refused_line bytes has_failed P r e old new is told same =
     unwritten bytes has_failed P r e old new is (λ write. line_is_no_other e (Refused WRITE) told.faults refl write) same
-
-pub or_memory : {asked : Asked} {rows : List Row} {root : ℕ} (e : Fault) → (e ≡ Refused WRITE) ⊎ (e ≡ Refused OUT_OF_MEMORY)
-    → IsRefusedLine asked rows root e
-or_memory e (inl write) = inl write
-or_memory {asked} {rows} {root} e (inr memory) = inr (line_wants_memory asked rows root e memory)
 
 pub is_no_other : {T : Type 0} (asked : Asked) (rows : List Row) (root : ℕ) (r : Result T Fault) (f : Fault)
     → IfErr r (IsRefusedLine asked rows root) → is_line_fault f ≡ false → f ≢ Refused WRITE → r ≡ Err f → ⊥

@@ -330,10 +330,11 @@ fn write_document<K: Sink>(
     answer
 }
 
-// Leaves a document where it is. A run ends soon after its text is written, and the pages of its
-// memory are then given back at once: that is much faster than each part of the document by itself.
-fn leave(document: Schema) {
-    let _kept = ManuallyDrop::new(document);
+// Leaves a document, or definitions, where they are. A run ends soon after their text is written,
+// and the pages of its memory are then given back at once: that is much faster than each part by
+// itself.
+fn leave<T: Drop>(written: T) {
+    let _kept = ManuallyDrop::new(written);
 }
 
 // Writes the text of a document, and a newline.
@@ -363,7 +364,9 @@ fn write_definitions<K: Sink>(
         (λ e. (e ≡ Fault.Refused WRITE) ⊎ IsLineRefusal asked types root e) }
 {
     let definitions = definitions_of(alloc, asked, types, root)?;
-    write_definitions_text(&definitions, sink)
+    let answer = write_definitions_text(&definitions, sink);
+    leave(definitions);
+    answer
 }
 
 // Writes the text of definitions, and a newline.

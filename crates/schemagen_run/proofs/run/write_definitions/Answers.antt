@@ -1,5 +1,5 @@
 -- The line of the definitions has their text, and a refusal of the generator is told by its number.
-use Rattle.std.proofs.Common.{◌≡◌, refl, inr}
+use Rattle.std.proofs.Common.{◌≡◌, refl, inl, inr}
 use Rattle.std.proofs.lemmas.Result.{IfErr-weaker}
 use Rattle.schemars_generate.specs.Refusals.{code_of}
 use Rattle.schemagen_run.specs.declared.fault.Fault.{Fault}
@@ -7,7 +7,7 @@ use Rattle.schemagen_run.specs.declared.fault.Fault.TheVariants.{Refused}
 use Rattle.schemagen_run.specs.Run.{IsLineRefusal}
 use Rattle.schemagen_run.proofs.Results.{passed_on, err_passed}
 use Rattle.schemagen_run.proofs.Runs.{line_refused}
-use Rattle.schemagen_run.proofs.Writing.{weaker, refused_line, or_memory}
+use Rattle.schemagen_run.proofs.Writing.{weaker, refused_line}
 use Rattle.schemagen_run.proofs.run.write_definitions.Goals as goal
 
 pub returns-in_err-definitions : goal.returns-in_err-definitions
@@ -24,9 +24,9 @@ returns-in_err-definitions g c =
 
 pub returns : goal.returns
 returns g c = record {
-  written = weaker _ _ c.write_definitions_text.result _ _ (λ line of. (
+  written = weaker _ _ c.write_definitions_text-answer.result _ _ (λ line of. (
     c.in_ok-definitions.ensures.accepted,
     (_, c.in_ok-definitions.ensures.ok, of),
-  )) c.write_definitions_text.ensures.written;
-  refused = IfErr-weaker c.write_definitions_text.result _ _ (λ e told. inl told) c.write_definitions_text.ensures.fault;
+  )) c.write_definitions_text-answer.ensures.written;
+  refused = IfErr-weaker c.write_definitions_text-answer.result _ _ (λ e told. inl told) c.write_definitions_text-answer.ensures.fault;
 }
