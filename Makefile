@@ -8,6 +8,7 @@ PREFIX = /usr/local
 program = crates/schemagen
 built = $(program)/out/schemagen
 linter = crates/schemalint/out/schemalint
+retries = crates/schemars_retries/out/schemars_retries
 # the crates below the program, lowest first
 libraries = $(shell sed -n '/^schemagen:/q; s/^\([a-z_]*\):.*/\1/p' crates.txt)
 
@@ -58,7 +59,9 @@ openapi-example: $(built)
 	@$(built) types openapi3 < examples/openapi/table.json | examples/openapi/join
 
 # The merge gate: every proof from nothing, the must-fail edits, the tests and the programs. What pages
-# and examples show has to be what the case files have.
+# and examples show has to be what the case files have. Then each growth of the memory of the programs
+# that were built is refused in turn.
 test:
 	tools/cases --check
 	rt ci
+	tools/refused $(built) $(retries)
