@@ -18,7 +18,7 @@ use Rattle.schemars_build.specs.Work.{without_all}
 
 -- ---- one key
 
-by_cmp : (P : Bool → Type 0) (k l : Text) → P (is_eq (slice_cmp nat_cmp k l)) → P (bytes_eq k l)
+pub by_cmp : (P : Bool → Type 0) (k l : Text) → P (is_eq (slice_cmp nat_cmp k l)) → P (bytes_eq k l)
 by_cmp P k l h = subst P (is_eq-slice_cmp k l) h
 
 pub replaced-absent : (k : Text) (d : Data) (ms : Members) → get_member k ms ≡ None → replaced k d ms ≡ ms

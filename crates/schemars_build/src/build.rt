@@ -313,12 +313,12 @@ fn part<'t>(
         let root = root_reference(alloc)?;
         return Ok(Some(root));
     }
+    let is_named = work.is_named(plan.contract, n);
     let name = work.name_for(alloc, plan.types, plan.contract, n)?;
-    if work.has_definition(name.as_str()) {
+    if !work.begin_new(alloc, name.as_str(), is_named)? {
         let reference = reference_to(alloc, plan.path, name.as_str())?;
         return Ok(Some(reference));
     }
-    work.begin(alloc, name.as_str())?;
     let entered = work.enter(plan.inlines, n)?;
     opened(
         alloc,

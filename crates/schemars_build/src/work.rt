@@ -6,7 +6,7 @@ ghost use Rattle.std.specs.Prelude.{if◌then◌else◌};
 ghost use Rattle.serde_json.specs.Data.{boolean, put, no_members};
 ghost use Rattle.serde_json.specs.Find.{get_member, as_object};
 ghost use Rattle.schemars_schema.specs.SchemaData.{members_in};
-ghost use Rattle.serde_json.specs.View.{members_view};
+ghost use Rattle.serde_json.specs.View.{view, members_view};
 ghost use Rattle.schemars_schema.specs.Edits.{replaced};
 ghost use Rattle.schemars_build.specs.Naming.{name_of, IsOneToOne};
 ghost use Rattle.schemars_types.specs.declared.contract.Contract.{Contract};
@@ -158,11 +158,45 @@ impl Work {
         Ok(())
     }
 
+    // Begins a definition, unless there is one of this name, and answers whether it did. One that
+    // is likely is looked for first.
+    pub(crate) fn begin_new(
+        &mut self,
+        alloc: Global,
+        name: &str,
+        is_likely: bool,
+    ) -> Result<bool, AllocError>
+        ensures is_new { IfOk result (λ b. b
+            ≡ not (is_some (get_member name.now self.old.definitions))) }
+        ensures begun { IfOk result (λ b. b ≡ true → self.new ≡ record self.old {
+          definitions = put name.now (boolean false) self.old.definitions;
+          begun = self.old.begun ++ name.now ∷ [];
+        }) }
+        ensures same { IfOk result (λ b. b ≡ false → self.new ≡ self.old) }
+        ensures err { OnErr result (self.new ≡ self.old) }
+    {
+        if is_likely && self.has_definition(name) {
+            return Ok(false);
+        }
+        let key = String::from_str(alloc, name)?;
+        self.begun.push(String::from_str(alloc, name)?)?;
+        let is_new = add_member(&mut self.definitions, alloc, key, name);
+        if !matches!(is_new, Ok(true)) {
+            let _ = self.begun.pop();
+        }
+        is_new
+    }
+
+    // Whether row `n` has a name.
+    pub(crate) fn is_named(&self, contract: Contract, n: TypeNo) -> bool {
+        self.names.get(n, contract).is_some()
+    }
+
     /// Puts a definition that was begun in its place.
     pub fn finish(&mut self, name: &str, schema: Schema)
         ensures { self.new ≡ record self.old { definitions = replaced name.now schema self.old.definitions } }
     {
-        set_member(&mut self.definitions, name, schema);
+        set_member(&mut self.definitions, name, schema.to_value());
     }
 
     /// Notes that the root was referred to, where a definition does so.
@@ -289,13 +323,43 @@ impl Work {
     }
 }
 
-fn set_member(object: &mut Schema, key: &str, schema: Schema)
+fn set_member(object: &mut Schema, key: &str, value: Value)
     requires { is_some (as_object object.old) ≡ true }
-    ensures members { members_in object.new ≡ replaced key.now schema (members_in object.old) }
+    ensures members { members_in object.new ≡ replaced key.now (view value) (members_in object.old) }
     ensures object { is_some (as_object object.new) ≡ true }
 {
     if let Some(member) = object.get_mut(key) {
-        *member = schema.to_value();
+        *member = value;
+    }
+}
+
+// Adds a member that is `false`, unless there is one of this key, and answers whether it did.
+fn add_member(
+    object: &mut Schema,
+    alloc: Global,
+    key: String,
+    name: &str,
+) -> Result<bool, AllocError>
+    requires object { is_some (as_object object.old) ≡ true }
+    requires key { string_bytes key ≡ name.now }
+    ensures is_new { IfOk result (λ b. b ≡ not (is_some (get_member name.now (members_in object.old)))) }
+    ensures added { IfOk result (λ b. b ≡ true
+        → members_in object.new ≡ put name.now (boolean false) (members_in object.old)) }
+    ensures same { IfOk result (λ b. b ≡ false → members_in object.new ≡ members_in object.old) }
+    ensures err { OnErr result (members_in object.new ≡ members_in object.old) }
+    ensures still_object { is_some (as_object object.new) ≡ true }
+{
+    let Some(members) = object.as_object() else {
+        unreachable!();
+    };
+    // its keys ascend, so that a member stays where it is
+    let _ = members.len();
+    match object.insert(alloc, key, Value::Bool(false))? {
+        Some(old) => {
+            set_member(object, name, old);
+            Ok(false)
+        }
+        None => Ok(true),
     }
 }
 

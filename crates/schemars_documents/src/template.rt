@@ -121,8 +121,28 @@ pub fn fill(
     }
 }
 
+// A template without others in it is filled here, where a call needs few locals.
 #[cycle(fill_value)]
 fn fill_value(
+    alloc: Global,
+    template: Template<'_>,
+    parts: &mut VecDeque<Schema>,
+) -> Result<Value, AllocError>
+    ensures value { IfOk result (λ v. view v
+        ≡ filled (template_view template.entry) parts.old.items) }
+    ensures left { OnOk result (parts.new.items
+        ≡ left (template_view template.entry) parts.old.items) }
+{
+    match template {
+        Template::Value(value) => Ok(value),
+        Template::Asked(_) => Ok(next_part(parts)),
+        node => fill_node(alloc, node, parts),
+    }
+}
+
+#[cycle(fill_value)]
+#[inline(never)]
+fn fill_node(
     alloc: Global,
     template: Template<'_>,
     parts: &mut VecDeque<Schema>,

@@ -1,5 +1,5 @@
 use Rattle.std.proofs.Common.{◌≡◌, ◌≢◌, ◌≤◌, ℕ, Option, Bool, false, true, inl}
-use Rattle.std.proofs.Common.{Some, None, refl, ap, sym, ◌∙◌, subst, arith, rules, string_bytes, not, is_some, eqb}
+use Rattle.std.proofs.Common.{Some, None, refl, ap, sym, ◌∙◌, subst, arith, string_bytes, not, is_some, eqb}
 use Rattle.std.proofs.Common.{true≢false}
 use Rattle.std.specs.Prelude.{◌||◌, ◌&&◌, codes}
 use Rattle.serde_json.specs.Data.{Data}
@@ -52,6 +52,14 @@ free_or_met true true = refl
 free_or_met true false = refl
 free_or_met false met = refl
 
+was_there : (a : Bool) (o : Option Data) → a ≡ not (is_some o) → a ≡ false → is_some o ≡ true
+was_there a (Some d) h i = refl
+was_there a None h i = cc
+
+was_missing : (a : Bool) (o : Option Data) → a ≡ not (is_some o) → a ≡ true → o ≡ None
+was_missing a (Some d) h i = cc
+was_missing a None h i = refl
+
 pub returns-then-is_in_place-clause-replies : goal.returns-then-is_in_place-clause-replies
 returns-then-is_in_place-clause-replies c =
     let plan = plan_of c.args.plan.now in
@@ -96,8 +104,8 @@ returns-then-eq-clause-replies c =
       is_like = tt;
     }
 
-pub returns-then-has_definition-clause-replies : goal.returns-then-has_definition-clause-replies
-returns-then-has_definition-clause-replies c =
+pub returns-then-not-branch-clause-replies : goal.returns-then-not-branch-clause-replies
+returns-then-not-branch-clause-replies c =
     let plan = plan_of c.args.plan.now in
     let old = c.args.work.now in
     let inside = c.args.in_definition in
@@ -106,18 +114,22 @@ returns-then-has_definition-clause-replies c =
     let k = string_bytes c.in_ok-name.name in
     let placed : is_in_place plan.rows plan.inlines old.pending n ≡ false = sym c.is_in_place.ensures ∙ c.if-is_in_place.false in
     let apart : is_inline_at plan.rows n ≡ false = not_inline (is_inline_at plan.rows n) _ placed in
-    let found : is_some (get_member k mid.definitions) ≡ true = search rules in
+    let is_new : c.in_ok-begin_new.field-0 ≡ not (is_some (get_member k mid.definitions)) =
+    c.in_ok-begin_new.ensures.is_new ∙ ap (λ q. not (is_some (get_member q mid.definitions))) c.as_str.ensures.value in
+    let found = was_there _ (get_member k mid.definitions) is_new c.if-not-branch.true in
     let made : IsMade plan mid mid k =
     record { defined = key-found k mid.definitions found; reached = λ plain. nothing_added plan false mid _ } in
     let same : c.in_ok-reference.reference ≡ reference (reference_to plan.path k) =
-    c.in_ok-reference.ensures ∙ ap (λ x. reference (reference_to plan.path x)) c.as_str-then-has_definition.ensures.value in
+    c.in_ok-reference.ensures ∙ ap (λ x. reference (reference_to plan.path x)) c.as_str-then-not-branch.ensures.value in
     record {
       reply = answer c.in_ok-reference.reference;
       given = (refl, refl);
-      replied = replied_from plan inside old (asked (part n)) mid (defined k) mid (answer c.in_ok-reference.reference)
+      replied = subst (λ w. IsRepliedBy plan inside old (asked (part n)) w (answer c.in_ok-reference.reference))
+          (sym (c.in_ok-begin_new.ensures.same c.if-not-branch.true))
+          (replied_from plan inside old (asked (part n)) mid (defined k) mid (answer c.in_ok-reference.reference)
           (leads_defined plan inside old mid n k c.in_ok-name.ensures.rest c.in_ok-name.ensures.given c.in_ok-name.ensures.no_other
           c.in_ok-name.ensures.named placed apart (other_row plan.root n c.if-eq.ensures) c.requires.known c.in_ok-name.ensures.undone)
-          (step_refl plan mid, refl, (made, same));
+          (step_refl plan mid, refl, (made, same)));
       is_like = tt;
     }
 
@@ -125,16 +137,22 @@ pub returns-in_err-entered-clause-undone : goal.returns-in_err-entered-clause-un
 returns-in_err-entered-clause-undone c =
     let mid = c.name_for.new.self in
     let k = string_bytes c.in_ok-name.name in
-    let none : get_member k mid.definitions ≡ None = search rules in
-    let begun : c.begin.new.self ≡ begun_with mid k = c.in_ok-begin.ensures.ok ∙ ap (begun_with mid) c.as_str-2.ensures.value in
+    let is_new : c.in_ok-begin_new.field-0 ≡ not (is_some (get_member k mid.definitions)) =
+    c.in_ok-begin_new.ensures.is_new ∙ ap (λ q. not (is_some (get_member q mid.definitions))) c.as_str.ensures.value in
+    let none = was_missing _ (get_member k mid.definitions) is_new c.if-not-branch.false in
+    let begun : c.begin_new.new.self ≡ begun_with mid k =
+    c.in_ok-begin_new.ensures.begun c.if-not-branch.false ∙ ap (begun_with mid) c.as_str.ensures.value in
     ap undone c.in_err-entered.ensures.err ∙ (ap undone begun ∙ (undone-begun mid k none ∙ c.in_ok-name.ensures.undone))
 
 pub returns-clause-undone : goal.returns-clause-undone
 returns-clause-undone c =
     let mid = c.name_for.new.self in
     let k = string_bytes c.in_ok-name.name in
-    let none : get_member k mid.definitions ≡ None = search rules in
-    let begun : c.begin.new.self ≡ begun_with mid k = c.in_ok-begin.ensures.ok ∙ ap (begun_with mid) c.as_str-2.ensures.value in
+    let is_new : c.in_ok-begin_new.field-0 ≡ not (is_some (get_member k mid.definitions)) =
+    c.in_ok-begin_new.ensures.is_new ∙ ap (λ q. not (is_some (get_member q mid.definitions))) c.as_str.ensures.value in
+    let none = was_missing _ (get_member k mid.definitions) is_new c.if-not-branch.false in
+    let begun : c.begin_new.new.self ≡ begun_with mid k =
+    c.in_ok-begin_new.ensures.begun c.if-not-branch.false ∙ ap (begun_with mid) c.as_str.ensures.value in
     ap undone c.in_ok-entered.ensures.ok ∙ (ap undone begun ∙ (undone-begun mid k none ∙ c.in_ok-name.ensures.undone))
 
 pub returns-clause-replies : goal.returns-clause-replies
@@ -147,9 +165,12 @@ returns-clause-replies c =
     let k = string_bytes c.in_ok-name.name in
     let placed : is_in_place plan.rows plan.inlines old.pending n ≡ false = sym c.is_in_place.ensures ∙ c.if-is_in_place.false in
     let apart : is_inline_at plan.rows n ≡ false = not_inline (is_inline_at plan.rows n) _ placed in
-    let none : get_member k mid.definitions ≡ None = search rules in
-    let begun : c.begin.new.self ≡ begun_with mid k = c.in_ok-begin.ensures.ok ∙ ap (begun_with mid) c.as_str-2.ensures.value in
-    let is_new : c.in_ok-entered.entered ≡ plan.inlines && not (is_pending mid.pending n) =
+    let is_new : c.in_ok-begin_new.field-0 ≡ not (is_some (get_member k mid.definitions)) =
+    c.in_ok-begin_new.ensures.is_new ∙ ap (λ q. not (is_some (get_member q mid.definitions))) c.as_str.ensures.value in
+    let none = was_missing _ (get_member k mid.definitions) is_new c.if-not-branch.false in
+    let begun : c.begin_new.new.self ≡ begun_with mid k =
+    c.in_ok-begin_new.ensures.begun c.if-not-branch.false ∙ ap (begun_with mid) c.as_str.ensures.value in
+    let entered_new : c.in_ok-entered.entered ≡ plan.inlines && not (is_pending mid.pending n) =
     c.in_ok-entered.ensures.is_new ∙ ap (λ w. plan.inlines && not (is_pending w.pending n)) begun in
     let while_made : Work → Work = λ w. record w { pending = pending_in plan.inlines w.pending n } in
     let entered : c.enter.new.self ≡ record (begun_with mid k) { pending = pending_in plan.inlines mid.pending n } =
@@ -167,7 +188,7 @@ returns-clause-replies c =
       reply = document x.0;
       given = x.2;
       replied = opened_reply plan inside true old (asked (part n)) mid new n p x.0 x.1 leads
-          (refl, is_new, none, c.in_ok-name.ensures.named, entered);
+          (refl, entered_new, none, c.in_ok-name.ensures.named, entered);
       is_like = opened_within plan true n p x.0 new (left_of_part plan old n) x.1
           (definition_within plan old mid new n k c.requires.checked c.requires.known step c.in_ok-name.ensures.named none entered);
     }) c.opened.ensures

@@ -11,20 +11,20 @@ use Rattle.schemars_build.proofs.work.set_member.Goals as goal
 
 pub returns-in-Some-clause-members : goal.returns-in-Some-clause-members
 returns-in-Some-clause-members c =
-    let now = c.get_mut.follows.lender c.to_value.result in
+    let now = c.get_mut.follows.lender c.args.value in
     let P : Option (MutBor Value) → Type 0 = λ r. OnSome r (now ≡ object
-    (replaced c.args.key.now (view c.to_value.result) (members_in c.args.object.now))) in
-    let e : now ≡ object (replaced c.args.key.now (view c.to_value.result) (members_in c.args.object.now)) =
-    subst P c.in-Some.is (c.get_mut.follows.holds c.to_value.result) in
-    ap members_in e ∙ ap (λ d. replaced c.args.key.now d (members_in c.args.object.now)) c.to_value.ensures.value
+    (replaced c.args.key.now (view c.args.value) (members_in c.args.object.now))) in
+    let e : now ≡ object (replaced c.args.key.now (view c.args.value) (members_in c.args.object.now)) =
+    subst P c.in-Some.is (c.get_mut.follows.holds c.args.value) in
+    ap members_in e
 
 pub returns-in-Some-clause-object : goal.returns-in-Some-clause-object
 returns-in-Some-clause-object c =
-    let now = c.get_mut.follows.lender c.to_value.result in
+    let now = c.get_mut.follows.lender c.args.value in
     let P : Option (MutBor Value) → Type 0 = λ r. OnSome r (now ≡ object
-    (replaced c.args.key.now (view c.to_value.result) (members_in c.args.object.now))) in
-    let e : now ≡ object (replaced c.args.key.now (view c.to_value.result) (members_in c.args.object.now)) =
-    subst P c.in-Some.is (c.get_mut.follows.holds c.to_value.result) in
+    (replaced c.args.key.now (view c.args.value) (members_in c.args.object.now))) in
+    let e : now ≡ object (replaced c.args.key.now (view c.args.value) (members_in c.args.object.now)) =
+    subst P c.in-Some.is (c.get_mut.follows.holds c.args.value) in
     ap (λ d. is_some (as_object d)) e
 
 pub returns-in_default-clause-members : goal.returns-in_default-clause-members
@@ -33,4 +33,4 @@ returns-in_default-clause-members c =
     let absent : get_member c.args.key.now (members_in c.args.object.now) ≡ None =
     sym (get-object c.args.key.now c.args.object.now c.requires) ∙ (sym c.get_mut.ensures.value
     ∙ ap (option_map (λ v. view v.now)) c.in_default.is) in
-    ap members_in same ∙ sym (replaced-absent c.args.key.now c.args.schema (members_in c.args.object.now) absent)
+    ap members_in same ∙ sym (replaced-absent c.args.key.now (view c.args.value) (members_in c.args.object.now) absent)

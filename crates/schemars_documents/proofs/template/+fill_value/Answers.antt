@@ -37,8 +37,8 @@ members_left : (t : Box Template Global) (asks : Vec Ask Global) (ts : List Data
 members_left t asks ts =
     sym (ap (λ u. left u ts) (seen_members t asks) ∙ answers_left (template_view t.value) (map ask_of asks.items) ts)
 
-pub fill_value-returns-in_ok-inner-in-WithMembers-clause-value : goal.fill_value-returns-in_ok-inner-in-WithMembers-clause-value
-fill_value-returns-in_ok-inner-in-WithMembers-clause-value t c =
+pub fill_node-returns-in_ok-inner-in-WithMembers-clause-value : goal.fill_node-returns-in_ok-inner-in-WithMembers-clause-value
+fill_node-returns-in_ok-inner-in-WithMembers-clause-value t c =
     let ts = c.args.parts.now.items in
     let inner = c.in-WithMembers.inner in
     let members = c.in-WithMembers.members in
@@ -54,8 +54,8 @@ fill_value-returns-in_ok-inner-in-WithMembers-clause-value t c =
     ∙ (members_filled inner members ts ∙ ap (λ u. filled (template_view u) ts) (sym c.in-WithMembers.is)))) in
     IfOk-weaker c.with_members.result _ _ (λ v e. e ∙ whole) c.with_members.ensures.value
 
-pub fill_value-returns-in_ok-inner-in-WithMembers-clause-left : goal.fill_value-returns-in_ok-inner-in-WithMembers-clause-left
-fill_value-returns-in_ok-inner-in-WithMembers-clause-left t c =
+pub fill_node-returns-in_ok-inner-in-WithMembers-clause-left : goal.fill_node-returns-in_ok-inner-in-WithMembers-clause-left
+fill_node-returns-in_ok-inner-in-WithMembers-clause-left t c =
     let ts = c.args.parts.now.items in
     let inner = c.in-WithMembers.inner in
     let members = c.in-WithMembers.members in
