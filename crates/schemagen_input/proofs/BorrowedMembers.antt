@@ -1,5 +1,5 @@
 -- The members of a borrowed value, of which the last one of a name counts.
-use Rattle.std.proofs.Common.{◌≡◌, ◌≢◌, ◌⊎◌, ℕ, List, [], ◌∷◌, ◌++◌, map, Bool, true, false, ◌&&◌, Option, Some, None, is_some}
+use Rattle.std.proofs.Common.{◌≡◌, ◌≢◌, ◌⊎◌, ℕ, List, [], ◌∷◌, ◌++◌, map, Bool, true, false, ◌&&◌, Some, None, is_some}
 use Rattle.std.proofs.Common.{◌+◌, ◌<◌, zero, suc, length, take, drop, get_or, add-one, arith, take_all}
 use Rattle.std.proofs.Common.{Bor, Ordering, Less, Equal, Greater, bytes_eq, nat_cmp, refl, sym, ap, ◌∙◌, rules}
 use Rattle.std.proofs.Common.{true≢false, is_eq, inl, inr}
@@ -12,9 +12,8 @@ use Rattle.schemars_schema.proofs.Members.{differ}
 use Rattle.std.proofs.lemmas.Slice.Eq.{bytes_eq-Decides}
 use Rattle.std.specs.Cmp.Lexicographic.{slice_cmp}
 use Rattle.std.specs.Ordering.{match_ordering}
-use Rattle.serde_json.specs.Data.{Data, array, object, Items, Members, no_members, member, put, item}
+use Rattle.serde_json.specs.Data.{Data, array, object, Members, no_members, member, put, item}
 use Rattle.serde_json.specs.Find.{get_member}
-use Rattle.serde_json.specs.View.{items_of}
 use Rattle.serde_json.proofs.Views.{get_member-put, get_member-put_other}
 use Rattle.std.specs.List.{list_all}
 use Rattle.schemars_schema.specs.Json.{Text}
@@ -121,7 +120,8 @@ module _ (names : List Text) where
       ∙ and_later (list_all (λ (l : Bor (List ℕ) × Data). is_listed l.0.now names) ds) (is_listed m.0.now names) (are_listed names found)
       ∙ sym (and_nested (is_listed m.0.now names) (list_all (λ (l : Bor (List ℕ) × Data). is_listed l.0.now names) ds) (are_listed names found))
 
-  all_mapped : (ms : List Member) → list_all (λ (m : Bor (List ℕ) × Data). is_listed m.0.now names) (map (λ (l : Member). (l.0, data_of l.1)) ms)
+  all_mapped : (ms : List Member)
+      → list_all (λ (m : Bor (List ℕ) × Data). is_listed m.0.now names) (map (λ (l : Member). (l.0, data_of l.1)) ms)
       ≡ list_all (λ (m : Member). is_listed m.0.now names) ms
   all_mapped [] = refl
   all_mapped (m ∷ ms) = ap (λ b. is_listed m.0.now names && b) (all_mapped ms)
@@ -141,7 +141,8 @@ put_alone name k d found is (inl none) = ap (put k d) none ∙ ap (λ t. member 
 put_alone name k d found is (inr one) =
     ap (put k d) one.1 ∙ ap (λ t. put t d (member name one.0 no_members)) is ∙ rw (tied_itself nat_list_cmp_total name)
 
-has_only_stays : (name : Text) (ms : List Member) (found : Members) → HasOnly name found → list_all (λ (m : Member). bytes_eq m.0.now name) ms ≡ true
+has_only_stays : (name : Text) (ms : List Member) (found : Members) → HasOnly name found
+    → list_all (λ (m : Member). bytes_eq m.0.now name) ms ≡ true
     → HasOnly name (put_each (map (λ (l : Member). (l.0, data_of l.1)) ms) found)
 has_only_stays name [] found h all = h
 has_only_stays name (m ∷ ms) found h all =
@@ -154,7 +155,8 @@ pub lone_named : (ms : List Member) (i : ℕ) (m : Member) → length ms ≡ i +
     → list_all (λ (l : Member). bytes_eq l.0.now m.0.now) ms ≡ true → lone_in (members_data ms) ≡ Some (m.0.now, data_of m.1)
 lone_named ms i m many is all =
     let split : ms ≡ take i ms ++ m ∷ [] =
-    sym (take_all (i + 1) ms (omega (arith, many))) ∙ take_more ms i m (omega (arith, many)) ∙ ap (λ (y : Member). take i ms ++ y ∷ []) (sym is) in
+    sym (take_all (i + 1) ms (omega (arith, many))) ∙ take_more ms i m (omega (arith, many))
+    ∙ ap (λ (y : Member). take i ms ++ y ∷ []) (sym is) in
     let named = λ (l : Member). bytes_eq l.0.now m.0.now in
     let parts = and_parts (list_all named (take i ms)) (list_all named (m ∷ []))
     (sym (list_all-append named (take i ms) (m ∷ [])) ∙ ap (list_all named) (sym split) ∙ all) in

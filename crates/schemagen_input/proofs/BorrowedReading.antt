@@ -1,10 +1,11 @@
 -- What the grammar reads, by the first token, under the conversion to data.
 use Rattle.std.proofs.Common.{◌≡◌, ℕ, zero, suc, ◌-◌, ◌<◌, ◌≤◌, List, [], ◌∷◌, ◌++◌, Bool, Option, Some, None, option_map, option_and_then}
-use Rattle.std.proofs.Common.{length, refl, ap, ◌∙◌, arith}
+use Rattle.std.proofs.Common.{length, refl, ap, ◌∙◌}
 use Rattle.json.specs.Token.{Token}
 use Rattle.json.specs.Json as json
-use Rattle.json.specs.Json.{Parse, parse_map, after_end_array, read_key, items_step, members_step, value, items, members}
-use Rattle.json.proofs.Grammar.{value_is, value-begin_array, value-begin_object, items_end, items_more, members_end, members_more, members_no_key}
+use Rattle.json.specs.Json.{Parse, parse_map, after_end_array, read_key, items_step, value, items, members}
+use Rattle.json.proofs.Grammar.{value_is, value-begin_array, value-begin_object, items_end, items_more, members_end, members_more}
+use Rattle.json.proofs.Grammar.{members_no_key}
 use Rattle.serde_json.specs.Data.{Data, Num, null, boolean, number, string, array, object, Items, no_items, item, Members, no_members, put}
 use Rattle.serde_json.specs.Read.{of_json, of_items, of_members, converted, number_of}
 use Rattle.schemagen_input.specs.declared.borrowed_value.BorrowedValue.{BorrowedValue}
@@ -22,7 +23,8 @@ taken : {A B : Type 0} (f : A → Option B) (o : Option (A × List Token)) (b : 
 taken f None b rest e = cc
 taken {A = A} {B = B} f (Some p) b rest e = by (f p.0) refl e
   where
-    by : (x : Option B) → f p.0 ≡ x → option_map {U = B × List Token} (λ y. (y, p.1)) x ≡ Some (b, rest) → (a : A) × (Some p ≡ Some (a, rest)) × (f a ≡ Some b)
+    by : (x : Option B) → f p.0 ≡ x → option_map {U = B × List Token} (λ y. (y, p.1)) x ≡ Some (b, rest)
+        → (a : A) × (Some p ≡ Some (a, rest)) × (f a ≡ Some b)
     by None is h = cc
     by (Some y) is h =
         let same = ap (unwrap_or (b, rest)) h in
@@ -36,11 +38,13 @@ untaken {B = B} f p e = by (f p.0) e
     by None h = refl
     by (Some y) h = cc
 
-inside : {A B : Type 0} (g : A → B) (rest : List Token) (x : Option A) → option_map (λ b. (b, rest)) (option_map g x) ≡ parse_map g (option_map (λ a. (a, rest)) x)
+inside : {A B : Type 0} (g : A → B) (rest : List Token) (x : Option A)
+    → option_map (λ b. (b, rest)) (option_map g x) ≡ parse_map g (option_map (λ a. (a, rest)) x)
 inside g rest None = refl
 inside g rest (Some a) = refl
 
-converted-array : (o : Option (json.Items × List Token)) → converted of_json (parse_map json.array o) ≡ parse_map array (converted of_items o)
+converted-array : (o : Option (json.Items × List Token))
+    → converted of_json (parse_map json.array o) ≡ parse_map array (converted of_items o)
 converted-array None = refl
 converted-array (Some p) = inside array p.1 (of_items p.0)
 
@@ -126,7 +130,8 @@ with_item : (j : json.Json) (d : Data) → of_json j ≡ Some d → (o : Option 
 with_item j d e None = refl
 with_item j d e (Some p) = rw e (inside (item d) p.1 (of_items p.0))
 
-without_item : (j : json.Json) → of_json j ≡ None → (o : Option (json.Items × List Token)) → converted of_items (parse_map (json.item j) o) ≡ None
+without_item : (j : json.Json) → of_json j ≡ None → (o : Option (json.Items × List Token))
+    → converted of_items (parse_map (json.item j) o) ≡ None
 without_item j e None = refl
 without_item j e (Some p) = rw e
 
@@ -142,7 +147,8 @@ without_member k j found e (Some p) = rw e
 
 -- a turn of each loop, for values that are read so
 module _ (read : Parse json.Json) where
-  pub item_read : (n : ℕ) (ts rest : List Token) (d : Data) → 0 < n → after_end_array ts ≡ None → converted of_json (read ts) ≡ Some (d, rest)
+  pub item_read : (n : ℕ) (ts rest : List Token) (d : Data) → 0 < n → after_end_array ts ≡ None
+      → converted of_json (read ts) ≡ Some (d, rest)
       → converted of_items (items read n ts) ≡ parse_map (item d) (converted of_items (items read (n - 1) rest))
   item_read n ts rest d turns going e =
       let found = taken of_json (read ts) d rest e in
@@ -157,7 +163,8 @@ module _ (read : Parse json.Json) where
       → converted of_items (items read n ts) ≡ None
   unfolding items
   item_refused zero ts going e = refl
-  item_refused (suc n) ts going e = ap (λ o. converted of_items (items_step read (items read n) ts o)) going ∙ none_of_items (items read n) (read ts) e
+  item_refused (suc n) ts going e = ap (λ o. converted of_items (items_step read (items read n) ts o)) going
+      ∙ none_of_items (items read n) (read ts) e
 
   pub items_closed : (n : ℕ) (ts rest : List Token) → length ts ≤ n → after_end_array ts ≡ Some rest
       → converted of_items (items read n ts) ≡ Some (no_items, rest)

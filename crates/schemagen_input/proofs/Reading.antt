@@ -112,7 +112,8 @@ reserved_after-item types d ds r is = rw is (by (headings_in ds))
     by None = refl
     by (Some rs) = rw (append_assoc types (r ∷ []) rs)
 
-pub reserving_goes_on : (rows : List BorrowedValue) (n : ℕ) (types new : List Row) (row : BorrowedValue) (id name : Text) → row ≡ get_or rows n row
+pub reserving_goes_on : (rows : List BorrowedValue) (n : ℕ) (types new : List Row) (row : BorrowedValue) (id name : Text)
+    → row ≡ get_or rows n row
     → n < length rows
     → Reserving rows n types → heading_in (data_of row) ≡ Some (unentered id name) → is_some (place_of id types) ≡ false
     → new ≡ reserved id name types → Reserving rows (n + 1) new
@@ -129,7 +130,8 @@ reserving_goes_on rows n types new row id name is here before heading absent gro
     }
 
 -- an id is there already
-pub reserving_repeats : (rows : List BorrowedValue) (n : ℕ) (types : List Row) (row : BorrowedValue) (id name : Text) → row ≡ get_or rows n row
+pub reserving_repeats : (rows : List BorrowedValue) (n : ℕ) (types : List Row) (row : BorrowedValue) (id name : Text)
+    → row ≡ get_or rows n row
     → n < length rows
     → Reserving rows n types → heading_in (data_of row) ≡ Some (unentered id name) → is_some (place_of id types) ≡ true
     → reserved_after [] (items_data rows) ≡ None
@@ -194,7 +196,8 @@ fitting_after-item count done d ds r is = rw is (by (rows_in ds))
     by None = refl
     by (Some rs) = rw (append_assoc done (r ∷ []) rs)
 
-next_headings : (rows : List BorrowedValue) (count n : ℕ) (row : BorrowedValue) (types : List Row) → row ≡ get_or rows n row → n < length rows
+next_headings : (rows : List BorrowedValue) (count n : ℕ) (row : BorrowedValue) (types : List Row) → row ≡ get_or rows n row
+    → n < length rows
     → (before : Defining rows count n types)
     → Next (data_of row) (items_data (drop (n + 1) rows)) before.after
 next_headings rows count n row types is here before =
@@ -274,7 +277,8 @@ refused_is_not_within done after r e x none refused =
 
 -- ---- entries join the table
 
-pub defining_goes_on : (rows : List BorrowedValue) (count n : ℕ) (types new : List Row) (row : BorrowedValue) (e : Entry) → row ≡ get_or rows n row
+pub defining_goes_on : (rows : List BorrowedValue) (count n : ℕ) (types new : List Row) (row : BorrowedValue) (e : Entry)
+    → row ≡ get_or rows n row
     → n < length rows
     → Defining rows count n types → entry_in (data_of row) ≡ Some e → refusal_of types n e ≡ None
     → new ≡ defined n e types → Defining rows count (n + 1) new
@@ -304,7 +308,8 @@ defining_goes_on rows count n types new row e is here before entry taken grown =
     length-snoc (y ∷ xs) x = let h = length-snoc xs x in omega arith
 
 -- a row's entry does not fit
-does_not_fit : (rows : List BorrowedValue) (count n : ℕ) (types : List Row) (row : BorrowedValue) (e : Entry) → row ≡ get_or rows n row → n < length rows
+does_not_fit : (rows : List BorrowedValue) (count n : ℕ) (types : List Row) (row : BorrowedValue) (e : Entry) → row ≡ get_or rows n row
+    → n < length rows
     → Defining rows count n types → entry_in (data_of row) ≡ Some e → refers_within count e ≡ false
     → fitting_after count [] (items_data rows) ≡ None
 does_not_fit rows count n types row e is here before entry bad =

@@ -1,13 +1,7 @@
 //! JSON values whose texts are borrowed.
-ghost use Rattle.std.specs.Prelude.{◌≡◌, ◌<◌, Some, None, Err, IfOk, OnOk, length, option_map};
-ghost use Rattle.json.specs.Json.{value, items, members};
-ghost use Rattle.serde_json.specs.Data.{no_members};
-ghost use Rattle.serde_json.specs.Read.{of_json, of_items, of_members, converted, number_of};
-ghost use Rattle.serde_json.specs.Read.{read as read_text};
-ghost use Rattle.serde_json.specs.View.{view, items_view, members_view, number_view};
+ghost use Rattle.std.specs.Prelude.{◌≡◌, option_map, option_and_then};
 ghost use Rattle.serde_json.specs.Find.{as_bool, as_str, as_u64, as_number, as_array, as_object};
 ghost use Rattle.serde_json.specs.Find.{get, get_member};
-ghost use Rattle.std.specs.Prelude.{option_and_then};
 ghost use Rattle.schemagen_input.specs.BorrowedValue.{data_of, items_data, members_data};
 
 mod copying;
@@ -16,8 +10,7 @@ mod reading;
 
 pub(crate) use copying::copy_members;
 pub use reading::ParseError;
-use serde_json::{Map, Number, Value};
-use std::alloc::{AllocError, Global};
+use serde_json::Number;
 
 /// A JSON value that borrows its texts: from the text that it was read from, or, if they have
 /// escapes, from the scratch memory of that reading.

@@ -1,5 +1,5 @@
 //! The members of objects, and what single values say.
-ghost use Rattle.std.specs.Prelude.{◌≡◌, false, None, Some, IfOk, IfErr, option_map, string_bytes};
+ghost use Rattle.std.specs.Prelude.{◌≡◌, false, None, Some, IfOk, IfErr, option_map};
 ghost use Rattle.std.specs.Prelude.{map};
 ghost use Rattle.serde_json.specs.View.{members_view};
 ghost use Rattle.schemagen_input.specs.BorrowedValue.{data_of, items_data, members_data};

@@ -1,10 +1,9 @@
 -- The last member of a name is the one that stays.
-use Rattle.std.proofs.Common.{◌≡◌, ◌+◌, ◌-◌, [], ◌∷◌, ◌++◌, take, Some, true, false, sym, ap, ◌∙◌, arith}
+use Rattle.std.proofs.Common.{◌≡◌, ◌+◌, ◌-◌, [], ◌∷◌, ◌++◌, take, true, false, sym, ap, ◌∙◌, arith}
 use Rattle.std.proofs.lemmas.List.{take_more}
 use Rattle.std.specs.Str.{bytes_eq}
 use Rattle.serde_json.specs.Find.{get_member}
-use Rattle.serde_json.specs.Data.{put}
-use Rattle.schemagen_input.specs.BorrowedValue.{data_of, members_data}
+use Rattle.schemagen_input.specs.BorrowedValue.{members_data}
 use Rattle.schemagen_input.proofs.BorrowedMembers.{last_of_name, not_of_name}
 use Rattle.schemagen_input.proofs.borrowed_value.last_member.Goals as goal
 
@@ -16,7 +15,8 @@ returns-then-eq c =
     let front : take c.loop-left.left ms ≡ take i ms ++ m ∷ [] =
     ap (λ n. take n ms) (omega arith) ∙ take_more ms i m (omega arith) ∙ ap (λ y. take i ms ++ y ∷ []) (sym c.index-members-left.is) in
     let same : bytes_eq m.0.now c.args.name.now ≡ true = grind arith in
-    sym (c.loop-left.invariant.0 ∙ ap (λ ys. get_member c.args.name.now (members_data ys)) front ∙ last_of_name c.args.name.now (take i ms) m same)
+    sym (c.loop-left.invariant.0 ∙ ap (λ ys. get_member c.args.name.now (members_data ys)) front
+    ∙ last_of_name c.args.name.now (take i ms) m same)
 
 pub loop-left-preserved : goal.loop-left-preserved
 loop-left-preserved c =
@@ -26,6 +26,7 @@ loop-left-preserved c =
     let front : take c.loop-left.left ms ≡ take i ms ++ m ∷ [] =
     ap (λ n. take n ms) (omega arith) ∙ take_more ms i m (omega arith) ∙ ap (λ y. take i ms ++ y ∷ []) (sym c.index-members-left.is) in
     let other : bytes_eq m.0.now c.args.name.now ≡ false = grind arith in (
-      c.loop-left.invariant.0 ∙ ap (λ ys. get_member c.args.name.now (members_data ys)) front ∙ not_of_name c.args.name.now (take i ms) m other,
+      c.loop-left.invariant.0 ∙ ap (λ ys. get_member c.args.name.now (members_data ys)) front
+          ∙ not_of_name c.args.name.now (take i ms) m other,
       omega arith,
     )

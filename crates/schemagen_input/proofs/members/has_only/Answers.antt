@@ -1,5 +1,5 @@
 -- All names are listed if those of the members are.
-use Rattle.std.proofs.Common.{◌≡◌, ◌+◌, ◌&&◌, [], ◌∷◌, drop, map, true, false, Bor, List, ℕ, Some, sym, ap, ◌∙◌, arith}
+use Rattle.std.proofs.Common.{◌≡◌, ◌+◌, ◌&&◌, [], ◌∷◌, drop, map, true, false, Bor, List, ℕ, sym, ap, ◌∙◌, arith}
 use Rattle.std.proofs.lemmas.List.{drop_more}
 use Rattle.std.proofs.Math.ListN.{drop_of_length-le}
 use Rattle.std.specs.List.{list_all}
@@ -16,7 +16,8 @@ returns-then-not-is_listed c =
     let xs = c.deref-name-items.result.now in
     let i = c.loop-name.name-index in
     let m = c.loop-name-item.result in
-    let here : drop i xs ≡ m ∷ drop (i + 1) xs = drop_more xs i m (omega arith) ∙ ap (λ (y : Member). y ∷ drop (i + 1) xs) (sym c.loop-name-item.is) in
+    let here : drop i xs ≡ m ∷ drop (i + 1) xs =
+    drop_more xs i m (omega arith) ∙ ap (λ (y : Member). y ∷ drop (i + 1) xs) (sym c.loop-name-item.is) in
     let other : listed m ≡ false = grind arith in
     let none : list_all listed xs ≡ false =
     sym c.loop-name.invariant ∙ ap (list_all listed) here ∙ ap (λ b. b && list_all listed (drop (i + 1) xs)) other in

@@ -1,5 +1,5 @@
 -- One name alone, or two.
-use Rattle.std.proofs.Common.{◌≡◌, ◌+◌, ◌-◌, ◌<◌, take, true, false, length, sym, ap, ◌∙◌, arith, take_all}
+use Rattle.std.proofs.Common.{◌≡◌, ◌-◌, ◌<◌, true, false, length, sym, ap, ◌∙◌, arith, take_all}
 use Rattle.std.specs.List.{list_all}
 use Rattle.std.specs.Str.{bytes_eq}
 use Rattle.schemagen_input.proofs.BorrowedMembers.{Member, lone_named, not_lone}

@@ -9,7 +9,8 @@ unfolding number_of
 returns-then-has_minus c =
     let s = c.as_bytes-bytes.result.now in
     let signed : (get_or s 0 0 == 45) ≡ true = sym c.if-has_minus.ensures.value in
-    let digits : c.scan.result ≡ scan (drop 1 s) = c.scan.ensures.parts ∙ ap scan (take_all _ (drop 1 s) (omega (arith, length-drop 1 s))) in
+    let digits : c.scan.result ≡ scan (drop 1 s) =
+    c.scan.ensures.parts ∙ ap scan (take_all _ (drop 1 s) (omega (arith, length-drop 1 s))) in
     let read : number_from true (scan (drop 1 s)) ≡ number_of s = rw signed in
     c.negative.ensures ∙ ap (number_from true) digits ∙ read ∙ ap number_of c.as_bytes-bytes.ensures.value
 

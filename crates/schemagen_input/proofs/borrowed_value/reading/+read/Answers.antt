@@ -1,5 +1,5 @@
 -- What is read is what the grammar reads, token by token.
-use Rattle.std.proofs.Common.{◌≡◌, ◌-◌, ◌<◌, ◌≤◌, [], ◌∷◌, length, Some, None, sym, ap, ◌∙◌, arith, rules}
+use Rattle.std.proofs.Common.{◌≡◌, ◌-◌, ◌<◌, [], ◌∷◌, length, Some, None, sym, ap, ◌∙◌, arith, rules}
 use Rattle.json.specs.Token.{Token}
 use Rattle.json.specs.Json.{parse_map, after_end_array, read_key, items, members, value}
 use Rattle.json.specs.Reads.{token_of}
@@ -13,7 +13,8 @@ use Rattle.schemagen_input.proofs.BorrowedMembers.{data_of-Array, data_of-Object
 use Rattle.schemagen_input.proofs.BorrowedReading.{nothing_read, string_read, boolean_read, null_read, number_read, number_refused}
 use Rattle.schemagen_input.proofs.BorrowedReading.{array_opened, object_opened, array_too_deep, object_too_deep, read_at}
 use Rattle.schemagen_input.proofs.BorrowedReading.{items_before, items_before-none, one_more_item, none_before}
-use Rattle.schemagen_input.proofs.BorrowedReading.{item_read, item_refused, items_closed, member_read, member_refused, name_refused, members_closed}
+use Rattle.schemagen_input.proofs.BorrowedReading.{item_read, item_refused, items_closed, member_read, member_refused, name_refused}
+use Rattle.schemagen_input.proofs.BorrowedReading.{members_closed}
 use Rattle.schemagen_input.proofs.borrowed_value.reading.+read.Goals as goal
 
 pub read-returns-in_err-token-clause-not_json : goal.read-returns-in_err-token-clause-not_json
@@ -53,7 +54,8 @@ pub read-returns-in-Some-clause-ok : goal.read-returns-in-Some-clause-ok
 read-returns-in-Some-clause-ok t c =
     let first : c.args.reader.now ≡ Token.number c.in-Number.text.now ∷ c.next.new.self = grind (arith, c.in-Number.is) in
     let seen : data_of (Number c.in-Some.number) ≡ number (number_view c.in-Some.number) = search (rules, the_lemmas) in
-    number_read c.args.depth c.args.reader.now c.next.new.self _ _ first (sym c.in-Some.ensures) ∙ ap (λ d. Some (d, c.next.new.self)) (sym seen)
+    number_read c.args.depth c.args.reader.now c.next.new.self _ _ first (sym c.in-Some.ensures)
+    ∙ ap (λ d. Some (d, c.next.new.self)) (sym seen)
 
 pub read-returns-in-None-clause-not_json : goal.read-returns-in-None-clause-not_json
 read-returns-in-None-clause-not_json t c refused =
@@ -94,8 +96,13 @@ read-returns-in_ok-read_members-in-BeginObject-clause-ok t c =
 
 pub read_items-items-init : goal.read_items-items-init
 read_items-items-init t c =
-    let all = converted of_items (items (value c.args.depth) (length c.args.reader.now) c.args.reader.now) in
-    (length c.args.reader.now, omega arith, sym (none_before all) ∙ ap (λ vs. parse_map (items_before vs) all) (sym c.new-found.ensures.items), omega arith)
+    let all = converted of_items (items (value c.args.depth) (length c.args.reader.now) c.args.reader.now) in (
+      length c.args.reader.now,
+      omega arith,
+      sym (none_before all)
+          ∙ ap (λ vs. parse_map (items_before vs) all) (sym c.new-found.ensures.items),
+      omega arith,
+    )
 
 pub read_items-returns-in_err-item-clause-not_json : goal.read_items-returns-in_err-item-clause-not_json
 read_items-returns-in_err-item-clause-not_json t c refused =
@@ -166,7 +173,8 @@ read_members-members-preserved t c =
     ap members_data c.in_ok-push.ensures.items ∙ members_data-push l.found.items (name, v) in (
       n - 1,
       omega (arith, l.invariant.1),
-      l.invariant.2 ∙ member_read p (members_data l.found.items) n name.now l.reader behind rest (data_of v) (omega (arith, l.invariant.1)) named done.ok
+      l.invariant.2
+          ∙ member_read p (members_data l.found.items) n name.now l.reader behind rest (data_of v) (omega (arith, l.invariant.1)) named done.ok
           ∙ ap (λ found. converted (λ ms. of_members ms found) (members p (n - 1) rest)) (sym grown),
       omega (arith, l.invariant.3),
     )
