@@ -38,7 +38,8 @@ restored k d e (member l f ms) s h = go (slice_cmp nat_cmp k l) refl h (restored
         let other : Some e ≡ None = sym h ∙ none in cc
     go Equal is h rest =
         let same : f ≡ e = cc in
-        by_cmp (λ b. (if b then member l e ms else member l d (replaced k e ms)) ≡ member l f ms) k l (rw is (ap (λ x. member l x ms) (sym same)))
+        by_cmp (λ b. (if b then member l e ms else member l d (replaced k e ms)) ≡ member l f ms) k l
+        (rw is (ap (λ x. member l x ms) (sym same)))
     go Greater is h rest =
         by_cmp (λ b. (if b then member l e (put k d ms) else member l f (replaced k e (put k d ms))) ≡ member l f ms) k l
         (rw is (ap (member l f) (rest h)))

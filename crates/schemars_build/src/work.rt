@@ -141,25 +141,8 @@ impl Work {
         Ok(name)
     }
 
-    /// Begins a definition, which is `false` until it is finished.
-    pub fn begin(&mut self, alloc: Global, name: &str) -> Result<(), AllocError>
-        ensures ok { OnOk result (self.new ≡ record self.old {
-          definitions = put name.now (boolean false) self.old.definitions;
-          begun = self.old.begun ++ name.now ∷ [];
-        }) }
-        ensures err { OnErr result (self.new ≡ self.old) }
-    {
-        let key = String::from_str(alloc, name)?;
-        self.begun.push(String::from_str(alloc, name)?)?;
-        if let Err(e) = self.definitions.insert(alloc, key, Value::Bool(false)) {
-            let _ = self.begun.pop();
-            return Err(e);
-        }
-        Ok(())
-    }
-
-    // Begins a definition, unless there is one of this name, and answers whether it did. One that
-    // is likely is looked for first.
+    // Begins a definition, which is `false` until it is finished, unless there is one of this name.
+    // Answers whether it did. One that is likely to be there is looked for first.
     pub(crate) fn begin_new(
         &mut self,
         alloc: Global,
@@ -325,7 +308,8 @@ impl Work {
 
 fn set_member(object: &mut Schema, key: &str, value: Value)
     requires { is_some (as_object object.old) ≡ true }
-    ensures members { members_in object.new ≡ replaced key.now (view value) (members_in object.old) }
+    ensures members { members_in object.new
+        ≡ replaced key.now (view value) (members_in object.old) }
     ensures object { is_some (as_object object.new) ≡ true }
 {
     if let Some(member) = object.get_mut(key) {
@@ -342,7 +326,8 @@ fn add_member(
 ) -> Result<bool, AllocError>
     requires object { is_some (as_object object.old) ≡ true }
     requires key { string_bytes key ≡ name.now }
-    ensures is_new { IfOk result (λ b. b ≡ not (is_some (get_member name.now (members_in object.old)))) }
+    ensures is_new { IfOk result (λ b. b
+        ≡ not (is_some (get_member name.now (members_in object.old)))) }
     ensures added { IfOk result (λ b. b ≡ true
         → members_in object.new ≡ put name.now (boolean false) (members_in object.old)) }
     ensures same { IfOk result (λ b. b ≡ false → members_in object.new ≡ members_in object.old) }

@@ -19,8 +19,10 @@ loop-place-init c = tt
 pub returns-then-is_among : goal.returns-then-is_among
 returns-then-is_among c =
     subst (λ n. IsRepeated (map now_of c.args.names.now) n) (sym c.in_ok-name.ensures.ok)
-    (few_repeated c.args.names.now c.loop-place.place missing (borrowed _) c.loop-place-test.true refl c.loop-place.invariant (sym c.if-is_among.ensures))
+    (few_repeated c.args.names.now c.loop-place.place missing (borrowed _) c.loop-place-test.true refl
+    c.loop-place.invariant (sym c.if-is_among.ensures))
 
 pub loop-place-preserved : goal.loop-place-preserved
 loop-place-preserved c =
-    few_more c.args.names.now c.loop-place.place missing (borrowed _) c.loop-place-test.true refl c.loop-place.invariant (sym c.if-is_among.ensures)
+    few_more c.args.names.now c.loop-place.place missing (borrowed _) c.loop-place-test.true refl
+    c.loop-place.invariant (sym c.if-is_among.ensures)

@@ -1,0 +1,2 @@
+-- The lemmas of the proofs.
+mod Judged
