@@ -93,7 +93,8 @@ fn last_member<'v, 'a>(
     members: &'v [(&'a str, BorrowedValue<'a>)],
     name: &str,
 ) -> Option<&'v BorrowedValue<'a>>
-    ensures { option_map (λ v. data_of v.now) result ≡ get_member name.now (members_data members.now) }
+    ensures { option_map (λ v. data_of v.now) result
+        ≡ get_member name.now (members_data members.now) }
 {
     let mut left = members.len();
     while left > 0 {

@@ -59,7 +59,8 @@ const FIELD_NAMES: [&str; 4] = ["name", "type", "required", "notes"];
 
 fn field_in(alloc: Global, value: &BorrowedValue<'_>) -> Result<Field, InputError>
     ensures ok { IfOk result (λ f. field_in (data_of value.now) ≡ Some (field_of f)) }
-    ensures bad { IfErr result (λ e. e ≡ InputError.BadTable → field_in (data_of value.now) ≡ None) }
+    ensures bad { IfErr result
+        (λ e. e ≡ InputError.BadTable → field_in (data_of value.now) ≡ None) }
 {
     if !has_only(value, &FIELD_NAMES) {
         return Err(InputError::BadTable);
@@ -141,8 +142,10 @@ fn all_flattened_in(
 
 // The rows flattened into a struct; there are none where they are missing.
 fn flatten_in(alloc: Global, value: &BorrowedValue<'_>) -> Result<Vec<Flattened>, InputError>
-    ensures ok { IfOk result (λ v. flatten_in (data_of value.now) ≡ Some (map flattened_of v.items)) }
-    ensures bad { IfErr result (λ e. e ≡ InputError.BadTable → flatten_in (data_of value.now) ≡ None) }
+    ensures ok { IfOk result
+        (λ v. flatten_in (data_of value.now) ≡ Some (map flattened_of v.items)) }
+    ensures bad { IfErr result
+        (λ e. e ≡ InputError.BadTable → flatten_in (data_of value.now) ≡ None) }
 {
     let Some(rows) = value.get("flatten") else {
         return Ok(Vec::new(alloc));
@@ -177,7 +180,8 @@ pub fn fields_said(alloc: Global, value: &BorrowedValue<'_>) -> Result<Fields, I
 /// A struct.
 pub fn struct_in(alloc: Global, value: &BorrowedValue<'_>) -> Result<Shape, InputError>
     ensures ok { IfOk result (λ s. struct_in (data_of value.now) ≡ Some (shape_of s)) }
-    ensures bad { IfErr result (λ e. e ≡ InputError.BadTable → struct_in (data_of value.now) ≡ None) }
+    ensures bad { IfErr result
+        (λ e. e ≡ InputError.BadTable → struct_in (data_of value.now) ≡ None) }
 {
     let fields = fields_said(alloc, value)?;
     Ok(Shape::Struct(fields))

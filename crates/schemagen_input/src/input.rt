@@ -89,7 +89,8 @@ fn items_in<'v, 'a>(value: &'v BorrowedValue<'a>, name: &str) -> Option<&'v Vec<
 pub fn read_input(alloc: Global, value: &BorrowedValue<'_>) -> Result<(Types, TypeNo), InputError>
     ensures ok { IfOk result (λ t. table_in (data_of value.now) ≡ Some (t.0, t.1)) }
     ensures complete { IfOk result (λ t. is_complete t.0 ≡ true) }
-    ensures bad { IfErr result (λ e. e ≡ InputError.BadTable → table_in (data_of value.now) ≡ None) }
+    ensures bad { IfErr result
+        (λ e. e ≡ InputError.BadTable → table_in (data_of value.now) ≡ None) }
     ensures read_back { (rows : List Row) (root : ℕ) → CanBeWritten rows
         → data_of value.now ≡ json_of rows root → IfOk result (λ t. (t.0 ≡ rows) × (t.1 ≡ root)) }
     ensures not_refused { (rows : List Row) (root : ℕ) → CanBeWritten rows

@@ -138,7 +138,8 @@ pub fn flag_in(value: &BorrowedValue<'_>, name: &str) -> Option<bool>
 /// The notes of a row, a field or a variant: none where they are missing.
 pub fn notes_in(alloc: Global, value: &BorrowedValue<'_>) -> Result<Map<String, Value>, InputError>
     ensures ok { IfOk result (λ m. notes_in (data_of value.now) ≡ Some (members_view m.entries)) }
-    ensures bad { IfErr result (λ e. e ≡ InputError.BadTable → notes_in (data_of value.now) ≡ None) }
+    ensures bad { IfErr result
+        (λ e. e ≡ InputError.BadTable → notes_in (data_of value.now) ≡ None) }
 {
     let Some(notes) = value.get("notes") else {
         return Ok(Map::new(alloc));

@@ -193,7 +193,8 @@ fn format_in(alloc: Global, value: &BorrowedValue<'_>) -> Result<Option<Shape>, 
 
 fn shape_in(alloc: Global, value: &BorrowedValue<'_>) -> Result<Shape, InputError>
     ensures ok { IfOk result (λ s. shape_in (data_of value.now) ≡ Some (shape_of s)) }
-    ensures bad { IfErr result (λ e. e ≡ InputError.BadTable → shape_in (data_of value.now) ≡ None) }
+    ensures bad { IfErr result
+        (λ e. e ≡ InputError.BadTable → shape_in (data_of value.now) ≡ None) }
 {
     match value {
         BorrowedValue::String(name) => shape_named(name).ok_or(InputError::BadTable),
@@ -210,7 +211,8 @@ fn shape_in(alloc: Global, value: &BorrowedValue<'_>) -> Result<Shape, InputErro
 /// The entry of a row.
 pub fn entry_in(alloc: Global, value: &BorrowedValue<'_>) -> Result<TypeEntry, InputError>
     ensures ok { IfOk result (λ e. entry_in (data_of value.now) ≡ Some (entry_of e)) }
-    ensures bad { IfErr result (λ e. e ≡ InputError.BadTable → entry_in (data_of value.now) ≡ None) }
+    ensures bad { IfErr result
+        (λ e. e ≡ InputError.BadTable → entry_in (data_of value.now) ≡ None) }
 {
     let (Some(inline), Some(shape)) = (flag_in(value, "inline"), value.get("shape")) else {
         return Err(InputError::BadTable);

@@ -34,7 +34,8 @@ fn payload_under(
     name: &str,
     value: &BorrowedValue<'_>,
 ) -> Result<Payload, InputError>
-    ensures ok { IfOk result (λ p. payload_under name.now (data_of value.now) ≡ Some (payload_of p)) }
+    ensures ok { IfOk result
+        (λ p. payload_under name.now (data_of value.now) ≡ Some (payload_of p)) }
     ensures bad { IfErr result
         (λ e. e ≡ InputError.BadTable → payload_under name.now (data_of value.now) ≡ None) }
 {
@@ -57,7 +58,8 @@ fn payload_under(
 
 fn payload_in(alloc: Global, value: &BorrowedValue<'_>) -> Result<Payload, InputError>
     ensures ok { IfOk result (λ p. payload_in (data_of value.now) ≡ Some (payload_of p)) }
-    ensures bad { IfErr result (λ e. e ≡ InputError.BadTable → payload_in (data_of value.now) ≡ None) }
+    ensures bad { IfErr result
+        (λ e. e ≡ InputError.BadTable → payload_in (data_of value.now) ≡ None) }
 {
     match value {
         BorrowedValue::String(name) => payload_named(name).ok_or(InputError::BadTable),
@@ -89,7 +91,8 @@ const VARIANT_KEYS: [&str; 3] = ["name", "notes", "payload"];
 
 fn variant_in(alloc: Global, value: &BorrowedValue<'_>) -> Result<Variant, InputError>
     ensures ok { IfOk result (λ x. variant_in (data_of value.now) ≡ Some (variant_of x)) }
-    ensures bad { IfErr result (λ e. e ≡ InputError.BadTable → variant_in (data_of value.now) ≡ None) }
+    ensures bad { IfErr result
+        (λ e. e ≡ InputError.BadTable → variant_in (data_of value.now) ≡ None) }
 {
     if !has_only(value, &VARIANT_KEYS) {
         return Err(InputError::BadTable);

@@ -30,7 +30,7 @@ impl Error for NotASchema {}
 /// Why a text was not written to the end.
 #[derive(Clone, Copy, Debug, thiserror::Error)]
 pub enum OrderedError {
-    /// Out of memory.
+    /// Out of memory. The writers to a sink take none, and never answer this.
     #[error("OutOfMemory")]
     OutOfMemory,
     /// The sink has failed.
