@@ -59,9 +59,10 @@ openapi-example: $(built)
 	@$(built) types openapi3 < examples/openapi/table.json | examples/openapi/join
 
 # The merge gate: every proof from nothing, the must-fail edits, the tests and the programs. What pages
-# and examples show has to be what the case files have. Then each growth of the memory of the programs
-# that were built is refused in turn.
+# and examples show has to be what the case files have, and the files, lines and words that pages name
+# have to be there. Then each growth of the memory of the programs that were built is refused in turn.
 test:
 	tools/cases --check
+	tools/places --check
 	rt ci
 	tools/refused $(built) $(retries)
