@@ -1,14 +1,8 @@
 -- Names and rows that are copied one by one say the same.
-use Rattle.std.proofs.Common.{◌≡◌, List, [], ◌∷◌, map, length, suc, String, Global, string_bytes, refl}
+use Rattle.std.proofs.Common.{◌≡◌, List, [], ◌∷◌, length, suc, String, Global, string_bytes, refl}
 use Rattle.std.specs.List.{AllZip}
 use Rattle.schemars_build.specs.declared.names.Owner.{Owner}
 use Rattle.schemars_build.specs.Owners.{naming_of}
-
-pub copied : {A B : Type 0} (f : A → B) (xs ys : List A) → AllZip (λ x y. f y ≡ f x) xs ys → map f ys ≡ map f xs
-copied f [] [] h = refl
-copied f (x ∷ xs) (y ∷ ys) h = λ i. h.0 i ∷ copied f xs ys h.1 i
-copied f [] (y ∷ ys) h = absurd h
-copied f (x ∷ xs) [] h = absurd h
 
 pub as_long : {A : Type 0} (Q : A → A → Type 0) (xs ys : List A) → AllZip Q xs ys → length ys ≡ length xs
 as_long Q [] [] h = refl

@@ -19,6 +19,7 @@ use Rattle.schemars_build.specs.Missing.{failing_below, missing, idle, depth_in_
 use Rattle.schemars_build.specs.Left.{width, places, left_of_definition, left_of_part, left_of_own_document, left_of_filled}
 use Rattle.schemars_build.specs.Left.{left_of_members, left_of_content, left_of_asked}
 use Rattle.schemars_build.proofs.Counting.{failing-fewer, failing-less}
+use Rattle.schemars_meaning.proofs.Following.{closer}
 
 -- ---- what is asked in a document
 
@@ -88,9 +89,6 @@ idle-less rows pending n less none = failing-less (is_pending pending) (is_pendi
     (still_pending true pending n) (length rows) n less none (entered_pending pending n none)
 
 -- ---- one step down
-
-closer : (a b w r : ℕ) → a < b → r < w → a * w + r < b * w
-closer a b w r less small = let e : suc a * w ≤ b * w = mul-le-mul_right w less in omega arith
 
 same_less : (a b w k : ℕ) → a ≤ b → 0 < k → a * w < b * w + k
 same_less a b w k fewer more = let e : a * w ≤ b * w = mul-le-mul_right w fewer in omega arith

@@ -3,6 +3,7 @@ use Rattle.std.proofs.Common.{◌≡◌, ◌++◌, ◌∷◌, [], ◌∙◌, ◌
 use Rattle.std.proofs.Common.{length, take, slice_get, true≢false}
 use Rattle.std.specs.Prelude.{◌⊎◌}
 use Rattle.std.specs.List.{list_any}
+use Rattle.std.proofs.lemmas.Bool.{or_parts}
 
 pub at_in_take : {A : Type 0} (k : ℕ) (xs : List A) (i : ℕ) (x : A) → slice_get (take k xs) i ≡ Some x → slice_get xs i ≡ Some x
 at_in_take zero xs i x at = cc
@@ -23,17 +24,13 @@ last_or_before (z ∷ xs) y (suc i) x at = by (last_or_before xs y i x at)
 
 -- ---- elements that pass a test
 
-either_false : (a b : Bool) → a || b ≡ false → (a ≡ false) × (b ≡ false)
-either_false true b h = absurd (true≢false h)
-either_false false b h = (refl, h)
-
 pub never_among : {A : Type 0} (P : A → Bool) (xs : List A) (i : ℕ) (x : A) → list_any P xs ≡ false → slice_get xs i ≡ Some x
     → P x ≡ true → ⊥
 never_among P [] i x none at is = cc
 never_among P (y ∷ xs) zero x none at is =
     let same : y ≡ x = cc in
-    true≢false (sym is ∙ (ap P (sym same) ∙ (either_false (P y) (list_any P xs) none).0))
-never_among P (y ∷ xs) (suc i) x none at is = never_among P xs i x (either_false (P y) (list_any P xs) none).1 at is
+    true≢false (sym is ∙ (ap P (sym same) ∙ (or_parts (P y) (list_any P xs) none).0))
+never_among P (y ∷ xs) (suc i) x none at is = never_among P xs i x (or_parts (P y) (list_any P xs) none).1 at is
 
 pub place_of_any : {A : Type 0} (P : A → Bool) (xs : List A) → list_any P xs ≡ true
     → (i : ℕ) × (x : A) × (slice_get xs i ≡ Some x) × (P x ≡ true)

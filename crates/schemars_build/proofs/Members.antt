@@ -9,7 +9,7 @@ use Rattle.std.proofs.lemmas.Map.Lookups.{exact_bytes}
 use Rattle.std.proofs.lemmas.Map.Text.{is_eq-slice_cmp}
 use Rattle.std.proofs.lemmas.Cmp.{nat_list_cmp_total, tied_itself}
 use Rattle.std.proofs.lemmas.Slice.Eq.{bytes_eq-Decides}
-use Rattle.serde_json.specs.Data.{Data, Members, no_members, member, put, null, boolean, number, string, array, object}
+use Rattle.serde_json.specs.Data.{Data, Members, no_members, member, put, object}
 use Rattle.serde_json.specs.Find.{get_member, get, as_object}
 use Rattle.schemars_schema.specs.Json.{Text}
 use Rattle.schemars_schema.specs.SchemaData.{members_in}
@@ -37,18 +37,6 @@ replaced-absent k d (member l e ms) h = by_cmp (λ b. (if b then member l d ms e
 found : Ordering → Data → Option Data → Option Data
 found o e rest = match_ordering o rest (Some e) rest
 
-pub get_member-replaced : (k : Text) (d e : Data) (ms : Members) → get_member k ms ≡ Some e → get_member k (replaced k d ms) ≡ Some d
-get_member-replaced k d e no_members h = cc
-get_member-replaced k d e (member l f ms) h = by_cmp (λ b. get_member k (if b then member l d ms else member l f (replaced k d ms))
-    ≡ Some d) k l (go (slice_cmp nat_cmp k l) refl h (get_member-replaced k d e ms))
-  where
-    go : (o : Ordering) → slice_cmp nat_cmp k l ≡ o → match_ordering o (get_member k ms) (Some f) (get_member k ms) ≡ Some e
-        → (get_member k ms ≡ Some e → get_member k (replaced k d ms) ≡ Some d)
-        → get_member k (if is_eq o then member l d ms else member l f (replaced k d ms)) ≡ Some d
-    go Less is h rest = rw is (rest h)
-    go Equal is h rest = rw is refl
-    go Greater is h rest = rw is (rest h)
-
 pub get_member-replaced_other : (q k : Text) (d : Data) (ms : Members) → (q ≡ k → ⊥) → get_member q (replaced k d ms) ≡ get_member q ms
 get_member-replaced_other q k d no_members other = refl
 get_member-replaced_other q k d (member l f ms) other = by_cmp (λ b.
@@ -69,7 +57,7 @@ get_member-replaced_other q k d (member l f ms) other = by_cmp (λ b.
 own : (k : Text) → is_eq (slice_cmp nat_cmp k k) ≡ true
 own k = ap is_eq (tied_itself nat_list_cmp_total k)
 
-own_bytes : (k : Text) → bytes_eq k k ≡ true
+pub own_bytes : (k : Text) → bytes_eq k k ≡ true
 own_bytes k = sym (is_eq-slice_cmp k k) ∙ own k
 
 pub without-put : (k : Text) (d : Data) (ms : Members) → get_member k ms ≡ None → without k (put k d ms) ≡ ms
@@ -151,16 +139,8 @@ without_all-replaced (q ∷ ks) k d ms (suc i, less, at) = ap (without q) (witho
 pub removed-object : (k : Text) (d : Data) → is_some (as_object d) ≡ true
     → (members_in (removed k d) ≡ without k (members_in d)) × (is_some (as_object (removed k d)) ≡ true)
 removed-object k (object ms) h = (refl, refl)
-removed-object k null h = absurd (true≢false (sym h))
-removed-object k (boolean b) h = absurd (true≢false (sym h))
-removed-object k (number n) h = absurd (true≢false (sym h))
-removed-object k (string s) h = absurd (true≢false (sym h))
-removed-object k (array ds) h = absurd (true≢false (sym h))
+removed-object k _ h = absurd (true≢false (sym h))
 
 pub get-object : (k : Text) (d : Data) → is_some (as_object d) ≡ true → get k d ≡ get_member k (members_in d)
 get-object k (object ms) h = refl
-get-object k null h = absurd (true≢false (sym h))
-get-object k (boolean b) h = absurd (true≢false (sym h))
-get-object k (number n) h = absurd (true≢false (sym h))
-get-object k (string s) h = absurd (true≢false (sym h))
-get-object k (array ds) h = absurd (true≢false (sym h))
+get-object k _ h = absurd (true≢false (sym h))

@@ -8,7 +8,7 @@ use Rattle.std.specs.Fmt.{decimal}
 use Rattle.std.specs.List.{AllByRecursion, IsDistinct, list_any}
 use Rattle.std.specs.Str.{bytes_eq}
 use Rattle.std.specs.String.{string_eq}
-use Rattle.std.proofs.lemmas.Bool.{false_from_ne_true}
+use Rattle.std.proofs.lemmas.Bool.{false_from_ne_true, and_parts}
 use Rattle.std.proofs.lemmas.Bool.Decides.{same_from_decides, Decides-like, Decides-eqb}
 use Rattle.std.proofs.lemmas.Cmp.{nat_list_eq_equiv}
 use Rattle.std.proofs.lemmas.Fmt.{decimal_injective, decimal_nonempty}
@@ -97,12 +97,7 @@ no_owner n contract (o ∷ owners) (s ∷ given) same none =
 
 -- ---- one to one
 
-pub both_true : (a b : Bool) → a && b ≡ true → (a ≡ true) × (b ≡ true)
-both_true true true e = (refl, refl)
-both_true true false e = (refl, e)
-both_true false b e = absurd (true≢false (sym e))
-
-same_contract : (c d : Contract) → is_same_contract c d ≡ true → c ≡ d
+pub same_contract : (c d : Contract) → is_same_contract c d ≡ true → c ≡ d
 same_contract Deserialize Deserialize e = refl
 same_contract Deserialize Serialize e = absurd (true≢false (sym e))
 same_contract Serialize Deserialize e = absurd (true≢false (sym e))
@@ -110,7 +105,7 @@ same_contract Serialize Serialize e = refl
 
 whose : (n : ℕ) (contract : Contract) (x : NamedRow) → is_of n contract x ≡ true → (x.row ≡ n) × (x.contract ≡ contract)
 whose n contract x e =
-    let (row, same) = both_true _ _ e in
+    let (row, same) = and_parts _ _ e in
     ((Decides-eqb x.row n).0 row, same_contract x.contract contract same)
 
 abbrev texts : Naming → List Text

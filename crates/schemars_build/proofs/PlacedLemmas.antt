@@ -4,7 +4,7 @@ use Rattle.std.proofs.Common.{refl, sym, ap, subst, arith, String, Global, strin
 use Rattle.std.specs.List.{list_any}
 use Rattle.std.specs.Prelude.{◌⊎◌}
 use Rattle.std.proofs.lemmas.Bool.Decides.{nat_tests}
-use Rattle.std.proofs.lemmas.Bool.{eqb-true}
+use Rattle.std.proofs.lemmas.Bool.{eqb-true, and_parts}
 use Rattle.std.proofs.lemmas.Option.{same_Some}
 use Rattle.schemars_types.specs.declared.contract.Contract.{Contract}
 use Rattle.schemars_types.specs.declared.contract.Contract.TheVariants.{Deserialize, Serialize}
@@ -12,7 +12,7 @@ use Rattle.schemars_build.specs.declared.names.Owner.{Owner}
 use Rattle.schemars_build.specs.Naming.{is_of, name_of}
 use Rattle.schemars_build.specs.Owners.{named_row, naming_of, ArePlaced}
 use Rattle.schemars_build.proofs.Elements.{at_in_take, last_or_before, never_among}
-use Rattle.schemars_build.proofs.NamingLemmas.{is_owner, same_test, both_true}
+use Rattle.schemars_build.proofs.NamingLemmas.{is_owner, same_test}
 
 -- ---- which owner it is
 
@@ -20,10 +20,10 @@ pub whose_owner : (n : ℕ) (c : Contract) (o : Owner) → is_owner n c o ≡ tr
 whose_owner n c o h = by c o.contract h
   where
     by : (a b : Contract) → is_owner n a (record { row = o.row; contract = b }) ≡ true → (n ≡ o.row) × (a ≡ b)
-    by Deserialize Deserialize is = (eqb-true n o.row (both_true (n == o.row) true is).0, refl)
-    by Serialize Serialize is = (eqb-true n o.row (both_true (n == o.row) true is).0, refl)
-    by Deserialize Serialize is = absurd (true≢false (sym (both_true (n == o.row) false is).1))
-    by Serialize Deserialize is = absurd (true≢false (sym (both_true (n == o.row) false is).1))
+    by Deserialize Deserialize is = (eqb-true n o.row (and_parts (n == o.row) true is).0, refl)
+    by Serialize Serialize is = (eqb-true n o.row (and_parts (n == o.row) true is).0, refl)
+    by Deserialize Serialize is = absurd (true≢false (sym (and_parts (n == o.row) false is).1))
+    by Serialize Deserialize is = absurd (true≢false (sym (and_parts (n == o.row) false is).1))
 
 pub own_place : (owners : List Owner) (place : ℕ → Contract → Option ℕ) → ArePlaced owners place → (n : ℕ) (c : Contract) (i : ℕ)
     (o : Owner) → slice_get owners i ≡ Some o → is_owner n c o ≡ true → place n c ≡ Some i

@@ -15,18 +15,16 @@ use Rattle.std.proofs.lemmas.Slice.Eq.{bytes_eq-Decides}
 use Rattle.schemars_schema.specs.Json.{Text}
 use Rattle.schemars_build.specs.Naming.{NamedRow, Naming, is_used, candidate}
 use Rattle.schemars_build.specs.Owners.{AreUsed, IsFirst, IsNoted}
+use Rattle.schemars_build.proofs.Members.{own_bytes}
 
 -- ---- more names
 
 pub used_more : (q : Text) (names more : Naming) → is_used q names ≡ true → is_used q (names ++ more) ≡ true
 used_more q names more h = list_any-append (λ x. bytes_eq x.name q) names more ∙ ap (λ b. b || is_used q more) h
 
-itself : (q : Text) → bytes_eq q q ≡ true
-itself q = (bytes_eq-Decides q q).1 refl
-
 pub used_now : (q : Text) (names : Naming) (x : NamedRow) → x.name ≡ q → is_used q (names ++ x ∷ []) ≡ true
 used_now q names x same =
-    let here : is_used q (x ∷ []) ≡ true = ap (λ y. bytes_eq y q || false) same ∙ ap (λ b. b || false) (itself q) in
+    let here : is_used q (x ∷ []) ≡ true = ap (λ y. bytes_eq y q || false) same ∙ ap (λ b. b || false) (own_bytes q) in
     list_any-append (λ y. bytes_eq y.name q) names (x ∷ []) ∙ (ap (λ b. is_used q names || b) here ∙ or-true (is_used q names))
 
 -- the candidates up to the one that is given

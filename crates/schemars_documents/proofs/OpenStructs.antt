@@ -29,7 +29,7 @@ use Rattle.schemars_documents.specs.PlainTable.{may_miss, IsPartShape, IsPartEnt
 
 -- ---- what is flattened stands for itself
 
-no_option : (o : Option Entry) → IsOpenStruct o → option_and_then (λ e. option_of e.shape) o ≡ None
+pub no_option : (o : Option Entry) → IsOpenStruct o → option_and_then (λ e. option_of e.shape) o ≡ None
 no_option None is = absurd is
 no_option (Some e) is = ap option_of is.1
 
@@ -112,10 +112,8 @@ module _ (rows : List Row) where
         (no_enums_in (part_enums rows) x.flatten h part_no_enums)
 
     payload_join : (p : Payload) → ArePlainParts rows (payload_parts p) → spread_payload F (part_enums rows) p ≡ joined_payload F p
-    payload_join no_payload h = refl
-    payload_join (newtype_payload n) h = refl
-    payload_join (tuple_payload ns) h = refl
     payload_join (struct_payload x) h = ap struct_payload (fields_join x h)
+    payload_join _ h = refl
 
     variants_join : (xs : List Variant) → ArePlainParts rows (variant_parts xs)
         → map (spread_variant F (part_enums rows)) xs ≡ map (joined_variant F) xs
@@ -142,10 +140,8 @@ module _ (rows : List Row) where
         (flattened_same (row_fields rows) (struct_fields_within rows (length rows)) (fields_same (length rows)) x.flatten h)
 
     payload_plainly : (p : Payload) → ArePlainParts rows (payload_parts p) → joined_payload F p ≡ joined_payload G p
-    payload_plainly no_payload h = refl
-    payload_plainly (newtype_payload n) h = refl
-    payload_plainly (tuple_payload ns) h = refl
     payload_plainly (struct_payload x) h = ap struct_payload (fields_plainly x h)
+    payload_plainly _ h = refl
 
     variants_plainly : (xs : List Variant) → ArePlainParts rows (variant_parts xs) → map (joined_variant F) xs ≡ map (joined_variant G) xs
     variants_plainly [] h = refl
@@ -167,33 +163,25 @@ module _ (contract : Contract) (C : ℕ → Data → List Choice) (P : ℕ → D
   payload_means : (p : Payload) (v : Data) → has_payload contract P C (joined_payload part p) v
       ≡ has_payload contract P no_choices (joined_payload part p) v
   payload_means no_payload v = refl
-  payload_means (newtype_payload n) v = refl
-  payload_means (tuple_payload ns) v = refl
-  payload_means (struct_payload x) v = refl
+  payload_means _ v = refl
 
   variant_means : (name : Text) (p : Payload) (notes : Members) (v : Data)
       → has_variant contract P C v (record { name = name; payload = joined_payload part p; notes = notes })
       ≡ has_variant contract P no_choices v (record { name = name; payload = joined_payload part p; notes = notes })
   variant_means name no_payload notes v = refl
-  variant_means name (newtype_payload n) notes v = refl
-  variant_means name (tuple_payload ns) notes v = refl
-  variant_means name (struct_payload x) notes v = refl
+  variant_means name _ notes v = refl
 
   internal_means : (tag : Text) (closed : Bool) (name : Text) (p : Payload) (notes : Members) (v : Data)
       → has_internal contract P C tag closed v (record { name = name; payload = joined_payload part p; notes = notes })
       ≡ has_internal contract P no_choices tag closed v (record { name = name; payload = joined_payload part p; notes = notes })
   internal_means tag closed name no_payload notes v = refl
-  internal_means tag closed name (newtype_payload n) notes v = refl
-  internal_means tag closed name (tuple_payload ns) notes v = refl
-  internal_means tag closed name (struct_payload x) notes v = refl
+  internal_means tag closed name _ notes v = refl
 
   adjacent_means : (tag key : Text) (closed : Bool) (name : Text) (p : Payload) (notes : Members) (v : Data)
       → has_adjacent contract P C tag key closed v (record { name = name; payload = joined_payload part p; notes = notes })
       ≡ has_adjacent contract P no_choices tag key closed v (record { name = name; payload = joined_payload part p; notes = notes })
   adjacent_means tag key closed name no_payload notes v = refl
-  adjacent_means tag key closed name (newtype_payload n) notes v = refl
-  adjacent_means tag key closed name (tuple_payload ns) notes v = refl
-  adjacent_means tag key closed name (struct_payload x) notes v = refl
+  adjacent_means tag key closed name _ notes v = refl
 
   any_variant : (xs : List Variant) (v : Data) → list_any (has_variant contract P C v) (map (joined_variant part) xs)
       ≡ list_any (has_variant contract P no_choices v) (map (joined_variant part) xs)
@@ -267,9 +255,7 @@ meaning_same rows plain contract patterns n v = belongs_same rows plain contract
 module _ (names : ℕ → List Text) (part : Flattened → List Field) where
   payload_apart : (p : Payload) → PayloadHasNamesApart names [] (joined_payload part p)
   payload_apart no_payload = tt
-  payload_apart (newtype_payload n) = tt
-  payload_apart (tuple_payload ns) = tt
-  payload_apart (struct_payload x) = tt
+  payload_apart _ = tt
 
   variants_apart : (xs : List Variant) → VariantsHaveNamesApart names [] (map (joined_variant part) xs)
   variants_apart [] = tt

@@ -3,7 +3,7 @@ use Rattle.std.proofs.Common.{◌≡◌, List, [], ◌∷◌, ◌++◌, length, 
 use Rattle.std.proofs.Common.{rules, arith, Vec, Global}
 use Rattle.std.specs.Prelude.{codes, ◌==◌, ◌&&◌, IsSome, option_and_then}
 use Rattle.serde_json.specs.Find.{get, get_member, as_object, as_str}
-use Rattle.serde_json.specs.Data.{Data, null, boolean, number, string, array, object, no_members}
+use Rattle.serde_json.specs.Data.{Data, null, boolean, array, object, no_members}
 use Rattle.serde_json.specs.View.{view, items_view}
 use Rattle.serde_json.specs.declared.value.Value.{Value, Array, Bool as Bool', the_lemmas as value_lemmas}
 use Rattle.serde_json.proofs.Views.{view-Array}
@@ -19,12 +19,9 @@ use Rattle.schemars_documents.specs.declared.template.Template.{Value as Value',
 
 -- what is not a schema has no members
 pub no_schema : (d : Data) → (IsSchema d → ⊥) → no_members ≡ members_in d
-no_schema null h = refl
 no_schema (boolean b) h = absurd (h tt)
-no_schema (number n) h = refl
-no_schema (string s) h = refl
-no_schema (array ds) h = refl
 no_schema (object ms) h = absurd (h tt)
+no_schema _ h = refl
 
 pub template_view-Value : (v : Value) → template_view (Value' v) ≡ finished (view v)
 template_view-Value v = search (rules, the_lemmas)
@@ -61,13 +58,8 @@ closed_true false e = absurd (true≢false (sym e))
 -- ---- schemas put into one another
 
 type_of : (d : Data) → get (codes "type") d ≡ get_member (codes "type") (members_in d)
-type_of null = refl
 type_of (boolean true) = refl
-type_of (boolean false) = refl
-type_of (number n) = refl
-type_of (string s) = refl
-type_of (array ds) = refl
-type_of (object ms) = refl
+type_of _ = refl
 
 -- a tag looks at the members alone
 pub tagged_by_members : (tag name : Text) (closed : Bool) (s t : Data) → members_in s ≡ members_in t
@@ -79,9 +71,5 @@ tagged_by_members tag name closed s t same =
 
 -- an object is put into what is no schema as into an object without members
 pub flattened_alone : (s o : Data) → (IsSchema s → ⊥) → IsSome (as_object o) → flattened (object no_members) o ≡ flattened s o
-flattened_alone s null h some = cc
-flattened_alone s (boolean b) h some = cc
-flattened_alone s (number n) h some = cc
-flattened_alone s (string t) h some = cc
-flattened_alone s (array ds) h some = cc
 flattened_alone s (object others) h some = ap (λ ms. object (united_all ms others)) (no_schema s h)
+flattened_alone s _ h some = cc

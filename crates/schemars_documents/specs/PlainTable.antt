@@ -1,6 +1,5 @@
 -- Tables of plain parts.
 use Rattle.std.specs.Prelude.{◌≡◌, ℕ, List, [], ◌∷◌, ◌++◌, map, Option, Some, None, Bool, true, false, not, is_some, ◌&&◌, bytes_eq}
-use Rattle.serde_json.specs.Written.{has_float, members_have_float}
 use Rattle.schemars_schema.specs.Json.{Text}
 use Rattle.schemars_schema.specs.OrderedText.{is_listed}
 use Rattle.schemars_schema.specs.Annotations.{AreNotes}
@@ -9,6 +8,7 @@ use Rattle.schemars_shapes.specs.Shape as shape
 use Rattle.schemars_shapes.specs.Shape.{Shape, Field, Flattened, Fields, Entry, Payload, Variant, no_payload, newtype_payload}
 use Rattle.schemars_shapes.specs.Shape.{tuple_payload, struct_payload, payload_names}
 use Rattle.schemars_shapes.specs.Units.{is_none}
+use Rattle.schemars_shapes.specs.Decimals.{entry_has_float}
 use Rattle.schemars_types.specs.Rows.{Row, entry_at}
 use Rattle.schemars_types.specs.Edges.{option_at}
 use Rattle.schemars_types.specs.Effective.{without_options, flattened_enums, part_enums, spread_in}
@@ -43,10 +43,8 @@ AreDistinctVariants [] = Unit {0}
 AreDistinctVariants (x ∷ xs) = IsNoVariant x.name xs × AreDistinctVariants xs
 
 abbrev pub IsPlainPayload : Payload → Type 0
-IsPlainPayload no_payload = Unit {0}
-IsPlainPayload (newtype_payload n) = Unit {0}
-IsPlainPayload (tuple_payload ns) = Unit {0}
 IsPlainPayload (struct_payload x) = AreDistinct x.list × AreNoted x.list
+IsPlainPayload _ = Unit {0}
 
 -- the notes of each variant and of its fields are annotations
 abbrev pub ArePlainVariants : List Variant → Type 0
@@ -100,35 +98,13 @@ ArePlainParts rows (p ∷ ps) = IsPlainPart rows p × ArePlainParts rows ps
 
 -- of a shape that has the fields of flattened rows among its own
 abbrev pub IsPlainShape : Shape → Type 0
-IsPlainShape shape.null = Unit {0}
-IsPlainShape shape.bool = Unit {0}
-IsPlainShape (shape.int k) = Unit {0}
-IsPlainShape (shape.non_zero k) = Unit {0}
-IsPlainShape shape.number = Unit {0}
-IsPlainShape shape.text = Unit {0}
-IsPlainShape shape.char = Unit {0}
-IsPlainShape (shape.formatted g) = Unit {0}
-IsPlainShape shape.any = Unit {0}
-IsPlainShape shape.bytes = Unit {0}
-IsPlainShape shape.schema_itself = Unit {0}
-IsPlainShape (shape.option n) = Unit {0}
-IsPlainShape (shape.seq n) = Unit {0}
-IsPlainShape (shape.set n) = Unit {0}
-IsPlainShape (shape.array n len) = Unit {0}
-IsPlainShape (shape.up_to n cap) = Unit {0}
-IsPlainShape (shape.tuple ns) = Unit {0}
 IsPlainShape (shape.struct x) = AreDistinct x.list × AreNoted x.list
-IsPlainShape (shape.newtype n) = Unit {0}
-IsPlainShape (shape.result t e) = Unit {0}
-IsPlainShape (shape.bound n) = Unit {0}
-IsPlainShape (shape.range n) = Unit {0}
-IsPlainShape (shape.either l r) = Unit {0}
-IsPlainShape (shape.map_from key value) = Unit {0}
 IsPlainShape (shape.external xs) = AreDistinctVariants xs × ArePlainVariants xs
 IsPlainShape (shape.untagged xs) = ArePlainVariants xs
 IsPlainShape (shape.internal tag closed xs) = AreDistinctVariants xs × ArePlainVariants xs × AreTagged tag xs
 IsPlainShape (shape.adjacent tag content closed xs) = (bytes_eq tag content ≡ false) × AreDistinctVariants xs × ArePlainVariants xs
 IsPlainShape (shape.literal d) = IsPlainLiteral d
+IsPlainShape _ = Unit {0}
 
 abbrev pub IsPlainEntry : List Row → Option Entry → Type 0
 IsPlainEntry rows None = Unit {0}
@@ -270,56 +246,37 @@ IsNotedEntry (Some e) = AreNotes e.notes × HasPlainLiteral e.shape
 abbrev pub HasPlainNotes : List Row → Type 0
 HasPlainNotes rows = (n : ℕ) → IsNotedEntry (entry_at rows n)
 
+abbrev pub IsNotedPayload : Payload → Type 0
+IsNotedPayload (struct_payload x) = AreNoted x.list
+IsNotedPayload _ = Unit {0}
+
+abbrev pub AreNotedVariants : List Variant → Type 0
+AreNotedVariants [] = Unit {0}
+AreNotedVariants (x ∷ xs) = AreNotes x.notes × IsNotedPayload x.payload × AreNotedVariants xs
+
+-- the notes inside a shape are annotations, and a literal is plain
+abbrev pub IsNotedShape : Shape → Type 0
+IsNotedShape (shape.struct x) = AreNoted x.list
+IsNotedShape (shape.external xs) = AreNotedVariants xs
+IsNotedShape (shape.untagged xs) = AreNotedVariants xs
+IsNotedShape (shape.internal tag closed xs) = AreNotedVariants xs
+IsNotedShape (shape.adjacent tag content closed xs) = AreNotedVariants xs
+IsNotedShape (shape.literal d) = IsPlainLiteral d
+IsNotedShape _ = Unit {0}
+
+abbrev pub IsNotedThroughout : Option Entry → Type 0
+IsNotedThroughout None = Unit {0}
+IsNotedThroughout (Some e) = AreNotes e.notes × IsNotedShape e.shape
+
+-- literals are plain, and all notes are annotations alone, whatever is flattened or is beside a tag
+abbrev pub HasPlainNotesThroughout : List Row → Type 0
+HasPlainNotesThroughout rows = (n : ℕ) → IsNotedThroughout (entry_at rows n)
+
 -- ---- numbers in notes and literals
-
-abbrev pub FieldsHaveNoFloat : List Field → Type 0
-FieldsHaveNoFloat [] = Unit {0}
-FieldsHaveNoFloat (x ∷ xs) = (members_have_float x.notes ≡ false) × FieldsHaveNoFloat xs
-
-abbrev pub PayloadHasNoFloat : Payload → Type 0
-PayloadHasNoFloat no_payload = Unit {0}
-PayloadHasNoFloat (newtype_payload n) = Unit {0}
-PayloadHasNoFloat (tuple_payload ns) = Unit {0}
-PayloadHasNoFloat (struct_payload x) = FieldsHaveNoFloat x.list
-
-abbrev pub VariantsHaveNoFloat : List Variant → Type 0
-VariantsHaveNoFloat [] = Unit {0}
-VariantsHaveNoFloat (x ∷ xs) = (members_have_float x.notes ≡ false) × PayloadHasNoFloat x.payload × VariantsHaveNoFloat xs
-
-abbrev pub ShapeHasNoFloat : Shape → Type 0
-ShapeHasNoFloat shape.null = Unit {0}
-ShapeHasNoFloat shape.bool = Unit {0}
-ShapeHasNoFloat (shape.int k) = Unit {0}
-ShapeHasNoFloat (shape.non_zero k) = Unit {0}
-ShapeHasNoFloat shape.number = Unit {0}
-ShapeHasNoFloat shape.text = Unit {0}
-ShapeHasNoFloat shape.char = Unit {0}
-ShapeHasNoFloat (shape.formatted g) = Unit {0}
-ShapeHasNoFloat shape.any = Unit {0}
-ShapeHasNoFloat shape.bytes = Unit {0}
-ShapeHasNoFloat shape.schema_itself = Unit {0}
-ShapeHasNoFloat (shape.option n) = Unit {0}
-ShapeHasNoFloat (shape.seq n) = Unit {0}
-ShapeHasNoFloat (shape.set n) = Unit {0}
-ShapeHasNoFloat (shape.array n len) = Unit {0}
-ShapeHasNoFloat (shape.up_to n cap) = Unit {0}
-ShapeHasNoFloat (shape.tuple ns) = Unit {0}
-ShapeHasNoFloat (shape.struct x) = FieldsHaveNoFloat x.list
-ShapeHasNoFloat (shape.newtype n) = Unit {0}
-ShapeHasNoFloat (shape.result t e) = Unit {0}
-ShapeHasNoFloat (shape.bound n) = Unit {0}
-ShapeHasNoFloat (shape.range n) = Unit {0}
-ShapeHasNoFloat (shape.either l r) = Unit {0}
-ShapeHasNoFloat (shape.map_from key value) = Unit {0}
-ShapeHasNoFloat (shape.external xs) = VariantsHaveNoFloat xs
-ShapeHasNoFloat (shape.untagged xs) = VariantsHaveNoFloat xs
-ShapeHasNoFloat (shape.internal tag closed xs) = VariantsHaveNoFloat xs
-ShapeHasNoFloat (shape.adjacent tag content closed xs) = VariantsHaveNoFloat xs
-ShapeHasNoFloat (shape.literal d) = has_float d ≡ false
 
 abbrev pub EntryHasNoFloat : Option Entry → Type 0
 EntryHasNoFloat None = Unit {0}
-EntryHasNoFloat (Some e) = (members_have_float e.notes ≡ false) × ShapeHasNoFloat e.shape
+EntryHasNoFloat (Some e) = entry_has_float e ≡ false
 
 -- the numbers in notes and literals are whole numbers
 abbrev pub HasNoFloat : List Row → Type 0

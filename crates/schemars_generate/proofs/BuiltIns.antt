@@ -4,7 +4,7 @@ use Rattle.std.proofs.Common.{Option, Some, None, option_map, Ordering, Less, Eq
 use Rattle.std.specs.Prelude.{is_some}
 use Rattle.std.specs.Cmp.Lexicographic.{slice_cmp}
 use Rattle.std.specs.Ordering.{match_ordering}
-use Rattle.serde_json.specs.Data.{Data, null, boolean, number, string, array, object, Members, no_members, member}
+use Rattle.serde_json.specs.Data.{Data, null, Members, no_members, member}
 use Rattle.serde_json.specs.Find.{get_member}
 use Rattle.serde_json.specs.Written.{members_have_float}
 use Rattle.schemars_schema.specs.Json.{Text}
@@ -145,11 +145,7 @@ same-keys ts ms k = ap is_some (each_made-get ts k ms) ∙ go (get_member k ms)
 value_made-openapi3 : (O : Type 0) (d : Data) → value_made_by {O = O} transforms_openapi3 d ≡ for_openapi3 d
 unfolding forms
 value_made-openapi3 O null = refl
-value_made-openapi3 O (boolean b) = refl
-value_made-openapi3 O (number n) = refl
-value_made-openapi3 O (string s) = refl
-value_made-openapi3 O (array ds) = refl
-value_made-openapi3 O (object ms) = refl
+value_made-openapi3 O _ = refl
 
 each_made-openapi3 : (O : Type 0) (es : Members) → each_made_by {O = O} transforms_openapi3 es ≡ each_changed for_openapi3 es
 each_made-openapi3 O no_members = refl

@@ -1,9 +1,8 @@
 -- Definitions beside the document of an example.
-use Rattle.std.proofs.Common.{◌≡◌, inl, inr, Some, None, refl, sym, subst}
+use Rattle.std.proofs.Common.{◌≡◌, inl, inr, Some, None, sym, subst}
 use Rattle.serde_json.specs.Data.{Data, object, Members}
 use Rattle.schemars_schema.specs.Json.{Text}
 use Rattle.schemars_schema.specs.SchemaData.{members_in}
-use Rattle.schemars_schema.proofs.Objects.{IsSilent}
 use Rattle.schemars_sample.specs.Example.{Example}
 use Rattle.schemars_sample.specs.SampleSchema.{sample_root}
 use Rattle.schemars_sample.specs.Accepted.{AcceptsExample}
@@ -11,22 +10,18 @@ use Rattle.schemars_sample.proofs.Accepting.{accepts-put}
 use Rattle.schemars_headline.specs.State.{Settings, stripped}
 use Rattle.schemars_headline.specs.Headline.{IsDraftPath, with_definitions}
 use Rattle.schemars_headline.specs.Keys.{HasKeysOnce}
-use Rattle.schemars_headline.proofs.Placed.{StandsAt, IsPlaced, placing, placed_in}
+use Rattle.schemars_headline.proofs.Placed.{IsPlaced, placing, placed_in}
 use Rattle.schemars_headline.proofs.Floats.{whole_with_definitions}
-use Rattle.schemars_headline.proofs.Samples.{definitions_free, draft_samples}
+use Rattle.schemars_headline.proofs.Samples.{definitions_free, draft_samples, stands-silent}
 use Rattle.schemars_generate.proofs.SampleWhole.{sample_whole}
 use Rattle.schemars_generate.specs.Samples.{IsSampleRoot, CannotPlaceSample}
-
-silent_key : (path key : Text) → StandsAt path key → IsSilent key
-silent_key path key (inl is) = rw (is.1) refl
-silent_key path key (inr is) = rw (is.1) refl
 
 -- what is found at a draft's path is not read
 accepts_placed : (path : Text) (definitions ms : Members) (x : Example) (d : Data) → IsPlaced path definitions (object ms) d
     → AcceptsExample x (object ms) → AcceptsExample x d
 accepts_placed path definitions ms x d (inl is) own = subst (AcceptsExample x) (sym is.1) own
 accepts_placed path definitions ms x d (inr (key, at, is)) own =
-    subst (AcceptsExample x) (sym is) (accepts-put x key (object definitions) ms (silent_key path key at) own)
+    subst (AcceptsExample x) (sym is) (accepts-put x key (object definitions) ms (stands-silent path key at) own)
 
 pub sample_made : (s : Settings) (definitions : Members) (x : Example) (d : Data) → HasKeysOnce definitions
     → AcceptsExample x (sample_root s.meta_schema x)

@@ -11,7 +11,7 @@ use Rattle.schemars_headline.specs.State.{State, state_plan, work_of, HasOwnDefi
 use Rattle.schemars_headline.specs.Headline.{SubschemaHeadline, IsInlined}
 use Rattle.schemars_headline.specs.Calls.{IsPartOf, IsReferenceOf, HasAdded}
 use Rattle.schemars_headline.specs.Inlined.{NeedsNoDefinitions}
-use Rattle.schemars_headline.specs.Notes.{HasPlainNotesThroughout}
+use Rattle.schemars_documents.specs.PlainTable.{HasPlainNotesThroughout}
 
 -- the answer to this ask, and what is added for it
 pub record IsAnswerFor (old new : State) (a : Ask) (d : Data) : Type 0 where

@@ -315,10 +315,7 @@ module _ (R : Demand) where
   good-members (boolean false) is =
       are-put (codes "not") (object no_members) no_members refl (good no_members nothing).everywhere nothing
   good-members (object ms) is = record { own = is.everywhere.0; inside = is.everywhere.1 }
-  good-members null is = absurd is.schema
-  good-members (number n) is = absurd is.schema
-  good-members (string t) is = absurd is.schema
-  good-members (array ds) is = absurd is.schema
+  good-members _ is = absurd is.schema
 
   -- ---- notes
 
@@ -387,10 +384,7 @@ module _ (R : Demand) where
       go true held = out
       go false held = first (bytes_eq s (codes "null")) (left (bytes_eq s (codes "null")) (holds_text (codes "null") ds) held) _ _
   alone-with (array (item null ds)) is out = absurd is.0
-  alone-with (array (item (boolean b) ds)) is out = absurd is.0
-  alone-with (array (item (number n) ds)) is out = absurd is.0
-  alone-with (array (item (array es) ds)) is out = absurd is.0
-  alone-with (array (item (object ms) ds)) is out = absurd is.0
+  alone-with _ is out = absurd is.0
 
   are-null_in_type : (o : Option Data) (ms : Members) → get_member (codes "type") ms ≡ o → AreGood ms → AreGood (null_in_type o ms)
   are-null_in_type None ms here is = is
@@ -457,6 +451,4 @@ module _ (R : Demand) where
           good _ (are-null_in_const (get_member (codes "const") typed) typed refl
           (are-null_in_type (get_member (codes "type") ms) ms refl (good-members (object ms) is)))
   good-allow_null null is = absurd is.schema
-  good-allow_null (number n) is = absurd is.schema
-  good-allow_null (string t) is = absurd is.schema
-  good-allow_null (array ds) is = absurd is.schema
+  good-allow_null _ is = absurd is.schema

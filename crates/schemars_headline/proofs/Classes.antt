@@ -25,7 +25,7 @@ use Rattle.schemars_types.specs.Edges.{option_at}
 use Rattle.schemars_types.specs.Effective.{effective, shape_fields, fields_within, without_options, weakened, part_fields, flattened_in}
 use Rattle.schemars_types.specs.Effective.{part_enums, spread, spread_in}
 use Rattle.schemars_types.specs.KeyOptions.{key_options}
-use Rattle.schemars_documents.specs.PlainTable.{AreNoted, IsPlainShape, ArePlainParts, parts_in, IsPlainEntry, IsPlainTable}
+use Rattle.schemars_documents.specs.PlainTable.{AreNoted, IsPlainShape, ArePlainParts, parts_in, IsPlainEntry, IsPlainTable, IsNotedShape}
 use Rattle.schemars_documents.specs.Basis.{Basis}
 use Rattle.schemars_documents.specs.Template.{Ask, part, asks_of, filled}
 use Rattle.schemars_documents.specs.OfShape.{struct_template, template_of}
@@ -36,8 +36,7 @@ use Rattle.schemars_meaning.proofs.Spread.{AnswersFields}
 use Rattle.schemars_meaning.proofs.Filling.{Fit}
 use Rattle.schemars_meaning.proofs.Flattened.{struct_fills}
 use Rattle.schemars_meaning.proofs.ByShape.{IsDocument, others_fill, member_document}
-use Rattle.schemars_meaning.proofs.References.{IsNotedShape}
-use Rattle.schemars_meaning.proofs.Referring.{IsNotedRow, AreNotedRows, plain_rows}
+use Rattle.schemars_meaning.proofs.Referring.{plain_rows}
 use Rattle.schemars_meaning.proofs.FieldsDescribed.{described_fields}
 use Rattle.schemars_headline.proofs.Changes.{Demand, IsDraft2019_09, IsGood, good_truth, good-annotated, good-allow_null}
 use Rattle.schemars_headline.proofs.Documents.{type-good, int-good, non_zero-good, char-good, formatted-good, bytes-good}
@@ -45,6 +44,7 @@ use Rattle.schemars_headline.proofs.Documents.{schema_itself-good, reference-goo
 use Rattle.schemars_headline.proofs.Documents.{array-good, up_to-good, tuple-good, parts-good, fields-good, one_of-good}
 use Rattle.schemars_headline.proofs.Documents.{member-good, map-good, unit-good, literal-good}
 use Rattle.schemars_headline.proofs.Filled.{noted-effective, external-makes, untagged-makes, internal-makes, adjacent-makes, values-make}
+use Rattle.schemars_documents.specs.PlainTable.{IsNotedThroughout, HasPlainNotesThroughout}
 
 -- all shapes but structs
 abbrev IsNoStruct : Shape → Type 0
@@ -127,13 +127,13 @@ module _ (R : Demand) (A : Ask → Data → Type 0) (basis : Basis) (Under : Lis
 -- ---- fields
 
 -- the own fields of each row are noted, so that those of flattened rows are
-module _ (rows : List Row) (noted : AreNotedRows rows) where
+module _ (rows : List Row) (noted : HasPlainNotesThroughout rows) where
   noted-shape : (has : Flattened → List Field) → ((p : Flattened) → AreNoted (has p)) → (kind : Shape) → IsNotedShape kind
       → AreNoted (shape_fields has kind)
   noted-shape has all (shape.struct x) own = noted-effective has all x own
   noted-shape has all kind own = tt
 
-  noted-entry : (has : Flattened → List Field) → ((p : Flattened) → AreNoted (has p)) → (o : Option Entry) → IsNotedRow o
+  noted-entry : (has : Flattened → List Field) → ((p : Flattened) → AreNoted (has p)) → (o : Option Entry) → IsNotedThroughout o
       → AreNoted (option_map_or (λ e. shape_fields has e.shape) o [])
   noted-entry has all None own = tt
   noted-entry has all (Some e) own = noted-shape has all e.shape own.1
@@ -215,7 +215,7 @@ module _ (R : Demand) (basis : Basis) (Refers : ℕ → Text → Type 0) (names 
     plain-entry : (n : ℕ) (e : Entry) → entry_at basis.rows n ≡ Some e → IsNotedUnder basis.rows (ArePlainParts basis.rows) e
     plain-entry n e at =
         let entry : IsPlainEntry basis.rows (Some e) = subst (IsPlainEntry basis.rows) at (plain n) in
-        let own : IsNotedRow (Some e) = subst IsNotedRow at (plain_rows basis.rows plain n) in
+        let own : IsNotedThroughout (Some e) = subst IsNotedThroughout at (plain_rows basis.rows plain n) in
         (entry.0, entry.1, own.1, entry.2)
 
     plain-structs : (d : ℕ) → StructsGood (ArePlainParts basis.rows) d

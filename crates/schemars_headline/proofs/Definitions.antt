@@ -1,10 +1,10 @@
 -- The transforms of the drafts keep the definitions of a document: their number and their keys.
-use Rattle.std.proofs.Common.{◌≡◌, ◌≢◌, suc, inl, inr, option_and_then, Option, Some, None, Ordering, Less, Equal, Greater}
+use Rattle.std.proofs.Common.{◌≡◌, ◌≢◌, suc, option_and_then, Option, Some, None, Ordering, Less, Equal, Greater}
 use Rattle.std.proofs.Common.{nat_cmp, codes, option_map, refl, sym, ap, ◌∙◌, subst}
 use Rattle.std.specs.Ordering.{match_ordering}
 use Rattle.std.specs.Cmp.Lexicographic.{slice_cmp}
 use Rattle.serde_json.specs.Data.{Data, null, boolean, number, string, array, object, Members, no_members, member}
-use Rattle.serde_json.specs.Find.{get_member, as_object, pointer, walk, unescape}
+use Rattle.serde_json.specs.Find.{get_member, as_object}
 use Rattle.serde_json.specs.Events.{members_len}
 use Rattle.schemars_schema.specs.Json.{Text}
 use Rattle.schemars_schema.specs.SchemaData.{IsSchema}
@@ -14,7 +14,7 @@ use Rattle.schemars_walk.specs.Rewritten.{forms, in_names, read_at, all_changed}
 use Rattle.schemars_walk.proofs.KeywordLaws.{keywords_get}
 use Rattle.schemars_transform.specs.Built.{without_siblings, prefix_as_items, replace_prefix_items, remove_ref_siblings}
 use Rattle.schemars_transform.specs.Unevaluated.{unevaluated_as_additional, replace_unevaluated_properties}
-use Rattle.schemars_headline.proofs.Placed.{StandsAt}
+use Rattle.schemars_headline.proofs.Placed.{StandsAt, pointer_key}
 use Rattle.schemars_laws.specs.Names.{IsMap}
 use Rattle.schemars_laws.proofs.Looked.{Change, change_rules, walked, map-walked}
 use Rattle.schemars_laws.proofs.Laws.{other, none}
@@ -48,10 +48,7 @@ module _ (f : Data → Data) (schema : (s : Data) → IsSchema s → IsSchema (f
   unfolding forms
   schema-after (boolean b) is = schema (boolean b) tt
   schema-after (object ms) is = schema (object (walked f ms)) tt
-  schema-after null is = absurd is
-  schema-after (number n) is = absurd is
-  schema-after (string t) is = absurd is
-  schema-after (array ds) is = absurd is
+  schema-after _ is = absurd is
 
   names-found : (k : Text) (es : Members) (d : Data) → get_member k es ≡ Some d
       → get_member k (in_names (change_rules f) tt es) ≡ Some (forms (change_rules f) tt d).as_schema
@@ -136,11 +133,6 @@ module _ (key : Text) (at : place_under key ≡ SchemasByName) where
 
 -- ---- how many there are
 
-pointer-key : (path key : Text) → StandsAt path key → (ms : Members) → pointer path (object ms) ≡ get_member key ms
-unfolding walk unescape
-pointer-key path key (inl is) ms = rw (is.0, is.1)
-pointer-key path key (inr is) ms = rw (is.0, is.1)
-
 count-entries : (o : Option Data)
     → elim (option_and_then as_object o) [ None ↦ 0 | Some ms ↦ members_len ms ] ≡ members_len (entries o)
 count-entries None = refl
@@ -155,5 +147,5 @@ pub count-has : (path key : Text) → StandsAt path key → (definitions : Membe
     → count_of_definitions path document ≡ members_len definitions
 count-has path key at definitions document has =
     ap (count_of_definitions path) has.is_object
-    ∙ (ap (λ o. elim (option_and_then as_object o) [ None ↦ 0 | Some ms ↦ members_len ms ]) (pointer-key path key at has.inside)
+    ∙ (ap (λ o. elim (option_and_then as_object o) [ None ↦ 0 | Some ms ↦ members_len ms ]) (pointer_key path key at has.inside)
     ∙ (count-entries (get_member key has.inside) ∙ has.stay.count))

@@ -1,8 +1,7 @@
 -- Root documents mean their types in Draft 7 and 2019-09 too, after the transforms of these drafts.
-use Rattle.std.proofs.Common.{◌≡◌, ◌⊎◌, ℕ, inl, inr, [], Option, Some, None, true, codes, refl, sym, ap, ◌∙◌, subst}
+use Rattle.std.proofs.Common.{◌≡◌, ◌⊎◌, ℕ, inl, inr, Option, Some, None, true, codes, refl, sym, ap, ◌∙◌, subst}
 use Rattle.std.proofs.lemmas.Bool.{false≢true}
 use Rattle.std.specs.Prelude.{is_some, option_and_then}
-use Rattle.std.specs.Option.{option_map_or}
 use Rattle.serde_json.specs.Data.{Data, null, boolean, number, string, array, object, Members, no_members, put}
 use Rattle.serde_json.specs.Find.{get_member}
 use Rattle.serde_json.proofs.Views.{get_member-put}
@@ -13,7 +12,6 @@ use Rattle.schemars_schema.specs.Lookup.{schema_only, resolved}
 use Rattle.schemars_schema.specs.References.{resolves}
 use Rattle.schemars_schema.proofs.Placings.{schema_only-schema, resolved-whole}
 use Rattle.schemars_schema.specs.Acceptance.{draft2020_12, draft2019_09, draft07}
-use Rattle.schemars_types.specs.Effective.{flattened_in, shape_fields}
 use Rattle.schemars_types.specs.declared.contract.Contract.{Contract}
 use Rattle.schemars_types.specs.Faults.{IsChecked}
 use Rattle.schemars_documents.specs.PlainTable.{IsPlainTable, IsPlainUnder}
@@ -21,7 +19,7 @@ use Rattle.schemars_build.specs.Naming.{IsOneToOne}
 use Rattle.schemars_build.specs.Work.{Plan, Work, Refers, reference_to, basis_of_plan}
 use Rattle.schemars_meaning.proofs.Schemas.{described}
 use Rattle.schemars_meaning.proofs.Referring.{plain_rows, under_rows}
-use Rattle.schemars_build.proofs.Settled.{fields_settled, enums_settled}
+use Rattle.schemars_build.proofs.Settled.{settled}
 use Rattle.schemars_headline.specs.State.{State, path_of, state_plan, HasOwnDefinitions}
 use Rattle.schemars_headline.specs.Headline.{MeansItsType, IsPlainFor, IsRootOf}
 use Rattle.schemars_headline.specs.Keys.{HasKeysOnce}
@@ -163,8 +161,7 @@ module _ (s : State) (n : ℕ) (w : Work) (document : Data) (root : IsRootOf s n
   wide_ready checked plain N refer =
       ready-as (Class (with_rest N)) (Stands N IsDraft2019_09) (for_items (with_rest N)) key w.definitions document
       (root_call-ready s n w document key root (under_rows contract s.rows plain) once standing at (with_rest N)
-      (described-under N (basis_of_plan plan) (MayRefer plan w) refer plain (λ j e found. fields_settled s.rows checked j
-      ∙ ap (λ o. option_map_or (λ e. shape_fields (flattened_in s.rows) e.shape) o []) found) (enums_settled s.rows checked)))
+      (described-under N (basis_of_plan plan) (MayRefer plan w) refer (settled (basis_of_plan plan) checked plain)))
 
   -- Draft 7 does not read `unevaluatedProperties`
   plain_for_draft07 : IsPlainFor draft07 contract s.rows → IsPlainTable s.rows

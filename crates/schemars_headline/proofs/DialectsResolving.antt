@@ -1,9 +1,9 @@
 -- The references of root documents pass a test after the transforms of the older drafts, such as that they resolve.
 use Rattle.std.proofs.Common.{◌≡◌, List, [], ◌∷◌, ◌++◌, Some, None, Bool, true, false, codes, refl, sym, ap, ◌∙◌, subst}
 use Rattle.std.proofs.Common.{true≢false}
-use Rattle.std.specs.Prelude.{bytes_eq, if◌then◌else◌, ◌&&◌}
+use Rattle.std.specs.Prelude.{bytes_eq, if◌then◌else◌}
 use Rattle.std.proofs.lemmas.Slice.Eq.{bytes_eq-Decides}
-use Rattle.serde_json.specs.Data.{Data, null, boolean, number, string, array, object, Items, no_items, item, Members, no_members}
+use Rattle.serde_json.specs.Data.{Data, string, array, object, Items, no_items, item, Members, no_members}
 use Rattle.serde_json.specs.Data.{member}
 use Rattle.serde_json.specs.Find.{get_member}
 use Rattle.schemars_schema.specs.Json.{Text}
@@ -16,12 +16,9 @@ use Rattle.schemars_laws.specs.Everywhere.{Everywhere, asked, demanded, asked_of
 use Rattle.schemars_laws.specs.Stages.{IsTextWith}
 use Rattle.schemars_headline.proofs.Resolving.{all_pass, all_pass-resolve}
 use Rattle.schemars_headline.proofs.ReferencesKept.{RefersOnce}
+use Rattle.std.proofs.lemmas.Bool.{and_parts}
 
 -- ---- each reference, where those that stand once are as R says
-
-and-parts : (a b : Bool) → a && b ≡ true → (a ≡ true) × (b ≡ true)
-and-parts true b h = (refl, h)
-and-parts false b h = absurd (true≢false (sym h))
 
 module _ (R : Text → Type 0) (test : Data → Bool) (leads : (t : Text) → R t → test (string t) ≡ true) where
   abbrev Resolve : List Data → Type 0
@@ -30,7 +27,7 @@ module _ (R : Text → Type 0) (test : Data → Bool) (leads : (t : Text) → R 
   resolve-append : (xs ys : List Data) → Resolve xs → Resolve ys → Resolve (xs ++ ys)
   resolve-append [] ys h g = g
   resolve-append (x ∷ xs) ys h g =
-      let parts = and-parts (test x) (all_pass test xs) h in rw (parts.0, resolve-append xs ys parts.1 g) refl
+      let parts = and_parts (test x) (all_pass test xs) h in rw (parts.0, resolve-append xs ys parts.1 g) refl
 
   abbrev P : Members → Type 0
   P = RefersOnce R
@@ -83,11 +80,7 @@ module _ (R : Text → Type 0) (test : Data → Bool) (leads : (t : Text) → R 
 
   referring-leads : (d : Data) → IsTextWith R (Some d) → test d ≡ true
   referring-leads (string t) is = leads t is
-  referring-leads null is = absurd is
-  referring-leads (boolean b) is = absurd is
-  referring-leads (number n) is = absurd is
-  referring-leads (array ds) is = absurd is
-  referring-leads (object ms) is = absurd is
+  referring-leads _ is = absurd is
 
   at : (p : Place) (d : Data) → ((asked P d).as_schema → Resolve (references d))
       → ((asked P d).as_list → Resolve (found_in d).in_list)
@@ -112,28 +105,16 @@ module _ (R : Text → Type 0) (test : Data → Bool) (leads : (t : Text) → R 
     unfolding asked found_in
 
     pub each-passes : (d : Data) → (asked P d).as_schema → Resolve (references d)
-    each-passes null a = refl
-    each-passes (boolean b) a = refl
-    each-passes (number n) a = refl
-    each-passes (string s) a = refl
-    each-passes (array ds) a = refl
     each-passes (object ms) a = keywords-resolve ms (each-refers ms a.0) a.1
+    each-passes _ a = refl
 
     list-resolves : (d : Data) → (asked P d).as_list → Resolve (found_in d).in_list
-    list-resolves null a = refl
-    list-resolves (boolean b) a = refl
-    list-resolves (number n) a = refl
-    list-resolves (string s) a = refl
     list-resolves (array ds) a = items-resolve ds a
-    list-resolves (object ms) a = refl
+    list-resolves _ a = refl
 
     names-resolve : (d : Data) → (asked P d).by_name → Resolve (found_in d).by_name
-    names-resolve null a = refl
-    names-resolve (boolean b) a = refl
-    names-resolve (number n) a = refl
-    names-resolve (string s) a = refl
-    names-resolve (array ds) a = refl
     names-resolve (object ms) a = members-resolve ms a
+    names-resolve _ a = refl
 
     items-resolve : (ds : Items) → asked_of_items P ds → Resolve (found_in_items ds)
     items-resolve no_items a = refl

@@ -137,10 +137,7 @@ module _ (R : Demand) where
   no_list : (t : Data) → IsSchema t → IsNoList (Some t)
   no_list (boolean b) is = tt
   no_list (object ms) is = tt
-  no_list null is = absurd is
-  no_list (number n) is = absurd is
-  no_list (string s) is = absurd is
-  no_list (array ds) is = absurd is
+  no_list _ is = absurd is
 
   -- its items, with a type
   are-items : (type t : Data) → AreSomeTypes (Some type) → IsGood R t → AreGood R (put (codes "items") t (put (codes "type") type no_members))
@@ -277,12 +274,8 @@ module _ (R : Demand) where
   with-property name d ms new is = go (get_member (codes "properties") ms) refl
     where
       named : (e : Data) → (asked (Class R) e).by_name → (asked (Class R) (with_member name d e)).by_name
-      named null all = tt
-      named (boolean b) all = tt
-      named (number n) all = tt
-      named (string s) all = tt
-      named (array ds) all = tt
       named (object es) all = asked-named name d es new.everywhere all
+      named _ all = tt
 
       go : (o : Option Data) → get_member (codes "properties") ms ≡ o → AreGood R (elim o [
         | None ↦ put (codes "properties") (with_member name d (object no_members)) ms
@@ -535,7 +528,4 @@ module _ (R : Demand) where
   literal-good (boolean b) plain = good_truth R b
   literal-good (object ms) plain = good R ms
       (record { own = literal-class ms plain; inside = asked-plain ms plain.members })
-  literal-good null plain = absurd plain
-  literal-good (number n) plain = absurd plain
-  literal-good (string s) plain = absurd plain
-  literal-good (array ds) plain = absurd plain
+  literal-good _ plain = absurd plain

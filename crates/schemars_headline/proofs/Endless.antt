@@ -8,7 +8,7 @@ use Rattle.std.specs.Ordering.{match_ordering}
 use Rattle.std.specs.Cmp.Lexicographic.{slice_cmp}
 use Rattle.std.proofs.lemmas.Map.Lookups.{exact_bytes}
 use Rattle.std.proofs.lemmas.Option.{slice_get_past}
-use Rattle.serde_json.specs.Data.{Data, null, boolean, number, string, array, object, Members, no_members, member}
+use Rattle.serde_json.specs.Data.{Data, object, Members, no_members, member}
 use Rattle.serde_json.specs.Find.{get_member}
 use Rattle.schemars_schema.specs.Verdict.{No}
 use Rattle.schemars_schema.specs.Json.{Text, IsJson}
@@ -113,13 +113,9 @@ pub no_value : (contract : Contract) (patterns : Patterns) (steps n : ℕ) (v : 
 unfolding belongs_within
 no_value contract patterns zero n v = refl
 no_value contract patterns (suc steps) (suc n) v = refl
-no_value contract patterns (suc steps) zero null = refl
-no_value contract patterns (suc steps) zero (boolean b) = refl
-no_value contract patterns (suc steps) zero (number m) = refl
-no_value contract patterns (suc steps) zero (string s) = refl
-no_value contract patterns (suc steps) zero (array ds) = refl
 no_value contract patterns (suc steps) zero (object ms) = absent_or_misfit contract (belongs_within endless contract patterns steps)
     (λ w. no_value contract patterns steps 0 w) ms (get_member (codes "n") ms) refl
+no_value contract patterns (suc steps) zero _ = refl
 
 -- so its document accepts nothing
 pub document_accepts_nothing : (contract : Contract) (path : Text) (document : Data)

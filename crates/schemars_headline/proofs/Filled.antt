@@ -12,7 +12,7 @@ use Rattle.schemars_shapes.specs.Units.{is_bare_unit}
 use Rattle.schemars_types.specs.declared.contract.Contract.{Contract}
 use Rattle.schemars_types.specs.Effective.{flattened_fields, effective, spread_payload, spread_variant}
 use Rattle.schemars_types.specs.KeyOptions.{KeyOptions, keys}
-use Rattle.schemars_documents.specs.PlainTable.{AreNoted, IsTagged, AreTagged, payload_parts, variant_parts}
+use Rattle.schemars_documents.specs.PlainTable.{AreNoted, IsTagged, AreTagged, payload_parts, variant_parts, IsNotedPayload}
 use Rattle.schemars_documents.specs.Documents.{Keyword}
 use Rattle.schemars_documents.specs.Basis.{Basis}
 use Rattle.schemars_documents.specs.Template.{Ask, part, members_of, content, Template, noted, tagged, row, asks_of, asks_in}
@@ -28,11 +28,11 @@ use Rattle.schemars_meaning.proofs.Filling.{Fit, without_end, parted}
 use Rattle.schemars_meaning.proofs.MapDocument.{map_document}
 use Rattle.schemars_meaning.proofs.ByShape.{tuple_fills}
 use Rattle.schemars_meaning.proofs.Enums.{title_noted}
-use Rattle.schemars_meaning.proofs.References.{IsNotedPayload, AreNotedVariants}
 use Rattle.schemars_laws.specs.Everywhere.{asked, asked_of_members}
 use Rattle.schemars_headline.proofs.Changes.{Demand, Class, AreGood, are-put, IsGood, good, good_truth, good-annotated}
 use Rattle.schemars_headline.proofs.Documents.{AllGood, are-typed, type-good, tuple-good, parts-good, tagged-good, unit-good}
 use Rattle.schemars_headline.proofs.Documents.{units-good, one_of-good, any_of-good, member-good, map-good, AllNamed, asked-all}
+use Rattle.schemars_documents.specs.PlainTable.{AreNotedVariants}
 
 noted-append : (xs ys : List Field) → AreNoted xs → AreNoted ys → AreNoted (xs ++ ys)
 noted-append [] ys a b = b

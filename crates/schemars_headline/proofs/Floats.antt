@@ -1,7 +1,7 @@
 -- A document has no float but those of its notes.
 use Rattle.std.proofs.Common.{◌≡◌, ℕ, zero, suc, ℤ, pos, negsuc, List, [], ◌∷◌, ◌++◌, map, Option, Some, None, Bool, true, false}
-use Rattle.std.proofs.Common.{refl, subst, true≢false, Ordering, Less, Equal, Greater, nat_cmp}
-use Rattle.std.specs.Prelude.{codes, is_some, if◌then◌else◌, ◌||◌, ◌&&◌, bytes_eq, option_map, option_and_then}
+use Rattle.std.proofs.Common.{refl, subst, Ordering, Less, Equal, Greater, nat_cmp}
+use Rattle.std.specs.Prelude.{codes, is_some, if◌then◌else◌, ◌&&◌, ◌||◌, bytes_eq, option_map, option_and_then}
 use Rattle.std.specs.Ordering.{match_ordering}
 use Rattle.std.specs.Cmp.Lexicographic.{slice_cmp}
 use Rattle.std.specs.List.{AllByRecursion}
@@ -47,7 +47,7 @@ use Rattle.schemars_documents.specs.OfShape.{entry_template, internal_item, inte
 use Rattle.schemars_documents.specs.OfShape.{adjacent_template}
 use Rattle.schemars_documents.specs.Describes.{IsWritten, Describes}
 use Rattle.schemars_flatten.proofs.Floats.{flattened-whole, flattened_part-whole, opened_inside-whole}
-use Rattle.schemars_documents.specs.PlainTable.{FieldsHaveNoFloat, PayloadHasNoFloat, VariantsHaveNoFloat, ShapeHasNoFloat}
+use Rattle.schemars_shapes.specs.Decimals.{fields_have_float, payload_has_float, variants_have_float, shape_has_float}
 use Rattle.schemars_documents.specs.PlainTable.{EntryHasNoFloat, HasNoFloat}
 use Rattle.schemars_schema.specs.Edits.{without, replaced, with_item, holds_text, with_member, with_first, changed_at}
 use Rattle.schemars_schema.specs.Placing.{placed, placed_at, tokens_of}
@@ -58,29 +58,22 @@ use Rattle.schemars_headline.specs.Headline.{with_definitions}
 use Rattle.schemars_headline.specs.Keys.{HasKeysOnce}
 use Rattle.schemars_headline.proofs.Keys.{AllMembers, all_members}
 use Rattle.schemars_meaning.proofs.Parts.{either, left_all, first_all, described_holds, written_holds}
+use Rattle.std.proofs.lemmas.Bool.{or_parts}
 
 abbrev pub IsWhole : Data → Type 0
 IsWhole s = has_float s ≡ false
-
-pub either_false : (a b : Bool) → a || b ≡ false → (a ≡ false) × (b ≡ false)
-either_false true b h = absurd (true≢false h)
-either_false false b h = (refl, h)
 
 whole_put_members : (notes ms : Members) → members_have_float notes ≡ false → members_have_float ms ≡ false
     → members_have_float (put_members notes ms) ≡ false
 whole_put_members no_members ms h e = e
 whole_put_members (member k d notes) ms h e =
-    let parts = either_false (has_float d) (members_have_float notes) h in
+    let parts = or_parts (has_float d) (members_have_float notes) h in
     whole_put_members notes (put k d ms) parts.1 (members_have_float-put k d ms parts.0 e)
 
 pub whole_members_in : (s : Data) → IsWhole s → members_have_float (members_in s) ≡ false
-whole_members_in (boolean true) h = refl
-whole_members_in (boolean false) h = refl
 whole_members_in (object ms) h = h
-whole_members_in null h = refl
-whole_members_in (number n) h = refl
-whole_members_in (string t) h = refl
-whole_members_in (array ds) h = refl
+whole_members_in (boolean true) h = refl
+whole_members_in _ h = refl
 
 whole_annotated : (notes : Members) (s : Data) → members_have_float notes ≡ false → IsWhole s → IsWhole (annotated notes s)
 whole_annotated no_members s h e = e
@@ -91,7 +84,7 @@ whole_without k no_members h = refl
 whole_without k (member l e ms) h = go (bytes_eq k l) (whole_without k ms parts.1)
   where
     parts : (has_float e ≡ false) × (members_have_float ms ≡ false)
-    parts = either_false (has_float e) (members_have_float ms) h
+    parts = or_parts (has_float e) (members_have_float ms) h
 
     go : (b : Bool) → members_have_float (without k ms) ≡ false → members_have_float (if b then ms else member l e (without k ms)) ≡ false
     go true later = parts.1
@@ -99,7 +92,7 @@ whole_without k (member l e ms) h = go (bytes_eq k l) (whole_without k ms parts.
 
 pub whole_with_item : (ds : Items) (e : Data) → IsWhole e → items_have_float ds ≡ false → items_have_float (with_item ds e) ≡ false
 whole_with_item no_items e whole h = rw whole refl
-whole_with_item (item d ds) e whole h = let parts = either_false (has_float d) (items_have_float ds) h in
+whole_with_item (item d ds) e whole h = let parts = or_parts (has_float d) (items_have_float ds) h in
     rw parts.0 (whole_with_item ds e whole parts.1)
 
 whole_type : (d : Data) → IsWhole d → IsWhole (type_with_null d)
@@ -113,10 +106,7 @@ whole_type (array ds) h = go (holds_text (codes "null") ds)
     go : (b : Bool) → IsWhole (if b then array ds else array (with_item ds (string (codes "null"))))
     go true = h
     go false = whole_with_item ds (string (codes "null")) refl h
-whole_type null h = h
-whole_type (boolean b) h = h
-whole_type (number n) h = h
-whole_type (object ms) h = h
+whole_type _ h = h
 
 -- what stands in an object without floats has none
 pub whole_member : (k : Text) (ms : Members) → members_have_float ms ≡ false → (d : Data) → get_member k ms ≡ Some d → has_float d ≡ false
@@ -124,7 +114,7 @@ whole_member k no_members h d is = cc
 whole_member k (member l e ms) h d is = go (slice_cmp nat_cmp k l) is (whole_member k ms parts.1 d)
   where
     parts : (has_float e ≡ false) × (members_have_float ms ≡ false)
-    parts = either_false (has_float e) (members_have_float ms) h
+    parts = or_parts (has_float e) (members_have_float ms) h
 
     go : (o : Ordering) → match_ordering o (get_member k ms) (Some e) (get_member k ms) ≡ Some d → (get_member k ms ≡ Some d → IsWhole d)
         → IsWhole d
@@ -143,11 +133,7 @@ whole_enum (array ds) h = go (holds_null ds)
     go : (b : Bool) → IsWhole (if b then array ds else array (with_item ds null))
     go true = h
     go false = whole_with_item ds null refl h
-whole_enum null h = h
-whole_enum (boolean b) h = h
-whole_enum (number n) h = h
-whole_enum (string t) h = h
-whole_enum (object ms) h = h
+whole_enum _ h = h
 
 whole_null_in_enum : (o : Option Data) (ms : Members) → ((d : Data) → o ≡ Some d → IsWhole d) → members_have_float ms ≡ false
     → members_have_float (null_in_enum o ms) ≡ false
@@ -184,9 +170,7 @@ whole_allow_null (object ms) h = go (is_null_choice (object ms)) (is_combined (o
     go false true = rw h
     go false false = whole_null_in_const (get_member (codes "const") typed_template) typed_template (whole_member (codes "const") typed_template whole) whole
 whole_allow_null null h = h
-whole_allow_null (number n) h = h
-whole_allow_null (string t) h = h
-whole_allow_null (array ds) h = h
+whole_allow_null _ h = h
 
 whole_keyed : (ks : List Text) (ds : List Data) (ms : Members) → AllByRecursion IsWhole ds → members_have_float ms ≡ false
     → members_have_float (put_all (keyed ks ds) ms) ≡ false
@@ -206,7 +190,7 @@ whole_replaced k d no_members new h = refl
 whole_replaced k d (member l e ms) new h = go (bytes_eq k l) (whole_replaced k d ms new parts.1)
   where
     parts : (has_float e ≡ false) × (members_have_float ms ≡ false)
-    parts = either_false (has_float e) (members_have_float ms) h
+    parts = or_parts (has_float e) (members_have_float ms) h
 
     go : (b : Bool) → members_have_float (replaced k d ms) ≡ false → members_have_float
         (if b then member l d ms else member l e (replaced k d ms)) ≡ false
@@ -224,19 +208,11 @@ whole_changed_at k change d ms keeps new h = go (get_member k ms) (whole_member 
 
 whole_with_member : (k : Text) (d s : Data) → IsWhole d → IsWhole s → IsWhole (with_member k d s)
 whole_with_member k d (object ms) new h = members_have_float-put k d ms new h
-whole_with_member k d null new h = h
-whole_with_member k d (boolean b) new h = h
-whole_with_member k d (number n) new h = h
-whole_with_member k d (string t) new h = h
-whole_with_member k d (array ds) new h = h
+whole_with_member k d _ new h = h
 
 whole_with_first : (d s : Data) → IsWhole d → IsWhole s → IsWhole (with_first d s)
 whole_with_first d (array ds) new h = rw new h
-whole_with_first d null new h = h
-whole_with_first d (boolean b) new h = h
-whole_with_first d (number n) new h = h
-whole_with_first d (string t) new h = h
-whole_with_first d (object ms) new h = h
+whole_with_first d _ new h = h
 
 whole_tagged : (tag name : Text) (ms : Members) → members_have_float ms ≡ false → members_have_float (properties.tagged tag name ms) ≡ false
 whole_tagged tag name ms h =
@@ -318,9 +294,11 @@ rows_whole : (ns : List ℕ) → SayWhole (templates_of (map row ns))
 rows_whole [] = tt
 rows_whole (n ∷ ns) = (tt, rows_whole ns)
 
-properties_whole : (xs : List Field) → FieldsHaveNoFloat xs → SayWhole (templates_of (map (λ e. e.1) (map property xs)))
+properties_whole : (xs : List Field) → fields_have_float xs ≡ false → SayWhole (templates_of (map (λ e. e.1) (map property xs)))
 properties_whole [] h = tt
-properties_whole (x ∷ xs) h = ((h.0, tt), properties_whole xs h.1)
+properties_whole (x ∷ xs) h =
+    let parts = or_parts (members_have_float x.notes) (fields_have_float xs) h in
+    ((parts.0, tt), properties_whole xs parts.1)
 
 texts_whole : (ns : List Text) → items_have_float (text_items ns) ≡ false
 texts_whole [] = refl
@@ -345,7 +323,7 @@ flattened_template : (contract : Contract) (ps : List Flattened) (t : Template) 
 flattened_template contract [] t h = h
 flattened_template contract (p ∷ ps) t h = flattened_template contract ps _ (h, tt)
 
-struct_whole : (contract : Contract) (x : Fields) → FieldsHaveNoFloat x.list → SaysWhole (struct_template contract x)
+struct_whole : (contract : Contract) (x : Fields) → fields_have_float x.list ≡ false → SaysWhole (struct_template contract x)
 struct_whole contract x n =
     flattened_template contract x.flatten _
     (map_whole (map property x.list) (text_items (required_names contract x.list)) x.closed (properties_whole x.list n)
@@ -353,23 +331,33 @@ struct_whole contract x n =
 
 -- ---- enums
 
-payload_whole : (contract : Contract) (p : Payload) → PayloadHasNoFloat p → SaysWhole (payload_template contract p)
+payload_whole : (contract : Contract) (p : Payload) → payload_has_float p ≡ false → SaysWhole (payload_template contract p)
 payload_whole contract no_payload n = refl
 payload_whole contract (newtype_payload j) n = tt
 payload_whole contract (tuple_payload js) n = tuple_whole js
 payload_whole contract (struct_payload x) n = struct_whole contract x n
 
 -- under its name alone
-named_whole : (contract : Contract) (name : Text) (p : Payload) → PayloadHasNoFloat p → SaysWhole (named_template contract name p)
+named_whole : (contract : Contract) (name : Text) (p : Payload) → payload_has_float p ≡ false → SaysWhole (named_template contract name p)
 named_whole contract name no_payload n = refl
 named_whole contract name (newtype_payload j) n = search
 named_whole contract name (tuple_payload js) n = search (tuple_whole js)
 named_whole contract name (struct_payload x) n = search (struct_whole contract x n)
 
-others_whole : (contract : Contract) (xs : List Variant) → VariantsHaveNoFloat xs → SayWhole (templates_of (other_items contract xs))
+-- what holds of variants without decimals holds of the first one and of those after it
+variants_whole : (x : Variant) (xs : List Variant) → variants_have_float (x ∷ xs) ≡ false
+    → (members_have_float x.notes ≡ false) × (payload_has_float x.payload ≡ false) × (variants_have_float xs ≡ false)
+variants_whole x xs h =
+    let parts = or_parts (members_have_float x.notes || payload_has_float x.payload) (variants_have_float xs) h in
+    let own = or_parts (members_have_float x.notes) (payload_has_float x.payload) parts.0 in
+    (own.0, own.1, parts.1)
+
+others_whole : (contract : Contract) (xs : List Variant) → variants_have_float xs ≡ false → SayWhole (templates_of (other_items contract xs))
 others_whole contract [] n = tt
-others_whole contract (x ∷ xs) n = go (is_bare_unit x) (others_whole contract xs n.2)
+others_whole contract (x ∷ xs) h = go (is_bare_unit x) (others_whole contract xs n.2)
   where
+    n = variants_whole x xs h
+
     go : (b : Bool) → SayWhole (templates_of (other_items contract xs)) → SayWhole (templates_of
         (if b then other_items contract xs else noted x.notes (named_template contract x.name x.payload) ∷ other_items contract xs))
     go true later = later
@@ -385,60 +373,55 @@ titled_whole : (titles : Bool) (name : Text) (t : Template) → SaysWhole t → 
 titled_whole false name t h = h
 titled_whole true name t h = (refl, h)
 
-items_whole : (contract : Contract) (titles : Bool) (xs : List Variant) → VariantsHaveNoFloat xs
+items_whole : (contract : Contract) (titles : Bool) (xs : List Variant) → variants_have_float xs ≡ false
     → SayWhole (templates_of (map (payload_item contract titles) xs))
 items_whole contract titles [] n = tt
-items_whole contract titles (x ∷ xs) n = (
-  (
-    n.0,
-    titled_whole titles x.name (payload_template contract x.payload)
-        (payload_whole contract x.payload n.1),
-  ),
-  items_whole contract titles xs n.2,
-)
+items_whole contract titles (x ∷ xs) h =
+    let n = variants_whole x xs h in
+    let one = titled_whole titles x.name (payload_template contract x.payload) (payload_whole contract x.payload n.1) in
+    ((n.0, one), items_whole contract titles xs n.2)
 
-untagged_whole : (contract : Contract) (titles : Bool) (xs : List Variant) → VariantsHaveNoFloat xs
+untagged_whole : (contract : Contract) (titles : Bool) (xs : List Variant) → variants_have_float xs ≡ false
     → SaysWhole (untagged_template contract titles xs)
 untagged_whole contract titles [] n = refl
 untagged_whole contract titles (x ∷ xs) n = (items_whole contract titles (x ∷ xs) n, tt)
 
-content_whole : (contract : Contract) (p : Payload) → PayloadHasNoFloat p → SaysWhole (content_template contract p)
+content_whole : (contract : Contract) (p : Payload) → payload_has_float p ≡ false → SaysWhole (content_template contract p)
 content_whole contract no_payload n = refl
 content_whole contract (newtype_payload j) n = tt
 content_whole contract (tuple_payload js) n = tuple_whole js
 content_whole contract (struct_payload x) n = struct_whole contract x n
 
-internals_whole : (contract : Contract) (tag : Text) (closed : Bool) (xs : List Variant) → VariantsHaveNoFloat xs
+internals_whole : (contract : Contract) (tag : Text) (closed : Bool) (xs : List Variant) → variants_have_float xs ≡ false
     → SayWhole (templates_of (map (internal_item contract tag closed) xs))
 internals_whole contract tag closed [] n = tt
-internals_whole contract tag closed (x ∷ xs) n = (
-  (n.0, content_whole contract x.payload n.1),
-  internals_whole contract tag closed xs n.2,
-)
+internals_whole contract tag closed (x ∷ xs) h =
+    let n = variants_whole x xs h in ((n.0, content_whole contract x.payload n.1), internals_whole contract tag closed xs n.2)
 
-internal_whole : (contract : Contract) (tag : Text) (closed : Bool) (xs : List Variant) → VariantsHaveNoFloat xs
+internal_whole : (contract : Contract) (tag : Text) (closed : Bool) (xs : List Variant) → variants_have_float xs ≡ false
     → SaysWhole (internal_template contract tag closed xs)
 internal_whole contract tag closed [] n = refl
 internal_whole contract tag closed (x ∷ xs) n = (internals_whole contract tag closed (x ∷ xs) n, tt)
 
 -- beside the name
-beside_whole : (contract : Contract) (key : Text) (p : Payload) → PayloadHasNoFloat p
+beside_whole : (contract : Contract) (key : Text) (p : Payload) → payload_has_float p ≡ false
     → SayWhole (templates_of (map (λ e. e.1) (adjacent_payload contract key p)))
 beside_whole contract key no_payload n = tt
 beside_whole contract key (newtype_payload j) n = (tt, tt)
 beside_whole contract key (tuple_payload js) n = (tuple_whole js, tt)
 beside_whole contract key (struct_payload x) n = (struct_whole contract x n, tt)
 
-adjacents_whole : (contract : Contract) (tag key : Text) (closed : Bool) (xs : List Variant) → VariantsHaveNoFloat xs
+adjacents_whole : (contract : Contract) (tag key : Text) (closed : Bool) (xs : List Variant) → variants_have_float xs ≡ false
     → SayWhole (templates_of (map (adjacent_item contract tag key closed) xs))
 adjacents_whole contract tag key closed [] n = tt
-adjacents_whole contract tag key closed (x ∷ xs) n =
+adjacents_whole contract tag key closed (x ∷ xs) h =
+    let n = variants_whole x xs h in
     let es : List KeywordTemplate = said tag (unit_variant x.name) ∷ adjacent_payload contract key x.payload in
     let keys : List Text = map (λ e. e.0) es in
     let one = map_whole es (text_items keys) closed (refl, beside_whole contract key x.payload n.1) (texts_whole keys) in
     ((n.0, one), adjacents_whole contract tag key closed xs n.2)
 
-adjacent_whole : (contract : Contract) (tag key : Text) (closed : Bool) (xs : List Variant) → VariantsHaveNoFloat xs
+adjacent_whole : (contract : Contract) (tag key : Text) (closed : Bool) (xs : List Variant) → variants_have_float xs ≡ false
     → SaysWhole (adjacent_template contract tag key closed xs)
 adjacent_whole contract tag key closed [] n = refl
 adjacent_whole contract tag key closed (x ∷ xs) n = (adjacents_whole contract tag key closed (x ∷ xs) n, tt)
@@ -466,38 +449,22 @@ values_whole : (options : KeyOptions) (value : ℕ) → SaysWhole (values_templa
 values_whole (keys others texts integers ps) value =
     keyed_whole (other_values others value) texts (all_patterns integers ps) value (other_whole others value)
 
-shape_whole : (basis : Basis) (kind : Shape) → ShapeHasNoFloat kind → SaysWhole (template_of basis kind)
-shape_whole basis shape.null n = refl
-shape_whole basis shape.bool n = refl
+shape_whole : (basis : Basis) (kind : Shape) → shape_has_float kind ≡ false → SaysWhole (template_of basis kind)
 shape_whole basis (shape.int k) n = (int_whole (format_of k) (least_of k) (greatest_of k)).0
 shape_whole basis (shape.non_zero k) n = either IsWhole (is_signed k) _ _
     (int_whole (format_of k) (least_of k) (greatest_of k)).1 (int_whole (format_of k) (Some (pos 1)) (greatest_of k)).0
-shape_whole basis shape.number n = refl
-shape_whole basis shape.text n = refl
-shape_whole basis shape.char n = refl
-shape_whole basis (shape.formatted f) n = refl
-shape_whole basis shape.any n = refl
 shape_whole basis shape.bytes n = bytes_whole basis.contract
-shape_whole basis shape.schema_itself n = refl
-shape_whole basis (shape.option j) n = tt
-shape_whole basis (shape.seq j) n = search
-shape_whole basis (shape.set j) n = search
 shape_whole basis (shape.array j zero) n = refl
 shape_whole basis (shape.array j (suc len)) n = search
-shape_whole basis (shape.up_to j cap) n = search
 shape_whole basis (shape.tuple js) n = tuple_whole js
 shape_whole basis (shape.struct x) n = struct_whole basis.contract x n
-shape_whole basis (shape.newtype j) n = tt
-shape_whole basis (shape.result a b) n = search
-shape_whole basis (shape.bound j) n = search
-shape_whole basis (shape.range j) n = search
-shape_whole basis (shape.either a b) n = search
 shape_whole basis (shape.map_from key value) n = values_whole (key_options basis.rows key) value
 shape_whole basis (shape.external xs) n = choice_whole (bare_units xs) (other_items basis.contract xs) (others_whole basis.contract xs n)
 shape_whole basis (shape.untagged xs) n = untagged_whole basis.contract basis.titles xs n
 shape_whole basis (shape.internal tag closed xs) n = internal_whole basis.contract tag closed xs n
 shape_whole basis (shape.adjacent tag key closed xs) n = adjacent_whole basis.contract tag key closed xs n
 shape_whole basis (shape.literal d) n = either IsWhole (is_schema d) d (boolean true) n refl
+shape_whole basis _ n = search
 
 -- ---- the document of a row
 
@@ -505,7 +472,7 @@ module _ (basis : Basis) (Refers : ℕ → Text → Type 0) (none : HasNoFloat b
   fills : (n : ℕ) (e : Entry) → entry_at basis.rows n ≡ Some e → (ts : List Data) → AllByRecursion IsWhole ts
       → IsWhole (filled (entry_template basis e) ts)
   fills n e at ts h =
-      let here : EntryHasNoFloat (Some e) = subst EntryHasNoFloat at (none n) in
+      let here = or_parts (members_have_float e.notes) (shape_has_float e.shape) (subst EntryHasNoFloat at (none n)) in
       whole_filled (entry_template basis e) ts (here.0, shape_whole basis e.shape here.1) h
 
   pub described_whole : (d n : ℕ) (s : Data) → Describes basis Refers d n s → has_float s ≡ false

@@ -3,7 +3,7 @@ use Rattle.std.proofs.Common.{◌≡◌, List, [], ◌∷◌, Bool, true, false,
 use Rattle.std.proofs.lemmas.Slice.Eq.{bytes_eq-Decides}
 use Rattle.std.specs.List.{AllByRecursion}
 use Rattle.std.specs.Prelude.{◌||◌, bytes_eq, codes, if◌then◌else◌}
-use Rattle.serde_json.specs.Data.{Data, null, boolean, number, string, array, object, Items, no_items, item, Members, no_members}
+use Rattle.serde_json.specs.Data.{Data, null, array, object, Items, no_items, item, Members, no_members}
 use Rattle.serde_json.specs.Data.{member, put}
 use Rattle.schemars_schema.specs.Json.{Text}
 use Rattle.schemars_schema.specs.OrderedText.{is_listed}
@@ -43,20 +43,12 @@ by_place SchemasByName one each other = other
 -- C holds of all schema objects inside it, but for those that judge the same object, of which just what stands in them is asked
 unfoldable mutual
   pub Holds : (Members → Type 0) → Data → Type 0
-  Holds C null = Unit {0}
-  Holds C (boolean b) = Unit {0}
-  Holds C (number n) = Unit {0}
-  Holds C (string s) = Unit {0}
-  Holds C (array ds) = Unit {0}
   Holds C (object ms) = HoldsUnder C ms
+  Holds C _ = Unit {0}
 
   pub HoldsList : (Members → Type 0) → Data → Type 0
-  HoldsList C null = Unit {0}
-  HoldsList C (boolean b) = Unit {0}
-  HoldsList C (number n) = Unit {0}
-  HoldsList C (string s) = Unit {0}
   HoldsList C (array ds) = HoldsEach C ds
-  HoldsList C (object ms) = Unit {0}
+  HoldsList C _ = Unit {0}
 
   pub HoldsEach : (Members → Type 0) → Items → Type 0
   HoldsEach C no_items = Unit {0}
@@ -91,20 +83,12 @@ module _ (C : Members → Type 0) where
 
     -- a schema of the class
     pub holds-everywhere : (d : Data) → Everywhere C d → Holds C d
-    holds-everywhere null a = tt
-    holds-everywhere (boolean b) a = tt
-    holds-everywhere (number n) a = tt
-    holds-everywhere (string s) a = tt
-    holds-everywhere (array ds) a = tt
     holds-everywhere (object ms) a = holds-under ms a.1
+    holds-everywhere _ a = tt
 
     holds-list : (d : Data) → (asked C d).as_list → HoldsList C d
-    holds-list null a = tt
-    holds-list (boolean b) a = tt
-    holds-list (number n) a = tt
-    holds-list (string s) a = tt
     holds-list (array ds) a = holds-each ds a
-    holds-list (object ms) a = tt
+    holds-list _ a = tt
 
     holds-each : (ds : Items) → asked_of_items C ds → HoldsEach C ds
     holds-each no_items a = tt

@@ -8,7 +8,6 @@ use Rattle.std.specs.Cmp.Lexicographic.{slice_cmp}
 use Rattle.std.specs.List.{AllByRecursion}
 use Rattle.std.specs.List.Sorted.{IsStrictlySortedBy}
 use Rattle.std.specs.Map.{keys_of}
-use Rattle.std.proofs.lemmas.Cmp.{nat_list_cmp_total, tied_itself}
 use Rattle.std.proofs.lemmas.Map.Lookups.{exact_bytes}
 use Rattle.serde_json.specs.Data.{Data, Members, no_members, member}
 use Rattle.serde_json.specs.Find.{get_member}
@@ -20,14 +19,12 @@ use Rattle.schemars_schema.specs.Annotations.{is_annotation}
 use Rattle.schemars_schema.proofs.Objects.{annotation-not_listed}
 use Rattle.schemars_headline.specs.Keys.{HasKeysOnce}
 use Rattle.schemars_build.specs.Work.{IsKey}
+use Rattle.schemars_schema.proofs.Members.{get_member-here}
 
 -- ---- which keys there are
 
-found_here : (k : Text) (d : Data) (ms : Members) → get_member k (member k d ms) ≡ Some d
-found_here k d ms = rw (tied_itself nat_list_cmp_total k)
-
 pub key_here : (k : Text) (d : Data) (ms : Members) → IsKey k (member k d ms)
-key_here k d ms = (d, found_here k d ms)
+key_here k d ms = (d, get_member-here k d ms)
 
 pub key_later : (j k : Text) (d : Data) (ms : Members) → IsKey j ms → IsKey j (member k d ms)
 key_later j k d ms h = go (slice_cmp nat_cmp j k)
@@ -66,7 +63,7 @@ pub all_members : (P : Data → Type 0) (ms : Members) → HasKeysOnce ms → ((
     → AllMembers P ms
 all_members P no_members once all = tt
 all_members P (member k d ms) once all = (
-  all k d (found_here k d ms),
+  all k d (get_member-here k d ms),
   all_members P ms once.1 (λ j e found. all j e (found_later j k d e ms once.0 found)),
 )
 

@@ -102,11 +102,7 @@ module _ (key : Text) (is_key : IsDefinitionsKey key) where
 
   lacks_removed : (k : Text) (s : Data) → LacksIn s → LacksIn (removed k s)
   lacks_removed k (object ms) h = lacks_without k ms h
-  lacks_removed k null h = h
-  lacks_removed k (boolean b) h = h
-  lacks_removed k (number n) h = h
-  lacks_removed k (string t) h = h
-  lacks_removed k (array ds) h = h
+  lacks_removed k _ h = h
 
   lacks_changed_at : (k : Text) (change : Data → Data) (d : Data) (ms : Members) → IsOther k → Lacks ms → Lacks (changed_at k change d ms)
   lacks_changed_at k change d ms other h = go (get_member k ms)
@@ -187,11 +183,7 @@ module _ (key : Text) (is_key : IsDefinitionsKey key) where
       go (number n) f = f
       go (string t) f = f
       go (array ds) f = f
-  lacks_flattened s (boolean false) h new = h
-  lacks_flattened s null h new = h
-  lacks_flattened s (number n) h new = h
-  lacks_flattened s (string t) h new = h
-  lacks_flattened s (array ds) h new = h
+  lacks_flattened s _ h new = h
 
   -- ---- opening
 
@@ -218,18 +210,11 @@ module _ (key : Text) (is_key : IsDefinitionsKey key) where
   unfolding forms in_keywords
   lacks_opened (object ms) h = lacks_opened_here (object (in_keywords opening tt ms)) (lacks_in_keywords ms h)
   lacks_opened (boolean b) h = lacks_opened_here (boolean b) h
-  lacks_opened null h = h
-  lacks_opened (number n) h = h
-  lacks_opened (string t) h = h
-  lacks_opened (array ds) h = h
+  lacks_opened _ h = h
 
   pub lacks_opened_inside : (s : Data) → LacksIn s → LacksIn (opened_inside s)
   lacks_opened_inside (object ms) h = lacks_in_keywords ms h
-  lacks_opened_inside (boolean b) h = h
-  lacks_opened_inside null h = h
-  lacks_opened_inside (number n) h = h
-  lacks_opened_inside (string t) h = h
-  lacks_opened_inside (array ds) h = h
+  lacks_opened_inside _ h = h
 
   -- ---- units, and parts that may be missing
 

@@ -11,7 +11,7 @@ use Rattle.schemars_types.specs.Rows.{Row, entry_at}
 use Rattle.schemars_types.specs.Edges.{is_inline_at, option_at, rank}
 use Rattle.schemars_types.specs.Faults.{IsChecked}
 use Rattle.schemars_types.specs.KeyOptions.{key_options}
-use Rattle.schemars_types.proofs.Settling.{further_rows}
+use Rattle.schemars_types.proofs.Settling.{further_rows, length-take}
 use Rattle.schemars_flatten.specs.Parts.{flattened_part}
 use Rattle.schemars_documents.specs.Basis.{Basis}
 use Rattle.schemars_documents.specs.Template.{Template, Ask, part, members_of, content, noted}
@@ -141,11 +141,6 @@ module _ (basis : Basis) (more : List Row) (inlines : Bool) (R : ℕ → Text �
           let Q : Template → Type 0 = λ t. Fills New (noted e.notes t) s in
           subst P (sym (all n e is)) (subst Q (template-more basis more e.shape (λ m c. same n m e is c))
           (own_asked (Answers basis inlines R d pending) New basis e (answer_more d pending deeper n e is) s h))
-
-length-take : (k : ℕ) (rows : List Row) → length (take k rows) ≤ length rows
-length-take zero rows = omega arith
-length-take (suc k) [] = omega arith
-length-take (suc k) (r ∷ rows) = omega (arith, length-take k rows)
 
 entry-in_more : (first : List Row) (k : ℕ) (rows : List Row) → take k rows ≡ first → (n : ℕ) (e : Entry) → entry_at first n ≡ Some e
     → entry_at rows n ≡ Some e

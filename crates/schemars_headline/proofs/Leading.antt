@@ -2,26 +2,24 @@
 use Rattle.std.proofs.Common.{◌≡◌, ◌⊎◌, inl, inr, ℕ, suc, ◌+◌, ◌*◌, ◌<◌, ◌≤◌, List, [], ◌∷◌, ◌++◌, map, Option, Some, None}
 use Rattle.std.proofs.Common.{true, Contains, length, refl, sym, ap, ◌∙◌, arith, subst}
 use Rattle.std.specs.Prelude.{codes, is_some}
-use Rattle.std.specs.Option.{option_map_or}
 use Rattle.std.specs.Str.{IsUtf8}
 use Rattle.std.proofs.Math.Nat.{mul-le-mul_left}
 use Rattle.std.proofs.lemmas.List.Elements.{Contains-append_left, Contains-append_right}
-use Rattle.serde_json.specs.Data.{Data, null, boolean, number, string, array, object, Members, no_members, member, depth}
+use Rattle.serde_json.specs.Data.{Data, object, Members, no_members, member, depth}
 use Rattle.serde_json.specs.Find.{get_member}
 use Rattle.serde_json.specs.Events.{members_len}
 use Rattle.schemars_schema.specs.Json.{Text}
-use Rattle.schemars_schema.specs.SchemaData.{IsSchema, is_schema}
+use Rattle.schemars_schema.specs.SchemaData.{IsSchema}
 use Rattle.schemars_schema.specs.Encoding.{lookup}
 use Rattle.schemars_schema.specs.Lookup.{resolved}
 use Rattle.schemars_schema.specs.Acceptance.{Patterns, Judge, judge, draft2020_12, count_of_definitions}
-use Rattle.schemars_schema.proofs.Encodings.{lookup-encoded, lookup-ascii}
+use Rattle.schemars_schema.proofs.Encodings.{lookup-encoded}
 use Rattle.schemars_builders.specs.NullLaw.{context2020_12}
 use Rattle.schemars_shapes.specs.Shape as shape
-use Rattle.schemars_shapes.specs.Shape.{Shape, Flattened, Entry, Payload, Variant, no_payload, newtype_payload, tuple_payload}
+use Rattle.schemars_shapes.specs.Shape.{Shape, Flattened, Entry, Payload, Variant}
 use Rattle.schemars_shapes.specs.Shape.{struct_payload, payload_flattened, payload_same, of_variants, same_value_numbers}
 use Rattle.schemars_types.specs.Rows.{Row, entry_at}
 use Rattle.schemars_types.specs.Edges.{rank}
-use Rattle.schemars_types.specs.Effective.{flattened_in, shape_fields}
 use Rattle.schemars_types.specs.Faults.{IsChecked}
 use Rattle.schemars_types.proofs.Asked.{asked, entry_low}
 use Rattle.schemars_documents.specs.Describes.{IsWritten, Describes}
@@ -35,8 +33,10 @@ use Rattle.schemars_meaning.proofs.Enums.{IsNewtypeIn}
 use Rattle.schemars_meaning.proofs.Meanings.{IsSame}
 use Rattle.schemars_meaning.proofs.Following.{References, InList, Setting, written_says}
 use Rattle.schemars_meaning.proofs.Schemas.{described}
-use Rattle.schemars_build.proofs.Settled.{fields_settled, enums_settled}
+use Rattle.schemars_build.proofs.Settled.{settled}
 use Rattle.schemars_headline.proofs.Standing.{MayRefer, AllStand}
+use Rattle.schemars_laws.proofs.Paths.{is-schema}
+use Rattle.schemars_schema.proofs.Placings.{lookup-whole}
 
 -- ---- ranks
 
@@ -67,16 +67,12 @@ flattened_case [] = inl refl
 flattened_case (p ∷ ps) = inr (p.ty, (0, omega arith, refl))
 
 payload_case : (p : Payload) → (payload_parts p ≡ []) ⊎ ((j : ℕ) × Contains (payload_flattened p) j)
-payload_case no_payload = inl refl
-payload_case (newtype_payload n) = inl refl
-payload_case (tuple_payload ns) = inl refl
 payload_case (struct_payload x) = flattened_case x.flatten
+payload_case _ = inl refl
 
 same_case : (p : Payload) → (payload_parts p ≡ []) ⊎ ((j : ℕ) × Contains (payload_same p) j)
-same_case no_payload = inl refl
-same_case (newtype_payload n) = inl refl
-same_case (tuple_payload ns) = inl refl
 same_case (struct_payload x) = flattened_case x.flatten
+same_case _ = inl refl
 
 variants_case : (rows_of : Payload → List ℕ) → ((p : Payload) → (payload_parts p ≡ []) ⊎ ((j : ℕ) × Contains (rows_of p) j))
     → (xs : List Variant) → (variant_parts xs ≡ []) ⊎ ((j : ℕ) × Contains (of_variants rows_of xs) j)
@@ -108,21 +104,9 @@ ranks_above rows checked n e at = go (shape_case e.shape)
 
 -- ---- what a reference leads to
 
-is_schema-true : (d : Data) → IsSchema d → is_schema d ≡ true
-is_schema-true (boolean b) is = refl
-is_schema-true (object ms) is = refl
-is_schema-true null is = absurd is
-is_schema-true (number n) is = absurd is
-is_schema-true (string s) is = absurd is
-is_schema-true (array ds) is = absurd is
-
 resolved_found : (document : Data) (r : Text) (d : Data) → lookup r document ≡ Some d → IsSchema d → resolved document r ≡ Some d
 unfolding resolved
-resolved_found document r d found is = rw (found, is_schema-true d is)
-
--- `#` leads to the whole
-lookup-whole : (document : Data) → lookup (codes "#") document ≡ Some document
-lookup-whole document = lookup-ascii [] document refl refl
+resolved_found document r d found is = rw (found, is-schema d is)
 
 -- ---- the references to definitions, one for each
 
@@ -324,10 +308,7 @@ module _ (plan : Plan) (w : Work) (document : Data) (checked : IsChecked plan.ro
           describes-wider (basis_of_plan plan) (MayRefer plan w) (InList refs)
               refers_listed to.2 to.2 (omega arith) j to.1 to.5,
         );
-    plain = plain;
-    fields_settled = λ n e at. fields_settled plan.rows checked n
-        ∙ ap (λ o. option_map_or (λ e. shape_fields (flattened_in plan.rows) e.shape) o []) at;
-    enums_settled = enums_settled plan.rows checked;
+    settled = settled (basis_of_plan plan) checked plain;
     rank = rank plan.rows;
     ranks = length plan.rows;
     low_rank = λ n e at. checked.rank_bound n (entry_low plan.rows n e at);

@@ -1,22 +1,19 @@
 -- Each reference in a definition names a key.
-use Rattle.std.proofs.Common.{◌≡◌, ◌⊎◌, inl, inr, ℕ, List, Bool, true, false}
+use Rattle.std.proofs.Common.{◌≡◌, ◌⊎◌, inl, inr, ℕ, Bool, true, false}
 use Rattle.std.proofs.Common.{None, true≢false, refl, sym, ap}
 use Rattle.std.specs.Prelude.{◌||◌, bytes_eq}
 use Rattle.std.specs.Option.{option_map_or}
 use Rattle.std.proofs.lemmas.Slice.Eq.{bytes_eq-Decides}
-use Rattle.serde_json.specs.Data.{Data, null, boolean, number, string, array, object, Members, no_members, member}
+use Rattle.serde_json.specs.Data.{Data, string, Members, no_members, member}
 use Rattle.serde_json.specs.Find.{as_str}
 use Rattle.schemars_schema.specs.Json.{Text}
 use Rattle.schemars_schema.specs.References.{references}
-use Rattle.schemars_types.specs.Rows.{Row}
-use Rattle.schemars_types.specs.declared.contract.Contract.{Contract}
-use Rattle.schemars_documents.specs.PlainTable.{IsPlainTable, IsPlainUnder}
+use Rattle.schemars_documents.specs.PlainTable.{HasPlainNotesThroughout}
 use Rattle.schemars_build.specs.Work.{IsKey, Refers, reference_to, basis_of_plan}
 use Rattle.schemars_headline.specs.State.{State, state_plan, work_of, HasOwnDefinitions, ReferencesNameKeys}
-use Rattle.schemars_headline.specs.Notes.{HasPlainNotesThroughout}
+use Rattle.schemars_documents.specs.PlainTable.{HasPlainNotesThroughout}
 use Rattle.schemars_headline.proofs.Keys.{key_here, key_later, key_cases}
 use Rattle.schemars_build.proofs.Placing.{document_describes}
-use Rattle.schemars_meaning.proofs.Referring.{AreNotedRows, plain_rows, under_rows}
 use Rattle.schemars_headline.proofs.Resolving.{resolve-each, described_resolved}
 
 -- whether this is the reference of one of these keys
@@ -56,15 +53,11 @@ key_named path (member k d ms) r h = elim (or_cases (option_map_or (bytes_eq (re
   where
     text : (x : Data) → option_map_or (bytes_eq (reference_to path k)) (as_str x) false ≡ true → x ≡ string (reference_to path k)
     text (string t) is = ap string (sym ((bytes_eq-Decides (reference_to path k) t).0 is))
-    text null is = cc
-    text (boolean b) is = cc
-    text (number n) is = cc
-    text (array ds) is = cc
-    text (object es) is = cc
+    text _ is = cc
 
 -- Each reference in a definition names a key, where the definitions are the generator's own, literals are plain, and all notes are
 -- annotations alone, whatever is flattened or stands beside a tag.
-pub noted_name_keys : (s : State) → HasOwnDefinitions s → AreNotedRows s.rows → ReferencesNameKeys s
+pub noted_name_keys : (s : State) → HasOwnDefinitions s → HasPlainNotesThroughout s.rows → ReferencesNameKeys s
 noted_name_keys s own noted k d r found among =
     let definition = own k d found in
     let all = (described_resolved test (basis_of_plan (state_plan s None)) (Refers (state_plan s None) false (work_of s)) noted leads
@@ -78,17 +71,3 @@ noted_name_keys s own noted k d r found among =
     leads : (j : ℕ) (t : Text) → Refers (state_plan s None) false (work_of s) j t → test (string t) ≡ true
     leads j t (inl h) = cc
     leads j t (inr h) = rw (h.3) (names_a_key (state_plan s None).path s.definitions h.0 h.2)
-
--- so it is by the words of specs/
-pub noted_references_name_keys : (s : State) → HasOwnDefinitions s → HasPlainNotesThroughout s.rows → ReferencesNameKeys s
-noted_references_name_keys s own noted = noted_name_keys s own noted
-
--- so it is in a plain table
-pub references_name_keys : (s : State) → HasOwnDefinitions s → IsPlainTable s.rows → ReferencesNameKeys s
-references_name_keys s own plain = noted_name_keys s own (plain_rows s.rows plain)
-
-pub plain_notes_throughout : (rows : List Row) → IsPlainTable rows → HasPlainNotesThroughout rows
-plain_notes_throughout rows plain = plain_rows rows plain
-
-pub under_notes_throughout : (contract : Contract) (rows : List Row) → IsPlainUnder contract rows → HasPlainNotesThroughout rows
-under_notes_throughout contract rows plain = under_rows contract rows plain

@@ -3,7 +3,7 @@ use Rattle.std.proofs.Common.{◌≡◌, ℕ, zero, suc, ℤ, List, [], ◌∷�
 use Rattle.std.proofs.Common.{refl, subst, pos}
 use Rattle.std.specs.Prelude.{codes, is_some, if◌then◌else◌}
 use Rattle.std.specs.List.{AllByRecursion}
-use Rattle.serde_json.specs.Data.{Data, null, boolean, number, string, array, object, Items, no_items, item, Members, no_members}
+use Rattle.serde_json.specs.Data.{Data, null, boolean, string, array, object, Items, no_items, item, Members, no_members}
 use Rattle.serde_json.specs.Data.{member, put}
 use Rattle.serde_json.specs.Find.{get_member}
 use Rattle.schemars_schema.specs.Json.{Text}
@@ -104,39 +104,19 @@ literal_other (object ms) plain = (
   plain_absent (codes "definitions") ms plain.members (λ d. refl),
 )
 literal_other null plain = absurd plain
-literal_other (number n) plain = absurd plain
-literal_other (string s) plain = absurd plain
-literal_other (array ds) plain = absurd plain
+literal_other _ plain = absurd plain
 
 shape_other : (basis : Basis) (kind : Shape) → HasPlainLiteral kind → SaysOther (template_of basis kind)
-shape_other basis shape.null p = (refl, refl)
-shape_other basis shape.bool p = (refl, refl)
 shape_other basis (shape.int k) p = (int_other (format_of k) (least_of k) (greatest_of k)).0
 shape_other basis (shape.non_zero k) p = either HasNeither (is_signed k) _ _
     (int_other (format_of k) (least_of k) (greatest_of k)).1 (int_other (format_of k) (Some (pos 1)) (greatest_of k)).0
-shape_other basis shape.number p = (refl, refl)
-shape_other basis shape.text p = (refl, refl)
-shape_other basis shape.char p = (refl, refl)
-shape_other basis (shape.formatted f) p = (refl, refl)
-shape_other basis shape.any p = (refl, refl)
-shape_other basis shape.bytes p = (refl, refl)
-shape_other basis shape.schema_itself p = (refl, refl)
-shape_other basis (shape.option n) p = tt
-shape_other basis (shape.seq n) p = search
-shape_other basis (shape.set n) p = search
 shape_other basis (shape.array n zero) p = (refl, refl)
 shape_other basis (shape.array n (suc len)) p = search
-shape_other basis (shape.up_to n cap) p = search
 shape_other basis (shape.tuple []) p = (refl, refl)
 shape_other basis (shape.tuple (n ∷ ns)) p = search
 shape_other basis (shape.struct x) p =
     flattened_other basis.contract x.flatten _
     (map_other (map property x.list) (text_items (required_names basis.contract x.list)) x.closed)
-shape_other basis (shape.newtype n) p = tt
-shape_other basis (shape.result a b) p = search
-shape_other basis (shape.bound n) p = search
-shape_other basis (shape.range n) p = search
-shape_other basis (shape.either a b) p = search
 shape_other basis (shape.map_from key value) p = values_other (key_options basis.rows key) value
 shape_other basis (shape.external xs) p = choice_other (bare_units xs) (other_items basis.contract xs)
 shape_other basis (shape.untagged []) p = (refl, refl)
@@ -146,6 +126,7 @@ shape_other basis (shape.internal tag closed (x ∷ xs)) p = search
 shape_other basis (shape.adjacent tag key closed []) p = (refl, refl)
 shape_other basis (shape.adjacent tag key closed (x ∷ xs)) p = search
 shape_other basis (shape.literal d) p = literal_other d p
+shape_other basis _ p = search
 
 module _ (key : Text) (is_key : IsDefinitionsKey key) where
   abbrev Lack : Members → Type 0
@@ -203,9 +184,7 @@ module _ (key : Text) (is_key : IsDefinitionsKey key) where
       go false false = lacks_null_in_const (get_member (codes "const") typed_members) typed_members
           (lacks_null_in_type (get_member (codes "type") ms) ms h)
   lacks_allow_null null h = refl
-  lacks_allow_null (number n) h = refl
-  lacks_allow_null (string t) h = refl
-  lacks_allow_null (array ds) h = refl
+  lacks_allow_null _ h = refl
 
   lacks_filled : (t : Template) (ts : List Data) → SaysOther t → AllByRecursion In ts → In (filled t ts)
   lacks_filled (finished d) ts is h = lacks_both key is_key d is

@@ -1,7 +1,7 @@
 -- What holds of the references of a document holds of those after the transforms of the drafts.
 use Rattle.std.proofs.Common.{◌≡◌, ◌≢◌, Option, Some, None, Bool, true, false, codes, refl, sym, ◌∙◌, subst}
 use Rattle.std.specs.Prelude.{if◌then◌else◌, ◌==◌}
-use Rattle.serde_json.specs.Data.{Data, null, boolean, number, string, array, object, Members, no_members, member, put}
+use Rattle.serde_json.specs.Data.{Data, array, object, Members, no_members, member, put}
 use Rattle.serde_json.specs.Find.{get_member}
 use Rattle.serde_json.specs.Events.{members_len}
 use Rattle.serde_json.proofs.Views.{get_member-put_other}
@@ -153,11 +153,7 @@ module _ (R : Text → Type 0) where
     where
       listed : (d : Data) → IsSchemaList (Some d) → (asked RefersOnce d).as_schema
       listed (array ds) is = tt
-      listed null is = absurd is
-      listed (boolean b) is = absurd is
-      listed (number n) is = absurd is
-      listed (string t) is = absurd is
-      listed (object ms) is = absurd is
+      listed _ is = absurd is
 
       go : (ms : Members) → WithItems ms → asked_of_keywords RefersOnce (walked prefix_as_items ms)
           → (asked RefersOnce (prefix_as_items (object (walked prefix_as_items ms)))).as_schema

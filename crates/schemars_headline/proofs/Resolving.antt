@@ -1,6 +1,6 @@
 -- Every reference of a document passes a test, where those to other rows do: it resolves, or it names a key.
-use Rattle.std.proofs.Common.{◌≡◌, ◌<◌, inl, inr, ℕ, zero, suc, List, [], ◌∷◌, ◌++◌, length, get_or, Option, Bool, true, false}
-use Rattle.std.proofs.Common.{Ordering, Less, Equal, Greater, nat_cmp, Contains, refl, sym, ap, ◌∙◌, arith, true≢false}
+use Rattle.std.proofs.Common.{◌≡◌, ◌<◌, inl, inr, ℕ, zero, suc, List, [], ◌∷◌, ◌++◌, length, get_or, Option, Bool, true}
+use Rattle.std.proofs.Common.{Ordering, Less, Equal, Greater, nat_cmp, Contains, refl, sym, ap, ◌∙◌, arith}
 use Rattle.std.specs.Prelude.{◌&&◌}
 use Rattle.std.specs.Ordering.{match_ordering}
 use Rattle.std.specs.Cmp.Lexicographic.{slice_cmp}
@@ -16,8 +16,10 @@ use Rattle.schemars_documents.specs.Documents.{root_document}
 use Rattle.schemars_documents.specs.Basis.{Basis}
 use Rattle.schemars_documents.specs.Describes.{IsWritten, Describes}
 use Rattle.schemars_meaning.proofs.ReferencesKept.{references-root}
-use Rattle.schemars_meaning.proofs.Referring.{IsReferring, AreNotedRows, described_refers, written_refers}
+use Rattle.schemars_meaning.proofs.Referring.{IsReferring, described_refers, written_refers}
 use Rattle.schemars_headline.proofs.Keys.{AllMembers, IsDefinitionsKey}
+use Rattle.std.proofs.lemmas.Bool.{and_parts}
+use Rattle.schemars_documents.specs.PlainTable.{HasPlainNotesThroughout}
 
 -- all of these references pass a test
 abbrev pub all_pass : (Data → Bool) → List Data → Bool
@@ -28,18 +30,14 @@ pub all_pass-resolve : (document : Data) (xs : List Data) → all_pass (resolves
 all_pass-resolve document [] = refl
 all_pass-resolve document (x ∷ xs) = ap (λ b. resolves document x && b) (all_pass-resolve document xs)
 
-and-parts : (a b : Bool) → a && b ≡ true → (a ≡ true) × (b ≡ true)
-and-parts true b h = (refl, h)
-and-parts false b h = absurd (true≢false (sym h))
-
 module _ (test : Data → Bool) where
   abbrev pub Resolve : List Data → Type 0
   Resolve xs = all_pass test xs ≡ true
 
   resolve-at : (xs : List Data) (x : Data) (i : ℕ) → Resolve xs → i < length xs → get_or xs i x ≡ x → test x ≡ true
   resolve-at [] x i all less is = absurd (omega (arith, less))
-  resolve-at (y ∷ ys) x zero all less is = ap test (sym is) ∙ (and-parts (test y) (all_pass test ys) all).0
-  resolve-at (y ∷ ys) x (suc i) all less is = resolve-at ys x i (and-parts (test y) (all_pass test ys) all).1 (omega (arith, less)) is
+  resolve-at (y ∷ ys) x zero all less is = ap test (sym is) ∙ (and_parts (test y) (all_pass test ys) all).0
+  resolve-at (y ∷ ys) x (suc i) all less is = resolve-at ys x i (and_parts (test y) (all_pass test ys) all).1 (omega (arith, less)) is
 
   pub resolve-each : (xs : List Data) (x : Data) → Resolve xs → Contains xs x → test x ≡ true
   resolve-each xs x all h = resolve-at xs x h.0 all h.1 h.2
@@ -53,12 +51,12 @@ module _ (test : Data → Bool) where
 
   resolve-append : (xs ys : List Data) → Resolve xs → Resolve ys → Resolve (xs ++ ys)
   resolve-append [] ys h g = g
-  resolve-append (x ∷ xs) ys h g = let parts = and-parts (test x) (all_pass test xs) h in rw (parts.0, resolve-append xs ys parts.1 g)
+  resolve-append (x ∷ xs) ys h g = let parts = and_parts (test x) (all_pass test xs) h in rw (parts.0, resolve-append xs ys parts.1 g)
 
   resolve-parts : (xs ys : List Data) → Resolve (xs ++ ys) → Resolve xs × Resolve ys
   resolve-parts [] ys h = (refl, h)
   resolve-parts (x ∷ xs) ys h =
-      let parts = and-parts (test x) (all_pass test (xs ++ ys)) h in
+      let parts = and_parts (test x) (all_pass test (xs ++ ys)) h in
       let rest = resolve-parts xs ys parts.1 in
       (rw (parts.0, rest.0), rest.1)
 
@@ -67,7 +65,7 @@ module _ (test : Data → Bool) where
   abbrev pub IsResolved : Data → Type 0
   IsResolved s = IsSchema s × Resolve (references s)
 
-  module _ (basis : Basis) (Refers : ℕ → Text → Type 0) (noted : AreNotedRows basis.rows)
+  module _ (basis : Basis) (Refers : ℕ → Text → Type 0) (noted : HasPlainNotesThroughout basis.rows)
       (lead : (j : ℕ) (r : Text) → Refers j r → test (string r) ≡ true) where
     resolved : (t : Data) → IsReferring Passes t → IsResolved t
     resolved t h = (h.0, all-resolve (references t) h.1)

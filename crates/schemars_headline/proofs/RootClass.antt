@@ -14,12 +14,10 @@ use Rattle.schemars_shapes.specs.Shape as shape
 use Rattle.schemars_shapes.specs.Shape.{Shape, Entry}
 use Rattle.schemars_types.specs.Rows.{Row, name_at, entry_at}
 use Rattle.schemars_documents.specs.Documents.{with_title, with_meta_schema, root_document}
-use Rattle.schemars_documents.specs.PlainTable.{HasPlainLiteral, IsNotedEntry, HasPlainNotes}
+use Rattle.schemars_documents.specs.PlainTable.{HasPlainLiteral, IsNotedEntry, HasPlainNotes, IsNotedThroughout, HasPlainNotesThroughout}
 use Rattle.schemars_documents.specs.Describes.{Describes}
 use Rattle.schemars_build.specs.Work.{Plan, Work, Refers, reference_to, basis_of_plan}
 use Rattle.schemars_meaning.proofs.Mapping.{describes-wider}
-use Rattle.schemars_meaning.proofs.References.{IsNotedShape}
-use Rattle.schemars_meaning.proofs.Referring.{IsNotedRow, AreNotedRows}
 use Rattle.schemars_build.proofs.Placing.{document_describes}
 use Rattle.schemars_headline.specs.State.{State, path_of, state_plan}
 use Rattle.schemars_headline.specs.Headline.{IsRootOf, IsDraftPath}
@@ -32,6 +30,7 @@ use Rattle.schemars_laws.specs.Everywhere.{Everywhere, asked, demanded, asked_of
 use Rattle.schemars_laws.specs.Names.{IsName, IsMap}
 use Rattle.schemars_laws.proofs.References.{defs-name, definitions-name}
 use Rattle.schemars_headline.proofs.Changes.{IsUnwatched, Demand, Class, AreGood, are-put, IsGood, good, good-members, watched}
+use Rattle.schemars_documents.specs.PlainTable.{IsNotedShape}
 
 -- ---- where definitions are
 
@@ -164,14 +163,14 @@ noted-literal : (kind : Shape) → IsNotedShape kind → HasPlainLiteral kind
 noted-literal (shape.literal d) own = own
 noted-literal kind own = tt
 
-pub noted_notes : (rows : List Row) → AreNotedRows rows → HasPlainNotes rows
+pub noted_notes : (rows : List Row) → HasPlainNotesThroughout rows → HasPlainNotes rows
 noted_notes rows noted n = go (entry_at rows n) (noted n)
   where
-    go : (o : Option Entry) → IsNotedRow o → IsNotedEntry o
+    go : (o : Option Entry) → IsNotedThroughout o → IsNotedEntry o
     go None own = tt
     go (Some e) own = (own.0, noted-literal e.shape own.1)
 
-module _ (old : State) (n : ℕ) (w : Work) (document : Data) (key : Text) (h : IsRootOf old n w document) (noted : AreNotedRows old.rows)
+module _ (old : State) (n : ℕ) (w : Work) (document : Data) (key : Text) (h : IsRootOf old n w document) (noted : HasPlainNotesThroughout old.rows)
     (once : HasKeysOnce w.definitions) (definitions : AllStand (state_plan old (Some n)) w) (at : StandsAt (path_of old) key) where
   abbrev plan : Plan
   plan = state_plan old (Some n)

@@ -20,7 +20,7 @@ use Rattle.schemars_documents.specs.Describes.{IsWritten, Describes}
 use Rattle.schemars_shapes.specs.Shape as shape
 use Rattle.schemars_shapes.specs.Shape.{Shape, Field, Flattened}
 use Rattle.schemars_documents.specs.PlainTable.{IsPlainShape, HasPlainLiteral, IsEntryUnder, IsPlainUnder, IsPlainTable}
-use Rattle.schemars_documents.specs.PlainTable.{IsNotedEntry, HasPlainNotes}
+use Rattle.schemars_documents.specs.PlainTable.{IsNotedEntry, HasPlainNotes, HasPlainNotesThroughout}
 use Rattle.schemars_documents.proofs.OpenStructs.{plain_under}
 use Rattle.schemars_build.specs.Naming.{IsOneToOne}
 use Rattle.schemars_build.specs.Work.{Plan, Work, Refers, basis_of_plan}
@@ -37,7 +37,7 @@ use Rattle.schemars_meaning.proofs.Mapping.{describes-wider, written_map}
 use Rattle.schemars_build.specs.Parts.{IsSubschema}
 use Rattle.schemars_build.proofs.Placing.{document_describes, placed_written}
 use Rattle.schemars_meaning.proofs.Schemas.{described}
-use Rattle.schemars_meaning.proofs.Referring.{AreNotedRows, under_rows}
+use Rattle.schemars_meaning.proofs.Referring.{under_rows}
 use Rattle.schemars_headline.proofs.Resolving.{all_pass-resolve, Resolve, AllResolve, described_resolved}
 use Rattle.schemars_headline.proofs.Resolving.{written_resolved, root_resolved, placed_resolved}
 use Rattle.schemars_headline.proofs.Standing.{MayRefer, AllStand, stands_now, refers_may}
@@ -57,7 +57,7 @@ module _ (plan : Plan) (w : Work) (document : Data) (checked : IsChecked plan.ro
   leads : (j : ℕ) (r : Text) → MayRefer plan w j r → is_some (resolved document r) ≡ true
   leads = refers_resolve plan w document checked plain one definitions holds is_root
 
-  noted : AreNotedRows plan.rows
+  noted : HasPlainNotesThroughout plan.rows
   noted = under_rows plan.contract plan.rows plain
 
   definition_resolved : (name : Text) (d : Data) → get_member name w.definitions ≡ Some d → Resolve (resolves document) (references d)

@@ -204,7 +204,7 @@ module _ (meta_schema : Option Text) (x : Example) (path key : Text) (at : Stand
         ),
       )
 
-stands-silent : (path key : Text) → StandsAt path key → IsSilent key
+pub stands-silent : (path key : Text) → StandsAt path key → IsSilent key
 stands-silent path key (inl at) = ap (λ k. is_listed k keyword_names) at.1
 stands-silent path key (inr at) = ap (λ k. is_listed k keyword_names) at.1
 

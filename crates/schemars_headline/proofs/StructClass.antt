@@ -1,7 +1,7 @@
 -- In a table that is plain under its contract the document of each row is one that the law of 2019-09 speaks of, those of structs with
 -- flattened enums too.
 use Rattle.std.proofs.Common.{◌≡◌, ℕ, zero, inr, List, [], ◌∷◌, Option, Some, None, Bool, true, false, codes, refl, sym, ap}
-use Rattle.std.proofs.Common.{◌∙◌, subst, length, arith}
+use Rattle.std.proofs.Common.{◌∙◌, subst, arith}
 use Rattle.std.proofs.lemmas.Slice.Eq.{bytes_eq-Decides}
 use Rattle.std.specs.Prelude.{bytes_eq, if◌then◌else◌}
 use Rattle.serde_json.specs.Data.{Data, null, array, object, Members, no_members, member}
@@ -23,11 +23,10 @@ use Rattle.schemars_laws.specs.Stages.{IsTextWith, AreSomeTypes}
 use Rattle.schemars_laws.proofs.Editing.{absent-once}
 use Rattle.schemars_shapes.specs.Shape.{Field, Flattened, Fields, Entry}
 use Rattle.schemars_types.specs.Rows.{Row, entry_at}
-use Rattle.schemars_types.specs.Effective.{row_fields, flattened_in, shape_fields, part_enums, enums_within, shape_enums}
 use Rattle.schemars_types.specs.declared.contract.Contract.{Contract}
 use Rattle.schemars_types.specs.Meaning.{Choice, is_required}
 use Rattle.schemars_documents.specs.Documents.{Keyword, required_names}
-use Rattle.schemars_documents.specs.PlainTable.{AreNoted, ArePartsUnder, IsEntryUnder, IsPlainUnder}
+use Rattle.schemars_documents.specs.PlainTable.{AreNoted, ArePartsUnder, IsEntryUnder, IsNotedThroughout}
 use Rattle.schemars_documents.specs.Basis.{Basis}
 use Rattle.schemars_documents.specs.Template.{Ask, part, members_of, Template, asked as asked_for, with_keywords, asks_of, filled, first}
 use Rattle.schemars_documents.specs.OfShape.{fields_template, with_flattened, struct_template}
@@ -45,12 +44,13 @@ use Rattle.schemars_meaning.proofs.Items.{IsItem, AllItems, PartsAre, OneIs}
 use Rattle.schemars_meaning.proofs.StructDocuments.{IsStruct}
 use Rattle.schemars_meaning.proofs.PartsDescribed.{under_apart}
 use Rattle.schemars_meaning.proofs.StructsCounted.{struct_stands, tell_inside}
-use Rattle.schemars_meaning.proofs.Referring.{IsNotedRow, under_rows}
+use Rattle.schemars_meaning.proofs.Referring.{under_rows}
 use Rattle.schemars_headline.proofs.Changes.{Demand, with_rest, Class, class-of, nothing, are-put, IsGood, good}
 use Rattle.schemars_headline.proofs.Documents.{map-good, fields-named}
 use Rattle.schemars_headline.proofs.Held.{by_listed, by_place, Holds, HoldsList, HoldsEach, HoldsAt, holds-everywhere, held-members}
 use Rattle.schemars_headline.proofs.Held.{flattened-holds, part-holds}
 use Rattle.schemars_headline.proofs.Classes.{In, Answer, StructsGood, IsNotedUnder, each-good}
+use Rattle.schemars_meaning.proofs.SettledTables.{IsSettled}
 
 -- ---- what stands under each key of members in order
 
@@ -248,11 +248,7 @@ module _ (N : Text → Type 0) where
 -- ---- the documents of rows
 
 module _ (N : Text → Type 0) (basis : Basis) (Refers : ℕ → Text → Type 0) (names : (j : ℕ) (r : Text) → Refers j r → N r)
-    (plain : IsPlainUnder basis.contract basis.rows)
-    (fields_settled : (n : ℕ) (e : Entry) → entry_at basis.rows n ≡ Some e
-    → row_fields basis.rows n ≡ shape_fields (flattened_in basis.rows) e.shape)
-    (enums_settled : (n : ℕ) (e : Entry) → entry_at basis.rows n ≡ Some e
-    → enums_within basis.rows (length basis.rows) n ≡ shape_enums (part_enums basis.rows) n e.shape) where
+    (settled : IsSettled basis) where
   abbrev rows : List Row
   rows = basis.rows
 
@@ -261,8 +257,8 @@ module _ (N : Text → Type 0) (basis : Basis) (Refers : ℕ → Text → Type 0
 
   under-entry : (n : ℕ) (e : Entry) → entry_at rows n ≡ Some e → IsNotedUnder rows (ArePartsUnder contract rows) e
   under-entry n e at =
-      let entry : IsEntryUnder contract rows (Some e) = subst (IsEntryUnder contract rows) at (plain n) in
-      let own : IsNotedRow (Some e) = subst IsNotedRow at (under_rows contract rows plain n) in
+      let entry : IsEntryUnder contract rows (Some e) = subst (IsEntryUnder contract rows) at (settled.plain n) in
+      let own : IsNotedThroughout (Some e) = subst IsNotedThroughout at (under_rows contract rows settled.plain n) in
       (entry.0, entry.1, own.1, entry.3)
 
   -- its form is the same whatever value is looked at, and wherever references lead
@@ -272,9 +268,9 @@ module _ (N : Text → Type 0) (basis : Basis) (Refers : ℕ → Text → Type 0
   under-structs : (d : ℕ) → StructsGood (with_rest N) basis Refers names (ArePartsUnder contract rows) d
   under-structs d parts y noted under us fit =
       struct-good N (context2020_12 [] nowhere) refl null contract (In (with_rest N) basis Refers names d) _ _ y.closed _
-      (struct_stands [] nowhere basis Refers plain fields_settled enums_settled 1 (omega arith) zero
+      (struct_stands [] nowhere basis Refers settled 1 (omega arith) zero
       (λ d j t w is js less. absurd (omega arith)) null tt (omega arith) 1 (omega arith) d y (inr (omega arith)) under
-      (tell_inside [] nowhere basis Refers plain fields_settled enums_settled 1 (omega arith) zero
+      (tell_inside [] nowhere basis Refers settled 1 (omega arith) zero
       (λ d j t w is js less. absurd (omega arith)) null (omega arith)) us fit)
       (struct-holds N (Answer (with_rest N) basis Refers names d) contract parts
       (λ n required t h. subst (Holds (Class (with_rest N))) (sym h.2)

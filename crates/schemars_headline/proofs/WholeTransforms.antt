@@ -25,8 +25,9 @@ use Rattle.schemars_transform.specs.declared.gen_transform.GenTransform.TheVaria
 use Rattle.schemars_transform.specs.declared.gen_transform.GenTransform.TheVariants.{ReplaceConstValue, ReplacePrefixItems, AddNullable}
 use Rattle.schemars_transform.specs.declared.gen_transform.GenTransform.TheVariants.{ReplaceUnevaluatedProperties, RestrictFormats, Own}
 use Rattle.schemars_transform.specs.declared.built_in.nullable.AddNullable as options
-use Rattle.schemars_headline.proofs.Floats.{IsWhole, either_false, whole_members_in, whole_without, whole_with_item, whole_member}
+use Rattle.schemars_headline.proofs.Floats.{IsWhole, whole_members_in, whole_without, whole_with_item, whole_member}
 use Rattle.schemars_headline.proofs.Floats.{whole_replaced, whole_changed_at}
+use Rattle.std.proofs.lemmas.Bool.{or_parts}
 
 -- ---- a rewrite whose change leaves numbers whole
 
@@ -45,32 +46,30 @@ module _ {R : Type 0} (ρ : Rules R) (keeps : (r : R) (d : Data) → IsWhole d �
     unfolding forms in_items in_names in_keywords
 
     whole_forms : (r : R) (d : Data) → IsWhole d → AreWholeForms (forms ρ r d)
-    whole_forms r null h = (h, h, h, h)
     whole_forms r (boolean b) h = (keeps (ρ.inside r (boolean b)) (boolean b) h, h, keeps (ρ.inside r (boolean b)) (boolean b) h, h)
-    whole_forms r (number n) h = (h, h, h, h)
-    whole_forms r (string t) h = (h, h, h, h)
     whole_forms r (array ds) h = (h, whole_in_items r ds h, whole_in_items r ds h, h)
     whole_forms r (object ms) h =
         let s = ρ.inside r (object ms) in
         let inner = keeps s (object (in_keywords ρ s ms)) (whole_in_keywords s ms h) in
         (inner, h, inner, whole_in_names r ms h)
+    whole_forms r _ h = (h, h, h, h)
 
     whole_in_items : (r : R) (ds : Items) → items_have_float ds ≡ false → items_have_float (in_items ρ r ds) ≡ false
     whole_in_items r no_items h = refl
     whole_in_items r (item d ds) h =
-        let parts = either_false (has_float d) (items_have_float ds) h in
+        let parts = or_parts (has_float d) (items_have_float ds) h in
         rw (whole_forms r d parts.0).0 (whole_in_items r ds parts.1)
 
     whole_in_names : (r : R) (ms : Members) → members_have_float ms ≡ false → members_have_float (in_names ρ r ms) ≡ false
     whole_in_names r no_members h = refl
     whole_in_names r (member k d ms) h =
-        let parts = either_false (has_float d) (members_have_float ms) h in
+        let parts = or_parts (has_float d) (members_have_float ms) h in
         rw (whole_forms r d parts.0).0 (whole_in_names r ms parts.1)
 
     whole_in_keywords : (r : R) (ms : Members) → members_have_float ms ≡ false → members_have_float (in_keywords ρ r ms) ≡ false
     whole_in_keywords r no_members h = refl
     whole_in_keywords r (member k d ms) h =
-        let parts = either_false (has_float d) (members_have_float ms) h in
+        let parts = or_parts (has_float d) (members_have_float ms) h in
         rw (whole_form (ρ.place r k d) d (forms ρ r d) parts.0 (whole_forms r d parts.0)) (whole_in_keywords r ms parts.1)
 
   whole_rewritten : (r : R) (d : Data) → IsWhole d → IsWhole (rewritten ρ r d)
@@ -86,20 +85,12 @@ whole_inserted : (k : Text) (d s : Data) → IsWhole d → IsWhole s → IsWhole
 whole_inserted k d s new h = members_have_float-put k d (members_in s) new (whole_members_in s h)
 
 whole_removed : (k : Text) (s : Data) → IsWhole s → IsWhole (removed k s)
-whole_removed k null h = h
-whole_removed k (boolean b) h = h
-whole_removed k (number n) h = h
-whole_removed k (string t) h = h
-whole_removed k (array ds) h = h
 whole_removed k (object ms) h = whole_without k ms h
+whole_removed k _ h = h
 
 whole_get : (k : Text) (s : Data) → IsWhole s → (d : Data) → get k s ≡ Some d → IsWhole d
-whole_get k null h d is = cc
-whole_get k (boolean b) h d is = cc
-whole_get k (number n) h d is = cc
-whole_get k (string t) h d is = cc
-whole_get k (array ds) h d is = cc
 whole_get k (object ms) h d is = whole_member k ms h d is
+whole_get k _ h d is = cc
 
 whole_if : (b : Bool) (s t : Data) → IsWhole s → IsWhole t → IsWhole (if b then s else t)
 whole_if true s t one other = one
@@ -114,12 +105,8 @@ module _ (change : Option Data → Data → Data)
 -- ---- the change of each transform
 
 whole_with_last : (d s : Data) → IsWhole d → IsWhole s → IsWhole (with_last d s)
-whole_with_last d null new h = h
-whole_with_last d (boolean b) new h = h
-whole_with_last d (number n) new h = h
-whole_with_last d (string t) new h = h
 whole_with_last d (array ds) new h = whole_with_item ds d new h
-whole_with_last d (object ms) new h = h
+whole_with_last d _ new h = h
 
 whole_moved : (o : Option Data) (s : Data) → ((d : Data) → o ≡ Some d → IsWhole d) → IsWhole s → IsWhole (reference_moved o s)
 whole_moved None s at h = h
@@ -139,7 +126,7 @@ whole_first (Some (number n)) s at h = h
 whole_first (Some (string t)) s at h = h
 whole_first (Some (array no_items)) s at h = h
 whole_first (Some (array (item d ds))) s at h =
-    whole_inserted (codes "example") d s (either_false (has_float d) (items_have_float ds) (at (array (item d ds)) refl)).0 h
+    whole_inserted (codes "example") d s (or_parts (has_float d) (items_have_float ds) (at (array (item d ds)) refl)).0 h
 whole_first (Some (object ms)) s at h = h
 
 whole_enum : (o : Option Data) (s : Data) → ((d : Data) → o ≡ Some d → IsWhole d) → IsWhole s → IsWhole (value_as_enum o s)
@@ -162,7 +149,7 @@ whole_without_null no_items h = refl
 whole_without_null (item d ds) h = go (is_null_name d) (whole_without_null ds parts.1)
   where
     parts : (has_float d ≡ false) × (items_have_float ds ≡ false)
-    parts = either_false (has_float d) (items_have_float ds) h
+    parts = or_parts (has_float d) (items_have_float ds) h
 
     go : (b : Bool) → items_have_float (without_null ds) ≡ false
         → items_have_float (if b then without_null ds else item d (without_null ds)) ≡ false
@@ -171,16 +158,12 @@ whole_without_null (item d ds) h = go (is_null_name d) (whole_without_null ds pa
 
 whole_one_or_list : (ds : Items) → items_have_float ds ≡ false → IsWhole (one_or_list ds)
 whole_one_or_list no_items h = refl
-whole_one_or_list (item d no_items) h = (either_false (has_float d) false h).0
+whole_one_or_list (item d no_items) h = (or_parts (has_float d) false h).0
 whole_one_or_list (item d (item e ds)) h = h
 
 whole_type : (d : Data) → IsWhole d → IsWhole (type_without_null d)
-whole_type null h = h
-whole_type (boolean b) h = h
-whole_type (number n) h = h
-whole_type (string t) h = h
 whole_type (array ds) h = whole_one_or_list (without_null ds) (whole_without_null ds h)
-whole_type (object ms) h = h
+whole_type _ h = h
 
 whole_taken_out : (o : Option Data) (s : Data) → ((d : Data) → o ≡ Some d → IsWhole d) → IsWhole s → IsWhole (null_taken_out o s)
 whole_taken_out None s at h = h
@@ -245,12 +228,8 @@ whole_with_names (k ∷ ks) ms h = whole_with_names ks (put_missing k (boolean t
     go false = members_have_float-put k (boolean true) ms refl h
 
 whole_named : (ks : List Text) (d : Data) → IsWhole d → IsWhole (object_with_names ks d)
-whole_named ks null h = h
-whole_named ks (boolean b) h = h
-whole_named ks (number n) h = h
-whole_named ks (string t) h = h
-whole_named ks (array ds) h = h
 whole_named ks (object ms) h = whole_with_names ks ms h
+whole_named ks _ h = h
 
 whole_made : (ms : Members) (s : Data) → members_have_float ms ≡ false → IsWhole s → IsWhole (properties_made ms s)
 whole_made no_members s new h = h
@@ -298,16 +277,13 @@ whole_by [] d h = h
 whole_by (t ∷ ts) d h = whole_by ts (function_of t d) (whole_function t d h)
 
 whole_value : {O : Type 0} (ts : List (GenTransform O)) (d : Data) → IsWhole d → IsWhole (value_made_by ts d)
-whole_value ts null h = h
 whole_value ts (boolean b) h = whole_by ts (boolean b) h
-whole_value ts (number n) h = h
-whole_value ts (string t) h = h
-whole_value ts (array ds) h = h
 whole_value ts (object ms) h = whole_by ts (object ms) h
+whole_value ts _ h = h
 
 pub whole_each_by : {O : Type 0} (ts : List (GenTransform O)) (ms : Members) → members_have_float ms ≡ false
     → members_have_float (each_made_by ts ms) ≡ false
 whole_each_by ts no_members h = refl
 whole_each_by ts (member k d ms) h =
-    let parts = either_false (has_float d) (members_have_float ms) h in
+    let parts = or_parts (has_float d) (members_have_float ms) h in
     rw (whole_value ts d parts.0) (whole_each_by ts ms parts.1)

@@ -5,6 +5,5 @@ pub mod Calls
 pub mod Drafts
 pub mod Inlined
 pub mod Needed
-pub mod Notes
 pub mod Same
 pub mod Taken

@@ -5,7 +5,6 @@ use Rattle.std.proofs.Common.{◌∙◌, subst, arith, if◌then◌else◌}
 use Rattle.std.specs.List.{position_from}
 use Rattle.std.specs.Option.{option_map_or}
 use Rattle.std.specs.Str.{bytes_eq}
-use Rattle.std.proofs.lemmas.Bool.Decides.{nat_tests}
 use Rattle.schemars_schema.specs.Json.{Text}
 use Rattle.schemars_shapes.specs.Equality.{entry_eq}
 use Rattle.schemars_shapes.specs.Shape.{Entry}
@@ -13,7 +12,7 @@ use Rattle.schemars_shapes.proofs.EqualEntries.{same_entry}
 use Rattle.schemars_types.specs.declared.error.TypesError.TheVariants.{AlreadyDefined, UnknownType}
 use Rattle.schemars_types.specs.Refusals.{first_unknown, refusal_of, Registers}
 use Rattle.schemars_types.specs.Rows.{Row, place_of, entry_at, reserved, defined, holds_another}
-use Rattle.schemars_types.proofs.Registered.{place_of-below, nat_le-above}
+use Rattle.schemars_types.proofs.Registered.{place_of-below, nat_le-above, entry_at-joined, known_in_more}
 use Rattle.schemars_types.proofs.TableLemmas.{place_of-reserved, reserved-absent, place_of-defined}
 use Rattle.schemars_impls.specs.Describes.{entry_under}
 use Rattle.schemars_impls.specs.Keeps.{Keeps, AllContinue, Continues}
@@ -102,11 +101,6 @@ defined-there id rows new n e there is = ap (λ t. entry_at t n) is ∙ entry_at
 
 -- ---- a row that was not defined
 
-entry_at-joined : (rows : List Row) (id name : Text)
-    → entry_at (rows ++ (record { id = id; name = name; entry = None }) ∷ []) (length rows) ≡ None
-entry_at-joined [] id name = refl
-entry_at-joined (r ∷ rows) id name = entry_at-joined rows id name
-
 pub undefined-reserved : (id name : Text) (old mid : List Row) (n : ℕ) → entry_under id old ≡ None → mid ≡ reserved id name old
     → place_of id mid ≡ Some n → entry_at mid n ≡ None
 undefined-reserved id name old mid n undefined is there = ap (λ t. entry_at t n) is ∙ by (place_of id old) refl
@@ -174,16 +168,6 @@ position-kept id i n (r ∷ rs) (s ∷ ss) h is =
 -- an id keeps its number
 pub place_of-kept : (id : Text) (n : ℕ) {old new : List Row} → Keeps old new → place_of id old ≡ Some n → place_of id new ≡ Some n
 place_of-kept id n {old = old} {new = new} h is = position-kept id 0 n old new h.rows is
-
-known_in_more : (a b : ℕ) (ns : List ℕ) → a ≤ b → find (λ m. nat_le a m) ns ≡ None → find (λ m. nat_le b m) ns ≡ None
-known_in_more a b [] more known = refl
-known_in_more a b (n ∷ ns) more known = by (nat_le a n) refl known (known_in_more a b ns more)
-  where
-    by : (t : Bool) → nat_le a n ≡ t → cond t (Some n) (find (λ m. nat_le a m) ns) ≡ None
-        → (find (λ m. nat_le a m) ns ≡ None → find (λ m. nat_le b m) ns ≡ None)
-        → cond (nat_le b n) (Some n) (find (λ m. nat_le b m) ns) ≡ None
-    by true e h rest = cc
-    by false e h rest = let above : nat_le b n ≡ false = grind (arith, nat_tests) in rw above (rest h)
 
 -- numbers of rows stay numbers of rows
 pub numbers-kept : (old new : List Row) (ns : List ℕ) → Keeps old new → find (λ m. nat_le (length old) m) ns ≡ None

@@ -36,7 +36,7 @@ names_get ρ r k (member l d ms) = rw (names_get ρ r k ms) (go (slice_cmp nat_c
     go Equal found = refl
     go Greater found = refl
 
-is-schema : (s : Data) → IsSchema s → is_schema s ≡ true
+pub is-schema : (s : Data) → IsSchema s → is_schema s ≡ true
 is-schema (boolean b) is = refl
 is-schema (object ms) is = refl
 is-schema null is = absurd is

@@ -6,7 +6,7 @@ use Rattle.std.specs.List.{list_any}
 use Rattle.std.specs.Option.{option_map_or}
 use Rattle.std.proofs.lemmas.Bool.{and_parts}
 use Rattle.std.proofs.lemmas.Slice.Eq.{bytes_eq-Decides}
-use Rattle.serde_json.specs.Data.{Data, null, boolean, number, string, array, object, no_members, depth}
+use Rattle.serde_json.specs.Data.{Data, null, object, no_members, depth}
 use Rattle.serde_json.specs.Find.{get_member}
 use Rattle.schemars_schema.specs.Json.{Text, IsJson}
 use Rattle.schemars_schema.specs.SchemaData.{IsSchema}
@@ -55,10 +55,7 @@ module _ (tag key : Text) where
       same true w e h = h
       same false w e h = absurd (true≢false (sym e))
   beside_told name p closed null h = absurd (true≢false (sym h))
-  beside_told name p closed (boolean b) h = absurd (true≢false (sym h))
-  beside_told name p closed (number n) h = absurd (true≢false (sym h))
-  beside_told name p closed (string s) h = absurd (true≢false (sym h))
-  beside_told name p closed (array ds) h = absurd (true≢false (sym h))
+  beside_told name p closed _ h = absurd (true≢false (sym h))
 
   module _ (contract : Contract) (M : ℕ → Data → Bool) (C : ℕ → Data → List Choice) where
     abbrev beside : Bool → Text → Payload → Data → Bool
@@ -98,10 +95,7 @@ module _ (tag name : Text) where
       && has_required Deserialize name_field ms)
       ∙ alone_turned (every_member (tagged_fits M [] closed tag name) ms) (is_some (get_member tag ms))
   name_same contract M closed null = refl
-  name_same contract M closed (boolean b) = refl
-  name_same contract M closed (number n) = refl
-  name_same contract M closed (string s) = refl
-  name_same contract M closed (array ds) = refl
+  name_same contract M closed _ = refl
 
   module _ (key : Text) (p : Data → Bool) where
     abbrev both_fields : List Field
@@ -138,10 +132,7 @@ module _ (tag name : Text) where
         && has_required Deserialize both_fields ms)
         ∙ both_turned (every_member (adjacent_fits tag name key p closed) ms) (is_some (get_member tag ms)) (is_some (get_member key ms))
     both_same closed null = refl
-    both_same closed (boolean b) = refl
-    both_same closed (number n) = refl
-    both_same closed (string s) = refl
-    both_same closed (array ds) = refl
+    both_same closed _ = refl
 
 module _ (c : Context) (on : c.dialect.reads_unevaluated ≡ true) (contract : Contract) (M : ℕ → Data → Bool) (v : Data) (json : IsJson v)
     (names : (name : Text) (w : Data) → (judge c (unit_variant name)).fits w ≡ verdict (is_text name w)) where

@@ -177,17 +177,6 @@ module _ (A : Ask → Data → Type 0) where
 
     pub others_fill : (kind : Shape) (s : Data) (ts : List Data) → IsNoStruct kind
         → Fit A (asks_of (template_of basis kind)) ts → s ≡ filled (template_of basis kind) ts → IsDocument A has basis kind s
-    others_fill shape.null s ts p h e = e
-    others_fill shape.bool s ts p h e = e
-    others_fill (shape.int kind) s ts p h e = e
-    others_fill (shape.non_zero kind) s ts p h e = e
-    others_fill shape.number s ts p h e = e
-    others_fill shape.text s ts p h e = e
-    others_fill shape.char s ts p h e = e
-    others_fill (shape.formatted format) s ts p h e = e
-    others_fill shape.any s ts p h e = e
-    others_fill shape.bytes s ts p h e = e
-    others_fill shape.schema_itself s ts p h e = e
     others_fill (shape.option n) s [] p h e = absurd h
     others_fill (shape.option n) s (t ∷ ts) p h e = (t, h.0, e)
     others_fill (shape.seq n) s [] p h e = absurd h
@@ -220,7 +209,7 @@ module _ (A : Ask → Data → Type 0) where
     others_fill (shape.untagged xs) s ts p h e = record { parts = ts; answered = h; is = e }
     others_fill (shape.internal tag closed xs) s ts p h e = record { parts = ts; answered = h; is = e }
     others_fill (shape.adjacent tag key closed xs) s ts p h e = record { parts = ts; answered = h; is = e }
-    others_fill (shape.literal d) s ts p h e = e
+    others_fill _ s ts p h e = e
 
   module _ (has : Flattened → List Field) (basis : Basis) (fields : AnswersFields has basis.rows basis.contract A) where
     fills : (kind : Shape) (s : Data) (ts : List Data) → ArePlainParts basis.rows (parts_in kind)

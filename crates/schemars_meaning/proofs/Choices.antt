@@ -95,12 +95,8 @@ module _ (patterns : Patterns) (f : Text → Judge) (basis : Basis) (M : ℕ →
 
   pub unit_says : (name : Text) (v : Data) → (judge c (unit_variant name)).fits v ≡ verdict (is_text name v)
   unfolding read_data all_keywords json_eq
-  unit_says name null = refl
-  unit_says name (boolean b) = refl
-  unit_says name (number n) = refl
   unit_says name (string s) = both-yes _
-  unit_says name (array vs) = refl
-  unit_says name (object ms) = refl
+  unit_says name _ = refl
 
   module _ (W : ℕ → Data → Type 0) (schemas : (j : ℕ) (t : Data) → W j t → IsSchema t) (v : Data) (json : IsJson v)
       (agree : (j : ℕ) (t w : Data) → W j t → IsJson w → depth w < depth v → (judge c t).fits w ≡ verdict (M j w)) where

@@ -4,7 +4,7 @@ use Rattle.std.proofs.Common.{false, refl, sym, ap, ◌∙◌, arith}
 use Rattle.std.specs.Prelude.{codes, ℤ, pos, negsuc, int_le, is_some, ◌||◌, ◌&&◌, ◌==◌, not, nat_le, ◌++◌}
 use Rattle.std.proofs.lemmas.Bool.Decides.{nat_tests}
 use Rattle.std.proofs.Math.Bool.{or-false}
-use Rattle.serde_json.specs.Data.{Data, null, boolean, number, unsigned, negative, float, string, array, object, Items}
+use Rattle.serde_json.specs.Data.{Data, null, boolean, number, unsigned, negative, string, array, object, Items}
 use Rattle.serde_json.specs.Data.{no_items, item, depth, items_depth}
 use Rattle.serde_json.specs.Find.{as_integer, of_integer, as_array}
 use Rattle.serde_json.specs.Events.{items_len}
@@ -46,59 +46,35 @@ module _ (patterns : Patterns) (f : Text → Judge) (basis : Basis) (M : ℕ →
   pub null_says : (v : Data) → Says (type_alone (codes "null")) shape.null v
   unfolding read_data all_keywords
   null_says null = refl
-  null_says (boolean b) = refl
-  null_says (number n) = refl
-  null_says (string s) = refl
-  null_says (array vs) = refl
-  null_says (object ms) = refl
+  null_says _ = refl
 
   pub bool_says : (v : Data) → Says (type_alone (codes "boolean")) shape.bool v
   unfolding read_data all_keywords
   bool_says null = refl
-  bool_says (boolean b) = refl
-  bool_says (number n) = refl
-  bool_says (string s) = refl
-  bool_says (array vs) = refl
-  bool_says (object ms) = refl
+  bool_says _ = refl
 
   pub number_says : (v : Data) → Says (type_alone (codes "number")) shape.number v
   unfolding read_data all_keywords
   number_says null = refl
-  number_says (boolean b) = refl
-  number_says (number n) = refl
-  number_says (string s) = refl
-  number_says (array vs) = refl
-  number_says (object ms) = refl
+  number_says _ = refl
 
   pub text_says : (v : Data) → Says (type_alone (codes "string")) shape.text v
   unfolding read_data all_keywords
   text_says null = refl
-  text_says (boolean b) = refl
-  text_says (number n) = refl
-  text_says (string s) = refl
-  text_says (array vs) = refl
-  text_says (object ms) = refl
+  text_says _ = refl
 
   pub formatted_says : (format : Text) (v : Data) → Says (formatted_document format) (shape.formatted format) v
   unfolding read_data all_keywords
   formatted_says format null = refl
-  formatted_says format (boolean b) = refl
-  formatted_says format (number n) = refl
-  formatted_says format (string s) = refl
-  formatted_says format (array vs) = refl
-  formatted_says format (object ms) = refl
+  formatted_says format _ = refl
 
   same_count : (n : ℕ) → nat_le 1 n && nat_le n 1 ≡ (n == 1)
   same_count n = grind (arith, nat_tests)
 
   pub char_says : (v : Data) → Says char_document shape.char v
   unfolding read_data all_keywords
-  char_says null = refl
-  char_says (boolean b) = refl
-  char_says (number n) = refl
   char_says (string s) = rw both-yes (both-verdict _ _ ∙ ap verdict (same_count (code_points s)))
-  char_says (array vs) = refl
-  char_says (object ms) = refl
+  char_says _ = refl
 
   pub any_says : (v : Data) → Says (boolean true) shape.any v
   unfolding read_data
@@ -115,36 +91,24 @@ module _ (patterns : Patterns) (f : Text → Judge) (basis : Basis) (M : ℕ →
       → ((w : Data) → IsJson w → depth w < depth v → (judge c t).fits w ≡ verdict (M n w))
       → Says (seq_document t) (shape.seq n) v
   unfolding read_data all_keywords
-  seq_says n t is null json h = refl
-  seq_says n t is (boolean b) json h = refl
-  seq_says n t is (number k) json h = refl
-  seq_says n t is (string s) json h = refl
   seq_says n t is (array vs) json h = rw (schema-judge c t is, both-yes) (each_item n t vs json (λ w is less. h w is (omega arith)))
-  seq_says n t is (object ms) json h = refl
+  seq_says n t is _ json h = refl
 
   abbrev AgreesOn : ℕ → Data → Data → Type 0
   AgreesOn n t v = (w : Data) → IsJson w → depth w < depth v → (judge c t).fits w ≡ verdict (M n w)
 
   pub set_says : (n : ℕ) (t : Data) → IsSchema t → (v : Data) → IsJson v → AgreesOn n t v → Says (set_document t) (shape.set n) v
   unfolding read_data all_keywords
-  set_says n t is null json h = refl
-  set_says n t is (boolean b) json h = refl
-  set_says n t is (number k) json h = refl
-  set_says n t is (string s) json h = refl
   set_says n t is (array vs) json h = rw (schema-judge c t is, both-yes, each_item n t vs json (λ w is less. h w is (omega arith)))
       (both-verdict (are_distinct vs) (every_item (M n) vs))
-  set_says n t is (object ms) json h = refl
+  set_says n t is _ json h = refl
 
   pub up_to_says : (n cap : ℕ) (t : Data) → IsSchema t → (v : Data) → IsJson v → AgreesOn n t v
       → Says (up_to_document cap t) (shape.up_to n cap) v
   unfolding read_data all_keywords
-  up_to_says n cap t is null json h = refl
-  up_to_says n cap t is (boolean b) json h = refl
-  up_to_says n cap t is (number k) json h = refl
-  up_to_says n cap t is (string s) json h = refl
   up_to_says n cap t is (array vs) json h = rw (schema-judge c t is, both-yes, each_item n t vs json (λ w is less. h w is (omega arith)))
       (both-verdict (nat_le (items_len vs) cap) (every_item (M n) vs))
-  up_to_says n cap t is (object ms) json h = refl
+  up_to_says n cap t is _ json h = refl
 
   just_so_many : (len k : ℕ) → nat_le len k && nat_le k len ≡ (k == len)
   just_so_many len k = grind (arith, nat_tests)
@@ -159,15 +123,11 @@ module _ (patterns : Patterns) (f : Text → Judge) (basis : Basis) (M : ℕ →
   some_items_say : (n len : ℕ) (t : Data) → IsSchema t → (v : Data) → IsJson v → AgreesOn n t v
       → Says (array_document len t) (shape.array n len) v
   unfolding read_data all_keywords
-  some_items_say n len t is null json h = refl
-  some_items_say n len t is (boolean b) json h = refl
-  some_items_say n len t is (number k) json h = refl
-  some_items_say n len t is (string s) json h = refl
   some_items_say n len t is (array vs) json h =
       rw (schema-judge c t is, both-yes, each_item n t vs json (λ w is less. h w is (omega arith)))
       (three (nat_le len (items_len vs)) (nat_le (items_len vs) len) (every_item (M n) vs)
       ∙ ap (λ b. verdict (b && every_item (M n) vs)) (just_so_many len (items_len vs)))
-  some_items_say n len t is (object ms) json h = refl
+  some_items_say n len t is _ json h = refl
 
   past_none : (k : ℕ) → nat_le (suc k) 0 ≡ false
   past_none k = grind (arith, nat_tests)
@@ -187,12 +147,8 @@ module _ (patterns : Patterns) (f : Text → Judge) (basis : Basis) (M : ℕ →
 
   no_items_say : (n : ℕ) (v : Data) → Says empty_list_document (shape.array n 0) v
   unfolding read_data all_keywords
-  no_items_say n null = refl
-  no_items_say n (boolean b) = refl
-  no_items_say n (number k) = refl
-  no_items_say n (string s) = refl
   no_items_say n (array vs) = none_of n vs
-  no_items_say n (object ms) = refl
+  no_items_say n _ = refl
 
   -- ---- lists by position
 
@@ -250,29 +206,20 @@ module _ (patterns : Patterns) (f : Text → Judge) (basis : Basis) (M : ℕ →
 
     no_parts_say : (ns : List ℕ) → ArePartsWritten W ns [] → (v : Data) → Says empty_list_document (shape.tuple ns) v
     unfolding read_data all_keywords
-    no_parts_say [] h null = refl
-    no_parts_say [] h (boolean b) = refl
-    no_parts_say [] h (number k) = refl
-    no_parts_say [] h (string s) = refl
-    no_parts_say [] h (array no_items) = refl
     no_parts_say [] h (array (item v vs)) = rw (past_none (items_len vs)) refl
-    no_parts_say [] h (object ms) = refl
     no_parts_say (n ∷ ns) h v = absurd h
+    no_parts_say [] h _ = refl
 
     some_parts_say : (ns : List ℕ) (t : Data) (ts : List Data) → ArePartsWritten W ns (t ∷ ts) → (v : Data) → IsJson v → AgreesInside v
         → Says (tuple_document (t ∷ ts)) (shape.tuple ns) v
     unfolding read_data all_keywords
-    some_parts_say ns t ts h null json agree = refl
-    some_parts_say ns t ts h (boolean b) json agree = refl
-    some_parts_say ns t ts h (number k) json agree = refl
-    some_parts_say ns t ts h (string s) json agree = refl
     some_parts_say ns t ts h (array vs) json agree = rw (
       parts_read ns (t ∷ ts) h,
       both-yes (by_position (judge c t ∷ map (judge c) ts) vs),
       both-yes (by_position (judge c t ∷ map (judge c) ts) vs),
     )
         (in_place ns (t ∷ ts) vs h json (λ j u w a is less. agree j u w a is (omega arith)))
-    some_parts_say ns t ts h (object ms) json agree = refl
+    some_parts_say ns t ts h _ json agree = refl
 
     pub tuple_says : (ns : List ℕ) (ts : List Data) → ArePartsWritten W ns ts → (v : Data) → IsJson v → AgreesInside v
         → Says (tuple_document ts) (shape.tuple ns) v
@@ -324,11 +271,6 @@ module _ (patterns : Patterns) (f : Text → Judge) (basis : Basis) (M : ℕ →
       → (judge c (object_of (int_keywords format least greatest))).fits v
       ≡ verdict (holds (whole_number v) (λ z. is_at_least least z && is_at_most greatest z))
   unfolding read_data all_keywords
-  bounds_say format None None null = refl
-  bounds_say format None None (boolean b) = refl
-  bounds_say format None None (string s) = refl
-  bounds_say format None None (array vs) = refl
-  bounds_say format None None (object ms) = refl
   bounds_say format None None (number n) = rw both-yes (unbounded (as_integer n))
   bounds_say format (Some l) None null = refl
   bounds_say format (Some l) None (boolean b) = refl
@@ -348,6 +290,7 @@ module _ (patterns : Patterns) (f : Text → Judge) (basis : Basis) (M : ℕ →
   bounds_say format (Some l) (Some g) (array vs) = refl
   bounds_say format (Some l) (Some g) (object ms) = refl
   bounds_say format (Some l) (Some g) (number n) = rw (whole_of_integer l, whole_of_integer g, both-yes) (between l g (as_integer n))
+  bounds_say format None None _ = refl
 
   pub int_says : (kind : IntKind) (v : Data) → Says (int_document kind) (shape.int kind) v
   int_says kind v = bounds_say (format_of kind) (least_of kind) (greatest_of kind) v
@@ -368,29 +311,18 @@ module _ (patterns : Patterns) (f : Text → Judge) (basis : Basis) (M : ℕ →
 
   wide_not_zero : (format : Text) (v : Data) → IsJson v → IsNonZeroLaw format None None v
   unfolding read_data all_keywords json_eq
-  wide_not_zero format null is = refl
-  wide_not_zero format (boolean b) is = refl
-  wide_not_zero format (string s) is = refl
-  wide_not_zero format (array vs) is = refl
-  wide_not_zero format (object ms) is = refl
   wide_not_zero format (number (unsigned k)) is = opposite_alone (0 == k)
   wide_not_zero format (number (negative (pos k))) is = absurd is
-  wide_not_zero format (number (negative (negsuc k))) is = refl
-  wide_not_zero format (number (float x)) is = refl
+  wide_not_zero format _ is = refl
 
   narrow_not_zero : (format : Text) (l g : ℤ) (v : Data) → IsJson v → IsNonZeroLaw format (Some l) (Some g) v
   unfolding read_data all_keywords json_eq
-  narrow_not_zero format l g null is = refl
-  narrow_not_zero format l g (boolean b) is = refl
-  narrow_not_zero format l g (string s) is = refl
-  narrow_not_zero format l g (array vs) is = refl
-  narrow_not_zero format l g (object ms) is = refl
   narrow_not_zero format l g (number (unsigned k)) is = rw (whole_of_integer l, whole_of_integer g)
       (three_with_not (int_le l (pos k)) (int_le (pos k) g) (0 == k))
   narrow_not_zero format l g (number (negative (pos k))) is = absurd is
   narrow_not_zero format l g (number (negative (negsuc k))) is = rw (whole_of_integer l, whole_of_integer g)
       (three (int_le l (negsuc k)) (int_le (negsuc k) g) true)
-  narrow_not_zero format l g (number (float x)) is = refl
+  narrow_not_zero format l g _ is = refl
 
   at_least_one : (n : ℕ) (b : Bool) → nat_le 1 n && b ≡ (nat_le 0 n && b) && not (0 == n)
   at_least_one n true = grind (arith, nat_tests)
@@ -437,22 +369,14 @@ module _ (patterns : Patterns) (f : Text → Judge) (basis : Basis) (M : ℕ →
   bytes_read : (v : Data) → (judge c (bytes_document Deserialize)).fits v
       ≡ verdict (holds (as_array v) (every_item is_byte) || is_byte_text Deserialize v)
   unfolding read_data all_keywords
-  bytes_read null = refl
-  bytes_read (boolean b) = refl
-  bytes_read (number n) = refl
-  bytes_read (string t) = refl
   bytes_read (array vs) = bytes_of vs
-  bytes_read (object ms) = refl
+  bytes_read _ = refl
 
   bytes_written : (v : Data) → (judge c (bytes_document Serialize)).fits v
       ≡ verdict (holds (as_array v) (every_item is_byte) || is_byte_text Serialize v)
   unfolding read_data all_keywords
-  bytes_written null = refl
-  bytes_written (boolean b) = refl
-  bytes_written (number n) = refl
-  bytes_written (string t) = refl
   bytes_written (array vs) = bytes_of vs
-  bytes_written (object ms) = refl
+  bytes_written _ = refl
 
   pub bytes_say : (v : Data) → Says (bytes_document contract) shape.bytes v
   bytes_say v = go contract
@@ -464,8 +388,4 @@ module _ (patterns : Patterns) (f : Text → Judge) (basis : Basis) (M : ℕ →
   pub schema_says : (v : Data) → Says schema_document shape.schema_itself v
   unfolding read_data all_keywords
   schema_says null = refl
-  schema_says (boolean b) = refl
-  schema_says (number n) = refl
-  schema_says (string t) = refl
-  schema_says (array vs) = refl
-  schema_says (object ms) = refl
+  schema_says _ = refl

@@ -25,9 +25,7 @@ use Rattle.schemars_meaning.proofs.UnitMembers.{kept, moved, same-parted, reorde
 
 abbrev IsNoUnit : Payload → Type 0
 IsNoUnit no_payload = ⊥
-IsNoUnit (newtype_payload n) = Unit {0}
-IsNoUnit (tuple_payload ns) = Unit {0}
-IsNoUnit (struct_payload x) = Unit {0}
+IsNoUnit _ = Unit {0}
 
 -- a unit without notes, or another variant that `Told` speaks of
 abbrev pub IsKnown : (Payload → Type 0) → Payload → Members → Type 0
@@ -92,9 +90,7 @@ module _ (c : Context) (on : c.dialect.reads_unevaluated ≡ true) (contract : C
           → map units (bare_units (record { name = x.name; payload = p; notes = notes } ∷ xs))
           ≡ map offer (moved is_bare_unit (record { name = x.name; payload = p; notes = notes } ∷ xs))
       go no_payload notes later = by x.name notes (is_bare_unit (record { name = x.name; payload = no_payload; notes = notes })) later
-      go (newtype_payload n) notes later = later
-      go (tuple_payload ns) notes later = later
-      go (struct_payload y) notes later = later
+      go _ notes later = later
 
   abbrev Offered : List Template → List Choice → Type 0
   Offered ts os = (us : List Data) → Fit A (asks_in (templates_of ts)) us → AnyItems c on (filled_in (templates_of ts) us) os v

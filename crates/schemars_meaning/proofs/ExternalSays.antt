@@ -8,7 +8,7 @@ use Rattle.std.proofs.Math.Bool.{and_comm, and-true}
 use Rattle.std.proofs.lemmas.Bool.{and_parts}
 use Rattle.std.proofs.lemmas.Slice.Eq.{bytes_eq-Decides}
 use Rattle.std.proofs.lemmas.Option.{same_Some}
-use Rattle.serde_json.specs.Data.{Data, null, boolean, number, string, array, object, Members, no_members}
+use Rattle.serde_json.specs.Data.{Data, null, string, object, Members, no_members}
 use Rattle.serde_json.specs.Data.{member, depth}
 use Rattle.serde_json.specs.Find.{get_member}
 use Rattle.schemars_schema.specs.Json.{Text, IsJson}
@@ -48,33 +48,20 @@ use Rattle.schemars_meaning.proofs.StructDocuments.{every_alike}
 
 -- the name under which a value may be found
 abbrev pub claimed : Data → Option Text
-claimed null = None
-claimed (boolean b) = None
-claimed (number n) = None
 claimed (string s) = Some s
-claimed (array ds) = None
-claimed (object no_members) = None
 claimed (object (member k d ms)) = Some k
+claimed _ = None
 
 text_claimed : (k : Text) (v : Data) → is_text k v ≡ true → claimed v ≡ Some k
 text_claimed k (string s) h = ap Some (sym ((bytes_eq-Decides k s).0 h))
-text_claimed k null h = absurd (true≢false (sym h))
-text_claimed k (boolean b) h = absurd (true≢false (sym h))
-text_claimed k (number n) h = absurd (true≢false (sym h))
-text_claimed k (array ds) h = absurd (true≢false (sym h))
-text_claimed k (object ms) h = absurd (true≢false (sym h))
+text_claimed k _ h = absurd (true≢false (sym h))
 
 map_claimed : (k : Text) (p : Data → Bool) (v : Data) → is_map_of k p v ≡ true → claimed v ≡ Some k
-map_claimed k p (object no_members) h = absurd (true≢false (sym h))
 map_claimed k p (object (member l w ms)) h =
     let every = (and_parts _ _ h).1 in
     let own = (and_parts _ _ every).0 in
     ap Some (sym ((bytes_eq-Decides k l).0 (and_parts _ _ own).0))
-map_claimed k p null h = absurd (true≢false (sym h))
-map_claimed k p (boolean b) h = absurd (true≢false (sym h))
-map_claimed k p (number n) h = absurd (true≢false (sym h))
-map_claimed k p (string s) h = absurd (true≢false (sym h))
-map_claimed k p (array ds) h = absurd (true≢false (sym h))
+map_claimed k p _ h = absurd (true≢false (sym h))
 
 module _ (contract : Contract) (M : ℕ → Data → Bool) (C : ℕ → Data → List Choice) (v : Data) where
   abbrev pub P : Variant → Bool
@@ -126,9 +113,7 @@ module _ (contract : Contract) (M : ℕ → Data → Bool) (C : ℕ → Data →
       go : (p : Payload) → is_bare_unit (record { name = x.name; payload = p; notes = x.notes }) ≡ true
           → named_by x.name p ≡ is_text x.name v
       go no_payload h = refl
-      go (newtype_payload n) h = absurd (true≢false (sym h))
-      go (tuple_payload ns) h = absurd (true≢false (sym h))
-      go (struct_payload y) h = absurd (true≢false (sym h))
+      go _ h = absurd (true≢false (sym h))
 
   pub exactly_any : (xs : List Variant) → AreDistinctVariants xs → exactly_one (U (bare_units xs) ∷ map P (others xs)) ≡ list_any P xs
   exactly_any [] h = refl
@@ -162,9 +147,7 @@ module _ (part_fields : Flattened → List Field) (enums : Flattened → List �
       → is_bare_unit (record { name = name; payload = spread_payload part_fields enums p; notes = notes })
       ≡ is_bare_unit (record { name = name; payload = p; notes = notes })
   unit_stays name no_payload notes = refl
-  unit_stays name (newtype_payload n) notes = refl
-  unit_stays name (tuple_payload ns) notes = refl
-  unit_stays name (struct_payload y) notes = refl
+  unit_stays name _ notes = refl
 
   units_stay : (xs : List Variant) → bare_units (map spread_each xs) ≡ bare_units xs
   units_stay [] = refl
@@ -222,10 +205,7 @@ module _ (name : Text) (p : Data → Bool) where
       (λ i. every_alike (member_fits (λ j. p) (needed name 0 ∷ []) true) (λ l w. bytes_eq name l && p w) one_field ms i && has_field ms i)
       ∙ and_comm (every_member (λ l w. bytes_eq name l && p w) ms) (is_some (get_member name ms))
   alone_same null = refl
-  alone_same (boolean b) = refl
-  alone_same (number n) = refl
-  alone_same (string s) = refl
-  alone_same (array ds) = refl
+  alone_same _ = refl
 
 module _ (c : Context) (on : c.dialect.reads_unevaluated ≡ true) where
   alone_says : (name : Text) (p : Data → Bool) (s : Data) → IsSchema s → (v : Data) → IsJson v

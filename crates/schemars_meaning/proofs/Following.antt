@@ -15,11 +15,11 @@ use Rattle.schemars_builders.proofs.Nulls.{IsReady, ready-schema}
 use Rattle.schemars_shapes.specs.Shape.{Entry}
 use Rattle.schemars_types.specs.Rows.{Row, entry_at}
 use Rattle.schemars_types.specs.KeyOptions.{key_options}
-use Rattle.schemars_types.specs.Effective.{row_fields, flattened_in, shape_fields, part_enums, enums_within, shape_enums, spread_in}
+use Rattle.schemars_types.specs.Effective.{spread_in}
 use Rattle.schemars_types.specs.declared.contract.Contract.{Contract}
 use Rattle.schemars_types.specs.Meaning.{Choice, has_shape, belongs_within, choices_within}
 use Rattle.schemars_documents.specs.Documents.{reference}
-use Rattle.schemars_documents.specs.PlainTable.{IsEntryUnder, IsPlainUnder, parts_in}
+use Rattle.schemars_documents.specs.PlainTable.{IsEntryUnder, parts_in}
 use Rattle.schemars_documents.specs.Basis.{Basis}
 use Rattle.schemars_documents.specs.Template.{Ask, filled}
 use Rattle.schemars_documents.specs.OfShape.{template_of}
@@ -30,6 +30,7 @@ use Rattle.schemars_meaning.proofs.Heights as heights
 use Rattle.schemars_meaning.proofs.StructsCounted.{HasRoom}
 use Rattle.schemars_meaning.proofs.ShapesCounted.{shape_says}
 use Rattle.schemars_meaning.proofs.ReadyUnder.{bare_ready, written_ready}
+use Rattle.schemars_meaning.proofs.SettledTables.{IsSettled}
 
 -- ---- the references of a document
 
@@ -44,7 +45,7 @@ InList (x ∷ xs) n r = ((x.0 ≡ n) × (x.1 ≡ r)) ⊎ InList xs n r
 
 -- ---- counting down
 
-closer : (a b h r : ℕ) → a < b → r < h → a * h + r < b * h
+pub closer : (a b h r : ℕ) → a < b → r < h → a * h + r < b * h
 closer a b h r less small = grind (arith, mul-le-mul_right)
 
 -- how many of the rows that are referred to rank below r
@@ -97,11 +98,7 @@ pub record Setting : Type 0 where
       → (found : Data) × (s : Data) × (d : ℕ) × (resolved document r ≡ Some found)
       × ((f : Text → Judge) → judge (context2020_12 patterns f) found ≡ judge (context2020_12 patterns f) s)
       × Describes basis (InList refs) d j s
-  pub plain : IsPlainUnder basis.contract basis.rows
-  pub fields_settled : (n : ℕ) (e : Entry) → entry_at basis.rows n ≡ Some e
-      → row_fields basis.rows n ≡ shape_fields (flattened_in basis.rows) e.shape
-  pub enums_settled : (n : ℕ) (e : Entry) → entry_at basis.rows n ≡ Some e
-      → enums_within basis.rows (length basis.rows) n ≡ shape_enums (part_enums basis.rows) n e.shape
+  pub settled : IsSettled basis
   pub rank : ℕ → ℕ
   pub ranks : ℕ
   pub low_rank : (n : ℕ) (e : Entry) → entry_at basis.rows n ≡ Some e → rank n < ranks
@@ -225,12 +222,12 @@ module _ (s : Setting) where
       let fills : Fills (A d) (template_of basis e.shape) bare = record { parts = is.parts; answered = is.answered; is = refl } in
       let some : 0 < ranks = omega arith in
       let ready : (d j : ℕ) (t : Data) → W d j t → IsReady t =
-      written_ready patterns (at_most n) basis (InList refs) s.plain s.fields_settled s.enums_settled ranks some in
+      written_ready patterns (at_most n) basis (InList refs) s.settled ranks some in
       let schema = ready-schema bare
-      (bare_ready patterns (at_most n) basis (InList refs) s.plain s.fields_settled s.enums_settled ranks some
+      (bare_ready patterns (at_most n) basis (InList refs) s.settled ranks some
       d (ready d) e.shape bare under.1 under.3 fills) in
       rw (is.is) (ap (λ j. j.fits v) (judge-annotated patterns (at_most n) e.notes bare under.0 schema)
-      ∙ shape_says patterns (at_most n) basis (InList refs) s.plain s.fields_settled s.enums_settled ranks some (depth v)
+      ∙ shape_says patterns (at_most n) basis (InList refs) s.settled ranks some (depth v)
       (λ d j t w written js less m enough. smaller h n below (depth v) same k (rw same at costs) d j t w written js less m
       (omega (arith, written_low d j t written)))
       ready v json (omega arith) m (omega arith) d e.shape (room (s.flattens k e at)) under.1 under.3 bare fills
@@ -244,7 +241,7 @@ module _ (s : Setting) where
   unfolding Describes belongs_within
   own h n d below good said k t is v json same zero costs low = absurd (omega arith)
   own h n d below good said k t is v json same (suc m) costs low =
-      own_says h n d below good said k (described_low (suc d) k t is) (entry_at rows k) refl (s.plain k) t is v json same m costs low
+      own_says h n d below good said k (described_low (suc d) k t is) (entry_at rows k) refl (s.settled.plain k) t is v json same m costs low
 
   nothing : (k : ℕ) (t : Data) → D zero k t → ⊥
   unfolding Describes

@@ -10,7 +10,7 @@ use Rattle.std.proofs.lemmas.Bool.{and_parts}
 use Rattle.std.proofs.lemmas.Slice.Eq.{bytes_eq-Decides}
 use Rattle.std.proofs.lemmas.Map.Text.{is_eq-slice_cmp}
 use Rattle.std.proofs.lemmas.Option.{same_Some}
-use Rattle.serde_json.specs.Data.{Data, null, boolean, number, string, array, object, Members, no_members, member, depth}
+use Rattle.serde_json.specs.Data.{Data, null, object, Members, no_members, member, depth}
 use Rattle.serde_json.specs.Find.{get_member, as_object, as_str}
 use Rattle.schemars_schema.specs.Json.{Text, IsJson}
 use Rattle.schemars_schema.specs.SchemaData.{IsSchema}
@@ -108,11 +108,7 @@ module _ (contract : Contract) (M : ℕ → Data → Bool) (C : ℕ → Data →
       → has_tagged contract M ps tag xs closed name v ≡ true → told tag v ≡ Some name
   unfolding told
   tagged_told ps xs closed name (object ms) h = member_told ps xs closed name ms h
-  tagged_told ps xs closed name null h = absurd (true≢false (sym h))
-  tagged_told ps xs closed name (boolean b) h = absurd (true≢false (sym h))
-  tagged_told ps xs closed name (number n) h = absurd (true≢false (sym h))
-  tagged_told ps xs closed name (string s) h = absurd (true≢false (sym h))
-  tagged_told ps xs closed name (array ds) h = absurd (true≢false (sym h))
+  tagged_told ps xs closed name _ h = absurd (true≢false (sym h))
 
   -- what is tagged tells its name
   content_told : (p : Data → Bool) (name : Text) (v : Data) → has_content p tag name v ≡ true → told tag v ≡ Some name
@@ -124,10 +120,7 @@ module _ (contract : Contract) (M : ℕ → Data → Bool) (C : ℕ → Data →
       go None h = absurd (true≢false (sym h))
       go (Some w) h = text_is name (as_str w) h
   content_told p name null h = absurd (true≢false (sym h))
-  content_told p name (boolean b) h = absurd (true≢false (sym h))
-  content_told p name (number n) h = absurd (true≢false (sym h))
-  content_told p name (string s) h = absurd (true≢false (sym h))
-  content_told p name (array ds) h = absurd (true≢false (sym h))
+  content_told p name _ h = absurd (true≢false (sym h))
 
   abbrev pub inside : Bool → Text → Payload → Data → Bool
   inside closed name p v = has_internal contract M C tag closed v (record { name = name; payload = p; notes = no_members })

@@ -5,7 +5,7 @@ use Rattle.std.proofs.Math.Bool.{and_comm, and-true}
 use Rattle.std.proofs.lemmas.Slice.Eq.{bytes_eq-Decides}
 use Rattle.std.specs.Prelude.{codes, bytes_eq, if◌then◌else◌, is_some, ◌&&◌, ◌||◌, not}
 use Rattle.std.specs.Option.{option_map_or}
-use Rattle.serde_json.specs.Data.{Data, null, array, object, number, boolean, string, Members, no_members, member, put, depth}
+use Rattle.serde_json.specs.Data.{Data, null, object, string, Members, no_members, member, put, depth}
 use Rattle.serde_json.specs.Find.{get_member}
 use Rattle.serde_json.proofs.Views.{get_member-put, get_member-put_other}
 use Rattle.schemars_schema.specs.Json.{Text, IsJson}
@@ -192,10 +192,7 @@ module _ (c : Context) (on : c.dialect.reads_unevaluated ≡ true) where
         and_comm (every_member (member_fits (λ j. p) (needed name 0 ∷ []) false) ms) (has_required Deserialize (needed name 0 ∷ []) ms)
         ∙ (λ i. has_field ms i && each_field ms i)
     member_same null = refl
-    member_same (boolean b) = refl
-    member_same (number n) = refl
-    member_same (string s) = refl
-    member_same (array ds) = refl
+    member_same _ = refl
 
     pub member_item : (notes : Members) (closed : Bool) (s : Data) → AreNotes notes → IsSchema s → (v : Data) → IsJson v
         → ((w : Data) → IsJson w → depth w < depth v → (judge c s).fits w ≡ verdict (p w))

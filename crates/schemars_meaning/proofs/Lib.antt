@@ -39,6 +39,7 @@ pub mod StructReady
 pub mod Meanings
 pub mod FieldsDescribed
 pub mod Schemas
+pub mod SettledTables
 pub mod PartsDescribed
 pub mod StructsCounted
 pub mod ShapesCounted

@@ -102,35 +102,10 @@ module _ (A : Ask → Data → Type 0) (has : Flattened → List Field) (basis :
 
 -- the parts whose values are the value itself
 abbrev pub IsSame : Shape → ℕ → Type 0
-IsSame shape.null j = ⊥
-IsSame shape.bool j = ⊥
-IsSame (shape.int k) j = ⊥
-IsSame (shape.non_zero k) j = ⊥
-IsSame shape.number j = ⊥
-IsSame shape.text j = ⊥
-IsSame shape.char j = ⊥
-IsSame (shape.formatted g) j = ⊥
-IsSame shape.any j = ⊥
-IsSame shape.bytes j = ⊥
-IsSame shape.schema_itself j = ⊥
 IsSame (shape.option n) j = j ≡ n
-IsSame (shape.seq n) j = ⊥
-IsSame (shape.set n) j = ⊥
-IsSame (shape.array n len) j = ⊥
-IsSame (shape.up_to n cap) j = ⊥
-IsSame (shape.tuple ns) j = ⊥
-IsSame (shape.struct x) j = ⊥
 IsSame (shape.newtype n) j = j ≡ n
-IsSame (shape.result a b) j = ⊥
-IsSame (shape.bound n) j = ⊥
-IsSame (shape.range n) j = ⊥
-IsSame (shape.either a b) j = ⊥
-IsSame (shape.map_from key value) j = ⊥
-IsSame (shape.external xs) j = ⊥
 IsSame (shape.untagged xs) j = IsNewtypeIn j xs
-IsSame (shape.internal tag closed xs) j = ⊥
-IsSame (shape.adjacent tag key closed xs) j = ⊥
-IsSame (shape.literal d) j = ⊥
+IsSame _ j = ⊥
 
 -- where a part is asked: inside the value, or of the value itself
 abbrev pub Inside : Shape → Data → ℕ → Data → Type 0
@@ -205,8 +180,4 @@ module _ (patterns : Patterns) (f : Text → Judge) (basis : Basis) (A : Ask →
       (inl less)) is.parts is.answered)
   simple_says (shape.literal d) s simple p is v json agree =
       rw (is ∙ literal_document-schema d (literal_is_schema d p)) (literal_judged c refl refl d v p)
-  simple_says (shape.struct x) s simple p is v json agree = absurd simple
-  simple_says (shape.external xs) s simple p is v json agree = absurd simple
-  simple_says (shape.untagged xs) s simple p is v json agree = absurd simple
-  simple_says (shape.internal tag closed xs) s simple p is v json agree = absurd simple
-  simple_says (shape.adjacent tag key closed xs) s simple p is v json agree = absurd simple
+  simple_says _ s simple p is v json agree = absurd simple

@@ -5,7 +5,7 @@ use Rattle.std.specs.Prelude.{bytes_eq, if◌then◌else◌}
 use Rattle.std.specs.Ordering.{match_ordering}
 use Rattle.std.specs.Cmp.Lexicographic.{slice_cmp}
 use Rattle.std.proofs.lemmas.Map.Text.{is_eq-slice_cmp}
-use Rattle.serde_json.specs.Data.{Data, null, boolean, number, string, array, object, Members, no_members, member, put}
+use Rattle.serde_json.specs.Data.{Data, object, Members, no_members, member, put}
 use Rattle.serde_json.specs.Find.{get_member}
 use Rattle.schemars_schema.specs.Verdict.{Yes}
 use Rattle.schemars_schema.specs.Json.{Text}
@@ -77,9 +77,5 @@ each_yes (member k w ms) = each_yes ms
 -- ---- what it says
 
 abbrev pub IsNoMap : Data → Type 0
-IsNoMap null = Unit {0}
-IsNoMap (boolean b) = Unit {0}
-IsNoMap (number n) = Unit {0}
-IsNoMap (string s) = Unit {0}
-IsNoMap (array ds) = Unit {0}
 IsNoMap (object ms) = ⊥
+IsNoMap _ = Unit {0}

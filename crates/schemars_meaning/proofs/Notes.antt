@@ -2,7 +2,7 @@
 use Rattle.std.proofs.Common.{◌≡◌, inl, inr, List, [], ◌∷◌, Option, Some, None, Bool, true, false, refl, sym, ap, ◌∙◌, true≢false}
 use Rattle.std.specs.Prelude.{codes, is_some, bytes_eq, option_and_then, if◌then◌else◌}
 use Rattle.std.proofs.lemmas.Slice.Eq.{bytes_eq-Decides}
-use Rattle.serde_json.specs.Data.{Data, null, boolean, number, string, array, object, Members, no_members, member, put}
+use Rattle.serde_json.specs.Data.{Data, null, boolean, string, object, Members, no_members, member, put}
 use Rattle.serde_json.specs.Find.{get_member, as_str}
 use Rattle.serde_json.proofs.Views.{get_member-put}
 use Rattle.schemars_schema.specs.Json.{Text}
@@ -41,10 +41,7 @@ module _ (patterns : Patterns) (f : Text → Judge) where
   judge-members_in (boolean true) is = refl
   judge-members_in (boolean false) is = refl
   judge-members_in (object ms) is = refl
-  judge-members_in null is = absurd is
-  judge-members_in (number n) is = absurd is
-  judge-members_in (string s) is = absurd is
-  judge-members_in (array ds) is = absurd is
+  judge-members_in _ is = absurd is
 
   pub judge-annotated : (notes : Members) (s : Data) → AreNotes notes → IsSchema s → judge c (annotated notes s) ≡ judge c s
   judge-annotated no_members s h is = refl
@@ -137,10 +134,7 @@ ready-members_in (boolean true) r =
 ready-members_in (boolean false) r =
     inl (λ dialect draft. record { combined = refl; offers = λ stays. absurd (true≢false (sym stays)) }, refl)
 ready-members_in (object ms) r = r
-ready-members_in null r = absurd r
-ready-members_in (number n) r = absurd r
-ready-members_in (string s) r = absurd r
-ready-members_in (array ds) r = absurd r
+ready-members_in _ r = absurd r
 
 pub ready-annotated : (notes : Members) (s : Data) → AreNotes notes → IsReady s → IsReady (annotated notes s)
 ready-annotated no_members s h r = r
@@ -174,10 +168,7 @@ unfolding read_data
 members_fit c (object ms) v is = refl
 members_fit c (boolean b) v is = truth_fits c.patterns c.follow v c.dialect.judges_siblings c.dialect.reads_prefix_items
     c.dialect.reads_nullable c.dialect.reads_const c.dialect.reads_unevaluated b
-members_fit c null v is = absurd is
-members_fit c (number n) v is = absurd is
-members_fit c (string s) v is = absurd is
-members_fit c (array ds) v is = absurd is
+members_fit c _ v is = absurd is
 
 pub annotated_fits : (c : Context) (notes : Members) (s v : Data) → AreNotes notes → IsSchema s
     → (judge c (annotated notes s)).fits v ≡ (judge c s).fits v

@@ -33,7 +33,7 @@ use Rattle.schemars_types.specs.Effective.{spread_payload, spread_variant, sprea
 use Rattle.schemars_types.specs.Meaning.{offers, has_payload, external_choice, internal_choice, shape_choices, belongs_within}
 use Rattle.schemars_types.specs.Meaning.{choices_within}
 use Rattle.schemars_schema.specs.Acceptance.{Patterns}
-use Rattle.schemars_documents.specs.PlainTable.{IsPartUnder, IsPartEntry, IsPartShape, ArePartsUnder, IsEntryUnder, IsPlainUnder}
+use Rattle.schemars_documents.specs.PlainTable.{IsPartUnder, IsPartEntry, IsPartShape, ArePartsUnder, IsEntryUnder}
 use Rattle.schemars_documents.specs.PlainTable.{IsPlainShape, may_miss, HasNoEnums}
 use Rattle.schemars_documents.specs.PlainTable.{IsPlainPayload, ArePlainVariants, IsTagged, AreTagged, IsBare, HasBareUnits}
 use Rattle.schemars_documents.specs.PlainTable.{VariantsHaveNoEnums}
@@ -48,6 +48,7 @@ use Rattle.schemars_meaning.proofs.StructFilled.{AllKnown, struct_fills, all_off
 use Rattle.schemars_meaning.proofs.Offers.{one_object}
 use Rattle.schemars_meaning.proofs.InternalParts.{AreInside, offer, internal_filled}
 use Rattle.schemars_meaning.proofs.ExternalParts.{IsKnown, AreKnown, external_part}
+use Rattle.schemars_meaning.proofs.SettledTables.{IsSettled}
 
 -- ---- fields that need not be there
 
@@ -133,11 +134,7 @@ under_apart contract rows [] qs h = (tt, h)
 under_apart contract rows (p ∷ ps) qs h = let later = under_apart contract rows ps qs h.1 in ((h.0, later.0), later.1)
 
 module _ (c : Context) (on : c.dialect.reads_unevaluated ≡ true) (basis : Basis) (Refers : ℕ → Text → Type 0)
-    (plain : IsPlainUnder basis.contract basis.rows) (v : Data) (N : ℕ → Data → List Choice)
-    (fields_settled : (n : ℕ) (e : Entry) → entry_at basis.rows n ≡ Some e
-    → row_fields basis.rows n ≡ shape_fields (flattened_in basis.rows) e.shape)
-    (enums_settled : (n : ℕ) (e : Entry) → entry_at basis.rows n ≡ Some e
-    → enums_within basis.rows (length basis.rows) n ≡ shape_enums (part_enums basis.rows) n e.shape) where
+    (settled : IsSettled basis) (v : Data) (N : ℕ → Data → List Choice) where
   abbrev rows : List Row
   rows = basis.rows
 
@@ -243,9 +240,7 @@ module _ (c : Context) (on : c.dialect.reads_unevaluated ≡ true) (basis : Basi
         → AreNotes notes → Told p
         → IsKnown Told p notes
     known_one name no_payload notes bare plain told = bare
-    known_one name (newtype_payload n) notes bare plain told = (told, plain)
-    known_one name (tuple_payload ns) notes bare plain told = (told, plain)
-    known_one name (struct_payload y) notes bare plain told = (told, plain)
+    known_one name _ notes bare plain told = (told, plain)
 
     known_each : (xs : List Variant) → HasBareUnits xs → ArePlainVariants (map each_spread xs)
         → ArePartsUnder contract rows (variant_parts xs) → AreKnown Told xs
@@ -318,9 +313,7 @@ module _ (c : Context) (on : c.dialect.reads_unevaluated ≡ true) (basis : Basi
       inside_one : (tag name : Text) (p : Payload) (notes : Members) → inside_offer tag (record { name = name; payload = p; notes = notes })
           ≡ internal_choice contract M tag v (each_spread (record { name = name; payload = p; notes = notes }))
       inside_one tag name no_payload notes = refl
-      inside_one tag name (newtype_payload n) notes = refl
-      inside_one tag name (tuple_payload ns) notes = refl
-      inside_one tag name (struct_payload y) notes = refl
+      inside_one tag name _ notes = refl
 
       inside_offers : (tag : Text) (xs : List Variant) → map (inside_offer tag) xs
           ≡ map (internal_choice contract M tag v) (map each_spread xs)
@@ -391,8 +384,8 @@ module _ (c : Context) (on : c.dialect.reads_unevaluated ≡ true) (basis : Basi
           → Goal d p (row_fields rows n) (enums_within rows (length rows) n) (may_miss rows contract p) s
       row_goal d answers p n None at under is s own = absurd own
       row_goal d answers p n (Some e) at under is s own =
-          subst (λ xs. Goal d p xs (enums_within rows (length rows) n) (may_miss rows contract p) s) (sym (fields_settled n e at))
-          (subst (λ ns. Goal d p (shape_fields has e.shape) ns (may_miss rows contract p) s) (sym (enums_settled n e at))
+          subst (λ xs. Goal d p xs (enums_within rows (length rows) n) (may_miss rows contract p) s) (sym (settled.fields n e at))
+          (subst (λ ns. Goal d p (shape_fields has e.shape) ns (may_miss rows contract p) s) (sym (settled.enums n e at))
           (shape_goal d answers p n e at e.shape refl under.0 under.1 under.3 is s own))
 
       in_wider : (d j : ℕ) (t : Data) → In d j t → In (suc d) j t
@@ -409,7 +402,7 @@ module _ (c : Context) (on : c.dialect.reads_unevaluated ≡ true) (basis : Basi
           (subst (IsPart c on contract (In d) v (has p) (offered p)) (sym h.2)
           (lifted (is_some (option_at rows p.ty))
           (row_goal d (parts_answer d) p (without_options rows p.ty) (entry_at rows (without_options rows p.ty)) refl
-          (plain (without_options rows p.ty)) under h.0 h.1)))
+          (settled.plain (without_options rows p.ty)) under h.0 h.1)))
         where
           lifted : (b : Bool) → IsPart c on contract (In d) v
               (if b then map (weakened p.required) (row_fields rows (without_options rows p.ty)) else row_fields rows

@@ -1,7 +1,7 @@
 -- Null can be added to each document of a table that is plain under its contract.
-use Rattle.std.proofs.Common.{◌≡◌, inl, inr, ℕ, zero, suc, ◌<◌, List, Option, Some, None, refl}
+use Rattle.std.proofs.Common.{inl, inr, ℕ, zero, suc, ◌<◌, List, Option, Some, None, refl}
 use Rattle.std.proofs.Common.{sym}
-use Rattle.std.proofs.Common.{subst, length, arith}
+use Rattle.std.proofs.Common.{subst, arith}
 use Rattle.serde_json.specs.Data.{Data, null}
 use Rattle.schemars_schema.specs.Json.{Text}
 use Rattle.schemars_schema.specs.Acceptance.{Patterns, Judge}
@@ -10,10 +10,10 @@ use Rattle.schemars_builders.proofs.Nulls.{IsReady}
 use Rattle.schemars_shapes.specs.Shape as shape
 use Rattle.schemars_shapes.specs.Shape.{Fields, Shape, Entry}
 use Rattle.schemars_types.specs.Rows.{Row, entry_at}
-use Rattle.schemars_types.specs.Effective.{row_fields, flattened_in, shape_fields, part_enums, enums_within}
-use Rattle.schemars_types.specs.Effective.{shape_enums, spread_in}
+use Rattle.schemars_types.specs.Effective.{flattened_in, part_enums}
+use Rattle.schemars_types.specs.Effective.{spread_in}
 use Rattle.schemars_types.specs.declared.contract.Contract.{Contract}
-use Rattle.schemars_documents.specs.PlainTable.{IsPlainShape, ArePartsUnder, IsEntryUnder, IsPlainUnder, parts_in}
+use Rattle.schemars_documents.specs.PlainTable.{IsPlainShape, ArePartsUnder, IsEntryUnder, parts_in}
 use Rattle.schemars_documents.specs.Basis.{Basis}
 use Rattle.schemars_documents.specs.Template.{Ask, asks_of, filled}
 use Rattle.schemars_documents.specs.OfShape.{struct_template, template_of}
@@ -26,14 +26,10 @@ use Rattle.schemars_meaning.proofs.Ready.{reference_ready}
 use Rattle.schemars_meaning.proofs.StructReady.{map_with_parts_ready}
 use Rattle.schemars_meaning.proofs.PartsDescribed.{under_apart}
 use Rattle.schemars_meaning.proofs.StructsCounted.{struct_stands, tell_inside}
+use Rattle.schemars_meaning.proofs.SettledTables.{IsSettled}
 
 module _ (patterns : Patterns) (f : Text → Judge) (basis : Basis) (Refers : ℕ → Text → Type 0)
-    (plain : IsPlainUnder basis.contract basis.rows)
-    (fields_settled : (n : ℕ) (e : Entry) → entry_at basis.rows n ≡ Some e
-    → row_fields basis.rows n ≡ shape_fields (flattened_in basis.rows) e.shape)
-    (enums_settled : (n : ℕ) (e : Entry) → entry_at basis.rows n ≡ Some e
-    → enums_within basis.rows (length basis.rows) n ≡ shape_enums (part_enums basis.rows) n e.shape)
-    (ranks : ℕ) (some : 0 < ranks) where
+    (settled : IsSettled basis) (ranks : ℕ) (some : 0 < ranks) where
   abbrev rows : List Row
   rows = basis.rows
 
@@ -51,9 +47,9 @@ module _ (patterns : Patterns) (f : Text → Judge) (basis : Basis) (Refers : �
       → Fit (Answer d) (asks_of (struct_template contract y)) us → IsReady (filled (struct_template contract y) us)
   structs d y under us fit =
       map_with_parts_ready (context2020_12 patterns f) refl contract (In d) null _ _ y.closed _
-      (struct_stands patterns f basis Refers plain fields_settled enums_settled ranks some zero
+      (struct_stands patterns f basis Refers settled ranks some zero
       (λ d j t w is js less. absurd (omega arith)) null tt (omega arith) 1 (omega arith) d y (inr (omega arith)) under
-      (tell_inside patterns f basis Refers plain fields_settled enums_settled ranks some zero
+      (tell_inside patterns f basis Refers settled ranks some zero
       (λ d j t w is js less. absurd (omega arith)) null (omega arith)) us fit)
 
   pub bare_ready : (d : ℕ) → ((j : ℕ) (t : Data) → In d j t → IsReady t) → (kind : Shape) (s : Data) → IsPlainShape (spread_in rows kind)
@@ -78,7 +74,7 @@ module _ (patterns : Patterns) (f : Text → Judge) (basis : Basis) (Refers : �
   described_ready : (d n : ℕ) (t : Data) → Describes basis Refers d n t → IsReady t
   unfolding Describes
   described_ready zero n t h = absurd h
-  described_ready (suc d) n t h = own_ready d (written_by d (described_ready d)) (entry_at rows n) (plain n) t h
+  described_ready (suc d) n t h = own_ready d (written_by d (described_ready d)) (entry_at rows n) (settled.plain n) t h
 
   pub written_ready : (d n : ℕ) (t : Data) → In d n t → IsReady t
   written_ready d n t h = written_by d (described_ready d) n t h

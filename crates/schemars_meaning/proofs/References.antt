@@ -8,8 +8,6 @@ use Rattle.std.proofs.lemmas.List.Elements.{All-contains, All-contains_itself}
 use Rattle.serde_json.specs.Data.{Data, Items, no_items, item}
 use Rattle.schemars_schema.specs.Json.{Text}
 use Rattle.schemars_schema.specs.SchemaData.{IsSchema, object_of}
-use Rattle.schemars_schema.specs.Annotations.{AreNotes}
-use Rattle.schemars_schema.specs.Literal.{IsPlainLiteral}
 use Rattle.schemars_schema.specs.References.{found_in, references}
 use Rattle.schemars_schema.proofs.Literals.{literal_is_schema, literal_refers_nowhere}
 use Rattle.schemars_builders.specs.NullLaw.{zero_schema, text_items}
@@ -27,9 +25,9 @@ use Rattle.schemars_types.specs.Meaning.{least_of, greatest_of, is_required}
 use Rattle.schemars_types.specs.Effective.{flattened_fields, effective, flattened_in, part_enums, spread_payload, spread_variant, spread_in}
 use Rattle.schemars_types.specs.KeyOptions.{KeyOptions, keys, or_any_text, all_options, key_options, distinct_options, once}
 use Rattle.schemars_documents.specs.Documents.{int_keywords, is_signed, required_names, bytes_document}
-use Rattle.schemars_documents.specs.PlainTable.{AreDistinct, AreNoted, IsPlainShape, IsPlainEntry, IsPlainPayload}
-use Rattle.schemars_documents.specs.PlainTable.{ArePlainVariants, AreTagged, IsTagged, payload_parts, variant_parts, parts_in}
-use Rattle.schemars_documents.specs.PlainTable.{ArePlainParts}
+use Rattle.schemars_documents.specs.PlainTable.{AreDistinct, AreNoted, IsPlainShape, IsPlainEntry, IsPlainPayload, AreNotedVariants}
+use Rattle.schemars_documents.specs.PlainTable.{ArePlainVariants, AreTagged, IsTagged, payload_parts, variant_parts, parts_in, IsNotedShape}
+use Rattle.schemars_documents.specs.PlainTable.{ArePlainParts, IsNotedPayload, IsNotedThroughout}
 use Rattle.schemars_documents.specs.Basis.{Basis}
 use Rattle.schemars_documents.specs.Template.{Template, Ask, members_of, asked, row}
 use Rattle.schemars_documents.specs.Template.{noted, with_keywords, tagged, Templates}
@@ -95,78 +93,27 @@ patterns_apart (Some kind) ps h =
 
 -- ---- notes
 
-abbrev pub IsNotedPayload : Payload → Type 0
-IsNotedPayload no_payload = Unit {0}
-IsNotedPayload (newtype_payload n) = Unit {0}
-IsNotedPayload (tuple_payload ns) = Unit {0}
-IsNotedPayload (struct_payload x) = AreNoted x.list
-
-abbrev pub AreNotedVariants : List Variant → Type 0
-AreNotedVariants [] = Unit {0}
-AreNotedVariants (x ∷ xs) = AreNotes x.notes × IsNotedPayload x.payload × AreNotedVariants xs
-
-abbrev pub IsNotedShape : Shape → Type 0
-IsNotedShape (shape.struct x) = AreNoted x.list
-IsNotedShape (shape.external xs) = AreNotedVariants xs
-IsNotedShape (shape.untagged xs) = AreNotedVariants xs
-IsNotedShape (shape.internal tag closed xs) = AreNotedVariants xs
-IsNotedShape (shape.adjacent tag key closed xs) = AreNotedVariants xs
-IsNotedShape (shape.literal d) = IsPlainLiteral d
-IsNotedShape _ = Unit {0}
-
--- all its notes are annotations, and a literal is plain
-abbrev pub IsNoted : Entry → Type 0
-IsNoted e = AreNotes e.notes × IsNotedShape e.shape
-
 noted-first : (xs ys : List Field) → AreNoted (xs ++ ys) → AreNoted xs
 noted-first [] ys h = tt
 noted-first (x ∷ xs) ys h = (h.0, noted-first xs ys h.1)
 
 module _ (part : Flattened → List Field) (enums : Flattened → List ℕ) where
   plain-payload_noted : (p : Payload) → IsPlainPayload (spread_payload part enums p) → IsNotedPayload p
-  plain-payload_noted no_payload h = tt
-  plain-payload_noted (newtype_payload n) h = tt
-  plain-payload_noted (tuple_payload ns) h = tt
   plain-payload_noted (struct_payload x) h = noted-first x.list (flattened_fields part x.flatten) h.1
+  plain-payload_noted _ h = tt
 
   plain-variants_noted : (xs : List Variant) → ArePlainVariants (map (spread_variant part enums) xs) → AreNotedVariants xs
   plain-variants_noted [] h = tt
   plain-variants_noted (x ∷ xs) h = (h.0, plain-payload_noted x.payload h.1, plain-variants_noted xs h.2)
 
 pub plain-shape_noted : (rows : List Row) (kind : Shape) → IsPlainShape (spread_in rows kind) → IsNotedShape kind
-plain-shape_noted rows shape.null h = tt
-plain-shape_noted rows shape.bool h = tt
-plain-shape_noted rows (shape.int k) h = tt
-plain-shape_noted rows (shape.non_zero k) h = tt
-plain-shape_noted rows shape.number h = tt
-plain-shape_noted rows shape.text h = tt
-plain-shape_noted rows shape.char h = tt
-plain-shape_noted rows (shape.formatted f) h = tt
-plain-shape_noted rows shape.any h = tt
-plain-shape_noted rows shape.bytes h = tt
-plain-shape_noted rows shape.schema_itself h = tt
-plain-shape_noted rows (shape.option n) h = tt
-plain-shape_noted rows (shape.seq n) h = tt
-plain-shape_noted rows (shape.set n) h = tt
-plain-shape_noted rows (shape.array n len) h = tt
-plain-shape_noted rows (shape.up_to n cap) h = tt
-plain-shape_noted rows (shape.tuple ns) h = tt
 plain-shape_noted rows (shape.struct x) h = noted-first x.list (flattened_fields (flattened_in rows) x.flatten) h.1
-plain-shape_noted rows (shape.newtype n) h = tt
-plain-shape_noted rows (shape.result a b) h = tt
-plain-shape_noted rows (shape.bound n) h = tt
-plain-shape_noted rows (shape.range n) h = tt
-plain-shape_noted rows (shape.either a b) h = tt
-plain-shape_noted rows (shape.map_from key value) h = tt
 plain-shape_noted rows (shape.external xs) h = plain-variants_noted (flattened_in rows) (part_enums rows) xs h.1
 plain-shape_noted rows (shape.untagged xs) h = plain-variants_noted (flattened_in rows) (part_enums rows) xs h
 plain-shape_noted rows (shape.internal tag closed xs) h = plain-variants_noted (flattened_in rows) (part_enums rows) xs h.1
 plain-shape_noted rows (shape.adjacent tag key closed xs) h = plain-variants_noted (flattened_in rows) (part_enums rows) xs h.2
 plain-shape_noted rows (shape.literal d) h = h
-
--- a plain entry has such notes
-pub plain_noted : (rows : List Row) (e : Entry) → IsPlainEntry rows (Some e) → IsNoted e
-plain_noted rows e p = (p.0, plain-shape_noted rows e.shape p.1)
+plain-shape_noted rows _ h = tt
 
 -- ---- by shape
 
@@ -470,8 +417,6 @@ module _ (Q : Type 0) (Answers : Ask → Data → Type 0) (basis : Basis)
   shape_as_schema : (kind : Shape) → IsNotedShape kind
       → (Q → IsPlainShape (spread_in basis.rows kind) × PlainParts (parts_in kind)) → Schema (template_of basis kind)
   unfolding found_in
-  shape_as_schema shape.null p g = refl
-  shape_as_schema shape.bool p g = refl
   shape_as_schema (shape.int kind) p g = int_silent (format_of kind) (least_of kind) (greatest_of kind)
   shape_as_schema (shape.non_zero kind) p g = go (is_signed kind)
     where
@@ -480,26 +425,11 @@ module _ (Q : Type 0) (Answers : Ask → Data → Type 0) (basis : Basis)
           else object_of (int_keywords (format_of kind) (Some (pos 1)) (greatest_of kind))) ≡ []
       go true = not_zero_silent (format_of kind) (least_of kind) (greatest_of kind)
       go false = int_silent (format_of kind) (Some (pos 1)) (greatest_of kind)
-  shape_as_schema shape.number p g = refl
-  shape_as_schema shape.text p g = refl
-  shape_as_schema shape.char p g = refl
-  shape_as_schema (shape.formatted format) p g = refl
-  shape_as_schema shape.any p g = refl
   shape_as_schema shape.bytes p g = bytes_silent basis.contract
-  shape_as_schema shape.schema_itself p g = refl
-  shape_as_schema (shape.option n) p g = tt
-  shape_as_schema (shape.seq n) p g = search
-  shape_as_schema (shape.set n) p g = search
   shape_as_schema (shape.array n zero) p g = refl
   shape_as_schema (shape.array n (suc len)) p g = search
-  shape_as_schema (shape.up_to n most) p g = search
   shape_as_schema (shape.tuple ns) p g = tuple_as_schema ns
   shape_as_schema (shape.struct x) p g = struct_as_schema x p (λ q. ((g q).0.0, (g q).1))
-  shape_as_schema (shape.newtype n) p g = tt
-  shape_as_schema (shape.result a b) p g = search
-  shape_as_schema (shape.bound n) p g = search
-  shape_as_schema (shape.range n) p g = search
-  shape_as_schema (shape.either a b) p g = search
   shape_as_schema (shape.map_from key value) p g =
       values_as_schema (key_options basis.rows key) value (keys_apart (or_any_text (all_options basis.rows key)))
   shape_as_schema (shape.external xs) p g =
@@ -511,14 +441,15 @@ module _ (Q : Type 0) (Answers : Ask → Data → Type 0) (basis : Basis)
       adjacent_as_schema tag key closed xs p (λ q. (((g q).0.2, (g q).1), (g q).0.0))
   shape_as_schema (shape.literal d) p g =
       ap references (literal_document-schema d (literal_is_schema d p)) ∙ literal_refers_nowhere d p
+  shape_as_schema _ p g = search
 
-  entry_as_schema : (e : Entry) → IsNoted e → (Q → IsPlainEntry basis.rows (Some e)) → Schema (entry_template basis e)
+  entry_as_schema : (e : Entry) → IsNotedThroughout (Some e) → (Q → IsPlainEntry basis.rows (Some e)) → Schema (entry_template basis e)
   entry_as_schema e notes plain = (notes.0, shape_as_schema e.shape notes.1 (λ q. ((plain q).1, (plain q).2)))
 
 -- ---- a row's document
 
 -- what holds of each reference of an answer holds of each of the document
-pub all_refer : (P : Data → Type 0) (basis : Basis) (e : Entry) → IsNoted e → (ts : List Data)
+pub all_refer : (P : Data → Type 0) (basis : Basis) (e : Entry) → IsNotedThroughout (Some e) → (ts : List Data)
     → AllByRecursion (λ t. IsSchema t × All P (references t)) ts → All P (references (filled (entry_template basis e) ts))
 all_refer P basis e notes ts all =
     let Answers : Ask → Data → Type 0 = λ a t. Unit {0} in
@@ -534,7 +465,7 @@ answers_refer us (t ∷ ts) h among = (
 )
 
 -- each reference of a row's document stands in one of the answers
-pub among_parts : (basis : Basis) (e : Entry) → IsNoted e → (ts : List Data) → AreSchemas ts
+pub among_parts : (basis : Basis) (e : Entry) → IsNotedThroughout (Some e) → (ts : List Data) → AreSchemas ts
     → Among (references (filled (entry_template basis e) ts)) (references_of ts)
 among_parts basis e notes ts h x i =
     All-contains (Contains (references_of ts)) (references (filled (entry_template basis e) ts)) x
@@ -549,6 +480,6 @@ parts_among basis e plain Answers spread ts answers x i =
     let t = entry_template basis e in
     let ended : AreAnswered Answers (asks_of t ++ []) ts =
     subst (λ xs. AreAnswered Answers xs ts) (sym (append-nil (asks_of t))) answers in
-    let is = entry_as_schema (Unit {0}) Answers basis (λ q. spread) e (plain_noted basis.rows e plain) (λ q. plain) in
+    let is = entry_as_schema (Unit {0}) Answers basis (λ q. spread) e (plain.0, plain-shape_noted basis.rows e.shape plain.1) (λ q. plain) in
     subst (λ xs. Contains xs x) (ap (λ us. references (filled t ts) ++ references_of us) (answered_left Answers t [] ts ended)
     ∙ append-nil (references (filled t ts))) (kept_schema (Unit {0}) Answers tt t [] ts ended is x i)

@@ -153,13 +153,8 @@ keywords-without k ms none = among_equal (found_in_keywords ms) (found_in_keywor
 
 pub references-members_in : (s : Data) → found_in_keywords (members_in s) ≡ references s
 unfolding found_in
-references-members_in null = refl
 references-members_in (boolean true) = refl
-references-members_in (boolean false) = refl
-references-members_in (number n) = refl
-references-members_in (string t) = refl
-references-members_in (array ds) = refl
-references-members_in (object ms) = refl
+references-members_in _ = refl
 
 references-put_members : (notes ms : Members) → AreNotes notes → found_in_keywords (put_members notes ms) ≡ found_in_keywords ms
 references-put_members no_members ms h = refl
@@ -243,12 +238,8 @@ pub among_allow_null : (s : Data) → Among (references s) (references (allow_nu
 among_allow_null s = among_equal (references s) (references (allow_null s)) (sym (references-allow_null s))
 
 pub allow_null-schema : (s : Data) → IsSchema s → IsSchema (allow_null s)
-allow_null-schema null h = h
 allow_null-schema (boolean true) h = tt
 allow_null-schema (boolean false) h = tt
-allow_null-schema (number n) h = h
-allow_null-schema (string t) h = h
-allow_null-schema (array ds) h = h
 allow_null-schema (object ms) h = go (is_null_choice (object ms)) (is_combined (object ms))
   where
     go : (stays b : Bool) → IsSchema (if stays then object ms else if b then or_null (object ms) else
@@ -256,6 +247,7 @@ allow_null-schema (object ms) h = go (is_null_choice (object ms)) (is_combined (
     go true b = tt
     go false true = tt
     go false false = tt
+allow_null-schema _ h = h
 
 -- ---- in a list
 
@@ -263,10 +255,7 @@ pub in_list_of_schema : (t : Data) → IsSchema t → (found_in t).in_list ≡ [
 unfolding found_in
 in_list_of_schema (boolean b) h = refl
 in_list_of_schema (object ms) h = refl
-in_list_of_schema null h = absurd h
-in_list_of_schema (number n) h = absurd h
-in_list_of_schema (string s) h = absurd h
-in_list_of_schema (array ds) h = absurd h
+in_list_of_schema _ h = absurd h
 
 -- ---- keys that are all different
 

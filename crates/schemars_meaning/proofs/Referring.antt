@@ -13,35 +13,28 @@ use Rattle.schemars_shapes.specs.Shape.{Entry}
 use Rattle.schemars_types.specs.Rows.{Row, entry_at}
 use Rattle.schemars_documents.specs.Documents.{reference}
 use Rattle.schemars_types.specs.declared.contract.Contract.{Contract}
-use Rattle.schemars_documents.specs.PlainTable.{IsPlainEntry, IsPlainTable, IsEntryUnder, IsPlainUnder}
+use Rattle.schemars_documents.specs.PlainTable.{IsPlainEntry, IsPlainTable, IsEntryUnder, IsPlainUnder, IsNotedThroughout}
 use Rattle.schemars_documents.specs.Basis.{Basis}
 use Rattle.schemars_documents.specs.Template.{Ask, filled}
 use Rattle.schemars_documents.specs.OfShape.{entry_template}
 use Rattle.schemars_documents.specs.Describes.{IsAnswered, IsWritten, Describes}
 use Rattle.schemars_meaning.proofs.Parts.{answer_holds, described_holds, written_holds}
 use Rattle.schemars_flatten.proofs.References.{flattened_part-refers, opened_inside-refers}
-use Rattle.schemars_meaning.proofs.References.{IsNoted, plain_noted, plain-shape_noted, all_refer}
+use Rattle.schemars_meaning.proofs.References.{plain-shape_noted, all_refer}
 use Rattle.schemars_meaning.proofs.Schemas.{AreSchemas, filled_schema}
+use Rattle.schemars_documents.specs.PlainTable.{HasPlainNotesThroughout}
 
--- all notes of a row are annotations, and a literal is plain
-abbrev pub IsNotedRow : Option Entry → Type 0
-IsNotedRow None = Unit {0}
-IsNotedRow (Some e) = IsNoted e
-
-abbrev pub AreNotedRows : List Row → Type 0
-AreNotedRows rows = (n : ℕ) → IsNotedRow (entry_at rows n)
-
-pub plain_rows : (rows : List Row) → IsPlainTable rows → AreNotedRows rows
+pub plain_rows : (rows : List Row) → IsPlainTable rows → HasPlainNotesThroughout rows
 plain_rows rows plain n = go (entry_at rows n) (plain n)
   where
-    go : (o : Option Entry) → IsPlainEntry rows o → IsNotedRow o
+    go : (o : Option Entry) → IsPlainEntry rows o → IsNotedThroughout o
     go None h = tt
-    go (Some e) h = plain_noted rows e h
+    go (Some e) h = (h.0, plain-shape_noted rows e.shape h.1)
 
-pub under_rows : (contract : Contract) (rows : List Row) → IsPlainUnder contract rows → AreNotedRows rows
+pub under_rows : (contract : Contract) (rows : List Row) → IsPlainUnder contract rows → HasPlainNotesThroughout rows
 under_rows contract rows plain n = go (entry_at rows n) (plain n)
   where
-    go : (o : Option Entry) → IsEntryUnder contract rows o → IsNotedRow o
+    go : (o : Option Entry) → IsEntryUnder contract rows o → IsNotedThroughout o
     go None h = tt
     go (Some e) h = (h.0, plain-shape_noted rows e.shape h.1)
 
@@ -62,7 +55,7 @@ module _ (P : Data → Type 0) where
       → (a : Ask) (t : Data) → IsAnswered rows InPlace Written Own a t → IsReferring t
   answered_refers = answer_holds IsReferring part_refers inside_refers
 
-  module _ (basis : Basis) (Refers : ℕ → Text → Type 0) (noted : AreNotedRows basis.rows)
+  module _ (basis : Basis) (Refers : ℕ → Text → Type 0) (noted : HasPlainNotesThroughout basis.rows)
       (lead : (j : ℕ) (r : Text) → Refers j r → P (string r)) where
     reference_refers : (j : ℕ) (r : Text) → Refers j r → IsReferring (reference r)
     unfolding found_in
@@ -72,7 +65,7 @@ module _ (P : Data → Type 0) where
         → IsReferring (filled (entry_template basis e) ts)
     fills n e at ts h = (
       filled_schema basis e ts (schemas ts h),
-      all_refer P basis e (subst IsNotedRow at (noted n)) ts h,
+      all_refer P basis e (subst IsNotedThroughout at (noted n)) ts h,
     )
       where
         schemas : (us : List Data) → AllByRecursion IsReferring us → AreSchemas us

@@ -8,7 +8,7 @@ use Rattle.std.specs.Cmp.Lexicographic.{slice_cmp}
 use Rattle.std.proofs.lemmas.List.Elements.{All-nil, All-cons, All-head, All-tail, All-append}
 use Rattle.std.proofs.lemmas.Map.Lookups.{exact_bytes}
 use Rattle.std.proofs.lemmas.Slice.Eq.{bytes_eq-Decides}
-use Rattle.serde_json.specs.Data.{Data, null, boolean, number, string, array, object, no_items, Members, no_members, member, put}
+use Rattle.serde_json.specs.Data.{Data, boolean, string, array, object, no_items, Members, no_members, member, put}
 use Rattle.serde_json.specs.Find.{get_member}
 use Rattle.schemars_schema.specs.Json.{Text}
 use Rattle.schemars_schema.specs.SchemaData.{members_in}
@@ -114,12 +114,8 @@ module _ (P : Data → Type 0) where
   tag-keeps : (tag name : Text) (e : Data) → All P (found_under (codes "properties") e)
       → All P (found_under (codes "properties") (with_member tag (unit_variant name) e))
   unfolding found_in
-  tag-keeps tag name null h = h
-  tag-keeps tag name (boolean b) h = h
-  tag-keeps tag name (number n) h = h
-  tag-keeps tag name (string s) h = h
-  tag-keeps tag name (array ds) h = h
   tag-keeps tag name (object ms) h = named-put tag (unit_variant name) ms nothing h
+  tag-keeps tag name _ h = h
 
   tagged-keeps : (tag name : Text) (ms : Members) → All P (found_in_keywords ms) → All P (found_in_keywords (tagged tag name ms))
   unfolding found_in

@@ -30,10 +30,8 @@ asks_at xs = asks_in (templates_of (map (λ e. e.1) (map property xs)))
 -- ---- the contents of tagged variants
 
 abbrev pub payload_contents : Payload → List ℕ
-payload_contents no_payload = []
 payload_contents (newtype_payload n) = n ∷ []
-payload_contents (tuple_payload ns) = []
-payload_contents (struct_payload x) = []
+payload_contents _ = []
 
 -- the rows whose values stand beside a tag
 abbrev pub contents_of : Shape → List ℕ
@@ -289,17 +287,6 @@ module _ (P : Ask → Type 0) where
       → ((m : ℕ) (b : Bool) → Contains (flattened_numbers kind) m → P (members_of m b))
       → ((m : ℕ) → Contains (contents_of kind) m → P (content m))
       → All P (asks_of (template_of basis kind))
-  all_asks basis shape.null h g f = nothing
-  all_asks basis shape.bool h g f = nothing
-  all_asks basis (shape.int kind) h g f = nothing
-  all_asks basis (shape.non_zero kind) h g f = nothing
-  all_asks basis shape.number h g f = nothing
-  all_asks basis shape.text h g f = nothing
-  all_asks basis shape.char h g f = nothing
-  all_asks basis (shape.formatted format) h g f = nothing
-  all_asks basis shape.any h g f = nothing
-  all_asks basis shape.bytes h g f = nothing
-  all_asks basis shape.schema_itself h g f = nothing
   all_asks basis (shape.option n) h g f = one n [] h
   all_asks basis (shape.seq n) h g f = one n [] h
   all_asks basis (shape.set n) h g f = one n [] h
@@ -320,4 +307,4 @@ module _ (P : Ask → Type 0) where
   all_asks basis (shape.untagged xs) h g f = untagged_all basis.contract basis.titles xs h g
   all_asks basis (shape.internal tag closed xs) h g f = internal_all basis.contract tag closed xs h g f
   all_asks basis (shape.adjacent tag key closed xs) h g f = adjacent_all basis.contract tag key closed xs h g
-  all_asks basis (shape.literal d) h g f = nothing
+  all_asks basis _ h g f = nothing

@@ -2,7 +2,7 @@
 use Rattle.std.proofs.Common.{ℕ, zero, suc, List, [], ◌∷◌, Bool, true, false}
 use Rattle.std.specs.List.{AllByRecursion}
 use Rattle.std.specs.Prelude.{if◌then◌else◌}
-use Rattle.serde_json.specs.Data.{Data, null, boolean, number, string, array, object}
+use Rattle.serde_json.specs.Data.{Data, boolean, array}
 use Rattle.schemars_schema.specs.Json.{Text}
 use Rattle.schemars_schema.specs.SchemaData.{IsSchema}
 use Rattle.schemars_flatten.proofs.Schemas.{flattened-schema, flattened_part-schema, opened_inside-schema}
@@ -86,45 +86,23 @@ non_zero_makes false d e h g = g
 
 literal_makes : (d : Data) → IsSchema (literal_document d)
 literal_makes (boolean b) = tt
-literal_makes (object ms) = tt
-literal_makes null = tt
-literal_makes (number n) = tt
-literal_makes (string s) = tt
-literal_makes (array ds) = tt
+literal_makes _ = tt
 
 shape_makes : (basis : Basis) (kind : Shape) → MakesSchema (template_of basis kind)
-shape_makes basis shape.null = tt
-shape_makes basis shape.bool = tt
-shape_makes basis (shape.int kind) = tt
 shape_makes basis (shape.non_zero kind) = non_zero_makes (is_signed kind) _ _ tt tt
-shape_makes basis shape.number = tt
-shape_makes basis shape.text = tt
-shape_makes basis shape.char = tt
-shape_makes basis (shape.formatted format) = tt
-shape_makes basis shape.any = tt
-shape_makes basis shape.bytes = tt
-shape_makes basis shape.schema_itself = tt
-shape_makes basis (shape.option n) = tt
-shape_makes basis (shape.seq n) = tt
-shape_makes basis (shape.set n) = tt
 shape_makes basis (shape.array n zero) = tt
 shape_makes basis (shape.array n (suc len)) = tt
-shape_makes basis (shape.up_to n cap) = tt
 shape_makes basis (shape.tuple []) = tt
 shape_makes basis (shape.tuple (n ∷ ns)) = tt
 shape_makes basis (shape.struct x) =
     flattened_makes basis.contract x.flatten (fields_template basis.contract x.list x.closed) tt
-shape_makes basis (shape.newtype n) = tt
-shape_makes basis (shape.result a b) = tt
-shape_makes basis (shape.bound n) = tt
-shape_makes basis (shape.range n) = tt
-shape_makes basis (shape.either a b) = tt
 shape_makes basis (shape.map_from key value) = values_make (key_options basis.rows key) value
 shape_makes basis (shape.external xs) = choice_makes (bare_units xs) (other_items basis.contract xs)
 shape_makes basis (shape.untagged xs) = untagged_makes basis.contract basis.titles xs
 shape_makes basis (shape.internal tag closed xs) = internal_makes basis.contract tag closed xs
 shape_makes basis (shape.adjacent tag key closed xs) = adjacent_makes basis.contract tag key closed xs
 shape_makes basis (shape.literal d) = literal_makes d
+shape_makes basis _ = tt
 
 -- the filled template of an entry is a schema, where the answers are
 pub filled_schema : (basis : Basis) (e : Entry) (ts : List Data) → AreSchemas ts → IsSchema (filled (entry_template basis e) ts)

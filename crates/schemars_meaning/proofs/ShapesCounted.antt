@@ -1,7 +1,7 @@
 -- In a table that is plain under its contract the document of a shape says under 2020-12 what the shape means, with steps counted down,
 -- where smaller values are told rightly.
-use Rattle.std.proofs.Common.{◌≡◌, inl, inr, ℕ, ◌+◌, ◌*◌, ◌<◌, ◌≤◌, List, [], ◌∷◌, ◌++◌, Some, Bool, map, refl, ap}
-use Rattle.std.proofs.Common.{◌∙◌, length}
+use Rattle.std.proofs.Common.{◌≡◌, inl, inr, ℕ, ◌+◌, ◌*◌, ◌<◌, ◌≤◌, List, [], ◌∷◌, ◌++◌, Bool, map, refl, ap}
+use Rattle.std.proofs.Common.{◌∙◌}
 use Rattle.std.specs.Prelude.{◌||◌}
 use Rattle.std.specs.List.{list_any}
 use Rattle.serde_json.specs.Data.{Data, depth}
@@ -12,15 +12,15 @@ use Rattle.schemars_schema.specs.Acceptance.{Context, Judge, Patterns, judge}
 use Rattle.schemars_builders.specs.NullLaw.{context2020_12}
 use Rattle.schemars_builders.proofs.Nulls.{IsReady}
 use Rattle.schemars_shapes.specs.Shape as shape
-use Rattle.schemars_shapes.specs.Shape.{Fields, Flattened, Shape, Entry, Payload, Variant, no_payload, newtype_payload, tuple_payload}
+use Rattle.schemars_shapes.specs.Shape.{Fields, Flattened, Shape, Payload, Variant, no_payload, newtype_payload, tuple_payload}
 use Rattle.schemars_shapes.specs.Shape.{struct_payload}
-use Rattle.schemars_types.specs.Rows.{Row, entry_at}
+use Rattle.schemars_types.specs.Rows.{Row}
 use Rattle.schemars_types.specs.KeyOptions.{key_options}
-use Rattle.schemars_types.specs.Effective.{row_fields, flattened_in, shape_fields, part_enums, enums_within, shape_enums}
+use Rattle.schemars_types.specs.Effective.{flattened_in, part_enums}
 use Rattle.schemars_types.specs.Effective.{spread_payload, spread_variant, spread_in}
 use Rattle.schemars_types.specs.declared.contract.Contract.{Contract}
 use Rattle.schemars_types.specs.Meaning.{Choice, has_payload, has_shape, belongs_within, choices_within}
-use Rattle.schemars_documents.specs.PlainTable.{IsPlainPayload, ArePlainVariants, IsTagged, AreTagged, IsPlainShape, IsPlainUnder}
+use Rattle.schemars_documents.specs.PlainTable.{IsPlainPayload, ArePlainVariants, IsTagged, AreTagged, IsPlainShape}
 use Rattle.schemars_documents.specs.PlainTable.{ArePartsUnder, parts_in, payload_parts, variant_parts}
 use Rattle.schemars_documents.specs.Basis.{Basis}
 use Rattle.schemars_documents.specs.Template.{Ask}
@@ -38,6 +38,7 @@ use Rattle.schemars_meaning.proofs.PartsDescribed.{under_apart}
 use Rattle.schemars_meaning.proofs.StructsCounted.{HasRoom, Told, Tell, struct_stands, struct_says, tuple_tells, tell_inside}
 use Rattle.schemars_meaning.proofs.StructDocuments.{both_empty}
 use Rattle.schemars_meaning.proofs.AdjacentSays.{adjacent_says}
+use Rattle.schemars_meaning.proofs.SettledTables.{IsSettled}
 
 room_apart : (ranks : ℕ) (v : Data) (m : ℕ) (ps qs : List Flattened) → HasRoom ranks v m (ps ++ qs)
     → HasRoom ranks v m ps × HasRoom ranks v m qs
@@ -45,12 +46,7 @@ room_apart ranks v m ps qs (inl none) = let each = both_empty ps qs none in (inl
 room_apart ranks v m ps qs (inr room) = (inr room, inr room)
 
 module _ (patterns : Patterns) (f : Text → Judge) (basis : Basis) (Refers : ℕ → Text → Type 0)
-    (plain : IsPlainUnder basis.contract basis.rows)
-    (fields_settled : (n : ℕ) (e : Entry) → entry_at basis.rows n ≡ Some e
-    → row_fields basis.rows n ≡ shape_fields (flattened_in basis.rows) e.shape)
-    (enums_settled : (n : ℕ) (e : Entry) → entry_at basis.rows n ≡ Some e
-    → enums_within basis.rows (length basis.rows) n ≡ shape_enums (part_enums basis.rows) n e.shape)
-    (ranks : ℕ) (some : 0 < ranks) (top : ℕ) where
+    (settled : IsSettled basis) (ranks : ℕ) (some : 0 < ranks) (top : ℕ) where
   abbrev c : Context
   c = context2020_12 patterns f
 
@@ -87,8 +83,8 @@ module _ (patterns : Patterns) (f : Text → Judge) (basis : Basis) (Refers : �
       (ready : (d j : ℕ) (t : Data) → In d j t → IsReady t)
       (v : Data) (json : IsJson v) (within : depth v ≤ top) (m : ℕ) (enough : depth v * ranks ≤ m) (d : ℕ) where
     abbrev tell : (n : ℕ) → depth v * ranks ≤ n → (d : ℕ)
-        → Tell patterns f basis Refers plain fields_settled enums_settled ranks some top said v n d
-    tell = tell_inside patterns f basis Refers plain fields_settled enums_settled ranks some top said v within
+        → Tell patterns f basis Refers settled ranks some top said v n d
+    tell = tell_inside patterns f basis Refers settled ranks some top said v within
 
     abbrev Room : List Flattened → Type 0
     Room ps = HasRoom ranks v m ps
@@ -117,11 +113,11 @@ module _ (patterns : Patterns) (f : Text → Judge) (basis : Basis) (Refers : �
     payload_tells (newtype_payload n) told room same (t ∷ us) fit = (schemas d n t fit.0, same n t refl fit.0)
     payload_tells (tuple_payload ns) told room same us fit = (
       (tell m enough d (tuple_payload ns) told us fit).0,
-      tuple_tells patterns f basis Refers plain fields_settled enums_settled ranks some top said v within m enough d ns json us fit,
+      tuple_tells patterns f basis Refers settled ranks some top said v within m enough d ns json us fit,
     )
     payload_tells (struct_payload y) told room same us fit = (
       (tell m enough d (struct_payload y) told us fit).0,
-      struct_says patterns f basis Refers plain fields_settled enums_settled ranks some top said v json within m enough d y room told tell us fit,
+      struct_says patterns f basis Refers settled ranks some top said v json within m enough d y room told tell us fit,
     )
 
     payloads_tell : (xs : List Variant) → ArePlainVariants (map each xs) → ArePartsUnder contract rows (variant_parts xs)
@@ -170,7 +166,7 @@ module _ (patterns : Patterns) (f : Text → Judge) (basis : Basis) (Refers : �
         → (s : Data) → Fills (Answer d) (template_of basis kind) s → Agrees kind
         → (judge c s).fits v ≡ verdict (has_shape contract patterns (key_options rows) (C m) (B m) (spread_in rows kind) v)
     shape_says (shape.struct x) room fine under s h agree =
-        rw h.is (struct_says patterns f basis Refers plain fields_settled enums_settled ranks some top said v json within m enough d x room
+        rw h.is (struct_says patterns f basis Refers settled ranks some top said v json within m enough d x room
         (fine, under) tell h.parts h.answered)
     shape_says (shape.external xs) room fine under s h agree =
         rw h.is (external_says c refl contract (Answer d) (flattened_in rows) (part_enums rows) (B m) (C m) IsTold v json (tell m enough d)
@@ -185,7 +181,7 @@ module _ (patterns : Patterns) (f : Text → Judge) (basis : Basis) (Refers : �
         rw h.is (internal_says c refl contract (Answer d) (B m) (C m) (schemas d) v json
         (λ j t w is js less. agree j t w is js (inl less)) (unit_says patterns f basis (B m)) (flattened_in rows)
         (part_enums rows) StructTold
-        (λ y told us fit. struct_stands patterns f basis Refers plain fields_settled enums_settled ranks some top said v json within m enough
+        (λ y told us fit. struct_stands patterns f basis Refers settled ranks some top said v json within m enough
         d y told.1 told.0 tell us fit) tag closed xs fine.0 (inside_each tag xs fine.1 fine.2 under room) h.parts h.answered)
     shape_says (shape.adjacent tag key closed xs) room fine under s h agree =
         rw h.is (adjacent_says c refl contract (Answer d) (B m) (C m) v json (unit_says patterns f basis (B m)) (flattened_in rows)

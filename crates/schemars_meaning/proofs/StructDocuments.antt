@@ -2,7 +2,7 @@
 use Rattle.std.proofs.Common.{◌≡◌, ℕ, ◌<◌, List, [], ◌∷◌, ◌++◌, Option, Some, None, Bool, true, false, option_map, refl, sym, ap}
 use Rattle.std.proofs.Common.{◌∙◌, subst, true≢false}
 use Rattle.std.specs.Prelude.{codes, bytes_eq, if◌then◌else◌, ◌&&◌, ◌||◌, not, option_and_then}
-use Rattle.serde_json.specs.Data.{Data, null, array, object, number, boolean, string, Items, Members, no_members, member}
+use Rattle.serde_json.specs.Data.{Data, null, array, object, string, Items, Members, no_members, member}
 use Rattle.serde_json.specs.Data.{depth}
 use Rattle.serde_json.specs.Find.{get, get_member, as_str, as_array}
 use Rattle.serde_json.specs.View.{items_of}
@@ -50,10 +50,7 @@ fields_alike contract M ps qs xs closed every claim (object ms) =
     λ i. every i && (every_alike (λ k w. member_fits M xs (shut closed ps k) k w) (λ k w. member_fits M xs (shut closed qs k) k w)
     (λ k w. ap (λ b. member_fits M xs (not b && closed) k w) (claim k)) ms i && has_required contract xs ms)
 fields_alike contract M ps qs xs closed every claim null = refl
-fields_alike contract M ps qs xs closed every claim (boolean b) = refl
-fields_alike contract M ps qs xs closed every claim (number n) = refl
-fields_alike contract M ps qs xs closed every claim (string s) = refl
-fields_alike contract M ps qs xs closed every claim (array ds) = refl
+fields_alike contract M ps qs xs closed every claim _ = refl
 
 pub both_empty : {A : Type 0} (xs ys : List A) → xs ++ ys ≡ [] → (xs ≡ []) × (ys ≡ [])
 both_empty [] ys e = (refl, e)

@@ -99,11 +99,7 @@ module _ (c : Context) (on : c.dialect.reads_unevaluated ≡ true) (contract : C
     other_form : (v : Data) → IsNoMap v → Silent v
     unfolding x
     other_form (object ms) h = absurd h
-    other_form null h = simp silent
-    other_form (boolean b) h = simp silent
-    other_form (number n) h = simp silent
-    other_form (string t) h = simp silent
-    other_form (array vs) h = simp silent
+    other_form _ h = simp silent
 
     pub other_says : (s : Members) → HasKeywords (struct_keywords es ns ps closed) s → (v : Data) → IsNoMap v → ChoicesSay c on ps v
         → (judge c (object s)).fits v ≡ No

@@ -1,7 +1,7 @@
 -- Structs and payloads of a table that is plain under its contract say under 2020-12 what they mean, with steps counted down, where
 -- smaller values are told rightly.
-use Rattle.std.proofs.Common.{◌≡◌, ◌⊎◌, inl, inr, ℕ, zero, suc, ◌+◌, ◌*◌, ◌<◌, ◌≤◌, List, [], ◌∷◌, Some, Bool}
-use Rattle.std.proofs.Common.{map, refl, sym, ap, ◌∙◌, subst, length, arith}
+use Rattle.std.proofs.Common.{◌≡◌, ◌⊎◌, inl, inr, ℕ, zero, suc, ◌+◌, ◌*◌, ◌<◌, ◌≤◌, List, [], ◌∷◌, Bool}
+use Rattle.std.proofs.Common.{map, refl, sym, ap, ◌∙◌, subst, arith}
 use Rattle.std.proofs.Math.Nat.{mul-le-mul_right}
 use Rattle.serde_json.specs.Data.{Data, depth}
 use Rattle.schemars_schema.specs.Json.{Text, IsJson}
@@ -10,15 +10,15 @@ use Rattle.schemars_schema.specs.Verdict.{verdict}
 use Rattle.schemars_schema.specs.Acceptance.{Context, Judge, Patterns, judge}
 use Rattle.schemars_builders.specs.NullLaw.{context2020_12}
 use Rattle.schemars_builders.proofs.Nulls.{ready-schema}
-use Rattle.schemars_shapes.specs.Shape.{Field, Fields, Flattened, Entry, Payload, no_payload, newtype_payload, tuple_payload}
+use Rattle.schemars_shapes.specs.Shape.{Field, Fields, Flattened, Payload, no_payload, newtype_payload, tuple_payload}
 use Rattle.schemars_shapes.specs.Shape.{struct_payload}
-use Rattle.schemars_types.specs.Rows.{Row, entry_at}
-use Rattle.schemars_types.specs.Effective.{effective, row_fields, flattened_in, shape_fields, flattened_enums, part_enums, enums_within}
-use Rattle.schemars_types.specs.Effective.{shape_enums, enum_at, spread_payload}
+use Rattle.schemars_types.specs.Rows.{Row}
+use Rattle.schemars_types.specs.Effective.{effective, flattened_in, flattened_enums, part_enums}
+use Rattle.schemars_types.specs.Effective.{enum_at, spread_payload}
 use Rattle.schemars_types.specs.declared.contract.Contract.{Contract}
 use Rattle.schemars_types.specs.Meaning.{Choice, is_required, offers, has_payload, belongs_within, choices_within}
 use Rattle.schemars_flatten.proofs.Schemas.{flattened-schema}
-use Rattle.schemars_documents.specs.PlainTable.{IsPlainPayload, IsPlainUnder, IsPartUnder, ArePartsUnder, payload_parts}
+use Rattle.schemars_documents.specs.PlainTable.{IsPlainPayload, IsPartUnder, ArePartsUnder, payload_parts}
 use Rattle.schemars_documents.specs.Basis.{Basis}
 use Rattle.schemars_documents.specs.Template.{Ask, Template, members_of, asked, with_keywords, asks_of, filled, first, left}
 use Rattle.schemars_documents.specs.OfShape.{struct_template, payload_template, fields_template, with_flattened}
@@ -32,6 +32,7 @@ use Rattle.schemars_meaning.proofs.Schemas.{written_schema}
 use Rattle.schemars_meaning.proofs.StructDocuments.{IsStruct, means}
 use Rattle.schemars_meaning.proofs.StructFilled.{struct_fills}
 use Rattle.schemars_meaning.proofs.PartsDescribed.{parts_answer, known_all, offered_all, choices_counted}
+use Rattle.schemars_meaning.proofs.SettledTables.{IsSettled}
 
 closer : (a b h m : ℕ) → a < b → b * h ≤ m → a * h + h ≤ m
 closer a b h m less enough = grind (arith, mul-le-mul_right)
@@ -60,12 +61,7 @@ struct_schema contract y us = with_flattened_schema contract y.flatten (fields_t
 -- ---- a table that is plain under its contract, and whose rows have the fields and enums of their shapes
 
 module _ (patterns : Patterns) (f : Text → Judge) (basis : Basis) (Refers : ℕ → Text → Type 0)
-    (plain : IsPlainUnder basis.contract basis.rows)
-    (fields_settled : (n : ℕ) (e : Entry) → entry_at basis.rows n ≡ Some e
-    → row_fields basis.rows n ≡ shape_fields (flattened_in basis.rows) e.shape)
-    (enums_settled : (n : ℕ) (e : Entry) → entry_at basis.rows n ≡ Some e
-    → enums_within basis.rows (length basis.rows) n ≡ shape_enums (part_enums basis.rows) n e.shape)
-    (ranks : ℕ) (some : 0 < ranks) (top : ℕ) where
+    (settled : IsSettled basis) (ranks : ℕ) (some : 0 < ranks) (top : ℕ) where
   abbrev c : Context
   c = context2020_12 patterns f
 
@@ -130,14 +126,14 @@ module _ (patterns : Patterns) (f : Text → Judge) (basis : Basis) (Refers : �
     struct_stands w js within m enough d y (inl none) under tell us fit = bare_stands d w m y.list y.flatten y.closed none us fit
     struct_stands w js within zero enough d y (inr room) under tell us fit = absurd (omega arith)
     struct_stands w js within (suc m) enough d y (inr room) under tell us fit =
-        let answers = parts_answer c refl basis Refers plain w (C (suc m)) fields_settled enums_settled (B m) (C m)
+        let answers = parts_answer c refl basis Refers settled w (C (suc m)) (B m) (C m)
         (λ n e at. choices_counted rows contract patterns m n e w at) js (agree w within m (omega arith)) (null_says patterns f basis (B m))
         (unit_says patterns f basis (B m)) (tell m (omega arith)) in
         subst (λ os. IsStruct c refl contract (In d) w (effective (flattened_in rows) y) os y.closed
         (filled (struct_template contract y) us))
-        (offered_all c refl basis Refers plain w (C (suc m)) fields_settled enums_settled y.flatten)
+        (offered_all c refl basis Refers settled w (C (suc m)) y.flatten)
         (struct_fills (Answer d) c refl contract w (flattened_in rows) _ (IsPartUnder contract rows) (answers d) y
-        (known_all c refl basis Refers plain w (C (suc m)) fields_settled enums_settled d (answers d) y.flatten under) us fit)
+        (known_all c refl basis Refers settled w (C (suc m)) d (answers d) y.flatten under) us fit)
 
     -- so it says what the struct means
     pub struct_says : (w : Data) → IsJson w → depth w ≤ top → (m : ℕ) → depth w * ranks ≤ m → (d : ℕ) (y : Fields)

@@ -4,7 +4,7 @@ use Rattle.std.proofs.Common.{subst, true≢false}
 use Rattle.std.specs.Prelude.{codes, bytes_eq, if◌then◌else◌, not, is_some, ◌&&◌, ◌||◌, option_and_then}
 use Rattle.std.specs.Option.{option_map_or}
 use Rattle.std.proofs.lemmas.Slice.Eq.{bytes_eq-Decides}
-use Rattle.serde_json.specs.Data.{Data, null, boolean, number, string, array, object, no_items, Members, no_members, member, put}
+use Rattle.serde_json.specs.Data.{Data, null, string, array, object, no_items, Members, no_members, member, put}
 use Rattle.serde_json.specs.Data.{depth}
 use Rattle.serde_json.specs.Find.{get_member, as_str}
 use Rattle.serde_json.proofs.Views.{get_member-put, get_member-put_other}
@@ -184,10 +184,7 @@ module _ (W : ℕ → Data → Type 0) (M : ℕ → Data → Bool) (name : Text)
       ∙ and-turn (every_part ps) (every_member (λ k w. tagged_fits M xs (shut closed ps k) tag name k w) ms) (is_some (get_member tag ms))
       (has_required contract xs ms)
   value_with_tag contract ps tag xs closed null = refl
-  value_with_tag contract ps tag xs closed (boolean b) = refl
-  value_with_tag contract ps tag xs closed (number n) = refl
-  value_with_tag contract ps tag xs closed (string s) = refl
-  value_with_tag contract ps tag xs closed (array ds) = refl
+  value_with_tag contract ps tag xs closed _ = refl
 
 -- ---- the tag among the keywords
 
@@ -310,10 +307,7 @@ module _ (c : Context) (on : c.dialect.reads_unevaluated ≡ true) (contract : C
             (λ k w. tagged_fits M xs (shut closed os k) tag name k w)
             (λ k w. ap (λ b. tagged_fits M xs (not b && closed) tag name k w) (a.claimed k)) ms i && has_required contract xs ms))
         tagged_alike null = refl
-        tagged_alike (boolean b) = refl
-        tagged_alike (number n) = refl
-        tagged_alike (string t) = refl
-        tagged_alike (array ds) = refl
+        tagged_alike _ = refl
 
   found_some : (o : Option Field) (g : Option Data) (name : Text) → Finds (WithTag W M name) o g None → is_some g ≡ is_some o
   found_some None g name h = ap is_some h

@@ -12,7 +12,7 @@ use Rattle.std.proofs.lemmas.Map.Keys.{sorted_head, sorted_tail}
 use Rattle.std.specs.List.Sorted.{IsStrictlySortedBy}
 use Rattle.std.specs.declared.alloc.Global.{Global}
 use Rattle.serde_json.specs.declared.value.Value.{Value}
-use Rattle.serde_json.specs.Data.{Data, null, boolean, number, string, array, object, Items, no_items, item}
+use Rattle.serde_json.specs.Data.{Data, null, boolean, array, object, Items, no_items, item}
 use Rattle.serde_json.specs.Data.{Members, no_members, member}
 use Rattle.serde_json.specs.Find.{get_member, as_str, as_object}
 use Rattle.serde_json.specs.Events.{items_len}
@@ -119,15 +119,12 @@ some_types (v ∷ vs) some is = rw (named_types (items_view (v ∷ vs)), is, one
 -- ---- objects
 
 pub no_object : (d : Data) → IsSchema d → as_object d ≡ None → IsPlainLiteral d
-no_object null s is = absurd s
 no_object (boolean b) s is = tt
-no_object (number n) s is = absurd s
-no_object (string t) s is = absurd s
-no_object (array ds) s is = absurd s
 no_object (object ms) s is = absurd (some≢none is)
   where
     some≢none : Some ms ≡ None → ⊥
     some≢none e = cc
+no_object _ s is = absurd s
 
 abbrev HasOneValue : Bool → Option Data → Option Data → Type 0
 HasOneValue nul e c = (is_some e && is_some c ≡ false) × (nul ≡ true → (e ≡ None) × (c ≡ None))

@@ -53,35 +53,8 @@ own_fields part None = refl
 own_fields part (Some e) = go e.shape
   where
     go : (s : Shape) → shape_fields part s ≡ option_map_or (effective part) (struct_of s) []
-    go shape.null = refl
-    go shape.bool = refl
-    go (shape.int k) = refl
-    go (shape.non_zero k) = refl
-    go shape.number = refl
-    go shape.text = refl
-    go shape.char = refl
-    go (shape.formatted g) = refl
-    go shape.any = refl
-    go shape.bytes = refl
-    go shape.schema_itself = refl
-    go (shape.option n) = refl
-    go (shape.seq n) = refl
-    go (shape.set n) = refl
-    go (shape.array n len) = refl
-    go (shape.up_to n cap) = refl
-    go (shape.tuple ns) = refl
     go (shape.struct x) = refl
-    go (shape.newtype n) = refl
-    go (shape.result t e) = refl
-    go (shape.bound n) = refl
-    go (shape.range n) = refl
-    go (shape.either l r) = refl
-    go (shape.map_from key value) = refl
-    go (shape.external xs) = refl
-    go (shape.untagged xs) = refl
-    go (shape.internal tag closed xs) = refl
-    go (shape.adjacent tag content closed xs) = refl
-    go (shape.literal d) = refl
+    go _ = refl
 
 -- a row has the fields of its struct
 pub within_struct : (rows : List Row) (steps n : ℕ)

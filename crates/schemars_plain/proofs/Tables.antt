@@ -56,10 +56,8 @@ list_decided fs =
 -- ---- variants
 
 payload_decided : (p : Payload) → Decides (is_plain_payload p) (IsPlainPayload p)
-payload_decided no_payload = always
-payload_decided (newtype_payload n) = always
-payload_decided (tuple_payload ns) = always
 payload_decided (struct_payload x) = list_decided x.list
+payload_decided _ = always
 
 variants_decided : (xs : List Variant) → Decides (are_plain_variants xs) (ArePlainVariants xs)
 variants_decided [] = always
@@ -153,34 +151,7 @@ open_decided (Some e) = go e.shape refl
 
     go : (s : Shape) → e.shape ≡ s → Decides (option_map_or (λ x. not x.closed) (struct_of s) false) (IsOpenStruct (Some e))
     go (shape.struct x) is = from_struct x x.closed refl is
-    go shape.null is = not_open shape.null is (λ x same. cc)
-    go shape.bool is = not_open shape.bool is (λ x same. cc)
-    go (shape.int k) is = not_open (shape.int k) is (λ x same. cc)
-    go (shape.non_zero k) is = not_open (shape.non_zero k) is (λ x same. cc)
-    go shape.number is = not_open shape.number is (λ x same. cc)
-    go shape.text is = not_open shape.text is (λ x same. cc)
-    go shape.char is = not_open shape.char is (λ x same. cc)
-    go (shape.formatted g) is = not_open (shape.formatted g) is (λ x same. cc)
-    go shape.any is = not_open shape.any is (λ x same. cc)
-    go shape.bytes is = not_open shape.bytes is (λ x same. cc)
-    go shape.schema_itself is = not_open shape.schema_itself is (λ x same. cc)
-    go (shape.option n) is = not_open (shape.option n) is (λ x same. cc)
-    go (shape.seq n) is = not_open (shape.seq n) is (λ x same. cc)
-    go (shape.set n) is = not_open (shape.set n) is (λ x same. cc)
-    go (shape.array n len) is = not_open (shape.array n len) is (λ x same. cc)
-    go (shape.up_to n most) is = not_open (shape.up_to n most) is (λ x same. cc)
-    go (shape.tuple ns) is = not_open (shape.tuple ns) is (λ x same. cc)
-    go (shape.newtype n) is = not_open (shape.newtype n) is (λ x same. cc)
-    go (shape.result t e) is = not_open (shape.result t e) is (λ x same. cc)
-    go (shape.bound n) is = not_open (shape.bound n) is (λ x same. cc)
-    go (shape.range n) is = not_open (shape.range n) is (λ x same. cc)
-    go (shape.either l r) is = not_open (shape.either l r) is (λ x same. cc)
-    go (shape.map_from key value) is = not_open (shape.map_from key value) is (λ x same. cc)
-    go (shape.external xs) is = not_open (shape.external xs) is (λ x same. cc)
-    go (shape.untagged xs) is = not_open (shape.untagged xs) is (λ x same. cc)
-    go (shape.internal tag closed xs) is = not_open (shape.internal tag closed xs) is (λ x same. cc)
-    go (shape.adjacent tag content closed xs) is = not_open (shape.adjacent tag content closed xs) is (λ x same. cc)
-    go (shape.literal d) is = not_open (shape.literal d) is (λ x same. cc)
+    go s is = not_open s is (λ x same. cc)
 
 part_decided : (rows : List Row) (p : Flattened) → Decides (is_plain_part rows p) (IsPlainPart rows p)
 part_decided rows p =

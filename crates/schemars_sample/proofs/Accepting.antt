@@ -254,10 +254,7 @@ unfolding read_data all_keywords
 judge-members_in patterns follow (object ms) v is = refl
 judge-members_in patterns follow (boolean true) v is = refl
 judge-members_in patterns follow (boolean false) v is = refl
-judge-members_in patterns follow null v is = absurd is
-judge-members_in patterns follow (number n) v is = absurd is
-judge-members_in patterns follow (string s) v is = absurd is
-judge-members_in patterns follow (array ds) v is = absurd is
+judge-members_in patterns follow _ v is = absurd is
 
 -- what is no keyword says nothing beside others
 pub accepts-put : (x : Example) (k : Text) (d : Data) (ms : Members) → IsSilent k → AcceptsExample x (object ms)

@@ -8,7 +8,7 @@ use Rattle.std.proofs.lemmas.Slice.Eq.{bytes_eq-Decides}
 use Rattle.std.specs.Prelude.{pos, int_le, nat_le, bytes_eq, ◌&&◌, ◌||◌, not, if◌then◌else◌, ⊤}
 use Rattle.std.specs.Ordering.{match_ordering}
 use Rattle.std.specs.Cmp.Lexicographic.{slice_cmp}
-use Rattle.serde_json.specs.Data.{Data, null, boolean, number, unsigned, negative, float, string, array, object, Items, no_items}
+use Rattle.serde_json.specs.Data.{Data, boolean, number, unsigned, negative, string, array, object, Items, no_items}
 use Rattle.serde_json.specs.Data.{item, Members, no_members, member, put}
 use Rattle.serde_json.specs.Events.{items_len}
 use Rattle.serde_json.specs.Find.{get_member}
@@ -78,12 +78,8 @@ module _ (patterns : Patterns) (follow : Text → Judge) where
   sound-char = (tt, go)
     where
       go : (v : Data) → IsDecided (fits char_document v)
-      go null = (false, refl)
-      go (boolean b) = (false, refl)
-      go (number n) = (false, refl)
       go (string s) = (nat_le 1 (code_points s) && nat_le (code_points s) 1, rw both-yes (both-verdict _ _))
-      go (array vs) = (false, refl)
-      go (object ms) = (false, refl)
+      go _ = (false, refl)
 
   pub char-says : (s : Text) → code_points s ≡ 1 → fits char_document (string s) ≡ Yes
   unfolding read_data all_keywords
@@ -94,14 +90,9 @@ module _ (patterns : Patterns) (follow : Text → Judge) where
   sound-byte = (tt, go)
     where
       go : (v : Data) → IsDecided (fits byte_document v)
-      go null = (false, refl)
-      go (boolean b) = (false, refl)
       go (number (unsigned n)) = (int_le (pos 0) (pos n) && int_le (pos n) (pos 255), rw both-yes (both-verdict _ _))
       go (number (negative z)) = (int_le (pos 0) z && int_le z (pos 255), rw both-yes (both-verdict _ _))
-      go (number (float x)) = (false, refl)
-      go (string s) = (false, refl)
-      go (array vs) = (false, refl)
-      go (object ms) = (false, refl)
+      go _ = (false, refl)
 
   pub byte-says : (n : ℕ) → n < 256 → fits byte_document (number (unsigned n)) ≡ Yes
   unfolding read_data all_keywords
@@ -125,12 +116,8 @@ module _ (patterns : Patterns) (follow : Text → Judge) where
   sound-list t h = (tt, go)
     where
       go : (v : Data) → IsDecided (fits (list_schema t) v)
-      go null = (false, refl)
-      go (boolean b) = (false, refl)
-      go (number n) = (false, refl)
-      go (string s) = (false, refl)
       go (array vs) = rw (schema-judge c t h.0, both-yes) (each_past-decided t h vs)
-      go (object ms) = (false, refl)
+      go _ = (false, refl)
 
   parts_read : (ss : List Data) → AreSound ss → read_items c (items_of ss) ≡ Some (map (judge c) ss)
   unfolding read_data
@@ -155,12 +142,8 @@ module _ (patterns : Patterns) (follow : Text → Judge) where
   sound-tuple ss h = (tt, go)
     where
       go : (v : Data) → IsDecided (fits (tuple_schema ss) v)
-      go null = (false, refl)
-      go (boolean b) = (false, refl)
-      go (number n) = (false, refl)
-      go (string s) = (false, refl)
       go (array vs) = rw (tuple-says ss h vs) (both-decided _ _ (_, refl) (both-decided _ _ (_, refl) (by_position-decided ss h vs)))
-      go (object ms) = (false, refl)
+      go _ = (false, refl)
 
   -- ---- maps
 
@@ -208,12 +191,8 @@ module _ (patterns : Patterns) (follow : Text → Judge) where
   sound-struct ps h = (tt, go)
     where
       go : (v : Data) → IsDecided (fits (struct_schema ps) v)
-      go null = (false, refl)
-      go (boolean b) = (false, refl)
-      go (number n) = (false, refl)
-      go (string s) = (false, refl)
-      go (array vs) = (false, refl)
       go (object ms) = rw (struct-says ps h ms) (each_member-decided (property_says ps) ms (property-decided ps h))
+      go _ = (false, refl)
 
   pub map-says : (t : Data) → IsSchema t → (ms : Members) → fits (map_schema t) (object ms) ≡ each_member (λ k w. fits t w) ms
   unfolding read_data all_keywords
@@ -224,12 +203,8 @@ module _ (patterns : Patterns) (follow : Text → Judge) where
   sound-map t h = (tt, go)
     where
       go : (v : Data) → IsDecided (fits (map_schema t) v)
-      go null = (false, refl)
-      go (boolean b) = (false, refl)
-      go (number n) = (false, refl)
-      go (string s) = (false, refl)
-      go (array vs) = (false, refl)
       go (object ms) = rw (map-says t h.0 ms) (each_member-decided (λ k w. fits t w) ms (λ k w. h.1 w))
+      go _ = (false, refl)
 
   AreSoundMembers-match : (o : Ordering) (x y z : Members) → AreSoundMembers x → AreSoundMembers y → AreSoundMembers z
       → AreSoundMembers (match_ordering o x y z)

@@ -1,16 +1,13 @@
 -- What lists and maps are seen as, and one part more of a list.
 use Rattle.std.proofs.Common.{◌≡◌, List, [], ◌∷◌, ◌++◌, Option, Some, None, option_map, map, refl, ap, append_assoc, rules}
-use Rattle.std.proofs.Common.{Vec, BTreeMap, String, Global}
-use Rattle.serde_json.specs.Data.{Data, object}
-use Rattle.serde_json.specs.View.{view, members_view}
-use Rattle.serde_json.specs.declared.value.Value.{Value, Array, Object, the_lemmas}
+use Rattle.std.proofs.Common.{Vec, Global}
+use Rattle.serde_json.specs.Data.{Data}
+use Rattle.serde_json.specs.View.{view}
+use Rattle.serde_json.specs.declared.value.Value.{Value, Array, the_lemmas}
 use Rattle.schemars_sample.specs.SampleJson.{json_array}
 
 pub seen_array : (v : Vec Value Global) → view (Array v) ≡ json_array (map view v.items)
 seen_array v = search (rules, the_lemmas)
-
-pub seen_object : (m : BTreeMap (String Global) Value) → view (Object m) ≡ object (members_view m.entries)
-seen_object m = search (rules, the_lemmas)
 
 pub one_part : (before : List Data) (d : Data) (rest : Option (List Data))
     → option_map (λ ds. (before ++ d ∷ []) ++ ds) rest ≡ option_map (λ ds. before ++ ds) (option_map (λ ds. d ∷ ds) rest)

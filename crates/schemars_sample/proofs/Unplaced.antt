@@ -1,7 +1,7 @@
 -- The root document of an example leaves the keys of definitions free.
 use Rattle.std.proofs.Common.{◌≡◌, [], ◌∷◌, Option, Some, None, Bool, true, false, refl, ◌∙◌}
 use Rattle.std.specs.Prelude.{codes, bytes_eq, if◌then◌else◌}
-use Rattle.serde_json.specs.Data.{Data, null, boolean, number, string, array, object, Members, put}
+use Rattle.serde_json.specs.Data.{Data, boolean, string, object, Members, put}
 use Rattle.serde_json.specs.Find.{get_member}
 use Rattle.serde_json.proofs.Views.{get_member-put_other}
 use Rattle.schemars_schema.specs.Json.{Text}
@@ -61,12 +61,7 @@ free_nulled ms h =
     free_const (get_member (codes "const") typed) typed (free_type (get_member (codes "type") ms) ms h)
 
 free_allow_null : (s : Data) → IsFree (members_in s) → IsFree (members_in (allow_null s))
-free_allow_null null h = h
-free_allow_null (boolean true) h = h
 free_allow_null (boolean false) h = (refl, refl)
-free_allow_null (number n) h = h
-free_allow_null (string t) h = h
-free_allow_null (array ds) h = h
 free_allow_null (object ms) h = go (is_null_choice (object ms)) (is_combined (object ms))
   where
     go : (a b : Bool) → IsFree (members_in (if a then object ms else if b then or_null (object ms) else
@@ -74,6 +69,7 @@ free_allow_null (object ms) h = go (is_null_choice (object ms)) (is_combined (ob
     go true b = h
     go false true = (refl, refl)
     go false false = free_nulled ms h
+free_allow_null _ h = h
 
 -- ---- the schema of an example
 

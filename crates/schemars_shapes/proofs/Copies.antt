@@ -17,7 +17,7 @@ members_view-copied (e ∷ es) (f ∷ fs) h = λ i. member (h.0.0 i) (h.0.1 i) (
 members_view-copied [] (f ∷ fs) h = absurd h
 members_view-copied (e ∷ es) [] h = absurd h
 
-map_copied : {A B : Type 0} (f : A → B) (xs ys : List A) → AllZip (λ x y. f y ≡ f x) xs ys → map f ys ≡ map f xs
+pub map_copied : {A B : Type 0} (f : A → B) (xs ys : List A) → AllZip (λ x y. f y ≡ f x) xs ys → map f ys ≡ map f xs
 map_copied f [] [] h = refl
 map_copied f (x ∷ xs) (y ∷ ys) h = λ i. h.0 i ∷ map_copied f xs ys h.1 i
 map_copied f [] (y ∷ ys) h = absurd h

@@ -18,7 +18,7 @@ same_of_payload (newtype_payload n) m c = c
 same_of_payload (tuple_payload ns) m c = absurd (nothing_among m c)
 same_of_payload (struct_payload x) m c = Contains-append_right (map (λ f. f.ty) x.list) (flattened_rows x) m c
 
-flattened_of_payload : (p : Payload) (m : ℕ) → Contains (payload_flattened p) m → Contains (payload_numbers p) m
+pub flattened_of_payload : (p : Payload) (m : ℕ) → Contains (payload_flattened p) m → Contains (payload_numbers p) m
 flattened_of_payload no_payload m c = c
 flattened_of_payload (newtype_payload n) m c = absurd (nothing_among m c)
 flattened_of_payload (tuple_payload ns) m c = absurd (nothing_among m c)
@@ -36,33 +36,12 @@ of_variants_among f among (x ∷ xs) m c = elim (Contains-append_cases (f x.payl
 same_number : (s : Shape) (m : ℕ) → Contains (same_value_numbers s) m → Contains (numbers_of s) m
 same_number (shape.option i) m c = c
 same_number (shape.newtype i) m c = c
-same_number shape.null m c = c
-same_number shape.bool m c = c
-same_number (shape.int k) m c = c
-same_number (shape.non_zero k) m c = c
-same_number shape.number m c = c
-same_number shape.text m c = c
-same_number shape.char m c = c
-same_number (shape.formatted f) m c = c
-same_number shape.any m c = c
-same_number shape.bytes m c = c
-same_number shape.schema_itself m c = c
-same_number (shape.seq i) m c = absurd (nothing_among m c)
-same_number (shape.set i) m c = absurd (nothing_among m c)
-same_number (shape.array i len) m c = absurd (nothing_among m c)
-same_number (shape.up_to i cap) m c = absurd (nothing_among m c)
-same_number (shape.tuple ns) m c = absurd (nothing_among m c)
 same_number (shape.struct x) m c = Contains-append_right (map (λ f. f.ty) x.list) (flattened_rows x) m c
-same_number (shape.result a b) m c = absurd (nothing_among m c)
-same_number (shape.bound i) m c = absurd (nothing_among m c)
-same_number (shape.range i) m c = absurd (nothing_among m c)
-same_number (shape.either a b) m c = absurd (nothing_among m c)
-same_number (shape.map_from key value) m c = absurd (nothing_among m c)
 same_number (shape.external xs) m c = of_variants_among payload_flattened flattened_of_payload xs m c
 same_number (shape.internal tag closed xs) m c = of_variants_among payload_same same_of_payload xs m c
 same_number (shape.adjacent tag content closed xs) m c = of_variants_among payload_flattened flattened_of_payload xs m c
-same_number (shape.literal d) m c = absurd (nothing_among m c)
 same_number (shape.untagged xs) m c = of_variants_among payload_same same_of_payload xs m c
+same_number _ m c = absurd (nothing_among m c)
 
 -- they are ends of edges
 pub asked : (rows : List Row) → RefersWithin rows → (n : ℕ) (e : Entry) → entry_at rows n ≡ Some e → (m : ℕ)

@@ -28,7 +28,7 @@ pub nat_le-above : (a b : ℕ) → b < a → nat_le a b ≡ false
 nat_le-above a b h = grind (arith, nat_tests)
 
 -- what is known stays known as rows join
-known_in_more : (a b : ℕ) (ns : List ℕ) → a ≤ b → find (λ m. nat_le a m) ns ≡ None → find (λ m. nat_le b m) ns ≡ None
+pub known_in_more : (a b : ℕ) (ns : List ℕ) → a ≤ b → find (λ m. nat_le a m) ns ≡ None → find (λ m. nat_le b m) ns ≡ None
 known_in_more a b [] more known = refl
 known_in_more a b (n ∷ ns) more known = by (nat_le a n) refl known (known_in_more a b ns more)
   where
@@ -46,7 +46,7 @@ entry_at-past_end : (old : List Row) → entry_at old (length old) ≡ None
 entry_at-past_end [] = refl
 entry_at-past_end (r ∷ old) = entry_at-past_end old
 
-entry_at-joined : (old : List Row) (id name : Text) → entry_at (old ++ (record { id = id; name = name; entry = None }) ∷ []) (length old)
+pub entry_at-joined : (old : List Row) (id name : Text) → entry_at (old ++ (record { id = id; name = name; entry = None }) ∷ []) (length old)
     ≡ None
 entry_at-joined [] id name = refl
 entry_at-joined (r ∷ old) id name = entry_at-joined old id name

@@ -36,36 +36,10 @@ members_alike f g (x ∷ xs) h =
 
 shape_alike : (f g : ℕ → Option KeyOptions) (s : Shape) → ((m : ℕ) → Contains (same_value_numbers s) m → f m ≡ g m)
     → shape_options f s ≡ shape_options g s
-shape_alike f g (shape.option i) h = refl
 shape_alike f g (shape.newtype i) h = h i (0, omega arith, refl)
-shape_alike f g shape.null h = refl
-shape_alike f g shape.bool h = refl
-shape_alike f g (shape.int k) h = refl
-shape_alike f g (shape.non_zero k) h = refl
-shape_alike f g shape.number h = refl
-shape_alike f g shape.text h = refl
-shape_alike f g shape.char h = refl
-shape_alike f g (shape.formatted t) h = refl
-shape_alike f g shape.any h = refl
-shape_alike f g shape.bytes h = refl
-shape_alike f g shape.schema_itself h = refl
-shape_alike f g (shape.seq i) h = refl
-shape_alike f g (shape.set i) h = refl
-shape_alike f g (shape.array i len) h = refl
-shape_alike f g (shape.up_to i cap) h = refl
-shape_alike f g (shape.tuple ns) h = refl
-shape_alike f g (shape.struct x) h = refl
-shape_alike f g (shape.result a b) h = refl
-shape_alike f g (shape.bound i) h = refl
-shape_alike f g (shape.range i) h = refl
-shape_alike f g (shape.either a b) h = refl
-shape_alike f g (shape.map_from key value) h = refl
-shape_alike f g (shape.external xs) h = refl
-shape_alike f g (shape.internal tag closed xs) h = refl
-shape_alike f g (shape.adjacent tag content closed xs) h = refl
-shape_alike f g (shape.literal d) h = refl
 shape_alike f g (shape.untagged []) h = refl
 shape_alike f g (shape.untagged (x ∷ xs)) h = ap (λ o. Some (or_any_text o)) (members_alike f g (x ∷ xs) h)
+shape_alike f g _ h = refl
 
 -- ---- more steps
 
@@ -123,7 +97,7 @@ entry_at-take (suc k) [] n low = refl
 entry_at-take (suc k) (r ∷ rows) zero low = refl
 entry_at-take (suc k) (r ∷ rows) (suc n) low = entry_at-take k rows n (omega arith)
 
-length-take : (k : ℕ) (rows : List Row) → length (take k rows) ≤ length rows
+pub length-take : (k : ℕ) (rows : List Row) → length (take k rows) ≤ length rows
 length-take zero rows = omega arith
 length-take (suc k) [] = omega arith
 length-take (suc k) (r ∷ rows) = omega (arith, length-take k rows)

@@ -6,9 +6,10 @@ use Rattle.serde_json.specs.Data.{object, put}
 use Rattle.serde_json.specs.View.{view, members_view}
 use Rattle.schemars_sample.specs.Example.{example_of, examples_view, entries_view, struct, collected_map, struct_variant}
 use Rattle.schemars_sample.specs.SampleJson.{sample_json, items_json, entries_json, json_array}
-use Rattle.schemars_sample.proofs.Parts.{seen_array, seen_object, one_part}
+use Rattle.schemars_sample.proofs.Parts.{seen_array, one_part}
 use Rattle.schemars_sample.proofs.Views.{example_of-Map, example_of-CollectMap, example_of-Struct, example_of-StructVariant}
 use Rattle.schemars_sample.proofs.json.+json.Goals as goal
+use Rattle.serde_json.proofs.Views.{view-Object}
 
 pub json_of-returns-in-Map : goal.json_of-returns-in-Map
 json_of-returns-in-Map t c =
@@ -84,7 +85,7 @@ pub object_of-returns : goal.object_of-returns
 object_of-returns t c =
     let entries = c.args.entries.now in
     let before = members_view c.loop-key.members.entries in
-    ap Some (seen_object c.loop-key.members)
+    ap Some (view-Object c.loop-key.members)
     ∙ ap (option_map object)
     (sym (at_drop_all (λ ys. entries_json (entries_view ys) before) entries c.loop-key.key-index c.loop-key-test.false)
     ∙ c.loop-key.invariant)

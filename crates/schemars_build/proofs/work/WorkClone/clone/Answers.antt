@@ -1,8 +1,8 @@
 use Rattle.std.proofs.Common.{◌≡◌, ◌∙◌, ◌≤◌, true, length, is_some, sym, subst, string_bytes}
 use Rattle.serde_json.specs.Find.{as_object}
 use Rattle.schemars_schema.specs.SchemaData.{members_in}
-use Rattle.schemars_build.proofs.Copies.{copied}
 use Rattle.schemars_build.proofs.work.WorkClone.clone.Goals as goal
+use Rattle.schemars_shapes.proofs.Copies.{map_copied}
 
 pub invariant_of-result : goal.invariant_of-result
 invariant_of-result c = (
@@ -12,7 +12,7 @@ invariant_of-result c = (
 
 pub returns : goal.returns
 returns c =
-    let begun = copied string_bytes c.self.inside.begun.items c.in_ok-clone-3.field-0.items c.in_ok-clone-3.ensures.cases.0 in
+    let begun = map_copied string_bytes c.self.inside.begun.items c.in_ok-clone-3.field-0.items c.in_ok-clone-3.ensures.cases.0 in
     let same : _ ≡ _ =
     λ i. record {
       names = c.in_ok-clone.ensures.cases i;
