@@ -10,7 +10,7 @@ use Rattle.schemars_types.specs.declared.contract.Contract.TheVariants.{Deserial
 use Rattle.schemars_types.specs.SameContract.{is_same_contract}
 use Rattle.schemars_build.specs.Naming.{NamedRow, Naming, is_of, name_of}
 use Rattle.schemars_build.specs.Work.{IsGiven, AreGiven, GivesNames}
-use Rattle.schemars_build.proofs.NamingLemmas.{same_contract}
+use Rattle.schemars_build.proofs.NamingLemmas.{same_contract-equal}
 
 pub name_of-joined : (n : ℕ) (c : Contract) (old more : Naming) (name : Text) → name_of n c old ≡ Some name
     → name_of n c (old ++ more) ≡ Some name
@@ -49,7 +49,7 @@ name_of-given_alone m c [] x name none some = go (x.row == m) (is_same_contract 
   where
     go : (a b : Bool) → (x.row == m) ≡ a → is_same_contract x.contract c ≡ b
         → option_map (λ y. y.name) (cond (a && b) (Some x) None) ≡ Some name → (m ≡ x.row) × (c ≡ x.contract)
-    go true true i j h = (grind (arith, nat_tests), sym (same_contract x.contract c j))
+    go true true i j h = (grind (arith, nat_tests), sym (same_contract-equal x.contract c j))
     go true false i j h = cc
     go false b i j h = cc
 name_of-given_alone m c (y ∷ old) x name none some = go (is_of m c y) none some (name_of-given_alone m c old x name)

@@ -97,16 +97,16 @@ no_owner n contract (o ∷ owners) (s ∷ given) same none =
 
 -- ---- one to one
 
-pub same_contract : (c d : Contract) → is_same_contract c d ≡ true → c ≡ d
-same_contract Deserialize Deserialize e = refl
-same_contract Deserialize Serialize e = absurd (true≢false (sym e))
-same_contract Serialize Deserialize e = absurd (true≢false (sym e))
-same_contract Serialize Serialize e = refl
+pub same_contract-equal : (c d : Contract) → is_same_contract c d ≡ true → c ≡ d
+same_contract-equal Deserialize Deserialize e = refl
+same_contract-equal Deserialize Serialize e = absurd (true≢false (sym e))
+same_contract-equal Serialize Deserialize e = absurd (true≢false (sym e))
+same_contract-equal Serialize Serialize e = refl
 
 whose : (n : ℕ) (contract : Contract) (x : NamedRow) → is_of n contract x ≡ true → (x.row ≡ n) × (x.contract ≡ contract)
 whose n contract x e =
     let (row, same) = and_parts _ _ e in
-    ((Decides-eqb x.row n).0 row, same_contract x.contract contract same)
+    ((Decides-eqb x.row n).0 row, same_contract-equal x.contract contract same)
 
 abbrev texts : Naming → List Text
 texts names = map (λ x. x.name) names

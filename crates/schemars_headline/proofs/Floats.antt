@@ -356,6 +356,7 @@ others_whole : (contract : Contract) (xs : List Variant) → variants_have_float
 others_whole contract [] n = tt
 others_whole contract (x ∷ xs) h = go (is_bare_unit x) (others_whole contract xs n.2)
   where
+    n : (members_have_float x.notes ≡ false) × (payload_has_float x.payload ≡ false) × (variants_have_float xs ≡ false)
     n = variants_whole x xs h
 
     go : (b : Bool) → SayWhole (templates_of (other_items contract xs)) → SayWhole (templates_of
