@@ -8,7 +8,7 @@ use Rattle.serde_json.specs.Find.{as_array, as_object}
 use Rattle.serde_json.specs.View.{view, items_view}
 use Rattle.serde_json.specs.declared.value.Value.{Value}
 use Rattle.schemars_schema.specs.Json.{Text}
-use Rattle.schemars_schema.proofs.Lists.{nothing_left, from_here}
+use Rattle.schemars_text.proofs.Lists.{nothing_left, from_here}
 use Rattle.schemars_flatten.specs.Opening.{closes, closed_at, closed_in, closed_in_items, closed_in_keywords}
 
 pub closed_object : (d : Data) (ms : Members) → Some ms ≡ as_object d

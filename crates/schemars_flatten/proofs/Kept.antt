@@ -11,7 +11,7 @@ use Rattle.serde_json.specs.Data.{Data, null, boolean, number, string, array, ob
 use Rattle.serde_json.specs.Data.{no_members, member, put}
 use Rattle.serde_json.specs.Find.{get, get_member, as_array, as_object, as_str}
 use Rattle.schemars_schema.specs.Json.{Text}
-use Rattle.schemars_schema.specs.OrderedText.{is_listed}
+use Rattle.schemars_text.specs.OrderedText.{is_listed}
 use Rattle.schemars_schema.specs.SchemaData.{members_in, put_members}
 use Rattle.schemars_schema.specs.Edits.{removed, replaced, without, with_item, changed_at}
 use Rattle.schemars_schema.specs.References.{NoSchemas, OneSchema, SchemaList, with_same_object, with_same_objects}

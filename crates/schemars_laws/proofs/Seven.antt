@@ -9,7 +9,7 @@ use Rattle.schemars_schema.specs.SchemaData.{IsSchema, members_in}
 use Rattle.schemars_schema.specs.Edits.{without, replaced, holds_text}
 use Rattle.schemars_schema.specs.References.{SchemaOrList}
 use Rattle.schemars_schema.specs.Acceptance.{draft2020_12}
-use Rattle.schemars_schema.proofs.Members.{differ}
+use Rattle.schemars_text.proofs.Members.{differ}
 use Rattle.schemars_walk.specs.Rewritten.{in_keywords}
 use Rattle.schemars_transform.specs.Built.{bool_rules, reference_moved, without_siblings, first_as_example, with_single_example}
 use Rattle.schemars_transform.specs.Built.{value_as_enum, const_as_enum, prefix_as_items, prefix_moved, old_items_moved}

@@ -9,7 +9,7 @@ use Rattle.schemars_schema.specs.Json.{Text}
 use Rattle.schemars_schema.specs.Edits.{replaced, removed, is_text, with_member, with_first}
 use Rattle.schemars_schema.specs.Annotations.{is_annotation}
 use Rattle.schemars_schema.specs.References.{NoSchemas}
-use Rattle.schemars_schema.proofs.Members.{differ}
+use Rattle.schemars_text.proofs.Members.{differ}
 use Rattle.schemars_schema.proofs.SortedMembers.{IsSorted, sorted-put, same_members}
 use Rattle.schemars_walk.specs.Rewritten.{forms, in_keywords}
 use Rattle.schemars_builders.specs.Properties.{with_property, tagged, has_null_type, closed_where}

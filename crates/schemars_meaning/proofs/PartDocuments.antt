@@ -29,7 +29,8 @@ use Rattle.schemars_meaning.proofs.Joining.{without-here}
 use Rattle.schemars_schema.specs.Edits.{without}
 use Rattle.schemars_flatten.specs.Parts.{optional, choice_or_anything, with_empty_object, one_or_anything, list_changed_at, items_changed}
 use Rattle.schemars_schema.specs.Edits.{removed, replaced, is_text}
-use Rattle.schemars_schema.proofs.Members.{get_member-later, get_member-without}
+use Rattle.schemars_text.proofs.Members.{get_member-later}
+use Rattle.schemars_schema.proofs.Members.{get_member-without}
 use Rattle.schemars_schema.proofs.SortedMembers.{sorted-without}
 use Rattle.schemars_flatten.specs.Flatten.{flattened}
 

@@ -12,7 +12,7 @@ use Rattle.schemars_schema.specs.Edits.{replaced, removed, is_text}
 use Rattle.schemars_schema.specs.Annotations.{AreNotes}
 use Rattle.schemars_schema.specs.Verdict.{verdict}
 use Rattle.schemars_schema.specs.Acceptance.{Context, judge}
-use Rattle.schemars_schema.proofs.Members.{get_member-later, get_member-here}
+use Rattle.schemars_text.proofs.Members.{get_member-later, get_member-here}
 use Rattle.std.proofs.lemmas.Slice.Eq.{bytes_eq-Decides}
 use Rattle.schemars_flatten.specs.Flatten.{flattened, united_all, appended}
 use Rattle.schemars_flatten.specs.Opening.{opened, has_type}

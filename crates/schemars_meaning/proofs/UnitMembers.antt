@@ -12,7 +12,8 @@ use Rattle.schemars_schema.specs.Edits.{without, removed, replaced, is_text}
 use Rattle.schemars_schema.specs.Annotations.{is_annotation, AreNotes}
 use Rattle.schemars_schema.specs.Verdict.{verdict}
 use Rattle.schemars_schema.specs.Acceptance.{Context, judge, is_null}
-use Rattle.schemars_schema.proofs.Members.{get_member-later, differ, get_member-replaced, get_member-replaced_other}
+use Rattle.schemars_text.proofs.Members.{get_member-later, differ}
+use Rattle.schemars_schema.proofs.Members.{get_member-replaced, get_member-replaced_other}
 use Rattle.schemars_schema.proofs.Members.{get_member-without}
 use Rattle.schemars_schema.proofs.SortedMembers.{IsSorted, sorted-put, sorted-replaced, sorted-without}
 use Rattle.schemars_builders.specs.AllowNull.{null_schema}

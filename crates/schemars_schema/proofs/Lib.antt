@@ -1,10 +1,4 @@
 -- Lemmas that several proofs share.
-pub mod Outputs
-pub mod OrderedTexts
-pub mod FixedMembers
-pub mod Becomings
-pub mod Begun
-pub mod Escapes
 pub mod Encodings
 pub mod Equalities
 pub mod Verdicts

@@ -11,7 +11,7 @@ use Rattle.serde_json.proofs.Views.{Entry}
 use Rattle.schemars_schema.specs.Json.{Text}
 use Rattle.schemars_schema.specs.SchemaData.{inserted}
 use Rattle.schemars_schema.specs.Edits.{put_missing}
-use Rattle.schemars_schema.proofs.Lists.{from_here, nothing_left as none_left}
+use Rattle.schemars_text.proofs.Lists.{from_here, nothing_left as none_left}
 use Rattle.schemars_transform.specs.Unevaluated.{names_in, names_in_items, names_in_keywords, names_under, with_names, properties_made}
 
 pub with_names-append : (a b : List Text) (ms : Members) → with_names (a ++ b) ms ≡ with_names b (with_names a ms)

@@ -9,7 +9,7 @@ use Rattle.serde_json.specs.declared.value.Value.{Value}
 use Rattle.schemars_schema.specs.Json.{Text}
 use Rattle.schemars_schema.specs.SchemaData.{IsSchema}
 use Rattle.schemars_schema.specs.References.{SchemaList, SchemaOrList, SchemasByName}
-use Rattle.schemars_schema.proofs.Lists.{nothing_left}
+use Rattle.schemars_text.proofs.Lists.{nothing_left}
 use Rattle.schemars_walk.specs.Rewritten.{Rules, form_at, forms, in_items, in_names}
 use Rattle.schemars_walk.specs.Rewritten.{in_keywords, read_at, as_schema_in, rewritten, with_subschemas}
 use Rattle.schemars_walk.proofs.Walks.{then_items, then_items-none}

@@ -15,7 +15,7 @@ use Rattle.serde_json.proofs.Views.{Entry}
 use Rattle.schemars_schema.specs.Json.{Text}
 use Rattle.serde_json.specs.Find.{as_array, as_object}
 use Rattle.schemars_schema.specs.References.{place_under}
-use Rattle.schemars_schema.proofs.Lists.{nothing_left}
+use Rattle.schemars_text.proofs.Lists.{nothing_left}
 use Rattle.schemars_walk.specs.Walk.{Answer, TransformStep, EachItem, EachMember, AtSchema}
 use Rattle.schemars_walk.specs.Walk.{AtList, AtSchemaOrList, AtNames, AtPlace, Walked, Recursed}
 use Rattle.schemars_walk.specs.declared.transform.TransformError.{TransformError}
