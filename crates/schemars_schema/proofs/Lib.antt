@@ -6,6 +6,7 @@ pub mod Silent
 pub mod Members
 pub mod SortedMembers
 pub mod Lists
+pub mod Containers
 pub mod Changes
 pub mod JsonLiterals
 pub mod Objects

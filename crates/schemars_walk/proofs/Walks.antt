@@ -151,7 +151,8 @@ levels Once = 0
 levels (Levels n) = suc n
 
 -- one turn of a loop over members that go back one after another
-module _ {S : Type 0} (Q : Text → TransformStep S) (start s w : S) (all : Members) (it done more : List Entry) (k : String Global) (v : Value)
+module _ {S : Type 0} (Q : Text → TransformStep S) (start s w : S) (all : Members) (it done more : List Entry) (k : String Global)
+    (v : Value)
     (goes : (r : Answer) (u : S) (es : Members) → EachMember Q s (members_view it) r u es
     → EachMember Q start all r u (then_members (members_view done) es))
     (step : it ≡ (k, v) ∷ more) where
