@@ -8,7 +8,7 @@ use Rattle.std.proofs.lemmas.Map.Text.{is_eq-slice_cmp}
 use Rattle.std.proofs.lemmas.Bool.{and_parts}
 use Rattle.std.proofs.lemmas.List.{take_more}
 use Rattle.std.proofs.lemmas.List.Folds.{list_all-append}
-use Rattle.schemars_schema.proofs.Members.{differ}
+use Rattle.schemars_text.proofs.Members.{differ}
 use Rattle.std.proofs.lemmas.Slice.Eq.{bytes_eq-Decides}
 use Rattle.std.specs.Cmp.Lexicographic.{slice_cmp}
 use Rattle.std.specs.Ordering.{match_ordering}
@@ -17,7 +17,7 @@ use Rattle.serde_json.specs.Find.{get_member}
 use Rattle.serde_json.proofs.Views.{get_member-put, get_member-put_other}
 use Rattle.std.specs.List.{list_all}
 use Rattle.schemars_schema.specs.Json.{Text}
-use Rattle.schemars_schema.specs.OrderedText.{is_listed}
+use Rattle.schemars_text.specs.OrderedText.{is_listed}
 use Rattle.schemagen_input.specs.Forms.{are_listed, lone_in}
 use Rattle.schemagen_input.specs.declared.borrowed_value.BorrowedValue.{BorrowedValue, Array, Object, the_lemmas}
 use Rattle.schemagen_input.specs.BorrowedValue.{put_each, data_of, items_data, members_data}

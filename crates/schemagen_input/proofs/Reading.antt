@@ -17,7 +17,7 @@ use Rattle.serde_json.specs.Find.{as_str, as_array, get}
 use Rattle.schemagen_input.specs.BorrowedValue.{data_of, items_data}
 use Rattle.schemagen_input.specs.declared.borrowed_value.BorrowedValue.{BorrowedValue}
 use Rattle.schemars_schema.specs.Json.{Text}
-use Rattle.schemars_schema.proofs.Members.{flipped}
+use Rattle.schemars_text.proofs.Members.{flipped}
 use Rattle.schemagen_input.proofs.BorrowedMembers.{from_here}
 use Rattle.schemars_shapes.specs.Shape.{Entry, numbers_of}
 use Rattle.schemars_types.specs.Rows.{Row, place_of, with_entry, defined, reserved, unknown_in, holds_another}

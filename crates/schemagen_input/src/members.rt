@@ -3,7 +3,7 @@ ghost use Rattle.std.specs.Prelude.{◌≡◌, false, None, Some, IfOk, IfErr, o
 ghost use Rattle.std.specs.Prelude.{map};
 ghost use Rattle.serde_json.specs.View.{members_view};
 ghost use Rattle.schemagen_input.specs.BorrowedValue.{data_of, items_data, members_data};
-ghost use Rattle.schemars_schema.specs.OrderedText.{is_listed};
+ghost use Rattle.schemars_text.specs.OrderedText.{is_listed};
 ghost use Rattle.schemagen_input.specs.Forms.{has_only, lone_in, number_in, notes_in, kind_named};
 ghost use Rattle.schemagen_input.specs.Forms.{kind_in, parts_from, numbers_in};
 ghost use Rattle.schemagen_input.specs.Forms.{optional_member, needed_member};

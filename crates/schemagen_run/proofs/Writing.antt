@@ -8,11 +8,11 @@ use Rattle.schemars_types.specs.Rows.{Row}
 use Rattle.schemars_types.specs.Faults.{IsAccepted}
 use Rattle.schemars_documents.specs.PlainTable.{HasPlainNotes}
 use Rattle.schemars_schema.specs.Json.{Text}
-use Rattle.schemars_schema.specs.Sent.{IsSent, IsSentInPart}
-use Rattle.schemars_schema.specs.Sink.{AppendsBeginning}
-use Rattle.schemars_schema.specs.declared.error.OrderedError.{OrderedError}
-use Rattle.schemars_schema.specs.declared.error.OrderedError.TheVariants as ordered
-use Rattle.schemars_schema.proofs.Begun.{begun_longer, begun_after}
+use Rattle.schemars_text.specs.Sent.{IsSent, IsSentInPart}
+use Rattle.schemars_text.specs.Sink.{AppendsBeginning}
+use Rattle.schemars_text.specs.declared.error.OrderedError.{OrderedError}
+use Rattle.schemars_text.specs.declared.error.OrderedError.TheVariants as ordered
+use Rattle.schemars_text.proofs.Begun.{begun_longer, begun_after}
 use Rattle.schemagen_run.specs.declared.words.Asked.{Asked}
 use Rattle.schemagen_run.specs.declared.fault.Fault.{Fault}
 use Rattle.schemagen_run.specs.declared.fault.Fault.TheVariants.{Refused}

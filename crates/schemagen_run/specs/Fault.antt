@@ -1,7 +1,7 @@
 -- The faults that a run may end in, and the exit status of each.
 use Rattle.std.specs.Prelude.{◌≡◌, ◌⊎◌, ℕ}
-use Rattle.schemars_schema.specs.declared.error.OrderedError.{OrderedError}
-use Rattle.schemars_schema.specs.declared.error.OrderedError.TheVariants as ordered
+use Rattle.schemars_text.specs.declared.error.OrderedError.{OrderedError}
+use Rattle.schemars_text.specs.declared.error.OrderedError.TheVariants as ordered
 use Rattle.schemagen_run.specs.declared.fault.Fault.{Fault}
 use Rattle.schemagen_run.specs.declared.fault.Fault.TheVariants.{Usage, Refused}
 use Rattle.schemagen_run.specs.declared.fault.TheConstants.{OUT_OF_MEMORY, UNDEFINED_TYPE, REPEATED_NAME, DIRECT_CYCLE}

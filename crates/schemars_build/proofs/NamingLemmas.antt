@@ -17,7 +17,7 @@ use Rattle.std.proofs.lemmas.Map.Keys.{IsDistinct-push, IsDistinct-head, IsDisti
 use Rattle.std.proofs.lemmas.Map.Made.{length-le_from_is_member}
 use Rattle.std.proofs.lemmas.Slice.Eq.{bytes_eq-Decides}
 use Rattle.schemars_schema.specs.Json.{Text}
-use Rattle.schemars_schema.proofs.Members.{bytes_eq_comm}
+use Rattle.schemars_text.proofs.Members.{bytes_eq_comm}
 use Rattle.schemars_types.specs.declared.contract.Contract.{Contract}
 use Rattle.schemars_types.specs.declared.contract.Contract.TheVariants.{Deserialize, Serialize}
 use Rattle.schemars_build.specs.declared.names.Owner.{Owner}

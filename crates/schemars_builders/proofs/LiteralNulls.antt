@@ -8,14 +8,14 @@ use Rattle.serde_json.specs.Data.{Data, null, boolean, number, string, array, ob
 use Rattle.serde_json.specs.Data.{no_members, member}
 use Rattle.serde_json.specs.Find.{get_member, as_str}
 use Rattle.schemars_schema.specs.Json.{Text}
-use Rattle.schemars_schema.specs.OrderedText.{is_listed}
+use Rattle.schemars_text.specs.OrderedText.{is_listed}
 use Rattle.schemars_schema.specs.Verdict.{verdict}
 use Rattle.schemars_schema.specs.Acceptance.{Dialect, Patterns, accepts, context, follow, is_null, types_in, texts_in}
 use Rattle.schemars_schema.specs.Acceptance.{are_type_names, type_names, when}
 use Rattle.schemars_schema.specs.Edits.{without}
 use Rattle.schemars_schema.specs.Literal.{ArePlainMembers, IsPlainLiteral, has_literal}
 use Rattle.schemars_schema.proofs.Literals.{plain_at, plain_absent, literal_judged}
-use Rattle.schemars_schema.proofs.Members.{get_member-later}
+use Rattle.schemars_text.proofs.Members.{get_member-later}
 use Rattle.schemars_builders.specs.AllowNull.{allow_null}
 use Rattle.schemars_builders.specs.NullLaw.{text_items, HasTypeForm, HasPlainValues, IsDraft}
 use Rattle.schemars_builders.proofs.NullMembers.{drafted, each_draft}

@@ -6,7 +6,7 @@ use Rattle.serde_json.specs.Data.{Data, null, boolean, number, string, array, ob
 use Rattle.std.proofs.Math.Bool.{or_assoc, or-false, or-true}
 use Rattle.schemars_schema.specs.Verdict.{Verdict, Yes, both, verdict}
 use Rattle.schemars_schema.specs.Json.{Text, json_eq, is_among}
-use Rattle.schemars_schema.specs.OrderedText.{is_listed}
+use Rattle.schemars_text.specs.OrderedText.{is_listed}
 use Rattle.schemars_schema.specs.Acceptance.{type_says, const_says, enum_says, texts_in, type_names, are_type_names}
 use Rattle.schemars_schema.specs.Acceptance.{is_of_type, is_of_some_type, is_null}
 use Rattle.schemars_schema.specs.Edits.{holds_text, with_item}

@@ -8,45 +8,26 @@ use Rattle.serde_json.specs.Find.{as_array, as_object}
 use Rattle.serde_json.specs.View.{view, items_view}
 use Rattle.serde_json.specs.declared.value.Value.{Value}
 use Rattle.schemars_schema.specs.Json.{Text}
-use Rattle.schemars_schema.proofs.Lists.{nothing_left, from_here}
+use Rattle.schemars_schema.proofs.Containers.{array-as_array, not_array, object-as_object, not_object}
+use Rattle.schemars_text.proofs.Lists.{nothing_left, from_here}
 use Rattle.schemars_flatten.specs.Opening.{closes, closed_at, closed_in, closed_in_items, closed_in_keywords}
 
 pub closed_object : (d : Data) (ms : Members) → Some ms ≡ as_object d
     → closes d || closed_in_keywords ms ≡ (closed_in d).in_schema
 unfolding closed_in
-closed_object (object ns) ms e = let same : ms ≡ ns = cc in ap (λ x. closes (object ns) || closed_in_keywords x) same
-closed_object null ms e = cc
-closed_object (boolean b) ms e = cc
-closed_object (number n) ms e = cc
-closed_object (string s) ms e = cc
-closed_object (array ds) ms e = cc
+closed_object d ms e = rw (object-as_object d ms e) refl
 
 pub closed_other : (d : Data) → None ≡ as_object d → false ≡ (closed_in d).in_schema
 unfolding closed_in
-closed_other (object ns) e = cc
-closed_other null e = refl
-closed_other (boolean b) e = refl
-closed_other (number n) e = refl
-closed_other (string s) e = refl
-closed_other (array ds) e = refl
+closed_other d e = not_object (λ d. false ≡ (closed_in d).in_schema) refl (λ b. refl) (λ n. refl) (λ s. refl) (λ ds. refl) d e
 
 pub closed_array : (d : Data) (ds : Items) → Some ds ≡ as_array d → closed_in_items ds ≡ (closed_in d).in_list
 unfolding closed_in
-closed_array (array es) ds e = let same : ds ≡ es = cc in ap closed_in_items same
-closed_array null ds e = cc
-closed_array (boolean b) ds e = cc
-closed_array (number n) ds e = cc
-closed_array (string s) ds e = cc
-closed_array (object ms) ds e = cc
+closed_array d ds e = rw (array-as_array d ds e) refl
 
 pub closed_no_array : (d : Data) → None ≡ as_array d → false ≡ (closed_in d).in_list
 unfolding closed_in
-closed_no_array (array es) e = cc
-closed_no_array null e = refl
-closed_no_array (boolean b) e = refl
-closed_no_array (number n) e = refl
-closed_no_array (string s) e = refl
-closed_no_array (object ms) e = refl
+closed_no_array d e = not_array (λ d. false ≡ (closed_in d).in_list) refl (λ b. refl) (λ n. refl) (λ s. refl) (λ ms. refl) d e
 
 either_way : (a b : Bool) → (a ≡ true → true ≡ a || b) × (a ≡ false → b ≡ a || b)
 either_way a b = (λ is. rw is refl, λ is. rw is refl)

@@ -11,13 +11,13 @@ use Rattle.serde_json.specs.Data.{Data, null, boolean, number, string, array, ob
 use Rattle.serde_json.specs.Data.{no_members, member, put}
 use Rattle.serde_json.specs.Find.{get, get_member, as_array, as_object, as_str}
 use Rattle.schemars_schema.specs.Json.{Text}
-use Rattle.schemars_schema.specs.OrderedText.{is_listed}
+use Rattle.schemars_text.specs.OrderedText.{is_listed}
 use Rattle.schemars_schema.specs.SchemaData.{members_in, put_members}
-use Rattle.schemars_schema.specs.Edits.{removed, replaced, without, with_item, changed_at}
+use Rattle.schemars_schema.specs.Edits.{removed, replaced, without, with_item, changed_at, on_list}
 use Rattle.schemars_schema.specs.References.{NoSchemas, OneSchema, SchemaList, with_same_object, with_same_objects}
 use Rattle.schemars_schema.specs.Acceptance.{both_some}
-use Rattle.schemars_schema.proofs.MapEdits.{object-as_object}
-use Rattle.schemars_schema.proofs.Changes.{array-as_array}
+use Rattle.schemars_schema.proofs.Containers.{object-as_object}
+use Rattle.schemars_schema.proofs.Containers.{array-as_array}
 use Rattle.schemars_flatten.specs.Flatten.{stands, has_subschema, moved, moved_beside, opened_schema}
 use Rattle.schemars_flatten.specs.Flatten.{appended}
 use Rattle.schemars_flatten.specs.Flatten.{joined, merged, is_joined, is_merged, is_choice, united, with_united}
@@ -30,7 +30,7 @@ use Rattle.schemars_flatten.specs.Opening.{closes_by, opened_at, opened_here, sa
 use Rattle.schemars_flatten.specs.Opening.{opened_inside}
 use Rattle.schemars_flatten.specs.Opening.{has_type}
 use Rattle.schemars_flatten.specs.Parts.{unit_object, unit_object_first, unit_objects, units_of, with_items, with_units}
-use Rattle.schemars_flatten.specs.Parts.{first_units, behind_first, first_as_objects, items_changed, list_changed_at}
+use Rattle.schemars_flatten.specs.Parts.{first_units, behind_first, first_as_objects, list_changed_at}
 use Rattle.schemars_flatten.specs.Parts.{units_as_objects}
 use Rattle.schemars_flatten.specs.Parts.{holds_empty_object, with_empty_object, one_or_anything, choice_or_anything}
 use Rattle.schemars_flatten.specs.Parts.{optional_where, flattened_part}
@@ -384,7 +384,7 @@ module _ (S : Data → Type 0) (Q : Text → Data → Type 0) (h : IsByKeyword S
       go false o = λ units is. cc
 
   changed_kept : (k : Text) (change : Items → Items) (d : Data) → is_listed k with_same_objects ≡ true
-      → ((ds : Items) → Each ds → Each (change ds)) → Q k d → Q k (items_changed change d)
+      → ((ds : Items) → Each ds → Each (change ds)) → Q k d → Q k (on_list change d)
   changed_kept k change null is keeps all = all
   changed_kept k change (boolean b) is keeps all = all
   changed_kept k change (number n) is keeps all = all
@@ -416,11 +416,11 @@ module _ (S : Data → Type 0) (Q : Text → Data → Type 0) (h : IsByKeyword S
   list_changed_kept k change s is keeps all = go (get k s) refl
     where
       go : (o : Option Data) → get k s ≡ o
-          → S (elim o [ None ↦ s | Some d ↦ object (replaced k (items_changed change d) (members_in s)) ])
+          → S (elim o [ None ↦ s | Some d ↦ object (replaced k (on_list change d) (members_in s)) ])
       go None there = all
       go (Some d) there =
-          h.whole (replaced k (items_changed change d) (members_in s))
-          (all_replaced Q k (items_changed change d) (members_in s)
+          h.whole (replaced k (on_list change d) (members_in s))
+          (all_replaced Q k (on_list change d) (members_in s)
           (changed_kept k change d is keeps (found k s d all there)) (in_schema s all))
 
   each_first : (ds : Items) → Each ds → Each (first_as_objects ds)

@@ -5,27 +5,27 @@ use Rattle.serde_json.specs.Data.{Data, object, Items}
 use Rattle.serde_json.specs.Find.{get}
 use Rattle.schemars_schema.specs.Json.{Text}
 use Rattle.schemars_schema.specs.SchemaData.{members_in}
-use Rattle.schemars_schema.specs.Edits.{replaced}
-use Rattle.schemars_flatten.specs.Parts.{items_changed, list_changed_at}
+use Rattle.schemars_schema.specs.Edits.{replaced, on_list}
+use Rattle.schemars_flatten.specs.Parts.{list_changed_at}
 
 pub list_changed : (k : Text) (change : Items → Items) (s d e new : Data) → Some d ≡ get k s
-    → e ≡ items_changed change d
+    → e ≡ on_list change d
     → new ≡ object (replaced k e (members_in s)) → new ≡ list_changed_at k change s
 list_changed k change s d e new found changed made =
     made ∙ (ap (λ x. object (replaced k x (members_in s))) changed ∙ go (get k s) found)
   where
-    go : (o : Option Data) → Some d ≡ o → object (replaced k (items_changed change d) (members_in s))
-        ≡ elim o [ None ↦ s | Some f ↦ object (replaced k (items_changed change f) (members_in s)) ]
+    go : (o : Option Data) → Some d ≡ o → object (replaced k (on_list change d) (members_in s))
+        ≡ elim o [ None ↦ s | Some f ↦ object (replaced k (on_list change f) (members_in s)) ]
     go None h = cc
     go (Some f) h =
-        let same : d ≡ f = cc in ap (λ x. object (replaced k (items_changed change x) (members_in s))) same
+        let same : d ≡ f = cc in ap (λ x. object (replaced k (on_list change x) (members_in s))) same
 
 pub no_list : (k : Text) (change : Items → Items) (s new : Data) → None ≡ get k s → new ≡ s
     → new ≡ list_changed_at k change s
 no_list k change s new missing kept = kept ∙ go (get k s) missing
   where
     go : (o : Option Data) → None ≡ o
-        → s ≡ elim o [ None ↦ s | Some f ↦ object (replaced k (items_changed change f) (members_in s)) ]
+        → s ≡ elim o [ None ↦ s | Some f ↦ object (replaced k (on_list change f) (members_in s)) ]
     go None h = refl
     go (Some f) h = cc
 

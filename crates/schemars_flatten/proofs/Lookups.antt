@@ -11,7 +11,8 @@ use Rattle.serde_json.proofs.Views.{get_member-put, get_member-put_other}
 use Rattle.schemars_schema.specs.Json.{Text}
 use Rattle.schemars_schema.specs.SchemaData.{put_members}
 use Rattle.schemars_schema.specs.Edits.{replaced}
-use Rattle.schemars_schema.proofs.Members.{differ, get_member-later, get_member-member, get_member-replaced}
+use Rattle.schemars_text.proofs.Members.{differ, get_member-later, get_member-member}
+use Rattle.schemars_schema.proofs.Members.{get_member-replaced}
 use Rattle.schemars_schema.proofs.Members.{get_member-replaced_other}
 use Rattle.schemars_flatten.specs.Flatten.{stands, is_choice, united, with_united, with_keyword, with_keywords}
 use Rattle.schemars_flatten.specs.Flatten.{moved_beside, united_all}

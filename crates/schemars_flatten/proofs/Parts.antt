@@ -121,27 +121,22 @@ pub lists_joined : (first second new : Data) (ds es : Items) → first ≡ array
     → new ≡ array (appended ds es) → new ≡ joined first second
 lists_joined first second new ds es is_first is_second made = rw (is_first, is_second) made
 
+-- where the first is missing, nothing is put together
+none_to_join : {A : Type 0} (f : A → A → A) (made : A → Data) (first : Data) (o p : Option A) → None ≡ p
+    → first ≡ elim (both_some f o p) [ None ↦ first | Some x ↦ made x ]
+none_to_join f made first None p h = refl
+none_to_join f made first (Some x) None h = refl
+none_to_join f made first (Some x) (Some y) h = cc
+
 pub no_list_joined : (first second : Data) → None ≡ as_array first → first ≡ joined first second
-no_list_joined first second h = go (as_array second) (as_array first) h
-  where
-    go : (o p : Option Items) → None ≡ p
-        → first ≡ elim (both_some (λ es ds. appended ds es) o p) [ None ↦ first | Some ds ↦ array ds ]
-    go None p h = refl
-    go (Some es) None h = refl
-    go (Some es) (Some ds) h = cc
+no_list_joined first second h = none_to_join (λ es ds. appended ds es) array first (as_array second) (as_array first) h
 
 pub objects_merged : (first second new : Data) (ms ns : Members) → first ≡ object ms → second ≡ object ns
     → new ≡ object (put_members ns ms) → new ≡ merged first second
 objects_merged first second new ms ns is_first is_second made = rw (is_first, is_second) made
 
 pub no_object_merged : (first second : Data) → None ≡ as_object first → first ≡ merged first second
-no_object_merged first second h = go (as_object second) (as_object first) h
-  where
-    go : (o p : Option Members) → None ≡ p
-        → first ≡ elim (both_some put_members o p) [ None ↦ first | Some ms ↦ object ms ]
-    go None p h = refl
-    go (Some es) None h = refl
-    go (Some es) (Some ds) h = cc
+no_object_merged first second h = none_to_join put_members object first (as_object second) (as_object first) h
 
 pub appended_none : (ds : Items) → appended ds no_items ≡ ds
 appended_none no_items = refl

@@ -5,11 +5,11 @@ use Rattle.serde_json.specs.Data.{Data, null, boolean, number, string, array, ob
 use Rattle.serde_json.specs.Find.{get}
 use Rattle.schemars_schema.specs.Json.{Text}
 use Rattle.schemars_schema.specs.SchemaData.{IsSchema, members_in}
-use Rattle.schemars_schema.specs.Edits.{removed, replaced}
+use Rattle.schemars_schema.specs.Edits.{removed, replaced, on_list}
 use Rattle.schemars_flatten.specs.Flatten.{opened_schema, flattened}
 use Rattle.schemars_walk.specs.Rewritten.{forms, in_keywords}
 use Rattle.schemars_flatten.specs.Opening.{closes_by, opened_at, opened_here, opening, opened, opened_inside}
-use Rattle.schemars_flatten.specs.Parts.{units_of, with_units, first_as_objects, items_changed, list_changed_at}
+use Rattle.schemars_flatten.specs.Parts.{units_of, with_units, first_as_objects, list_changed_at}
 use Rattle.schemars_flatten.specs.Parts.{units_as_objects, with_empty_object, one_or_anything, choice_or_anything}
 use Rattle.schemars_flatten.specs.Parts.{optional_where, flattened_part}
 
@@ -72,7 +72,7 @@ list_changed-schema : (k : Text) (change : Items → Items) (s : Data) → IsSch
 list_changed-schema k change s h = go (get k s)
   where
     go : (o : Option Data)
-        → IsSchema (elim o [ None ↦ s | Some d ↦ object (replaced k (items_changed change d) (members_in s)) ])
+        → IsSchema (elim o [ None ↦ s | Some d ↦ object (replaced k (on_list change d) (members_in s)) ])
     go None = h
     go (Some d) = tt
 

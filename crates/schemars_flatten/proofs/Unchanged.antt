@@ -5,7 +5,7 @@ use Rattle.std.specs.Prelude.{◌||◌, codes, if◌then◌else◌}
 use Rattle.serde_json.specs.Data.{Data, null, boolean, number, string, array, object, Items, no_items, item, Members}
 use Rattle.serde_json.specs.Data.{no_members, member}
 use Rattle.schemars_schema.specs.Json.{Text}
-use Rattle.schemars_schema.specs.OrderedText.{is_listed}
+use Rattle.schemars_text.specs.OrderedText.{is_listed}
 use Rattle.schemars_schema.specs.References.{NoSchemas, OneSchema, SchemaList, with_same_object, with_same_objects}
 use Rattle.schemars_walk.specs.Rewritten.{form_at, forms, in_items, in_keywords}
 use Rattle.schemars_flatten.specs.Opening.{closes_by, closes, opened_at, opened_here, same_object_place, opening}

@@ -9,7 +9,7 @@ use Rattle.serde_json.specs.View.{view, items_view}
 use Rattle.serde_json.specs.declared.value.Value.{Value}
 use Rattle.schemars_schema.specs.Json.{Text}
 use Rattle.schemars_schema.specs.Edits.{removed}
-use Rattle.schemars_schema.proofs.Lists.{nothing_left, from_here}
+use Rattle.schemars_text.proofs.Lists.{nothing_left, from_here}
 use Rattle.schemars_flatten.specs.Flatten.{appended}
 use Rattle.schemars_flatten.proofs.Parts.{appended_none, appended_more}
 use Rattle.schemars_flatten.specs.Opening.{has_type}

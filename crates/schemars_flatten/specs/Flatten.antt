@@ -4,9 +4,9 @@ use Rattle.serde_json.specs.Data.{Data, null, boolean, number, string, array, ob
 use Rattle.serde_json.specs.Data.{no_members, member, put}
 use Rattle.serde_json.specs.Find.{get_member, as_array, as_object}
 use Rattle.schemars_schema.specs.Json.{Text}
-use Rattle.schemars_schema.specs.OrderedText.{is_listed}
+use Rattle.schemars_text.specs.OrderedText.{is_listed}
 use Rattle.schemars_schema.specs.SchemaData.{members_in, put_members}
-use Rattle.schemars_schema.specs.Edits.{replaced, without}
+use Rattle.schemars_schema.specs.Edits.{replaced, without, on_object}
 use Rattle.schemars_schema.specs.Acceptance.{both_some}
 
 -- ---- keywords that judge what is left of an object
@@ -107,12 +107,7 @@ abbrev pub united_all : Members → Members → Members
 united_all ms others = with_keywords (moved_beside (moved_beside others ms) others) (moved_beside others ms)
 
 abbrev pub opened_schema : Data → Data
-opened_schema null = null
-opened_schema (boolean b) = boolean b
-opened_schema (number n) = number n
-opened_schema (string s) = string s
-opened_schema (array ds) = array ds
-opened_schema (object ms) = object (opened_keywords ms)
+opened_schema s = on_object opened_keywords s
 
 -- the first schema with the second put in
 abbrev pub flattened : Data → Data → Data

@@ -6,7 +6,7 @@ use Rattle.serde_json.specs.Data.{no_members, member}
 use Rattle.serde_json.specs.Find.{get, as_str, as_array}
 use Rattle.schemars_schema.specs.Json.{Text}
 use Rattle.schemars_schema.specs.SchemaData.{members_in, object_of}
-use Rattle.schemars_schema.specs.Edits.{removed, replaced, with_item, changed_at}
+use Rattle.schemars_schema.specs.Edits.{removed, replaced, with_item, changed_at, on_list}
 use Rattle.schemars_builders.specs.AllowNull.{null_schema}
 use Rattle.schemars_flatten.specs.Flatten.{appended, alone, flattened}
 use Rattle.schemars_flatten.specs.Opening.{has_type, opened}
@@ -35,18 +35,9 @@ units_of s =
     if has_type (codes "string") s then option_map unit_objects (option_and_then as_array (get (codes "enum") s))
     else None
 
--- a change of a list's items; what is no list stays as it is
-abbrev pub items_changed : (Items → Items) → Data → Data
-items_changed change null = null
-items_changed change (boolean b) = boolean b
-items_changed change (number n) = number n
-items_changed change (string s) = string s
-items_changed change (array ds) = array (change ds)
-items_changed change (object ms) = object ms
-
 -- a list with these at its end
 abbrev pub with_items : Items → Data → Data
-with_items es d = items_changed (λ ds. appended ds es) d
+with_items es d = on_list (λ ds. appended ds es) d
 
 abbrev pub with_units : Items → Data → Data
 with_units units s = object (changed_at (codes "oneOf") (with_items units) (array no_items) (members_in s))
@@ -67,7 +58,7 @@ first_as_objects ds = elim (first_units ds) [ None ↦ ds | Some units ↦ appen
 abbrev pub list_changed_at : Text → (Items → Items) → Data → Data
 list_changed_at k change s = elim (get k s) [
   | None ↦ s
-  | Some d ↦ object (replaced k (items_changed change d) (members_in s))
+  | Some d ↦ object (replaced k (on_list change d) (members_in s))
 ]
 
 -- texts that a schema lists, or the first schema of its `oneOf`, become objects under `oneOf`

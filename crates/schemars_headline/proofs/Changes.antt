@@ -7,14 +7,14 @@ use Rattle.serde_json.specs.Data.{put}
 use Rattle.serde_json.specs.Find.{get_member}
 use Rattle.serde_json.proofs.Views.{get_member-put, get_member-put_other}
 use Rattle.schemars_schema.specs.Json.{Text}
-use Rattle.schemars_schema.specs.OrderedText.{is_listed}
+use Rattle.schemars_text.specs.OrderedText.{is_listed}
 use Rattle.schemars_schema.specs.SchemaData.{IsSchema, members_in, put_members}
 use Rattle.schemars_schema.specs.Annotations.{is_annotation, AreNotes}
 use Rattle.schemars_schema.specs.Edits.{without, replaced, holds_text, with_item}
 use Rattle.schemars_schema.specs.References.{NoSchemas, place_under, with_schema, with_list, keywords_with_names}
 use Rattle.schemars_schema.specs.Acceptance.{draft2020_12, is_null}
 use Rattle.schemars_schema.proofs.Objects.{annotation-not_listed}
-use Rattle.schemars_schema.proofs.Members.{differ, unequal}
+use Rattle.schemars_text.proofs.Members.{differ, unequal}
 use Rattle.schemars_builders.specs.AllowNull.{is_null_choice, is_combined, or_null, allow_null, type_with_null, null_in_type}
 use Rattle.schemars_builders.specs.AllowNull.{enum_with_null, null_in_enum, const_or_null, null_in_const, null_in_values}
 use Rattle.schemars_documents.specs.Documents.{annotated}

@@ -11,7 +11,7 @@ use Rattle.schemars_schema.specs.Edits.{without}
 use Rattle.schemars_schema.specs.References.{Place, NoSchemas, OneSchema, SchemaList, SchemaOrList, SchemasByName, place_under}
 use Rattle.schemars_schema.specs.References.{at_place, found_in, found_in_items, found_in_members, found_in_keywords, references}
 use Rattle.schemars_schema.specs.References.{resolves, all_resolve}
-use Rattle.schemars_schema.proofs.Members.{get_member-member as get_member-first}
+use Rattle.schemars_text.proofs.Members.{get_member-member as get_member-first}
 use Rattle.schemars_laws.specs.Everywhere.{Everywhere, asked, demanded, asked_of_items, asked_of_members, asked_of_keywords}
 use Rattle.schemars_laws.specs.Stages.{IsTextWith}
 use Rattle.schemars_headline.proofs.Resolving.{all_pass, all_pass-resolve}

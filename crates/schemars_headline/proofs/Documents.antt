@@ -10,13 +10,13 @@ use Rattle.serde_json.specs.Data.{Data, null, boolean, number, string, array, ob
 use Rattle.serde_json.specs.Find.{get_member}
 use Rattle.serde_json.specs.View.{items_of}
 use Rattle.schemars_schema.specs.Json.{Text}
-use Rattle.schemars_schema.specs.OrderedText.{is_listed}
+use Rattle.schemars_text.specs.OrderedText.{is_listed}
 use Rattle.schemars_schema.specs.SchemaData.{IsSchema, members_in, object_of, put_all}
 use Rattle.schemars_schema.specs.Edits.{without, replaced, holds_text, with_member, with_first}
 use Rattle.schemars_schema.specs.Literal.{is_plain_member, ArePlainMembers, IsPlainLiteral, IsPlainObject, names_types, is_null_type}
 use Rattle.schemars_schema.specs.References.{NoSchemas, place_under, with_schema, with_list, keywords_with_names}
 use Rattle.schemars_schema.proofs.Literals.{plain_at}
-use Rattle.schemars_schema.proofs.Members.{get_member-member as get_member-first}
+use Rattle.schemars_text.proofs.Members.{get_member-member as get_member-first}
 use Rattle.schemars_builders.specs.NullLaw.{zero_schema}
 use Rattle.schemars_builders.specs.Properties.{with_property, required_first, closed_where, has_null_type, tagged}
 use Rattle.schemars_builders.specs.Properties.{internally_tagged_variant}

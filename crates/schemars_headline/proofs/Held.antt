@@ -6,7 +6,7 @@ use Rattle.std.specs.Prelude.{◌||◌, bytes_eq, codes, if◌then◌else◌}
 use Rattle.serde_json.specs.Data.{Data, null, array, object, Items, no_items, item, Members, no_members}
 use Rattle.serde_json.specs.Data.{member, put}
 use Rattle.schemars_schema.specs.Json.{Text}
-use Rattle.schemars_schema.specs.OrderedText.{is_listed}
+use Rattle.schemars_text.specs.OrderedText.{is_listed}
 use Rattle.schemars_schema.specs.SchemaData.{put_members}
 use Rattle.schemars_schema.specs.References.{Place, NoSchemas, OneSchema, SchemaList, SchemaOrList, SchemasByName, place_under}
 use Rattle.schemars_builders.specs.AllowNull.{null_schema}

@@ -11,7 +11,7 @@ use Rattle.serde_json.specs.Data.{member, put}
 use Rattle.serde_json.specs.Find.{get, get_member}
 use Rattle.serde_json.proofs.Views.{get_member-put_other}
 use Rattle.schemars_schema.specs.Json.{Text}
-use Rattle.schemars_schema.specs.Edits.{without, replaced, removed, with_member, with_first, changed_at}
+use Rattle.schemars_schema.specs.Edits.{without, replaced, removed, with_member, with_first, changed_at, on_list}
 use Rattle.schemars_schema.specs.SchemaData.{members_in}
 use Rattle.schemars_builders.specs.Variants.{unit_variant}
 use Rattle.schemars_builders.specs.Properties.{tagged, closed_where, has_null_type}
@@ -21,7 +21,7 @@ use Rattle.schemars_flatten.specs.Flatten.{stands, has_subschema, moved, moved_b
 use Rattle.schemars_flatten.specs.Flatten.{both_choices, with_choice, is_choice, with_keyword, with_keywords, flattened}
 use Rattle.schemars_walk.specs.Rewritten.{form_at, forms, in_keywords}
 use Rattle.schemars_flatten.specs.Opening.{closes_by, opened_at, opened_here, same_object_place, opening, opened, opened_inside}
-use Rattle.schemars_flatten.specs.Parts.{units_of, with_items, with_units, first_as_objects, items_changed, list_changed_at}
+use Rattle.schemars_flatten.specs.Parts.{units_of, with_items, with_units, first_as_objects, list_changed_at}
 use Rattle.schemars_flatten.specs.Parts.{units_as_objects, with_empty_object, one_or_anything, choice_or_anything, optional_where}
 use Rattle.schemars_flatten.specs.Parts.{flattened_part}
 use Rattle.schemars_headline.proofs.Keys.{IsDefinitionsKey, IsOther, other_apart}
@@ -221,9 +221,9 @@ module _ (key : Text) (is_key : IsDefinitionsKey key) where
   lacks_list_changed : (k : Text) (change : Items → Items) (s : Data) → LacksIn s → LacksIn (list_changed_at k change s)
   lacks_list_changed k change s h = go (get k s)
     where
-      go : (o : Option Data) → LacksIn (elim o [ None ↦ s | Some d ↦ object (replaced k (items_changed change d) (members_in s)) ])
+      go : (o : Option Data) → LacksIn (elim o [ None ↦ s | Some d ↦ object (replaced k (on_list change d) (members_in s)) ])
       go None = h
-      go (Some d) = lacks_replaced k (items_changed change d) (members_in s) h
+      go (Some d) = lacks_replaced k (on_list change d) (members_in s) h
 
   lacks_units : (s : Data) → LacksIn s → LacksIn (units_as_objects s)
   lacks_units s h = go (units_of s)

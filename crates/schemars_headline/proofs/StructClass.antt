@@ -8,11 +8,11 @@ use Rattle.serde_json.specs.Data.{Data, null, array, object, Members, no_members
 use Rattle.serde_json.specs.Find.{get_member}
 use Rattle.serde_json.specs.View.{items_of}
 use Rattle.schemars_schema.specs.Json.{Text}
-use Rattle.schemars_schema.specs.OrderedText.{is_listed}
+use Rattle.schemars_text.specs.OrderedText.{is_listed}
 use Rattle.schemars_schema.specs.References.{NoSchemas, OneSchema, SchemaList, place_under}
 use Rattle.schemars_schema.specs.Acceptance.{Context, Judge, draft2020_12, follow}
 use Rattle.schemars_builders.specs.NullLaw.{context2020_12}
-use Rattle.schemars_schema.proofs.Members.{get_member-here, get_member-later}
+use Rattle.schemars_text.proofs.Members.{get_member-here, get_member-later}
 use Rattle.schemars_flatten.specs.Flatten.{flattened}
 use Rattle.schemars_flatten.proofs.Kept as kept
 use Rattle.schemars_schema.specs.References.{with_same_object, with_same_objects}

@@ -5,7 +5,7 @@ use Rattle.serde_json.specs.Data.{Data, object, Members}
 use Rattle.serde_json.specs.Find.{get_member}
 use Rattle.serde_json.specs.Events.{members_len}
 use Rattle.schemars_schema.specs.Edits.{without}
-use Rattle.schemars_schema.proofs.Members.{differ}
+use Rattle.schemars_text.proofs.Members.{differ}
 use Rattle.schemars_transform.specs.Built.{reference_moved, without_siblings, remove_ref_siblings}
 use Rattle.schemars_laws.specs.Everywhere.{asked, asked_of_keywords}
 use Rattle.schemars_laws.specs.Classes.{IsOnce, IsReferenceAlone}

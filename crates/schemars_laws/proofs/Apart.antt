@@ -5,7 +5,7 @@ use Rattle.std.specs.Prelude.{◌++◌, if◌then◌else◌, ◌||◌, ◌&&◌,
 use Rattle.serde_json.specs.Data.{Data, object, Members}
 use Rattle.serde_json.specs.Find.{get_member}
 use Rattle.schemars_schema.specs.Json.{Text}
-use Rattle.schemars_schema.specs.OrderedText.{is_listed}
+use Rattle.schemars_text.specs.OrderedText.{is_listed}
 use Rattle.schemars_schema.specs.Verdict.{Verdict, Yes, No, Open, both, all_of}
 use Rattle.schemars_schema.specs.Acceptance.{Dialect, Context, Raw, Readings, keywords, all_keywords, items_say}
 use Rattle.schemars_schema.specs.Acceptance.{reference_says, type_says, const_says, enum_says}

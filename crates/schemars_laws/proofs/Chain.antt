@@ -7,7 +7,7 @@ use Rattle.schemars_schema.specs.Json.{Text}
 use Rattle.schemars_schema.specs.SchemaData.{IsSchema}
 use Rattle.schemars_schema.specs.Acceptance.{Dialect, Patterns, draft2020_12, openapi3, accepts}
 use Rattle.schemars_schema.proofs.Placings.{plain-components, pointer-components}
-use Rattle.schemars_schema.proofs.Members.{differ}
+use Rattle.schemars_text.proofs.Members.{differ}
 use Rattle.schemars_walk.specs.Rewritten.{Rules, forms, in_names, in_keywords, rewritten}
 use Rattle.schemars_transform.specs.Built.{bool_rules, without_siblings, with_single_example, const_as_enum, prefix_as_items}
 use Rattle.schemars_transform.specs.declared.built_in.bool_schemas.ReplaceBoolSchemas.{ReplaceBoolSchemas}
@@ -275,7 +275,8 @@ module _ (N : Text → Type 0) (are : (t : Text) → N t → IsDefinitionAt comp
           ∙ (step (change_rules nullable_change) tt unevaluated_gone nullable_read IsForOpenApi AfterNullable third
           (e2 es) a2 patterns n s2 v p2
           ∙ (step bool_rules skip unevaluated_gone unevaluated_gone IsForOpenApi IsForOpenApi second (e1 es) a1 patterns n s1 v p1
-          ∙ step (change_rules unevaluated_as_additional) tt draft2020_12 unevaluated_gone IsForOpenApi IsForOpenApi first es all patterns n part v is)))))
+          ∙ step (change_rules unevaluated_as_additional) tt draft2020_12 unevaluated_gone IsForOpenApi IsForOpenApi first
+          es all patterns n part v is)))))
 
   schema-after : {R : Type 0} (ρ : Rules R) (r : R) → ((r : R) (s : Data) → IsSchema s → IsSchema (ρ.finish r s)) → (d : Data)
       → IsSchema d → IsSchema (rewritten ρ r d)

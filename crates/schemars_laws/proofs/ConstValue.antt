@@ -10,7 +10,7 @@ use Rattle.schemars_schema.specs.SchemaData.{IsSchema}
 use Rattle.schemars_schema.specs.Edits.{without}
 use Rattle.schemars_schema.specs.Verdict.{Verdict}
 use Rattle.schemars_schema.specs.Acceptance.{Dialect, Context, judge, keywords, truth_value, read_data, read_members, reading_at}
-use Rattle.schemars_schema.proofs.Members.{differ}
+use Rattle.schemars_text.proofs.Members.{differ}
 use Rattle.schemars_transform.specs.Built.{const_as_enum, value_as_enum}
 use Rattle.schemars_laws.specs.Classes.{IsOnce, IsConstAlone, without_const, with_const}
 use Rattle.schemars_laws.proofs.Looked.{without-other, walked, raw-walked, once-walked, Change}

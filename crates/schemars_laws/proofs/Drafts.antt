@@ -8,7 +8,7 @@ use Rattle.schemars_schema.specs.Json.{Text}
 use Rattle.schemars_schema.specs.Edits.{without}
 use Rattle.schemars_schema.specs.References.{NoSchemas, OneSchema, SchemaList, SchemasByName, place_under}
 use Rattle.schemars_schema.specs.Acceptance.{Dialect, Patterns, accepts, draft2020_12, draft2019_09, draft07}
-use Rattle.schemars_schema.proofs.Members.{differ}
+use Rattle.schemars_text.proofs.Members.{differ}
 use Rattle.schemars_transform.specs.Built.{reference_moved, without_siblings, remove_ref_siblings, replace_prefix_items}
 use Rattle.schemars_transform.specs.Unevaluated.{unevaluated_as_additional, closed_by, replace_unevaluated_properties}
 use Rattle.schemars_laws.specs.Everywhere.{Everywhere, asked, asked_of_keywords}

@@ -11,7 +11,8 @@ use Rattle.serde_json.specs.Find.{get_member}
 use Rattle.serde_json.proofs.Views.{get_member-put_other}
 use Rattle.schemars_schema.specs.Json.{Text}
 use Rattle.schemars_schema.specs.Edits.{without, replaced, with_item, with_last}
-use Rattle.schemars_schema.proofs.Members.{differ, get_member-member, unequal, without-put as put_without}
+use Rattle.schemars_text.proofs.Members.{differ, get_member-member, unequal}
+use Rattle.schemars_schema.proofs.Members.{without-put as put_without}
 use Rattle.schemars_transform.specs.Built.{referring}
 use Rattle.schemars_laws.specs.Everywhere.{asked, asked_of_items, asked_of_keywords}
 use Rattle.schemars_laws.specs.Classes.{IsOnce, is_null_alone, IsConstAlone}

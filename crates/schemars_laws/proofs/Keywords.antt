@@ -3,7 +3,7 @@ use Rattle.std.proofs.Common.{◌≡◌, List, [], ◌∷◌, Option, None, Bool
 use Rattle.std.specs.Prelude.{◌++◌, if◌then◌else◌}
 use Rattle.serde_json.specs.Data.{Data}
 use Rattle.schemars_schema.specs.Json.{Text}
-use Rattle.schemars_schema.specs.OrderedText.{is_listed}
+use Rattle.schemars_text.specs.OrderedText.{is_listed}
 use Rattle.schemars_schema.specs.Verdict.{Verdict, all_of, any_of, one_of}
 use Rattle.schemars_schema.specs.Acceptance.{Context, Raw, Readings, all_keywords, items_say, judged_beside, is_covered}
 use Rattle.schemars_schema.specs.Acceptance.{reference_says, type_says, const_says, enum_says, minimum_says, maximum_says}

@@ -4,7 +4,7 @@ use Rattle.serde_json.specs.Data.{object, Members}
 use Rattle.schemars_schema.specs.Json.{Text}
 use Rattle.schemars_schema.specs.References.{Place, NoSchemas, OneSchema, SchemaList, SchemaOrList, SchemasByName, place_under}
 use Rattle.schemars_schema.specs.Acceptance.{Dialect}
-use Rattle.schemars_schema.proofs.Members.{differ}
+use Rattle.schemars_text.proofs.Members.{differ}
 use Rattle.schemars_walk.specs.Rewritten.{Rules, in_keywords, forms, rewritten}
 use Rattle.schemars_transform.specs.Built.{replace_bool_schemas, remove_ref_siblings, set_single_example, replace_const_value, replace_prefix_items}
 use Rattle.schemars_transform.specs.Built.{bool_rules, without_siblings, with_single_example, const_as_enum, prefix_as_items}

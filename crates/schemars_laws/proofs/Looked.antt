@@ -7,7 +7,8 @@ use Rattle.schemars_schema.specs.SchemaData.{IsSchema}
 use Rattle.schemars_schema.specs.Edits.{without}
 use Rattle.schemars_schema.specs.References.{NoSchemas, SchemaList, SchemaOrList, SchemasByName, place_under}
 use Rattle.schemars_schema.specs.Acceptance.{Dialect, Context, judge, keywords, truth_value, read_members, reading_at}
-use Rattle.schemars_schema.proofs.Members.{unequal, get_member-without}
+use Rattle.schemars_text.proofs.Members.{unequal}
+use Rattle.schemars_schema.proofs.Members.{get_member-without}
 use Rattle.schemars_walk.specs.Rewritten.{Rules, everywhere, rewritten, forms, in_keywords, read_at}
 use Rattle.schemars_walk.proofs.KeywordLaws.{keywords_get}
 use Rattle.schemars_laws.specs.Names.{IsMap}

@@ -5,12 +5,13 @@ use Rattle.serde_json.specs.Data.{Data, null, boolean, number, string, array, ob
 use Rattle.serde_json.specs.Find.{get_member}
 use Rattle.serde_json.proofs.Views.{get_member-put, get_member-put_other}
 use Rattle.schemars_schema.specs.Json.{Text}
-use Rattle.schemars_schema.specs.OrderedText.{is_listed}
+use Rattle.schemars_text.specs.OrderedText.{is_listed}
 use Rattle.schemars_schema.specs.SchemaData.{IsSchema}
 use Rattle.schemars_schema.specs.Edits.{without, replaced, holds_text}
 use Rattle.schemars_schema.specs.Verdict.{Verdict, Yes, No, Open, both, verdict}
 use Rattle.schemars_schema.specs.Acceptance.{Dialect, Context, judge, keywords, truth_value, read_data, read_members, reading_at, is_null, type_says, type_fits, types_in, is_of_some_type, where_some, items_say, enum_says}
-use Rattle.schemars_schema.proofs.Members.{differ, get_member-replaced}
+use Rattle.schemars_text.proofs.Members.{differ}
+use Rattle.schemars_schema.proofs.Members.{get_member-replaced}
 use Rattle.schemars_builders.proofs.NullKeywords.{null-json_eq}
 use Rattle.schemars_transform.specs.Nullable.{all_null, nulls_in, type_without_null, null_taken_out, nullable_by, with_nullable}
 use Rattle.schemars_laws.specs.Classes.{IsTypes, is_null_alone, HasPlainType, plain_nullable, with_nullable_read, without_nullable_read}

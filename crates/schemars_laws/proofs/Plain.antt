@@ -9,7 +9,7 @@ use Rattle.schemars_schema.specs.SchemaData.{IsSchema}
 use Rattle.schemars_schema.specs.Edits.{without}
 use Rattle.schemars_schema.specs.References.{NoSchemas, place_under}
 use Rattle.schemars_schema.specs.Acceptance.{Dialect}
-use Rattle.schemars_schema.proofs.Members.{differ, get_member-member, unequal}
+use Rattle.schemars_text.proofs.Members.{differ, get_member-member, unequal}
 use Rattle.schemars_walk.specs.Rewritten.{Rules, in_keywords}
 use Rattle.schemars_laws.specs.Names.{IsNamedBy, HasNameOf, IsNoObject, HasPlainUnevaluated}
 use Rattle.schemars_laws.specs.Classes.{IsText, IsSchemaList, IsNoList, HasPlainItems, HasPlainReference, HasNoUnevaluated}

@@ -15,7 +15,7 @@ use Rattle.schemars_transform.specs.Built.{prefix_as_items, prefix_moved, old_it
 use Rattle.schemars_laws.specs.Classes.{IsOnce, AreSchemas, IsSchemaList, IsNoList, HasPlainItems, by_items, by_prefix_items}
 use Rattle.schemars_schema.proofs.Verdicts.{both-yes}
 use Rattle.schemars_schema.proofs.Silent.{silent}
-use Rattle.schemars_schema.proofs.Members.{differ}
+use Rattle.schemars_text.proofs.Members.{differ}
 use Rattle.schemars_laws.proofs.Looked.{without-other, walked, none-walked, once-walked, list-walked, no_list-walked, Change}
 use Rattle.schemars_laws.proofs.Apart.{four_of, four_by, look_up, says-moved, outside}
 

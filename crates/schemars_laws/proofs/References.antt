@@ -17,6 +17,13 @@ text-nowhere p bs none = go _
     go true = none
     go false = refl
 
+nowhere : (path rest : Text) (ms : Members) → percent_decoded_bytes (path ++ rest) ≡ path ++ percent_decoded_bytes rest
+    → pointer (path ++ percent_decoded_bytes rest) (object ms) ≡ None → lookup (codes "#" ++ (path ++ rest)) (object ms) ≡ None
+unfolding percent_decoded
+nowhere path rest ms decoded missing =
+    ap (λ bs. option_and_then (λ p. pointer p (object ms)) (text_of_bytes bs)) decoded
+    ∙ text-nowhere (λ p. pointer p (object ms)) (path ++ percent_decoded_bytes rest) missing
+
 missing-defs : (bs : Text) (ms : Members) → get_member (codes "$defs") ms ≡ None → pointer (codes "/$defs/" ++ bs) (object ms) ≡ None
 unfolding serde_json_on_literals
 missing-defs bs ms none = rw none refl
@@ -28,11 +35,7 @@ decoded-defs (x ∷ []) = refl
 decoded-defs (x ∷ y ∷ rest) = refl
 
 nowhere-defs : (rest : Text) (ms : Members) → get_member (codes "$defs") ms ≡ None → lookup (codes "#/$defs/" ++ rest) (object ms) ≡ None
-unfolding percent_decoded
-nowhere-defs rest ms none =
-    ap (λ bs. option_and_then (λ p. pointer p (object ms)) (text_of_bytes bs)) (decoded-defs rest)
-    ∙ text-nowhere (λ p. pointer p (object ms)) (codes "/$defs/" ++ percent_decoded_bytes rest)
-    (missing-defs (percent_decoded_bytes rest) ms none)
+nowhere-defs rest ms none = nowhere (codes "/$defs/") rest ms (decoded-defs rest) (missing-defs (percent_decoded_bytes rest) ms none)
 
 pub defs-name : (k : Text) → IsUtf8 k → IsName (codes "$defs") (codes "#/$defs/" ++ encoded k)
 defs-name k text = inr (
@@ -57,11 +60,8 @@ decoded-definitions (x ∷ y ∷ rest) = refl
 
 nowhere-definitions : (rest : Text) (ms : Members) → get_member (codes "definitions") ms ≡ None
     → lookup (codes "#/definitions/" ++ rest) (object ms) ≡ None
-unfolding percent_decoded
 nowhere-definitions rest ms none =
-    ap (λ bs. option_and_then (λ p. pointer p (object ms)) (text_of_bytes bs)) (decoded-definitions rest)
-    ∙ text-nowhere (λ p. pointer p (object ms)) (codes "/definitions/" ++ percent_decoded_bytes rest)
-    (missing-definitions (percent_decoded_bytes rest) ms none)
+    nowhere (codes "/definitions/") rest ms (decoded-definitions rest) (missing-definitions (percent_decoded_bytes rest) ms none)
 
 pub definitions-name : (k : Text) → IsUtf8 k → IsName (codes "definitions") (codes "#/definitions/" ++ encoded k)
 definitions-name k text = inr (

@@ -9,7 +9,7 @@ use Rattle.schemars_schema.specs.SchemaData.{IsSchema, members_in}
 use Rattle.schemars_schema.specs.Edits.{without, replaced, holds_text}
 use Rattle.schemars_schema.specs.References.{SchemaOrList}
 use Rattle.schemars_schema.specs.Acceptance.{draft2020_12}
-use Rattle.schemars_schema.proofs.Members.{differ}
+use Rattle.schemars_text.proofs.Members.{differ}
 use Rattle.schemars_walk.specs.Rewritten.{in_keywords}
 use Rattle.schemars_transform.specs.Built.{bool_rules, reference_moved, without_siblings, first_as_example, with_single_example}
 use Rattle.schemars_transform.specs.Built.{value_as_enum, const_as_enum, prefix_as_items, prefix_moved, old_items_moved}
@@ -37,12 +37,18 @@ module _ (N : Text → Type 0) where
     reference = subst (IsTextWith N) (sym (a (codes "$ref") refl).first) is.reference;
     once = (a (codes "$ref") refl).others ∙ is.once;
     own = record {
-      unevaluated = (absent-once (codes "unevaluatedProperties") (without (codes "unevaluatedProperties") ns) is.own.unevaluated.0, is.own.unevaluated.0);
-      type = type-alike (without (codes "unevaluatedProperties") ns) ns (a (codes "type") refl) (a (codes "nullable") refl) (a (codes "const") refl) is.own.type;
+      unevaluated = (
+        absent-once (codes "unevaluatedProperties")
+            (without (codes "unevaluatedProperties") ns) is.own.unevaluated.0,
+        is.own.unevaluated.0,
+      );
+      type = type-alike (without (codes "unevaluatedProperties") ns) ns (a (codes "type") refl) (a (codes "nullable") refl)
+          (a (codes "const") refl) is.own.type;
       values = values-alike (without (codes "unevaluatedProperties") ns) ns (a (codes "type") refl) (a (codes "enum") refl) is.own.values;
       all_of = subst IsSchemaList (sym (a (codes "allOf") refl).first) is.own.all_of;
       const = const-alike (without (codes "unevaluatedProperties") ns) ns (a (codes "const") refl) (a (codes "enum") refl) is.own.const;
-      items = items-alike (without (codes "unevaluatedProperties") ns) ns (a (codes "prefixItems") refl) (a (codes "items") refl) (a (codes "additionalItems") refl) is.own.items;
+      items = items-alike (without (codes "unevaluatedProperties") ns) ns (a (codes "prefixItems") refl) (a (codes "items") refl)
+          (a (codes "additionalItems") refl) is.own.items;
     };
   }
     where
@@ -112,7 +118,8 @@ module _ (N : Text → Type 0) where
   alone_members ms = without (codes "type") (put (codes "const") null (nulled ms))
 
   -- by what stands under `type`: what is made where null is missing, alone, or among others
-  module _ (P : Data → Type 0) (ms : Members) (missing : P (object ms)) (alone : is_null_alone (get_member (codes "type") ms) ≡ true → P (object (alone_members ms)))
+  module _ (P : Data → Type 0) (ms : Members) (missing : P (object ms))
+      (alone : is_null_alone (get_member (codes "type") ms) ≡ true → P (object (alone_members ms)))
       (among : (d : Data) → P (object (replaced (codes "type") d (nulled ms)))) (nulls : P (object (nulled ms))) where
     taken : (o : Option Data) → P (null_taken_out o (object (nulled ms)))
     taken None = nulls
@@ -133,7 +140,8 @@ module _ (N : Text → Type 0) where
       where
         go : (b : Bool) → holds_text (codes "null") ds ≡ b → (a : Bool) → all_null ds ≡ a
             → P (nullable_by plain_nullable
-            (if b then (if a then nulls_in (Some (string (codes "null"))) else nulls_in (Some (array (item (string (codes "null")) (item null no_items))))) else nulls_in None)
+            (if b then (if a then nulls_in (Some (string (codes "null")))
+            else nulls_in (Some (array (item (string (codes "null")) (item null no_items))))) else nulls_in None)
             (object ms))
         go false is a all = missing
         go true is true all = alone (ap is_null_alone here ∙ rw (is, all) refl)
@@ -190,12 +198,14 @@ module _ (N : Text → Type 0) where
 
           t : (d : Data) (k : Text) → bytes_eq k (codes "type") ≡ false → bytes_eq k (codes "nullable") ≡ false
               → Alike k (replaced (codes "type") d (nulled ns)) ns
-          t d k out null_out = alike-then k (replaced (codes "type") d (nulled ns)) (nulled ns) ns (alike-replaced k (codes "type") d (nulled ns) out) (n k null_out)
+          t d k out null_out = alike-then k (replaced (codes "type") d (nulled ns)) (nulled ns) ns
+              (alike-replaced k (codes "type") d (nulled ns) out) (n k null_out)
 
           among : (d : Data) → Q (replaced (codes "type") d (nulled ns))
           among d = after-alike (replaced (codes "type") d (nulled ns)) ns (t d (codes "$ref") refl refl)
               (t d (codes "allOf") refl refl)
-              (const-alike (replaced (codes "type") d (nulled ns)) ns (t d (codes "const") refl refl) (t d (codes "enum") refl refl) is.own.const)
+              (const-alike (replaced (codes "type") d (nulled ns)) ns (t d (codes "const") refl refl)
+              (t d (codes "enum") refl refl) is.own.const)
               (t d (codes "prefixItems") refl refl) (t d (codes "items") refl refl) (t d (codes "additionalItems") refl refl) is
 
           inside-among : (d : Data) → asked_of_keywords Q (replaced (codes "type") d (nulled ns))
@@ -206,14 +216,17 @@ module _ (N : Text → Type 0) where
           c k out const_out null_out =
               alike-then k (alone_members ns) (put (codes "const") null (nulled ns)) ns
               (alike-without k (codes "type") (put (codes "const") null (nulled ns)) out)
-              (alike-then k (put (codes "const") null (nulled ns)) (nulled ns) ns (alike-put k (codes "const") null (nulled ns) const_out) (n k null_out))
+              (alike-then k (put (codes "const") null (nulled ns)) (nulled ns) ns
+              (alike-put k (codes "const") null (nulled ns) const_out) (n k null_out))
 
-          no_const : is_null_alone (get_member (codes "type") ns) ≡ true → (is_null_alone (get_member (codes "type") ns) ≡ false) ⊎ (get_member (codes "const") ns ≡ None)
+          no_const : is_null_alone (get_member (codes "type") ns) ≡ true
+              → (is_null_alone (get_member (codes "type") ns) ≡ false) ⊎ (get_member (codes "const") ns ≡ None)
               → get_member (codes "const") ns ≡ None
           no_const only (inl not_only) = absurd (true≢false (sym only ∙ not_only))
           no_const only (inr none) = none
 
-          no_enum : is_null_alone (get_member (codes "type") ns) ≡ true → (is_null_alone (get_member (codes "type") ns) ≡ false) ⊎ (get_member (codes "enum") ns ≡ None)
+          no_enum : is_null_alone (get_member (codes "type") ns) ≡ true
+              → (is_null_alone (get_member (codes "type") ns) ≡ false) ⊎ (get_member (codes "enum") ns ≡ None)
               → get_member (codes "enum") ns ≡ None
           no_enum only (inl not_only) = absurd (true≢false (sym only ∙ not_only))
           no_enum only (inr none) = none
@@ -228,7 +241,8 @@ module _ (N : Text → Type 0) where
               (c (codes "prefixItems") refl refl refl) (c (codes "items") refl refl refl) (c (codes "additionalItems") refl refl refl) is
 
           inside-alone : asked_of_keywords Q (alone_members ns)
-          inside-alone = asked-without Q (codes "type") (put (codes "const") null (nulled ns)) (asked-put Q (codes "const") null (nulled ns) tt inside-nulls)
+          inside-alone = asked-without Q (codes "type") (put (codes "const") null (nulled ns))
+              (asked-put Q (codes "const") null (nulled ns) tt inside-nulls)
 
   -- ---- references
 
@@ -256,7 +270,8 @@ module _ (N : Text → Type 0) where
             once = absent-once (codes "$ref") (without (codes "$ref") ns) is.once;
             own = (
               const-alike (without (codes "$ref") ns) ns (w (codes "const") refl) (w (codes "enum") refl) is.own.1,
-              items-alike (without (codes "$ref") ns) ns (w (codes "prefixItems") refl) (w (codes "items") refl) (w (codes "additionalItems") refl) is.own.2,
+              items-alike (without (codes "$ref") ns) ns (w (codes "prefixItems") refl) (w (codes "items") refl)
+                  (w (codes "additionalItems") refl) is.own.2,
             );
           }
             where
@@ -269,7 +284,8 @@ module _ (N : Text → Type 0) where
             once = once-moved r ns is.once;
             own = (
               const-alike (moved_members r ns) ns (w (codes "const") refl refl) (w (codes "enum") refl refl) is.own.1,
-              items-alike (moved_members r ns) ns (w (codes "prefixItems") refl refl) (w (codes "items") refl refl) (w (codes "additionalItems") refl refl) is.own.2,
+              items-alike (moved_members r ns) ns (w (codes "prefixItems") refl refl) (w (codes "items") refl refl)
+                  (w (codes "additionalItems") refl refl) is.own.2,
             );
           }
             where
@@ -305,15 +321,21 @@ module _ (N : Text → Type 0) where
           old : Members
           old = without (codes "examples") ns
 
-          kept : (ls ms : Members) → ((k : Text) → bytes_eq k (codes "examples") ≡ false → bytes_eq k (codes "example") ≡ false → Alike k ls ms) → Q ms → Q ls
+          kept : (ls ms : Members)
+              → ((k : Text) → bytes_eq k (codes "examples") ≡ false → bytes_eq k (codes "example") ≡ false → Alike k ls ms) → Q ms → Q ls
           kept ls ms w is =
               stands-alike N AfterSiblings AfterSiblings ls ms (w (codes "$ref") refl refl) (
                 const-alike ls ms (w (codes "const") refl refl) (w (codes "enum") refl refl) is.own.0,
-                items-alike ls ms (w (codes "prefixItems") refl refl) (w (codes "items") refl refl) (w (codes "additionalItems") refl refl) is.own.1,
+                items-alike ls ms (w (codes "prefixItems") refl refl) (w (codes "items") refl refl)
+                    (w (codes "additionalItems") refl refl) is.own.1,
               ) is
 
           gone : (asked Q (object (without (codes "examples") ns))).as_schema
-          gone = (kept (without (codes "examples") ns) ns (λ k out other. alike-without k (codes "examples") ns out) is, asked-without Q (codes "examples") ns a)
+          gone = (
+            kept (without (codes "examples") ns) ns
+                (λ k out other. alike-without k (codes "examples") ns out) is,
+            asked-without Q (codes "examples") ns a,
+          )
 
           go : (o : Option Data) → (asked Q (first_as_example o (object (without (codes "examples") ns)))).as_schema
           go None = gone
@@ -345,11 +367,13 @@ module _ (N : Text → Type 0) where
           Q : Members → Type 0
           Q = Stands N HasPlainItems
 
-          kept : (P : Members → Type 0) (ls ms : Members) → ((k : Text) → bytes_eq k (codes "const") ≡ false → bytes_eq k (codes "enum") ≡ false → Alike k ls ms)
+          kept : (P : Members → Type 0) (ls ms : Members)
+              → ((k : Text) → bytes_eq k (codes "const") ≡ false → bytes_eq k (codes "enum") ≡ false → Alike k ls ms)
               → HasPlainItems ms → Stands N P ms → Q ls
           kept P ls ms w items is =
               stands-alike N P HasPlainItems ls ms (w (codes "$ref") refl refl)
-              (items-alike ls ms (w (codes "prefixItems") refl refl) (w (codes "items") refl refl) (w (codes "additionalItems") refl refl) items) is
+              (items-alike ls ms (w (codes "prefixItems") refl refl) (w (codes "items") refl refl)
+              (w (codes "additionalItems") refl refl) items) is
 
           gone : (asked Q (object (without (codes "const") ns))).as_schema
           gone = (
@@ -404,10 +428,12 @@ module _ (N : Text → Type 0) where
           list (string s) is a = absurd is
           list (object ms) is a = absurd is
 
-          with : (p : Data) → demanded SchemaOrList (asked Q p) → asked_of_keywords Q (put (codes "items") p (without (codes "prefixItems") ns))
+          with : (p : Data) → demanded SchemaOrList (asked Q p)
+              → asked_of_keywords Q (put (codes "items") p (without (codes "prefixItems") ns))
           with p here = asked-put Q (codes "items") p (without (codes "prefixItems") ns) here gone.1
 
-          each : (p : Data) → demanded SchemaOrList (asked Q p) → (o : Option Data) → get_member (codes "items") (without (codes "prefixItems") ns) ≡ o
+          each : (p : Data) → demanded SchemaOrList (asked Q p) → (o : Option Data)
+              → get_member (codes "items") (without (codes "prefixItems") ns) ≡ o
               → (asked Q (old_items_moved o (object (put (codes "items") p (without (codes "prefixItems") ns))))).as_schema
           each p here None at = (more (without (codes "prefixItems") ns) (codes "items") p refl gone.0, with p here)
           each p here (Some i) at = (
@@ -420,4 +446,5 @@ module _ (N : Text → Type 0) where
           go : (o : Option Data) → get_member (codes "prefixItems") ns ≡ o → IsSchemaList o
               → (asked Q (prefix_moved o (object (without (codes "prefixItems") ns)))).as_schema
           go None at plain = gone
-          go (Some p) at plain = each p (list p plain (asked-get Q (codes "prefixItems") ns p at a)) (get_member (codes "items") (without (codes "prefixItems") ns)) refl
+          go (Some p) at plain = each p (list p plain (asked-get Q (codes "prefixItems") ns p at a))
+              (get_member (codes "items") (without (codes "prefixItems") ns)) refl

@@ -10,7 +10,7 @@ use Rattle.serde_json.specs.Find.{get_member}
 use Rattle.serde_json.specs.Events.{members_len}
 use Rattle.serde_json.proofs.Views.{get_member-put, get_member-put_other}
 use Rattle.schemars_schema.specs.Json.{Text}
-use Rattle.schemars_schema.specs.OrderedText.{is_listed}
+use Rattle.schemars_text.specs.OrderedText.{is_listed}
 use Rattle.schemars_schema.specs.SchemaData.{IsSchema}
 use Rattle.schemars_schema.specs.Edits.{without, replaced, with_item, with_last, changed_at}
 use Rattle.schemars_schema.specs.Verdict.{Verdict, Yes, No, Open, both, all_of, is_yes}
@@ -29,7 +29,8 @@ use Rattle.schemars_laws.proofs.Looked.{without-other, walked, raw-walked, once-
 use Rattle.schemars_laws.proofs.Apart.{pulled, look_up}
 use Rattle.schemars_schema.proofs.Verdicts.{both-yes, both-assoc}
 use Rattle.schemars_schema.proofs.Silent.{items_none, const_none, unevaluated_none}
-use Rattle.schemars_schema.proofs.Members.{differ, get_member-replaced, get_member-member, unequal}
+use Rattle.schemars_text.proofs.Members.{differ, get_member-member, unequal}
+use Rattle.schemars_schema.proofs.Members.{get_member-replaced}
 use Rattle.schemars_schema.proofs.Members.{get_member-replaced_other}
 use Rattle.schemars_laws.proofs.PrefixItems.{some-list}
 

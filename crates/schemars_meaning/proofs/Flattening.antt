@@ -6,10 +6,10 @@ use Rattle.serde_json.specs.Data.{Data, string, array, object, no_items, Members
 use Rattle.serde_json.specs.Find.{get, get_member, as_str, as_array}
 use Rattle.serde_json.proofs.Views.{get_member-put, get_member-put_other}
 use Rattle.schemars_schema.specs.Json.{Text}
-use Rattle.schemars_schema.specs.Edits.{replaced, removed, is_text, with_member, with_first}
+use Rattle.schemars_schema.specs.Edits.{replaced, removed, is_text, with_member, with_first, on_list}
 use Rattle.schemars_schema.specs.Annotations.{is_annotation}
 use Rattle.schemars_schema.specs.References.{NoSchemas}
-use Rattle.schemars_schema.proofs.Members.{differ}
+use Rattle.schemars_text.proofs.Members.{differ}
 use Rattle.schemars_schema.proofs.SortedMembers.{IsSorted, sorted-put, same_members}
 use Rattle.schemars_walk.specs.Rewritten.{forms, in_keywords}
 use Rattle.schemars_builders.specs.Properties.{with_property, tagged, has_null_type, closed_where}
@@ -19,7 +19,7 @@ use Rattle.schemars_flatten.specs.Flatten.{is_joined, is_merged}
 use Rattle.schemars_flatten.specs.Flatten.{with_keywords, moved_beside, united_all, flattened}
 use Rattle.schemars_flatten.proofs.Lookups.{united_option, united_none, either_option}
 use Rattle.schemars_flatten.specs.Opening.{same_object_place, opening, opened_here, opened, has_type}
-use Rattle.schemars_flatten.specs.Parts.{unit_objects, with_units, first_as_objects, items_changed, list_changed_at}
+use Rattle.schemars_flatten.specs.Parts.{unit_objects, with_units, first_as_objects, list_changed_at}
 use Rattle.schemars_flatten.specs.Parts.{units_as_objects, flattened_part}
 use Rattle.schemars_documents.specs.Documents.{Keyword, type_alone}
 use Rattle.schemars_meaning.proofs.MapDocument.{map_document}
@@ -373,7 +373,7 @@ module _ (notes : List Members) (es : List Keyword) (r : List Text) (all : AllNo
       choice : (o : Option Data) → o ≡ None
           → elim o [
             | None ↦ object part_members
-            | Some d ↦ object (replaced (codes "oneOf") (items_changed first_as_objects d) part_members)
+            | Some d ↦ object (replaced (codes "oneOf") (on_list first_as_objects d) part_members)
           ] ≡ object part_members
       choice None is = refl
       choice (Some d) is = cc

@@ -7,7 +7,8 @@ use Rattle.serde_json.specs.Find.{get_member}
 use Rattle.serde_json.proofs.Views.{get_member-put, get_member-put_other}
 use Rattle.schemars_schema.specs.Json.{Text, IsAbove}
 use Rattle.schemars_schema.specs.Edits.{without}
-use Rattle.schemars_schema.proofs.Members.{get_member-later, differ, flipped, get_member-without, get_member-here}
+use Rattle.schemars_text.proofs.Members.{get_member-later, differ, flipped, get_member-here}
+use Rattle.schemars_schema.proofs.Members.{get_member-without}
 use Rattle.schemars_schema.proofs.SortedMembers.{IsSorted, above-trans}
 use Rattle.schemars_schema.proofs.SortedMembers.{get_member-above}
 use Rattle.schemars_flatten.specs.Flatten.{is_choice, with_united, with_choice, both_choices, with_keyword}

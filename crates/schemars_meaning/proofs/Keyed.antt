@@ -16,7 +16,7 @@ use Rattle.std.specs.Option.{option_map_or}
 use Rattle.serde_json.proofs.Views.{get_member-put, get_member-put_other}
 use Rattle.schemars_schema.specs.Verdict.{Verdict, Yes, No, both, verdict}
 use Rattle.schemars_schema.specs.Json.{Text, IsJson, AreJsonMembers}
-use Rattle.schemars_schema.specs.OrderedText.{is_listed}
+use Rattle.schemars_text.specs.OrderedText.{is_listed}
 use Rattle.schemars_schema.specs.SchemaData.{IsSchema, object_of, put_all}
 use Rattle.schemars_schema.specs.Acceptance.{Patterns, Judge, Context, judge, read_data, all_keywords, matches, matches_some}
 use Rattle.schemars_schema.specs.Acceptance.{by_patterns, each_member, schema_named, where_some, Reading, type_says, properties_say}

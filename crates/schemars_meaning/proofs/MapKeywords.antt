@@ -10,7 +10,8 @@ use Rattle.schemars_schema.specs.Json.{Text}
 use Rattle.schemars_schema.specs.SchemaData.{put_all, put_members, object_of}
 use Rattle.schemars_schema.specs.Edits.{replaced, without, changed_at}
 use Rattle.schemars_schema.specs.Annotations.{is_annotation, AreNotes}
-use Rattle.schemars_schema.proofs.Members.{get_member-later, differ, flipped, get_member-replaced, get_member-here}
+use Rattle.schemars_text.proofs.Members.{get_member-later, differ, flipped, get_member-here}
+use Rattle.schemars_schema.proofs.Members.{get_member-replaced}
 use Rattle.schemars_schema.proofs.Members.{get_member-replaced_other}
 use Rattle.schemars_schema.proofs.SortedMembers.{IsSorted, sorted-put, sorted-put_all, sorted-put_members}
 use Rattle.schemars_schema.proofs.SortedMembers.{sorted-replaced, sorted-without, same_members, get_member-above}

@@ -14,7 +14,7 @@ use Rattle.schemars_schema.specs.Acceptance.{Context, Judge, judge, read_data, r
 use Rattle.schemars_schema.specs.Acceptance.{judged_by_list, each_says}
 use Rattle.schemars_schema.proofs.Verdicts.{both-yes}
 use Rattle.schemars_schema.proofs.Objects.{schema-judge}
-use Rattle.schemars_schema.proofs.Members.{get_member-later}
+use Rattle.schemars_text.proofs.Members.{get_member-later}
 use Rattle.schemars_flatten.specs.Flatten.{alone}
 use Rattle.schemars_types.specs.Meaning.{exactly_one}
 use Rattle.schemars_types.specs.Meaning.{Choice, claimed_by}

@@ -10,7 +10,8 @@ use Rattle.schemars_schema.specs.Json.{Text, IsAbove}
 use Rattle.schemars_schema.specs.Edits.{without}
 use Rattle.schemars_schema.specs.Annotations.{is_annotation}
 use Rattle.schemars_schema.specs.References.{NoSchemas}
-use Rattle.schemars_schema.proofs.Members.{get_member-later, get_member-without, get_member-here}
+use Rattle.schemars_text.proofs.Members.{get_member-later, get_member-here}
+use Rattle.schemars_schema.proofs.Members.{get_member-without}
 use Rattle.schemars_schema.proofs.SortedMembers.{IsSorted, sorted-without}
 use Rattle.schemars_walk.specs.Rewritten.{form_at, forms, in_items, in_keywords}
 use Rattle.schemars_flatten.specs.Opening.{opening, opened, opened_here, opened_at, same_object_place}

@@ -26,10 +26,11 @@ use Rattle.schemars_meaning.proofs.Items.{IsItem, AnyItems, any_items, opened_an
 use Rattle.schemars_meaning.proofs.Spread.{field_keywords, AreWritten}
 use Rattle.schemars_meaning.proofs.StructDocuments.{IsStruct, IsPart, HasNoUnits, part_form, units_missing}
 use Rattle.schemars_meaning.proofs.Joining.{without-here}
-use Rattle.schemars_schema.specs.Edits.{without}
-use Rattle.schemars_flatten.specs.Parts.{optional, choice_or_anything, with_empty_object, one_or_anything, list_changed_at, items_changed}
+use Rattle.schemars_schema.specs.Edits.{without, on_list}
+use Rattle.schemars_flatten.specs.Parts.{optional, choice_or_anything, with_empty_object, one_or_anything, list_changed_at}
 use Rattle.schemars_schema.specs.Edits.{removed, replaced, is_text}
-use Rattle.schemars_schema.proofs.Members.{get_member-later, get_member-without}
+use Rattle.schemars_text.proofs.Members.{get_member-later}
+use Rattle.schemars_schema.proofs.Members.{get_member-without}
 use Rattle.schemars_schema.proofs.SortedMembers.{sorted-without}
 use Rattle.schemars_flatten.specs.Flatten.{flattened}
 
@@ -49,7 +50,7 @@ optional_same xs one any =
 
     second : (o : Option Data) → o ≡ None → elim o as (λ z. Data) [
       | None ↦ object xs
-      | Some d ↦ object (replaced (codes "anyOf") (items_changed with_empty_object d) xs)
+      | Some d ↦ object (replaced (codes "anyOf") (on_list with_empty_object d) xs)
     ] ≡ object xs
     second None is = refl
     second (Some d) is = cc

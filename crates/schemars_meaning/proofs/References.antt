@@ -49,7 +49,7 @@ use Rattle.schemars_meaning.proofs.SpreadMaps.{part_holds, tag_holds, struct_hol
 use Rattle.schemars_meaning.proofs.SpreadMaps.{tag_apart, apart-first}
 use Rattle.schemars_meaning.proofs.NodeReferences.{AsSchema, AsNamed, AreItems, AreNamed, refers_schema, kept_schema}
 use Rattle.schemars_documents.specs.OfShape.{said, whole_template, adjacent_payload, adjacent_item, adjacent_template}
-use Rattle.schemars_schema.proofs.Members.{flipped}
+use Rattle.schemars_text.proofs.Members.{flipped}
 use Rattle.schemars_builders.specs.Variants.{unit_variant}
 
 -- ---- each shape

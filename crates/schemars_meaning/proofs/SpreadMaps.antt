@@ -9,7 +9,7 @@ use Rattle.serde_json.specs.Data.{Data, Members, no_members, put}
 use Rattle.schemars_schema.specs.Json.{Text}
 use Rattle.schemars_schema.specs.SchemaData.{put_all}
 use Rattle.schemars_schema.specs.References.{found_in, found_in_members, references}
-use Rattle.schemars_schema.proofs.Members.{flipped}
+use Rattle.schemars_text.proofs.Members.{flipped}
 use Rattle.schemars_builders.specs.NullLaw.{text_items}
 use Rattle.schemars_builders.specs.Variants.{unit_variant}
 use Rattle.schemars_builders.specs.Properties.{internally_tagged_variant}

@@ -8,15 +8,15 @@ use Rattle.serde_json.specs.Find.{get, get_member, as_str, as_array}
 use Rattle.serde_json.specs.View.{items_of}
 use Rattle.schemars_schema.specs.Json.{Text, IsJson}
 use Rattle.schemars_schema.specs.SchemaData.{IsSchema}
-use Rattle.schemars_schema.specs.Edits.{replaced, removed, is_text}
+use Rattle.schemars_schema.specs.Edits.{replaced, removed, is_text, on_list}
 use Rattle.schemars_schema.specs.Annotations.{AreNotes}
 use Rattle.schemars_schema.specs.Verdict.{verdict}
 use Rattle.schemars_schema.specs.Acceptance.{Context, judge}
-use Rattle.schemars_schema.proofs.Members.{get_member-later, get_member-here}
+use Rattle.schemars_text.proofs.Members.{get_member-later, get_member-here}
 use Rattle.std.proofs.lemmas.Slice.Eq.{bytes_eq-Decides}
 use Rattle.schemars_flatten.specs.Flatten.{flattened, united_all, appended}
 use Rattle.schemars_flatten.specs.Opening.{opened, has_type}
-use Rattle.schemars_flatten.specs.Parts.{flattened_part, unit_objects, first_units, behind_first, first_as_objects, items_changed}
+use Rattle.schemars_flatten.specs.Parts.{flattened_part, unit_objects, first_units, behind_first, first_as_objects}
 use Rattle.schemars_flatten.specs.Parts.{list_changed_at, units_as_objects}
 use Rattle.schemars_flatten.specs.Parts.{with_units}
 use Rattle.schemars_shapes.specs.Shape.{Field}
@@ -185,11 +185,11 @@ module _ (t : Option Data) (es : List Keyword) (ns : List Text) (ps : Parts) (a 
       changed : (o : Option Data) → get_member (codes "oneOf") ms ≡ o
           → list_changed_at (codes "oneOf") first_as_objects (object ms) ≡ elim o [
             | None ↦ object ms
-            | Some d ↦ object (replaced (codes "oneOf") (items_changed first_as_objects d) ms)
+            | Some d ↦ object (replaced (codes "oneOf") (on_list first_as_objects d) ms)
           ]
       changed o is = ap (λ z. elim z [
         | None ↦ object ms
-        | Some d ↦ object (replaced (codes "oneOf") (items_changed first_as_objects d) ms)
+        | Some d ↦ object (replaced (codes "oneOf") (on_list first_as_objects d) ms)
       ]) is
 
       first_stays : (ds : Items) → first_units ds ≡ None → first_as_objects ds ≡ ds

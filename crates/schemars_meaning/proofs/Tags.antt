@@ -13,7 +13,7 @@ use Rattle.schemars_schema.specs.SchemaData.{IsSchema, put_all}
 use Rattle.schemars_schema.specs.Annotations.{is_annotation, AreNotes}
 use Rattle.schemars_schema.specs.Verdict.{verdict}
 use Rattle.schemars_schema.specs.Acceptance.{Context, judge, have_all}
-use Rattle.schemars_schema.proofs.Members.{differ}
+use Rattle.schemars_text.proofs.Members.{differ}
 use Rattle.schemars_schema.proofs.SortedMembers.{sorted-put}
 use Rattle.schemars_schema.specs.Edits.{is_text as is_name, with_member, with_first}
 use Rattle.schemars_builders.specs.Variants.{unit_variant}

@@ -8,18 +8,19 @@ use Rattle.serde_json.specs.Find.{get, get_member, as_str, as_array}
 use Rattle.serde_json.specs.View.{items_of}
 use Rattle.serde_json.proofs.Views.{get_member-put, get_member-put_other}
 use Rattle.schemars_schema.specs.Json.{Text, IsJson}
-use Rattle.schemars_schema.specs.Edits.{without, removed, replaced, is_text}
+use Rattle.schemars_schema.specs.Edits.{without, removed, replaced, is_text, on_list}
 use Rattle.schemars_schema.specs.Annotations.{is_annotation, AreNotes}
 use Rattle.schemars_schema.specs.Verdict.{verdict}
 use Rattle.schemars_schema.specs.Acceptance.{Context, judge, is_null}
-use Rattle.schemars_schema.proofs.Members.{get_member-later, differ, get_member-replaced, get_member-replaced_other}
+use Rattle.schemars_text.proofs.Members.{get_member-later, differ}
+use Rattle.schemars_schema.proofs.Members.{get_member-replaced, get_member-replaced_other}
 use Rattle.schemars_schema.proofs.Members.{get_member-without}
 use Rattle.schemars_schema.proofs.SortedMembers.{IsSorted, sorted-put, sorted-replaced, sorted-without}
 use Rattle.schemars_builders.specs.AllowNull.{null_schema}
 use Rattle.schemars_builders.specs.NullLaw.{text_items}
 use Rattle.schemars_flatten.specs.Flatten.{appended}
 use Rattle.schemars_flatten.specs.Opening.{opened}
-use Rattle.schemars_flatten.specs.Parts.{unit_object, unit_objects, items_changed, with_items, with_units}
+use Rattle.schemars_flatten.specs.Parts.{unit_object, unit_objects, with_items, with_units}
 use Rattle.schemars_flatten.specs.Parts.{first_as_objects, list_changed_at, units_as_objects, flattened_part}
 use Rattle.schemars_shapes.specs.Shape.{Variant}
 use Rattle.schemars_types.specs.declared.contract.Contract.{Contract}
@@ -182,11 +183,11 @@ module _ (notes : Members) (plain : AreNotes notes) where
         second : (o : Option Data) → o ≡ Some (array (items_of (units_schema (k ∷ ks) ∷ ts)))
             → elim o as (λ z. Data) [
               | None ↦ object mixed
-              | Some d ↦ object (replaced (codes "oneOf") (items_changed first_as_objects d) mixed)
+              | Some d ↦ object (replaced (codes "oneOf") (on_list first_as_objects d) mixed)
             ] ≡ object (replaced (codes "oneOf") (array (first_as_objects (items_of (units_schema (k ∷ ks) ∷ ts)))) mixed)
         second o is = ap (λ z. elim z as (λ z. Data) [
           | None ↦ object mixed
-          | Some d ↦ object (replaced (codes "oneOf") (items_changed first_as_objects d) mixed)
+          | Some d ↦ object (replaced (codes "oneOf") (on_list first_as_objects d) mixed)
         ]) is
 
     mixed_form : IsForm (list_at (ts ++ units)) (replaced (codes "oneOf") (array (items_of (ts ++ units))) mixed)

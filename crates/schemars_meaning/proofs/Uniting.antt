@@ -12,7 +12,8 @@ use Rattle.schemars_schema.specs.Json.{Text}
 use Rattle.schemars_schema.specs.Edits.{without}
 use Rattle.schemars_schema.specs.Annotations.{is_annotation}
 use Rattle.schemars_schema.proofs.Objects.{keyword-plain}
-use Rattle.schemars_schema.proofs.Members.{differ, get_member-without}
+use Rattle.schemars_text.proofs.Members.{differ}
+use Rattle.schemars_schema.proofs.Members.{get_member-without}
 use Rattle.schemars_schema.proofs.SortedMembers.{IsSorted, sorted-put, sorted-without}
 use Rattle.schemars_flatten.specs.Flatten.{with_keywords, moved, moved_beside, united_all, stands, has_subschema}
 use Rattle.schemars_flatten.specs.Flatten.{appended}

@@ -24,7 +24,7 @@ use Rattle.schemars_schema.specs.Acceptance.{texts_in, are_type_names, when, typ
 use Rattle.schemars_schema.specs.Annotations.{is_annotation, AreNotes}
 use Rattle.schemars_schema.specs.Literal.{is_plain_member, ArePlainMembers, is_null_type, names_types, IsPlainObject, IsPlainLiteral}
 use Rattle.schemars_schema.proofs.SortedMembers.{IsSorted, above-trans, get_member-above}
-use Rattle.schemars_schema.proofs.Members.{bytes_eq_comm}
+use Rattle.schemars_text.proofs.Members.{bytes_eq_comm}
 use Rattle.schemars_plain.specs.Decided.{are_annotations, each_is_plain, has_value, has_one_value, is_type_name, are_named, are_null}
 
 pub always : Decides true (Unit {0})

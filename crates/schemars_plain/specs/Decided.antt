@@ -5,7 +5,7 @@ use Rattle.serde_json.specs.Data.{Data, Items, no_items, item, Members, no_membe
 use Rattle.serde_json.specs.Find.{get, as_str}
 use Rattle.schemars_schema.specs.Json.{Text}
 use Rattle.schemars_schema.specs.Edits.{is_text}
-use Rattle.schemars_schema.specs.OrderedText.{is_listed}
+use Rattle.schemars_text.specs.OrderedText.{is_listed}
 use Rattle.schemars_schema.specs.Acceptance.{type_names}
 use Rattle.schemars_schema.specs.Annotations.{is_annotation}
 use Rattle.schemars_shapes.specs.Shape.{Shape, Field, Fields, Flattened, Payload, Variant, Entry, struct}

@@ -14,7 +14,7 @@ use Rattle.serde_json.specs.Events.{items_len}
 use Rattle.serde_json.specs.Find.{get_member}
 use Rattle.serde_json.specs.View.{items_of}
 use Rattle.schemars_schema.specs.Json.{Text}
-use Rattle.schemars_schema.specs.OrderedText.{is_listed}
+use Rattle.schemars_text.specs.OrderedText.{is_listed}
 use Rattle.schemars_schema.specs.Verdict.{Verdict, Yes, No, both, verdict, opposite, none_of}
 use Rattle.schemars_schema.specs.SchemaData.{IsSchema}
 use Rattle.schemars_schema.specs.Acceptance.{Patterns, Judge, Context, judge, read_data, read_items, read_members, all_named}
@@ -22,7 +22,7 @@ use Rattle.schemars_schema.specs.Acceptance.{all_keywords, by_position, each_pas
 use Rattle.schemars_schema.specs.Acceptance.{code_points, is_of_type, is_of_some_type, type_names}
 use Rattle.schemars_schema.proofs.Verdicts.{both-yes, both-verdict, opposite-verdict}
 use Rattle.schemars_schema.proofs.Objects.{schema-judge}
-use Rattle.schemars_schema.proofs.Members.{get_member-later, get_member-here}
+use Rattle.schemars_text.proofs.Members.{get_member-later, get_member-here}
 use Rattle.schemars_builders.specs.NullLaw.{context2020_12}
 use Rattle.schemars_documents.specs.Documents.{type_alone, char_document, byte_document}
 use Rattle.schemars_sample.specs.SampleSchema.{list_schema, tuple_schema, struct_schema, map_schema, choice_among}

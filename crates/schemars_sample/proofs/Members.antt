@@ -10,7 +10,7 @@ use Rattle.serde_json.specs.Find.{get_member}
 use Rattle.schemars_schema.specs.Json.{Text}
 use Rattle.schemars_schema.specs.Verdict.{Verdict, Yes, No, Open, both}
 use Rattle.schemars_schema.specs.Acceptance.{each_member}
-use Rattle.schemars_schema.proofs.Members.{get_member-later, get_member-here}
+use Rattle.schemars_text.proofs.Members.{get_member-later, get_member-here}
 use Rattle.schemars_schema.proofs.SortedMembers.{IsSorted, get_member-above}
 
 -- ---- in order

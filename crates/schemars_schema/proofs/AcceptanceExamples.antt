@@ -10,7 +10,7 @@ use Rattle.schemars_schema.specs.SchemaData.{object_of}
 use Rattle.schemars_schema.specs.Verdict.{Verdict, Yes, No, Open}
 use Rattle.schemars_schema.specs.Lookup.{schema_only, resolved}
 use Rattle.serde_json.proofs.OnLiterals.{serde_json_on_literals}
-use Rattle.schemars_schema.specs.OrderedText.{ordered_text, text_in}
+use Rattle.schemars_text.specs.OrderedText.{ordered_text, text_in}
 use Rattle.schemars_schema.proofs.Encodings.{lookup-ascii}
 use Rattle.schemars_schema.proofs.JsonLiterals.{text, whole, minus_one, at_key, list, one}
 use Rattle.schemars_schema.specs.Acceptance.{Dialect, draft2020_12, draft07, openapi3, Patterns, accepts, context}

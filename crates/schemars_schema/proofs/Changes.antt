@@ -3,8 +3,8 @@ use Rattle.std.proofs.Common.{◌≡◌, ℕ, List, Option, Some, None, option_m
 use Rattle.std.specs.Cmp.Lexicographic.{slice_cmp}
 use Rattle.std.specs.Map.{lookup, set_value}
 use Rattle.std.specs.BTreeMap.{is_at}
-use Rattle.serde_json.specs.Data.{Data, null, boolean, number, string, array, object, Items, Members, put}
-use Rattle.serde_json.specs.Find.{get_member, as_array}
+use Rattle.serde_json.specs.Data.{Data, Members, put}
+use Rattle.serde_json.specs.Find.{get_member}
 use Rattle.serde_json.specs.View.{view, members_view}
 use Rattle.serde_json.specs.declared.value.Value.{Value}
 use Rattle.serde_json.proofs.Views.{Entry, view-lookup}
@@ -40,11 +40,3 @@ some_seen (Some v) = refl
 pub is_there : (k : List ℕ) (es : List Entry)
     → is_some (lookup (is_at (λ l. slice_cmp nat_cmp k (string_bytes l))) es) ≡ is_some (get_member k (members_view es))
 is_there k es = some_seen (lookup (is_at (λ l. slice_cmp nat_cmp k (string_bytes l))) es) ∙ ap is_some (view-lookup k es)
-
-pub array-as_array : (d : Data) (ds : Items) → Some ds ≡ as_array d → d ≡ array ds
-array-as_array (array es) ds e = cc
-array-as_array null ds e = cc
-array-as_array (boolean b) ds e = cc
-array-as_array (number n) ds e = cc
-array-as_array (string s) ds e = cc
-array-as_array (object ms) ds e = cc

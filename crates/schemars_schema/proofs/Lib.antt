@@ -1,10 +1,4 @@
 -- Lemmas that several proofs share.
-pub mod Outputs
-pub mod OrderedTexts
-pub mod FixedMembers
-pub mod Becomings
-pub mod Begun
-pub mod Escapes
 pub mod Encodings
 pub mod Equalities
 pub mod Verdicts
@@ -12,6 +6,7 @@ pub mod Silent
 pub mod Members
 pub mod SortedMembers
 pub mod Lists
+pub mod Containers
 pub mod Changes
 pub mod JsonLiterals
 pub mod Objects

@@ -5,8 +5,6 @@ use Rattle.std.specs.Prelude.{bytes_eq, if◌then◌else◌, Option, Some, None,
 use Rattle.std.specs.Cmp.Lexicographic.{slice_cmp}
 use Rattle.std.specs.Map.{remove_entry, set_value}
 use Rattle.std.specs.BTreeMap.{is_at}
-use Rattle.serde_json.specs.Data.{Data, null, boolean, number, string, array, object, Members}
-use Rattle.serde_json.specs.Find.{as_object}
 use Rattle.serde_json.specs.View.{view, members_view}
 use Rattle.serde_json.specs.declared.value.Value.{Value}
 use Rattle.serde_json.proofs.Views.{Entry}
@@ -28,14 +26,6 @@ members_view-set_value k [] v = refl
 members_view-set_value k (e ∷ es) v =
     either_members _ (bytes_eq k (string_bytes e.0)) ((e.0, v) ∷ es) _ (is_eq-slice_cmp k (string_bytes e.0))
     ∙ rw (members_view-set_value k es v) refl
-
-pub object-as_object : (d : Data) (ms : Members) → Some ms ≡ as_object d → d ≡ object ms
-object-as_object (object ns) ms e = cc
-object-as_object null ms e = cc
-object-as_object (boolean b) ms e = cc
-object-as_object (number n) ms e = cc
-object-as_object (string s) ms e = cc
-object-as_object (array ds) ms e = cc
 
 pub when_some : {T P : Type 0} (r : Option T) → P → OnSome r P
 when_some None p = tt

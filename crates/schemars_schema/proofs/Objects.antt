@@ -14,7 +14,7 @@ use Rattle.serde_json.specs.Find.{get_member}
 use Rattle.serde_json.proofs.Views.{get_member-put_other}
 use Rattle.schemars_schema.specs.Json.{Text}
 use Rattle.schemars_schema.specs.SchemaData.{IsSchema}
-use Rattle.schemars_schema.specs.OrderedText.{is_listed}
+use Rattle.schemars_text.specs.OrderedText.{is_listed}
 use Rattle.schemars_schema.specs.Acceptance.{Context, Judge, Reading, Raw, judge, read_data, read_members, reading_at}
 use Rattle.schemars_schema.specs.Acceptance.{keywords, all_keywords}
 use Rattle.schemars_schema.specs.Annotations.{is_annotation, keyword_names}

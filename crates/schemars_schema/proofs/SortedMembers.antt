@@ -12,7 +12,7 @@ use Rattle.serde_json.specs.Find.{get_member}
 use Rattle.schemars_schema.specs.Json.{Text, IsAbove}
 use Rattle.schemars_schema.specs.SchemaData.{put_all, put_members}
 use Rattle.schemars_schema.specs.Edits.{replaced, without}
-use Rattle.schemars_schema.proofs.Members.{get_member-here, get_member-later}
+use Rattle.schemars_text.proofs.Members.{get_member-here, get_member-later}
 
 -- members in the order of their keys, each once
 abbrev pub IsSorted : Members → Type 0

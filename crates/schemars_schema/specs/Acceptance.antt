@@ -10,7 +10,7 @@ use Rattle.serde_json.specs.Find.{get_member, as_integer, as_str, as_bool, as_nu
 use Rattle.serde_json.specs.Events.{items_len, members_len}
 use Rattle.schemars_schema.specs.Verdict.{Verdict, Yes, No, Open, verdict, both, opposite, all_of, any_of, one_of, is_yes}
 use Rattle.schemars_schema.specs.Json.{Text, json_eq, is_among, are_distinct}
-use Rattle.schemars_schema.specs.OrderedText.{is_listed}
+use Rattle.schemars_text.specs.OrderedText.{is_listed}
 use Rattle.schemars_schema.specs.Lookup.{resolved}
 
 -- ---- parameters

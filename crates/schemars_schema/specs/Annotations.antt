@@ -3,7 +3,7 @@ use Rattle.std.specs.Prelude.{◌≡◌, ◌||◌, List, [], ◌∷◌, Bool, tr
 use Rattle.std.specs.List.{starts_with}
 use Rattle.serde_json.specs.Data.{Members, no_members, member}
 use Rattle.schemars_schema.specs.Json.{Text}
-use Rattle.schemars_schema.specs.OrderedText.{is_listed}
+use Rattle.schemars_text.specs.OrderedText.{is_listed}
 
 abbrev pub is_annotation : Text → Bool
 is_annotation k =

@@ -16,14 +16,18 @@ abbrev pub replaced : Text → Data → Members → Members
 replaced k d no_members = no_members
 replaced k d (member l e ms) = if bytes_eq k l then member l d ms else member l e (replaced k d ms)
 
--- an object without its member at k; what is no object stays as it is
+-- an object with its members changed; what is no object stays as it is
+abbrev pub on_object : (Members → Members) → Data → Data
+on_object f null = null
+on_object f (boolean b) = boolean b
+on_object f (number n) = number n
+on_object f (string s) = string s
+on_object f (array ds) = array ds
+on_object f (object ms) = object (f ms)
+
+-- an object without its member at k
 abbrev pub removed : Text → Data → Data
-removed k null = null
-removed k (boolean b) = boolean b
-removed k (number n) = number n
-removed k (string s) = string s
-removed k (array ds) = array ds
-removed k (object ms) = object (without k ms)
+removed k d = on_object (without k) d
 
 -- the members with the value at k changed; where there is none, the change of d joins there
 abbrev pub changed_at : Text → (Data → Data) → Data → Members → Members
@@ -50,29 +54,23 @@ abbrev pub with_item : Items → Data → Items
 with_item no_items e = item e no_items
 with_item (item d ds) e = item d (with_item ds e)
 
--- a list with d in front; what is no list stays as it is
+-- a list with its items changed; what is no list stays as it is
+abbrev pub on_list : (Items → Items) → Data → Data
+on_list f null = null
+on_list f (boolean b) = boolean b
+on_list f (number n) = number n
+on_list f (string s) = string s
+on_list f (array ds) = array (f ds)
+on_list f (object ms) = object ms
+
+-- a list with d in front
 abbrev pub with_first : Data → Data → Data
-with_first d null = null
-with_first d (boolean b) = boolean b
-with_first d (number n) = number n
-with_first d (string s) = string s
-with_first d (array ds) = array (item d ds)
-with_first d (object ms) = object ms
+with_first d list = on_list (item d) list
 
--- a list with d at its end; what is no list stays as it is
+-- a list with d at its end
 abbrev pub with_last : Data → Data → Data
-with_last d null = null
-with_last d (boolean b) = boolean b
-with_last d (number n) = number n
-with_last d (string s) = string s
-with_last d (array ds) = array (with_item ds d)
-with_last d (object ms) = object ms
+with_last d list = on_list (λ ds. with_item ds d) list
 
--- an object with d at k; what is no object stays as it is
+-- an object with d at k
 abbrev pub with_member : Text → Data → Data → Data
-with_member k d null = null
-with_member k d (boolean b) = boolean b
-with_member k d (number n) = number n
-with_member k d (string s) = string s
-with_member k d (array ds) = array ds
-with_member k d (object ms) = object (put k d ms)
+with_member k d s = on_object (put k d) s

@@ -1,15 +1,12 @@
 -- JSON values of 64-bit whole numbers (RFC 8259), and when two of them are equal.
-use Rattle.std.specs.Prelude.{◌≡◌, ◌<◌, ℕ, ◌^◌, ◌&&◌, ◌||◌, ◌==◌, ℤ, pos, negsuc, List, Bool, true, false, not}
+use Rattle.std.specs.Prelude.{◌≡◌, ◌<◌, ◌^◌, ◌&&◌, ◌||◌, ◌==◌, ℤ, pos, negsuc, Bool, true, false, not}
 use Rattle.std.specs.Prelude.{if◌then◌else◌, bytes_eq, IsUtf8, ⊤}
 use Rattle.std.specs.Ordering.{int_eq, nat_cmp}
 use Rattle.std.specs.Cmp.Lexicographic.{slice_cmp}
 use Rattle.std.specs.declared.cmp.Ordering.TheVariants.{Less}
 use Rattle.serde_json.specs.Data.{Num, unsigned, negative, float, Data, null, boolean, number, string, array, object}
 use Rattle.serde_json.specs.Data.{Items, no_items, item, Members, no_members, member}
-
--- a text, as its UTF-8 bytes
-abbrev pub Text : Type 0
-Text = List ℕ
+pub use Rattle.schemars_text.specs.Text.{Text}
 
 abbrev pub IsBelowZero : ℤ → Type 0
 IsBelowZero (pos n) = ⊥

@@ -1,14 +1,6 @@
 -- The definitions that contracts cite.
 pub mod Json
-pub mod OrderedText
-pub mod Sink
-pub mod Target
-pub mod Gathered
-pub mod Sent
-pub mod Refusals
 pub mod Encoding
-pub mod Output
-pub mod Places
 pub mod Verdict
 pub mod DataCode
 pub mod SchemaData

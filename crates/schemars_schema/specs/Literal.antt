@@ -7,7 +7,7 @@ use Rattle.serde_json.specs.Data.{Data, null, boolean, number, string, array, ob
 use Rattle.serde_json.specs.Find.{get_member, as_str, as_array}
 use Rattle.serde_json.specs.Events.{items_len}
 use Rattle.schemars_schema.specs.Json.{Text, json_eq, is_among, are_distinct}
-use Rattle.schemars_schema.specs.OrderedText.{is_listed}
+use Rattle.schemars_text.specs.OrderedText.{is_listed}
 use Rattle.schemars_schema.specs.Acceptance.{Patterns, matches, is_of_some_type, types_in, whole_number}
 use Rattle.schemars_schema.specs.Acceptance.{count_of_number, code_points}
 use Rattle.schemars_schema.specs.Annotations.{is_annotation}

@@ -6,7 +6,7 @@ ghost use Rattle.serde_json.specs.View.{view, items_view, members_view};
 ghost use Rattle.schemars_schema.specs.Edits.{is_text, holds_text, has_one_member, with_last};
 ghost use Rattle.schemars_schema.specs.Edits.{changed_at};
 ghost use Rattle.schemars_schema.specs.Edits.{put_missing};
-ghost use Rattle.schemars_schema.specs.OrderedText.{is_listed};
+ghost use Rattle.schemars_text.specs.OrderedText.{is_listed};
 
 use crate::schema::Schema;
 use serde_json::{Map, Value};

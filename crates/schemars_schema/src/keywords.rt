@@ -1,6 +1,6 @@
 //! Keywords whose schemas judge the same object as the schema around them.
 ghost use Rattle.std.specs.Prelude.{◌≡◌};
-ghost use Rattle.schemars_schema.specs.OrderedText.{is_listed};
+ghost use Rattle.schemars_text.specs.OrderedText.{is_listed};
 ghost use Rattle.schemars_schema.specs.References.{with_same_object, with_same_objects};
 
 /// Whether a schema that judges the same object stands under the key.

@@ -8,10 +8,8 @@ mod equality;
 mod error;
 pub mod keywords;
 pub mod schema;
-pub mod sink;
-mod text;
 
 pub use equality::{json_eq, json_eq_members};
-pub use error::{NotASchema, OrderedError};
+pub use error::NotASchema;
 pub use schema::Schema;
-pub use sink::{Failed, Sink, SinkOf};
+pub use schemars_text::{Failed, OrderedError, Sink, SinkOf};

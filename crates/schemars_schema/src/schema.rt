@@ -17,8 +17,7 @@ mod pointer;
 mod serialized;
 
 use crate::error::NotASchema;
-pub use crate::text::ordered::definitions_to_ordered_string;
-pub use crate::text::writing::write_ordered_definitions;
+pub use schemars_text::{definitions_to_ordered_string, write_ordered_definitions};
 use serde_json::{Map, Value};
 use std::alloc::{AllocError, Global};
 use std::marker::Model;

@@ -13,7 +13,7 @@ use Rattle.std.proofs.lemmas.Map.Text.{is_eq-slice_cmp}
 use Rattle.std.proofs.lemmas.Option.{slice_get-map, slice_get-get_or}
 use Rattle.std.proofs.Math.Bool.{or-false}
 use Rattle.schemars_schema.specs.Json.{Text}
-use Rattle.schemars_schema.proofs.Members.{bytes_eq_comm}
+use Rattle.schemars_text.proofs.Members.{bytes_eq_comm}
 use Rattle.schemars_shapes.specs.declared.shape.Fields as src-fields
 use Rattle.schemars_shapes.specs.declared.variant.Payload as src-payload
 use Rattle.schemars_shapes.specs.declared.variant.Payload.TheVariants as payload

@@ -11,7 +11,8 @@ use Rattle.serde_json.proofs.Views.{Entry}
 use Rattle.schemars_schema.specs.Json.{Text}
 use Rattle.schemars_schema.specs.SchemaData.{inserted}
 use Rattle.schemars_schema.specs.Edits.{put_missing}
-use Rattle.schemars_schema.proofs.Lists.{from_here, nothing_left as none_left}
+use Rattle.schemars_schema.proofs.Containers.{array-as_array, not_array, object-as_object, not_object}
+use Rattle.schemars_text.proofs.Lists.{from_here, nothing_left as none_left}
 use Rattle.schemars_transform.specs.Unevaluated.{names_in, names_in_items, names_in_keywords, names_under, with_names, properties_made}
 
 pub with_names-append : (a b : List Text) (ms : Members) → with_names (a ++ b) ms ≡ with_names b (with_names a ms)
@@ -20,39 +21,19 @@ with_names-append (k ∷ a) b ms = with_names-append a b (put_missing k (boolean
 
 pub names_in_object : (d : Data) (ms : Members) → Some ms ≡ as_object d → names_in_keywords ms ≡ (names_in d).in_schema
 unfolding names_in names_in_keywords
-names_in_object null ms e = cc
-names_in_object (boolean b) ms e = cc
-names_in_object (number n) ms e = cc
-names_in_object (string s) ms e = cc
-names_in_object (array ds) ms e = cc
-names_in_object (object fs) ms e = let same : ms ≡ fs = cc in ap names_in_keywords same
+names_in_object d ms e = rw (object-as_object d ms e) refl
 
 pub names_in_other : (d : Data) → None ≡ as_object d → [] ≡ (names_in d).in_schema
 unfolding names_in
-names_in_other null e = refl
-names_in_other (boolean b) e = refl
-names_in_other (number n) e = refl
-names_in_other (string s) e = refl
-names_in_other (array ds) e = refl
-names_in_other (object fs) e = cc
+names_in_other d e = not_object (λ d. [] ≡ (names_in d).in_schema) refl (λ b. refl) (λ n. refl) (λ s. refl) (λ ds. refl) d e
 
 pub names_in_array : (d : Data) (ds : Items) → Some ds ≡ as_array d → names_in_items ds ≡ (names_in d).in_list
 unfolding names_in names_in_items
-names_in_array null ds e = cc
-names_in_array (boolean b) ds e = cc
-names_in_array (number n) ds e = cc
-names_in_array (string s) ds e = cc
-names_in_array (array fs) ds e = let same : ds ≡ fs = cc in ap names_in_items same
-names_in_array (object ms) ds e = cc
+names_in_array d ds e = rw (array-as_array d ds e) refl
 
 pub names_in_no_array : (d : Data) → None ≡ as_array d → [] ≡ (names_in d).in_list
 unfolding names_in
-names_in_no_array null e = refl
-names_in_no_array (boolean b) e = refl
-names_in_no_array (number n) e = refl
-names_in_no_array (string s) e = refl
-names_in_no_array (array fs) e = cc
-names_in_no_array (object ms) e = refl
+names_in_no_array d e = not_array (λ d. [] ≡ (names_in d).in_list) refl (λ b. refl) (λ n. refl) (λ s. refl) (λ ms. refl) d e
 
 -- one turn: the first member's names have been put in
 pub keyword_done : (k : Text) (d : Data) (ms now next : Members) → next ≡ with_names (names_under k d (names_in d)) now

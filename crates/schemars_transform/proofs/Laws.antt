@@ -1,5 +1,6 @@
 -- What lists of transforms do.
 use Rattle.std.proofs.Common.{◌≡◌, ◌⊎◌, inl, inr, List, [], ◌∷◌, Vec, Global, false, Ok, Err, refl, sym, ap, ◌∙◌, subst}
+use Rattle.std.proofs.lemmas.Bool.{or_parts}
 use Rattle.std.specs.Prelude.{MatchResult}
 use Rattle.serde_json.specs.Data.{Data, null, boolean, number, string, array, object, Members, no_members, member}
 use Rattle.schemars_walk.specs.Walk.{Answer, TransformStep, Next, EachMember, AtSchema}
@@ -17,39 +18,26 @@ pub no_transforms : {S : Type 0} (Q : TransformStep S) (s : Data) (r : Answer) (
     → InOrder Q [] s r us v → (r ≡ Ok tt) × (v ≡ s)
 no_transforms Q s r us v h = (h.0, h.2)
 
-built_in_stays : {O : Type 0} (Q : TransformStep O) (t u : GenTransform O) (s v : Data) (r : Answer)
-    → is_own t ≡ false → OfMember Q t s r u v → u ≡ t
-built_in_stays Q (ReplaceBoolSchemas t) u s v r own h = h.0
-built_in_stays Q (RemoveRefSiblings t) u s v r own h = h.0
-built_in_stays Q (SetSingleExample t) u s v r own h = h.0
-built_in_stays Q (ReplaceConstValue t) u s v r own h = h.0
-built_in_stays Q (ReplacePrefixItems t) u s v r own h = h.0
-built_in_stays Q (AddNullable t) u s v r own h = h.0
-built_in_stays Q (ReplaceUnevaluatedProperties t) u s v r own h = h.0
-built_in_stays Q (RestrictFormats t) u s v r own h = h.0
-built_in_stays Q (Own t) u s v r own h = cc
+-- what was made by a function, or want of memory
+abbrev Made : Answer → Data → Data → Type 0
+Made r v made = MatchResult r (λ _. v ≡ made) (λ e. e ≡ Memory)
 
-first_built_in : {O : Type 0} (t : GenTransform O) (ts : List (GenTransform O)) → some_own (t ∷ ts) ≡ false → is_own t ≡ false
-first_built_in (ReplaceBoolSchemas t) ts h = refl
-first_built_in (RemoveRefSiblings t) ts h = refl
-first_built_in (SetSingleExample t) ts h = refl
-first_built_in (ReplaceConstValue t) ts h = refl
-first_built_in (ReplacePrefixItems t) ts h = refl
-first_built_in (AddNullable t) ts h = refl
-first_built_in (ReplaceUnevaluatedProperties t) ts h = refl
-first_built_in (RestrictFormats t) ts h = refl
-first_built_in (Own t) ts h = cc
+-- a built-in transform stays as it is, and makes what its function makes
+built_in : {O : Type 0} (Q : TransformStep O) (t u : GenTransform O) (s v : Data) (r : Answer)
+    → is_own t ≡ false → OfMember Q t s r u v → (u ≡ t) × Made r v (function_of t s)
+built_in Q (ReplaceBoolSchemas t) u s v r own h = h
+built_in Q (RemoveRefSiblings t) u s v r own h = h
+built_in Q (SetSingleExample t) u s v r own h = h
+built_in Q (ReplaceConstValue t) u s v r own h = h
+built_in Q (ReplacePrefixItems t) u s v r own h = h
+built_in Q (AddNullable t) u s v r own h = h
+built_in Q (ReplaceUnevaluatedProperties t) u s v r own h = h
+built_in Q (RestrictFormats t) u s v r own h = h
+built_in Q (Own t) u s v r own h = cc
 
-others_built_in : {O : Type 0} (t : GenTransform O) (ts : List (GenTransform O)) → some_own (t ∷ ts) ≡ false → some_own ts ≡ false
-others_built_in (ReplaceBoolSchemas t) ts h = h
-others_built_in (RemoveRefSiblings t) ts h = h
-others_built_in (SetSingleExample t) ts h = h
-others_built_in (ReplaceConstValue t) ts h = h
-others_built_in (ReplacePrefixItems t) ts h = h
-others_built_in (AddNullable t) ts h = h
-others_built_in (ReplaceUnevaluatedProperties t) ts h = h
-others_built_in (RestrictFormats t) ts h = h
-others_built_in (Own t) ts h = cc
+none_own : {O : Type 0} (t : GenTransform O) (ts : List (GenTransform O)) → some_own (t ∷ ts) ≡ false
+    → (is_own t ≡ false) × (some_own ts ≡ false)
+none_own t ts h = or_parts (is_own t) (some_own ts) h
 
 stays_after : {O : Type 0} (Q : TransformStep O) (t u : GenTransform O) (ts us : List (GenTransform O)) (e v : Data) (a r : Answer)
     → u ≡ t → ((vs : List (GenTransform O)) → InOrder (OfMember Q) ts e r vs v → vs ≡ ts)
@@ -65,26 +53,10 @@ pub built_ins_stay : {O : Type 0} (Q : TransformStep O) (ts us : List (GenTransf
     → some_own ts ≡ false → InOrder (OfMember Q) ts s r us v → us ≡ ts
 built_ins_stay Q [] us s v r none h = h.1
 built_ins_stay Q (t ∷ ts) us s v r none h =
-    stays_after Q t h.1 ts us h.2 v h.0 r (built_in_stays Q t h.1 s h.2 h.0 (first_built_in t ts none) h.3)
-    (λ vs rest. built_ins_stay Q ts vs h.2 v r (others_built_in t ts none) rest) h.4
+    stays_after Q t h.1 ts us h.2 v h.0 r (built_in Q t h.1 s h.2 h.0 (none_own t ts none).0 h.3).0
+    (λ vs rest. built_ins_stay Q ts vs h.2 v r (none_own t ts none).1 rest) h.4
 
 -- ---- what built-in transforms make
-
--- what was made by a function, or want of memory
-abbrev Made : Answer → Data → Data → Type 0
-Made r v made = MatchResult r (λ _. v ≡ made) (λ e. e ≡ Memory)
-
-built_in_makes : {O : Type 0} (Q : TransformStep O) (t u : GenTransform O) (s v : Data) (r : Answer)
-    → is_own t ≡ false → OfMember Q t s r u v → Made r v (function_of t s)
-built_in_makes Q (ReplaceBoolSchemas t) u s v r own h = h.1
-built_in_makes Q (RemoveRefSiblings t) u s v r own h = h.1
-built_in_makes Q (SetSingleExample t) u s v r own h = h.1
-built_in_makes Q (ReplaceConstValue t) u s v r own h = h.1
-built_in_makes Q (ReplacePrefixItems t) u s v r own h = h.1
-built_in_makes Q (AddNullable t) u s v r own h = h.1
-built_in_makes Q (ReplaceUnevaluatedProperties t) u s v r own h = h.1
-built_in_makes Q (RestrictFormats t) u s v r own h = h.1
-built_in_makes Q (Own t) u s v r own h = cc
 
 makes_after : {O : Type 0} (Q : TransformStep O) (t u : GenTransform O) (ts us : List (GenTransform O)) (s e v : Data) (a r : Answer)
     → Made a e (function_of t s)
@@ -102,8 +74,8 @@ pub built_ins_make : {O : Type 0} (Q : TransformStep O) (ts us : List (GenTransf
     → some_own ts ≡ false → InOrder (OfMember Q) ts s r us v → Made r v (made_by ts s)
 built_ins_make Q [] us s v r none h = subst (λ a. Made a v s) (sym h.0) h.2
 built_ins_make Q (t ∷ ts) us s v r none h =
-    makes_after Q t h.1 ts us s h.2 v h.0 r (built_in_makes Q t h.1 s h.2 h.0 (first_built_in t ts none) h.3)
-    (λ vs rest. built_ins_make Q ts vs h.2 v r (others_built_in t ts none) rest) h.4
+    makes_after Q t h.1 ts us s h.2 v h.0 r (built_in Q t h.1 s h.2 h.0 (none_own t ts none).0 h.3).1
+    (λ vs rest. built_ins_make Q ts vs h.2 v r (none_own t ts none).1 rest) h.4
 
 -- ---- lists of transforms over the values of a map
 

@@ -10,7 +10,7 @@ use Rattle.std.proofs.lemmas.Iterator.Adapters.{position_from-zero}
 use Rattle.std.proofs.lemmas.Slice.Eq.{bytes_eq-Decides}
 use Rattle.indexmap.specs.IndexMap.{insert_entry, set_value_at}
 use Rattle.schemars_schema.specs.Json.{Text}
-use Rattle.schemars_schema.proofs.Members.{bytes_eq_comm}
+use Rattle.schemars_text.proofs.Members.{bytes_eq_comm}
 use Rattle.schemars_types.specs.declared.table.slots.Slot.{Slot}
 use Rattle.schemars_shapes.specs.declared.shape.TypeEntry.{TypeEntry}
 use Rattle.schemars_shapes.specs.Shape.{Entry, entry_of}

@@ -6,7 +6,7 @@ use Rattle.serde_json.specs.Find.{get, as_str, as_array, as_bool}
 use Rattle.std.specs.List.{list_all, list_any}
 use Rattle.std.specs.Option.{option_map_or}
 use Rattle.schemars_schema.specs.Json.{Text}
-use Rattle.schemars_schema.specs.OrderedText.{is_listed}
+use Rattle.schemars_text.specs.OrderedText.{is_listed}
 use Rattle.schemars_schema.specs.Acceptance.{Patterns, matches, texts_in, count_of_number}
 use Rattle.schemars_shapes.specs.Shape.{Shape, any, int, non_zero, newtype, external, internal, adjacent, untagged, literal}
 use Rattle.schemars_shapes.specs.Shape.{Variant, Payload, no_payload, newtype_payload, tuple_payload, struct_payload}

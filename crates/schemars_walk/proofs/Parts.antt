@@ -9,7 +9,7 @@ use Rattle.serde_json.specs.declared.value.Value.{Value}
 use Rattle.serde_json.proofs.Views.{Entry}
 use Rattle.schemars_schema.specs.Json.{Text}
 use Rattle.schemars_schema.specs.References.{Place}
-use Rattle.schemars_schema.proofs.Lists.{nothing_left}
+use Rattle.schemars_text.proofs.Lists.{nothing_left}
 use Rattle.schemars_walk.specs.declared.rewrite.place.Place as place
 use Rattle.schemars_walk.specs.Walk.{place_meant}
 use Rattle.schemars_walk.specs.Parts.{all_unread, member_places, in_places}

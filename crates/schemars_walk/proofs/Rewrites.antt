@@ -9,7 +9,8 @@ use Rattle.serde_json.specs.declared.value.Value.{Value}
 use Rattle.schemars_schema.specs.Json.{Text}
 use Rattle.schemars_schema.specs.SchemaData.{IsSchema}
 use Rattle.schemars_schema.specs.References.{SchemaList, SchemaOrList, SchemasByName}
-use Rattle.schemars_schema.proofs.Lists.{nothing_left}
+use Rattle.schemars_text.proofs.Lists.{nothing_left}
+use Rattle.schemars_schema.proofs.Containers.{array-as_array, not_array, object-as_object, not_object}
 use Rattle.schemars_walk.specs.Rewritten.{Rules, form_at, forms, in_items, in_names}
 use Rattle.schemars_walk.specs.Rewritten.{in_keywords, read_at, as_schema_in, rewritten, with_subschemas}
 use Rattle.schemars_walk.proofs.Walks.{then_items, then_items-none}
@@ -78,57 +79,28 @@ module _ {R : Type 0} (ρ : Rules R) (r : R) where
 
   pub a_list : (d : Data) (ds : Items) → Some ds ≡ as_array d → array (in_items ρ r ds) ≡ read_at ρ SchemaList r d
   unfolding forms
-  a_list null ds e = cc
-  a_list (boolean b) ds e = cc
-  a_list (number n) ds e = cc
-  a_list (string s) ds e = cc
-  a_list (array fs) ds e = let same : ds ≡ fs = cc in ap (λ x. array (in_items ρ r x)) same
-  a_list (object ms) ds e = cc
+  a_list d ds e = rw (array-as_array d ds e) refl
 
   pub no_list : (d : Data) → None ≡ as_array d → d ≡ read_at ρ SchemaList r d
   unfolding forms
-  no_list null e = refl
-  no_list (boolean b) e = refl
-  no_list (number n) e = refl
-  no_list (string s) e = refl
-  no_list (array fs) e = cc
-  no_list (object ms) e = refl
+  no_list d e = not_array (λ d. d ≡ read_at ρ SchemaList r d) refl (λ b. refl) (λ n. refl) (λ s. refl) (λ ms. refl) d e
 
   pub either_list : (d : Data) (ds : Items) → Some ds ≡ as_array d → array (in_items ρ r ds) ≡ read_at ρ SchemaOrList r d
   unfolding forms
-  either_list null ds e = cc
-  either_list (boolean b) ds e = cc
-  either_list (number n) ds e = cc
-  either_list (string s) ds e = cc
-  either_list (array fs) ds e = let same : ds ≡ fs = cc in ap (λ x. array (in_items ρ r x)) same
-  either_list (object ms) ds e = cc
+  either_list d ds e = rw (array-as_array d ds e) refl
 
   pub either_schema : (d : Data) → None ≡ as_array d → as_schema_in ρ r d ≡ read_at ρ SchemaOrList r d
   unfolding forms
-  either_schema null e = refl
-  either_schema (boolean b) e = refl
-  either_schema (number n) e = refl
-  either_schema (string s) e = refl
-  either_schema (array fs) e = cc
-  either_schema (object ms) e = refl
+  either_schema d e =
+      not_array (λ d. as_schema_in ρ r d ≡ read_at ρ SchemaOrList r d) refl (λ b. refl) (λ n. refl) (λ s. refl) (λ ms. refl) d e
 
   pub some_names : (d : Data) (ms : Members) → Some ms ≡ as_object d → object (in_names ρ r ms) ≡ read_at ρ SchemasByName r d
   unfolding forms
-  some_names null ms e = cc
-  some_names (boolean b) ms e = cc
-  some_names (number n) ms e = cc
-  some_names (string s) ms e = cc
-  some_names (array ds) ms e = cc
-  some_names (object fs) ms e = let same : ms ≡ fs = cc in ap (λ x. object (in_names ρ r x)) same
+  some_names d ms e = rw (object-as_object d ms e) refl
 
   pub no_names : (d : Data) → None ≡ as_object d → d ≡ read_at ρ SchemasByName r d
   unfolding forms
-  no_names null e = refl
-  no_names (boolean b) e = refl
-  no_names (number n) e = refl
-  no_names (string s) e = refl
-  no_names (array fs) e = refl
-  no_names (object ms) e = cc
+  no_names d e = not_object (λ d. d ≡ read_at ρ SchemasByName r d) refl (λ b. refl) (λ n. refl) (λ s. refl) (λ ds. refl) d e
 
   pub no_schema : (d : Data) → ¬ IsSchema d → d ≡ as_schema_in ρ r d
   unfolding forms
@@ -149,9 +121,4 @@ module _ {R : Type 0} (ρ : Rules R) (r : R) where
   rewritten_by (object ms) e = refl
 
   pub subschemas_of_object : (d : Data) (ms : Members) → Some ms ≡ as_object d → object (in_keywords ρ r ms) ≡ with_subschemas ρ r d
-  subschemas_of_object null ms e = cc
-  subschemas_of_object (boolean b) ms e = cc
-  subschemas_of_object (number n) ms e = cc
-  subschemas_of_object (string s) ms e = cc
-  subschemas_of_object (array ds) ms e = cc
-  subschemas_of_object (object fs) ms e = let same : ms ≡ fs = cc in ap (λ x. object (in_keywords ρ r x)) same
+  subschemas_of_object d ms e = rw (object-as_object d ms e) refl

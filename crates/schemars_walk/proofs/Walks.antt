@@ -15,7 +15,7 @@ use Rattle.serde_json.proofs.Views.{Entry}
 use Rattle.schemars_schema.specs.Json.{Text}
 use Rattle.serde_json.specs.Find.{as_array, as_object}
 use Rattle.schemars_schema.specs.References.{place_under}
-use Rattle.schemars_schema.proofs.Lists.{nothing_left}
+use Rattle.schemars_text.proofs.Lists.{nothing_left}
 use Rattle.schemars_walk.specs.Walk.{Answer, TransformStep, EachItem, EachMember, AtSchema}
 use Rattle.schemars_walk.specs.Walk.{AtList, AtSchemaOrList, AtNames, AtPlace, Walked, Recursed}
 use Rattle.schemars_walk.specs.declared.transform.TransformError.{TransformError}
@@ -151,7 +151,8 @@ levels Once = 0
 levels (Levels n) = suc n
 
 -- one turn of a loop over members that go back one after another
-module _ {S : Type 0} (Q : Text → TransformStep S) (start s w : S) (all : Members) (it done more : List Entry) (k : String Global) (v : Value)
+module _ {S : Type 0} (Q : Text → TransformStep S) (start s w : S) (all : Members) (it done more : List Entry) (k : String Global)
+    (v : Value)
     (goes : (r : Answer) (u : S) (es : Members) → EachMember Q s (members_view it) r u es
     → EachMember Q start all r u (then_members (members_view done) es))
     (step : it ≡ (k, v) ∷ more) where

@@ -2,7 +2,8 @@
 ghost use Rattle.std.specs.Prelude.{◌≡◌, codes, IfOk, OnOk};
 ghost use Rattle.serde_json.specs.View.{view, items_view};
 ghost use Rattle.schemars_flatten.specs.Flatten.{alone};
-ghost use Rattle.schemars_flatten.specs.Parts.{items_changed, list_changed_at, is_empty_object};
+ghost use Rattle.schemars_schema.specs.Edits.{on_list};
+ghost use Rattle.schemars_flatten.specs.Parts.{list_changed_at, is_empty_object};
 ghost use Rattle.schemars_flatten.specs.Parts.{holds_empty_object, with_empty_object};
 ghost use Rattle.schemars_flatten.specs.Parts.{one_or_anything};
 ghost use Rattle.schemars_flatten.specs.Parts.{choice_or_anything, optional, optional_where};
@@ -101,7 +102,7 @@ fn admit_anything(alloc: Global, schema: &mut Schema) -> Result<(), AllocError>
 }
 
 fn change_list(alloc: Global, choice: &mut Value) -> Result<(), AllocError>
-    ensures { OnOk result (view choice.new ≡ items_changed with_empty_object (view choice.old)) }
+    ensures { OnOk result (view choice.new ≡ on_list with_empty_object (view choice.old)) }
 {
     match choice.as_array_mut() {
         Some(schemas) => push_empty_object(alloc, schemas),

@@ -4,11 +4,11 @@ ghost use Rattle.serde_json.specs.Data.{array, no_items};
 ghost use Rattle.serde_json.specs.Find.{as_str};
 ghost use Rattle.serde_json.specs.View.{view, items_view, members_view};
 ghost use Rattle.schemars_flatten.specs.Flatten.{appended};
-ghost use Rattle.schemars_schema.specs.Edits.{changed_at};
+ghost use Rattle.schemars_schema.specs.Edits.{changed_at, on_list};
 ghost use Rattle.schemars_flatten.specs.Parts.{unit_object, unit_object_first, unit_objects};
 ghost use Rattle.schemars_flatten.specs.Parts.{units_of, with_items, with_units};
 ghost use Rattle.schemars_builders.specs.AllowNull.{null_schema};
-ghost use Rattle.schemars_flatten.specs.Parts.{first_units, first_as_objects, items_changed};
+ghost use Rattle.schemars_flatten.specs.Parts.{first_units, first_as_objects};
 ghost use Rattle.schemars_flatten.specs.Parts.{list_changed_at, units_as_objects};
 
 use crate::part::closing::has_type;
@@ -135,7 +135,7 @@ fn change_choice(alloc: Global, schema: &mut Schema) -> Result<(), AllocError>
 }
 
 fn change_list(alloc: Global, choice: &mut Value) -> Result<(), AllocError>
-    ensures { OnOk result (view choice.new ≡ items_changed first_as_objects (view choice.old)) }
+    ensures { OnOk result (view choice.new ≡ on_list first_as_objects (view choice.old)) }
 {
     match choice.as_array_mut() {
         Some(schemas) => first_as_objects(alloc, schemas),

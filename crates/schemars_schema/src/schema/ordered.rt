@@ -3,12 +3,11 @@ ghost use Rattle.std.specs.Prelude.{◌≡◌, ◌≢◌, Err, false, string_byt
 ghost use Rattle.json.specs.Lex.{tokens};
 ghost use Rattle.json.specs.Print.{print};
 ghost use Rattle.serde_json.specs.Written.{has_float};
-ghost use Rattle.schemars_schema.specs.OrderedText.{ordered_text};
-ghost use Rattle.schemars_schema.specs.Sent.{IsSent, IsSentInPart};
+ghost use Rattle.schemars_text.specs.OrderedText.{ordered_text};
+ghost use Rattle.schemars_text.specs.Sent.{IsSent, IsSentInPart};
 
-use crate::error::OrderedError;
 use crate::schema::Schema;
-use crate::sink::Sink;
+use schemars_text::{OrderedError, Sink};
 use std::alloc::{AllocError, Global};
 
 impl Schema {
@@ -30,7 +29,7 @@ impl Schema {
             → string_bytes s ≡ ordered_text self.now) }
         ensures compact { IfOk result (λ s. string_bytes s ≡ print (tokens (string_bytes s))) }
     {
-        crate::text::ordered::to_ordered_string(alloc, self.as_value())
+        schemars_text::to_ordered_string(alloc, self.as_value())
     }
 
     /// Writes the schema to the sink, as `to_ordered_string` gives it.
@@ -46,6 +45,6 @@ impl Schema {
         ensures failed { result ≡ Err OrderedError.Write → IsTrue (K.has_failed sink.new) }
         ensures memory { result ≢ Err OrderedError.OutOfMemory }
     {
-        crate::text::writing::write_ordered(self.as_value(), sink)
+        schemars_text::write_ordered(self.as_value(), sink)
     }
 }

@@ -11,7 +11,7 @@ impl Described for Schema {}
 /// The members of each schema object are sent in the order of `to_ordered_string`.
 impl Serialize for Schema {
     fn serialize<S: Serializer>(&self, out: &mut S) -> Result<(), S::Error> {
-        crate::text::sending::send_ordered(self.as_value(), out)
+        schemars_text::send_ordered(self.as_value(), out)
     }
 }
 

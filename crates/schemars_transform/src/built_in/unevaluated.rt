@@ -2,7 +2,7 @@
 ghost use Rattle.std.specs.Prelude.{◌≡◌, IfOk, OnOk};
 ghost use Rattle.serde_json.specs.Data.{no_members};
 ghost use Rattle.serde_json.specs.View.{view, items_view, members_view};
-ghost use Rattle.schemars_schema.specs.OrderedText.{is_listed};
+ghost use Rattle.schemars_text.specs.OrderedText.{is_listed};
 ghost use Rattle.schemars_schema.specs.References.{with_same_object, with_same_objects};
 ghost use Rattle.schemars_transform.specs.Unevaluated.{keys, keys_in};
 ghost use Rattle.schemars_transform.specs.Unevaluated.{names_in, names_in_items, names_in_keywords};

@@ -4,7 +4,7 @@ use Rattle.std.proofs.lemmas.List.{drop_more}
 use Rattle.std.proofs.Math.ListN.{drop_of_length-le}
 use Rattle.std.specs.List.{list_all}
 use Rattle.std.specs.Option.{option_map_or}
-use Rattle.schemars_schema.specs.OrderedText.{is_listed}
+use Rattle.schemars_text.specs.OrderedText.{is_listed}
 use Rattle.schemagen_input.specs.Forms.{are_listed}
 use Rattle.schemagen_input.proofs.BorrowedMembers.{Member, are_listed-members}
 use Rattle.schemagen_input.proofs.members.has_only.Goals as goal

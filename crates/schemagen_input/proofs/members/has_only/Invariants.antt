@@ -1,7 +1,7 @@
 -- The names so far are listed.
 use Rattle.std.proofs.Common.{◌≡◌, map, drop}
 use Rattle.std.specs.List.{list_all}
-use Rattle.schemars_schema.specs.OrderedText.{is_listed}
+use Rattle.schemars_text.specs.OrderedText.{is_listed}
 use Rattle.schemagen_input.proofs.BorrowedMembers.{Member}
 use Rattle.schemagen_input.proofs.members.has_only.Given as goal
 

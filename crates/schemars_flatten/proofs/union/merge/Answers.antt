@@ -5,7 +5,7 @@ use Rattle.serde_json.specs.Data.{object}
 use Rattle.serde_json.specs.View.{view, members_view}
 use Rattle.serde_json.proofs.Views.{view-Object}
 use Rattle.schemars_schema.specs.SchemaData.{put_members}
-use Rattle.schemars_schema.proofs.MapEdits.{object-as_object}
+use Rattle.schemars_schema.proofs.Containers.{object-as_object}
 use Rattle.schemars_flatten.proofs.Parts.{objects_merged, no_object_merged}
 use Rattle.schemars_flatten.proofs.union.merge.Goals as goal
 

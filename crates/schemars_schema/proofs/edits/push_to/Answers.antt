@@ -5,7 +5,7 @@ use Rattle.serde_json.specs.Data.{array}
 use Rattle.serde_json.specs.View.{view, items_view}
 use Rattle.serde_json.proofs.Views.{view-Array}
 use Rattle.schemars_schema.specs.Edits.{with_last}
-use Rattle.schemars_schema.proofs.Changes.{array-as_array}
+use Rattle.schemars_schema.proofs.Containers.{array-as_array}
 use Rattle.schemars_schema.proofs.Lists.{items_view-push}
 use Rattle.schemars_schema.proofs.edits.push_to.Goals as goal
 

@@ -124,10 +124,11 @@ rewrite_keywords-returns g t c =
     let new = c.rewrite_values.new.values in
     let keys = c.take_values.ensures.keys in
     let taken : c.deref_mut.result.now ≡ values_of es = c.deref_mut.ensures.value ∙ c.in_ok-values.ensures.values in
-    let places : map place_meant c.deref.result.now ≡ member_places (ρ.place r) (members_view es) = ap (map place_meant) c.deref.ensures.value ∙
-    c.in_ok-places.ensures in
-    let call = c.in_ok-rewrite_values.ensures ∙ ap (λ vs. in_places ρ r (map place_meant c.deref.result.now) (items_view vs)) taken ∙ ap (λ
-    ps. in_places ρ r ps (items_view (values_of es))) places in
+    let places : map place_meant c.deref.result.now ≡ member_places (ρ.place r) (members_view es) =
+    ap (map place_meant) c.deref.ensures.value ∙ c.in_ok-places.ensures in
+    let call = c.in_ok-rewrite_values.ensures
+    ∙ ap (λ vs. in_places ρ r (map place_meant c.deref.result.now) (items_view vs)) taken
+    ∙ ap (λ ps. in_places ρ r ps (items_view (values_of es))) places in
     let written = with_items_is c.in_ok-values.values new (omega (
       arith,
       c.rewrite_values.auto.values,

@@ -1,7 +1,7 @@
 -- What each call answers.
 use Rattle.std.proofs.Common.{sym, ap, ◌∙◌, arith}
 use Rattle.serde_json.specs.View.{view, items_view, members_view}
-use Rattle.schemars_schema.proofs.Lists.{items_shallow}
+use Rattle.schemars_text.proofs.Lists.{items_shallow}
 use Rattle.schemars_flatten.specs.Opening.{closed_in_items}
 use Rattle.schemars_flatten.proofs.ClosedCalls.{closed_first, closed_rest, closed_other, closed_array, closed_no_array}
 use Rattle.schemars_flatten.proofs.ClosedCalls.{item_found, item_passed, all_passed}

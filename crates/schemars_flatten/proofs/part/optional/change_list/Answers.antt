@@ -4,8 +4,9 @@ use Rattle.std.proofs.lemmas.Result.{on_ok_weaker}
 use Rattle.serde_json.specs.Data.{array}
 use Rattle.serde_json.specs.View.{view, items_view}
 use Rattle.serde_json.proofs.Views.{view-Array}
-use Rattle.schemars_schema.proofs.Changes.{array-as_array}
-use Rattle.schemars_flatten.specs.Parts.{items_changed, with_empty_object}
+use Rattle.schemars_schema.proofs.Containers.{array-as_array}
+use Rattle.schemars_schema.specs.Edits.{on_list}
+use Rattle.schemars_flatten.specs.Parts.{with_empty_object}
 use Rattle.schemars_flatten.proofs.part.optional.change_list.Goals as goal
 
 pub returns-in-Some : goal.returns-in-Some
@@ -14,5 +15,5 @@ returns-in-Some c =
     let is : view c.args.choice.now ≡ array ds = array-as_array (view c.args.choice.now) ds c.in-Some.ensures.value in
     on_ok_weaker c.push_empty_object.result
     (λ (changed : items_view c.push_empty_object.new.schemas.items ≡ with_empty_object ds).
-    view-Array c.push_empty_object.new.schemas ∙ (ap array changed ∙ ap (items_changed with_empty_object) (sym is)))
+    view-Array c.push_empty_object.new.schemas ∙ (ap array changed ∙ ap (on_list with_empty_object) (sym is)))
     c.push_empty_object.ensures

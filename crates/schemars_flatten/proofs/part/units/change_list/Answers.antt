@@ -4,8 +4,9 @@ use Rattle.std.proofs.lemmas.Result.{on_ok_weaker}
 use Rattle.serde_json.specs.Data.{array}
 use Rattle.serde_json.specs.View.{view, items_view}
 use Rattle.serde_json.proofs.Views.{view-Array}
-use Rattle.schemars_schema.proofs.Changes.{array-as_array}
-use Rattle.schemars_flatten.specs.Parts.{items_changed, first_as_objects}
+use Rattle.schemars_schema.proofs.Containers.{array-as_array}
+use Rattle.schemars_schema.specs.Edits.{on_list}
+use Rattle.schemars_flatten.specs.Parts.{first_as_objects}
 use Rattle.schemars_flatten.proofs.part.units.change_list.Goals as goal
 
 pub returns-in-Some : goal.returns-in-Some
@@ -14,5 +15,5 @@ returns-in-Some c =
     let is : view c.args.choice.now ≡ array ds = array-as_array (view c.args.choice.now) ds c.in-Some.ensures.value in
     on_ok_weaker c.first_as_objects.result
     (λ (changed : items_view c.first_as_objects.new.schemas.items ≡ first_as_objects ds).
-    view-Array c.first_as_objects.new.schemas ∙ (ap array changed ∙ ap (items_changed first_as_objects) (sym is)))
+    view-Array c.first_as_objects.new.schemas ∙ (ap array changed ∙ ap (on_list first_as_objects) (sym is)))
     c.first_as_objects.ensures

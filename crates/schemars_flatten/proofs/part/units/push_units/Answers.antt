@@ -4,7 +4,7 @@ use Rattle.std.proofs.lemmas.Result.{on_ok_weaker}
 use Rattle.serde_json.specs.Data.{array}
 use Rattle.serde_json.specs.View.{view, items_view}
 use Rattle.serde_json.proofs.Views.{view-Array}
-use Rattle.schemars_schema.proofs.Changes.{array-as_array}
+use Rattle.schemars_schema.proofs.Containers.{array-as_array}
 use Rattle.schemars_flatten.specs.Flatten.{appended}
 use Rattle.schemars_flatten.specs.Parts.{with_items}
 use Rattle.schemars_flatten.proofs.part.units.push_units.Goals as goal

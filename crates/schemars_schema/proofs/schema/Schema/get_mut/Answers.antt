@@ -4,7 +4,8 @@ use Rattle.serde_json.specs.Data.{object}
 use Rattle.serde_json.specs.View.{view, members_view}
 use Rattle.schemars_schema.specs.SchemaData.{members_in}
 use Rattle.schemars_schema.specs.Edits.{replaced}
-use Rattle.schemars_schema.proofs.MapEdits.{object-as_object, when_some}
+use Rattle.schemars_schema.proofs.MapEdits.{when_some}
+use Rattle.schemars_schema.proofs.Containers.{object-as_object}
 use Rattle.schemars_schema.proofs.schema.Schema.get_mut.Goals as goal
 
 pub returns-in-Some : goal.returns-in-Some

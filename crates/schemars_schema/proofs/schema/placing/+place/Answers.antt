@@ -6,7 +6,7 @@ use Rattle.serde_json.specs.View.{view, members_view}
 use Rattle.serde_json.specs.declared.value.Value.{Object}
 use Rattle.serde_json.proofs.Views.{view-Object}
 use Rattle.schemars_schema.specs.Edits.{replaced}
-use Rattle.schemars_schema.proofs.MapEdits.{object-as_object}
+use Rattle.schemars_schema.proofs.Containers.{object-as_object}
 use Rattle.schemars_schema.proofs.Placings.{below_nothing, below_first, below_is_shorter, placed_missing, placed_refused, placed_inside}
 use Rattle.schemars_schema.proofs.schema.placing.+place.Goals as goal
 

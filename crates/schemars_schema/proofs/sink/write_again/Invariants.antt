@@ -1,6 +1,0 @@
--- A write that was interrupted has appended nothing.
-use Rattle.std.specs.Io.KnownBytes.{Keeps}
-use Rattle.schemars_schema.proofs.sink.write_again.Given as goal
-
-abbrev pub invariant-loop : goal.invariant-loop
-invariant-loop g l = Keeps (g.W.Write.contents l.fn.writer) (g.W.Write.contents l.writer)

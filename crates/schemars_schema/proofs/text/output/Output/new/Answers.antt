@@ -1,9 +1,0 @@
--- No token gives no text.
-use Rattle.std.proofs.Common.{ap}
-use Rattle.json.specs.Print.{print_from}
-use Rattle.schemars_schema.proofs.Outputs.{output_of}
-use Rattle.schemars_schema.proofs.text.output.Output.new.Goals as goal
-
-pub returns : goal.returns
-unfolding print_from
-returns c = ap output_of c.new-2.ensures.tokens

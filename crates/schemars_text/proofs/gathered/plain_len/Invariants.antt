@@ -1,0 +1,13 @@
+-- The bytes so far need no escape.
+use Rattle.std.proofs.Common.{◌≡◌, ◌≤◌, ◌-◌, length, take}
+use Rattle.json.specs.Print.{escape}
+use Rattle.schemars_text.proofs.gathered.plain_len.Given as goal
+
+abbrev pub invariant-loop-len : goal.invariant-loop-len
+invariant-loop-len l = record {
+  within : l.len ≤ length l.text;
+  same : escape (take l.len l.text) ≡ take l.len l.text;
+}
+
+abbrev pub decreases-loop-len : goal.decreases-loop-len
+decreases-loop-len l = length l.text - l.len

@@ -1,0 +1,76 @@
+//! JSON text that is being written, with its commas in place.
+ghost use Rattle.std.specs.Prelude.{◌≡◌, [], false, string_bytes, OnOk};
+ghost use Rattle.json.specs.Lex.{tokens};
+ghost use Rattle.json.specs.Print.{IsPrintable, print};
+ghost use Rattle.json.specs.Reads.{token_of};
+ghost use Rattle.json.specs.Token.{number};
+ghost use Rattle.serde_json.specs.Find.{is_float};
+ghost use Rattle.serde_json.specs.View.{number_view};
+ghost use Rattle.serde_json.specs.Written.{number_text};
+ghost use Rattle.schemars_text.specs.Output.{with_token};
+
+use json::{Token, Writer};
+use serde_json::Number;
+use std::alloc::{AllocError, Global};
+use std::marker::Model;
+
+// It is seen as the text so far, and whether a value has just ended.
+#[derive(Drop)]
+pub(crate) struct Output {
+    writer: Writer,
+}
+
+impl Model for Output {
+    ghost use Rattle.std.specs.Prelude.{◌≡◌, []};
+    ghost use Rattle.json.specs.Print.{print, ends_value};
+    ghost use Rattle.schemars_text.specs.Output.{Output};
+
+    ghost Value = { Output };
+
+    ghost view = { λ o. record {
+      text = print o.writer.tokens;
+      after_value = ends_value o.writer.tokens;
+    } };
+
+    ghost invariant = { λ o. o.writer.before ≡ [] };
+}
+
+impl Output {
+    pub(crate) fn new(alloc: Global) -> Output
+        ensures { result ≡ record { text = []; after_value = false } }
+    {
+        Output {
+            writer: Writer::new(Vec::new(alloc)),
+        }
+    }
+
+    pub(crate) fn into_string(self) -> String
+        ensures text { string_bytes result ≡ self.text }
+        ensures compact { string_bytes result ≡ print (tokens (string_bytes result)) }
+    {
+        let Output { writer } = self;
+        String::from_utf8(writer.into_inner()).unwrap()
+    }
+
+    pub(crate) fn token(&mut self, token: Token<'_>) -> Result<(), AllocError>
+        requires { IsPrintable (token_of token) }
+        ensures { OnOk result (self.new ≡ with_token self.old (token_of token.entry)) }
+    {
+        self.writer.token(token)?;
+        Ok(())
+    }
+
+    pub(crate) fn number(&mut self, n: Number) -> Result<(), AllocError>
+        ensures { OnOk result (is_float (number_view n) ≡ false
+            → self.new ≡ with_token self.old (number (number_text (number_view n)))) }
+    {
+        if let Some(whole) = n.as_u64() {
+            self.writer.u64(whole)?;
+        } else if let Some(below_zero) = n.as_i64() {
+            self.writer.i64(below_zero)?;
+        } else if let Some(x) = n.as_f64() {
+            self.writer.float_with_plus(x)?;
+        }
+        Ok(())
+    }
+}

@@ -1,0 +1,66 @@
+//! The members of a schema that have a fixed place in its text.
+ghost use Rattle.std.specs.Prelude.{◌≡◌, ◌++◌, ◌||◌, map, option_map, Some, None};
+ghost use Rattle.std.specs.Prelude.{if◌then◌else◌};
+ghost use Rattle.serde_json.specs.Find.{get_member};
+ghost use Rattle.serde_json.specs.View.{view, members_view};
+ghost use Rattle.schemars_text.specs.OrderedText.{first_keywords, last_keywords, is_listed};
+ghost use Rattle.schemars_text.specs.Places.{place_in};
+
+use serde_json::{Map, Value};
+
+pub(crate) const FIRST_KEYWORDS: [&str; 7] = [
+    "$id",
+    "$schema",
+    "title",
+    "description",
+    "type",
+    "format",
+    "properties",
+];
+
+pub(crate) const LAST_KEYWORDS: [&str; 2] = ["$defs", "definitions"];
+
+// Finds what stands under `FIRST_KEYWORDS` and then `LAST_KEYWORDS`, in one pass.
+#[inline(never)]
+pub(crate) fn find_fixed<'v>(members: &'v Map<String, Value>, found: &mut [Option<&'v Value>; 9])
+    ensures { map (λ s. option_map (λ v. view v.now) s) found.new
+        ≡ map (λ k. get_member k (members_view members.now.entries))
+        (first_keywords ++ last_keywords) }
+{
+    *found = [None; 9];
+    for (key, value) in members.iter() {
+        if let Some(place) = place_of(key.as_str()) {
+            found[place] = found[place].or(Some(value));
+        }
+    }
+}
+
+#[tactic(auto, using(crate::proofs::FixedMembers::has_place))]
+pub(crate) fn has_fixed_place(key: &str) -> bool
+    ensures { result ≡ is_listed key.now first_keywords || is_listed key.now last_keywords }
+{
+    place_of(key).is_some()
+}
+
+fn place_of(key: &str) -> Option<usize>
+    ensures { result ≡ place_in key.now (first_keywords ++ last_keywords) }
+{
+    match key.len() {
+        3 => place_if(key == "$id", 0),
+        4 => place_if(key == "type", 4),
+        5 if key == "title" => Some(2),
+        5 => place_if(key == "$defs", 7),
+        6 => place_if(key == "format", 5),
+        7 => place_if(key == "$schema", 1),
+        10 => place_if(key == "properties", 6),
+        11 if key == "description" => Some(3),
+        11 => place_if(key == "definitions", 8),
+        _ => None,
+    }
+}
+
+fn place_if(is_there: bool, place: usize) -> Option<usize>
+    ensures { result ≡ if is_there then Some place else None }
+{
+    if is_there { Some(place) } else { None }
+}
