@@ -33,7 +33,7 @@ pub enum Fault {
     /// No schema is made.
     #[error("configuration: {0}")]
     Generate(#[from] GenerateError),
-    /// What was read is no configuration.
+    /// The input is not a configuration.
     #[error("configuration: {0}")]
     Refused(#[from] Refusal),
     /// Standard input or output failed.

@@ -68,7 +68,7 @@ fn command_of(word: &str) -> Result<Command, Fault> {
     }
 }
 
-// One that is no text is none that the program knows.
+// An argument that is not UTF-8 is not a known word.
 fn words<R: Env + Alloc<A = Global>>(rt: &R) -> Result<Vec<String>, Fault> {
     match env::args(rt) {
         Ok(args) => Ok(args.skip(1).collect(rt.alloc())?),

@@ -27,7 +27,7 @@ fn run_program<R: Env + Alloc<A = Global> + Input + Print>(rt: &R) -> Result<(),
     run(rt.alloc(), &words, &mut source, &mut sink)
 }
 
-// The arguments after the program's name. One that is no text is none that the program knows.
+// The arguments after the program's name. An argument that is not UTF-8 is not a known word.
 fn words_of<R: Env + Alloc<A = Global>>(rt: &R) -> Result<Vec<String>, Fault> {
     match env::args(rt) {
         Ok(args) => Ok(args.skip(1).collect(rt.alloc())?),

@@ -9,7 +9,7 @@ use std::process::ExitCode;
 use std::rt::Files;
 use std::{env, fs, io};
 
-// Why nothing is told of a table.
+// Why there is no report on a table.
 enum Stop {
     Usage,
     Failed(io::Error),
@@ -66,7 +66,7 @@ fn read_input<R: Alloc<A = Global> + Input>(rt: &R) -> io::Result<Vec<u8>> {
     Ok(bytes)
 }
 
-// The arguments after the program's name. One that is no text names no file.
+// The arguments after the program's name. An argument that is not UTF-8 does not name a file.
 fn words_of<R: Env + Alloc<A = Global>>(rt: &R) -> Result<Vec<String>, Stop> {
     match env::args(rt) {
         Ok(args) => match args.skip(1).collect(rt.alloc()) {

@@ -20,12 +20,12 @@ pub use schemars_schema::{consts, encoding};
 pub use schemars_types::Contract;
 use transform::Transform;
 
-/// A generator with user-defined transforms of any type, which stand in boxes.
+/// A generator with boxed user-defined transforms of any type.
 ///
 /// `generate::SchemaGenerator<O>` is one with user-defined transforms of type `O`.
 pub type SchemaGenerator = generate::SchemaGenerator<Box<dyn Transform + Drop>>;
 
-/// The settings of a generator with user-defined transforms of any type, which stand in boxes.
+/// The settings of a generator with boxed user-defined transforms of any type.
 ///
 /// `generate::SchemaSettings<O>` are those with user-defined transforms of type `O`.
 pub type SchemaSettings = generate::SchemaSettings<Box<dyn Transform + Drop>>;

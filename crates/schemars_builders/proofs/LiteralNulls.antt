@@ -4,7 +4,7 @@ use Rattle.std.proofs.Common.{◌∙◌, true≢false}
 use Rattle.std.specs.Prelude.{codes, bytes_eq, ◌||◌, ◌&&◌, if◌then◌else◌, is_some, option_and_then, option_map}
 use Rattle.std.proofs.lemmas.Slice.Eq.{bytes_eq-Decides}
 use Rattle.std.proofs.lemmas.Bool.{and_parts}
-use Rattle.serde_json.specs.Data.{Data, null, boolean, number, string, array, object, Items, no_items, item, Members}
+use Rattle.serde_json.specs.Data.{Data, boolean, string, array, object, Items, no_items, item, Members}
 use Rattle.serde_json.specs.Data.{no_members, member}
 use Rattle.serde_json.specs.Find.{get_member, as_str}
 use Rattle.schemars_schema.specs.Json.{Text}
@@ -30,11 +30,7 @@ texts_form (item d ds) ts is = go (as_str d) (texts_in ds) refl refl is (texts_f
   where
     text_form : (e : Data) (s : Text) → as_str e ≡ Some s → e ≡ string s
     text_form (string t) s e = cc
-    text_form null s e = cc
-    text_form (boolean b) s e = cc
-    text_form (number n) s e = cc
-    text_form (array es) s e = cc
-    text_form (object ms) s e = cc
+    text_form _ s e = cc
 
     go : (s : Option Text) (o : Option (List Text)) → as_str d ≡ s → texts_in ds ≡ o
         → option_and_then (λ t. option_map (λ us. t ∷ us) o) s ≡ Some ts
@@ -58,10 +54,7 @@ type_form (array ds) h = go (texts_in ds) refl h
         → HasTypeForm (Some (array ds))
     go None is h = absurd (true≢false (sym h))
     go (Some ts) is h = (ts, texts_form ds ts is, names_form ts (are_type_names ts) h)
-type_form null h = absurd (true≢false (sym h))
-type_form (boolean b) h = absurd (true≢false (sym h))
-type_form (number n) h = absurd (true≢false (sym h))
-type_form (object ms) h = absurd (true≢false (sym h))
+type_form _ h = absurd (true≢false (sym h))
 
 literal_type : (ms : Members) → ArePlainMembers ms → HasTypeForm (get_member (codes "type") ms)
 literal_type ms plain = go (get_member (codes "type") ms) refl
@@ -109,10 +102,7 @@ literal_ready (object ms) plain =
       values = literal_values ms plain.members plain.not_both;
       not_form = inl (plain_absent (codes "not") ms plain.members (λ d. refl));
     })
-literal_ready null plain = absurd plain
-literal_ready (number n) plain = absurd plain
-literal_ready (string s) plain = absurd plain
-literal_ready (array ds) plain = absurd plain
+literal_ready _ plain = absurd plain
 
 -- with null added it accepts what it accepted, and null
 pub literal_or_null : (dialect : Dialect) → IsDraft dialect → (document : Data) (patterns : Patterns) (n : ℕ) (l v : Data)

@@ -19,11 +19,7 @@ use Rattle.schemars_builders.specs.NullLaw.{text_items, HasTypeForm}
 
 no_null_type : (v : Data) → is_null v ≡ false → is_of_type (codes "null") v ≡ false
 no_null_type null h = absurd (true≢false h)
-no_null_type (boolean b) h = refl
-no_null_type (number n) h = refl
-no_null_type (string s) h = refl
-no_null_type (array vs) h = refl
-no_null_type (object ms) h = refl
+no_null_type _ h = refl
 
 types_append : (ts : List Text) (v : Data) → is_null v ≡ false → is_of_some_type (ts ++ codes "null" ∷ []) v ≡ is_of_some_type ts v
 types_append [] v h = rw (no_null_type v h)
@@ -115,20 +111,12 @@ type_null (Some (object ms)) h = absurd h
 json_eq-null : (v : Data) → json_eq v null ≡ is_null v
 unfolding json_eq
 json_eq-null null = refl
-json_eq-null (boolean b) = refl
-json_eq-null (number n) = refl
-json_eq-null (string s) = refl
-json_eq-null (array vs) = refl
-json_eq-null (object ms) = refl
+json_eq-null _ = refl
 
 pub null-json_eq : (v : Data) → json_eq null v ≡ is_null v
 unfolding json_eq
 null-json_eq null = refl
-null-json_eq (boolean b) = refl
-null-json_eq (number n) = refl
-null-json_eq (string s) = refl
-null-json_eq (array vs) = refl
-null-json_eq (object ms) = refl
+null-json_eq _ = refl
 
 is_among-with_null : (ds : Items) (v : Data) → is_among (with_item ds null) v ≡ is_among ds v || is_null v
 is_among-with_null no_items v = rw null-json_eq (or-false (is_null v))

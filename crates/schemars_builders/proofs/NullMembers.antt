@@ -202,11 +202,7 @@ or-swap false b = sym (or-false b)
 
 is_null_value : (v : Data) → is_null v ≡ true → v ≡ null
 is_null_value null h = refl
-is_null_value (boolean b) h = absurd (true≢false (sym h))
-is_null_value (number n) h = absurd (true≢false (sym h))
-is_null_value (string s) h = absurd (true≢false (sym h))
-is_null_value (array vs) h = absurd (true≢false (sym h))
-is_null_value (object ms) h = absurd (true≢false (sym h))
+is_null_value _ h = absurd (true≢false (sym h))
 
 -- no keyword that combines schemas stands there
 pub alone_parts : (ms : Members) → is_combined (object ms) ≡ false
@@ -333,11 +329,7 @@ beside false r s t v e = e
 
 only_null : (v : Data) → type_says false (Some (string (codes "null"))) None v ≡ verdict (is_null v)
 only_null null = refl
-only_null (boolean b) = refl
-only_null (number n) = refl
-only_null (string s) = refl
-only_null (array vs) = refl
-only_null (object ms) = refl
+only_null _ = refl
 
 module _ (siblings prefix unevaluated : Bool) (patterns : Patterns) (f : Text → Judge) where
   abbrev dialect : Dialect
@@ -492,10 +484,7 @@ module _ (siblings prefix unevaluated : Bool) (patterns : Patterns) (f : Text �
       go false true stays is h = or_null-says (object ms) tt v b e
       go false false stays is (inl p) = absurd (true≢false (sym p.combined ∙ is))
       go false false stays is (inr p) = plain_says ms is p v (is_null v) b refl e
-  drafted-says null r v b e = absurd r
-  drafted-says (number n) r v b e = absurd r
-  drafted-says (string s) r v b e = absurd r
-  drafted-says (array ds) r v b e = absurd r
+  drafted-says _ r v b e = absurd r
 
 pub allow_null-says : (dialect : Dialect) → IsDraft dialect → (patterns : Patterns) (f : Text → Judge) (t : Data)
     → IsNullable dialect t → (v : Data) (b : Bool) → (judge (context_of dialect patterns f) t).fits v ≡ verdict b

@@ -91,23 +91,17 @@ plain-with_null ms p =
 
 -- a schema to which null can be added under each draft: it combines schemas, and its type is not null, or it is plain
 abbrev pub IsReady : Data → Type 0
-IsReady null = ⊥
 IsReady (boolean b) = Unit {0}
-IsReady (number n) = ⊥
-IsReady (string s) = ⊥
-IsReady (array ds) = ⊥
 IsReady (object ms) =
     (((dialect : Dialect) → IsDraft dialect → IsChoice dialect ms)
     × (is_text (codes "null") (option_and_then as_str (get_member (codes "type") ms)) ≡ false)) ⊎ IsPlain ms
+IsReady _ = ⊥
 
 ready_nullable : (dialect : Dialect) → IsDraft dialect → (t : Data) → IsReady t → IsNullable dialect t
 ready_nullable dialect draft (boolean b) r = tt
 ready_nullable dialect draft (object ms) (inl choice) = inl (choice.0 dialect draft)
 ready_nullable dialect draft (object ms) (inr p) = inr p
-ready_nullable dialect draft null r = absurd r
-ready_nullable dialect draft (number n) r = absurd r
-ready_nullable dialect draft (string s) r = absurd r
-ready_nullable dialect draft (array ds) r = absurd r
+ready_nullable dialect draft _ r = absurd r
 
 null_fits : (dialect : Dialect) → IsDraft dialect → AcceptsNull dialect null_schema
 null_fits = each_draft (λ d. AcceptsNull d null_schema)
@@ -131,10 +125,7 @@ ready-allow_null (object ms) r = go (is_null_choice (object ms)) (is_combined (o
     )
     go false false is (inl p) = absurd (true≢false (sym (p.0 draft2020_12 (inl refl)).combined ∙ is))
     go false false is (inr p) = inr (plain-with_null ms p)
-ready-allow_null null r = absurd r
-ready-allow_null (number n) r = absurd r
-ready-allow_null (string s) r = absurd r
-ready-allow_null (array ds) r = absurd r
+ready-allow_null _ r = absurd r
 
 kept_type : (d : Option Data) → is_text (codes "null") (option_and_then as_str d) ≡ true → type_plus d ≡ d
 unfolding type_plus
@@ -203,10 +194,7 @@ ready_null dialect draft (object ms) (inl choice) is =
     let typed : is_text (codes "null") (option_and_then as_str (get_member (codes "type") ms)) ≡ true = (and_parts _ _ is).0 in
     absurd (true≢false (sym typed ∙ choice.1))
 ready_null dialect draft (object ms) (inr p) is = plain_null ms p is dialect draft
-ready_null dialect draft null r is = absurd r
-ready_null dialect draft (number n) r is = absurd r
-ready_null dialect draft (string s) r is = absurd r
-ready_null dialect draft (array ds) r is = absurd r
+ready_null dialect draft _ r is = absurd r
 
 -- one of such schemas accepts null where one of them is the schema of null
 abbrev pub AreReady : List Data → Type 0
@@ -227,10 +215,7 @@ some_accepts_null dialect draft (t ∷ ts) r is = go (is_null_schema t) refl is 
 pub ready-schema : (t : Data) → IsReady t → IsSchema t
 ready-schema (boolean b) r = tt
 ready-schema (object ms) r = tt
-ready-schema null r = absurd r
-ready-schema (number n) r = absurd r
-ready-schema (string s) r = absurd r
-ready-schema (array ds) r = absurd r
+ready-schema _ r = absurd r
 
 -- ---- the law
 

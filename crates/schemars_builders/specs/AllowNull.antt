@@ -41,7 +41,7 @@ abbrev pub const_admits_null : Option Data → Bool
 const_admits_null None = true
 const_admits_null (Some c) = is_null c
 
--- an `enum` that is no list says nothing
+-- an `enum` that is not a list says nothing
 abbrev pub enum_admits_null : Option Data → Bool
 enum_admits_null None = true
 enum_admits_null (Some null) = true
@@ -108,7 +108,7 @@ null_in_enum (Some values) ms = put (codes "enum") (enum_with_null values) ms
 abbrev pub const_or_null : Data → Members → Members
 const_or_null c ms = put (codes "enum") (array (item c (item null no_items))) (without (codes "const") ms)
 
--- null stays; where no `const` stands, `enum` is asked
+-- a null stays; without a `const`, `enum` decides
 abbrev pub null_in_const : Option Data → Members → Members
 null_in_const None ms = null_in_enum (get_member (codes "enum") ms) ms
 null_in_const (Some c) ms = if is_null c then ms else const_or_null c ms

@@ -61,7 +61,7 @@ pub record IsChoice (dialect : Dialect) (ms : Members) : Type 0 where
   pub combined : is_combined (object ms) ≡ true
   pub offers : is_null_choice (object ms) ≡ true → OffersNull dialect (get_member (codes "anyOf") ms)
 
--- no `const`, or one whose key stands once, and no `enum` beside it
+-- no `const`, or one whose key occurs once, and no `enum` beside it
 abbrev pub HasPlainValues : Members → Type 0
 HasPlainValues ms =
     (get_member (codes "const") ms ≡ None)

@@ -3,7 +3,7 @@ use Rattle.std.specs.Prelude.{ℕ, ◌==◌, Bool, [], ◌∷◌, ◌++◌, if�
 use Rattle.std.specs.List.{list_any}
 use Rattle.schemars_schema.specs.Json.{Text}
 
--- these stand for something else than themselves
+-- these have a meaning of their own in patterns
 abbrev pub is_special : ℕ → Bool
 is_special b = list_any (λ s. b == s) (codes "\\.+*?()|[]{}^$#&-~")
 
@@ -15,7 +15,7 @@ unfoldable pub escaped : Text → Text
 escaped [] = []
 escaped (b ∷ bs) = escaped_byte b ++ escaped bs
 
--- a backslash takes the next byte as it is, and goes
+-- a backslash is removed, and the next byte is kept as it is
 unfoldable pub unescaped : Text → Text
 unescaped [] = []
 unescaped (b ∷ []) = b ∷ []

@@ -119,29 +119,17 @@ module _ (S : Data → Type 0) (Q : Text → Data → Type 0) (h : IsByKeyword S
   Each ds = AllItems S ds
 
   in_schema : (s : Data) → S s → AllMembers Q (members_in s)
-  in_schema null all = tt
-  in_schema (boolean true) all = tt
   in_schema (boolean false) all = (h.nothing, tt)
-  in_schema (number n) all = tt
-  in_schema (string t) all = tt
-  in_schema (array ds) all = tt
   in_schema (object ms) all = h.parts ms all
+  in_schema _ all = tt
 
   found : (k : Text) (s d : Data) → S s → get k s ≡ Some d → Q k d
-  found k null d all is = cc
-  found k (boolean b) d all is = cc
-  found k (number n) d all is = cc
-  found k (string t) d all is = cc
-  found k (array ds) d all is = cc
   found k (object ms) d all is = at Q k ms d (h.parts ms all) is
+  found k _ d all is = cc
 
   without_one : (k : Text) (s : Data) → S s → S (removed k s)
-  without_one k null all = all
-  without_one k (boolean b) all = all
-  without_one k (number n) all = all
-  without_one k (string t) all = all
-  without_one k (array ds) all = all
   without_one k (object ms) all = h.whole (without k ms) (all_without Q k ms (h.parts ms all))
+  without_one k _ all = all
 
   each_appended : (ds es : Items) → Each ds → Each es → Each (appended ds es)
   each_appended no_items es first second = second
@@ -274,8 +262,6 @@ module _ (S : Data → Type 0) (Q : Text → Data → Type 0) (h : IsByKeyword S
       go false false = all_put Q (codes "additionalProperties") (boolean true) ms h.additional all
 
   pub flattened_kept : (s o : Data) → S s → S o → S (flattened s o)
-  flattened_kept s null first second = first
-  flattened_kept s (boolean false) first second = first
   flattened_kept s (boolean true) first second = go s first
     where
       go : (d : Data) → S d → S (opened_schema d)
@@ -285,14 +271,12 @@ module _ (S : Data → Type 0) (Q : Text → Data → Type 0) (h : IsByKeyword S
       go (string t) f = f
       go (array ds) f = f
       go (object ms) f = h.whole (flatten.opened_keywords ms) (all_opened ms (h.parts ms f))
-  flattened_kept s (number n) first second = first
-  flattened_kept s (string t) first second = first
-  flattened_kept s (array ds) first second = first
   flattened_kept s (object others) first second =
       let beside = moved_beside others (members_in s) in
       let start = all_moved_beside others (members_in s) (in_schema s first) in
       h.whole (united_all (members_in s) others)
       (all_keywords (moved_beside beside others) beside (all_moved_beside beside others (h.parts others second)) start)
+  flattened_kept s _ first second = first
 
   -- ---- opening
 
@@ -325,14 +309,11 @@ module _ (S : Data → Type 0) (Q : Text → Data → Type 0) (h : IsByKeyword S
     unfolding forms in_items in_keywords
 
     pub opened_kept : (d : Data) → S d → S (opened d)
-    opened_kept null all = all
     opened_kept (boolean b) all = opened_here_kept (boolean b) all
-    opened_kept (number n) all = all
-    opened_kept (string t) all = all
-    opened_kept (array ds) all = all
     opened_kept (object ms) all =
         opened_here_kept (object (in_keywords opening tt ms))
         (h.whole (in_keywords opening tt ms) (all_in_keywords ms (h.parts ms all)))
+    opened_kept _ all = all
 
     each_in_items : (ds : Items) → Each ds → Each (in_items opening tt ds)
     each_in_items no_items all = tt
@@ -340,12 +321,8 @@ module _ (S : Data → Type 0) (Q : Text → Data → Type 0) (h : IsByKeyword S
 
     list_kept : (k : Text) (d : Data) → is_listed k with_same_objects ≡ true → Q k d
         → Q k (forms opening tt d).as_list
-    list_kept k null is all = all
-    list_kept k (boolean b) is all = all
-    list_kept k (number n) is all = all
-    list_kept k (string t) is all = all
     list_kept k (array ds) is all = h.list k (in_items opening tt ds) is (each_in_items ds (h.items k ds is all))
-    list_kept k (object ms) is all = all
+    list_kept k _ is all = all
 
     all_in_keywords : (ms : Members) → AllMembers Q ms → AllMembers Q (in_keywords opening tt ms)
     all_in_keywords no_members all = tt
@@ -355,12 +332,8 @@ module _ (S : Data → Type 0) (Q : Text → Data → Type 0) (h : IsByKeyword S
     )
 
   pub opened_inside_kept : (d : Data) → S d → S (opened_inside d)
-  opened_inside_kept null all = all
-  opened_inside_kept (boolean b) all = all
-  opened_inside_kept (number n) all = all
-  opened_inside_kept (string t) all = all
-  opened_inside_kept (array ds) all = all
   opened_inside_kept (object ms) all = h.whole (in_keywords opening tt ms) (all_in_keywords ms (h.parts ms all))
+  opened_inside_kept _ all = all
 
   -- ---- units and parts that may be missing
 
@@ -385,12 +358,8 @@ module _ (S : Data → Type 0) (Q : Text → Data → Type 0) (h : IsByKeyword S
 
   changed_kept : (k : Text) (change : Items → Items) (d : Data) → is_listed k with_same_objects ≡ true
       → ((ds : Items) → Each ds → Each (change ds)) → Q k d → Q k (on_list change d)
-  changed_kept k change null is keeps all = all
-  changed_kept k change (boolean b) is keeps all = all
-  changed_kept k change (number n) is keeps all = all
-  changed_kept k change (string t) is keeps all = all
   changed_kept k change (array ds) is keeps all = h.list k (change ds) is (keeps ds (h.items k ds is all))
-  changed_kept k change (object ms) is keeps all = all
+  changed_kept k change _ is keeps all = all
 
   with_units_kept : (units : Items) (s : Data) → Each units → S s → S (with_units units s)
   with_units_kept units s new all =

@@ -146,16 +146,12 @@ flattened_fits (object ms) (object ns) joinable c v =
     let second = and_parts (are_object_keywords ns) (has_keys_once ns) joinable.second in
     ap (λ x. (judge c (object x)).fits v) (united_plain ms ns first.0 second.0)
     ∙ keywords_fit c ms ns first.0 second.0 second.1 joinable.apart v
-flattened_fits null o joinable c v = absurd (true≢false (sym joinable.first))
-flattened_fits (boolean b) o joinable c v = absurd (true≢false (sym joinable.first))
-flattened_fits (number n) o joinable c v = absurd (true≢false (sym joinable.first))
-flattened_fits (string t) o joinable c v = absurd (true≢false (sym joinable.first))
-flattened_fits (array ds) o joinable c v = absurd (true≢false (sym joinable.first))
 flattened_fits (object ms) null joinable c v = absurd (true≢false (sym joinable.second))
 flattened_fits (object ms) (boolean b) joinable c v = absurd (true≢false (sym joinable.second))
 flattened_fits (object ms) (number n) joinable c v = absurd (true≢false (sym joinable.second))
 flattened_fits (object ms) (string t) joinable c v = absurd (true≢false (sym joinable.second))
 flattened_fits (object ms) (array ds) joinable c v = absurd (true≢false (sym joinable.second))
+flattened_fits _ o joinable c v = absurd (true≢false (sym joinable.first))
 
 pub flattened-law : (s o new : Data) → new ≡ flattened s o → AreJoinable s o → AcceptsBoth s o new
 flattened-law s o new is joinable c v = rw is (flattened_fits s o joinable c v)

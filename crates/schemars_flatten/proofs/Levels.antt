@@ -1,6 +1,6 @@
 -- What is rewritten by how far inside it lies is what opening makes of it.
 use Rattle.std.proofs.Common.{◌≡◌, refl, ap}
-use Rattle.serde_json.specs.Data.{Data, null, boolean, number, string, array, object, Items, no_items, item, Members}
+use Rattle.serde_json.specs.Data.{Data, boolean, array, object, Items, no_items, item, Members}
 use Rattle.serde_json.specs.Data.{no_members, member}
 use Rattle.schemars_walk.specs.Rewritten.{Forms, rewritten, forms, in_items, in_names, in_keywords}
 use Rattle.schemars_flatten.specs.Opening.{opening, level_inside, opening_by_level, opened, opened_inside}
@@ -12,12 +12,10 @@ mutual
 
   inside_forms : (d : Data) (level : Level) → level_inside level ≡ Below
       → forms opening_by_level level d ≡ forms opening tt d
-  inside_forms null level h = refl
   inside_forms (boolean b) level h = rw h refl
-  inside_forms (number n) level h = refl
-  inside_forms (string s) level h = refl
   inside_forms (array ds) level h = rw (inside_items ds level h) refl
   inside_forms (object ms) level h = rw (h, inside_keywords ms Below refl, inside_names ms level h) refl
+  inside_forms _ level h = refl
 
   inside_items : (ds : Items) (level : Level) → level_inside level ≡ Below
       → in_items opening_by_level level ds ≡ in_items opening tt ds
@@ -40,9 +38,5 @@ below_opened d = ap (λ (e : Forms). e.as_schema) (inside_forms d Below refl)
 -- the schema at the top keeps its own keywords
 pub around_opened : (d : Data) → rewritten opening_by_level Around d ≡ opened_inside d
 unfolding forms
-around_opened null = refl
-around_opened (boolean b) = refl
-around_opened (number n) = refl
-around_opened (string s) = refl
-around_opened (array ds) = refl
 around_opened (object ms) = ap object (inside_keywords ms Top refl)
+around_opened _ = refl

@@ -3,7 +3,7 @@ use Rattle.std.proofs.Common.{◌≡◌, Option, Some, None, Bool, true, false, 
 use Rattle.std.proofs.Common.{refl}
 use Rattle.std.proofs.Common.{sym, ap, ◌∙◌, arith}
 use Rattle.std.specs.Prelude.{if◌then◌else◌}
-use Rattle.serde_json.specs.Data.{Data, null, boolean, number, string, array, object, no_members}
+use Rattle.serde_json.specs.Data.{Data, object, no_members}
 use Rattle.serde_json.specs.Find.{get}
 use Rattle.serde_json.specs.View.{view, items_view, members_view}
 use Rattle.serde_json.specs.declared.value.Value.{Value}
@@ -31,12 +31,8 @@ empty_pushed xs x absent is =
     ∙ (ap (with_item ds) is ∙ ap (λ b. if b then ds else with_item ds (object no_members)) (sym absent))
 
 removed_missing : (k : Text) (s : Data) → None ≡ get k s → removed k s ≡ s
-removed_missing k null h = refl
-removed_missing k (boolean b) h = refl
-removed_missing k (number n) h = refl
-removed_missing k (string t) h = refl
-removed_missing k (array ds) h = refl
 removed_missing k (object ms) h = ap object (without_missing k ms h)
+removed_missing k _ h = refl
 
 pub no_choice : (s new : Data) → None ≡ get (codes "oneOf") s → new ≡ removed (codes "oneOf") s
     → new ≡ choice_or_anything s

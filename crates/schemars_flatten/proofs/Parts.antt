@@ -9,7 +9,7 @@ use Rattle.std.specs.Ordering.{match_ordering}
 use Rattle.std.specs.Cmp.Lexicographic.{slice_cmp}
 use Rattle.std.specs.Map.{set_value}
 use Rattle.std.specs.BTreeMap.{is_at}
-use Rattle.serde_json.specs.Data.{Data, null, boolean, number, string, array, object, Items, no_items, item, Members}
+use Rattle.serde_json.specs.Data.{Data, boolean, array, object, Items, no_items, item, Members}
 use Rattle.serde_json.specs.Data.{no_members, member, put}
 use Rattle.serde_json.specs.Find.{get_member, as_array, as_object}
 use Rattle.serde_json.specs.View.{view, items_view, members_view}
@@ -160,19 +160,11 @@ flattened_opened s o new old left found is opens made = rw is (made ∙ (ap obje
   where
     go : (d : Data) → Some old ≡ as_object d → object (opened_keywords old) ≡ opened_schema d
     go (object ms) h = let same : old ≡ ms = cc in ap (λ x. object (opened_keywords x)) same
-    go null h = cc
-    go (boolean b) h = cc
-    go (number n) h = cc
-    go (string t) h = cc
-    go (array ds) h = cc
+    go _ h = cc
 
 pub flattened_kept : (s o : Data) → None ≡ as_object s → o ≡ boolean true → s ≡ flattened s o
 flattened_kept s o none is = rw is (go s none)
   where
     go : (d : Data) → None ≡ as_object d → d ≡ opened_schema d
     go (object ms) h = cc
-    go null h = refl
-    go (boolean b) h = refl
-    go (number n) h = refl
-    go (string t) h = refl
-    go (array ds) h = refl
+    go _ h = refl

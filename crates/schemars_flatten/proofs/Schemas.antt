@@ -16,14 +16,9 @@ use Rattle.schemars_flatten.specs.Parts.{optional_where, flattened_part}
 removed-schema : (k : Text) (s : Data) → IsSchema s → IsSchema (removed k s)
 removed-schema k (boolean b) h = tt
 removed-schema k (object ms) h = tt
-removed-schema k null h = absurd h
-removed-schema k (number n) h = absurd h
-removed-schema k (string t) h = absurd h
-removed-schema k (array ds) h = absurd h
+removed-schema k _ h = absurd h
 
 pub flattened-schema : (s o : Data) → IsSchema s → IsSchema (flattened s o)
-flattened-schema s null h = h
-flattened-schema s (boolean false) h = h
 flattened-schema s (boolean true) h = go s h
   where
     go : (d : Data) → IsSchema d → IsSchema (opened_schema d)
@@ -33,10 +28,8 @@ flattened-schema s (boolean true) h = go s h
     go (number n) f = absurd f
     go (string t) f = absurd f
     go (array ds) f = absurd f
-flattened-schema s (number n) h = h
-flattened-schema s (string t) h = h
-flattened-schema s (array ds) h = h
 flattened-schema s (object ms) h = tt
+flattened-schema s _ h = h
 
 opened_at-schema : (k : Text) (s : Data) → IsSchema s → IsSchema (opened_at k s)
 opened_at-schema k s h = go (closes_by k s)
@@ -54,18 +47,12 @@ opened-schema : (s : Data) → IsSchema s → IsSchema (opened s)
 unfolding forms
 opened-schema (boolean b) h = opened_here-schema (boolean b) tt
 opened-schema (object ms) h = opened_here-schema (object (in_keywords opening tt ms)) tt
-opened-schema null h = absurd h
-opened-schema (number n) h = absurd h
-opened-schema (string t) h = absurd h
-opened-schema (array ds) h = absurd h
+opened-schema _ h = absurd h
 
 pub opened_inside-schema : (s : Data) → IsSchema s → IsSchema (opened_inside s)
 opened_inside-schema (boolean b) h = tt
 opened_inside-schema (object ms) h = tt
-opened_inside-schema null h = absurd h
-opened_inside-schema (number n) h = absurd h
-opened_inside-schema (string t) h = absurd h
-opened_inside-schema (array ds) h = absurd h
+opened_inside-schema _ h = absurd h
 
 list_changed-schema : (k : Text) (change : Items → Items) (s : Data) → IsSchema s
     → IsSchema (list_changed_at k change s)

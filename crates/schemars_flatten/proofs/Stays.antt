@@ -3,7 +3,7 @@ use Rattle.std.proofs.Common.{◌≡◌, Option, Some, None, Bool, true, false, 
 use Rattle.std.proofs.lemmas.Slice.Eq.{bytes_eq-Decides}
 use Rattle.std.proofs.lemmas.Bool.{and_parts}
 use Rattle.std.specs.Prelude.{bytes_eq, codes, option_and_then}
-use Rattle.serde_json.specs.Data.{Data, null, boolean, number, string, array, object, Members, no_members, member}
+use Rattle.serde_json.specs.Data.{Data, null, string, object, Members, no_members, member}
 use Rattle.serde_json.specs.Find.{get_member, as_str}
 use Rattle.schemars_schema.specs.Json.{Text}
 use Rattle.schemars_schema.specs.References.{NoSchemas}
@@ -79,16 +79,10 @@ open_object_stays (object ms) h =
     let all = (and_parts (are_object_keywords ms) (has_keys_once ms) h).0 in
     ap opened (units_stay ms all) ∙ opened_stays ms all
 open_object_stays null h = absurd (true≢false (sym h))
-open_object_stays (boolean b) h = absurd (true≢false (sym h))
-open_object_stays (number n) h = absurd (true≢false (sym h))
-open_object_stays (string t) h = absurd (true≢false (sym h))
-open_object_stays (array ds) h = absurd (true≢false (sym h))
+open_object_stays _ h = absurd (true≢false (sym h))
 
 pub open_object_stays_inside : (s : Data) → is_object_schema s ≡ true → opened_inside s ≡ s
 open_object_stays_inside (object ms) h =
     ap object (keywords_stay ms (and_parts (are_object_keywords ms) (has_keys_once ms) h).0)
 open_object_stays_inside null h = absurd (true≢false (sym h))
-open_object_stays_inside (boolean b) h = absurd (true≢false (sym h))
-open_object_stays_inside (number n) h = absurd (true≢false (sym h))
-open_object_stays_inside (string t) h = absurd (true≢false (sym h))
-open_object_stays_inside (array ds) h = absurd (true≢false (sym h))
+open_object_stays_inside _ h = absurd (true≢false (sym h))

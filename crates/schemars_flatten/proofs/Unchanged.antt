@@ -2,7 +2,7 @@
 use Rattle.std.proofs.Common.{◌≡◌, Bool, true, false, refl, ap, ◌∙◌}
 use Rattle.std.proofs.lemmas.Bool.{or_parts}
 use Rattle.std.specs.Prelude.{◌||◌, codes, if◌then◌else◌}
-use Rattle.serde_json.specs.Data.{Data, null, boolean, number, string, array, object, Items, no_items, item, Members}
+use Rattle.serde_json.specs.Data.{Data, null, array, object, Items, no_items, item, Members}
 use Rattle.serde_json.specs.Data.{no_members, member}
 use Rattle.schemars_schema.specs.Json.{Text}
 use Rattle.schemars_text.specs.OrderedText.{is_listed}
@@ -38,14 +38,10 @@ mutual
   unfolding forms in_items in_keywords closed_in closed_in_items closed_in_keywords
 
   schema_unchanged : (d : Data) → (closed_in d).in_schema ≡ false → opened d ≡ d
-  schema_unchanged null h = refl
-  schema_unchanged (boolean b) h = refl
-  schema_unchanged (number n) h = refl
-  schema_unchanged (string t) h = refl
-  schema_unchanged (array ds) h = refl
   schema_unchanged (object ms) h =
       let each = or_parts (closes (object ms)) (closed_in_keywords ms) h in
       ap (λ x. opened_here (object x)) (keywords_unchanged ms each.1) ∙ here_unchanged (object ms) each.0
+  schema_unchanged _ h = refl
 
   items_unchanged : (ds : Items) → closed_in_items ds ≡ false → in_items opening tt ds ≡ ds
   items_unchanged no_items h = refl
@@ -54,12 +50,8 @@ mutual
       rw (schema_unchanged d each.0, items_unchanged ds each.1) refl
 
   list_unchanged : (d : Data) → (closed_in d).in_list ≡ false → (forms opening tt d).as_list ≡ d
-  list_unchanged null h = refl
-  list_unchanged (boolean b) h = refl
-  list_unchanged (number n) h = refl
-  list_unchanged (string t) h = refl
   list_unchanged (array ds) h = ap array (items_unchanged ds h)
-  list_unchanged (object ms) h = refl
+  list_unchanged _ h = refl
 
   keywords_unchanged : (ms : Members) → closed_in_keywords ms ≡ false → in_keywords opening tt ms ≡ ms
   keywords_unchanged no_members h = refl
@@ -71,12 +63,8 @@ mutual
       ) refl
 
 pub inside_unchanged : (s : Data) → closes_inside s ≡ false → opened_inside s ≡ s
-inside_unchanged null h = refl
-inside_unchanged (boolean b) h = refl
-inside_unchanged (number n) h = refl
-inside_unchanged (string t) h = refl
-inside_unchanged (array ds) h = refl
 inside_unchanged (object ms) h = ap object (keywords_unchanged ms h)
+inside_unchanged _ h = refl
 
 -- so a reference may stand for the document
 pub reference_unchanged : (inline : Bool) (s : Data) → stands_in_place inline s ≡ false → opened_inside s ≡ s

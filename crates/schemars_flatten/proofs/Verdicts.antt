@@ -8,7 +8,7 @@ use Rattle.std.proofs.lemmas.Bool.{and_parts}
 use Rattle.std.specs.Prelude.{◌&&◌, bytes_eq, codes, if◌then◌else◌, is_some, option_and_then}
 use Rattle.std.specs.Ordering.{match_ordering}
 use Rattle.std.specs.Cmp.Lexicographic.{slice_cmp}
-use Rattle.serde_json.specs.Data.{Data, null, boolean, number, string, array, object, Items, no_items, item, Members}
+use Rattle.serde_json.specs.Data.{Data, null, boolean, string, array, object, Items, no_items, item, Members}
 use Rattle.serde_json.specs.Data.{no_members, member, put}
 use Rattle.serde_json.specs.Find.{get_member, as_object, as_str}
 use Rattle.schemars_schema.specs.Json.{Text}
@@ -35,11 +35,7 @@ both-same Open = refl
 
 object_text : (d : Data) → is_text (codes "object") (as_str d) ≡ true → d ≡ string (codes "object")
 object_text (string t) h = ap string ((bytes_eq-Decides t (codes "object")).0 h)
-object_text null h = absurd (true≢false (sym h))
-object_text (boolean b) h = absurd (true≢false (sym h))
-object_text (number n) h = absurd (true≢false (sym h))
-object_text (array ds) h = absurd (true≢false (sym h))
-object_text (object ms) h = absurd (true≢false (sym h))
+object_text _ h = absurd (true≢false (sym h))
 
 -- what stands there has this form
 abbrev pub Holds : (Data → Bool) → Option Data → Type 0
@@ -91,11 +87,7 @@ listed_texts (array ds) h = go (texts_in ds) refl h
         → (es : Items) × (ks : List Text) × (array ds ≡ array es) × (texts_in es ≡ Some ks)
     go None is h = absurd (true≢false (sym h))
     go (Some ks) is h = (ds, ks, refl, is)
-listed_texts null h = absurd (true≢false (sym h))
-listed_texts (boolean b) h = absurd (true≢false (sym h))
-listed_texts (number n) h = absurd (true≢false (sym h))
-listed_texts (string t) h = absurd (true≢false (sym h))
-listed_texts (object ms) h = absurd (true≢false (sym h))
+listed_texts _ h = absurd (true≢false (sym h))
 
 names_say : (ds : Items) (ks : List Text) → texts_in ds ≡ Some ks → (v : Data)
     → required_says (Some (array ds)) v ≡ where_some (as_object v) (λ ms. verdict (have_all ks ms))
@@ -128,10 +120,7 @@ required_both (Some d) (Some e) first second v =
 schema_is : (d : Data) → is_schema d ≡ true → IsSchema d
 schema_is (boolean b) h = tt
 schema_is (object ms) h = tt
-schema_is null h = absurd (true≢false (sym h))
-schema_is (number n) h = absurd (true≢false (sym h))
-schema_is (string t) h = absurd (true≢false (sym h))
-schema_is (array ds) h = absurd (true≢false (sym h))
+schema_is _ h = absurd (true≢false (sym h))
 
 schemas_put : (k : Text) (d : Data) (ms : Members) → is_schema d ≡ true → are_schemas ms ≡ true
     → are_schemas (put k d ms) ≡ true
@@ -214,10 +203,7 @@ named_schemas : (d : Data) → are_schemas_by_name d ≡ true
 named_schemas (object ms) h =
     let parts = and_parts (are_schemas ms) (has_keys_once ms) h in (ms, refl, parts.0, parts.1)
 named_schemas null h = absurd (true≢false (sym h))
-named_schemas (boolean b) h = absurd (true≢false (sym h))
-named_schemas (number n) h = absurd (true≢false (sym h))
-named_schemas (string t) h = absurd (true≢false (sym h))
-named_schemas (array ds) h = absurd (true≢false (sym h))
+named_schemas _ h = absurd (true≢false (sym h))
 
 asked_both : (c : Context) (ps qs : Members) → has_keys_once qs ≡ true → are_apart ps qs ≡ true → (k : Text) (w : Data)
     → asked c (get_member k (put_members qs ps)) w ≡ both (asked c (get_member k ps) w) (asked c (get_member k qs) w)

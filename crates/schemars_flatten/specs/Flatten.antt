@@ -48,14 +48,14 @@ abbrev pub appended : Items → Items → Items
 appended no_items es = es
 appended (item d ds) es = item d (appended ds es)
 
--- two lists make one; of what is no list the first stays
+-- two lists are concatenated; of values that are not both lists, the first stays
 abbrev pub joined : Data → Data → Data
 joined first second = elim (both_some (λ es ds. appended ds es) (as_array second) (as_array first)) [
   | None ↦ first
   | Some ds ↦ array ds
 ]
 
--- two objects make one, with the second's value where both have a name; of what is no object the first stays
+-- two objects are merged, with the second's value where both have a name; of values that are not both objects, the first stays
 abbrev pub merged : Data → Data → Data
 merged first second = elim (both_some put_members (as_object second) (as_object first)) [
   | None ↦ first

@@ -28,7 +28,7 @@ closes_by k s = is_false (get k s)
 abbrev pub closes : Data → Bool
 closes s = closes_by (codes "additionalProperties") s || closes_by (codes "unevaluatedProperties") s
 
--- the keyword goes where it lets no further members in
+-- the keyword is removed if it lets no further members in
 abbrev pub opened_at : Text → Data → Data
 opened_at k s = if closes_by k s then removed k s else s
 
@@ -77,7 +77,7 @@ opening_by_level = record {
 
 -- ---- whether opening takes something out
 
--- whether what stands there lets no further members in, read as a schema and as a list of schemas
+-- whether the value lets no further members in, read as a schema and as a list of schemas
 pub record Closed : Type 0 where
   pub in_schema : Bool
   pub in_list : Bool
@@ -118,6 +118,6 @@ closes_inside s = elim (as_object s) [ None ↦ false | Some ms ↦ closed_in_ke
 abbrev pub has_type : Text → Data → Bool
 has_type t s = is_text t (option_and_then as_str (get (codes "type") s))
 
--- its document stands in place: it has to, or a reference would not let the tag in
+-- its document is in place: a reference would not let the tag in
 abbrev pub stands_in_place : Bool → Data → Bool
 stands_in_place inline s = inline || (has_type (codes "null") s || (closes s || closes_inside s))

@@ -92,7 +92,7 @@ abbrev pub one_or_anything : Data → Data
 one_or_anything choice =
     alone (codes "anyOf") (array (item (alone (codes "oneOf") choice) (item (object no_members) no_items)))
 
--- its `oneOf` goes into an `anyOf` that admits anything
+-- its `oneOf` is moved into an `anyOf` that admits anything
 abbrev pub choice_or_anything : Data → Data
 choice_or_anything s = elim (get (codes "oneOf") s) [
   | None ↦ s

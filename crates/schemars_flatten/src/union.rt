@@ -80,7 +80,7 @@ fn alone(alloc: Global, key: &str, value: Value) -> Result<Value, AllocError>
     Ok(Value::Object(members))
 }
 
-// Puts a keyword in, or its value into the one that stands there.
+// Adds a keyword, or merges its value into the one that is there.
 fn put_united(members: &mut Map<String, Value>, key: String, value: Value) -> Result<(), AllocError>
     ensures { OnOk result (members_view members.new.entries
         ≡ with_united (string_bytes key) (view value) (members_view members.old.entries)) }
@@ -129,7 +129,7 @@ fn merge(first: &mut Value, second: Value) -> Result<(), AllocError>
     }
 }
 
-/// Pushes all of `more`, in order; refused for want of memory alone.
+/// Pushes all of `more`, in order. The only error is that memory runs out.
 pub fn push_all(items: &mut Vec<Value>, more: Vec<Value>) -> Result<(), AllocError>
     ensures { OnOk result (items_view items.new.items
         ≡ appended (items_view items.old.items) (items_view more.items)) }

@@ -48,7 +48,7 @@ pub record HasTypeCause (old : List Row) (e : GenerateError) : Type 0 where
   pub cause : HasCause rows refusal
   pub is_told : e ≡ error_of refusal
 
--- why a type does not join a table
+-- why a type is not added to a table
 abbrev pub IsTypeRefusal : List Row → GenerateError → Type 0
 IsTypeRefusal old e = (e ≡ OutOfMemory) ⊎ HasTypeCause old e
 
@@ -60,7 +60,7 @@ pub record HasRootCause {O : Type 0} (Q : TransformStep O) (ts us : Transforms O
   pub is_row : IsRow rows n
   pub refusal : IsRootRefusal Q ts us (with_rows rows old) n e
 
--- a type does not join the table, and transforms stay as they are, or the root document of its row is refused
+-- a type is not added to the table, and transforms stay as they are, or the root document of its row is refused
 abbrev pub IsRootOfTypeRefusal : {O : Type 0} → TransformStep O → Transforms O → Transforms O → State
     → (List Row → ℕ → Type 0) → GenerateError → Type 0
 IsRootOfTypeRefusal Q ts us old IsRow e = (IsTypeRefusal old.rows e × (us ≡ ts)) ⊎ HasRootCause Q ts us old IsRow e

@@ -93,7 +93,7 @@ IsRefusedThrough Q t u s n e = (IsRefused s n e × (u ≡ t)) ⊎ IsTurnedDown Q
 abbrev pub IsRootRefused : {T : Type 0} → TransformStep T → T → T → State → ℕ → GenerateError → Type 0
 IsRootRefused Q t u s n e = ((e ≡ UnknownType n) × (u ≡ t)) ⊎ IsRefusedThrough Q t u s n e
 
--- why a root call answers no document
+-- why a root call returns no document
 pub record IsRootRefusal {O : Type 0} (Q : TransformStep O) (ts us : Transforms O) (s : State) (n : ℕ) (e : GenerateError) : Type 0 where
   pub refused : IsRootRefused (ApplyInOrder Q) ts us s n e
   pub built_in : some_own ts.items ≡ false → (e ≡ UnknownType n) ⊎ IsRefused s n e

@@ -1,4 +1,4 @@
-//! Calls by type, which join the generator's table.
+//! Calls by type, which add rows to the generator's table.
 ghost use Rattle.std.specs.Prelude.{ℕ, List, ◌≡◌, ◌<◌, length, IfOk, IfErr, OnOk, OnErr};
 ghost use Rattle.schemars_types.specs.Faults.{IsChecked};
 ghost use Rattle.schemars_types.specs.Rows.{Row};
@@ -21,7 +21,7 @@ use std::alloc::Global;
 
 impl<O> SchemaGenerator<O> {
     /// Generates the schema of a type as `subschema_for_type` generates that of a row. The type
-    /// joins the table if it is not in it.
+    /// is added to the table if it is not in it.
     ///
     /// On an error the generator is unchanged.
     ///
@@ -53,7 +53,7 @@ impl<O> SchemaGenerator<O> {
 
 impl<O: Transform + Drop> SchemaGenerator<O> {
     /// Generates the root document of a type as `root_schema_for_type` generates that of a row.
-    /// The type joins the table if it is not in it.
+    /// The type is added to the table if it is not in it.
     ///
     /// On an error the generator is unchanged, apart from the state of user-defined transforms.
     ///
@@ -103,7 +103,7 @@ impl<O: Transform + Drop> SchemaGenerator<O> {
     }
 }
 
-// The row of a type, which joins the table if it is not in it.
+// The row of a type, which is added to the table if it is not in it.
 fn join<T: JsonSchema>(alloc: Global, types: &mut Types) -> Result<TypeNo, GenerateError>
     requires checked { IsChecked types.old }
     ensures joined { IfOk result (IsJoined T.id T.inline T.describes types.old types.new) }

@@ -1,4 +1,4 @@
--- What the calls of a generator answer and add, by what it holds before and after.
+-- What the calls of a generator return and add, by what it holds before and after.
 use Rattle.std.specs.Prelude.{◌≡◌, ℕ, List, [], true, false, Some, None}
 use Rattle.serde_json.specs.Data.{Data}
 use Rattle.schemars_schema.specs.Json.{Text}

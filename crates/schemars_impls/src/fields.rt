@@ -1,4 +1,4 @@
-//! The fields of a struct of one's own, which join one after another.
+//! The fields of a user-defined struct, which are added one after another.
 ghost use Rattle.std.specs.Prelude.{◌≡◌, ◌++◌, ℕ, List, [], ◌∷◌, None, Some, IfErr, OnErr, OnOk};
 ghost use Rattle.std.specs.Prelude.{false, map, option_map};
 ghost use Rattle.schemars_shapes.specs.Shape.{Shape as shape, bare_fields, entry_of, field_of};

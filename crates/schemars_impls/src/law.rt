@@ -1,4 +1,4 @@
-//! What an implementation of `JsonSchema` promises, and how a type joins a table.
+//! What an implementation of `JsonSchema` promises, and how a type is added to a table.
 ghost use Rattle.std.specs.Prelude.{◌≡◌, Bool, List, None, Some, IfErr, IfOk, IsSome, OnOk};
 ghost use Rattle.std.specs.Cow.{cow_str_bytes};
 ghost use Rattle.schemars_schema.specs.Json.{Text};

@@ -55,7 +55,7 @@ fn options_of_options_are_options(rt: HostRuntime) -> Result<(), Fail> {
     Ok(())
 }
 
-// A type that is refused when its first part has joined the table.
+// A type that is refused after its first part has been added to the table.
 struct Refused;
 
 impl JsonSchema for Refused {

@@ -2,7 +2,7 @@
 use Rattle.std.proofs.Common.{◌≡◌, ◌⊎◌, inl, inr, Some, None, Bool, true, false, [], ◌∷◌, codes, refl, ap, ◌∙◌}
 use Rattle.std.proofs.Math.Bool.{and-false}
 use Rattle.std.specs.Prelude.{bytes_eq, if◌then◌else◌, ◌&&◌, not, is_some}
-use Rattle.serde_json.specs.Data.{Data, null, boolean, number, string, array, object, Members, no_members, member}
+use Rattle.serde_json.specs.Data.{Data, boolean, object, Members, no_members, member}
 use Rattle.serde_json.specs.Find.{as_bool}
 use Rattle.schemars_schema.specs.Json.{Text}
 use Rattle.schemars_schema.specs.SchemaData.{members_in}
@@ -85,13 +85,9 @@ place-bool r k d = go r.skip_additional_properties (bytes_eq k (codes "additiona
     go : (s b : Bool) (d : Data) → ((if s && (b && is_some (as_bool d)) then NoSchemas else place_under k) ≡ place_under k)
         ⊎ (((if s && (b && is_some (as_bool d)) then NoSchemas else place_under k) ≡ NoSchemas) × IsTruth d)
     go true true (boolean x) = inr (refl, tt)
-    go true true null = inl refl
-    go true true (number n) = inl refl
-    go true true (string t) = inl refl
-    go true true (array ds) = inl refl
-    go true true (object ms) = inl refl
     go true false d = inl refl
     go false b d = inl refl
+    go true true _ = inl refl
 
 pub bool_schemas : (key : Text) (dialect : Dialect) (Q : Members → Type 0) → Moves bool_rules key dialect dialect Q
 bool_schemas key dialect Q = record {

@@ -283,10 +283,7 @@ module _ (N : Text → Type 0) (are : (t : Text) → N t → IsDefinitionAt comp
   unfolding forms
   schema-after ρ r h (boolean b) is = h (ρ.inside r (boolean b)) (boolean b) tt
   schema-after ρ r h (object ms) is = h (ρ.inside r (object ms)) (object (in_keywords ρ (ρ.inside r (object ms)) ms)) tt
-  schema-after ρ r h null is = absurd is
-  schema-after ρ r h (number n) is = absurd is
-  schema-after ρ r h (string t) is = absurd is
-  schema-after ρ r h (array ds) is = absurd is
+  schema-after ρ r h _ is = absurd is
 
   pub schema-at_end : (d : Data) → IsSchema d → IsSchema (for_openapi3 d)
   schema-at_end d is =

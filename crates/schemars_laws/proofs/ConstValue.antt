@@ -2,7 +2,7 @@
 use Rattle.std.proofs.Common.{◌≡◌, ◌≢◌, ◌⊎◌, inl, inr, Option, Some, None, Bool, false, codes, refl, sym, ap, ◌∙◌}
 use Rattle.std.proofs.Math.Bool.{or-false}
 use Rattle.std.specs.Prelude.{bytes_eq}
-use Rattle.serde_json.specs.Data.{Data, null, boolean, number, string, array, object, no_items, item, Members, put}
+use Rattle.serde_json.specs.Data.{Data, boolean, array, object, no_items, item, Members, put}
 use Rattle.serde_json.specs.Find.{get_member}
 use Rattle.serde_json.proofs.Views.{get_member-put, get_member-put_other}
 use Rattle.schemars_schema.specs.Json.{Text, json_eq}
@@ -114,10 +114,7 @@ schema-const (object ms) is = kept (get_member (codes "const") ms)
     kept : (o : Option Data) → IsSchema (value_as_enum o (object (without (codes "const") ms)))
     kept None = tt
     kept (Some w) = tt
-schema-const null is = absurd is
-schema-const (number n) is = absurd is
-schema-const (string t) is = absurd is
-schema-const (array ds) is = absurd is
+schema-const _ is = absurd is
 
 truth-const : (c : Context) (b : Bool) → judge c (const_as_enum (boolean b)) ≡ truth_value b
 unfolding read_data

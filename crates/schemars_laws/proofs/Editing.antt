@@ -6,7 +6,7 @@ use Rattle.std.specs.Cmp.Lexicographic.{slice_cmp}
 use Rattle.std.specs.Ordering.{match_ordering}
 use Rattle.std.proofs.lemmas.Map.Text.{is_eq-slice_cmp}
 use Rattle.std.proofs.lemmas.Slice.Eq.{bytes_eq-Decides}
-use Rattle.serde_json.specs.Data.{Data, null, boolean, number, string, array, object, Items, no_items, item, Members, no_members, member, put}
+use Rattle.serde_json.specs.Data.{Data, array, Items, no_items, item, Members, no_members, member, put}
 use Rattle.serde_json.specs.Find.{get_member}
 use Rattle.serde_json.proofs.Views.{get_member-put_other}
 use Rattle.schemars_schema.specs.Json.{Text}
@@ -157,12 +157,8 @@ items-last Q (item e ds) d a here = (a.0, items-last Q ds d a.1 here)
 module _ (Q : Members → Type 0) (r : Data) (here : (asked Q (referring r)).as_schema) where
   list-longer : (e : Data) → (asked Q e).as_list → (asked Q (with_last (referring r) e)).as_list
   unfolding asked
-  list-longer null a = tt
-  list-longer (boolean b) a = tt
-  list-longer (number n) a = tt
-  list-longer (string s) a = tt
   list-longer (array ds) a = items-last Q ds (referring r) a here
-  list-longer (object ms) a = tt
+  list-longer _ a = tt
 
   pub asked-moved : (ms : Members) → asked_of_keywords Q ms → asked_of_keywords Q (moved_members r ms)
   unfolding asked

@@ -62,10 +62,7 @@ judge-single c ms =
 schema-single : (s : Data) → IsSchema s → IsSchema (with_single_example s)
 schema-single (boolean b) is = tt
 schema-single (object ms) is = schema-example (get_member (codes "examples") ms) (object (without (codes "examples") ms)) tt
-schema-single null is = absurd is
-schema-single (number n) is = absurd is
-schema-single (string t) is = absurd is
-schema-single (array ds) is = absurd is
+schema-single _ is = absurd is
 
 pub same-dialect : (c : Context) (dialect : Dialect) (ms : Members) → c.dialect ≡ dialect
     → judge c (object ms) ≡ keywords (record c { dialect = dialect }) (λ k. get_member k ms) (reading_at (read_members c ms))

@@ -2,7 +2,7 @@
 use Rattle.std.proofs.Common.{◌≡◌, ◌≢◌, inl, Bool, true, false, codes, refl, ◌∙◌, String, Global}
 use Rattle.std.specs.Prelude.{if◌then◌else◌, option_and_then}
 use Rattle.std.specs.BTreeSet.{BTreeSet}
-use Rattle.serde_json.specs.Data.{Data, null, boolean, number, string, array, object, Members}
+use Rattle.serde_json.specs.Data.{Data, boolean, object, Members}
 use Rattle.serde_json.specs.Find.{get_member, as_str}
 use Rattle.schemars_schema.specs.Json.{Text}
 use Rattle.schemars_schema.specs.SchemaData.{IsSchema}
@@ -50,7 +50,4 @@ formats allowed key dialect Q other = record {
     schema : (r : _) (s : Data) → IsSchema s → IsSchema ((format_rules allowed).finish r s)
     schema r (boolean b) is = tt
     schema r (object ms) is = either IsSchema ms tt tt (format_stays r allowed (option_and_then as_str (get_member (codes "format") ms)))
-    schema r null is = absurd is
-    schema r (number n) is = absurd is
-    schema r (string t) is = absurd is
-    schema r (array ds) is = absurd is
+    schema r _ is = absurd is

@@ -3,7 +3,7 @@ use Rattle.std.proofs.Common.{◌≡◌, ◌⊎◌, inl, inr, Option, Some, None
 use Rattle.std.proofs.Math.Path.{fun_ext}
 use Rattle.std.proofs.lemmas.Slice.Eq.{bytes_eq-Decides}
 use Rattle.std.specs.Prelude.{bytes_eq, if◌then◌else◌, ◌&&◌}
-use Rattle.serde_json.specs.Data.{Data, null, boolean, number, string, array, object, Items, no_items, item, Members, no_members, member}
+use Rattle.serde_json.specs.Data.{Data, boolean, array, object, Items, no_items, item, Members, no_members, member}
 use Rattle.serde_json.specs.Find.{get_member}
 use Rattle.schemars_schema.specs.Json.{Text}
 use Rattle.schemars_schema.specs.SchemaData.{IsSchema}
@@ -18,12 +18,8 @@ use Rattle.schemars_laws.specs.Names.{IsNoObject, HasPlainUnevaluated}
 use Rattle.schemars_laws.proofs.Seen.{AgreeOn, seen, seen_under, place_read, at_no_schemas, unread_under, keywords-seen, keywords-unread, keywords-follow}
 
 abbrev pub IsTruth : Data → Type 0
-IsTruth null = ⊥
 IsTruth (boolean b) = Unit {0}
-IsTruth (number n) = ⊥
-IsTruth (string s) = ⊥
-IsTruth (array ds) = ⊥
-IsTruth (object ms) = ⊥
+IsTruth _ = ⊥
 
 -- What is asked of a rewrite: it reaches what a walk does, truth values aside; what it makes of a schema, whose
 -- subschemas are done, says after it what the schema said before; and the references lead to what says the same.
@@ -41,10 +37,7 @@ schema-listed : (c : Context) (s : Data) → IsSchema s → (read_data c s).list
 unfolding read_data
 schema-listed c (boolean b) is = refl
 schema-listed c (object ms) is = refl
-schema-listed c null is = absurd is
-schema-listed c (number n) is = absurd is
-schema-listed c (string s) is = absurd is
-schema-listed c (array ds) is = absurd is
+schema-listed c _ is = absurd is
 
 module _ {R : Type 0} (ρ : Rules R) (before after : Context) (P : Members → Type 0) (h : Keeps ρ before after P) where
   abbrev KeptSchema : Data → Data → Type 0
@@ -58,40 +51,27 @@ module _ {R : Type 0} (ρ : Rules R) (before after : Context) (P : Members → T
 
   either-listed : (r : R) (d : Data) → KeptList (forms ρ r d).as_list d → KeptList (forms ρ r d).as_either d
   unfolding forms read_data
-  either-listed r null e = refl
   either-listed r (boolean b) e = schema-listed after _ (h.schema (ρ.inside r (boolean b)) (boolean b) tt)
-  either-listed r (number n) e = refl
-  either-listed r (string s) e = refl
   either-listed r (array ds) e = e
   either-listed r (object ms) e =
       schema-listed after _ (h.schema (ρ.inside r (object ms)) (object (in_keywords ρ (ρ.inside r (object ms)) ms)) tt)
+  either-listed r _ e = refl
 
   either-schema : (r : R) (d : Data) → KeptSchema (forms ρ r d).as_schema d → KeptSchema (forms ρ r d).as_either d
   unfolding forms read_data
-  either-schema r null e = refl
   either-schema r (boolean b) e = e
-  either-schema r (number n) e = refl
-  either-schema r (string s) e = refl
-  either-schema r (array ds) e = refl
   either-schema r (object ms) e = e
+  either-schema r _ e = refl
 
   unread : (d : Data) → IsNoObject (Some d) → KeptSchema d d
   unfolding read_data
-  unread null is = refl
-  unread (boolean b) is = refl
-  unread (number n) is = refl
-  unread (string s) is = refl
-  unread (array ds) is = refl
   unread (object ms) is = absurd is
+  unread _ is = refl
 
   truth-read : (d : Data) → IsTruth d → read_data after d ≡ read_data before d
   unfolding read_data
   truth-read (boolean b) is = refl
-  truth-read null is = absurd is
-  truth-read (number n) is = absurd is
-  truth-read (string s) is = absurd is
-  truth-read (array ds) is = absurd is
-  truth-read (object ms) is = absurd is
+  truth-read _ is = absurd is
 
   module _ (r : R) (d : Data) (one : (asked P d).as_schema → KeptSchema (forms ρ r d).as_schema d)
       (list : (asked P d).as_list → KeptList (forms ρ r d).as_list d)
@@ -207,32 +187,21 @@ module _ {R : Type 0} (ρ : Rules R) (before after : Context) (P : Members → T
     unfolding asked forms read_data
 
     pub one : (r : R) (d : Data) → (asked P d).as_schema → KeptSchema (forms ρ r d).as_schema d
-    one r null a = refl
     one r (boolean b) a =
         schema-judge after _ (h.schema (ρ.inside r (boolean b)) (boolean b) tt) ∙ ap Some (h.of_truth (ρ.inside r (boolean b)) b)
-    one r (number n) a = refl
-    one r (string s) a = refl
-    one r (array ds) a = refl
     one r (object ms) a =
         schema-judge after _ (h.schema (ρ.inside r (object ms)) (object (in_keywords ρ (ρ.inside r (object ms)) ms)) tt)
         ∙ ap Some
         (h.of_object (ρ.inside r (object ms)) ms a.0 ∙ said (ρ.inside r (object ms)) ms a.0 (under (ρ.inside r (object ms)) ms a.1))
+    one r _ a = refl
 
     list : (r : R) (d : Data) → (asked P d).as_list → KeptList (forms ρ r d).as_list d
-    list r null a = refl
-    list r (boolean b) a = refl
-    list r (number n) a = refl
-    list r (string s) a = refl
     list r (array ds) a = items r ds a
-    list r (object ms) a = refl
+    list r _ a = refl
 
     names : (r : R) (d : Data) → (asked P d).by_name → KeptNames (forms ρ r d).by_name d
-    names r null a = refl
-    names r (boolean b) a = refl
-    names r (number n) a = refl
-    names r (string s) a = refl
-    names r (array ds) a = refl
     names r (object ms) a = members r ms a
+    names r _ a = refl
 
     items : (r : R) (ds : Items) → asked_of_items P ds → read_items after (in_items ρ r ds) ≡ read_items before ds
     items r no_items a = refl

@@ -305,10 +305,7 @@ judge-nullable c d ms is plain = go (get_member (codes "type") ms) refl plain.0 
 schema-nullable : (s : Data) → IsSchema s → IsSchema (nullable_change s)
 schema-nullable (boolean b) is = tt
 schema-nullable (object ms) is = by_kind IsSchema ms tt tt (λ t. tt) (get_member (codes "type") ms) refl
-schema-nullable null is = absurd is
-schema-nullable (number n) is = absurd is
-schema-nullable (string t) is = absurd is
-schema-nullable (array ds) is = absurd is
+schema-nullable _ is = absurd is
 
 truth-nullable : (c : Context) (b : Bool) → judge c (nullable_change (boolean b)) ≡ truth_value b
 unfolding read_data

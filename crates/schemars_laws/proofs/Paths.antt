@@ -4,7 +4,7 @@ use Rattle.std.proofs.Common.{option_map, refl, sym, ap, ◌∙◌, subst}
 use Rattle.std.specs.Prelude.{option_and_then, if◌then◌else◌}
 use Rattle.std.specs.Cmp.Lexicographic.{slice_cmp}
 use Rattle.std.specs.Ordering.{match_ordering}
-use Rattle.serde_json.specs.Data.{Data, null, boolean, number, string, array, object, Members, no_members, member, put}
+use Rattle.serde_json.specs.Data.{Data, boolean, object, Members, no_members, member, put}
 use Rattle.serde_json.specs.Find.{get_member, pointer}
 use Rattle.serde_json.proofs.Views.{get_member-put}
 use Rattle.schemars_schema.specs.Json.{Text}
@@ -39,20 +39,14 @@ names_get ρ r k (member l d ms) = rw (names_get ρ r k ms) (go (slice_cmp nat_c
 pub is-schema : (s : Data) → IsSchema s → is_schema s ≡ true
 is-schema (boolean b) is = refl
 is-schema (object ms) is = refl
-is-schema null is = absurd is
-is-schema (number n) is = absurd is
-is-schema (string s) is = absurd is
-is-schema (array ds) is = absurd is
+is-schema _ is = absurd is
 
 pub schema-kept : {R : Type 0} (ρ : Rules R) (r : R) (d : Data) → ((r : R) (s : Data) → IsSchema s → IsSchema (ρ.finish r s))
     → is_schema (forms ρ r d).as_schema ≡ is_schema d
 unfolding forms
-schema-kept ρ r null h = refl
 schema-kept ρ r (boolean b) h = is-schema _ (h (ρ.inside r (boolean b)) (boolean b) tt)
-schema-kept ρ r (number n) h = refl
-schema-kept ρ r (string s) h = refl
-schema-kept ρ r (array ds) h = refl
 schema-kept ρ r (object ms) h = is-schema _ (h (ρ.inside r (object ms)) (object (in_keywords ρ (ρ.inside r (object ms)) ms)) tt)
+schema-kept ρ r _ h = refl
 
 pub each-names : {R : Type 0} (ρ : Rules R) (r : R) (es : Members) → in_names ρ r es ≡ each_changed (rewritten ρ r) es
 unfolding in_names

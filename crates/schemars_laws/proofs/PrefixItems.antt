@@ -30,12 +30,8 @@ some-list c (item d ds) are =
 
 no-list : (c : Context) (d : Data) → IsNoList (Some d) → (read_data c d).listed ≡ None
 unfolding read_data
-no-list c null is = refl
-no-list c (boolean b) is = refl
-no-list c (number n) is = refl
-no-list c (string s) is = refl
 no-list c (array ds) is = absurd is
-no-list c (object ms) is = refl
+no-list c _ is = refl
 
 abbrev items_by : Context → Bool → Option Data → Option Data → Option Data → Data → Verdict
 items_by c b p i a v = items_say b (option_map (read_data c) p) (option_map (read_data c) i) (option_map (read_data c) a) v
@@ -195,10 +191,7 @@ judge-prefix c d ms is plain =
 schema-prefix : (s : Data) → IsSchema s → IsSchema (prefix_as_items s)
 schema-prefix (boolean b) is = tt
 schema-prefix (object ms) is = subst IsSchema (sym (changed ms)) tt
-schema-prefix null is = absurd is
-schema-prefix (number n) is = absurd is
-schema-prefix (string t) is = absurd is
-schema-prefix (array ds) is = absurd is
+schema-prefix _ is = absurd is
 
 truth-prefix : (c : Context) (b : Bool) → judge c (prefix_as_items (boolean b)) ≡ truth_value b
 unfolding read_data

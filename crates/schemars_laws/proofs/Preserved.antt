@@ -5,7 +5,7 @@ use Rattle.std.proofs.lemmas.Map.Text.{is_eq-slice_cmp}
 use Rattle.std.specs.Cmp.Lexicographic.{slice_cmp}
 use Rattle.std.specs.Ordering.{match_ordering}
 use Rattle.std.specs.Prelude.{bytes_eq, if◌then◌else◌}
-use Rattle.serde_json.specs.Data.{Data, null, boolean, number, string, array, object, Items, no_items, item, Members, no_members, member, put}
+use Rattle.serde_json.specs.Data.{Data, boolean, array, object, Items, no_items, item, Members, no_members, member, put}
 use Rattle.serde_json.specs.Find.{get_member}
 use Rattle.schemars_schema.specs.Json.{Text}
 use Rattle.schemars_schema.specs.SchemaData.{IsSchema}
@@ -74,10 +74,7 @@ module _ (Q : Members → Type 0) where
   unfolding asked
   schema-no_list (boolean b) is = tt
   schema-no_list (object ms) is = tt
-  schema-no_list null is = absurd is
-  schema-no_list (number n) is = absurd is
-  schema-no_list (string s) is = absurd is
-  schema-no_list (array ds) is = absurd is
+  schema-no_list _ is = absurd is
 
 -- ---- what is weaker
 
@@ -95,28 +92,16 @@ module _ (P Q : Members → Type 0) (h : (ms : Members) → P ms → Q ms) where
     unfolding asked
 
     pub weaker : (d : Data) → (asked P d).as_schema → (asked Q d).as_schema
-    weaker null a = tt
-    weaker (boolean b) a = tt
-    weaker (number n) a = tt
-    weaker (string s) a = tt
-    weaker (array ds) a = tt
     weaker (object ms) a = (h ms a.0, weaker-keywords ms a.1)
+    weaker _ a = tt
 
     weaker-list : (d : Data) → (asked P d).as_list → (asked Q d).as_list
-    weaker-list null a = tt
-    weaker-list (boolean b) a = tt
-    weaker-list (number n) a = tt
-    weaker-list (string s) a = tt
     weaker-list (array ds) a = weaker-items ds a
-    weaker-list (object ms) a = tt
+    weaker-list _ a = tt
 
     weaker-names : (d : Data) → (asked P d).by_name → (asked Q d).by_name
-    weaker-names null a = tt
-    weaker-names (boolean b) a = tt
-    weaker-names (number n) a = tt
-    weaker-names (string s) a = tt
-    weaker-names (array ds) a = tt
     weaker-names (object ms) a = weaker-members ms a
+    weaker-names _ a = tt
 
     weaker-items : (ds : Items) → asked_of_items P ds → asked_of_items Q ds
     weaker-items no_items a = tt
@@ -147,14 +132,11 @@ module _ {R : Type 0} (ρ : Rules R) (P Q : Members → Type 0) (h : Preserves �
       (named : (asked P d).by_name → (asked Q (forms ρ r d).by_name).by_name) where
     either : (e : Data) → e ≡ d → demanded SchemaOrList (asked P d) → demanded SchemaOrList (asked Q (forms ρ r d).as_either)
     unfolding asked forms
-    either null is a = subst (λ x. demanded SchemaOrList (asked Q (forms ρ r x).as_either)) is (tt, tt)
     either (boolean b) is a =
         subst (λ x. demanded SchemaOrList (asked Q (forms ρ r x).as_either)) is (
           h.of_truth (ρ.inside r (boolean b)) b,
           schema-no_list Q (ρ.finish (ρ.inside r (boolean b)) (boolean b)) (h.schema (ρ.inside r (boolean b)) (boolean b) tt),
         )
-    either (number n) is a = subst (λ x. demanded SchemaOrList (asked Q (forms ρ r x).as_either)) is (tt, tt)
-    either (string s) is a = subst (λ x. demanded SchemaOrList (asked Q (forms ρ r x).as_either)) is (tt, tt)
     either (array ds) is a =
         subst (λ x. demanded SchemaOrList (asked Q (forms ρ r x).as_either)) is
         (tt, subst (λ x. (asked Q (forms ρ r x).as_list).as_list) (sym is) (more a.1))
@@ -164,6 +146,7 @@ module _ {R : Type 0} (ρ : Rules R) (P Q : Members → Type 0) (h : Preserves �
           schema-no_list Q (ρ.finish (ρ.inside r (object ms)) (object (in_keywords ρ (ρ.inside r (object ms)) ms)))
               (h.schema (ρ.inside r (object ms)) (object (in_keywords ρ (ρ.inside r (object ms)) ms)) tt),
         )
+    either _ is a = subst (λ x. demanded SchemaOrList (asked Q (forms ρ r x).as_either)) is (tt, tt)
 
     by_place : (p : Place) → demanded p (asked P d) → demanded p (asked Q (form_at p d (forms ρ r d)))
     by_place NoSchemas a = tt
@@ -179,11 +162,7 @@ module _ {R : Type 0} (ρ : Rules R) (P Q : Members → Type 0) (h : Preserves �
   of_a_truth SchemaList (boolean b) is = tt
   of_a_truth SchemaOrList (boolean b) is = (tt, tt)
   of_a_truth SchemasByName (boolean b) is = tt
-  of_a_truth p null is = absurd is
-  of_a_truth p (number n) is = absurd is
-  of_a_truth p (string s) is = absurd is
-  of_a_truth p (array ds) is = absurd is
-  of_a_truth p (object ms) is = absurd is
+  of_a_truth p _ is = absurd is
 
   at : (r : R) (k : Text) (d : Data) → ((asked P d).as_schema → (asked Q (forms ρ r d).as_schema).as_schema)
       → ((asked P d).as_list → (asked Q (forms ρ r d).as_list).as_list)
@@ -203,28 +182,17 @@ module _ {R : Type 0} (ρ : Rules R) (P Q : Members → Type 0) (h : Preserves �
     unfolding asked forms
 
     pub after : (r : R) (d : Data) → (asked P d).as_schema → (asked Q (forms ρ r d).as_schema).as_schema
-    after r null a = tt
     after r (boolean b) a = h.of_truth (ρ.inside r (boolean b)) b
-    after r (number n) a = tt
-    after r (string s) a = tt
-    after r (array ds) a = tt
     after r (object ms) a = h.of_object (ρ.inside r (object ms)) ms a.0 (keywords (ρ.inside r (object ms)) ms a.1)
+    after r _ a = tt
 
     list : (r : R) (d : Data) → (asked P d).as_list → (asked Q (forms ρ r d).as_list).as_list
-    list r null a = tt
-    list r (boolean b) a = tt
-    list r (number n) a = tt
-    list r (string s) a = tt
     list r (array ds) a = items r ds a
-    list r (object ms) a = tt
+    list r _ a = tt
 
     names : (r : R) (d : Data) → (asked P d).by_name → (asked Q (forms ρ r d).by_name).by_name
-    names r null a = tt
-    names r (boolean b) a = tt
-    names r (number n) a = tt
-    names r (string s) a = tt
-    names r (array ds) a = tt
     names r (object ms) a = members r ms a
+    names r _ a = tt
 
     items : (r : R) (ds : Items) → asked_of_items P ds → asked_of_items Q (in_items ρ r ds)
     items r no_items a = tt

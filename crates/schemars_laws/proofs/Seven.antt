@@ -422,11 +422,7 @@ module _ (N : Text → Type 0) where
 
           list : (p : Data) → IsSchemaList (Some p) → (asked Q p).as_list → demanded SchemaOrList (asked Q p)
           list (array ds) is a = (tt, a)
-          list null is a = absurd is
-          list (boolean b) is a = absurd is
-          list (number n) is a = absurd is
-          list (string s) is a = absurd is
-          list (object ms) is a = absurd is
+          list _ is a = absurd is
 
           with : (p : Data) → demanded SchemaOrList (asked Q p)
               → asked_of_keywords Q (put (codes "items") p (without (codes "prefixItems") ns))

@@ -480,10 +480,7 @@ schema-siblings (object ms) is = kept (members_len ms == 1) (get_member (codes "
     kept true o = tt
     kept false None = tt
     kept false (Some r) = tt
-schema-siblings null is = absurd is
-schema-siblings (number n) is = absurd is
-schema-siblings (string t) is = absurd is
-schema-siblings (array ds) is = absurd is
+schema-siblings _ is = absurd is
 
 truth-siblings : (c : Context) (b : Bool) → judge c (without_siblings (boolean b)) ≡ truth_value b
 unfolding read_data

@@ -89,11 +89,7 @@ others-names (s ∷ ss) = go (bytes_eq s (codes "null")) refl (others-names ss)
 
 null-type : (v : Data) → is_of_type (codes "null") v ≡ is_null v
 null-type null = refl
-null-type (boolean b) = refl
-null-type (number n) = refl
-null-type (string s) = refl
-null-type (array ds) = refl
-null-type (object ms) = refl
+null-type _ = refl
 
 first-null : (n w l : Bool) → n || (w || (l && n)) ≡ w || ((true || l) && n)
 first-null true true l = refl

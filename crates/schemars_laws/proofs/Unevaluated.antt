@@ -2,7 +2,7 @@
 use Rattle.std.proofs.Common.{◌≡◌, ◌≢◌, List, Option, Some, None, Bool, true, false, codes, option_map, refl, sym, ap, ◌∙◌, subst}
 use Rattle.std.proofs.lemmas.Slice.Eq.{bytes_eq-Decides}
 use Rattle.std.specs.Prelude.{bytes_eq, if◌then◌else◌, ◌||◌, ◌&&◌, not}
-use Rattle.serde_json.specs.Data.{Data, null, boolean, number, string, array, object, Members, no_members, member, put}
+use Rattle.serde_json.specs.Data.{Data, boolean, object, Members, no_members, member, put}
 use Rattle.serde_json.specs.Find.{get_member}
 use Rattle.serde_json.proofs.Views.{get_member-put_other}
 use Rattle.schemars_schema.specs.Json.{Text}
@@ -95,10 +95,7 @@ module _ (P : Data → Type 0) (ms : Members) (stay : P (object (without (codes 
 pub schema-unevaluated : (s : Data) → IsSchema s → IsSchema (unevaluated_as_additional s)
 schema-unevaluated (boolean b) is = tt
 schema-unevaluated (object ms) is = by_rest IsSchema ms tt (λ rest. tt) (λ rest d. tt) (get_member (codes "unevaluatedProperties") ms)
-schema-unevaluated null is = absurd is
-schema-unevaluated (number n) is = absurd is
-schema-unevaluated (string t) is = absurd is
-schema-unevaluated (array ds) is = absurd is
+schema-unevaluated _ is = absurd is
 
 pub definitions-stay : (key : Text) (ms : Members) → key ≢ codes "unevaluatedProperties" → key ≢ codes "additionalProperties"
     → key ≢ codes "properties"

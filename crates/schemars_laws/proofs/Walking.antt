@@ -52,10 +52,7 @@ module _ {R : Type 0} (ρ : Rules R) (Enters : Text → Type 0)
     unfolding forms
     schema-walked r (boolean b) is = schema (ρ.inside r (boolean b)) (boolean b) tt
     schema-walked r (object ms) is = schema (ρ.inside r (object ms)) (object (in_keywords ρ (ρ.inside r (object ms)) ms)) tt
-    schema-walked r null is = absurd is
-    schema-walked r (number n) is = absurd is
-    schema-walked r (string t) is = absurd is
-    schema-walked r (array ds) is = absurd is
+    schema-walked r _ is = absurd is
 
     schemas-walked : (r : R) (ds : Items) → AreSchemas ds → AreSchemas (in_items ρ r ds)
     unfolding forms
@@ -75,10 +72,7 @@ module _ {R : Type 0} (ρ : Rules R) (Enters : Text → Type 0)
     schema-no_list : (s : Data) → IsSchema s → IsNoList (Some s)
     schema-no_list (boolean b) is = tt
     schema-no_list (object ms) is = tt
-    schema-no_list null is = absurd is
-    schema-no_list (number n) is = absurd is
-    schema-no_list (string t) is = absurd is
-    schema-no_list (array ds) is = absurd is
+    schema-no_list _ is = absurd is
 
     no_list-form : (r : R) (o : Option Data) → IsNoList o → IsNoList (option_map (λ d. (forms ρ r d).as_either) o)
     unfolding forms

@@ -10,7 +10,7 @@ use Rattle.schemars_schema.specs.Acceptance.{Dialect}
 use Rattle.schemars_transform.specs.Nullable.{all_null}
 use Rattle.schemars_transform.specs.declared.built_in.nullable.AddNullable.{AddNullable}
 
--- ---- what stands under a keyword
+-- ---- the value of a keyword
 
 -- the first of the members at k is the only one
 abbrev pub IsOnce : Text → Members → Type 0
@@ -73,17 +73,17 @@ IsSchemaList (Some (object ms)) = ⊥
 
 -- ---- schema objects
 
--- `const` stands once, and not beside `enum`
+-- `const` occurs once, and not beside `enum`
 abbrev pub IsConstAlone : Members → Type 0
 IsConstAlone ms = IsOnce (codes "const") ms × ((get_member (codes "const") ms ≡ None) ⊎ (get_member (codes "enum") ms ≡ None))
 
--- `prefixItems` stands once and is a list of schemas, `items` is no list, and there are no `additionalItems`
+-- `prefixItems` occurs once and is a list of schemas, `items` is not a list, and there are no `additionalItems`
 abbrev pub HasPlainItems : Members → Type 0
 HasPlainItems ms =
     IsOnce (codes "prefixItems") ms × IsSchemaList (get_member (codes "prefixItems") ms) × IsNoList (get_member (codes "items") ms)
     × (get_member (codes "additionalItems") ms ≡ None)
 
--- `$ref` stands once and is a text, and `allOf` is a list of schemas
+-- `$ref` occurs once and is a text, and `allOf` is a list of schemas
 abbrev pub HasPlainReference : Members → Type 0
 HasPlainReference ms =
     IsOnce (codes "$ref") ms × IsText (get_member (codes "$ref") ms) × IsSchemaList (get_member (codes "allOf") ms)
@@ -94,7 +94,7 @@ HasPlainType ms =
     IsTypes (get_member (codes "type") ms) × (get_member (codes "nullable") ms ≡ None)
     × ((is_null_alone (get_member (codes "type") ms) ≡ false) ⊎ (get_member (codes "const") ms ≡ None))
 
--- no other keyword stands beside `$ref`
+-- no other keyword is beside `$ref`
 abbrev pub IsReferenceAlone : Members → Type 0
 IsReferenceAlone ms = (get_member (codes "$ref") ms ≡ None) ⊎ ((members_len ms == 1) ≡ true)
 

@@ -26,7 +26,7 @@ abbrev pub MovesDrafts : (Data → Data) → Dialect → Dialect → (Members �
 MovesDrafts transform old new Q =
     MovesAcceptance transform old new (codes "$defs") Q × MovesAcceptance transform old new (codes "definitions") Q
 
--- wherever definitions stand: at the key of either draft, or under components
+-- wherever definitions are: at the key of either draft, or under components
 abbrev pub MovesDocuments : (Data → Data) → Dialect → Dialect → (Members → Type 0) → Type 0
 MovesDocuments transform old new Q = MovesDrafts transform old new Q × MovesComponents transform old new Q
 

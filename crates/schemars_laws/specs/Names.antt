@@ -6,12 +6,12 @@ use Rattle.schemars_schema.specs.Json.{Text}
 use Rattle.schemars_schema.specs.Encoding.{lookup}
 use Rattle.schemars_schema.specs.Acceptance.{Dialect}
 
--- where a map stands at key in a document, the reference leads to its member k, and to nothing where nothing stands there
+-- if a document has a map at key, the reference leads to its member k, and to nothing if there is no such member
 pub record IsNameOf (key k reference : Text) : Type 0 where
   pub there : (ms es : Members) → get_member key ms ≡ Some (object es) → lookup reference (object ms) ≡ get_member k es
   pub missing : (ms : Members) → get_member key ms ≡ None → lookup reference (object ms) ≡ None
 
--- the whole, or a definition, where the definitions stand at key
+-- the whole, or a definition, where the definitions are at key
 abbrev pub IsName : Text → Text → Type 0
 IsName key reference = (reference ≡ codes "#") ⊎ ((k : Text) × IsNameOf key k reference)
 
@@ -20,7 +20,7 @@ abbrev pub IsNamedBy : (Text → Type 0) → Option Text → Type 0
 IsNamedBy N None = Unit {0}
 IsNamedBy N (Some reference) = N reference
 
--- N holds of what stands under `$ref`, if it is a text
+-- N holds of the value of `$ref`, if it is a text
 abbrev pub HasNameOf : (Text → Type 0) → Members → Type 0
 HasNameOf N ms = IsNamedBy N (option_and_then as_str (get_member (codes "$ref") ms))
 
@@ -33,7 +33,7 @@ IsNoObject (Some (string s)) = Unit {0}
 IsNoObject (Some (array ds)) = Unit {0}
 IsNoObject (Some (object ms)) = ⊥
 
--- where the dialect reads `unevaluatedProperties`, no schema object stands there, since a walk doesn't lead to it
+-- if the dialect reads `unevaluatedProperties`, its value is not a schema object, since a walk does not lead to it
 abbrev pub HasPlainUnevaluated : Dialect → Members → Type 0
 HasPlainUnevaluated d ms = d.reads_unevaluated ≡ true → IsNoObject (get_member (codes "unevaluatedProperties") ms)
 

@@ -21,7 +21,7 @@ pub record Stands (N : Text → Type 0) (Q : Members → Type 0) (ms : Members) 
   pub once : IsOnce (codes "$ref") ms
   pub own : Q ms
 
--- a list of types is one of texts, and not empty, so that null that joins it is not alone
+-- a list of types is one of texts, and not empty, so that an added null is not alone
 abbrev pub AreSomeTypes : Option Data → Type 0
 AreSomeTypes None = Unit {0}
 AreSomeTypes (Some null) = Unit {0}
@@ -48,11 +48,11 @@ pub record IsForOpenApi (ms : Members) : Type 0 where
   pub const : IsConstAlone ms
   pub items : HasPlainItems ms
 
--- once `nullable` stands for null among types
+-- once `nullable` says that null is among the types
 abbrev pub AfterNullable : Members → Type 0
 AfterNullable ms = IsSchemaList (get_member (codes "allOf") ms) × IsConstAlone ms × HasPlainItems ms
 
--- once references stand alone
+-- once references are alone
 abbrev pub AfterSiblings : Members → Type 0
 AfterSiblings ms = IsConstAlone ms × HasPlainItems ms
 

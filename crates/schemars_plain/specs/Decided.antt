@@ -129,7 +129,7 @@ abbrev pub are_null : Items → Bool
 are_null no_items = true
 are_null (item d ds) = is_text (codes "null") (as_str d) && are_null ds
 
--- `enum` and `const` don't stand side by side, nor does one of them where the type is null alone
+-- `enum` and `const` are not side by side, and neither is beside a type that is null alone
 abbrev pub has_one_value : Bool → Bool → Bool → Bool
 has_one_value true true null = false
 has_one_value true false null = not null

@@ -4,7 +4,7 @@ ghost use Rattle.schemars_plain.specs.Decided.{all_differ};
 
 use schemars_schema::edits::is_listed;
 
-/// Whether no name stands twice in the list.
+/// Whether no name occurs twice in the list.
 pub fn all_differ(names: &[&str]) -> bool
     ensures { result ≡ all_differ (map (λ n. n.now) names.now) }
 {

@@ -81,7 +81,7 @@ pub fn is_plain_shape(alloc: Global, types: &Types, shape: &Shape) -> Result<boo
     }
 }
 
-// Variants that are told by their names.
+// Variants that are distinguished by their names.
 fn are_named_and_plain(
     alloc: Global,
     types: &Types,

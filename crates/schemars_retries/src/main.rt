@@ -1,4 +1,4 @@
-//! Makes calls of the libraries, and makes a call that is refused for want of memory again.
+//! Makes calls of the libraries, and makes each call again that has run out of memory.
 //!
 //! A refused call has to leave the generator and the table as they were, and is then to answer what
 //! it would have answered at first. So the program writes the same whichever allocation is refused,

@@ -1,4 +1,4 @@
-//! Rows that are made, and types that join a table.
+//! Rows that are made, and types that are added to a table.
 use crate::retry::{again, expect_same, show};
 use crate::stop::Stop;
 use schemars::Schema;

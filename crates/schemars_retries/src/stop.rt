@@ -14,7 +14,7 @@ pub(crate) enum Stop {
     Memory,
     /// A call was refused for another reason.
     Refused,
-    /// A call that was refused for want of memory has changed something.
+    /// A call that ran out of memory has changed something.
     Changed,
 }
 

@@ -27,7 +27,7 @@ are_bytes (b ∷ bs) = nat_lt b 256 && are_bytes bs
 abbrev pub json_named : Text → Data → Data
 json_named variant d = object (member variant d no_members)
 
--- There is none where a whole number or a byte is out of range. Of members with equal keys the later stands.
+-- There is none if a whole number or a byte is out of range. Of members with equal keys the later one counts.
 abbrev mutual
   pub sample_json : Example → Option Data
   sample_json (truth b) = Some (boolean b)

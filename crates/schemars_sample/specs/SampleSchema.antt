@@ -72,7 +72,7 @@ struct_schema properties = object_of (typed (codes "object") ∷ (codes "propert
 abbrev pub map_schema : Data → Data
 map_schema values = object_of (typed (codes "object") ∷ (codes "additionalProperties", values) ∷ [])
 
--- Names of structs are not told. Of members with equal keys the later stands.
+-- Names of structs are not written. Of members with equal keys the later one counts.
 abbrev mutual
   pub sample_schema : Example → Data
   sample_schema (truth b) = type_alone (codes "boolean")
@@ -112,7 +112,7 @@ abbrev pub with_name : Text → Data → Data
 with_name [] s = s
 with_name (b ∷ bs) s = inserted (codes "title") (string (b ∷ bs)) s
 
--- the name of a struct is the title, the outer one's where structs of one part stand around it
+-- the name of a struct is the title, the outermost name if it is inside structs of one part
 abbrev pub titled_schema : Example → Data
 titled_schema (truth b) = sample_schema (truth b)
 titled_schema (whole z) = sample_schema (whole z)

@@ -6,11 +6,7 @@ use Rattle.schemars_schema.specs.Json.{Text}
 
 pub array-as_array : (d : Data) (ds : Items) → Some ds ≡ as_array d → d ≡ array ds
 array-as_array (array es) ds e = cc
-array-as_array null ds e = cc
-array-as_array (boolean b) ds e = cc
-array-as_array (number n) ds e = cc
-array-as_array (string s) ds e = cc
-array-as_array (object ms) ds e = cc
+array-as_array _ ds e = cc
 
 -- what holds of every value but lists
 pub not_array : (P : Data → Type 0) → P null → ((b : Bool) → P (boolean b)) → ((n : Num) → P (number n)) → ((s : Text) → P (string s))
@@ -24,11 +20,7 @@ not_array P of_null of_boolean of_number of_string of_object (object ms) e = of_
 
 pub object-as_object : (d : Data) (ms : Members) → Some ms ≡ as_object d → d ≡ object ms
 object-as_object (object ns) ms e = cc
-object-as_object null ms e = cc
-object-as_object (boolean b) ms e = cc
-object-as_object (number n) ms e = cc
-object-as_object (string s) ms e = cc
-object-as_object (array ds) ms e = cc
+object-as_object _ ms e = cc
 
 -- what holds of every value but objects
 pub not_object : (P : Data → Type 0) → P null → ((b : Bool) → P (boolean b)) → ((n : Num) → P (number n)) → ((s : Text) → P (string s))

@@ -79,19 +79,9 @@ mutual
 pub json_eq-float : (x : Float) (e : Data) → json_eq (number (float x)) e ≡ false
 unfolding json_eq
 json_eq-float x null = refl
-json_eq-float x (boolean b) = refl
-json_eq-float x (number n) = refl
-json_eq-float x (string s) = refl
-json_eq-float x (array ds) = refl
-json_eq-float x (object ms) = refl
+json_eq-float x _ = refl
 
 pub json_eq-float_right : (x : Float) (d : Data) → json_eq d (number (float x)) ≡ false
 unfolding json_eq
-json_eq-float_right x null = refl
-json_eq-float_right x (boolean b) = refl
 json_eq-float_right x (number (unsigned n)) = refl
-json_eq-float_right x (number (negative z)) = refl
-json_eq-float_right x (number (float y)) = refl
-json_eq-float_right x (string s) = refl
-json_eq-float_right x (array ds) = refl
-json_eq-float_right x (object ms) = refl
+json_eq-float_right x _ = refl

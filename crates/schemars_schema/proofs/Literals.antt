@@ -8,7 +8,7 @@ use Rattle.std.specs.Cmp.Lexicographic.{slice_cmp}
 use Rattle.std.proofs.lemmas.Map.Lookups.{exact_bytes}
 use Rattle.std.proofs.lemmas.Slice.Eq.{bytes_eq-Decides}
 use Rattle.std.proofs.Math.Bool.{and-false}
-use Rattle.serde_json.specs.Data.{Data, null, boolean, number, string, array, object, Members, no_members, member, put}
+use Rattle.serde_json.specs.Data.{Data, boolean, object, Members, no_members, member, put}
 use Rattle.serde_json.specs.Find.{get_member, as_str, as_array}
 use Rattle.serde_json.specs.Events.{items_len}
 use Rattle.schemars_schema.specs.Json.{Text, is_among}
@@ -35,10 +35,7 @@ use Rattle.schemars_schema.proofs.Silent.{items_none, unevaluated_none}
 pub literal_is_schema : (l : Data) → IsPlainLiteral l → IsSchema l
 literal_is_schema (boolean b) plain = tt
 literal_is_schema (object ms) plain = tt
-literal_is_schema null plain = absurd plain
-literal_is_schema (number n) plain = absurd plain
-literal_is_schema (string s) plain = absurd plain
-literal_is_schema (array ds) plain = absurd plain
+literal_is_schema _ plain = absurd plain
 
 -- ---- the keywords that stand there
 
@@ -171,10 +168,7 @@ module _ (c : Context) (no_nullable : c.dialect.reads_nullable ≡ false) (const
   literal_judged (object ms) v plain =
       ap (λ j. j.fits v) (judge-object c ms ∙ says-agree c _ _ (λ k is. literal-agree ms plain.members k is))
       ∙ literal_says (λ k. get_member k ms) v
-  literal_judged null v plain = absurd plain
-  literal_judged (number n) v plain = absurd plain
-  literal_judged (string s) v plain = absurd plain
-  literal_judged (array ds) v plain = absurd plain
+  literal_judged _ v plain = absurd plain
 
 -- in every document, with any number of references followed, under every reading of patterns
 pub literal_judges : (document : Data) (patterns : Patterns) (n : ℕ) (l v : Data) → IsPlainLiteral l
@@ -234,10 +228,7 @@ pub literal_refers_nowhere : (l : Data) → IsPlainLiteral l → references l �
 unfolding found_in
 literal_refers_nowhere (boolean b) plain = refl
 literal_refers_nowhere (object ms) plain = refers_nowhere ms plain.members
-literal_refers_nowhere null plain = absurd plain
-literal_refers_nowhere (number n) plain = absurd plain
-literal_refers_nowhere (string s) plain = absurd plain
-literal_refers_nowhere (array ds) plain = absurd plain
+literal_refers_nowhere _ plain = absurd plain
 
 -- ---- with notes
 

@@ -9,7 +9,7 @@ use Rattle.std.proofs.lemmas.Map.Text.{is_eq-slice_cmp}
 use Rattle.std.proofs.lemmas.Slice.Eq.{bytes_eq-Decides}
 use Rattle.std.proofs.Common.{nat_cmp}
 use Rattle.std.proofs.lemmas.Bool.{and_parts, not-true}
-use Rattle.serde_json.specs.Data.{Data, null, boolean, number, string, array, object, Members, no_members, member, put}
+use Rattle.serde_json.specs.Data.{Data, boolean, object, Members, no_members, member, put}
 use Rattle.serde_json.specs.Find.{get_member}
 use Rattle.serde_json.proofs.Views.{get_member-put_other}
 use Rattle.schemars_schema.specs.Json.{Text}
@@ -52,10 +52,7 @@ pub schema-judge : (c : Context) (t : Data) → IsSchema t → (read_data c t).s
 unfolding read_data
 schema-judge c (boolean b) is = refl
 schema-judge c (object ms) is = refl
-schema-judge c null is = absurd is
-schema-judge c (number n) is = absurd is
-schema-judge c (string s) is = absurd is
-schema-judge c (array ds) is = absurd is
+schema-judge c _ is = absurd is
 
 -- ---- what is no keyword says nothing
 

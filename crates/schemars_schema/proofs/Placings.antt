@@ -67,11 +67,6 @@ placed_missing all ts t new ms d is missing made = rw is (go (get_member t ms) m
     go (Some x) e = cc
 
 pub placed_other : (ts : List Text) (new : Members) (d : Data) → as_object d ≡ None → placed ts new (Some d) ≡ None
-placed_other [] new null h = refl
-placed_other [] new (boolean b) h = refl
-placed_other [] new (number n) h = refl
-placed_other [] new (string s) h = refl
-placed_other [] new (array ds) h = refl
 placed_other [] new (object ms) h = cc
 placed_other (t ∷ ts) new null h = refl
 placed_other (t ∷ ts) new (boolean b) h = refl
@@ -79,6 +74,7 @@ placed_other (t ∷ ts) new (number n) h = refl
 placed_other (t ∷ ts) new (string s) h = refl
 placed_other (t ∷ ts) new (array ds) h = refl
 placed_other (t ∷ ts) new (object ms) h = cc
+placed_other [] new _ h = refl
 
 pub placed_refused : (all ts : List Text) (t : Text) (new ms : Members) (d : Data) → all ≡ t ∷ ts → get_member t ms ≡ Some d
     → as_object d ≡ None → placed all new (Some (object ms)) ≡ None
@@ -203,10 +199,7 @@ lookup-definition p name document new plain is text = lookup-encoded (35 ∷ p) 
 pub schema_only-schema : (d : Data) → IsSchema d → schema_only d ≡ Some d
 schema_only-schema (boolean b) is = refl
 schema_only-schema (object ms) is = refl
-schema_only-schema null is = absurd is
-schema_only-schema (number n) is = absurd is
-schema_only-schema (string s) is = absurd is
-schema_only-schema (array ds) is = absurd is
+schema_only-schema _ is = absurd is
 
 pub resolved-definition : (p name : Text) (document d : Data) (new : Members) → IsPlain p → pointer p document ≡ Some (object new)
     → IsUtf8 name → get_member name new ≡ Some d → IsSchema d

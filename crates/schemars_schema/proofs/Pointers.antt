@@ -7,7 +7,7 @@ use Rattle.std.proofs.lemmas.List.{drop_more, take-append-drop, get_or-take, len
 use Rattle.std.proofs.lemmas.Grind.{get_or_default_zero}
 use Rattle.std.proofs.lemmas.Str.{IsUtf8-nil, IsUtf8-drop, IsCharBoundary-after_ascii}
 use Rattle.std.proofs.Math.Seq.{drop-append_seam}
-use Rattle.serde_json.specs.Data.{Data, null, boolean, number, string, array, object, Members}
+use Rattle.serde_json.specs.Data.{Data, object, Members}
 use Rattle.serde_json.specs.Find.{unescape, get, get_member, walk, pointer}
 use Rattle.serde_json.proofs.Paths.{Lacks, walk_last, walk_part}
 use Rattle.schemars_schema.specs.Json.{Text}
@@ -112,12 +112,8 @@ none_in p d h = go (is_whole p) d
   where
     go : (b : Bool) (d : Data) → (if b then None else pointed_in p d) ≡ None
     go true d = refl
-    go false null = refl
-    go false (boolean b) = refl
-    go false (number n) = refl
-    go false (string s) = refl
-    go false (array ds) = refl
     go false (object ms) = h ms
+    go false _ = refl
 
 pub inside-other : (p t : Text) (d : Data) → pointer_text p ≡ Some t → ((rest : Text) → t ≢ 47 ∷ rest) → pointed_inside p d ≡ None
 inside-other p [] d h other = rw (text_whole p h) refl
@@ -131,12 +127,8 @@ inside-first p tokens token below d h first = go (is_whole p) refl d
     go : (b : Bool) → is_whole p ≡ b → (d : Data) → (if b then None else pointed_in p d)
         ≡ option_and_then (pointer below) (get (unescape token) d)
     go true is d = let both = sym (whole_text p is) ∙ h in cc
-    go false is null = refl
-    go false is (boolean b) = refl
-    go false is (number n) = refl
-    go false is (string s) = refl
-    go false is (array ds) = refl
     go false is (object ms) = pointed-text p (object ms) ∙ rw h (pointer-first tokens token below ms first)
+    go false is _ = refl
 
 -- ---- unescaping
 

@@ -1,6 +1,6 @@
 -- A truth value made an object accepts what it did.
 use Rattle.std.proofs.Common.{◌≡◌, ℕ, Bool, true, false, refl}
-use Rattle.serde_json.specs.Data.{Data, null, boolean, number, string, array, object}
+use Rattle.serde_json.specs.Data.{Data, null, boolean, object}
 use Rattle.schemars_schema.specs.SchemaData.{IsSchema, members_in}
 use Rattle.schemars_schema.specs.Acceptance.{Dialect, Patterns, accepts, read_data, all_keywords}
 use Rattle.schemars_schema.proofs.Silent.{items_none, const_none, unevaluated_none}
@@ -22,6 +22,4 @@ accepts-members_in dialect document patterns n (boolean b) v is = go dialect.jud
     go false q r t u true = rw (items_none q v, const_none t v, unevaluated_none u _ v)
     go false q r t u false = rw (items_none q v, const_none t v, unevaluated_none u _ v)
 accepts-members_in dialect document patterns n null v is = absurd is
-accepts-members_in dialect document patterns n (number x) v is = absurd is
-accepts-members_in dialect document patterns n (string x) v is = absurd is
-accepts-members_in dialect document patterns n (array x) v is = absurd is
+accepts-members_in dialect document patterns n _ v is = absurd is

@@ -79,7 +79,7 @@ pub record Judge : Type 0 where
   pub fits : Test
   pub judges : Data → Text → Bool
 
--- what stands under a keyword, read in each way: a schema, a list of schemas, schemas by name
+-- the value of a keyword, read in each way: a schema, a list of schemas, schemas by name
 pub record Reading : Type 0 where
   pub schema : Option Judge
   pub listed : Option (List Judge)
@@ -91,14 +91,14 @@ pub record Context : Type 0 where
   pub patterns : Patterns
   pub follow : Text → Judge
 
--- what stands under each keyword of an object: as it is, and read
+-- the value of each keyword of an object: as it is, and read
 abbrev pub Raw : Type 0
 Raw = Text → Option Data
 
 abbrev pub Readings : Type 0
 Readings = Text → Option Reading
 
--- a keyword says nothing where it doesn't stand, or the value is of another kind, or its form is wrong
+-- a keyword says nothing if it is missing, if the value is of another kind, or if its form is wrong
 abbrev pub where_some : {A : Type 0} → Option A → (A → Verdict) → Verdict
 where_some None f = Yes
 where_some (Some a) f = f a
@@ -392,7 +392,7 @@ reference_alone c raw = record {
   judges = judged_by_reference c.follow (raw (codes "$ref"));
 }
 
--- a reference is a text under `$ref`; where siblings are not judged, it stands alone
+-- a reference is a text under `$ref`; if siblings are not judged, it is the only keyword that counts
 abbrev pub is_reference : Option Data → Bool
 is_reference reference = is_some (option_and_then as_str reference)
 
@@ -441,7 +441,7 @@ unfoldable mutual
   read_members c no_members = []
   read_members c (member k d ms) = (k, read_data c d) ∷ read_members c ms
 
--- what is no schema accepts nothing
+-- a value that is not a schema accepts nothing
 abbrev pub nothing : Judge
 nothing = record { fits = λ v. No; judges = λ v k. false }
 

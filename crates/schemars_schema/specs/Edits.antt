@@ -29,11 +29,11 @@ on_object f (object ms) = object (f ms)
 abbrev pub removed : Text → Data → Data
 removed k d = on_object (without k) d
 
--- the members with the value at k changed; where there is none, the change of d joins there
+-- the members with the value at k changed; if there is none, the change of d is added at k
 abbrev pub changed_at : Text → (Data → Data) → Data → Members → Members
 changed_at k change d ms = elim (get_member k ms) [ None ↦ put k (change d) ms | Some e ↦ replaced k (change e) ms ]
 
--- the members with d at k, unless a value stands there
+-- the members with d at k, unless there is a value at k
 abbrev pub put_missing : Text → Data → Members → Members
 put_missing k d ms = if is_some (get_member k ms) then ms else put k d ms
 

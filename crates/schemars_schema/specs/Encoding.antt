@@ -39,7 +39,7 @@ begins_escape (x ∷ []) = false
 begins_escape (x ∷ y ∷ []) = false
 begins_escape (x ∷ y ∷ z ∷ rest) = x == 37 && (is_hex_digit y && is_hex_digit z)
 
--- such bytes stand somewhere
+-- such bytes occur somewhere
 abbrev pub has_escape : List ℕ → Bool
 has_escape [] = false
 has_escape (x ∷ rest) = begins_escape (x ∷ rest) || has_escape rest
@@ -53,7 +53,7 @@ stays b = b == 33 || (b == 36 || (is_between 38 46 b || (is_between 48 59 b ||
 abbrev pub hex_digit : ℕ → ℕ
 hex_digit n = if nat_lt n 10 then 48 + n else 55 + n
 
--- `~` becomes `~0` and `/` becomes `~1`; what can't stand in a fragment becomes `%` and two digits
+-- `~` becomes `~0` and `/` becomes `~1`; a byte that cannot occur in a fragment becomes `%` and two digits
 abbrev pub encoded_byte : ℕ → Text
 encoded_byte b =
     if b == 126 then 126 ∷ 48 ∷ []

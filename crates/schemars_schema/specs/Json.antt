@@ -18,7 +18,7 @@ IsWholeNumber (unsigned n) = n < 2 ^ 64
 IsWholeNumber (negative z) = IsBelowZero z
 IsWholeNumber (float x) = ⊥
 
--- the keys stand in the order of their bytes, each once
+-- the keys are in the order of their bytes, each once
 abbrev pub IsAbove : Text → Members → Type 0
 IsAbove k no_members = ⊤
 IsAbove k (member l d ms) = (slice_cmp nat_cmp k l ≡ Less) × IsAbove k ms

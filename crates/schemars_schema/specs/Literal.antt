@@ -46,7 +46,7 @@ is_null_type d = elim (types_in d) [ None ↦ false | Some ts ↦ list_all (byte
 
 pub record IsPlainObject (ms : Members) : Type 0 where
   pub members : ArePlainMembers ms
-  -- `enum` and `const` don't stand side by side
+  -- `enum` and `const` are not side by side
   pub not_both : is_some (get_member (codes "enum") ms) && is_some (get_member (codes "const") ms) ≡ false
   -- nor does one of them where the type is null alone
   pub beside_null : option_map_or is_null_type (get_member (codes "type") ms) false ≡ true

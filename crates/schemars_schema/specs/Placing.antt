@@ -11,18 +11,18 @@ use Rattle.schemars_schema.specs.Edits.{replaced}
 abbrev pub tokens_in : Text → List Text
 tokens_in text = map unescape (slice_split (λ b. b == 47) text)
 
--- what stands behind each `/` of a pointer; none where nothing can be placed
+-- the tokens after each `/` of a pointer; none where nothing can be placed
 abbrev pub tokens_of : Text → Option (List Text)
 tokens_of [] = None
 tokens_of (x ∷ []) = None
 tokens_of (x ∷ y ∷ rest) = if x == 47 then Some (tokens_in (y ∷ rest)) else None
 
--- what stands behind each `/` of a pointer, or of nothing
+-- the tokens after each `/` of a pointer, or of nothing
 abbrev pub tokens_below : Text → List Text
 tokens_below [] = []
 tokens_below (x ∷ rest) = if x == 47 then tokens_in rest else []
 
--- the value with these members put into what the tokens lead to; where no value stands, an object is made
+-- the value with these members added to what the tokens lead to; where there is no value, an object is made
 abbrev pub placed : List Text → Members → Option Data → Option Data
 placed [] new None = Some (object new)
 placed [] new (Some null) = None

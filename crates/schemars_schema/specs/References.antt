@@ -1,4 +1,4 @@
--- The references of a document: what stands under `$ref` in the schemas inside it.
+-- The references of a document: the values of `$ref` in the schemas inside it.
 use Rattle.std.specs.Prelude.{◌≡◌, ◌&&◌, List, [], ◌∷◌, ◌++◌, Bool, true, if◌then◌else◌, is_some, option_and_then, codes, bytes_eq}
 use Rattle.serde_json.specs.Data.{Data, null, boolean, number, string, array, object, Items, no_items, item, Members, no_members, member}
 use Rattle.serde_json.specs.Find.{as_str}
@@ -6,7 +6,7 @@ use Rattle.schemars_schema.specs.Json.{Text}
 use Rattle.schemars_text.specs.OrderedText.{is_listed}
 use Rattle.schemars_schema.specs.Lookup.{resolved}
 
--- where schemas stand under a keyword: a schema, a list of schemas, either of these, or schemas by name
+-- where schemas are under a keyword: a schema, a list of schemas, either of these, or schemas by name
 pub data Place : Type 0 where
   NoSchemas : Place
   OneSchema : Place
@@ -40,7 +40,7 @@ place_under k =
     else if is_listed k keywords_with_names then SchemasByName
     else NoSchemas
 
--- the references in what stands there, read in each way
+-- the references in a value, read in each way
 pub record Found : Type 0 where
   pub in_schema : List Data
   pub in_list : List Data

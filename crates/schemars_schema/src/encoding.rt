@@ -61,7 +61,7 @@ pub fn percent_decode<'t>(alloc: Global, text: &'t str) -> Result<Option<CowStr<
     }
 }
 
-// What may stand in a fragment, and is not escaped in a pointer.
+// The bytes that may occur in a fragment, and are not escaped in a pointer.
 fn stays(byte: u8) -> bool
     ensures { result ≡ stays byte }
 {
@@ -148,7 +148,7 @@ fn decoded_bytes(alloc: Global, text: &[u8]) -> Result<Vec<u8>, AllocError>
     Ok(bytes)
 }
 
-// The byte that an escape at the front stands for, and what comes after the escape.
+// The byte that the escape at the front denotes, and what comes after the escape.
 fn split_escape(bytes: &[u8]) -> Option<(u8, &[u8])>
     ensures begins { is_some result ≡ begins_escape bytes.now }
     ensures splits { IfSome result (λ split.

@@ -5,7 +5,7 @@ use serde_json::Value;
 use std::error::Error;
 use std::fmt;
 
-/// The value is no schema: it is neither an object nor a truth value. It is handed back.
+/// The value is not a schema: it is neither an object nor a truth value. It is handed back.
 #[derive(Debug, Drop)]
 pub struct NotASchema(pub Value);
 

@@ -1,4 +1,4 @@
--- Lists in which a name stands twice.
+-- Lists in which a name occurs twice.
 use Rattle.std.specs.Prelude.{◌≡◌, ◌⊎◌, ℕ, List, [], ◌∷◌, take, Contains, slice_get, Some, bytes_eq}
 use Rattle.std.specs.List.{IsDistinct}
 use Rattle.schemars_schema.specs.Json.{Text}
@@ -10,7 +10,7 @@ pub record IsRepeated (names : List Text) (name : Text) : Type 0 where
   pub is_before : Contains (take place names) name
   pub is_first : IsDistinct bytes_eq (take place names)
 
--- no name stands twice in one of the lists
+-- no name occurs twice in one of the lists
 abbrev pub AreDistinctLists : List (List Text) → Type 0
 AreDistinctLists [] = Unit {0}
 AreDistinctLists (names ∷ lists) = IsDistinct bytes_eq names × AreDistinctLists lists

@@ -1,4 +1,4 @@
--- The rows of a variant, by what is asked of it.
+-- The rows of a variant, by the kind of request.
 use Rattle.std.specs.Prelude.{ℕ, List}
 use Rattle.schemars_shapes.specs.Shape.{Payload, payload_numbers, payload_flattened, payload_same}
 use Rattle.schemars_shapes.specs.declared.edges.variant.Rows.{Rows}

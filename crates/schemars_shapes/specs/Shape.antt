@@ -31,7 +31,7 @@ pub record Field : Type 0 where
   pub required : Required
   pub notes : Members
 
--- a row whose members stand in the map itself, and whether they have to be there
+-- a row whose members are in the map itself, and whether they are required
 pub record Flattened : Type 0 where
   pub ty : ℕ
   pub required : Required
@@ -263,7 +263,7 @@ flattened_numbers (internal tag closed xs) = of_variants payload_flattened xs
 flattened_numbers (adjacent tag content closed xs) = of_variants payload_flattened xs
 flattened_numbers _ = []
 
--- the rows that a shape asks at once, in place or not: that of a map's keys, and those whose members stand in its own maps
+-- the rows that a shape needs at once, in place or not: the row of a map's keys, and the rows whose members are in its own maps
 abbrev pub asked_numbers : Shape → List ℕ
 asked_numbers (map_from key value) = key ∷ []
 asked_numbers (struct x) = flattened_rows x

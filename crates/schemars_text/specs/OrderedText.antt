@@ -20,11 +20,11 @@ abbrev pub is_listed : Text → List Text → Bool
 is_listed k [] = false
 is_listed k (l ∷ ls) = bytes_eq k l || is_listed k ls
 
--- plain JSON stands under these, and no schema
+-- the values of these are plain JSON, and not schemas
 abbrev pub holds_plain_json : Text → Bool
 holds_plain_json k = is_listed k (codes "examples" ∷ codes "default" ∷ []) || starts_with nat_eq k (codes "x-")
 
--- schemas by name stand under these
+-- the values of these are schemas by name
 abbrev pub holds_named_schemas : Text → Bool
 holds_named_schemas k = is_listed k (codes "properties" ∷ codes "patternProperties" ∷ codes "dependentSchemas" ∷ codes "$defs"
     ∷ codes "definitions" ∷ [])
@@ -74,7 +74,7 @@ arranged NamedSchemas ws = ws
 abbrev pub texts : List Written → List Text
 texts ws = map (λ w. w.text) ws
 
--- texts with commas between them, and one before them where something stands before
+-- texts with commas between them, and one before them if something is before them
 abbrev pub with_commas : Bool → List Text → Text
 with_commas later [] = []
 with_commas later (t ∷ ts) = comma_if later ++ (t ++ with_commas true ts)

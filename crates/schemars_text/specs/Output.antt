@@ -8,7 +8,7 @@ use Rattle.schemars_text.specs.OrderedText as ordered
 use Rattle.schemars_text.specs.declared.ordered.Layout.{Layout}
 use Rattle.schemars_text.specs.declared.ordered.Layout.TheVariants.{PlainJson, Schema, NamedSchemas}
 
--- the text so far, and whether a value has just ended, so that a comma stands before the next
+-- the text so far, and whether a value has just ended, so that a comma comes before the next
 pub record Output : Type 0 where
   pub text : Text
   pub after_value : Bool

@@ -1,4 +1,4 @@
--- Where a key stands in a list.
+-- The place of a key in a list.
 use Rattle.std.specs.Prelude.{ℕ, suc, List, [], ◌∷◌, Option, Some, None, option_map, if◌then◌else◌, bytes_eq}
 use Rattle.schemars_text.specs.Text.{Text}
 

@@ -4,7 +4,7 @@ use Rattle.std.specs.Io.KnownBytes.{Appends}
 use Rattle.schemars_text.specs.Text.{Text}
 use Rattle.schemars_text.specs.Output.{Output}
 
--- which outputs a place may hold, after the bytes that stood in its sink
+-- which outputs a place may hold, after the bytes that its sink held
 abbrev pub Holds : Type 1
 Holds = Option Text → Output → Type 0
 

@@ -15,7 +15,7 @@ use arrayvec::ArrayVec;
 use json::Token;
 use serde_json::Number;
 
-// What is to be handed on, whether a value has just ended, and whether the sink has failed.
+// The bytes to be written, whether a value has just ended, and whether the sink has failed.
 #[derive(Drop)]
 pub(crate) struct Gathered {
     block: ArrayVec<u8, 4096>,
@@ -85,7 +85,7 @@ impl Gathered {
         }
     }
 
-    // Puts what stands between the end of a value and the beginning of the next.
+    // Writes the separator between the end of a value and the beginning of the next.
     fn put_comma<K: Sink>(&mut self, sink: &mut K, begins: bool)
         ensures adds { AddsText (K.bytes sink.old) (K.has_failed sink.old) self.old.block.items
             self.old.failed (K.bytes sink.new) (K.has_failed sink.new) self.new.block.items
@@ -213,7 +213,7 @@ fn ends(token: Token<'_>) -> bool
     )
 }
 
-// How many bytes at the front stand for themselves.
+// How many bytes at the front are written as they are.
 fn plain_len(text: &[u8]) -> usize
     ensures within { result ≤ length text.now }
     ensures same { escape (take result text.now) ≡ take result text.now }

@@ -207,7 +207,7 @@ fn write_in_map_order<S, T: Target<S>>(
     }
 }
 
-// Writes what stands under `FIRST_KEYWORDS`, and answers what stands under `LAST_KEYWORDS`.
+// Writes the members of `FIRST_KEYWORDS`, and returns those of `LAST_KEYWORDS`.
 #[cycle(write)]
 #[inline(never)]
 fn write_first<'v, S, T: Target<S>>(

@@ -14,7 +14,7 @@ use serde_json::Number;
 use std::alloc::{AllocError, Global};
 use std::marker::Model;
 
-// It is seen as the text so far, and whether a value has just ended.
+// Its model is the text so far, and whether a value has just ended.
 #[derive(Drop)]
 pub(crate) struct Output {
     writer: Writer,

@@ -20,7 +20,7 @@ pub(crate) const FIRST_KEYWORDS: [&str; 7] = [
 
 pub(crate) const LAST_KEYWORDS: [&str; 2] = ["$defs", "definitions"];
 
-// Finds what stands under `FIRST_KEYWORDS` and then `LAST_KEYWORDS`, in one pass.
+// Finds the members of `FIRST_KEYWORDS` and then of `LAST_KEYWORDS`, in one pass.
 #[inline(never)]
 pub(crate) fn find_fixed<'v>(members: &'v Map<String, Value>, found: &mut [Option<&'v Value>; 9])
     ensures { map (λ s. option_map (λ v. view v.now) s) found.new

@@ -15,7 +15,7 @@ use serde_json::Number;
 // A place for JSON text, which is written token by token. It may use what is lent to each call.
 // Where it fails, it ignores what comes after.
 pub(crate) trait Target<S> {
-    // The outputs that it may hold, after what stood there at the start.
+    // The outputs that it may hold, after what it held at the start.
     ghost has: { Self → S → Option (List ℕ) → Output → Type 0 };
 
     fn token(&mut self, lent: &mut S, token: Token<'_>)
@@ -23,7 +23,7 @@ pub(crate) trait Target<S> {
         ensures { Becomes (has self.old lent.old) (has self.new lent.new) false
             (λ o. with_token o (token_of token.entry)) };
 
-    // A number that is no whole number of 64 bits has some text.
+    // A number that is not a 64-bit whole number has some text.
     fn number(&mut self, lent: &mut S, n: Number)
         ensures { Becomes (has self.old lent.old) (has self.new lent.new)
             (is_float (number_view n))

@@ -1,6 +1,6 @@
 -- `prefixItems` and `items` moved, call by call.
 use Rattle.std.proofs.Common.{◌≡◌, Some, codes, ap, ◌∙◌}
-use Rattle.serde_json.specs.Data.{Data, null, boolean, number, string, array, object}
+use Rattle.serde_json.specs.Data.{Data, object}
 use Rattle.serde_json.specs.Find.{get, get_member}
 use Rattle.schemars_schema.specs.SchemaData.{members_in, inserted}
 use Rattle.schemars_schema.specs.Edits.{removed}
@@ -9,14 +9,10 @@ use Rattle.schemars_transform.specs.Built.{prefix_as_items}
 pub both_moved : (s p i without once twice : Data) → Some p ≡ get (codes "prefixItems") s → without ≡ removed (codes "prefixItems") s
     → once ≡ inserted (codes "items") p without → Some i ≡ get_member (codes "items") (members_in without)
     → twice ≡ inserted (codes "additionalItems") i once → twice ≡ prefix_as_items s
-both_moved null p i without once twice prefix gone first old second = cc
-both_moved (boolean b) p i without once twice prefix gone first old second = cc
-both_moved (number n) p i without once twice prefix gone first old second = cc
-both_moved (string t) p i without once twice prefix gone first old second = cc
-both_moved (array ds) p i without once twice prefix gone first old second = cc
 both_moved (object ms) p i without once twice prefix gone first old second =
     let there : Some i ≡ get (codes "items") (removed (codes "prefixItems") (object ms)) = old ∙ ap (λ d. get_member (codes "items")
     (members_in d)) gone in
     let e : twice ≡ inserted (codes "additionalItems") i (inserted (codes "items") p (removed (codes "prefixItems") (object ms))) =
     second ∙ ap (inserted (codes "additionalItems") i) (first ∙ ap (inserted (codes "items") p) gone) in
     rw (← prefix) (rw (← there) e)
+both_moved _ p i without once twice prefix gone first old second = cc

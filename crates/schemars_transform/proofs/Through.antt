@@ -1,6 +1,6 @@
 -- Two rewrites whose rules say the same, where one knows more than it needs.
 use Rattle.std.proofs.Common.{◌≡◌, refl, ap, ◌∙◌}
-use Rattle.serde_json.specs.Data.{Data, null, boolean, number, string, array, object, Items, no_items, item, Members, no_members, member}
+use Rattle.serde_json.specs.Data.{Data, boolean, array, object, Items, no_items, item, Members, no_members, member}
 use Rattle.schemars_schema.specs.Json.{Text}
 use Rattle.schemars_walk.specs.Rewritten.{Forms, Rules, rewritten, form_at, forms, in_items, in_names, in_keywords}
 
@@ -11,10 +11,7 @@ module _ {R S : Type 0} (ρ : Rules R) (σ : Rules S) (f : R → S) (inside : (r
     unfolding forms in_items in_names in_keywords
 
     same_forms : (d : Data) (r : R) → forms σ (f r) d ≡ forms ρ r d
-    same_forms null r = refl
     same_forms (boolean b) r = rw (inside r (boolean b), finish (ρ.inside r (boolean b)) (boolean b)) refl
-    same_forms (number n) r = refl
-    same_forms (string s) r = refl
     same_forms (array ds) r = rw (same_items ds r) refl
     same_forms (object ms) r =
         rw (
@@ -24,6 +21,7 @@ module _ {R S : Type 0} (ρ : Rules R) (σ : Rules S) (f : R → S) (inside : (r
               (ρ.inside r (object ms)) ms)),
           same_names ms r,
         ) refl
+    same_forms _ r = refl
 
     same_items : (ds : Items) (r : R) → in_items σ (f r) ds ≡ in_items ρ r ds
     same_items no_items r = refl

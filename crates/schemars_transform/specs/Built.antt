@@ -10,7 +10,7 @@ use Rattle.schemars_walk.specs.Rewritten.{Rules, rewritten, all_changed}
 use Rattle.schemars_walk.specs.declared.transform.TransformError.TheVariants.{Memory}
 use Rattle.schemars_transform.specs.declared.built_in.bool_schemas.ReplaceBoolSchemas.{ReplaceBoolSchemas}
 
--- a transform that changes a schema by a function: its own state stays, and it refuses for want of memory alone
+-- a transform that changes a schema by a function: its own state stays, and its only error is that memory runs out
 abbrev pub Changes : {T : Type 0} → (Data → Data) → T → Data → Answer → T → Data → Type 0
 Changes f t s r u v = (u ≡ t) × MatchResult r (λ _. v ≡ f s) (λ e. e ≡ Memory)
 
@@ -33,7 +33,7 @@ replace_bool_schemas t s = rewritten bool_rules t s
 abbrev pub referring : Data → Data
 referring r = object (member (codes "$ref") r no_members)
 
--- it goes to the end of `allOf`, which is made where it is missing, and stays where it is no list
+-- it is added at the end of `allOf`, which is made if it is missing, and stays as it is if it is not a list
 abbrev pub reference_moved : Option Data → Data → Data
 reference_moved None s = s
 reference_moved (Some r) s = object (changed_at (codes "allOf") (with_last (referring r)) (array no_items) (members_in s))

@@ -28,7 +28,7 @@ abbrev pub made_by : {O : Type 0} → List (GenTransform O) → Data → Data
 made_by [] s = s
 made_by (t ∷ ts) s = made_by ts (function_of t s)
 
--- a value that is no schema stays
+-- a value that is not a schema stays
 abbrev pub value_made_by : {O : Type 0} → List (GenTransform O) → Data → Data
 value_made_by ts null = null
 value_made_by ts (boolean b) = made_by ts (boolean b)

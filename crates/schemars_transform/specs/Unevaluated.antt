@@ -21,7 +21,7 @@ keys_in (string s) = []
 keys_in (array ds) = []
 keys_in (object ms) = keys ms
 
--- the names in what stands there, read as a schema and as a list of schemas
+-- the names in a value, read as a schema and as a list of schemas
 pub record Names : Type 0 where
   pub in_schema : List Text
   pub in_list : List Text
@@ -71,7 +71,7 @@ object_with_names ks (string s) = string s
 object_with_names ks (array ds) = array ds
 object_with_names ks (object ms) = object (with_names ks ms)
 
--- `properties` with these names; none are made where there is no name, and what is no object stays
+-- `properties` with these names; it is not made if there is no name, and stays if it is not an object
 abbrev pub properties_made : Members → Data → Data
 properties_made no_members s = s
 properties_made (member k d ms) s = inserted (codes "properties") (object (member k d ms)) s

@@ -8,7 +8,7 @@ use Rattle.std.proofs.lemmas.Bool.{eqb-true}
 use Rattle.std.proofs.lemmas.List.Folds.{list_any-append}
 use Rattle.std.proofs.Math.Bool.{or-false, or_assoc}
 use Rattle.indexmap.specs.IndexSet.{insert_key}
-use Rattle.serde_json.specs.Data.{Data, null, boolean, number, unsigned, negative, float, string, array, object}
+use Rattle.serde_json.specs.Data.{Data, boolean, number, unsigned}
 use Rattle.serde_json.specs.Data.{Items, item}
 use Rattle.serde_json.specs.Find.{as_str, as_bool, as_number, as_u64}
 use Rattle.schemars_schema.specs.Acceptance.{texts_in, count_of_number}
@@ -212,20 +212,12 @@ untagged_takes part (x ∷ xs) = not_empty x xs
 
 pub literal_takes : (d : Data) → is_some (as_bool d) ≡ is_none (literal_options d)
 literal_takes (boolean b) = refl
-literal_takes null = refl
-literal_takes (number n) = refl
-literal_takes (string s) = refl
-literal_takes (array ds) = refl
-literal_takes (object ms) = refl
+literal_takes _ = refl
 
 -- a truth value allows any text, as a literal without a `type` does
 pub literal_or_any : (d : Data) → or_any_text (literal_options d) ≡ typed_options d
 literal_or_any (boolean b) = refl
-literal_or_any null = refl
-literal_or_any (number n) = refl
-literal_or_any (string s) = refl
-literal_or_any (array ds) = refl
-literal_or_any (object ms) = refl
+literal_or_any _ = refl
 
 of_tagged : (xs : List Variant) → or_any_text (tagged_options xs) ≡ any_text
 of_tagged [] = refl
@@ -355,11 +347,5 @@ pattern_joins o a ts i ks new t is grown =
 
 -- a number that counts is one without a sign
 pub counts : (d : Data) → count_of_number d ≡ option_and_then as_u64 (as_number d)
-counts null = refl
-counts (boolean b) = refl
 counts (number (unsigned n)) = refl
-counts (number (negative z)) = refl
-counts (number (float x)) = refl
-counts (string s) = refl
-counts (array ds) = refl
-counts (object ms) = refl
+counts _ = refl

@@ -6,7 +6,7 @@ use Rattle.std.specs.Option.{option_map_or}
 use Rattle.std.proofs.lemmas.Bool.{cases_eq}
 use Rattle.std.proofs.lemmas.List.Elements.{Contains-append_left, Contains-append_right}
 use Rattle.schemars_shapes.specs.Shape as shape
-use Rattle.schemars_shapes.specs.Shape.{Shape, Entry, Variant, Payload, no_payload, newtype_payload, tuple_payload, struct_payload}
+use Rattle.schemars_shapes.specs.Shape.{Shape, Entry, Variant, Payload, newtype_payload}
 use Rattle.schemars_shapes.specs.Shape.{payload_same, of_variants, same_value_numbers}
 use Rattle.schemars_types.specs.Rows.{Row, entry_at}
 use Rattle.schemars_types.specs.Edges.{RefersWithin, rank}
@@ -19,10 +19,8 @@ use Rattle.schemars_types.proofs.Asked.{asked, entry_low}
 
 member_alike : (f g : ℕ → Option KeyOptions) (p : Payload) → ((m : ℕ) → Contains (payload_same p) m → f m ≡ g m)
     → member_options f p ≡ member_options g p
-member_alike f g no_payload h = refl
 member_alike f g (newtype_payload n) h = h n (0, omega arith, refl)
-member_alike f g (tuple_payload ms) h = refl
-member_alike f g (struct_payload x) h = refl
+member_alike f g _ h = refl
 
 members_alike : (f g : ℕ → Option KeyOptions) (xs : List Variant) → ((m : ℕ) → Contains (of_variants payload_same xs) m → f m ≡ g m)
     → members_options f xs ≡ members_options g xs

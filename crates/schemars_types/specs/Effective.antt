@@ -40,7 +40,7 @@ abbrev pub part_fields : List Row → (ℕ → List Field) → Flattened → Lis
 part_fields rows own p =
     if is_some (option_at rows p.ty) then map (weakened p.required) (own (without_options rows p.ty)) else own (without_options rows p.ty)
 
--- a shape that is no struct has no fields to flatten
+-- a shape that is not a struct has no fields to flatten
 abbrev pub shape_fields : (Flattened → List Field) → Shape → List Field
 shape_fields part (struct x) = effective part x
 shape_fields part _ = []
@@ -60,13 +60,13 @@ flattened_in rows = part_fields rows (row_fields rows)
 
 -- ---- enums
 
--- below, `part` says which enums stand in a flattened row
+-- below, `part` says which enums are in a flattened row
 
 abbrev pub flattened_enums : (Flattened → List ℕ) → List Flattened → List ℕ
 flattened_enums part [] = []
 flattened_enums part (p ∷ ps) = part p ++ flattened_enums part ps
 
--- those among the members of a struct; an enum that is told by its names or by a tag is one itself
+-- the enums among the members of a struct; an enum that is distinguished by its names or by a tag is one itself
 abbrev pub shape_enums : (Flattened → List ℕ) → ℕ → Shape → List ℕ
 shape_enums part n (struct x) = flattened_enums part x.flatten
 shape_enums part n (external xs) = n ∷ []

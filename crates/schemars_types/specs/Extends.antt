@@ -17,7 +17,7 @@ begins_with (r ∷ rows) (f ∷ first) = row_eq r f && begins_with rows first
 
 -- ---- decimals
 
--- a number that is no 64-bit whole number stands in the notes of a row
+-- a number that is not a 64-bit whole number occurs in the notes of a row
 abbrev pub rows_have_float : List Row → Bool
 rows_have_float [] = false
 rows_have_float (r ∷ rs) = option_map_or entry_has_float r.entry false || rows_have_float rs

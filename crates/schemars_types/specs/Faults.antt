@@ -1,4 +1,4 @@
--- The faults of a table, which of them is told, and what a table without any offers.
+-- The faults of a table, which of them is reported, and what a table without faults offers.
 use Rattle.std.specs.Prelude.{◌<◌, ◌≤◌, ℕ, List, length, IsSome, string_bytes}
 use Rattle.schemars_schema.specs.Json.{Text}
 use Rattle.schemars_types.specs.Rows.{Row, entry_at}
@@ -26,7 +26,7 @@ pub record IsAccepted (rows : List Row) : Type 0 where
   pub direct : IsFree (OnDirectCycle rows)
   pub empty : IsFree (OnEmptyCycle rows)
 
--- The fault that is told: no fault of an earlier kind stands, and none of its kind at a lower row.
+-- The fault that is reported: there is none of an earlier kind, and none of its kind at a lower row.
 abbrev pub Refusal : List Row → TypesError → Type 0
 Refusal rows (UndefinedType n) = IsLeast (IsUndefined rows) n
 Refusal rows (RepeatedName n name) =

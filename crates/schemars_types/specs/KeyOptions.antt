@@ -118,7 +118,7 @@ shape_options part (untagged xs) = untagged_options part xs
 shape_options part (literal d) = literal_options d
 shape_options part _ = Some any_text
 
--- row n is asked, and others at most `steps` deep; a text may stand twice
+-- row n is asked, and others at most `steps` deep; a text may occur twice
 unfoldable pub options_within : List Row → ℕ → ℕ → Option KeyOptions
 options_within rows zero n = Some any_text
 options_within rows (suc steps) n =

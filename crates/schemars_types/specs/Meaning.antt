@@ -55,7 +55,7 @@ abbrev pub every_item : (Data → Bool) → Items → Bool
 every_item p no_items = true
 every_item p (item v vs) = p v && every_item p vs
 
--- just as many items as parts, each of the part in its place
+-- exactly as many items as parts, each of the part in its place
 abbrev pub each_of : (ℕ → Data → Bool) → List ℕ → Items → Bool
 each_of part [] no_items = true
 each_of part [] (item v vs) = false
@@ -80,7 +80,7 @@ is_required Serialize required = required.serialize
 abbrev pub field_named : List Field → Text → Option Field
 field_named list k = find (λ f. bytes_eq f.name k) list
 
--- the member is of its field's type; one that is no field's is free where the struct is open
+-- the member is of its field's type; a member that is not a field's is free if the struct is open
 abbrev pub member_fits : (ℕ → Data → Bool) → List Field → Bool → Text → Data → Bool
 member_fits part list closed k v = option_map_or (λ f. part f.ty v) (field_named list k) (not closed)
 
@@ -102,7 +102,7 @@ pub record Choice : Type 0 where
   pub fits : Bool
   pub has_key : Text → Bool
 
--- of each enum just one variant fits
+-- of each enum exactly one variant fits
 abbrev pub every_part : List (List Choice) → Bool
 every_part [] = true
 every_part (choices ∷ parts) = exactly_one (map (λ choice. choice.fits) choices) && every_part parts
@@ -153,7 +153,7 @@ has_variant contract part choices v x = elim x.payload [
   | struct_payload y ↦ is_map_of x.name (has_payload contract part choices (struct_payload y)) v
 ]
 
--- the tag has this name, and another member is a field's, or free where there is no end to the keys
+-- the tag has this name; each other member is a field's, or is free if the enum is open
 abbrev pub tagged_fits : (ℕ → Data → Bool) → List Field → Bool → Text → Text → Text → Data → Bool
 tagged_fits part list closed tag name k v = if bytes_eq tag k then is_text name v else member_fits part list closed k v
 
@@ -180,7 +180,7 @@ has_internal contract part choices tag closed v x = elim x.payload [
   | struct_payload y ↦ has_tagged contract part (offers choices y.flatten v) tag y.list y.closed x.name v
 ]
 
--- under the tag is this name, and under the other key a value that passes; the rest is free where there is no end to the keys
+-- under the tag is this name, and under the other key a value that passes; all else is free if the enum is open
 abbrev pub adjacent_fits : Text → Text → Text → (Data → Bool) → Bool → Text → Data → Bool
 adjacent_fits tag name content p closed k v =
     if bytes_eq tag k then is_text name v
@@ -222,7 +222,7 @@ is_tagged_map contract part tag v x = elim x.payload [
   | struct_payload y ↦ has_tagged contract part [] tag y.list false x.name v
 ]
 
--- the name is under the tag, and the variant's fields are there; other keys may stand beside them
+-- the name is under the tag, and the variant's fields are there; there may be other keys beside them
 abbrev pub internal_choice : Contract → (ℕ → Data → Bool) → Text → Data → Variant → Choice
 internal_choice contract part tag v x = record {
   fits = is_tagged_map contract part tag v x;

@@ -18,7 +18,7 @@ code_of (EmptyCycle n) = 5
 code_of (AlreadyDefined n) = 6
 code_of (UnknownType n) = 8
 
--- the first of n and the numbers in a shape that is no row's
+-- the first of n and the numbers in a shape that is not the number of a row
 abbrev pub first_unknown : List Row → ℕ → Shape → Option ℕ
 first_unknown rows n s = if nat_le (length rows) n then Some n else unknown_in rows s
 

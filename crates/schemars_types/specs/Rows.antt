@@ -19,7 +19,7 @@ place_of id rows = position_from (λ r. bytes_eq r.id id) 0 rows
 abbrev pub entry_at : List Row → ℕ → Option Entry
 entry_at rows n = option_and_then (λ r. r.entry) (slice_get rows n)
 
--- the texts of row n, and no text where there is no such row
+-- the texts of row n, or the empty text if there is no such row
 abbrev pub id_at : List Row → ℕ → Text
 id_at rows n = option_map_or (λ r. r.id) (slice_get rows n) []
 
@@ -30,7 +30,7 @@ name_at rows n = option_map_or (λ r. r.name) (slice_get rows n) []
 abbrev pub HasDistinctIds : List Row → Type 0
 HasDistinctIds rows = IsDistinct bytes_eq (map (λ r. r.id) rows)
 
--- the first number in a shape that is no row's
+-- the first number in a shape that is not the number of a row
 abbrev pub unknown_in : List Row → Shape → Option ℕ
 unknown_in rows s = find (λ m. nat_le (length rows) m) (numbers_of s)
 
@@ -38,7 +38,7 @@ unknown_in rows s = find (λ m. nat_le (length rows) m) (numbers_of s)
 abbrev pub holds_another : List Row → ℕ → Entry → Bool
 holds_another rows n e = option_map_or (λ f. not (entry_eq f e)) (entry_at rows n) false
 
--- a new id joins at the end; one that is there keeps its row
+-- a new id is added at the end; an id that is there keeps its row
 abbrev pub reserved : Text → Text → List Row → List Row
 reserved id name rows = if is_some (place_of id rows) then rows else rows ++ (record { id = id; name = name; entry = None }) ∷ []
 

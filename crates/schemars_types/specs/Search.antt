@@ -34,7 +34,7 @@ unmet [] = 0
 unmet (true ∷ met) = unmet met
 unmet (false ∷ met) = suc (unmet met)
 
--- where a search stands: the numbers that it has met, and those of them that it has yet to go on from
+-- the state of a search: the numbers that it has visited, and those of them from which it still has to go on
 pub record Front : Type 0 where
   pub met : List Bool
   pub waiting : List ℕ

@@ -269,7 +269,7 @@ fn add_literal_texts<'t>(schema: &'t Schema, options: &mut KeyOptions<'t>) -> Re
     }
 }
 
-// Adds these texts, or any where one of the values is no text.
+// Adds these texts, or any text if one of the values is not a text.
 fn add_texts<'t>(values: &'t [Value], options: &mut KeyOptions<'t>) -> Result<(), AllocError>
     ensures { OnOk result (options_of options.new
         ≡ adding (options_of options.old) (texts_options (items_view values.now))) }

@@ -1,6 +1,6 @@
 -- A rewrite that does the same at every schema needs to know nothing but the change.
 use Rattle.std.proofs.Common.{◌≡◌, refl, ap}
-use Rattle.serde_json.specs.Data.{Data, null, boolean, number, string, array, object, Items, no_items, item, Members, no_members, member}
+use Rattle.serde_json.specs.Data.{Data, array, object, Items, no_items, item, Members, no_members, member}
 use Rattle.schemars_walk.specs.Rewritten.{Forms, Rules, everywhere, all_changed, rewritten, forms, in_items, in_names, in_keywords}
 
 module _ {R : Type 0} (f : R → Data → Data) (r : R) where
@@ -14,12 +14,9 @@ module _ {R : Type 0} (f : R → Data → Data) (r : R) where
     unfolding forms in_items in_names in_keywords
 
     same_forms : (d : Data) → forms here r d ≡ forms alone tt d
-    same_forms null = refl
-    same_forms (boolean b) = refl
-    same_forms (number n) = refl
-    same_forms (string s) = refl
     same_forms (array ds) = rw (same_items ds) refl
     same_forms (object ms) = rw (same_keywords ms, same_names ms) refl
+    same_forms _ = refl
 
     same_items : (ds : Items) → in_items here r ds ≡ in_items alone tt ds
     same_items no_items = refl

@@ -1,7 +1,7 @@
 -- A rewrite from the bottom up, call by call.
 use Rattle.std.proofs.Common.{◌≡◌, ℕ, zero, suc, ◌+◌, ◌<◌, ◌≤◌, max, List, [], ◌∷◌, length, get_or, take}
 use Rattle.std.proofs.Common.{drop, set, Some, None, sym, ap, ◌∙◌, refl, add-one, arith}
-use Rattle.serde_json.specs.Data.{Data, null, boolean, number, string, array, object, Items}
+use Rattle.serde_json.specs.Data.{Data, boolean, array, object, Items}
 use Rattle.serde_json.specs.Data.{no_items, item, Members, no_members, member, depth, items_depth}
 use Rattle.serde_json.specs.Find.{as_array, as_object}
 use Rattle.serde_json.specs.View.{view, items_view}
@@ -104,21 +104,15 @@ module _ {R : Type 0} (ρ : Rules R) (r : R) where
 
   pub no_schema : (d : Data) → ¬ IsSchema d → d ≡ as_schema_in ρ r d
   unfolding forms
-  no_schema null e = refl
   no_schema (boolean b) e = absurd (e tt)
-  no_schema (number n) e = refl
-  no_schema (string s) e = refl
-  no_schema (array fs) e = refl
   no_schema (object ms) e = absurd (e tt)
+  no_schema _ e = refl
 
   pub rewritten_by : (d : Data) → IsSchema d → rewritten ρ r d ≡ ρ.finish (ρ.inside r d) (with_subschemas ρ (ρ.inside r d) d)
   unfolding forms
-  rewritten_by null e = absurd e
   rewritten_by (boolean b) e = refl
-  rewritten_by (number n) e = absurd e
-  rewritten_by (string s) e = absurd e
-  rewritten_by (array fs) e = absurd e
   rewritten_by (object ms) e = refl
+  rewritten_by _ e = absurd e
 
   pub subschemas_of_object : (d : Data) (ms : Members) → Some ms ≡ as_object d → object (in_keywords ρ r ms) ≡ with_subschemas ρ r d
   subschemas_of_object d ms e = rw (object-as_object d ms e) refl

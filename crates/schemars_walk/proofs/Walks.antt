@@ -8,7 +8,7 @@ use Rattle.std.specs.List.Sorted.{IsStrictlySortedBy}
 use Rattle.std.specs.Map.{keys_of}
 use Rattle.std.specs.Ordering.{ordering_reverse}
 use Rattle.std.specs.BTreeMap.{insert_entry}
-use Rattle.serde_json.specs.Data.{Data, null, boolean, number, string, array, object, Items, no_items, item, Members, no_members, member}
+use Rattle.serde_json.specs.Data.{Data, array, object, Items, no_items, item, Members, no_members, member}
 use Rattle.serde_json.specs.View.{view, items_view, members_view}
 use Rattle.serde_json.specs.declared.value.Value.{Value}
 use Rattle.serde_json.proofs.Views.{Entry}
@@ -236,44 +236,28 @@ module _ {S : Type 0} (Q : TransformStep S) (start s : S) (all : Items) (xs : Li
 
 module _ {S : Type 0} (Q : TransformStep S) (s u : S) (r : Answer) where
   pub at_list : (d e : Data) (ds es : Items) → Some ds ≡ as_array d → EachItem (AtSchema Q) s ds r u es → e ≡ array es → AtList Q s d r u e
-  at_list null e ds es is h new = cc
-  at_list (boolean b) e ds es is h new = cc
-  at_list (number n) e ds es is h new = cc
-  at_list (string t) e ds es is h new = cc
   at_list (array fs) e ds es is h new = (es, subst (λ m. EachItem (AtSchema Q) s m r u es) (some_same is) h, always r new)
-  at_list (object ms) e ds es is h new = cc
+  at_list _ e ds es is h new = cc
 
   pub at_schema_or_list : (d e : Data) (ds es : Items) → Some ds ≡ as_array d → EachItem (AtSchema Q) s ds r u es → e ≡ array es
       → AtSchemaOrList Q s d r u e
-  at_schema_or_list null e ds es is h new = cc
-  at_schema_or_list (boolean b) e ds es is h new = cc
-  at_schema_or_list (number n) e ds es is h new = cc
-  at_schema_or_list (string t) e ds es is h new = cc
   at_schema_or_list (array fs) e ds es is h new = (es, subst (λ m. EachItem (AtSchema Q) s m r u es) (some_same is) h, always r new)
-  at_schema_or_list (object ms) e ds es is h new = cc
+  at_schema_or_list _ e ds es is h new = cc
 
   pub at_names : (d e : Data) (ms es : Members) → Some ms ≡ as_object d → EachMember (λ k. AtSchema Q) s ms r u es → e ≡ object es
       → AtNames Q s d r u e
-  at_names null e ms es is h new = cc
-  at_names (boolean b) e ms es is h new = cc
-  at_names (number n) e ms es is h new = cc
-  at_names (string t) e ms es is h new = cc
-  at_names (array ds) e ms es is h new = cc
   at_names (object fs) e ms es is h new = (es, subst (λ m. EachMember (λ k. AtSchema Q) s m r u es) (some_same is) h, always r new)
+  at_names _ e ms es is h new = cc
 
   pub walked : (d : Data) (ms es : Members) → Some ms ≡ as_object d → EachMember (λ k. AtPlace (place_under k) Q) s ms r u es
       → Walked Q s d r u (object es)
-  walked null ms es is h = cc
-  walked (boolean b) ms es is h = cc
-  walked (number n) ms es is h = cc
-  walked (string t) ms es is h = cc
-  walked (array ds) ms es is h = cc
   walked (object fs) ms es is h = (
     es,
     subst (λ m. EachMember (λ k. AtPlace (place_under k) Q) s m r u es) (some_same is) h,
     on_ok_same r
         (object es),
   )
+  walked _ ms es is h = cc
 
 module _ {S : Type 0} (R : TransformStep S) where
   pub recursed_stop : (n : ℕ) (s w : S) (d c e : Data) (x : TransformError) → 0 < n → R s d (Err x) w c → Recursed R n s d (Err x) w e

@@ -10,7 +10,7 @@ abbrev pub all_unread : (Text → Data → Place) → Members → Type 0
 all_unread place no_members = ⊤
 all_unread place (member k d ms) = (place k d ≡ NoSchemas) × all_unread place ms
 
--- where schemas stand in each value
+-- where schemas are in each value
 abbrev pub member_places : (Text → Data → Place) → Members → List Place
 member_places place no_members = []
 member_places place (member k d ms) = place k d ∷ member_places place ms

@@ -3,13 +3,13 @@ use Rattle.serde_json.specs.Data.{Data, null, boolean, number, string, array, ob
 use Rattle.schemars_schema.specs.Json.{Text}
 use Rattle.schemars_schema.specs.References.{Place, NoSchemas, OneSchema, SchemaList, SchemaOrList, SchemasByName, place_under}
 
--- the rule inside a schema, where schemas stand under a keyword, and what becomes of a schema whose subschemas are done
+-- the rule inside a schema, where schemas are under a keyword, and what a schema becomes whose subschemas are done
 pub record Rules (R : Type 0) : Type 0 where
   pub inside : R → Data → R
   pub place : R → Text → Data → Place
   pub finish : R → Data → Data
 
--- what stands somewhere, rewritten as a schema, as a list of schemas, as either, and as schemas by name
+-- a value, rewritten as a schema, as a list of schemas, as either, and as schemas by name
 pub record Forms : Type 0 where
   pub as_schema : Data
   pub as_list : Data
@@ -83,7 +83,7 @@ with_subschemas ρ r (string s) = string s
 with_subschemas ρ r (array ds) = array ds
 with_subschemas ρ r (object ms) = object (in_keywords ρ r ms)
 
--- the same change at every schema, whatever stands around it
+-- the same change at every schema, whatever is around it
 abbrev pub everywhere : {R : Type 0} → (R → Data → Data) → Rules R
 everywhere change = record { inside = λ r s. r; place = λ r k d. place_under k; finish = change }
 

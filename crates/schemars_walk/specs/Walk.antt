@@ -46,7 +46,7 @@ EachMember {S} Q s (member k d ms) r u es =
     (a : Answer) × (w : S) × (e : Data) × Q k s d a w e
     × Next a w r u (((r ≡ Err Memory) × (u ≡ w)) ⊎ ((fs : Members) × EachMember Q w ms r u fs × OnOk r (es ≡ member k e fs)))
 
--- a value that is no schema is passed over
+-- a value that is not a schema is passed over
 abbrev pub AtSchema : {S : Type 0} → TransformStep S → TransformStep S
 AtSchema Q s null r u e = PassedOver s null r u e
 AtSchema Q s (boolean b) r u e = Q s (boolean b) r u e

@@ -60,7 +60,7 @@ impl<T: Transform> Transform for &mut T {
 impl Transform for Box<dyn Transform + Drop> {
     ghost use Rattle.std.specs.Prelude.{◌≡◌};
 
-    // Nothing is known of the transform here; a call of this method tells what the box states.
+    // Nothing is known of the transform here; callers of this method see what the box states.
     ghost makes = { λ t s r u v. Unit {0} };
 
     fn transform(&mut self, alloc: Global, schema: &mut Schema) -> Result<(), TransformError>

@@ -22,14 +22,14 @@ use std::mem;
 
 /// What is done at each schema, once the schemas inside it are done.
 pub trait Rule: Copy {
-    // The rule inside a schema, what stands under a keyword, and what becomes of a schema.
+    // The rule inside a schema, the schemas under a keyword, and what a schema becomes.
     ghost rules: { Rules Self };
 
     /// The rule that holds in a schema and below.
     fn inside(self, schema: &Value) -> Self
         ensures { result ≡ rules.inside self (view schema.now) };
 
-    /// Where schemas stand under a keyword.
+    /// Where schemas are under a keyword.
     fn place(self, key: &str, value: &Value) -> Place
         ensures { place_meant result ≡ rules.place self key.now (view value.now) };
 
@@ -180,7 +180,7 @@ fn rewrite_schema<R: Rule>(rule: R, alloc: Global, value: &mut Value) -> Result<
     }
 }
 
-// Whether schemas stand in the value of any member.
+// Whether the value of any member has schemas.
 #[inline(never)]
 fn holds_schemas<R: Rule>(rule: R, members: &Map<String, Value>) -> bool
     ensures { result ≡ false → all_unread (R.rules.place rule) (members_view members.now.entries) }
@@ -193,7 +193,7 @@ fn holds_schemas<R: Rule>(rule: R, members: &Map<String, Value>) -> bool
     false
 }
 
-// Where schemas stand in the value of each member.
+// Where schemas are in the value of each member.
 #[inline(never)]
 fn places_in<R: Rule>(
     rule: R,

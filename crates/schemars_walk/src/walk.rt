@@ -41,7 +41,7 @@ pub fn transform_members<T: Transform>(
     walk_names(t, alloc, members, Reach::Once)
 }
 
-// How far a walk goes on below a schema that it reaches.
+// How far a walk goes below a schema that it reaches.
 #[derive(Clone, Copy)]
 pub(crate) enum Reach {
     // The schema is transformed, and not walked.

@@ -1,4 +1,4 @@
-//! Types of several parts, and how the parts join a table, one after another.
+//! Types of several parts, and how the parts are added to a table, one after another.
 ghost use Rattle.std.specs.Prelude.{◌≡◌, ◌++◌, List, [], ◌∷◌, Some, IfErr, IfOk, OnOk};
 ghost use Rattle.std.specs.Prelude.{codes, string_bytes};
 ghost use Rattle.std.specs.List.{flat_map};

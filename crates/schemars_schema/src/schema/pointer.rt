@@ -17,7 +17,7 @@ impl Schema {
     /// or an item at an index without a leading zero, for each token after a `/`.
     ///
     /// A pointer after a `#` is percent-decoded first, as in the fragment of a URI (section 6).
-    /// There is no value if that is not UTF-8, and none in a truth value.
+    /// There is no value if that is not UTF-8, and none if the schema is a truth value.
     pub fn pointer(&self, alloc: Global, pointer: &str) -> Result<Option<&Value>, AllocError>
         ensures { IfOk result (λ found.
             option_map (λ v. view v.now) found ≡ pointed_in pointer.now self.now) }
@@ -56,7 +56,7 @@ impl Schema {
     }
 }
 
-// The pointer, percent-decoded where it stands behind a `#`.
+// The pointer, percent-decoded if it comes after a `#`.
 fn pointer_text<'p>(alloc: Global, pointer: &'p str) -> Result<Option<CowStr<'p>>, AllocError>
     ensures { IfOk result (λ path. option_map cow_str_bytes path ≡ pointer_text pointer.now) }
 {
@@ -76,7 +76,7 @@ pub(crate) fn split_token(tokens: &str) -> (&str, &str)
     }
 }
 
-// The key that a token stands for: `~1` is `/`, and `~0` is `~`.
+// The key that a token denotes: `~1` is `/`, and `~0` is `~`.
 pub(crate) fn unescaped(alloc: Global, token: &str) -> Result<String, AllocError>
     ensures { IfOk result (λ key. string_bytes key ≡ unescape token.now) }
 {

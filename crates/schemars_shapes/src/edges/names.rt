@@ -1,4 +1,4 @@
-//! Names that stand twice in a list.
+//! Names that occur twice in a list.
 ghost use Rattle.std.specs.Prelude.{◌≡◌, map, bytes_eq, string_bytes, IfOk, MatchOption};
 ghost use Rattle.std.specs.List.{IsDistinct, list_any};
 ghost use Rattle.schemars_shapes.specs.Repeated.{IsRepeated};

@@ -10,7 +10,7 @@ use crate::edges::{adjacent, fields, internal};
 use crate::shape::{Shape, TypeNo};
 use std::alloc::{AllocError, Global};
 
-/// The first number that the shape refers to and that is no row of a table of this length.
+/// The first number to which the shape refers and that is not a row of a table of this length.
 pub fn first_unknown(shape: &Shape, len: usize) -> Option<TypeNo>
     ensures { result ≡ find (λ n. nat_le len n) (numbers_of (shape_of shape.now)) }
 {

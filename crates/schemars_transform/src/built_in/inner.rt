@@ -22,7 +22,7 @@ pub fn apply_inner_validation<T: Transform>(
     }
 }
 
-// Passes over a value that is no schema.
+// Passes over a value that is not a schema.
 fn at_schema<T: Transform>(
     alloc: Global,
     value: &mut Value,

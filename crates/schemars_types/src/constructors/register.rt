@@ -1,4 +1,4 @@
-//! How rows of common types join a table.
+//! How rows of common types are added to a table.
 ghost use Rattle.std.specs.Prelude.{◌≡◌, ◌++◌, [], ◌∷◌, codes, IfOk, OnErr, IfErr, string_bytes};
 ghost use Rattle.std.specs.Prelude.{find, nat_le, length};
 ghost use Rattle.schemars_shapes.specs.Shape.{shape_of, without_notes, numbers_of};

@@ -7,14 +7,14 @@ use crate::table::Types;
 use schemars_shapes::TypeNo;
 use std::alloc::{AllocError, Global};
 
-/// The id of row `n`, and no text where there is no such row.
+/// The id of row `n`, or the empty text if there is no such row.
 pub fn id_at(types: &Types, n: TypeNo) -> &str
     ensures { result.now ≡ id_at types.now n }
 {
     types.id(n).unwrap_or("")
 }
 
-/// The name of row `n`, and no text where there is no such row.
+/// The name of row `n`, or the empty text if there is no such row.
 pub fn name_at(types: &Types, n: TypeNo) -> &str
     ensures { result.now ≡ name_at types.now n }
 {

@@ -1,11 +1,11 @@
-//! Where schemas stand under a keyword.
+//! Where schemas are under a keyword.
 ghost use Rattle.std.specs.Prelude.{◌≡◌};
 ghost use Rattle.schemars_schema.specs.References.{with_schema, with_list, keywords_with_names};
 ghost use Rattle.schemars_schema.specs.References.{place_under};
 ghost use Rattle.schemars_text.specs.OrderedText.{is_listed};
 ghost use Rattle.schemars_walk.specs.Walk.{place_meant};
 
-/// What schemas stand in under a keyword.
+/// What holds the schemas under a keyword.
 #[derive(Clone, Copy)]
 pub enum Place {
     /// In nothing.
@@ -20,7 +20,7 @@ pub enum Place {
     Names,
 }
 
-/// What schemas stand in under this keyword, in any draft.
+/// What holds the schemas under this keyword, in any draft.
 pub fn place_under(key: &str) -> Place
     ensures { place_meant result ≡ place_under key.now }
 {
