@@ -15,7 +15,6 @@ use Rattle.serde_json.specs.Find.{get_member}
 use Rattle.serde_json.proofs.Views.{get_member-put}
 use Rattle.schemars_schema.specs.Json.{Text}
 use Rattle.schemars_schema.specs.References.{references}
-use Rattle.schemars_schema.specs.SchemaData.{IsSchema}
 use Rattle.schemars_types.specs.Edges.{is_inline_at}
 use Rattle.schemars_types.specs.Faults.{IsChecked}
 use Rattle.schemars_flatten.specs.Opening.{opened_inside, stands_in_place}
@@ -42,7 +41,7 @@ use Rattle.schemars_build.specs.declared.build.Document.{Document}
 use Rattle.schemars_build.specs.declared.build.Purpose.{Purpose}
 use Rattle.schemars_build.specs.declared.build.Purpose.TheVariants as purpose
 use Rattle.schemars_build.proofs.Building.{answers_more, own_of_filled, in_place, part_answer, content_answer, content_referred, no_answers}
-use Rattle.schemars_build.proofs.Filling.{filled_by_answers, filled_in, members_answer}
+use Rattle.schemars_build.proofs.Filling.{filled_in, members_answer}
 use Rattle.schemars_build.proofs.Placing.{left_pending, pending_grows}
 use Rattle.schemars_build.proofs.Reaching.{reached_defines, reached_by_name}
 use Rattle.schemars_build.proofs.Steps.{begun_with, finished_with, undone-begun, undone-finished, begun-contains, finished-found, step_refl}
@@ -225,13 +224,11 @@ module _ (plan : Plan) (outside : Bool) (old : Work) (want : Wanted) (now : Work
       (ap (map ask_of) (take_all (length d.answers.items) d.asks.items all) ∙ h.template.asks) h.answers
 
   pub filled_made : (s : Data) → IsChecked plan.rows
-      → (IsSchema (filled (template_view d.template) d.answers.items) → s ≡ filled (template_view d.template) d.answers.items)
+      → s ≡ filled (template_view d.template) d.answers.items
       → IsFilledIn plan d.in_definition h.start now d.row s
   filled_made s checked is =
-      let schema = filled_by_answers plan d.in_definition h.start now h.template.entry d.answers.items whole in
-      let Q : Template → Type 0 = λ u. IsSchema (filled u d.answers.items) → s ≡ filled u d.answers.items in
       filled_in plan d.in_definition h.start now h.template.entry d.answers.items whole d.row s checked h.template.at
-      (subst Q h.template.template is schema)
+      (is ∙ ap (λ t. filled t d.answers.items) h.template.template)
 
 -- ---- what is made of it
 

@@ -10,7 +10,7 @@ use Rattle.schemars_flatten.specs.Parts.{flattened_part}
 use Rattle.schemars_documents.specs.Documents.{reference}
 use Rattle.schemars_documents.specs.Template.{Ask, content, asks_of}
 use Rattle.schemars_documents.specs.View.{ask_of, template_view}
-use Rattle.schemars_documents.specs.declared.template.Template.{Template}
+use Rattle.schemars_documents.specs.declared.template.SchemaTemplate.{SchemaTemplate}
 use Rattle.schemars_documents.specs.OfShape.{entry_template}
 use Rattle.schemars_build.specs.Naming.{name_of}
 use Rattle.schemars_build.specs.Placed.{is_pending, pending_in}
@@ -85,7 +85,7 @@ pub record IsTemplate (plan : Plan) (d : Document) : Type 0 where
   pub template : template_view d.template ≡ entry_template (basis_of_plan plan) entry
   pub asks : map ask_of d.asks.items ≡ asks_of (entry_template (basis_of_plan plan) entry)
 
-abbrev pub IsTemplateAt : Plan → ℕ → Template → Type 0
+abbrev pub IsTemplateAt : Plan → ℕ → SchemaTemplate → Type 0
 IsTemplateAt plan n t = (entry : Entry) × (entry_at plan.rows n ≡ Some entry)
     × (template_view t ≡ entry_template (basis_of_plan plan) entry)
 

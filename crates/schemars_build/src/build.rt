@@ -22,7 +22,7 @@ ghost use Rattle.schemars_build.specs.declared.build.Document as src;
 use crate::work::Work;
 use schemars_documents::entry_template;
 use schemars_documents::template::basis::Basis;
-use schemars_documents::template::{Ask, Template, fill};
+use schemars_documents::template::{Ask, SchemaTemplate, fill};
 use schemars_flatten::{as_flattened, open_inside, stands_in_place};
 use schemars_schema::Schema;
 use schemars_schema::encoding::encode_ref_name;
@@ -66,7 +66,7 @@ struct Document<'t> {
     purpose: Purpose,
     // whether it is in a definition
     in_definition: bool,
-    template: Template<'t>,
+    template: SchemaTemplate<'t>,
     asks: Vec<Ask>,
     answers: VecDeque<Schema>,
 }
@@ -367,7 +367,11 @@ fn opened<'t>(
 }
 
 // The template of row `n`'s document, with its notes.
-fn template_at<'t>(alloc: Global, plan: &Plan<'t>, n: TypeNo) -> Result<Template<'t>, AllocError>
+fn template_at<'t>(
+    alloc: Global,
+    plan: &Plan<'t>,
+    n: TypeNo,
+) -> Result<SchemaTemplate<'t>, AllocError>
     requires checked { IsChecked (plan_of plan.now).rows }
     requires known { n < length (plan_of plan.now).rows }
     ensures { IfOk result (IsTemplateAt (plan_of plan.now) n) }

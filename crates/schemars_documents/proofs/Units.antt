@@ -10,7 +10,7 @@ use Rattle.schemars_builders.specs.NullLaw.{text_items}
 use Rattle.schemars_documents.specs.Template as spec
 use Rattle.schemars_documents.specs.OfShape.{said, typed_template, object_with, one_of_template, choice_of}
 use Rattle.schemars_documents.specs.View.{template_view}
-use Rattle.schemars_documents.specs.declared.template.Template.{Template}
+use Rattle.schemars_documents.specs.declared.template.SchemaTemplate.{SchemaTemplate}
 
 not_none : (n : ℕ) → (suc n == 0) ≡ false
 not_none n = grind (arith, nat_tests)
@@ -33,6 +33,6 @@ units_lead [] (v ∷ vs) ts none same some = cc
 units_lead (k ∷ ks) (v ∷ vs) [] none same some = absurd (true≢false some)
 units_lead (k ∷ ks) (v ∷ vs) (t ∷ ts) none same some = ap (λ u. one_of_template (u ∷ t ∷ ts)) (ap units_of same)
 
-pub seen : (ts : List Template) → (length (map template_view ts) == 0) ≡ (length ts == 0)
+pub seen : (ts : List SchemaTemplate) → (length (map template_view ts) == 0) ≡ (length ts == 0)
 seen [] = refl
 seen (t ∷ ts) = not_none (length (map template_view ts)) ∙ sym (not_none (length ts))

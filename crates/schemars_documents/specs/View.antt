@@ -4,12 +4,13 @@ use Rattle.std.specs.Borrow.{Bor}
 use Rattle.serde_json.specs.View.{view, members_view}
 use Rattle.schemars_schema.specs.Json.{Text}
 use Rattle.schemars_documents.specs.Template as spec
-use Rattle.schemars_documents.specs.Template.{Templates, no_templates, template}
-use Rattle.schemars_documents.specs.OfShape.{KeywordTemplate, templates_of, title_alone}
+use Rattle.schemars_documents.specs.Template.{Template}
+use Rattle.schemars_documents.specs.OfShape.{KeywordTemplate, templates_of, object_with, title_alone}
 use Rattle.schemars_documents.specs.declared.template.Ask as src-ask
 use Rattle.schemars_documents.specs.declared.template.Ask.TheVariants as ask
-use Rattle.schemars_documents.specs.declared.template.Template.{Template, fold-Template}
-use Rattle.schemars_documents.specs.declared.template.Template.TheOpen.{Template-F}
+use Rattle.schemars_documents.specs.declared.template.SchemaTemplate.{SchemaTemplate, SchemaTemplate-F, fold-SchemaTemplate}
+use Rattle.schemars_documents.specs.declared.template.SchemaTemplate.TheOpen as node
+use Rattle.schemars_documents.specs.declared.template.ValueTemplate.{ValueTemplate, ValueTemplate-F, fold-ValueTemplate}
 
 abbrev pub ask_of : src-ask.Ask → spec.Ask
 ask_of (ask.Part n) = spec.part n
@@ -17,27 +18,39 @@ ask_of (ask.MembersOf n required) = spec.members_of n required
 ask_of (ask.Content n) = spec.content n
 
 -- the keywords of these answers are put in, one after another
-abbrev pub with_answers : spec.Template → List spec.Ask → spec.Template
+abbrev pub with_answers : Template → List spec.Ask → Template
 with_answers t [] = t
 with_answers t (a ∷ rest) = with_answers (spec.with_keywords t (spec.asked a)) rest
 
+-- a name, and what stands under it
+abbrev pub under_name : Bor Text × Template → KeywordTemplate
+under_name e = (e.0.now, e.1)
+
 -- one node, whose inner templates are seen already
-abbrev pub node_view : Template-F spec.Template → spec.Template
-node_view (Template-F.Value v) = spec.finished (view v)
-node_view (Template-F.Asked a) = spec.asked (ask_of a)
-node_view (Template-F.List v) = spec.list (templates_of v.items)
-node_view (Template-F.Object keys v) = spec.members (map (λ k. k.now) keys.items) (templates_of v.items)
-node_view (Template-F.Nullable t) = spec.nullable t.value
-node_view (Template-F.Noted notes t) = spec.noted (members_view notes.now.entries) t.value
-node_view (Template-F.Titled name t) = spec.noted (title_alone name.now) t.value
-node_view (Template-F.WithMembers t asks) = with_answers t.value (map ask_of asks.items)
-node_view (Template-F.Tagged tag name closed t) = spec.tagged tag.now name.now closed t.value
+abbrev pub schema_node : SchemaTemplate-F Template Template → Template
+schema_node (node.Finished s) = spec.finished s
+schema_node (node.Asked a) = spec.asked (ask_of a)
+schema_node (node.Object es) = object_with (map under_name es.items)
+schema_node (node.Nullable t) = spec.nullable t.value
+schema_node (node.Noted notes t) = spec.noted (members_view notes.now.entries) t.value
+schema_node (node.Titled name t) = spec.noted (title_alone name.now) t.value
+schema_node (node.WithMembers t asks) = with_answers t.value (map ask_of asks.items)
+schema_node (node.Tagged tag name closed t) = spec.tagged tag.now name.now closed t.value
 
-abbrev pub template_view : Template → spec.Template
-template_view = fold-Template spec.Template node_view
+abbrev pub value_node : ValueTemplate-F Template Template → Template
+value_node (node.Value v) = spec.finished (view v)
+value_node (node.Schema t) = t
+value_node (node.Schemas ts) = spec.list (templates_of ts.items)
+value_node (node.Named es) = object_with (map under_name es.items)
 
-abbrev pub templates_view : List Template → Templates
-templates_view ts = templates_of (map template_view ts)
+abbrev pub template_view : SchemaTemplate → Template
+template_view = fold-SchemaTemplate Template Template schema_node value_node
 
-abbrev pub keyword_view : Bor Text × Template → KeywordTemplate
-keyword_view e = (e.0.now, template_view e.1)
+abbrev pub value_view : ValueTemplate → Template
+value_view = fold-ValueTemplate Template Template schema_node value_node
+
+abbrev pub keyword_view : Bor Text × ValueTemplate → KeywordTemplate
+keyword_view e = (e.0.now, value_view e.1)
+
+abbrev pub property_view : Bor Text × SchemaTemplate → KeywordTemplate
+property_view e = (e.0.now, template_view e.1)

@@ -187,7 +187,13 @@ pub fn make_root(
     Ok(())
 }
 
-fn set(alloc: Global, schema: &mut Schema, key: &str, text: &str) -> Result<(), AllocError>
+// Sets a keyword whose value is a text.
+pub(crate) fn set(
+    alloc: Global,
+    schema: &mut Schema,
+    key: &str,
+    text: &str,
+) -> Result<(), AllocError>
     ensures { OnOk result (schema.new ≡ inserted key.now (string text.now) schema.old) }
 {
     let key = String::from_str(alloc, key)?;

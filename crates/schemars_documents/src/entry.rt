@@ -23,9 +23,9 @@ use crate::shape::lists::{
 };
 use crate::shape::maps::{range_template, struct_template};
 use crate::shape::tagged::internal_template;
-use crate::template::Template;
+use crate::template::SchemaTemplate;
 use crate::template::basis::Basis;
-use crate::template::nodes::{finished, row};
+use crate::template::nodes::row;
 use schemars_schema::Schema;
 use schemars_types::{Contract, IntKind, Shape, TypeEntry, TypeNo};
 use std::alloc::{AllocError, Global};
@@ -35,13 +35,13 @@ pub fn entry_template<'t>(
     alloc: Global,
     basis: &Basis<'t>,
     entry: &'t TypeEntry,
-) -> Result<Template<'t>, AllocError>
+) -> Result<SchemaTemplate<'t>, AllocError>
     requires { IsChecked (basis_of basis.now).rows }
     ensures { IfOk result (λ t. template_view t
         ≡ entry_template (basis_of basis.now) (entry_of entry.now)) }
 {
     let bare = template_of(alloc, basis, &entry.shape)?;
-    Ok(Template::Noted(&entry.notes, Box::new(alloc, bare)?))
+    Ok(SchemaTemplate::Noted(&entry.notes, Box::new(alloc, bare)?))
 }
 
 // The template of a shape's document.
@@ -49,23 +49,25 @@ fn template_of<'t>(
     alloc: Global,
     basis: &Basis<'t>,
     shape: &'t Shape,
-) -> Result<Template<'t>, AllocError>
+) -> Result<SchemaTemplate<'t>, AllocError>
     requires { IsChecked (basis_of basis.now).rows }
     ensures { IfOk result (λ t. template_view t
         ≡ template_of (basis_of basis.now) (shape_of shape.now)) }
 {
     match shape {
-        Shape::Null => finished(type_alone(alloc, "null")?),
-        Shape::Bool => finished(type_alone(alloc, "boolean")?),
-        Shape::Int(kind) => finished(int_document(alloc, *kind)?),
-        Shape::NonZero(kind) => finished(non_zero_document(alloc, *kind)?),
-        Shape::Number => finished(type_alone(alloc, "number")?),
-        Shape::Text => finished(type_alone(alloc, "string")?),
-        Shape::Char => finished(char_document(alloc)?),
-        Shape::Formatted(format) => finished(formatted_document(alloc, format)?),
-        Shape::Any => finished(Schema::from(true)),
+        Shape::Null => Ok(SchemaTemplate::Finished(type_alone(alloc, "null")?)),
+        Shape::Bool => Ok(SchemaTemplate::Finished(type_alone(alloc, "boolean")?)),
+        Shape::Int(kind) => Ok(SchemaTemplate::Finished(int_document(alloc, *kind)?)),
+        Shape::NonZero(kind) => Ok(SchemaTemplate::Finished(non_zero_document(alloc, *kind)?)),
+        Shape::Number => Ok(SchemaTemplate::Finished(type_alone(alloc, "number")?)),
+        Shape::Text => Ok(SchemaTemplate::Finished(type_alone(alloc, "string")?)),
+        Shape::Char => Ok(SchemaTemplate::Finished(char_document(alloc)?)),
+        Shape::Formatted(format) => Ok(SchemaTemplate::Finished(formatted_document(
+            alloc, format,
+        )?)),
+        Shape::Any => Ok(SchemaTemplate::Finished(Schema::from(true))),
         Shape::Bytes => bytes_template(alloc, basis.contract),
-        Shape::SchemaItself => finished(schema_document(alloc)?),
+        Shape::SchemaItself => Ok(SchemaTemplate::Finished(schema_document(alloc)?)),
         Shape::Option(some) => option_template(alloc, *some),
         Shape::Seq(item) => seq_template(alloc, *item),
         Shape::Set(item) => set_template(alloc, *item),
@@ -92,22 +94,22 @@ fn template_of<'t>(
     }
 }
 
-fn bytes_template<'t>(alloc: Global, contract: Contract) -> Result<Template<'t>, AllocError>
+fn bytes_template<'t>(alloc: Global, contract: Contract) -> Result<SchemaTemplate<'t>, AllocError>
     ensures { IfOk result (λ t. template_view t ≡ finished (bytes_document contract)) }
 {
     let byte = int_document(alloc, IntKind::U8)?;
-    finished(bytes_document(alloc, contract, byte)?)
+    Ok(SchemaTemplate::Finished(bytes_document(alloc, contract, byte)?))
 }
 
-fn literal_template<'t>(schema: &Schema) -> Result<Template<'t>, AllocError>
+fn literal_template<'t>(schema: &Schema) -> Result<SchemaTemplate<'t>, AllocError>
     ensures { IfOk result (λ t. template_view t ≡ finished (literal_document schema.now)) }
 {
     let _ = schema.as_value();
-    finished(schema.clone()?)
+    Ok(SchemaTemplate::Finished(schema.clone()?))
 }
 
-fn option_template<'t>(alloc: Global, some: TypeNo) -> Result<Template<'t>, AllocError>
+fn option_template<'t>(alloc: Global, some: TypeNo) -> Result<SchemaTemplate<'t>, AllocError>
     ensures { IfOk result (λ t. template_view t ≡ nullable (row some)) }
 {
-    Ok(Template::Nullable(Box::new(alloc, row(some))?))
+    Ok(SchemaTemplate::Nullable(Box::new(alloc, row(some))?))
 }

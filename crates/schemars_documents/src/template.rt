@@ -1,26 +1,20 @@
 //! Documents whose parts are not known yet.
 ghost use Rattle.std.specs.Prelude.{◌≡◌, ◌++◌, map, IfOk, OnOk};
-ghost use Rattle.serde_json.specs.Data.{no_members};
+ghost use Rattle.serde_json.specs.Data.{string};
 ghost use Rattle.serde_json.specs.View.{view, members_view};
-ghost use Rattle.schemars_schema.specs.SchemaData.{IsSchema, members_in, put_all};
-ghost use Rattle.schemars_builders.specs.AllowNull.{allow_null};
-ghost use Rattle.schemars_builders.specs.Properties.{internally_tagged_variant};
-ghost use Rattle.schemars_flatten.specs.Flatten.{flattened};
-ghost use Rattle.schemars_documents.specs.Documents.{annotated};
-ghost use Rattle.schemars_documents.specs.Template.{finished, asks_of, filled, filled_in};
-ghost use Rattle.schemars_documents.specs.Template.{left, left_in};
-ghost use Rattle.schemars_documents.specs.Template.{first, behind, keyed};
-ghost use Rattle.schemars_documents.specs.OfShape.{title_alone};
-ghost use Rattle.schemars_documents.specs.View.{ask_of, template_view, templates_view};
-ghost use Rattle.schemars_documents.specs.View.{with_answers};
+ghost use Rattle.schemars_documents.specs.Template.{finished, nullable, noted, tagged};
+ghost use Rattle.schemars_documents.specs.Template.{list, asks_of, filled, left, first, behind};
+ghost use Rattle.schemars_documents.specs.OfShape.{object_with, templates_of, title_alone};
+ghost use Rattle.schemars_documents.specs.View.{ask_of, template_view, value_view};
+ghost use Rattle.schemars_documents.specs.View.{keyword_view, property_view, with_answers};
 
 pub mod basis;
 pub mod nodes;
 
-use crate::documents::annotate;
+use crate::documents::{annotate, set};
 use schemars_builders::{allow_null, apply_internal_enum_variant_tag};
 use schemars_flatten::flatten;
-use schemars_schema::{NotASchema, Schema};
+use schemars_schema::Schema;
 use schemars_types::TypeNo;
 use serde_json::{Map, Value};
 use std::alloc::{AllocError, Global};
@@ -37,31 +31,49 @@ pub enum Ask {
     Content(TypeNo),
 }
 
-/// A document in which rows are asked, and what they answer is filled in later.
+/// A schema in which rows are asked; their answers are filled in later.
+#[cycle(template)]
 #[derive(Drop)]
-pub enum Template<'t> {
-    /// JSON without rows.
-    Value(Value),
-    /// What a row answers.
+pub enum SchemaTemplate<'t> {
+    /// A finished schema.
+    Finished(Schema),
+    /// The answer of a row.
     Asked(Ask),
-    /// A list.
-    List(Vec<Template<'t>>),
-    /// An object with these keys and a value for each; of equal keys the last one counts.
-    Object(Vec<&'t str>, Vec<Template<'t>>),
+    /// An object of these keywords; of equal keywords the last one counts.
+    Object(Vec<(&'t str, ValueTemplate<'t>)>),
     /// A schema that accepts null too.
-    Nullable(Box<Template<'t>>),
+    Nullable(Box<SchemaTemplate<'t>>),
     /// A schema with these notes.
-    Noted(&'t Map<String, Value>, Box<Template<'t>>),
+    Noted(&'t Map<String, Value>, Box<SchemaTemplate<'t>>),
     /// A schema with this title.
-    Titled(&'t str, Box<Template<'t>>),
-    /// A schema with the keywords of what these answer put in, one after another.
-    WithMembers(Box<Template<'t>>, Vec<Ask>),
-    /// A schema of maps with a variant's name under the tag; of null's, other keys are excluded if
-    /// so.
-    Tagged(&'t str, &'t str, bool, Box<Template<'t>>),
+    Titled(&'t str, Box<SchemaTemplate<'t>>),
+    /// A schema into which the keywords of these answers are put, one after another.
+    WithMembers(Box<SchemaTemplate<'t>>, Vec<Ask>),
+    /// One variant of an internally tagged enum: the inner schema plus a required member `tag`
+    /// whose value is `name`. For a unit variant, `closed` also forbids all other keys.
+    Tagged {
+        tag: &'t str,
+        name: &'t str,
+        closed: bool,
+        inner: Box<SchemaTemplate<'t>>,
+    },
 }
 
-impl<'t> Template<'t> {
+/// The value of a keyword, in which rows are asked.
+#[cycle(template)]
+#[derive(Drop)]
+pub enum ValueTemplate<'t> {
+    /// A finished value.
+    Value(Value),
+    /// A schema.
+    Schema(SchemaTemplate<'t>),
+    /// A list of schemas.
+    Schemas(Vec<SchemaTemplate<'t>>),
+    /// An object with a schema under each name; of equal names the last one counts.
+    Named(Vec<(&'t str, SchemaTemplate<'t>)>),
+}
+
+impl<'t> SchemaTemplate<'t> {
     /// What is asked, in the order of the text.
     pub fn asks(&self, alloc: Global) -> Result<Vec<Ask>, AllocError>
         ensures { IfOk result (λ v. map ask_of v.items ≡ asks_of (template_view self.now)) }
@@ -72,34 +84,52 @@ impl<'t> Template<'t> {
     }
 }
 
-fn add_asks(template: &Template<'_>, asks: &mut Vec<Ask>) -> Result<(), AllocError>
+#[cycle(add_asks)]
+fn add_asks(template: &SchemaTemplate<'_>, asks: &mut Vec<Ask>) -> Result<(), AllocError>
     ensures { OnOk result (map ask_of asks.new.items
         ≡ map ask_of asks.old.items ++ asks_of (template_view template.now)) }
 {
     match template {
-        Template::Value(_) => Ok(()),
-        Template::Asked(ask) => Ok(asks.push(*ask)?),
-        Template::List(inner) => {
-            for one in inner {
-                add_asks(one, asks)?;
+        SchemaTemplate::Finished(_) => Ok(()),
+        SchemaTemplate::Asked(ask) => Ok(asks.push(*ask)?),
+        SchemaTemplate::Object(keywords) => {
+            for keyword in keywords {
+                add_value_asks(&keyword.1, asks)?;
             }
             Ok(())
         }
-        Template::Object(_, inner) => {
-            for one in inner {
-                add_asks(one, asks)?;
-            }
-            Ok(())
-        }
-        Template::Nullable(inner) => add_asks(inner, asks),
-        Template::Noted(_, inner) => add_asks(inner, asks),
-        Template::Titled(_, inner) => add_asks(inner, asks),
-        Template::WithMembers(inner, members) => {
+        SchemaTemplate::Nullable(inner) => add_asks(inner, asks),
+        SchemaTemplate::Noted(_, inner) => add_asks(inner, asks),
+        SchemaTemplate::Titled(_, inner) => add_asks(inner, asks),
+        SchemaTemplate::WithMembers(inner, members) => {
             add_asks(inner, asks)?;
             asks.extend_from_slice(members)?;
             Ok(())
         }
-        Template::Tagged(_, _, _, inner) => add_asks(inner, asks),
+        SchemaTemplate::Tagged { inner, .. } => add_asks(inner, asks),
+    }
+}
+
+#[cycle(add_asks)]
+fn add_value_asks(template: &ValueTemplate<'_>, asks: &mut Vec<Ask>) -> Result<(), AllocError>
+    ensures { OnOk result (map ask_of asks.new.items
+        ≡ map ask_of asks.old.items ++ asks_of (value_view template.now)) }
+{
+    match template {
+        ValueTemplate::Value(_) => Ok(()),
+        ValueTemplate::Schema(schema) => add_asks(schema, asks),
+        ValueTemplate::Schemas(schemas) => {
+            for schema in schemas {
+                add_asks(schema, asks)?;
+            }
+            Ok(())
+        }
+        ValueTemplate::Named(schemas) => {
+            for named in schemas {
+                add_asks(&named.1, asks)?;
+            }
+            Ok(())
+        }
     }
 }
 
@@ -107,245 +137,247 @@ fn add_asks(template: &Template<'_>, asks: &mut Vec<Ask>) -> Result<(), AllocErr
 /// so on; where a part is missing, `true` stands.
 pub fn fill(
     alloc: Global,
-    template: Template<'_>,
+    template: SchemaTemplate<'_>,
     parts: VecDeque<Schema>,
 ) -> Result<Schema, AllocError>
-    ensures { IfOk result (λ s. IsSchema (filled (template_view template.entry) parts.items)
-        → s ≡ filled (template_view template.entry) parts.items) }
+    ensures { IfOk result (λ s. s ≡ filled (template_view template.entry) parts.items) }
 {
     let mut rest = parts;
-    let value = fill_value(alloc, template, &mut rest)?;
-    match Schema::try_from(value) {
-        Ok(schema) => Ok(schema),
-        Err(_) => Ok(Schema::default(alloc)),
-    }
+    let schema = fill_schema(alloc, template, &mut rest)?;
+    Ok(schema)
 }
 
-// A template without others in it is filled here, where a call needs few locals.
-#[cycle(fill_value)]
-fn fill_value(
+// What a schema with others in it needs is in functions of its own, so that a call of this one
+// has few locals.
+#[cycle(fill)]
+#[tactic(auto, using(crate::proofs::Templates::seen_object))]
+fn fill_schema(
     alloc: Global,
-    template: Template<'_>,
+    template: SchemaTemplate<'_>,
     parts: &mut VecDeque<Schema>,
-) -> Result<Value, AllocError>
-    ensures value { IfOk result (λ v. view v
-        ≡ filled (template_view template.entry) parts.old.items) }
+) -> Result<Schema, AllocError>
+    ensures value { IfOk result (λ s. s ≡ filled (template_view template.entry) parts.old.items) }
     ensures left { OnOk result (parts.new.items
         ≡ left (template_view template.entry) parts.old.items) }
 {
     match template {
-        Template::Value(value) => Ok(value),
-        Template::Asked(_) => Ok(next_part(parts)),
-        node => fill_node(alloc, node, parts),
+        SchemaTemplate::Finished(schema) => Ok(schema),
+        SchemaTemplate::Asked(_) => Ok(next_part(parts)),
+        SchemaTemplate::Object(keywords) => fill_object(alloc, keywords, parts),
+        SchemaTemplate::Nullable(inner) => fill_nullable(alloc, inner, parts),
+        SchemaTemplate::Noted(notes, inner) => fill_noted(alloc, inner, notes, parts),
+        SchemaTemplate::Titled(title, inner) => fill_titled(alloc, inner, title, parts),
+        SchemaTemplate::WithMembers(inner, members) => {
+            fill_with_members(alloc, inner, members, parts)
+        }
+        SchemaTemplate::Tagged {
+            tag,
+            name,
+            closed,
+            inner,
+        } => fill_tagged(alloc, inner, tag, name, closed, parts),
     }
 }
 
-#[cycle(fill_value)]
+#[cycle(fill)]
 #[inline(never)]
-fn fill_node(
+fn fill_object<'t>(
     alloc: Global,
-    template: Template<'_>,
+    keywords: Vec<(&'t str, ValueTemplate<'t>)>,
     parts: &mut VecDeque<Schema>,
-) -> Result<Value, AllocError>
-    ensures value { IfOk result (λ v. view v
-        ≡ filled (template_view template.entry) parts.old.items) }
+) -> Result<Schema, AllocError>
+    ensures value { IfOk result (λ s. s
+        ≡ filled (object_with (map keyword_view keywords.entry.items)) parts.old.items) }
     ensures left { OnOk result (parts.new.items
-        ≡ left (template_view template.entry) parts.old.items) }
-{
-    match template {
-        Template::Value(value) => Ok(value),
-        Template::Asked(_) => Ok(next_part(parts)),
-        Template::List(inner) => {
-            let items = fill_all(alloc, inner, parts)?;
-            Ok(Value::Array(items))
-        }
-        Template::Object(keys, inner) => {
-            let members = fill_members(alloc, keys, inner, parts)?;
-            Ok(Value::Object(members))
-        }
-        Template::Nullable(inner) => {
-            let inner = fill_value(alloc, Box::into_inner(inner), parts)?;
-            nullable(alloc, inner)
-        }
-        Template::Noted(notes, inner) => {
-            let inner = fill_value(alloc, Box::into_inner(inner), parts)?;
-            noted(alloc, inner, notes)
-        }
-        Template::Titled(title, inner) => {
-            let inner = fill_value(alloc, Box::into_inner(inner), parts)?;
-            titled(alloc, inner, title)
-        }
-        Template::WithMembers(inner, members) => {
-            let inner = fill_value(alloc, Box::into_inner(inner), parts)?;
-            with_members(alloc, inner, &members, parts)
-        }
-        Template::Tagged(tag, name, closed, inner) => {
-            let inner = fill_value(alloc, Box::into_inner(inner), parts)?;
-            tagged(alloc, inner, tag, name, closed)
-        }
-    }
-}
-
-#[cycle(fill_value)]
-fn fill_all(
-    alloc: Global,
-    templates: Vec<Template<'_>>,
-    parts: &mut VecDeque<Schema>,
-) -> Result<Vec<Value>, AllocError>
-    ensures value { IfOk result (λ v. map view v.items
-        ≡ filled_in (templates_view templates.entry.items) parts.old.items) }
-    ensures left { OnOk result (parts.new.items
-        ≡ left_in (templates_view templates.entry.items) parts.old.items) }
-{
-    let mut values = Vec::new(alloc);
-    for template in templates {
-        let value = fill_value(alloc, template, parts)?;
-        serde_json::push(&mut values, value)?;
-    }
-    Ok(values)
-}
-
-// An object of these keys, each with its template filled.
-#[cycle(fill_value)]
-fn fill_members<'t>(
-    alloc: Global,
-    keys: Vec<&'t str>,
-    templates: Vec<Template<'t>>,
-    parts: &mut VecDeque<Schema>,
-) -> Result<Map<String, Value>, AllocError>
-    ensures value { IfOk result (λ m. members_view m.entries
-        ≡ put_all (keyed (map (λ k. k.now) keys.entry.items)
-        (filled_in (templates_view templates.entry.items) parts.old.items)) no_members) }
-    ensures left { OnOk result (parts.new.items
-        ≡ left_in (templates_view templates.entry.items) parts.old.items) }
+        ≡ left (object_with (map keyword_view keywords.entry.items)) parts.old.items) }
 {
     let mut members = Map::new(alloc);
-    let mut keys = keys.into_iter();
-    for template in templates {
+    for (key, template) in keywords {
         let value = fill_value(alloc, template, parts)?;
-        let Some(key) = keys.next() else {
-            continue;
-        };
         serde_json::put(&mut members, alloc, key, value)?;
     }
-    Ok(members)
+    Ok(Schema::from(members))
 }
 
-fn next_part(parts: &mut VecDeque<Schema>) -> Value
-    ensures value { view result ≡ first parts.old.items }
-    ensures left { parts.new.items ≡ behind parts.old.items }
-{
-    match parts.pop_front() {
-        Some(part) => part.to_value(),
-        None => Value::Bool(true),
-    }
-}
-
-fn nullable(alloc: Global, value: Value) -> Result<Value, AllocError>
-    ensures { IfOk result (λ v. view v ≡ allow_null (view value)) }
-{
-    match Schema::try_from(value) {
-        Ok(mut schema) => {
-            allow_null(alloc, &mut schema)?;
-            Ok(schema.to_value())
-        }
-        Err(NotASchema(value)) => Ok(value),
-    }
-}
-
-fn noted(alloc: Global, value: Value, notes: &Map<String, Value>) -> Result<Value, AllocError>
-    ensures { IfOk result (λ v. view v ≡ annotated (members_view notes.now.entries) (view value)) }
-{
-    if notes.is_empty() {
-        return Ok(value);
-    }
-    let mut schema = schema_of(alloc, value);
-    annotate(alloc, &mut schema, notes)?;
-    Ok(schema.to_value())
-}
-
-fn titled(alloc: Global, value: Value, title: &str) -> Result<Value, AllocError>
-    ensures { IfOk result (λ v. view v ≡ annotated (title_alone title.now) (view value)) }
-{
-    let mut notes = Map::new(alloc);
-    serde_json::put(
-        &mut notes,
-        alloc,
-        "title",
-        Value::try_from_str(alloc, title)?,
-    )?;
-    noted(alloc, value, &notes)
-}
-
-// The keywords of as many parts join as members are asked for.
-fn with_members(
+#[cycle(fill)]
+#[inline(never)]
+fn fill_nullable(
     alloc: Global,
-    value: Value,
-    members: &[Ask],
+    inner: Box<SchemaTemplate<'_>>,
     parts: &mut VecDeque<Schema>,
-) -> Result<Value, AllocError>
-    ensures value { IfOk result (λ v. view v
-        ≡ filled (with_answers (finished (view value)) (map ask_of members.now))
-        parts.old.items) }
+) -> Result<Schema, AllocError>
+    ensures value { IfOk result (λ s. s
+        ≡ filled (nullable (template_view inner.entry.value)) parts.old.items) }
     ensures left { OnOk result (parts.new.items
-        ≡ left (with_answers (finished (view value)) (map ask_of members.now))
-        parts.old.items) }
+        ≡ left (template_view inner.entry.value) parts.old.items) }
 {
-    let mut whole = value;
-    for _member in members {
-        let part = next_part(parts);
-        whole = with_keywords(alloc, whole, part)?;
-    }
-    Ok(whole)
+    let mut schema = fill_schema(alloc, Box::into_inner(inner), parts)?;
+    allow_null(alloc, &mut schema)?;
+    Ok(schema)
 }
 
-fn with_keywords(alloc: Global, value: Value, other: Value) -> Result<Value, AllocError>
-    ensures { IfOk result (λ v. view v ≡ flattened (view value) (view other)) }
-{
-    let Ok(other) = Schema::try_from(other) else {
-        return Ok(value);
-    };
-    match Schema::try_from(value) {
-        Ok(schema) => flattened(alloc, schema, other),
-        Err(NotASchema(value)) => {
-            if other.as_object().is_none() {
-                return Ok(value);
-            }
-            flattened(alloc, Schema::default(alloc), other)
-        }
-    }
-}
-
-fn flattened(alloc: Global, schema: Schema, other: Schema) -> Result<Value, AllocError>
-    ensures { IfOk result (λ v. view v ≡ flattened schema other) }
-{
-    let mut schema = schema;
-    flatten(alloc, &mut schema, other)?;
-    Ok(schema.to_value())
-}
-
-fn tagged(
+#[cycle(fill)]
+#[inline(never)]
+fn fill_noted(
     alloc: Global,
-    value: Value,
+    inner: Box<SchemaTemplate<'_>>,
+    notes: &Map<String, Value>,
+    parts: &mut VecDeque<Schema>,
+) -> Result<Schema, AllocError>
+    ensures value { IfOk result (λ s. s ≡ filled (noted (members_view notes.now.entries)
+        (template_view inner.entry.value)) parts.old.items) }
+    ensures left { OnOk result (parts.new.items
+        ≡ left (template_view inner.entry.value) parts.old.items) }
+{
+    let mut schema = fill_schema(alloc, Box::into_inner(inner), parts)?;
+    annotate(alloc, &mut schema, notes)?;
+    Ok(schema)
+}
+
+#[cycle(fill)]
+#[inline(never)]
+fn fill_titled(
+    alloc: Global,
+    inner: Box<SchemaTemplate<'_>>,
+    title: &str,
+    parts: &mut VecDeque<Schema>,
+) -> Result<Schema, AllocError>
+    ensures value { IfOk result (λ s. s ≡ filled (noted (title_alone title.now)
+        (template_view inner.entry.value)) parts.old.items) }
+    ensures left { OnOk result (parts.new.items
+        ≡ left (template_view inner.entry.value) parts.old.items) }
+{
+    let mut schema = fill_schema(alloc, Box::into_inner(inner), parts)?;
+    set(alloc, &mut schema, "title", title)?;
+    Ok(schema)
+}
+
+#[cycle(fill)]
+#[inline(never)]
+fn fill_with_members(
+    alloc: Global,
+    inner: Box<SchemaTemplate<'_>>,
+    members: Vec<Ask>,
+    parts: &mut VecDeque<Schema>,
+) -> Result<Schema, AllocError>
+    ensures value { IfOk result (λ s. s ≡ filled (with_answers
+        (template_view inner.entry.value) (map ask_of members.items)) parts.old.items) }
+    ensures left { OnOk result (parts.new.items ≡ left (with_answers
+        (template_view inner.entry.value) (map ask_of members.items)) parts.old.items) }
+{
+    let mut schema = fill_schema(alloc, Box::into_inner(inner), parts)?;
+    add_members(alloc, &mut schema, &members, parts)?;
+    Ok(schema)
+}
+
+#[cycle(fill)]
+#[inline(never)]
+fn fill_tagged(
+    alloc: Global,
+    inner: Box<SchemaTemplate<'_>>,
     tag: &str,
     name: &str,
     closed: bool,
-) -> Result<Value, AllocError>
-    ensures { IfOk result (λ v. view v
-        ≡ internally_tagged_variant tag.now name.now closed (view value)) }
+    parts: &mut VecDeque<Schema>,
+) -> Result<Schema, AllocError>
+    ensures value { IfOk result (λ s. s ≡ filled (tagged tag.now name.now closed
+        (template_view inner.entry.value)) parts.old.items) }
+    ensures left { OnOk result (parts.new.items
+        ≡ left (template_view inner.entry.value) parts.old.items) }
 {
-    let mut schema = schema_of(alloc, value);
+    let mut schema = fill_schema(alloc, Box::into_inner(inner), parts)?;
     apply_internal_enum_variant_tag(alloc, &mut schema, tag, name, closed)?;
-    Ok(schema.to_value())
+    Ok(schema)
 }
 
-// The value as a schema, or the schema without keywords.
-#[tactic(auto, using(crate::proofs::Templates::no_schema))]
-fn schema_of(alloc: Global, value: Value) -> Schema
-    ensures { members_in result ≡ members_in (view value) }
+#[cycle(fill)]
+#[tactic(auto, using(crate::proofs::Templates::seen_named))]
+fn fill_value(
+    alloc: Global,
+    template: ValueTemplate<'_>,
+    parts: &mut VecDeque<Schema>,
+) -> Result<Value, AllocError>
+    ensures value { IfOk result (λ v. view v
+        ≡ filled (value_view template.entry) parts.old.items) }
+    ensures left { OnOk result (parts.new.items
+        ≡ left (value_view template.entry) parts.old.items) }
 {
-    match Schema::try_from(value) {
-        Ok(schema) => schema,
-        Err(_) => Schema::default(alloc),
+    match template {
+        ValueTemplate::Value(value) => Ok(value),
+        ValueTemplate::Schema(schema) => {
+            let schema = fill_schema(alloc, schema, parts)?;
+            Ok(schema.to_value())
+        }
+        ValueTemplate::Schemas(schemas) => fill_schemas(alloc, schemas, parts),
+        ValueTemplate::Named(schemas) => fill_named(alloc, schemas, parts),
     }
+}
+
+#[cycle(fill)]
+#[inline(never)]
+fn fill_schemas(
+    alloc: Global,
+    schemas: Vec<SchemaTemplate<'_>>,
+    parts: &mut VecDeque<Schema>,
+) -> Result<Value, AllocError>
+    ensures value { IfOk result (λ v. view v ≡ filled (list (templates_of
+        (map template_view schemas.entry.items))) parts.old.items) }
+    ensures left { OnOk result (parts.new.items ≡ left (list (templates_of
+        (map template_view schemas.entry.items))) parts.old.items) }
+{
+    let mut values = Vec::new(alloc);
+    for template in schemas {
+        let schema = fill_schema(alloc, template, parts)?;
+        serde_json::push(&mut values, schema.to_value())?;
+    }
+    Ok(Value::Array(values))
+}
+
+#[cycle(fill)]
+#[inline(never)]
+fn fill_named<'t>(
+    alloc: Global,
+    schemas: Vec<(&'t str, SchemaTemplate<'t>)>,
+    parts: &mut VecDeque<Schema>,
+) -> Result<Value, AllocError>
+    ensures value { IfOk result (λ v. view v
+        ≡ filled (object_with (map property_view schemas.entry.items)) parts.old.items) }
+    ensures left { OnOk result (parts.new.items
+        ≡ left (object_with (map property_view schemas.entry.items)) parts.old.items) }
+{
+    let mut members = Map::new(alloc);
+    for (name, template) in schemas {
+        let schema = fill_schema(alloc, template, parts)?;
+        serde_json::put(&mut members, alloc, name, schema.to_value())?;
+    }
+    Ok(Value::Object(members))
+}
+
+fn next_part(parts: &mut VecDeque<Schema>) -> Schema
+    ensures value { result ≡ first parts.old.items }
+    ensures left { parts.new.items ≡ behind parts.old.items }
+{
+    match parts.pop_front() {
+        Some(part) => part,
+        None => Schema::from(true),
+    }
+}
+
+// Puts the keywords of as many parts into the schema as members are asked for.
+fn add_members(
+    alloc: Global,
+    schema: &mut Schema,
+    members: &[Ask],
+    parts: &mut VecDeque<Schema>,
+) -> Result<(), AllocError>
+    ensures value { OnOk result (schema.new
+        ≡ filled (with_answers (finished schema.old) (map ask_of members.now)) parts.old.items) }
+    ensures left { OnOk result (parts.new.items
+        ≡ left (with_answers (finished schema.old) (map ask_of members.now)) parts.old.items) }
+{
+    for _member in members {
+        let part = next_part(parts);
+        flatten(alloc, schema, part)?;
+    }
+    Ok(())
 }

@@ -2,14 +2,14 @@
 ghost use Rattle.std.specs.Prelude.{◌≡◌, ◌∷◌, ◌++◌, map, IfOk, OnOk};
 ghost use Rattle.schemars_builders.specs.Variants.{unit_variant};
 ghost use Rattle.schemars_shapes.specs.Shape.{payload_of, variant_of, adjacent_view};
-ghost use Rattle.schemars_documents.specs.View.{template_view, keyword_view};
+ghost use Rattle.schemars_documents.specs.View.{template_view, property_view};
 ghost use Rattle.schemars_documents.specs.OfShape.{said, adjacent_payload, adjacent_item};
 ghost use Rattle.schemars_documents.specs.OfShape.{adjacent_template};
 
 use crate::shape::enums::payload_template;
 use crate::shape::maps::whole_template;
-use crate::template::Template;
-use crate::template::nodes::{finished, one_of};
+use crate::template::SchemaTemplate;
+use crate::template::nodes::one_of;
 use schemars_builders::new_unit_enum_variant;
 use schemars_schema::Schema;
 use schemars_types::{Adjacent, Contract, Payload, Variant};
@@ -20,13 +20,13 @@ pub fn adjacent_template<'t>(
     alloc: Global,
     contract: Contract,
     adjacent: &'t Adjacent,
-) -> Result<Template<'t>, AllocError>
+) -> Result<SchemaTemplate<'t>, AllocError>
     ensures { IfOk result (λ t. template_view t ≡ adjacent_template contract
         (adjacent_view adjacent.now).0 (adjacent_view adjacent.now).1
         (adjacent_view adjacent.now).2 (adjacent_view adjacent.now).3) }
 {
     if adjacent.variants.is_empty() {
-        return finished(Schema::from(false));
+        return Ok(SchemaTemplate::Finished(Schema::from(false)));
     }
     let tag = adjacent.tag.as_str();
     let content = adjacent.content.as_str();
@@ -49,7 +49,7 @@ fn adjacent_items<'t>(
     content: &'t str,
     closed: bool,
     variants: &'t [Variant],
-) -> Result<Vec<Template<'t>>, AllocError>
+) -> Result<Vec<SchemaTemplate<'t>>, AllocError>
     ensures { IfOk result (λ v. map template_view v.items
         ≡ map (adjacent_item contract tag.now content.now closed) (map variant_of variants.now)) }
 {
@@ -68,13 +68,13 @@ fn adjacent_item<'t>(
     content: &'t str,
     closed: bool,
     variant: &'t Variant,
-) -> Result<Template<'t>, AllocError>
+) -> Result<SchemaTemplate<'t>, AllocError>
     ensures { IfOk result (λ t. template_view t
         ≡ adjacent_item contract tag.now content.now closed (variant_of variant.now)) }
 {
     let members = members(alloc, contract, tag, content, variant)?;
     let item = whole_template(alloc, members, closed)?;
-    Ok(Template::Noted(&variant.notes, Box::new(alloc, item)?))
+    Ok(SchemaTemplate::Noted(&variant.notes, Box::new(alloc, item)?))
 }
 
 // The variant's name, and what the variant has unless it is a unit.
@@ -84,13 +84,13 @@ fn members<'t>(
     tag: &'t str,
     content: &'t str,
     variant: &'t Variant,
-) -> Result<Vec<(&'t str, Template<'t>)>, AllocError>
-    ensures { IfOk result (λ v. map keyword_view v.items
+) -> Result<Vec<(&'t str, SchemaTemplate<'t>)>, AllocError>
+    ensures { IfOk result (λ v. map property_view v.items
         ≡ said tag.now (unit_variant (variant_of variant.now).name)
         ∷ adjacent_payload contract content.now (variant_of variant.now).payload) }
 {
-    let name = finished(new_unit_enum_variant(alloc, variant.name.as_str())?)?;
-    let mut members: Vec<(&'t str, Template<'t>)> = vec![in alloc; (tag, name)]?;
+    let name = new_unit_enum_variant(alloc, variant.name.as_str())?;
+    let mut members = vec![in alloc; (tag, SchemaTemplate::Finished(name))]?;
     add_payload(alloc, contract, content, &variant.payload, &mut members)?;
     Ok(members)
 }
@@ -100,10 +100,10 @@ fn add_payload<'t>(
     contract: Contract,
     content: &'t str,
     payload: &'t Payload,
-    members: &mut Vec<(&'t str, Template<'t>)>,
+    members: &mut Vec<(&'t str, SchemaTemplate<'t>)>,
 ) -> Result<(), AllocError>
-    ensures { OnOk result (map keyword_view members.new.items
-        ≡ map keyword_view members.old.items
+    ensures { OnOk result (map property_view members.new.items
+        ≡ map property_view members.old.items
         ++ adjacent_payload contract content.now (payload_of payload.now)) }
 {
     match payload {

@@ -7,8 +7,8 @@ ghost use Rattle.schemars_documents.specs.OfShape.{member_template, result_templ
 ghost use Rattle.schemars_documents.specs.OfShape.{bound_template, either_template};
 
 use crate::shape::maps::member_template;
-use crate::template::Template;
-use crate::template::nodes::{finished, one_of, row};
+use crate::template::SchemaTemplate;
+use crate::template::nodes::{one_of, row};
 use schemars_builders::new_unit_enum_variant;
 use schemars_types::TypeNo;
 use std::alloc::{AllocError, Global};
@@ -18,7 +18,7 @@ pub fn result_template<'t>(
     alloc: Global,
     ok: TypeNo,
     err: TypeNo,
-) -> Result<Template<'t>, AllocError>
+) -> Result<SchemaTemplate<'t>, AllocError>
     ensures { IfOk result (λ t. template_view t ≡ result_template ok err) }
 {
     let mut results = Vec::new(alloc);
@@ -28,7 +28,7 @@ pub fn result_template<'t>(
 }
 
 /// A bound that holds a value of this row, or none.
-pub fn bound_template<'t>(alloc: Global, n: TypeNo) -> Result<Template<'t>, AllocError>
+pub fn bound_template<'t>(alloc: Global, n: TypeNo) -> Result<SchemaTemplate<'t>, AllocError>
     ensures { IfOk result (λ t. template_view t ≡ bound_template n) }
 {
     let mut choices = Vec::new(alloc);
@@ -43,7 +43,7 @@ pub fn either_template<'t>(
     alloc: Global,
     left: TypeNo,
     right: TypeNo,
-) -> Result<Template<'t>, AllocError>
+) -> Result<SchemaTemplate<'t>, AllocError>
     ensures { IfOk result (λ t. template_view t ≡ either_template left right) }
 {
     let mut choices = Vec::new(alloc);
@@ -55,7 +55,7 @@ pub fn either_template<'t>(
 // Adds a map with a value of this row under this name.
 fn add_member<'t>(
     alloc: Global,
-    choices: &mut Vec<Template<'t>>,
+    choices: &mut Vec<SchemaTemplate<'t>>,
     name: &'t str,
     n: TypeNo,
     closed: bool,
@@ -71,13 +71,13 @@ fn add_member<'t>(
 // Adds this name alone.
 fn add_unit<'t>(
     alloc: Global,
-    choices: &mut Vec<Template<'t>>,
+    choices: &mut Vec<SchemaTemplate<'t>>,
     name: &str,
 ) -> Result<(), AllocError>
     ensures { OnOk result (map template_view choices.new.items
         ≡ map template_view choices.old.items ++ finished (unit_variant name.now) ∷ []) }
 {
-    let unit = finished(new_unit_enum_variant(alloc, name)?)?;
-    choices.push(unit)?;
+    let unit = new_unit_enum_variant(alloc, name)?;
+    choices.push(SchemaTemplate::Finished(unit))?;
     Ok(())
 }

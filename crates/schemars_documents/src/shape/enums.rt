@@ -15,8 +15,8 @@ ghost use Rattle.schemars_documents.specs.OfShape.{payload_item, untagged_templa
 use crate::documents::type_alone;
 use crate::shape::lists::tuple_template;
 use crate::shape::maps::{member_template, struct_template, typed};
-use crate::template::Template;
-use crate::template::nodes::{any_of, finished, object_with, one_of, row};
+use crate::template::nodes::{any_of, object_with, one_of, row};
+use crate::template::{SchemaTemplate, ValueTemplate};
 use schemars_builders::new_unit_enum_variant;
 use schemars_schema::Schema;
 use schemars_shapes::is_bare_unit;
@@ -30,7 +30,7 @@ pub fn external_template<'t>(
     alloc: Global,
     contract: Contract,
     variants: &'t [Variant],
-) -> Result<Template<'t>, AllocError>
+) -> Result<SchemaTemplate<'t>, AllocError>
     ensures { IfOk result (λ t. template_view t
         ≡ external_template contract (map variant_of variants.now)) }
 {
@@ -38,7 +38,7 @@ pub fn external_template<'t>(
     let others = other_items(alloc, contract, variants)?;
     if names.is_empty() {
         if others.is_empty() {
-            return finished(Schema::from(false));
+            return Ok(SchemaTemplate::Finished(Schema::from(false)));
         }
         return one_of(alloc, others);
     }
@@ -56,12 +56,12 @@ pub fn untagged_template<'t>(
     contract: Contract,
     titles: bool,
     variants: &'t [Variant],
-) -> Result<Template<'t>, AllocError>
+) -> Result<SchemaTemplate<'t>, AllocError>
     ensures { IfOk result (λ t. template_view t
         ≡ untagged_template contract titles (map variant_of variants.now)) }
 {
     if variants.is_empty() {
-        return finished(Schema::from(false));
+        return Ok(SchemaTemplate::Finished(Schema::from(false)));
     }
     let items = payload_items(alloc, contract, titles, variants)?;
     any_of(alloc, items)
@@ -86,7 +86,7 @@ fn other_items<'t>(
     alloc: Global,
     contract: Contract,
     variants: &'t [Variant],
-) -> Result<Vec<Template<'t>>, AllocError>
+) -> Result<Vec<SchemaTemplate<'t>>, AllocError>
     ensures { IfOk result (λ v. map template_view v.items
         ≡ other_items contract (map variant_of variants.now)) }
 {
@@ -104,7 +104,7 @@ fn other_item<'t>(
     alloc: Global,
     contract: Contract,
     variant: &'t Variant,
-) -> Result<Template<'t>, AllocError>
+) -> Result<SchemaTemplate<'t>, AllocError>
     ensures { IfOk result (λ t. template_view t ≡ noted (variant_of variant.now).notes
         (named_template contract (variant_of variant.now).name (variant_of variant.now).payload)) }
 {
@@ -116,29 +116,29 @@ fn other_item<'t>(
 fn noted<'t>(
     alloc: Global,
     variant: &'t Variant,
-    template: Template<'t>,
-) -> Result<Template<'t>, AllocError>
+    template: SchemaTemplate<'t>,
+) -> Result<SchemaTemplate<'t>, AllocError>
     ensures { IfOk result (λ t. template_view t
         ≡ noted (variant_of variant.now).notes (template_view template.entry)) }
 {
-    Ok(Template::Noted(&variant.notes, Box::new(alloc, template)?))
+    Ok(SchemaTemplate::Noted(&variant.notes, Box::new(alloc, template)?))
 }
 
-fn units_template<'t>(alloc: Global, names: Vec<Value>) -> Result<Template<'t>, AllocError>
+fn units_template<'t>(alloc: Global, names: Vec<Value>) -> Result<SchemaTemplate<'t>, AllocError>
     ensures { IfOk result (λ t. template_view t
         ≡ object_with (typed_template (codes "string")
         ∷ said (codes "enum") (array (items_view names.items)) ∷ [])) }
 {
-    let mut keywords: Vec<(&'t str, Template<'t>)> = typed(alloc, "string")?;
-    keywords.push(("enum", Template::Value(Value::Array(names))))?;
-    object_with(alloc, keywords)
+    let mut keywords: Vec<(&'t str, ValueTemplate<'t>)> = typed(alloc, "string")?;
+    keywords.push(("enum", ValueTemplate::Value(Value::Array(names))))?;
+    Ok(object_with(keywords))
 }
 
 fn led_by<'t>(
     alloc: Global,
-    first: Template<'t>,
-    mut rest: Vec<Template<'t>>,
-) -> Result<Vec<Template<'t>>, AllocError>
+    first: SchemaTemplate<'t>,
+    mut rest: Vec<SchemaTemplate<'t>>,
+) -> Result<Vec<SchemaTemplate<'t>>, AllocError>
     ensures { IfOk result (λ v. map template_view v.items
         ≡ template_view first.entry ∷ map template_view rest.entry.items) }
 {
@@ -152,12 +152,13 @@ fn named_template<'t>(
     contract: Contract,
     name: &'t str,
     payload: &'t Payload,
-) -> Result<Template<'t>, AllocError>
+) -> Result<SchemaTemplate<'t>, AllocError>
     ensures { IfOk result (λ t. template_view t
         ≡ named_template contract name.now (payload_of payload.now)) }
 {
     if let Payload::Unit = payload {
-        return finished(new_unit_enum_variant(alloc, name)?);
+        let unit = new_unit_enum_variant(alloc, name)?;
+        return Ok(SchemaTemplate::Finished(unit));
     }
     let part = payload_template(alloc, contract, payload)?;
     member_template(alloc, name, part, true)
@@ -169,7 +170,7 @@ fn payload_items<'t>(
     contract: Contract,
     titles: bool,
     variants: &'t [Variant],
-) -> Result<Vec<Template<'t>>, AllocError>
+) -> Result<Vec<SchemaTemplate<'t>>, AllocError>
     ensures { IfOk result (λ v. map template_view v.items
         ≡ map (payload_item contract titles) (map variant_of variants.now)) }
 {
@@ -186,7 +187,7 @@ fn payload_item<'t>(
     contract: Contract,
     titles: bool,
     variant: &'t Variant,
-) -> Result<Template<'t>, AllocError>
+) -> Result<SchemaTemplate<'t>, AllocError>
     ensures { IfOk result (λ t. template_view t
         ≡ payload_item contract titles (variant_of variant.now)) }
 {
@@ -200,13 +201,13 @@ fn titled<'t>(
     alloc: Global,
     titles: bool,
     name: &'t str,
-    template: Template<'t>,
-) -> Result<Template<'t>, AllocError>
+    template: SchemaTemplate<'t>,
+) -> Result<SchemaTemplate<'t>, AllocError>
     ensures { IfOk result (λ t. template_view t
         ≡ titled titles name.now (template_view template.entry)) }
 {
     if titles {
-        return Ok(Template::Titled(name, Box::new(alloc, template)?));
+        return Ok(SchemaTemplate::Titled(name, Box::new(alloc, template)?));
     }
     Ok(template)
 }
@@ -216,12 +217,12 @@ pub(crate) fn payload_template<'t>(
     alloc: Global,
     contract: Contract,
     payload: &'t Payload,
-) -> Result<Template<'t>, AllocError>
+) -> Result<SchemaTemplate<'t>, AllocError>
     ensures { IfOk result (λ t. template_view t
         ≡ payload_template contract (payload_of payload.now)) }
 {
     match payload {
-        Payload::Unit => finished(type_alone(alloc, "null")?),
+        Payload::Unit => Ok(SchemaTemplate::Finished(type_alone(alloc, "null")?)),
         Payload::Newtype(n) => Ok(row(*n)),
         Payload::Tuple(parts) => tuple_template(alloc, parts),
         Payload::Struct(fields) => struct_template(alloc, contract, fields),

@@ -4,15 +4,15 @@ ghost use Rattle.schemars_types.specs.Faults.{IsChecked};
 ghost use Rattle.schemars_types.specs.KeyOptions.{key_options, keys};
 ghost use Rattle.schemars_types.specs.Found.{options_of};
 ghost use Rattle.schemars_documents.specs.Template.{row};
-ghost use Rattle.schemars_documents.specs.View.{template_view, keyword_view};
+ghost use Rattle.schemars_documents.specs.View.{template_view, value_view};
+ghost use Rattle.schemars_documents.specs.View.{keyword_view, property_view};
 ghost use Rattle.schemars_documents.specs.OfShape.{pattern_properties_at, other_values};
 ghost use Rattle.schemars_documents.specs.OfShape.{values_template, values_of};
 
 use crate::shape::maps::{add_properties, typed};
-use crate::template::Template;
-use crate::template::nodes::{object_with, row, text};
+use crate::template::nodes::{named, object_with, row, row_value, truth};
+use crate::template::{SchemaTemplate, ValueTemplate};
 use schemars_types::{KeyOptions, TypeNo, Types, key_options};
-use serde_json::Value;
 use std::alloc::{AllocError, Global};
 
 /// A map with the keys that row `key` allows, and values of row `value`.
@@ -21,7 +21,7 @@ pub fn values_template<'t>(
     types: &'t Types,
     key: TypeNo,
     value: TypeNo,
-) -> Result<Template<'t>, AllocError>
+) -> Result<SchemaTemplate<'t>, AllocError>
     requires { IsChecked types.now }
     ensures { IfOk result (λ t. template_view t
         ≡ values_template (key_options types.now key) value) }
@@ -35,7 +35,7 @@ fn options_template<'t>(
     alloc: Global,
     options: &KeyOptions<'t>,
     value: TypeNo,
-) -> Result<Template<'t>, AllocError>
+) -> Result<SchemaTemplate<'t>, AllocError>
     ensures { IfOk result (λ t. template_view t ≡ values_template (options_of options.now) value) }
 {
     let others = options.others;
@@ -74,33 +74,33 @@ fn keyed_template<'t>(
     texts: &[&'t str],
     patterns: &[&'t str],
     value: TypeNo,
-) -> Result<Template<'t>, AllocError>
+) -> Result<SchemaTemplate<'t>, AllocError>
     ensures { IfOk result (λ t. template_view t
         ≡ values_template (keys others (map (λ t. t.now) texts.now) None
         (map (λ t. t.now) patterns.now)) value) }
 {
-    let mut keywords: Vec<(&'t str, Template<'t>)> = typed(alloc, "object")?;
+    let mut keywords: Vec<(&'t str, ValueTemplate<'t>)> = typed(alloc, "object")?;
     keywords.push(("additionalProperties", other_values(others, value)))?;
     add_pattern_properties(alloc, &mut keywords, patterns, value)?;
     let properties = values_at(alloc, texts, value)?;
-    add_properties(alloc, &mut keywords, properties)?;
-    object_with(alloc, keywords)
+    add_properties(&mut keywords, properties)?;
+    Ok(object_with(keywords))
 }
 
 // What is said of keys that are not listed and match no pattern.
-fn other_values<'t>(others: bool, value: TypeNo) -> Template<'t>
-    ensures { template_view result ≡ other_values others value }
+fn other_values<'t>(others: bool, value: TypeNo) -> ValueTemplate<'t>
+    ensures { value_view result ≡ other_values others value }
 {
     if others {
-        row(value)
+        row_value(value)
     } else {
-        Template::Value(Value::Bool(false))
+        truth(false)
     }
 }
 
 fn add_pattern_properties<'t>(
     alloc: Global,
-    keywords: &mut Vec<(&'t str, Template<'t>)>,
+    keywords: &mut Vec<(&'t str, ValueTemplate<'t>)>,
     patterns: &[&'t str],
     value: TypeNo,
 ) -> Result<(), AllocError>
@@ -111,8 +111,7 @@ fn add_pattern_properties<'t>(
         return Ok(());
     }
     let values = values_at(alloc, patterns, value)?;
-    let by_pattern = object_with(alloc, values)?;
-    keywords.push(("patternProperties", by_pattern))?;
+    keywords.push(("patternProperties", named(values)))?;
     Ok(())
 }
 
@@ -121,8 +120,8 @@ fn values_at<'t>(
     alloc: Global,
     keys: &[&'t str],
     value: TypeNo,
-) -> Result<Vec<(&'t str, Template<'t>)>, AllocError>
-    ensures { IfOk result (λ v. map keyword_view v.items
+) -> Result<Vec<(&'t str, SchemaTemplate<'t>)>, AllocError>
+    ensures { IfOk result (λ v. map property_view v.items
         ≡ values_of value (map (λ t. t.now) keys.now)) }
 {
     let mut values = Vec::new(alloc);

@@ -3,7 +3,8 @@ ghost use Rattle.std.specs.Prelude.{◌≡◌, ◌∷◌, ◌++◌, [], map, IfO
 ghost use Rattle.serde_json.specs.View.{items_view};
 ghost use Rattle.schemars_shapes.specs.Shape.{field_of, flattened_of, fields_of};
 ghost use Rattle.schemars_builders.specs.NullLaw.{text_items};
-ghost use Rattle.schemars_documents.specs.View.{ask_of, template_view, keyword_view};
+ghost use Rattle.schemars_documents.specs.View.{ask_of, template_view};
+ghost use Rattle.schemars_documents.specs.View.{keyword_view, property_view};
 ghost use Rattle.schemars_documents.specs.OfShape.{typed_template, property, properties_at};
 ghost use Rattle.schemars_documents.specs.OfShape.{required_at};
 ghost use Rattle.schemars_documents.specs.OfShape.{closed_keyword, object_with};
@@ -13,8 +14,8 @@ ghost use Rattle.schemars_documents.specs.OfShape.{struct_template};
 ghost use Rattle.schemars_documents.specs.OfShape.{member_template, whole_template, range_template};
 
 use crate::documents::{is_required, required_names};
-use crate::template::nodes::{object_with, row, text};
-use crate::template::{Ask, Template};
+use crate::template::nodes::{named, object_with, row, text, truth};
+use crate::template::{Ask, SchemaTemplate, ValueTemplate};
 use schemars_types::{Contract, Field, Fields, Flattened, TypeNo};
 use serde_json::Value;
 use std::alloc::{AllocError, Global};
@@ -22,51 +23,49 @@ use std::alloc::{AllocError, Global};
 /// A map with these properties.
 pub fn map_template<'t>(
     alloc: Global,
-    properties: Vec<(&'t str, Template<'t>)>,
+    properties: Vec<(&'t str, SchemaTemplate<'t>)>,
     required: Vec<Value>,
     closed: bool,
-) -> Result<Template<'t>, AllocError>
+) -> Result<SchemaTemplate<'t>, AllocError>
     ensures { IfOk result (λ t. template_view t
-        ≡ map_template (map keyword_view properties.entry.items)
+        ≡ map_template (map property_view properties.entry.items)
         (items_view required.items) closed) }
 {
-    let mut keywords: Vec<(&'t str, Template<'t>)> = typed(alloc, "object")?;
-    add_properties(alloc, &mut keywords, properties)?;
+    let mut keywords: Vec<(&'t str, ValueTemplate<'t>)> = typed(alloc, "object")?;
+    add_properties(&mut keywords, properties)?;
     add_required(&mut keywords, required)?;
     add_closed(&mut keywords, closed)?;
-    object_with(alloc, keywords)
+    Ok(object_with(keywords))
 }
 
 /// The keyword `type` with this name.
-pub fn typed<'t>(alloc: Global, name: &str) -> Result<Vec<(&'t str, Template<'t>)>, AllocError>
+pub fn typed<'t>(alloc: Global, name: &str) -> Result<Vec<(&'t str, ValueTemplate<'t>)>, AllocError>
     ensures { IfOk result (λ v. map keyword_view v.items ≡ typed_template name.now ∷ []) }
 {
     let name = text(alloc, name)?;
-    let mut keywords: Vec<(&'t str, Template<'t>)> = Vec::new(alloc);
+    let mut keywords: Vec<(&'t str, ValueTemplate<'t>)> = Vec::new(alloc);
     keywords.push(("type", name))?;
     Ok(keywords)
 }
 
 /// Adds these properties, if there are any.
 pub fn add_properties<'t>(
-    alloc: Global,
-    keywords: &mut Vec<(&'t str, Template<'t>)>,
-    properties: Vec<(&'t str, Template<'t>)>,
+    keywords: &mut Vec<(&'t str, ValueTemplate<'t>)>,
+    properties: Vec<(&'t str, SchemaTemplate<'t>)>,
 ) -> Result<(), AllocError>
     ensures { OnOk result (map keyword_view keywords.new.items
         ≡ map keyword_view keywords.old.items
-        ++ properties_at (map keyword_view properties.entry.items)) }
+        ++ properties_at (map property_view properties.entry.items)) }
 {
     if properties.is_empty() {
         return Ok(());
     }
-    let properties = object_with(alloc, properties)?;
-    keywords.push(("properties", properties))?;
+    keywords.push(("properties", named(properties)))?;
     Ok(())
 }
 
 fn add_required<'t>(
-    keywords: &mut Vec<(&'t str, Template<'t>)>,
+    keywords: &mut Vec<(&'t str, ValueTemplate<'t>)>,
     required: Vec<Value>,
 ) -> Result<(), AllocError>
     ensures { OnOk result (map keyword_view keywords.new.items
@@ -75,20 +74,20 @@ fn add_required<'t>(
     if required.is_empty() {
         return Ok(());
     }
-    keywords.push(("required", Template::Value(Value::Array(required))))?;
+    keywords.push(("required", ValueTemplate::Value(Value::Array(required))))?;
     Ok(())
 }
 
 /// Excludes other keys, if `closed`.
 pub fn add_closed<'t>(
-    keywords: &mut Vec<(&'t str, Template<'t>)>,
+    keywords: &mut Vec<(&'t str, ValueTemplate<'t>)>,
     closed: bool,
 ) -> Result<(), AllocError>
     ensures { OnOk result (map keyword_view keywords.new.items
         ≡ map keyword_view keywords.old.items ++ closed_keyword closed) }
 {
     if closed {
-        keywords.push(("additionalProperties", Template::Value(Value::Bool(false))))?;
+        keywords.push(("additionalProperties", truth(false)))?;
     }
     Ok(())
 }
@@ -98,7 +97,7 @@ pub fn struct_template<'t>(
     alloc: Global,
     contract: Contract,
     fields: &'t Fields,
-) -> Result<Template<'t>, AllocError>
+) -> Result<SchemaTemplate<'t>, AllocError>
     ensures { IfOk result (λ t. template_view t
         ≡ struct_template contract (fields_of fields.now)) }
 {
@@ -111,43 +110,22 @@ fn fields_template<'t>(
     contract: Contract,
     list: &'t [Field],
     closed: bool,
-) -> Result<Template<'t>, AllocError>
+) -> Result<SchemaTemplate<'t>, AllocError>
     ensures { IfOk result (λ t. template_view t
         ≡ fields_template contract (map field_of list.now) closed) }
 {
+    let properties = properties(alloc, list)?;
     let required = required_names(alloc, contract, list)?;
-    let mut keywords: Vec<(&'t str, Template<'t>)> = typed(alloc, "object")?;
-    add_fields(alloc, &mut keywords, list)?;
-    add_required(&mut keywords, required)?;
-    add_closed(&mut keywords, closed)?;
-    object_with(alloc, keywords)
-}
-
-// Adds these fields as properties, if there are any.
-fn add_fields<'t>(
-    alloc: Global,
-    keywords: &mut Vec<(&'t str, Template<'t>)>,
-    fields: &'t [Field],
-) -> Result<(), AllocError>
-    ensures { OnOk result (map keyword_view keywords.new.items
-        ≡ map keyword_view keywords.old.items
-        ++ properties_at (map property (map field_of fields.now))) }
-{
-    if fields.is_empty() {
-        return Ok(());
-    }
-    let properties = properties(alloc, fields)?;
-    keywords.push(("properties", properties))?;
-    Ok(())
+    map_template(alloc, properties, required, closed)
 }
 
 // The members of these rows join, one row after another.
 fn with_flattened<'t>(
     alloc: Global,
     contract: Contract,
-    own: Template<'t>,
+    own: SchemaTemplate<'t>,
     flatten: &[Flattened],
-) -> Result<Template<'t>, AllocError>
+) -> Result<SchemaTemplate<'t>, AllocError>
     ensures { IfOk result (λ t. template_view t
         ≡ with_flattened contract (map flattened_of flatten.now) (template_view own.entry)) }
 {
@@ -155,7 +133,7 @@ fn with_flattened<'t>(
         return Ok(own);
     }
     let members = members_of(alloc, contract, flatten)?;
-    Ok(Template::WithMembers(Box::new(alloc, own)?, members))
+    Ok(SchemaTemplate::WithMembers(Box::new(alloc, own)?, members))
 }
 
 fn members_of(
@@ -175,31 +153,33 @@ fn members_of(
 }
 
 // The fields' schemas under their names, each with its notes.
-fn properties<'t>(alloc: Global, fields: &'t [Field]) -> Result<Template<'t>, AllocError>
-    ensures { IfOk result (λ t. template_view t
-        ≡ object_with (map property (map field_of fields.now))) }
+fn properties<'t>(
+    alloc: Global,
+    fields: &'t [Field],
+) -> Result<Vec<(&'t str, SchemaTemplate<'t>)>, AllocError>
+    ensures { IfOk result (λ v. map property_view v.items
+        ≡ map property (map field_of fields.now)) }
 {
-    let mut keys = Vec::new(alloc);
-    let mut values = Vec::new(alloc);
+    let mut properties = Vec::new(alloc);
     for field in fields {
         let part = Box::new(alloc, row(field.ty))?;
-        keys.push(field.name.as_str())?;
-        values.push(Template::Noted(&field.notes, part))?;
+        let noted = SchemaTemplate::Noted(&field.notes, part);
+        properties.push((field.name.as_str(), noted))?;
     }
-    Ok(Template::Object(keys, values))
+    Ok(properties)
 }
 
 /// A map with this member, which has to be there.
 pub fn member_template<'t>(
     alloc: Global,
     name: &'t str,
-    part: Template<'t>,
+    part: SchemaTemplate<'t>,
     closed: bool,
-) -> Result<Template<'t>, AllocError>
+) -> Result<SchemaTemplate<'t>, AllocError>
     ensures { IfOk result (λ t. template_view t
         ≡ member_template closed name.now (template_view part.entry)) }
 {
-    let properties: Vec<(&'t str, Template<'t>)> = vec![in alloc; (name, part)]?;
+    let properties: Vec<(&'t str, SchemaTemplate<'t>)> = vec![in alloc; (name, part)]?;
     let required = vec![in alloc; Value::try_from_str(alloc, name)?]?;
     map_template(alloc, properties, required, closed)
 }
@@ -207,11 +187,11 @@ pub fn member_template<'t>(
 /// A map with these members, each of which has to be there.
 pub fn whole_template<'t>(
     alloc: Global,
-    properties: Vec<(&'t str, Template<'t>)>,
+    properties: Vec<(&'t str, SchemaTemplate<'t>)>,
     closed: bool,
-) -> Result<Template<'t>, AllocError>
+) -> Result<SchemaTemplate<'t>, AllocError>
     ensures { IfOk result (λ t. template_view t
-        ≡ whole_template (map keyword_view properties.entry.items) closed) }
+        ≡ whole_template (map property_view properties.entry.items) closed) }
 {
     let required = names(alloc, &properties)?;
     map_template(alloc, properties, required, closed)
@@ -219,10 +199,10 @@ pub fn whole_template<'t>(
 
 fn names<'t>(
     alloc: Global,
-    properties: &[(&'t str, Template<'t>)],
+    properties: &[(&'t str, SchemaTemplate<'t>)],
 ) -> Result<Vec<Value>, AllocError>
     ensures { IfOk result (λ v. items_view v.items
-        ≡ text_items (map (λ e. e.0) (map keyword_view properties.now))) }
+        ≡ text_items (map (λ e. e.0) (map property_view properties.now))) }
 {
     let mut names = Vec::new(alloc);
     for property in properties {
@@ -233,10 +213,10 @@ fn names<'t>(
 }
 
 /// A map with a start and an end of this row.
-pub fn range_template<'t>(alloc: Global, n: TypeNo) -> Result<Template<'t>, AllocError>
+pub fn range_template<'t>(alloc: Global, n: TypeNo) -> Result<SchemaTemplate<'t>, AllocError>
     ensures { IfOk result (λ t. template_view t ≡ range_template n) }
 {
-    let properties: Vec<(&'t str, Template<'t>)> = vec![in alloc;
+    let properties: Vec<(&'t str, SchemaTemplate<'t>)> = vec![in alloc;
         ("start", row(n)),
         ("end", row(n)),
     ]?;

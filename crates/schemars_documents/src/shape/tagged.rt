@@ -8,8 +8,8 @@ ghost use Rattle.schemars_documents.specs.OfShape.{internal_template};
 
 use crate::documents::type_alone;
 use crate::shape::maps::struct_template;
-use crate::template::nodes::{finished, one_of};
-use crate::template::{Ask, Template};
+use crate::template::nodes::one_of;
+use crate::template::{Ask, SchemaTemplate};
 use schemars_schema::Schema;
 use schemars_types::{Contract, Internal, InternalPayload, InternalVariant};
 use std::alloc::{AllocError, Global};
@@ -19,13 +19,13 @@ pub fn internal_template<'t>(
     alloc: Global,
     contract: Contract,
     internal: &'t Internal,
-) -> Result<Template<'t>, AllocError>
+) -> Result<SchemaTemplate<'t>, AllocError>
     ensures { IfOk result (λ t. template_view t ≡ internal_template contract
         (internal_view internal.now).0 (internal_view internal.now).1
         (internal_view internal.now).2) }
 {
     if internal.variants.is_empty() {
-        return finished(Schema::from(false));
+        return Ok(SchemaTemplate::Finished(Schema::from(false)));
     }
     let tag = internal.tag.as_str();
     let items = internal_items(alloc, contract, tag, internal.closed, &internal.variants)?;
@@ -39,7 +39,7 @@ fn internal_items<'t>(
     tag: &'t str,
     closed: bool,
     variants: &'t [InternalVariant],
-) -> Result<Vec<Template<'t>>, AllocError>
+) -> Result<Vec<SchemaTemplate<'t>>, AllocError>
     ensures { IfOk result (λ v. map template_view v.items
         ≡ map (internal_item contract tag.now closed) (map internal_variant_of variants.now)) }
 {
@@ -57,14 +57,20 @@ fn internal_item<'t>(
     tag: &'t str,
     closed: bool,
     variant: &'t InternalVariant,
-) -> Result<Template<'t>, AllocError>
+) -> Result<SchemaTemplate<'t>, AllocError>
     ensures { IfOk result (λ t. template_view t
         ≡ internal_item contract tag.now closed (internal_variant_of variant.now)) }
 {
     let content = content_template(alloc, contract, &variant.payload)?;
     let name = variant.name.as_str();
-    let tagged = Template::Tagged(tag, name, closed, Box::new(alloc, content)?);
-    Ok(Template::Noted(&variant.notes, Box::new(alloc, tagged)?))
+    let inner = Box::new(alloc, content)?;
+    let tagged = SchemaTemplate::Tagged {
+        tag,
+        name,
+        closed,
+        inner,
+    };
+    Ok(SchemaTemplate::Noted(&variant.notes, Box::new(alloc, tagged)?))
 }
 
 // What stands beside the tag.
@@ -72,13 +78,13 @@ fn content_template<'t>(
     alloc: Global,
     contract: Contract,
     payload: &'t InternalPayload,
-) -> Result<Template<'t>, AllocError>
+) -> Result<SchemaTemplate<'t>, AllocError>
     ensures { IfOk result (λ t. template_view t
         ≡ content_template contract (internal_payload_of payload.now)) }
 {
     match payload {
-        InternalPayload::Unit => finished(type_alone(alloc, "null")?),
-        InternalPayload::Newtype(n) => Ok(Template::Asked(Ask::Content(*n))),
+        InternalPayload::Unit => Ok(SchemaTemplate::Finished(type_alone(alloc, "null")?)),
+        InternalPayload::Newtype(n) => Ok(SchemaTemplate::Asked(Ask::Content(*n))),
         InternalPayload::Struct(fields) => struct_template(alloc, contract, fields),
     }
 }

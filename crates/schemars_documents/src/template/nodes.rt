@@ -1,77 +1,101 @@
 //! Templates of one node.
-ghost use Rattle.std.specs.Prelude.{◌≡◌, map, IfOk};
-ghost use Rattle.serde_json.specs.Data.{string, number, unsigned};
-ghost use Rattle.schemars_documents.specs.Template.{row, finished};
-ghost use Rattle.schemars_documents.specs.View.{template_view, keyword_view};
-ghost use Rattle.schemars_documents.specs.OfShape.{object_with, one_of_template, any_of_template};
+ghost use Rattle.std.specs.Prelude.{◌≡◌, ◌∷◌, [], map, IfOk};
+ghost use Rattle.serde_json.specs.Data.{string, number, unsigned, boolean};
+ghost use Rattle.schemars_documents.specs.Template.{row, finished, list};
+ghost use Rattle.schemars_documents.specs.View.{template_view, value_view};
+ghost use Rattle.schemars_documents.specs.View.{keyword_view, property_view};
+ghost use Rattle.schemars_documents.specs.OfShape.{object_with, templates_of};
+ghost use Rattle.schemars_documents.specs.OfShape.{one_of_template, any_of_template};
 
-use crate::template::{Ask, Template};
-use schemars_schema::Schema;
+use crate::template::{Ask, SchemaTemplate, ValueTemplate};
 use schemars_types::TypeNo;
 use serde_json::Value;
 use std::alloc::{AllocError, Global};
 
-/// The schema as it is.
-pub fn finished<'t>(schema: Schema) -> Result<Template<'t>, AllocError>
-    ensures { IfOk result (λ t. template_view t ≡ finished schema) }
-{
-    Ok(Template::Value(schema.to_value()))
-}
-
 /// This text.
-pub fn text<'t>(alloc: Global, text: &str) -> Result<Template<'t>, AllocError>
-    ensures { IfOk result (λ t. template_view t ≡ finished (string text.now)) }
+pub fn text<'t>(alloc: Global, text: &str) -> Result<ValueTemplate<'t>, AllocError>
+    ensures { IfOk result (λ t. value_view t ≡ finished (string text.now)) }
 {
-    Ok(Template::Value(Value::try_from_str(alloc, text)?))
+    Ok(ValueTemplate::Value(Value::try_from_str(alloc, text)?))
 }
 
 /// This number.
-pub fn count<'t>(n: u64) -> Template<'t>
-    ensures { template_view result ≡ finished (number (unsigned n)) }
+pub fn count<'t>(n: u64) -> ValueTemplate<'t>
+    ensures { value_view result ≡ finished (number (unsigned n)) }
 {
-    Template::Value(Value::from(n))
+    ValueTemplate::Value(Value::from(n))
+}
+
+/// This truth value.
+pub fn truth<'t>(is_true: bool) -> ValueTemplate<'t>
+    ensures { value_view result ≡ finished (boolean is_true) }
+{
+    ValueTemplate::Value(Value::Bool(is_true))
 }
 
 /// The schema of a row.
-pub fn row<'t>(n: TypeNo) -> Template<'t>
+pub fn row<'t>(n: TypeNo) -> SchemaTemplate<'t>
     ensures { template_view result ≡ row n }
 {
-    Template::Asked(Ask::Part(n))
+    SchemaTemplate::Asked(Ask::Part(n))
+}
+
+/// The schema of a row, as the value of a keyword.
+pub fn row_value<'t>(n: TypeNo) -> ValueTemplate<'t>
+    ensures { value_view result ≡ row n }
+{
+    ValueTemplate::Schema(row(n))
 }
 
 /// An object with these keywords.
-pub fn object_with<'t>(
-    alloc: Global,
-    keywords: Vec<(&'t str, Template<'t>)>,
-) -> Result<Template<'t>, AllocError>
-    ensures { IfOk result (λ t. template_view t
-        ≡ object_with (map keyword_view keywords.entry.items)) }
+#[tactic(auto, using(crate::proofs::Templates::seen_object))]
+pub fn object_with<'t>(keywords: Vec<(&'t str, ValueTemplate<'t>)>) -> SchemaTemplate<'t>
+    ensures { template_view result ≡ object_with (map keyword_view keywords.entry.items) }
 {
-    let mut keys = Vec::new(alloc);
-    let mut values = Vec::new(alloc);
-    for (key, value) in keywords {
-        keys.push(key)?;
-        values.push(value)?;
-    }
-    Ok(Template::Object(keys, values))
+    SchemaTemplate::Object(keywords)
 }
 
-/// Just one of these.
-pub fn one_of<'t>(alloc: Global, choices: Vec<Template<'t>>) -> Result<Template<'t>, AllocError>
+/// An object with a schema under each of these names.
+#[tactic(auto, using(crate::proofs::Templates::seen_named))]
+pub fn named<'t>(schemas: Vec<(&'t str, SchemaTemplate<'t>)>) -> ValueTemplate<'t>
+    ensures { value_view result ≡ object_with (map property_view schemas.entry.items) }
+{
+    ValueTemplate::Named(schemas)
+}
+
+/// Exactly one of these.
+pub fn one_of<'t>(
+    alloc: Global,
+    choices: Vec<SchemaTemplate<'t>>,
+) -> Result<SchemaTemplate<'t>, AllocError>
     ensures { IfOk result (λ t. template_view t
         ≡ one_of_template (map template_view choices.entry.items)) }
 {
-    let keys = vec![in alloc; "oneOf"]?;
-    let values = vec![in alloc; Template::List(choices)]?;
-    Ok(Template::Object(keys, values))
+    choice(alloc, "oneOf", choices)
 }
 
-/// One of these at least.
-pub fn any_of<'t>(alloc: Global, choices: Vec<Template<'t>>) -> Result<Template<'t>, AllocError>
+/// At least one of these.
+pub fn any_of<'t>(
+    alloc: Global,
+    choices: Vec<SchemaTemplate<'t>>,
+) -> Result<SchemaTemplate<'t>, AllocError>
     ensures { IfOk result (λ t. template_view t
         ≡ any_of_template (map template_view choices.entry.items)) }
 {
-    let keys = vec![in alloc; "anyOf"]?;
-    let values = vec![in alloc; Template::List(choices)]?;
-    Ok(Template::Object(keys, values))
+    choice(alloc, "anyOf", choices)
+}
+
+// These choices under a keyword.
+fn choice<'t>(
+    alloc: Global,
+    keyword: &'t str,
+    choices: Vec<SchemaTemplate<'t>>,
+) -> Result<SchemaTemplate<'t>, AllocError>
+    ensures { IfOk result (λ t. template_view t ≡ object_with ((
+      keyword.now,
+      list (templates_of (map template_view choices.entry.items)),
+    ) ∷ [])) }
+{
+    let keywords = vec![in alloc; (keyword, ValueTemplate::Schemas(choices))]?;
+    Ok(object_with(keywords))
 }

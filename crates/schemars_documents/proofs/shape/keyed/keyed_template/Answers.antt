@@ -1,7 +1,7 @@
 -- The keywords, as they come one after another.
-use Rattle.std.proofs.Common.{◌≡◌, ◌∷◌, ◌++◌, [], ◌∙◌, map, ap, subst, IfOk, codes}
+use Rattle.std.proofs.Common.{◌≡◌, ◌∷◌, ◌++◌, [], ◌∙◌, map, ap, codes}
 use Rattle.std.proofs.lemmas.List.{map-append}
-use Rattle.schemars_documents.specs.View.{template_view, keyword_view}
+use Rattle.schemars_documents.specs.View.{value_view, keyword_view}
 use Rattle.schemars_documents.specs.OfShape.{object_with, typed_template, other_values, pattern_properties_at, properties_at, values_of}
 use Rattle.schemars_documents.proofs.shape.keyed.keyed_template.Goals as goal
 
@@ -14,9 +14,9 @@ returns c =
     ≡ typed_template (codes "object") ∷ (codes "additionalProperties", other_values c.args.others value) ∷ [] =
     ap (map keyword_view) c.in_ok-push.ensures.items
     ∙ (map-append keyword_view c.in_ok-keywords.keywords.items _
-    ∙ (ap (λ ks. ks ++ (codes "additionalProperties", template_view c.other_values.result) ∷ []) c.in_ok-keywords.ensures
+    ∙ (ap (λ ks. ks ++ (codes "additionalProperties", value_view c.other_values.result) ∷ []) c.in_ok-keywords.ensures
     ∙ ap (λ t. typed_template (codes "object") ∷ (codes "additionalProperties", t) ∷ []) c.other_values.ensures)) in
     let all = c.in_ok-add_properties.ensures
     ∙ (ap (λ ks. map keyword_view c.add_pattern_properties.new.keywords.items ++ properties_at ks) c.in_ok-properties.ensures
     ∙ ap (λ ks. ks ++ properties_at texts) (c.in_ok-add_pattern_properties.ensures ∙ ap (λ ks. ks ++ patterns) two)) in
-    subst (λ ks. IfOk c.object_with.result (λ t. template_view t ≡ object_with ks)) all c.object_with.ensures
+    c.object_with.ensures ∙ ap object_with all

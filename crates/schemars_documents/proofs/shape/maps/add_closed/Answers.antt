@@ -1,4 +1,4 @@
-use Rattle.std.proofs.Common.{◌++◌, map, ap, ◌∙◌}
+use Rattle.std.proofs.Common.{◌∷◌, ◌++◌, [], map, ap, ◌∙◌, codes}
 use Rattle.std.proofs.lemmas.List.{map-append}
 use Rattle.schemars_documents.specs.View.{keyword_view}
 use Rattle.schemars_documents.proofs.Templates.{closed_true}
@@ -8,4 +8,5 @@ pub returns-in_ok-push : goal.returns-in_ok-push
 returns-in_ok-push c =
     ap (map keyword_view) c.in_ok-push.ensures.items
     ∙ (map-append keyword_view c.args.keywords.now.items _
-    ∙ ap (λ es. map keyword_view c.args.keywords.now.items ++ es) (closed_true c.args.closed c.if-closed.true))
+    ∙ ap (λ es. map keyword_view c.args.keywords.now.items ++ es)
+    (ap (λ t. (codes "additionalProperties", t) ∷ []) c.truth.ensures ∙ closed_true c.args.closed c.if-closed.true))

@@ -1,17 +1,17 @@
-use Rattle.std.proofs.Common.{◌≡◌, ◌++◌, map, ap, ◌∙◌, subst, IfOk, codes}
+use Rattle.std.proofs.Common.{◌++◌, map, ap, ◌∙◌, codes}
 use Rattle.serde_json.specs.View.{items_view}
-use Rattle.schemars_documents.specs.View.{template_view, keyword_view}
+use Rattle.schemars_documents.specs.View.{property_view}
 use Rattle.schemars_documents.specs.OfShape.{object_with, typed_template, properties_at, required_at, closed_keyword}
 use Rattle.schemars_documents.proofs.Templates.{in_order}
 use Rattle.schemars_documents.proofs.shape.maps.map_template.Goals as goal
 
 pub returns : goal.returns
 returns c =
-    let ps = properties_at (map keyword_view c.args.properties.items) in
+    let ps = properties_at (map property_view c.args.properties.items) in
     let rs = required_at (items_view c.args.required.items) in
     let cs = closed_keyword c.args.closed in
     let all = c.in_ok-add_closed.ensures
     ∙ (ap (λ es. es ++ cs)
     (c.in_ok-add_required.ensures ∙ ap (λ es. es ++ rs) (c.in_ok-add_properties.ensures ∙ ap (λ es. es ++ ps) c.in_ok-keywords.ensures))
     ∙ in_order (typed_template (codes "object")) ps rs cs) in
-    subst (λ es. IfOk c.object_with.result (λ t. template_view t ≡ object_with es)) all c.object_with.ensures
+    c.object_with.ensures ∙ ap object_with all

@@ -2,7 +2,7 @@ use Rattle.std.proofs.Common.{◌≡◌, ◌++◌, [], map, drop, ap, ◌∙◌,
 use Rattle.std.proofs.lemmas.List.{drop_all}
 use Rattle.serde_json.specs.Data.{string}
 use Rattle.serde_json.specs.View.{view}
-use Rattle.schemars_documents.specs.View.{keyword_view}
+use Rattle.schemars_documents.specs.View.{property_view}
 use Rattle.schemars_documents.proofs.Texts.{items_view-texts}
 use Rattle.schemars_documents.proofs.shape.maps.names.Goals as goal
 
@@ -12,7 +12,7 @@ returns c =
     let names = map view c.loop-property.names.items in
     let ended : drop c.loop-property.property-index properties
     ≡ [] = drop_all c.loop-property.property-index properties c.loop-property-test.false in
-    let all : names ≡ map string (map (λ e. e.0) (map keyword_view properties)) =
+    let all : names ≡ map string (map (λ e. e.0) (map property_view properties)) =
     sym (append-nil names)
-    ∙ (ap (λ es. names ++ map string (map (λ e. e.0) (map keyword_view es))) (sym ended) ∙ c.loop-property.invariant) in
-    items_view-texts c.loop-property.names.items (map (λ e. e.0) (map keyword_view properties)) all
+    ∙ (ap (λ es. names ++ map string (map (λ e. e.0) (map property_view es))) (sym ended) ∙ c.loop-property.invariant) in
+    items_view-texts c.loop-property.names.items (map (λ e. e.0) (map property_view properties)) all

@@ -1,13 +1,12 @@
 use Rattle.std.proofs.Common.{◌≡◌, ◌∙◌, ◌∷◌, ◌+◌, List, drop, map, ap, sym}
 use Rattle.std.proofs.lemmas.List.{drop_more}
 use Rattle.serde_json.specs.Data.{Data}
-use Rattle.serde_json.specs.View.{view}
 use Rattle.schemars_flatten.specs.Flatten.{flattened}
 use Rattle.schemars_documents.specs.Template.{Ask, finished, asked, with_keywords, filled, left, first, behind}
 use Rattle.schemars_documents.specs.View.{ask_of, with_answers}
 use Rattle.schemars_documents.specs.declared.template.Ask.TheVariants.{Part}
 use Rattle.schemars_documents.proofs.Answering.{answers_filled, answers_left}
-use Rattle.schemars_documents.proofs.template.with_members.Goals as goal
+use Rattle.schemars_documents.proofs.template.add_members.Goals as goal
 
 -- the first part joins, and the rest later
 joined : (d : Data) (a : Ask) (rest : List Ask) (ts : List Data)
@@ -22,12 +21,12 @@ pub loop-member-preserved : goal.loop-member-preserved
 loop-member-preserved c =
     let members = c.args.members.now in
     let i = c.loop-member._member-index in
-    let d = view c.loop-member.whole in
+    let d = c.loop-member.schema in
     let ts = c.loop-member.parts.items in
     let rest = map ask_of (drop (i + 1) members) in
     let asks = drop_more members i (Part 0) c.loop-member-test.true in
-    let whole : view c.in_ok-whole.whole ≡ flattened d (first ts) =
-    c.in_ok-whole.ensures ∙ ap (flattened d) c.next_part-part.ensures.value in
+    let whole : c.flatten.new.schema ≡ flattened d (first ts) =
+    c.in_ok-flatten.ensures.becomes ∙ ap (flattened d) c.next_part-part.ensures.value in
     let now = c.next_part-part.new.parts.items in
     record {
       value =
