@@ -21,7 +21,7 @@ use Rattle.schemars_flatten.specs.Opening.{opened_inside, stands_in_place}
 use Rattle.schemars_flatten.specs.Parts.{flattened_part}
 use Rattle.schemars_documents.specs.Documents.{reference}
 use Rattle.schemars_types.specs.declared.contract.Contract.{Contract}
-use Rattle.schemars_documents.specs.Template.{Template, Ask, part, members_of, content, asks_of, filled}
+use Rattle.schemars_documents.specs.Template.{Ask, part, members_of, content, asks_of, filled}
 use Rattle.schemars_documents.specs.View.{ask_of, template_view}
 use Rattle.schemars_documents.specs.Describes.{without_options, are_optional}
 use Rattle.schemars_documents.specs.OfShape.{entry_template}
