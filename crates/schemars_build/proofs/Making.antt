@@ -31,7 +31,8 @@ use Rattle.schemars_build.specs.Work.{Plan, Work, Step, GivesNames, undone, refe
 use Rattle.schemars_build.proofs.Given.{gives-keeps}
 use Rattle.schemars_build.specs.Reached.{AreReached}
 use Rattle.schemars_build.specs.Parts.{IsOwn, IsMade, IsPart, IsFilledIn, IsAnswer, AreAnswers}
-use Rattle.schemars_build.specs.Making.{Wanted, own, defined, flattened, asked, wanted_for, IsReply, IsBegun, IsTemplate, IsOpened, ComesFrom}
+use Rattle.schemars_build.specs.Making.{Wanted, own, defined, flattened, asked, wanted_for, IsReply, IsBegun, IsTemplate, IsTemplateAt, IsOpened}
+use Rattle.schemars_build.specs.Making.{ComesFrom}
 use Rattle.schemars_build.specs.Making.{IsInMaking, HasAnswered, IsNext, AreWaiting, Reply, answer, document, IsRepliedBy, IsGivenBack}
 use Rattle.schemars_build.specs.Making.{HasReplied, GoesOn, IsTaken, AreMaking, HasFirst}
 use Rattle.schemars_build.specs.Left.{document_rank, left_waiting, left_of_reply, left_making, left_of_turn, IsWithin, IsLess}
@@ -142,6 +143,12 @@ fresh plan outside old want mid start d template none leads begun =
       undone = refl;
       answers = subst P (sym none) (no_answers plan d.in_definition start);
     }
+
+pub opened_now : (plan : Plan) (d : Document) → d.row < length plan.rows → IsTemplateAt plan d.row d.template
+    → map ask_of d.asks.items ≡ asks_of (template_view d.template) → d.answers.items ≡ []
+    → IsOpened plan d.in_definition d.row d.purpose d
+opened_now plan d known t asks none =
+    (refl, refl, refl, none, record { known = known; entry = t.0; at = t.1; template = t.2; asks = asks ∙ ap asks_of t.2 })
 
 pub opened_reply : (plan : Plan) (outside inside : Bool) (old : Work) (want : Wanted) (mid start : Work) (n : ℕ) (p : Purpose)
     (d : Document)

@@ -21,9 +21,7 @@ pub fn result_template<'t>(
 ) -> Result<SchemaTemplate<'t>, AllocError>
     ensures { IfOk result (λ t. template_view t ≡ result_template ok err) }
 {
-    let mut results = Vec::new(alloc);
-    add_member(alloc, &mut results, "Ok", ok, false)?;
-    add_member(alloc, &mut results, "Err", err, false)?;
+    let results = two_members(alloc, ("Ok", ok), ("Err", err), false)?;
     one_of(alloc, results)
 }
 
@@ -31,9 +29,7 @@ pub fn result_template<'t>(
 pub fn bound_template<'t>(alloc: Global, n: TypeNo) -> Result<SchemaTemplate<'t>, AllocError>
     ensures { IfOk result (λ t. template_view t ≡ bound_template n) }
 {
-    let mut choices = Vec::new(alloc);
-    add_member(alloc, &mut choices, "Included", n, false)?;
-    add_member(alloc, &mut choices, "Excluded", n, false)?;
+    let mut choices = two_members(alloc, ("Included", n), ("Excluded", n), false)?;
     add_unit(alloc, &mut choices, "Unbounded")?;
     one_of(alloc, choices)
 }
@@ -46,26 +42,25 @@ pub fn either_template<'t>(
 ) -> Result<SchemaTemplate<'t>, AllocError>
     ensures { IfOk result (λ t. template_view t ≡ either_template left right) }
 {
-    let mut choices = Vec::new(alloc);
-    add_member(alloc, &mut choices, "Left", left, true)?;
-    add_member(alloc, &mut choices, "Right", right, true)?;
+    let choices = two_members(alloc, ("Left", left), ("Right", right), true)?;
     one_of(alloc, choices)
 }
 
-// Adds a map with a value of this row under this name.
-fn add_member<'t>(
+// Two maps, each with a value of a row under a name.
+fn two_members<'t>(
     alloc: Global,
-    choices: &mut Vec<SchemaTemplate<'t>>,
-    name: &'t str,
-    n: TypeNo,
+    first: (&'t str, TypeNo),
+    second: (&'t str, TypeNo),
     closed: bool,
-) -> Result<(), AllocError>
-    ensures { OnOk result (map template_view choices.new.items
-        ≡ map template_view choices.old.items ++ member_template closed name.now (row n) ∷ []) }
+) -> Result<Vec<SchemaTemplate<'t>>, AllocError>
+    ensures { IfOk result (λ v. map template_view v.items
+        ≡ member_template closed first.entry.0.now (row first.entry.1)
+        ∷ member_template closed second.entry.0.now (row second.entry.1) ∷ []) }
 {
-    let member = member_template(alloc, name, row(n), closed)?;
-    choices.push(member)?;
-    Ok(())
+    let first = member_template(alloc, first.0, row(first.1), closed)?;
+    let second = member_template(alloc, second.0, row(second.1), closed)?;
+    let members = vec![in alloc; first, second]?;
+    Ok(members)
 }
 
 // Adds this name alone.

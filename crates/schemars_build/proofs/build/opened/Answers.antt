@@ -1,15 +1,12 @@
 use Rattle.std.proofs.Common.{reverse, refl, ap, ◌∙◌}
 use Rattle.schemars_build.specs.Plans.{plan_of}
-use Rattle.schemars_build.specs.Making.{IsTemplate}
 use Rattle.schemars_build.specs.declared.build.Document.{Document}
-use Rattle.schemars_documents.specs.Template.{asks_of}
 use Rattle.schemars_build.proofs.Innermost.{reverse_added}
+use Rattle.schemars_build.proofs.Making.{opened_now}
 use Rattle.schemars_build.proofs.build.opened.Goals as goal
 
 pub returns : goal.returns
 returns c =
-    let plan = plan_of c.args.plan.now in
-    let t = c.in_ok-template.ensures in
     let d : Document = record {
       row = c.args.n;
       purpose = c.args.purpose;
@@ -17,15 +14,8 @@ returns c =
       template = c.in_ok-template.template;
       asks = c.in_ok-asks.asks;
       answers = c.in_ok-answers.answers;
-    } in
-    let template : IsTemplate plan d = record {
-      known = c.requires.known;
-      entry = t.0;
-      at = t.1;
-      template = t.2;
-      asks = c.in_ok-asks.ensures ∙ ap asks_of t.2;
     } in (
       d,
-      (refl, refl, refl, c.in_ok-answers.ensures.items, template),
+      opened_now (plan_of c.args.plan.now) d c.requires.known c.in_ok-template.ensures c.in_ok-asks.ensures c.in_ok-answers.ensures.items,
       (refl, ap reverse c.in_ok-push.ensures.items ∙ reverse_added c.args.making.now.items d),
     )

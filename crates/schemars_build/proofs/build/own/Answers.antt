@@ -1,12 +1,11 @@
 use Rattle.std.proofs.Common.{◌≡◌, ◌≤◌, length, reverse, refl, ap, ◌∙◌, arith, rules}
 use Rattle.schemars_build.specs.Plans.{plan_of}
-use Rattle.schemars_build.specs.Making.{own, IsTemplate, IsInMaking, IsOpened, answer, document}
+use Rattle.schemars_build.specs.Making.{own, IsInMaking, IsOpened, answer, document}
 use Rattle.schemars_build.specs.Left.{left_of_own_document}
 use Rattle.schemars_build.specs.declared.build.Document.{Document}
 use Rattle.schemars_build.specs.declared.build.Purpose.TheVariants as purpose
-use Rattle.schemars_documents.specs.Template.{asks_of}
 use Rattle.schemars_build.proofs.Innermost.{reverse_added}
-use Rattle.schemars_build.proofs.Making.{leads_at_once, opened_reply, filled_made, closes_own}
+use Rattle.schemars_build.proofs.Making.{leads_at_once, opened_now, opened_reply, filled_made, closes_own}
 use Rattle.schemars_build.proofs.Ending.{opened_within, own_within}
 use Rattle.schemars_build.proofs.build.own.Goals as goal
 
@@ -17,7 +16,6 @@ returns-clause-replies c =
     let old = c.args.work.now in
     let n = c.args.n in
     let p = purpose.Own c.in_ok-entered.entered in
-    let t = c.in_ok-template.ensures in
     let d : Document = record {
       row = n;
       purpose = p;
@@ -26,14 +24,8 @@ returns-clause-replies c =
       asks = c.in_ok-asks.asks;
       answers = c.in_ok-answers.answers;
     } in
-    let template : IsTemplate plan d = record {
-      known = c.requires.known;
-      entry = t.0;
-      at = t.1;
-      template = t.2;
-      asks = c.in_ok-asks.ensures ∙ ap asks_of t.2;
-    } in
-    let opened : IsOpened plan inside n p d = (refl, refl, refl, c.in_ok-answers.ensures.items, template) in
+    let opened : IsOpened plan inside n p d =
+    opened_now plan d c.requires.known c.in_ok-template.ensures c.in_ok-asks.ensures c.in_ok-answers.ensures.items in
     record {
       reply = document d;
       given = (refl, ap reverse c.in_ok-push.ensures.items ∙ reverse_added c.args.making.now.items d);
@@ -51,7 +43,6 @@ returns-then-is_empty-clause-replies c =
     let mid = c.enter.new.self in
     let n = c.args.n in
     let p = purpose.Own c.in_ok-entered.entered in
-    let t = c.in_ok-template.ensures in
     let d : Document = record {
       row = n;
       purpose = p;
@@ -60,17 +51,10 @@ returns-then-is_empty-clause-replies c =
       asks = c.in_ok-asks.asks;
       answers = c.new.result;
     } in
-    let template : IsTemplate plan d = record {
-      known = c.requires.known;
-      entry = t.0;
-      at = t.1;
-      template = t.2;
-      asks = c.in_ok-asks.ensures ∙ ap asks_of t.2;
-    } in
     let none : length d.asks.items ≡ 0 = search rules in
     let all : length d.asks.items ≤ length d.answers.items = omega (arith, none) in
     let h : IsInMaking plan inside old (own n) mid d = opened_reply plan inside inside old (own n) old mid n p d
-    (refl, refl, refl, c.new.ensures.items, template) (leads_at_once plan inside old (own n))
+    (opened_now plan d c.requires.known c.in_ok-template.ensures c.in_ok-asks.ensures c.new.ensures.items) (leads_at_once plan inside old (own n))
     (refl, c.in_ok-entered.ensures.is_new, c.in_ok-entered.ensures.ok) in
     let s = c.in_ok-schema.schema in
     let filled = filled_made plan inside old (own n) mid d h all s c.requires.checked c.in_ok-schema.ensures in
