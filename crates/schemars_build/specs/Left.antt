@@ -84,7 +84,7 @@ abbrev pub left_waiting : Plan → Work → List ℕ → List Document → ℕ
 left_waiting p w pending [] = 0
 left_waiting p w pending (d ∷ ds) = unanswered_in d * weight p w pending d + left_waiting p w (pending_around d.purpose pending) ds
 
--- with a document that goes on
+-- with a document that is continued
 abbrev pub left_going : Plan → Work → Document → List Document → ℕ
 left_going p w d ds = suc (unanswered_in d) * weight p w w.pending d + left_waiting p w (pending_around d.purpose w.pending) ds
 

@@ -77,7 +77,7 @@ IsBegun plan outside mid start n inside (purpose.Definition name entered) =
 IsBegun plan outside mid start n inside (purpose.Members optional) = (inside ≡ outside) × (start ≡ mid)
 IsBegun plan outside mid start n inside purpose.Content = (inside ≡ outside) × (start ≡ mid)
 
--- the template of a row, and what is asked in it
+-- the template of a row, and the rows that it asks for
 pub record IsTemplate (plan : Plan) (d : Document) : Type 0 where
   pub known : d.row < length plan.rows
   pub entry : Entry
@@ -121,7 +121,7 @@ pub record HasAnswered (old : Document) (s : Data) (new : Document) : Type 0 whe
 
 -- ---- what waits
 
--- d waits for an answer to what is wanted
+-- d waits for an answer to this request
 pub record IsNext (d : Document) (outside : Bool) (want : Wanted) : Type 0 where
   pub ask : Ask
   pub is : want ≡ asked ask
@@ -156,7 +156,7 @@ IsRepliedBy plan outside old want now (answer s) =
     × IsReply plan outside old now want s
 IsRepliedBy plan outside old want now (document d) = IsInMaking plan outside old want now d
 
--- a reply where documents wait: an answer is apart from them, and a document becomes the first of them
+-- a reply while documents wait: an answer is returned beside them, and a document becomes the first of them
 abbrev pub IsGivenBack : Reply → List Document → List Document → Option Data → Type 0
 IsGivenBack (answer s) ds es o = (o ≡ Some s) × (es ≡ ds)
 IsGivenBack (document d) ds es o = (o ≡ None) × (es ≡ d ∷ ds)
@@ -182,7 +182,7 @@ pub record GoesOn (plan : Plan) (first : Bool) (start : Work) (all : Wanted) (no
   pub waiting : AreWaiting plan first start all outside old want around
   pub replied : IsRepliedBy plan outside old want now reply
 
--- an answer goes to the first document, and where there is none it is left
+-- an answer is added to the first document; if there is none, it is returned
 abbrev pub IsTaken : List Document → Option Data → List Document → Option Data → Type 0
 IsTaken ds None es left = (left ≡ None) × (es ≡ ds)
 IsTaken [] (Some s) es left = left ≡ Some s

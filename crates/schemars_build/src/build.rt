@@ -59,7 +59,7 @@ enum Purpose {
     Content,
 }
 
-// A document in the making: its template, what is asked in it, and what has been answered.
+// A document in the making: its template, the rows that it asks for, and their answers so far.
 #[derive(Drop)]
 struct Document<'t> {
     row: TypeNo,
@@ -96,8 +96,8 @@ pub fn own_document(
     Ok(own)
 }
 
-/// What a row answers: its schema as a part, a schema of its members, or of what stands beside a
-/// tag.
+/// Returns the answer to a request: the row's schema as a part, a schema of its members, or a schema
+/// of the content beside a tag.
 pub fn answer(
     alloc: Global,
     plan: &Plan<'_>,
@@ -116,7 +116,7 @@ pub fn answer(
     Ok(answer)
 }
 
-// Makes what is asked. The documents that are being made are in a list, the innermost last: each
+// Answers the request. The documents that are being made are in a list, the innermost last: each
 // waits for the one after it, and no call waits in another call for it.
 fn made(
     alloc: Global,
@@ -194,7 +194,7 @@ fn resumed<'t>(
     }
 }
 
-// Replies to what is asked first.
+// Replies to the first request.
 fn begun<'t>(
     alloc: Global,
     plan: &Plan<'t>,
@@ -216,8 +216,8 @@ fn begun<'t>(
     }
 }
 
-// Replies to what is asked of a row: with an answer, or with a document that is added to those that
-// are being made.
+// Replies to a request for a row: with an answer, or with a document that is added to the list of
+// documents that are being made.
 fn reply_to<'t>(
     alloc: Global,
     plan: &Plan<'t>,

@@ -15,13 +15,13 @@ use Rattle.schemars_documents.specs.Template.{Template, Ask, part, members_of, c
 use Rattle.schemars_documents.specs.Basis.{Basis}
 use Rattle.schemars_documents.specs.OfShape.{entry_template}
 
--- an answer to each, where `Answers a s` says that s may be answered to a
+-- an answer to each request, where `Answers a s` says that s is an answer to a
 abbrev pub AreAnswered : (Ask → Data → Type 0) → List Ask → List Data → Type 0
 AreAnswered Answers [] ts = ts ≡ []
 AreAnswered Answers (a ∷ asks) [] = ⊥
 AreAnswered Answers (a ∷ asks) (t ∷ ts) = Answers a t × AreAnswered Answers asks ts
 
--- s is the template with these answers in it
+-- s is the template filled with these answers
 pub record Fills (Answers : Ask → Data → Type 0) (t : Template) (s : Data) : Type 0 where
   pub parts : List Data
   pub answered : AreAnswered Answers (asks_of t) parts
@@ -37,7 +37,7 @@ IsOwnDocument Answers basis (Some e) s = Fills Answers (entry_template basis e) 
 abbrev pub are_optional : List Row → ℕ → Bool → Bool
 are_optional rows n required = is_some (option_at rows n) && not required
 
--- what stands beside a tag: a document of its own, opened inside, or what is written for the row
+-- the content beside a tag: a document of its own, opened inside, or what is written for the row
 abbrev pub IsContent : Bool → (Data → Type 0) → (Data → Type 0) → Data → Type 0
 IsContent in_place Own Written s = (d : Data) × Own d
     × (((stands_in_place in_place d ≡ true) × (s ≡ opened_inside d)) ⊎ ((stands_in_place in_place d ≡ false) × Written s))

@@ -96,11 +96,11 @@ map_template properties required closed =
 abbrev pub fields_template : Contract → List Field → Bool → Template
 fields_template contract xs closed = map_template (map property xs) (text_items (required_names contract xs)) closed
 
--- what is asked of a flattened row
+-- the request for the members of a flattened row
 abbrev pub members_asked : Contract → Flattened → Ask
 members_asked contract p = members_of p.ty (is_required contract p.required)
 
--- the members of flattened rows join one after another
+-- the members of flattened rows are added one after another
 abbrev pub with_flattened : Contract → List Flattened → Template → Template
 with_flattened contract [] t = t
 with_flattened contract (p ∷ ps) t = with_flattened contract ps (with_keywords t (asked (members_asked contract p)))
@@ -110,7 +110,7 @@ struct_template contract x = with_flattened contract x.flatten (fields_template 
 
 -- ---- choices
 
--- just one of these
+-- exactly one of these
 abbrev pub one_of_template : List Template → Template
 one_of_template ts = object_with ((codes "oneOf", list (templates_of ts)) ∷ [])
 
@@ -163,7 +163,7 @@ other_items contract (x ∷ xs) =
 abbrev pub units_template : List Text → Template
 units_template ks = object_with (typed_template (codes "string") ∷ said (codes "enum") (array (text_items ks)) ∷ [])
 
--- the shared item stands first, and alone where there is no other
+-- the shared item comes first, and is the whole choice if there is no other
 abbrev pub choice_of : List Text → List Template → Template
 choice_of [] [] = finished (boolean false)
 choice_of [] (t ∷ ts) = one_of_template (t ∷ ts)
@@ -188,7 +188,7 @@ abbrev pub untagged_template : Contract → Bool → List Variant → Template
 untagged_template contract titles [] = finished (boolean false)
 untagged_template contract titles (x ∷ xs) = any_of_template (map (payload_item contract titles) (x ∷ xs))
 
--- what stands beside a tag; null where there is nothing
+-- the content beside a tag; null if there is nothing
 abbrev pub content_template : Contract → Payload → Template
 content_template contract no_payload = finished (type_alone (codes "null"))
 content_template contract (newtype_payload n) = asked (content n)
@@ -206,7 +206,7 @@ internal_template contract tag closed (x ∷ xs) = one_of_template (map (interna
 abbrev pub whole_template : List KeywordTemplate → Bool → Template
 whole_template properties closed = map_template properties (text_items (map (λ e. e.0) properties)) closed
 
--- what stands beside the name, under its key: nothing for a unit
+-- the content beside the name, under its key: nothing for a unit
 abbrev pub adjacent_payload : Contract → Text → Payload → List KeywordTemplate
 adjacent_payload contract key no_payload = []
 adjacent_payload contract key (newtype_payload n) = (key, row n) ∷ []

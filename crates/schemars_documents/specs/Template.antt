@@ -9,20 +9,20 @@ use Rattle.schemars_builders.specs.Properties.{internally_tagged_variant}
 use Rattle.schemars_flatten.specs.Flatten.{flattened}
 use Rattle.schemars_documents.specs.Documents.{Keyword, annotated}
 
--- what is asked of a row
+-- a request for a row
 pub data Ask : Type 0 where
   -- its schema
   part : ℕ → Ask
-  -- a schema of its members, which stand in another map, and whether they have to be there
+  -- a schema of its members as a part of another map, and whether they are required
   members_of : ℕ → Bool → Ask
-  -- a schema of what stands beside a tag
+  -- a schema of the content beside a tag
   content : ℕ → Ask
 
 mutual
   pub data Template : Type 0 where
     -- JSON without rows
     finished : Data → Template
-    -- what is asked of a row
+    -- a request for a row
     asked : Ask → Template
     list : Templates → Template
     -- an object with these keys, and a value for each
@@ -44,7 +44,7 @@ mutual
 abbrev pub row : ℕ → Template
 row n = asked (part n)
 
--- what is asked, in this order
+-- the requests, in the order of the text
 abbrev mutual
   pub asks_of : Template → List Ask
   asks_of (finished d) = []
@@ -60,7 +60,7 @@ abbrev mutual
   asks_in no_templates = []
   asks_in (template t es) = asks_of t ++ asks_in es
 
--- where a part is missing, `true` stands
+-- a missing part is `true`
 abbrev pub first : List Data → Data
 first [] = boolean true
 first (t ∷ ts) = t
@@ -91,7 +91,7 @@ keyed [] ds = []
 keyed (k ∷ ks) [] = []
 keyed (k ∷ ks) (d ∷ ds) = (k, d) ∷ keyed ks ds
 
--- the document with these parts in the places of what is asked
+-- the document with these parts in the places of the requests
 abbrev mutual
   pub filled : Template → List Data → Data
   filled (finished d) ts = d

@@ -17,7 +17,7 @@ ask_of (ask.Part n) = spec.part n
 ask_of (ask.MembersOf n required) = spec.members_of n required
 ask_of (ask.Content n) = spec.content n
 
--- the keywords of these answers are put in, one after another
+-- the keywords of these answers are added, one after another
 abbrev pub with_answers : Template → List spec.Ask → Template
 with_answers t [] = t
 with_answers t (a ∷ rest) = with_answers (spec.with_keywords t (spec.asked a)) rest

@@ -25,9 +25,9 @@ use std::collections::VecDeque;
 pub enum Ask {
     /// Its schema.
     Part(TypeNo),
-    /// A schema of its members, which stand in another map, and whether they have to be there.
+    /// A schema of its members as a part of another map, and whether they are required.
     MembersOf(TypeNo, bool),
-    /// A schema of what stands beside a tag.
+    /// A schema of the content beside a tag.
     Content(TypeNo),
 }
 
@@ -134,7 +134,7 @@ fn add_value_asks(template: &ValueTemplate<'_>, asks: &mut Vec<Ask>) -> Result<(
 }
 
 /// The schema with these parts in the places of the rows: the first part for the first row, and
-/// so on; where a part is missing, `true` stands.
+/// so on. A missing part is `true`.
 pub fn fill(
     alloc: Global,
     template: SchemaTemplate<'_>,

@@ -24,8 +24,8 @@ use schemars_types::{Contract, Payload, Variant};
 use serde_json::Value;
 use std::alloc::{AllocError, Global};
 
-/// The item of the units without notes, if there is one, and the others; it stands alone where
-/// there is no other.
+/// A choice of the shared item of units without notes, if there is one, and the other items. The
+/// shared item is the whole choice if there is no other.
 pub fn external_template<'t>(
     alloc: Global,
     contract: Contract,

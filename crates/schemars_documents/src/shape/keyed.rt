@@ -30,7 +30,7 @@ pub fn values_template<'t>(
     options_template(alloc, &options, value)
 }
 
-// A map with these keys; the pattern of integers stands before the others.
+// A map with these keys. The pattern of integers comes before the others.
 fn options_template<'t>(
     alloc: Global,
     options: &KeyOptions<'t>,

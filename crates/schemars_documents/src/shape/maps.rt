@@ -119,7 +119,7 @@ fn fields_template<'t>(
     map_template(alloc, properties, required, closed)
 }
 
-// The members of these rows join, one row after another.
+// Adds the members of these rows, one row after another.
 fn with_flattened<'t>(
     alloc: Global,
     contract: Contract,

@@ -73,7 +73,7 @@ fn internal_item<'t>(
     Ok(SchemaTemplate::Noted(&variant.notes, Box::new(alloc, tagged)?))
 }
 
-// What stands beside the tag.
+// The content beside the tag.
 fn content_template<'t>(
     alloc: Global,
     contract: Contract,
