@@ -31,8 +31,8 @@ use Rattle.schemars_build.specs.Work.{Plan, Work, Step, GivesNames, undone, refe
 use Rattle.schemars_build.proofs.Given.{gives-keeps}
 use Rattle.schemars_build.specs.Reached.{AreReached}
 use Rattle.schemars_build.specs.Parts.{IsOwn, IsMade, IsPart, IsFilledIn, IsAnswer, AreAnswers}
-use Rattle.schemars_build.specs.Making.{Wanted, own, defined, flattened, asked, wanted_for, IsReply, IsBegun, IsTemplate, IsTemplateAt, IsOpened}
-use Rattle.schemars_build.specs.Making.{ComesFrom}
+use Rattle.schemars_build.specs.Making.{Wanted, own, defined, flattened, asked, wanted_for, IsReply, IsBegun, IsTemplate}
+use Rattle.schemars_build.specs.Making.{IsTemplateAt, IsOpened, ComesFrom}
 use Rattle.schemars_build.specs.Making.{IsInMaking, HasAnswered, IsNext, AreWaiting, Reply, answer, document, IsRepliedBy, IsGivenBack}
 use Rattle.schemars_build.specs.Making.{HasReplied, GoesOn, IsTaken, AreMaking, HasFirst}
 use Rattle.schemars_build.specs.Left.{document_rank, left_waiting, left_of_reply, left_making, left_of_turn, IsWithin, IsLess}

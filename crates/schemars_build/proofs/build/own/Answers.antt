@@ -54,7 +54,8 @@ returns-then-is_empty-clause-replies c =
     let none : length d.asks.items ≡ 0 = search rules in
     let all : length d.asks.items ≤ length d.answers.items = omega (arith, none) in
     let h : IsInMaking plan inside old (own n) mid d = opened_reply plan inside inside old (own n) old mid n p d
-    (opened_now plan d c.requires.known c.in_ok-template.ensures c.in_ok-asks.ensures c.new.ensures.items) (leads_at_once plan inside old (own n))
+    (opened_now plan d c.requires.known c.in_ok-template.ensures c.in_ok-asks.ensures c.new.ensures.items)
+    (leads_at_once plan inside old (own n))
     (refl, c.in_ok-entered.ensures.is_new, c.in_ok-entered.ensures.ok) in
     let s = c.in_ok-schema.schema in
     let filled = filled_made plan inside old (own n) mid d h all s c.requires.checked c.in_ok-schema.ensures in
