@@ -3,8 +3,6 @@ pub mod Reading
 pub mod Written
 pub mod LibraryShapes
 mod Examples
-mod BorrowedMembers
-mod BorrowedReading
 mod WrittenExamples
 mod Samples
 mod SampleJson

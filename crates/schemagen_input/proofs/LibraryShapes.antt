@@ -8,7 +8,8 @@ use Rattle.serde_json.specs.Find.{as_array, get}
 use Rattle.schemars_schema.specs.Json.{Text}
 use Rattle.schemars_shapes.specs.Shape.{Payload, no_payload, newtype_payload, tuple_payload, struct_payload, Variant, Entry, internal}
 use Rattle.schemars_types.specs.Rows.{Row, with_entry}
-use Rattle.schemagen_input.specs.Forms.{variant_in, variant_inside, payload_inside, internals_in, internals_said, internal_in, lone_in}
+use Rattle.schemagen_json.specs.Members.{lone_in}
+use Rattle.schemagen_input.specs.Forms.{variant_in, variant_inside, payload_inside, internals_in, internals_said, internal_in}
 use Rattle.schemagen_input.specs.Forms.{needed_member, adjacent_in}
 use Rattle.schemagen_input.specs.Input.{shape_named, shape_under, plain_under, list_under, fixed_under, literal_in, shape_in}
 use Rattle.schemagen_input.specs.Input.{entry_in, heading_in, row_in, rows_in}

@@ -5,21 +5,13 @@ use Rattle.std.specs.Option.{option_map_or}
 use Rattle.serde_json.specs.Data.{Data, null, boolean, number, string, array, object, Items, no_items, item, Members, no_members, member}
 use Rattle.serde_json.specs.Find.{get, as_bool, as_number, as_str, as_array, as_object, as_u64}
 use Rattle.schemars_schema.specs.Json.{Text}
-use Rattle.schemars_schema.specs.OrderedText.{is_listed}
+use Rattle.schemagen_json.specs.Members.{has_only, lone_in}
 use Rattle.schemars_shapes.specs.declared.shape.IntKind.{IntKind}
 use Rattle.schemars_shapes.specs.declared.shape.IntKind.TheVariants.{I8, I16, I32, I64, I128, Isize, U8, U16, U32, U64, U128, Usize}
 use Rattle.schemars_shapes.specs.Shape.{Required, Field, Flattened, Fields, Payload, Variant, Shape, no_payload, newtype_payload, tuple_payload}
 use Rattle.schemars_shapes.specs.Shape.{struct_payload, struct, external, untagged, internal, adjacent}
 
 -- ---- the members of an object
-
-abbrev pub are_listed : List Text → Members → Bool
-are_listed names no_members = true
-are_listed names (member k d ms) = is_listed k names && are_listed names ms
-
--- an object whose members all have one of these names
-abbrev pub has_only : List Text → Data → Bool
-has_only names d = option_map_or (are_listed names) (as_object d) false
 
 -- what a member says that has to be there
 abbrev pub needed_member : {T : Type 0} → (Data → Option T) → Text → Data → Option T
@@ -28,12 +20,6 @@ needed_member says name d = option_and_then says (get name d)
 -- what a member says, or this where it is missing
 abbrev pub optional_member : {T : Type 0} → T → (Data → Option T) → Text → Data → Option T
 optional_member missing says name d = option_map_or says (get name d) (Some missing)
-
--- the name and the value of a member that stands alone
-abbrev pub lone_in : Members → Option (Text × Data)
-lone_in no_members = None
-lone_in (member k d no_members) = Some (k, d)
-lone_in (member k d (member l e ms)) = None
 
 -- ---- the parts of a row
 

@@ -13,7 +13,8 @@ use Rattle.schemars_shapes.specs.Shape.{option, seq, set, array as array_shape, 
 use Rattle.schemars_shapes.specs.Shape.{result, bound, range, literal}
 use Rattle.schemars_schema.specs.Lookup.{schema_only}
 use Rattle.schemars_types.specs.Rows.{Row, with_entry}
-use Rattle.schemagen_input.specs.Forms.{has_only, needed_member, optional_member, lone_in, number_in, notes_in, kind_in, struct_in, parts_from}
+use Rattle.schemagen_json.specs.Members.{has_only, lone_in}
+use Rattle.schemagen_input.specs.Forms.{needed_member, optional_member, number_in, notes_in, kind_in, struct_in, parts_from}
 use Rattle.schemagen_input.specs.Forms.{external_in, untagged_in, internal_in, adjacent_in}
 
 -- ---- shapes

@@ -1,6 +1,6 @@
 //! Fields of structs.
 ghost use Rattle.std.specs.Prelude.{◌≡◌, true, None, Some, IfOk, IfErr, option_map, map, codes};
-ghost use Rattle.schemagen_input.specs.BorrowedValue.{data_of, items_data};
+ghost use Rattle.schemagen_json.specs.BorrowedValue.{data_of, items_data};
 ghost use Rattle.schemars_shapes.specs.Shape.{shape_of, field_of, flattened_of, fields_of};
 ghost use Rattle.schemars_shapes.specs.Shape.{required_of};
 ghost use Rattle.schemagen_input.specs.Forms.{required, required_each, required_in, field_in};
@@ -8,9 +8,9 @@ ghost use Rattle.schemagen_input.specs.Forms.{fields_in, list_in, fields_said, s
 ghost use Rattle.schemagen_input.specs.Forms.{optional_member, flattened_from, all_flattened_in};
 ghost use Rattle.schemagen_input.specs.Forms.{flatten_in};
 
-use crate::borrowed_value::BorrowedValue;
 use crate::error::InputError;
-use crate::members::{flag_in, has_only, notes_in, number_of, text_in};
+use crate::members::{flag_in, notes_in, number_of, text_in};
+use schemagen_json::BorrowedValue;
 use schemars_types::{Field, Fields, Flattened, Required, Shape};
 use std::alloc::Global;
 
@@ -18,7 +18,7 @@ use std::alloc::Global;
 fn required_each(value: &BorrowedValue<'_>) -> Option<Required>
     ensures { option_map required_of result ≡ required_each (data_of value.now) }
 {
-    if !has_only(value, &["deserialize", "serialize"]) {
+    if !value.has_only(&["deserialize", "serialize"]) {
         return None;
     }
     let deserialize = value.get("deserialize")?.as_bool()?;
@@ -62,7 +62,7 @@ fn field_in(alloc: Global, value: &BorrowedValue<'_>) -> Result<Field, InputErro
     ensures bad { IfErr result
         (λ e. e ≡ InputError.BadTable → field_in (data_of value.now) ≡ None) }
 {
-    if !has_only(value, &FIELD_NAMES) {
+    if !value.has_only(&FIELD_NAMES) {
         return Err(InputError::BadTable);
     }
     let (Some(name), Some(ty), Some(required)) = (
@@ -113,7 +113,7 @@ fn list_in(alloc: Global, value: &BorrowedValue<'_>) -> Result<Vec<Field>, Input
 fn flattened_in(value: &BorrowedValue<'_>) -> Option<Flattened>
     ensures { option_map flattened_of result ≡ flattened_from (data_of value.now) }
 {
-    if !has_only(value, &["type", "required"]) {
+    if !value.has_only(&["type", "required"]) {
         return None;
     }
     let ty = number_of(value, "type")?;
@@ -162,7 +162,7 @@ pub fn fields_said(alloc: Global, value: &BorrowedValue<'_>) -> Result<Fields, I
     ensures bad { IfErr result (λ e. e ≡ InputError.BadTable
         → fields_said (data_of value.now) ≡ None) }
 {
-    if !has_only(value, &["fields", "flatten", "closed"]) {
+    if !value.has_only(&["fields", "flatten", "closed"]) {
         return Err(InputError::BadTable);
     }
     let Some(closed) = flag_in(value, "closed") else {

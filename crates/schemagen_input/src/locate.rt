@@ -1,6 +1,6 @@
 //! Where a value is no table, and why.
 ghost use Rattle.std.specs.Prelude.{◌≡◌, None, IfOk, IsSome, MatchOption, string_bytes};
-ghost use Rattle.schemagen_input.specs.BorrowedValue.{data_of};
+ghost use Rattle.schemagen_json.specs.BorrowedValue.{data_of};
 ghost use Rattle.serde_json.specs.Find.{pointer as points_to};
 ghost use Rattle.schemagen_input.specs.Input.{table_in};
 
@@ -9,11 +9,11 @@ mod members;
 mod rows;
 mod stop;
 
-use crate::borrowed_value::BorrowedValue;
 use crate::error::InputError;
 use crate::input::read_input;
 use crate::locate::rows::check_table;
 use crate::locate::stop::Stop;
+use schemagen_json::BorrowedValue;
 use std::alloc::{AllocError, Global};
 
 /// Where a value is no table, and why.

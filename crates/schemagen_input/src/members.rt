@@ -1,54 +1,17 @@
 //! The members of objects, and what single values say.
 ghost use Rattle.std.specs.Prelude.{◌≡◌, false, None, Some, IfOk, IfErr, option_map};
-ghost use Rattle.std.specs.Prelude.{map};
 ghost use Rattle.serde_json.specs.View.{members_view};
-ghost use Rattle.schemagen_input.specs.BorrowedValue.{data_of, items_data, members_data};
-ghost use Rattle.schemars_schema.specs.OrderedText.{is_listed};
-ghost use Rattle.schemagen_input.specs.Forms.{has_only, lone_in, number_in, notes_in, kind_named};
+ghost use Rattle.schemagen_json.specs.BorrowedValue.{data_of, items_data};
+ghost use Rattle.schemagen_input.specs.Forms.{number_in, notes_in, kind_named};
 ghost use Rattle.schemagen_input.specs.Forms.{kind_in, parts_from, numbers_in};
 ghost use Rattle.schemagen_input.specs.Forms.{optional_member, needed_member};
 ghost use Rattle.serde_json.specs.Find.{as_bool, as_str};
 
-use crate::borrowed_value::{BorrowedValue, copy_members};
 use crate::error::InputError;
-use schemars_schema::edits::is_listed;
+use schemagen_json::{BorrowedValue, copy_members};
 use schemars_types::{IntKind, TypeNo};
 use serde_json::{Map, Value};
 use std::alloc::{AllocError, Global};
-
-/// Whether the value is an object whose members all have one of these names.
-pub fn has_only(value: &BorrowedValue<'_>, names: &[&str]) -> bool
-    ensures { result ≡ has_only (map (λ n. n.now) names.now) (data_of value.now) }
-{
-    let Some(members) = value.as_object() else {
-        return false;
-    };
-    for (name, _) in members {
-        if !is_listed(name, names) {
-            return false;
-        }
-    }
-    true
-}
-
-/// The name of all members of an object that has one alone, and what it says.
-pub fn lone_member<'v, 'a>(
-    members: &'v Vec<(&'a str, BorrowedValue<'a>)>,
-) -> Option<(&'a str, &'v BorrowedValue<'a>)>
-    ensures { option_map (λ m. (m.0.now, data_of m.1.now)) result
-        ≡ lone_in (members_data members.now.items) }
-{
-    if members.is_empty() {
-        return None;
-    }
-    let (name, last) = &members[members.len() - 1];
-    for (other, _) in members {
-        if other != name {
-            return None;
-        }
-    }
-    Some((*name, last))
-}
 
 /// A number of a row.
 pub fn number_in(value: &BorrowedValue<'_>) -> Option<TypeNo>

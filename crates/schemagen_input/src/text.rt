@@ -1,13 +1,13 @@
 //! The table that a text says.
 ghost use Rattle.std.specs.Prelude.{◌≡◌, ◌≢◌, true, None, Some, Err, IfOk};
-ghost use Rattle.schemagen_input.specs.BorrowedValue.{data_of};
+ghost use Rattle.schemagen_json.specs.BorrowedValue.{data_of};
 ghost use Rattle.schemagen_input.specs.Input.{is_table, input_of};
 ghost use Rattle.schemagen_input.specs.Texts.{IsTableText, IsNoJson, IsBadTable};
 
-use crate::borrowed_value::{BorrowedValue, ParseError};
 use crate::error::InputError;
 use crate::input::read_input;
 use json::Scratch;
+use schemagen_json::{BorrowedValue, ParseError};
 use schemars_types::{TypeNo, Types};
 use std::alloc::Global;
 

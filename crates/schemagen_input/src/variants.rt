@@ -1,7 +1,7 @@
 //! Variants of enums.
 ghost use Rattle.std.specs.Prelude.{◌≡◌, None, Some, IfOk, IfErr, option_map, option_and_then, map};
 ghost use Rattle.std.specs.Prelude.{codes};
-ghost use Rattle.schemagen_input.specs.BorrowedValue.{data_of, items_data};
+ghost use Rattle.schemagen_json.specs.BorrowedValue.{data_of, items_data};
 ghost use Rattle.schemars_shapes.specs.Shape.{shape_of, no_payload, payload_of, variant_of};
 ghost use Rattle.schemars_shapes.specs.Shape.{internal_payload_of, internal_variant_of};
 ghost use Rattle.schemagen_input.specs.Forms.{payload_named, payload_under, payload_in, variant_in};
@@ -10,10 +10,10 @@ ghost use Rattle.schemagen_input.specs.Forms.{enum_in, external_in, untagged_in}
 ghost use Rattle.schemagen_input.specs.Forms.{payload_inside, variant_inside, internals_in};
 ghost use Rattle.schemagen_input.specs.Forms.{internals_said, internal_in, optional_member};
 
-use crate::borrowed_value::BorrowedValue;
 use crate::error::InputError;
 use crate::fields::fields_said;
-use crate::members::{flag_in, has_only, lone_member, notes_in, number_in, parts_in, text_in};
+use crate::members::{flag_in, notes_in, number_in, parts_in, text_in};
+use schemagen_json::{BorrowedValue, lone_member};
 use schemars_types::{
     Adjacent, Internal, InternalPayload, InternalVariant, Payload, Shape, Variant,
 };
@@ -94,7 +94,7 @@ fn variant_in(alloc: Global, value: &BorrowedValue<'_>) -> Result<Variant, Input
     ensures bad { IfErr result
         (λ e. e ≡ InputError.BadTable → variant_in (data_of value.now) ≡ None) }
 {
-    if !has_only(value, &VARIANT_KEYS) {
+    if !value.has_only(&VARIANT_KEYS) {
         return Err(InputError::BadTable);
     }
     let Some(name) = text_in(value, "name") else {
@@ -145,7 +145,7 @@ fn enum_in(alloc: Global, value: &BorrowedValue<'_>) -> Result<Vec<Variant>, Inp
     ensures ok { IfOk result (λ v. enum_in (data_of value.now) ≡ Some (map variant_of v.items)) }
     ensures bad { IfErr result (λ e. e ≡ InputError.BadTable → enum_in (data_of value.now) ≡ None) }
 {
-    if !has_only(value, &["variants"]) {
+    if !value.has_only(&["variants"]) {
         return Err(InputError::BadTable);
     }
     variants_said(alloc, value)
@@ -255,7 +255,7 @@ pub fn internal_in(alloc: Global, value: &BorrowedValue<'_>) -> Result<Shape, In
     ensures bad { IfErr result (λ e. e ≡ InputError.BadTable
         → internal_in (data_of value.now) ≡ None) }
 {
-    if !has_only(value, &["tag", "closed", "variants"]) {
+    if !value.has_only(&["tag", "closed", "variants"]) {
         return Err(InputError::BadTable);
     }
     let (Some(tag), Some(closed)) = (text_in(value, "tag"), flag_in(value, "closed")) else {
@@ -278,7 +278,7 @@ pub fn adjacent_in(alloc: Global, value: &BorrowedValue<'_>) -> Result<Shape, In
     ensures bad { IfErr result (λ e. e ≡ InputError.BadTable
         → adjacent_in (data_of value.now) ≡ None) }
 {
-    if !has_only(value, &ADJACENT_KEYS) {
+    if !value.has_only(&ADJACENT_KEYS) {
         return Err(InputError::BadTable);
     }
     let (Some(tag), Some(content)) = (text_in(value, "tag"), text_in(value, "content")) else {

@@ -1,6 +1,6 @@
 -- The rows so far, and then those that the rest says.
 use Rattle.std.proofs.Common.{◌≡◌, ◌++◌, drop, map, option_map}
-use Rattle.schemagen_input.specs.BorrowedValue.{items_data}
+use Rattle.schemagen_json.specs.BorrowedValue.{items_data}
 use Rattle.schemars_shapes.specs.Shape.{flattened_of}
 use Rattle.schemagen_input.specs.Forms.{all_flattened_in}
 use Rattle.schemagen_input.proofs.fields.all_flattened_in.Given as goal

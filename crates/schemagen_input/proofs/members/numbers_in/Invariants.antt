@@ -1,6 +1,6 @@
 -- The numbers so far, and then those that the rest says.
 use Rattle.std.proofs.Common.{◌≡◌, ◌++◌, drop, option_map}
-use Rattle.schemagen_input.specs.BorrowedValue.{items_data}
+use Rattle.schemagen_json.specs.BorrowedValue.{items_data}
 use Rattle.schemagen_input.specs.Forms.{numbers_in}
 use Rattle.schemagen_input.proofs.members.numbers_in.Given as goal
 
