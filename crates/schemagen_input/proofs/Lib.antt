@@ -1,4 +1,5 @@
 -- The lemmas of the proofs.
+mod Lists
 pub mod Reading
 pub mod Written
 pub mod LibraryShapes

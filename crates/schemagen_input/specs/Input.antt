@@ -3,7 +3,7 @@ use Rattle.std.specs.Prelude.{ℕ, List, [], ◌∷◌, Bool, true, false, ◌&&
 use Rattle.std.specs.Prelude.{option_map, option_and_then, if◌then◌else◌, bytes_eq, codes}
 use Rattle.std.specs.List.{list_all, list_any}
 use Rattle.std.specs.Option.{option_map_or}
-use Rattle.serde_json.specs.Data.{Data, null, boolean, number, string, array, object, Items, no_items, item}
+use Rattle.serde_json.specs.Data.{Data, Items}
 use Rattle.serde_json.specs.Find.{as_bool, as_str, as_array}
 use Rattle.schemars_schema.specs.Json.{Text}
 use Rattle.schemars_shapes.specs.Shape.{Shape, Entry, numbers_of, either, map_from}
@@ -13,8 +13,9 @@ use Rattle.schemars_shapes.specs.Shape.{option, seq, set, array as array_shape, 
 use Rattle.schemars_shapes.specs.Shape.{result, bound, range, literal}
 use Rattle.schemars_schema.specs.Lookup.{schema_only}
 use Rattle.schemars_types.specs.Rows.{Row, with_entry}
-use Rattle.schemagen_json.specs.Members.{has_only, lone_in}
-use Rattle.schemagen_input.specs.Forms.{needed_member, optional_member, number_in, notes_in, kind_in, struct_in, parts_from}
+use Rattle.schemagen_json.specs.Members.{has_only}
+use Rattle.schemagen_input.specs.Forms.{needed_member, optional_member, read_each, externally_tagged, number_in, notes_in, kind_in}
+use Rattle.schemagen_input.specs.Forms.{struct_in, parts_from}
 use Rattle.schemagen_input.specs.Forms.{external_in, untagged_in, internal_in, adjacent_in}
 
 -- ---- shapes
@@ -99,12 +100,7 @@ shape_under name d =
     else (if bytes_eq name (codes "adjacent") then adjacent_in d else plain_under name d))))
 
 abbrev pub shape_in : Data → Option Shape
-shape_in null = None
-shape_in (boolean b) = None
-shape_in (number n) = None
-shape_in (string t) = shape_named t
-shape_in (array ds) = None
-shape_in (object ms) = option_and_then (λ m. shape_under m.0 m.1) (lone_in ms)
+shape_in d = externally_tagged shape_named shape_under d
 
 -- ---- rows
 
@@ -133,8 +129,7 @@ abbrev pub row_in : Data → Option Row
 row_in d = option_and_then (λ r. option_map (λ e. with_entry e r) (entry_in d)) (heading_in d)
 
 abbrev pub rows_in : Items → Option (List Row)
-rows_in no_items = Some []
-rows_in (item d ds) = option_and_then (λ r. option_map (λ rs. r ∷ rs) (rows_in ds)) (row_in d)
+rows_in ds = read_each row_in ds
 
 -- ---- tables
 

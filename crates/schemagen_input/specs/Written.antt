@@ -68,14 +68,15 @@ variant_json x =
 abbrev pub variants_json : List Variant → Data
 variants_json xs = with_one_member (codes "variants") (list_of variant_json xs)
 
+-- the members of an enum behind the names of its tags
+abbrev pub tagged_members : Bool → List Variant → List (Text × Data)
+tagged_members closed xs = (codes "closed", boolean closed) ∷ (codes "variants", list_of variant_json xs) ∷ []
+
 abbrev pub internal_json : Text → Bool → List Variant → Data
-internal_json tag closed xs =
-    object_of ((codes "tag", string tag) ∷ (codes "closed", boolean closed) ∷ (codes "variants", list_of variant_json xs) ∷ [])
+internal_json tag closed xs = object_of ((codes "tag", string tag) ∷ tagged_members closed xs)
 
 abbrev pub adjacent_json : Text → Text → Bool → List Variant → Data
-adjacent_json tag content closed xs =
-    object_of ((codes "tag", string tag) ∷ (codes "content", string content) ∷ (codes "closed", boolean closed)
-    ∷ (codes "variants", list_of variant_json xs) ∷ [])
+adjacent_json tag content closed xs = object_of ((codes "tag", string tag) ∷ (codes "content", string content) ∷ tagged_members closed xs)
 
 -- ---- shapes
 

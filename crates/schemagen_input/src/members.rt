@@ -1,9 +1,10 @@
 //! The members of objects, and what single values say.
 ghost use Rattle.std.specs.Prelude.{◌≡◌, false, None, Some, IfOk, IfErr, option_map};
+ghost use Rattle.serde_json.specs.Data.{no_items};
 ghost use Rattle.serde_json.specs.View.{members_view};
 ghost use Rattle.schemagen_json.specs.BorrowedValue.{data_of, items_data};
 ghost use Rattle.schemagen_input.specs.Forms.{number_in, notes_in, kind_named};
-ghost use Rattle.schemagen_input.specs.Forms.{kind_in, parts_from, numbers_in};
+ghost use Rattle.schemagen_input.specs.Forms.{kind_in, parts_from, read_each, items_under};
 ghost use Rattle.schemagen_input.specs.Forms.{optional_member, needed_member};
 ghost use Rattle.serde_json.specs.Find.{as_bool, as_str};
 
@@ -12,6 +13,25 @@ use schemagen_json::{BorrowedValue, copy_members};
 use schemars_types::{IntKind, TypeNo};
 use serde_json::{Map, Value};
 use std::alloc::{AllocError, Global};
+
+fn no_items<'v, 'a>() -> &'v [BorrowedValue<'a>]
+    ensures { items_data result.now ≡ no_items }
+{
+    &[]
+}
+
+/// The items of the list under this key: none where it is missing.
+pub fn items_under<'v, 'a>(
+    value: &'v BorrowedValue<'a>,
+    key: &str,
+) -> Option<&'v [BorrowedValue<'a>]>
+    ensures { option_map (λ v. items_data v.now) result ≡ items_under key.now (data_of value.now) }
+{
+    let Some(list) = value.get(key) else {
+        return Some(no_items::<'v, 'a>());
+    };
+    Some(list.as_array()?)
+}
 
 /// A number of a row.
 pub fn number_in(value: &BorrowedValue<'_>) -> Option<TypeNo>
@@ -25,7 +45,8 @@ fn numbers_in(
     alloc: Global,
     values: &[BorrowedValue<'_>],
 ) -> Result<Option<Vec<TypeNo>>, AllocError>
-    ensures { IfOk result (λ r. option_map (λ v. v.items) r ≡ numbers_in (items_data values.now)) }
+    ensures { IfOk result (λ r. option_map (λ v. v.items) r
+        ≡ read_each number_in (items_data values.now)) }
 {
     let mut numbers = Vec::new(alloc);
     for value in values {
