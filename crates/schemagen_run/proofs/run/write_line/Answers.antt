@@ -1,4 +1,4 @@
--- The document's line has its text, and a refusal of the generator is told by its number.
+-- The line has the text of what is written, and a refusal of the generator is told by its number.
 use Rattle.std.proofs.Common.{◌≡◌, refl, inl, inr}
 use Rattle.std.proofs.lemmas.Result.{IfErr-weaker}
 use Rattle.schemars_generate.specs.Refusals.{code_of}
@@ -8,15 +8,15 @@ use Rattle.schemagen_run.specs.Run.{IsLineRefusal}
 use Rattle.schemagen_run.proofs.Results.{passed_on, err_passed}
 use Rattle.schemagen_run.proofs.Runs.{line_refused}
 use Rattle.schemagen_run.proofs.Writing.{weaker, refused_line}
-use Rattle.schemagen_run.proofs.run.write_document.Goals as goal
+use Rattle.schemagen_run.proofs.run.write_line.Goals as goal
 
-pub returns-in_err-document : goal.returns-in_err-document
-returns-in_err-document g c =
-    let e = c.in_err-document.field-0.0 in
+pub returns-in_err-output : goal.returns-in_err-output
+returns-in_err-output g c =
+    let e = c.in_err-output.field-0.0 in
     let r = c.from_residual.result in
     let passed = c.from_residual.ensures.1 in
     let why : (f : Fault) → f ≡ Refused (code_of e) → IsLineRefusal c.args.asked c.args.types c.args.root f =
-    λ f same. line_refused c.args.asked c.args.types c.args.root e f c.in_err-document.ensures.refused same in
+    λ f same. line_refused c.args.asked c.args.types c.args.root e f c.in_err-output.ensures.refused same in
     record {
       written = refused_line _ _ _ r (Refused (code_of e)) _ _ (passed_on r (Refused (code_of e)) passed) (why _ refl) refl;
       refused = err_passed r passed (λ f same. inr (why f same));
@@ -24,7 +24,7 @@ returns-in_err-document g c =
 
 pub returns : goal.returns
 returns g c = record {
-  written = weaker _ _ c.write_text-answer.result _ _ (λ line of. (c.in_ok-document.ensures.accepted, (_, c.in_ok-document.ensures.ok, of)))
-      c.write_text-answer.ensures.written;
-  refused = IfErr-weaker c.write_text-answer.result _ _ (λ e told. inl told) c.write_text-answer.ensures.fault;
+  written = weaker _ _ c.write_output-answer.result _ _ (λ line of. (c.in_ok-output.ensures.accepted, c.in_ok-output.ensures.ok line of))
+      c.write_output-answer.ensures.written;
+  refused = IfErr-weaker c.write_output-answer.result _ _ (λ e told. inl told) c.write_output-answer.ensures.fault;
 }
