@@ -1,10 +1,9 @@
 -- The lemmas of the proofs.
+mod Lists
 pub mod Reading
 pub mod Written
 pub mod LibraryShapes
 mod Examples
-mod BorrowedMembers
-mod BorrowedReading
 mod WrittenExamples
 mod Samples
 mod SampleJson

@@ -4,12 +4,14 @@ use Rattle.std.proofs.Common.{cond, codes, refl, subst}
 use Rattle.std.specs.List.{list_all}
 use Rattle.std.specs.Option.{option_map_or}
 use Rattle.serde_json.specs.Data.{Data, null, boolean, number, string, array, object, Items, no_items, item, Members}
-use Rattle.serde_json.specs.Find.{as_array, get}
+use Rattle.serde_json.specs.Find.{get}
 use Rattle.schemars_schema.specs.Json.{Text}
 use Rattle.schemars_shapes.specs.Shape.{Payload, no_payload, newtype_payload, tuple_payload, struct_payload, Variant, Entry, internal}
 use Rattle.schemars_types.specs.Rows.{Row, with_entry}
-use Rattle.schemagen_input.specs.Forms.{variant_in, variant_inside, payload_inside, internals_in, internals_said, internal_in, lone_in}
-use Rattle.schemagen_input.specs.Forms.{needed_member, adjacent_in}
+use Rattle.schemagen_json.specs.Members.{lone_in}
+use Rattle.schemagen_input.specs.Forms.{read_each, items_under, variant_in, variant_inside, payload_inside}
+use Rattle.schemagen_input.specs.Forms.{internal_variant_in, internals_in}
+use Rattle.schemagen_input.specs.Forms.{needed_member, internal_in, adjacent_in}
 use Rattle.schemagen_input.specs.Input.{shape_named, shape_under, plain_under, list_under, fixed_under, literal_in, shape_in}
 use Rattle.schemagen_input.specs.Input.{entry_in, heading_in, row_in, rows_in}
 use Rattle.schemagen_input.specs.Written.{is_library_shape, has_library_shape}
@@ -54,6 +56,14 @@ then_keeps : {A B : Type 0} (q : A → Bool) (p : B → Bool) (f : A → Option 
 then_keeps q p f None h k = none_passes p
 then_keeps q p f (Some a) h k = h a k.holds
 
+-- what each item of a list says passes
+each_passes : {A : Type 0} (p : A → Bool) (says : Data → Option A) → ((d : Data) → Passes p (says d)) → (ds : Items)
+    → Passes (list_all p) (read_each says ds)
+each_passes p says h no_items = some_passes (list_all p) [] refl
+each_passes p says h (item d ds) =
+    then_keeps p (list_all p) (λ x. option_map (λ xs. x ∷ xs) (read_each says ds)) (says d)
+    (λ x one. cons_passes p x (read_each says ds) one (each_passes p says h ds)) (h d)
+
 -- ---- variants beside a tag
 
 abbrev is_inside : Variant → Bool
@@ -68,29 +78,22 @@ variant_passes x = by x.payload
     by (tuple_payload ns) = none_passes is_inside
     by (struct_payload fields) = some_passes is_inside _ refl
 
-internals_pass : (ds : Items) → Passes (list_all is_inside) (internals_in ds)
-internals_pass no_items = some_passes (list_all is_inside) [] refl
-internals_pass (item d ds) =
-    then_keeps is_inside (list_all is_inside) (λ x. option_map (λ xs. x ∷ xs) (internals_in ds))
-    (option_and_then variant_inside (variant_in d)) (λ x one. cons_passes is_inside x (internals_in ds) one (internals_pass ds))
-    (then_passes is_inside variant_inside (variant_in d) variant_passes)
+internal_variant_passes : (d : Data) → Passes is_inside (internal_variant_in d)
+internal_variant_passes d = then_passes is_inside variant_inside (variant_in d) variant_passes
 
--- none are missing
-said_pass : (d : Data) → Passes (list_all is_inside) (internals_said d)
-said_pass d = by (get (codes "variants") d)
-  where
-    by : (o : Option Data) → Passes (list_all is_inside) (option_map_or (λ e. option_and_then internals_in (as_array e)) o (Some []))
-    by None = some_passes (list_all is_inside) [] refl
-    by (Some e) = then_passes (list_all is_inside) internals_in (as_array e) internals_pass
+said_pass : (d : Data) → Passes (list_all is_inside) (internals_in d)
+said_pass d =
+    then_passes (list_all is_inside) (read_each internal_variant_in) (items_under (codes "variants") d)
+    (each_passes is_inside internal_variant_in internal_variant_passes)
 
 -- ---- shapes
 
 internal_passes : (d : Data) → Passes is_library_shape (internal_in d)
 internal_passes d = search (either_passes, then_passes, none_passes, inside)
   where
-    inside : (tag : Text) (closed : Bool) → Passes is_library_shape (option_map (internal tag closed) (internals_said d))
+    inside : (tag : Text) (closed : Bool) → Passes is_library_shape (option_map (internal tag closed) (internals_in d))
     inside tag closed =
-        map_keeps (list_all is_inside) is_library_shape (internal tag closed) (internals_said d) (λ xs all. all) (said_pass d)
+        map_keeps (list_all is_inside) is_library_shape (internal tag closed) (internals_in d) (λ xs all. all) (said_pass d)
 
 adjacent_passes : (d : Data) → Passes is_library_shape (adjacent_in d)
 adjacent_passes d = search (either_passes, then_passes, map_passes, none_passes) depth 12
@@ -146,10 +149,7 @@ row_passes d =
     map_keeps entry_has_library_shape has_library_shape (λ e. with_entry e r) (entry_in d) (λ e one. one) (entry_passes d))
 
 rows_pass : (ds : Items) → Passes (list_all has_library_shape) (rows_in ds)
-rows_pass no_items = some_passes (list_all has_library_shape) [] refl
-rows_pass (item d ds) =
-    then_keeps has_library_shape (list_all has_library_shape) (λ r. option_map (λ rs. r ∷ rs) (rows_in ds)) (row_in d)
-    (λ r one. cons_passes has_library_shape r (rows_in ds) one (rows_pass ds)) (row_passes d)
+rows_pass ds = each_passes has_library_shape row_in row_passes ds
 
 pub rows_have_library_shapes : (ds : Items) (rows : List Row) → rows_in ds ≡ Some rows → list_all has_library_shape rows ≡ true
 rows_have_library_shapes ds rows is = (subst (λ (o : Option (List Row)). Passes (list_all has_library_shape) o) is (rows_pass ds)).holds

@@ -6,7 +6,7 @@ use Rattle.std.proofs.Common.{subst}
 use Rattle.std.specs.List.{list_all, list_any, position_from, find}
 use Rattle.std.specs.Option.{option_map_or}
 use Rattle.std.specs.Str.{bytes_eq}
-use Rattle.std.proofs.lemmas.List.{length-map}
+use Rattle.std.proofs.lemmas.List.{length-map, drop_more}
 use Rattle.std.proofs.lemmas.List.Folds.{list_all-append}
 use Rattle.std.proofs.lemmas.Bool.Decides.{nat_tests}
 use Rattle.std.proofs.lemmas.Slice.Eq.{bytes_eq-Decides}
@@ -14,18 +14,18 @@ use Rattle.std.proofs.lemmas.Bool.{and_parts, not-true}
 use Rattle.std.proofs.Math.Bool.{and-false, or-true}
 use Rattle.serde_json.specs.Data.{Data, Items, no_items, item}
 use Rattle.serde_json.specs.Find.{as_str, as_array, get}
-use Rattle.schemagen_input.specs.BorrowedValue.{data_of, items_data}
-use Rattle.schemagen_input.specs.declared.borrowed_value.BorrowedValue.{BorrowedValue}
+use Rattle.schemagen_json.specs.BorrowedValue.{data_of, items_data}
+use Rattle.schemagen_json.specs.declared.borrowed_value.BorrowedValue.{BorrowedValue}
 use Rattle.schemars_schema.specs.Json.{Text}
 use Rattle.schemars_text.proofs.Members.{flipped}
-use Rattle.schemagen_input.proofs.BorrowedMembers.{from_here}
+use Rattle.schemagen_json.specs.Members.{has_only}
 use Rattle.schemars_shapes.specs.Shape.{Entry, numbers_of}
 use Rattle.schemars_types.specs.Rows.{Row, place_of, with_entry, defined, reserved, unknown_in, holds_another}
 use Rattle.schemars_types.specs.Refusals.{refusal_of}
 use Rattle.schemars_types.specs.declared.error.TypesError.{TypesError}
 use Rattle.schemars_types.specs.declared.error.TypesError.TheVariants.{UnknownType, AlreadyDefined}
 use Rattle.schemars_types.proofs.Within.{length-defined}
-use Rattle.schemagen_input.specs.Forms.{number_in, has_only, needed_member}
+use Rattle.schemagen_input.specs.Forms.{number_in, needed_member}
 use Rattle.schemagen_input.specs.Input.{table_in, unentered, row_names, heading_in}
 use Rattle.schemagen_input.specs.Input.{entry_in, row_in, rows_in, ids_differ, ids_of, refers_within}
 use Rattle.schemagen_input.specs.Input.{all_fit, is_complete}
@@ -41,6 +41,12 @@ then_some : {A B : Type 0} (f : A → Option B) (o : Option A) (b : B) → optio
     → (a : A) × (o ≡ Some a) × (f a ≡ Some b)
 then_some f None b e = cc
 then_some f (Some a) b e = (a, refl, e)
+
+-- ---- the turns of a loop over a list
+
+from_here : (xs : List BorrowedValue) (i : ℕ) (x : BorrowedValue) → i < length xs → x ≡ get_or xs i x
+    → items_data (drop i xs) ≡ item (data_of x) (items_data (drop (i + 1) xs))
+from_here xs i x within is = ap items_data (drop_more xs i x within ∙ ap (λ y. y ∷ drop (i + 1) xs) (sym is))
 
 -- ---- ids
 

@@ -15,28 +15,30 @@ use Rattle.schemars_shapes.specs.Shape.{null as null_shape, bool, int, non_zero,
 use Rattle.schemars_shapes.specs.Shape.{schema_itself, option, seq, set, array as array_shape, up_to, tuple, struct, newtype}
 use Rattle.schemars_shapes.specs.Shape.{result, bound, range, either, map_from, external, untagged, internal, adjacent, literal}
 use Rattle.schemars_types.specs.Rows.{Row}
-use Rattle.schemagen_input.specs.Forms.{kind_in, fields_in, all_flattened_in, numbers_in, payload_in}
-use Rattle.schemagen_input.specs.Forms.{variants_in, payload_inside, internals_in}
+use Rattle.schemagen_input.specs.Forms.{read_each, number_in, kind_in, field_in, flattened_from, payload_in, variant_in}
+use Rattle.schemagen_input.specs.Forms.{payload_inside, internal_variant_in}
 use Rattle.schemagen_input.specs.Input.{shape_in, row_in, rows_in, refers_within, all_fit, ids_differ, ids_of}
 use Rattle.schemagen_input.specs.Input.{table_in, input_of}
 use Rattle.schemagen_input.specs.Written.{whole, field_json, flattened_json, payload_json, variant_json, kind_json}
 use Rattle.schemagen_input.specs.Written.{shape_json, row_json, json_of, is_library_shape, has_library_shape, CanBeWritten}
 
--- ---- fields
+-- ---- lists
 
-fields_back : (fs : List Field) → fields_in (items_of (map field_json fs)) ≡ Some fs
-fields_back [] = refl
-fields_back (f ∷ fs) = rw (fields_back fs) refl
+all_back : {T : Type 0} (json : T → Data) (says : Data → Option T) → ((x : T) → says (json x) ≡ Some x)
+    → (xs : List T) → read_each says (items_of (map json xs)) ≡ Some xs
+all_back json says back [] = refl
+all_back json says back (x ∷ xs) = rw (back x, all_back json says back xs) refl
 
-all_flattened_back : (ps : List Flattened) → all_flattened_in (items_of (map flattened_json ps)) ≡ Some ps
-all_flattened_back [] = refl
-all_flattened_back (p ∷ ps) = rw (all_flattened_back ps) refl
+fields_back : (fs : List Field) → read_each field_in (items_of (map field_json fs)) ≡ Some fs
+fields_back fs = all_back field_json field_in (λ f. refl) fs
+
+all_flattened_back : (ps : List Flattened) → read_each flattened_from (items_of (map flattened_json ps)) ≡ Some ps
+all_flattened_back ps = all_back flattened_json flattened_from (λ p. refl) ps
+
+numbers_back : (ns : List ℕ) → read_each number_in (items_of (map whole ns)) ≡ Some ns
+numbers_back ns = all_back whole number_in (λ n. refl) ns
 
 -- ---- variants
-
-numbers_back : (ns : List ℕ) → numbers_in (items_of (map whole ns)) ≡ Some ns
-numbers_back [] = refl
-numbers_back (n ∷ ns) = rw (numbers_back ns) refl
 
 payload_back : (p : Payload) → payload_in (payload_json p) ≡ Some p
 payload_back no_payload = refl
@@ -44,9 +46,11 @@ payload_back (newtype_payload n) = refl
 payload_back (tuple_payload ns) = rw (numbers_back ns) refl
 payload_back (struct_payload x) = rw (fields_back x.list, all_flattened_back x.flatten) refl
 
-variants_back : (xs : List Variant) → variants_in (items_of (map variant_json xs)) ≡ Some xs
-variants_back [] = refl
-variants_back (x ∷ xs) = rw (variants_back xs, payload_back x.payload) refl
+variant_back : (x : Variant) → variant_in (variant_json x) ≡ Some x
+variant_back x = rw (payload_back x.payload) refl
+
+variants_back : (xs : List Variant) → read_each variant_in (items_of (map variant_json xs)) ≡ Some xs
+variants_back xs = all_back variant_json variant_in variant_back xs
 
 inside_back : (p : Payload) → is_some (payload_inside p) ≡ true → payload_inside p ≡ Some p
 inside_back no_payload h = refl
@@ -54,12 +58,15 @@ inside_back (newtype_payload n) h = refl
 inside_back (tuple_payload ns) h = cc
 inside_back (struct_payload x) h = refl
 
+internal_back : (x : Variant) → is_some (payload_inside x.payload) ≡ true → internal_variant_in (variant_json x) ≡ Some x
+internal_back x h = rw (payload_back x.payload, inside_back x.payload h) refl
+
 internals_back : (xs : List Variant) → list_all (λ x. is_some (payload_inside x.payload)) xs ≡ true
-    → internals_in (items_of (map variant_json xs)) ≡ Some xs
+    → read_each internal_variant_in (items_of (map variant_json xs)) ≡ Some xs
 internals_back [] h = refl
 internals_back (x ∷ xs) h =
     let parts = and_parts (is_some (payload_inside x.payload)) (list_all (λ y. is_some (payload_inside y.payload)) xs) h in
-    rw (internals_back xs parts.1, payload_back x.payload, inside_back x.payload parts.0) refl
+    rw (internal_back x parts.0, internals_back xs parts.1) refl
 
 -- ---- shapes
 

@@ -1,25 +1,17 @@
 -- What members, fields and variants say in a JSON value.
-use Rattle.std.specs.Prelude.{ℕ, List, [], ◌∷◌, Bool, true, false, ◌&&◌, Option, Some, None}
+use Rattle.std.specs.Prelude.{ℕ, List, [], ◌∷◌, Bool, true, false, Option, Some, None}
 use Rattle.std.specs.Prelude.{option_map, option_and_then, if◌then◌else◌, bytes_eq, codes}
 use Rattle.std.specs.Option.{option_map_or}
-use Rattle.serde_json.specs.Data.{Data, null, boolean, number, string, array, object, Items, no_items, item, Members, no_members, member}
+use Rattle.serde_json.specs.Data.{Data, null, boolean, number, string, array, object, Items, no_items, item, Members, no_members}
 use Rattle.serde_json.specs.Find.{get, as_bool, as_number, as_str, as_array, as_object, as_u64}
 use Rattle.schemars_schema.specs.Json.{Text}
-use Rattle.schemars_text.specs.OrderedText.{is_listed}
+use Rattle.schemagen_json.specs.Members.{has_only, lone_in}
 use Rattle.schemars_shapes.specs.declared.shape.IntKind.{IntKind}
 use Rattle.schemars_shapes.specs.declared.shape.IntKind.TheVariants.{I8, I16, I32, I64, I128, Isize, U8, U16, U32, U64, U128, Usize}
 use Rattle.schemars_shapes.specs.Shape.{Required, Field, Flattened, Fields, Payload, Variant, Shape, no_payload, newtype_payload, tuple_payload}
 use Rattle.schemars_shapes.specs.Shape.{struct_payload, struct, external, untagged, internal, adjacent}
 
 -- ---- the members of an object
-
-abbrev pub are_listed : List Text → Members → Bool
-are_listed names no_members = true
-are_listed names (member k d ms) = is_listed k names && are_listed names ms
-
--- an object whose members all have one of these names
-abbrev pub has_only : List Text → Data → Bool
-has_only names d = option_map_or (are_listed names) (as_object d) false
 
 -- what a member says that has to be there
 abbrev pub needed_member : {T : Type 0} → (Data → Option T) → Text → Data → Option T
@@ -29,11 +21,31 @@ needed_member says name d = option_and_then says (get name d)
 abbrev pub optional_member : {T : Type 0} → T → (Data → Option T) → Text → Data → Option T
 optional_member missing says name d = option_map_or says (get name d) (Some missing)
 
--- the name and the value of a member that stands alone
-abbrev pub lone_in : Members → Option (Text × Data)
-lone_in no_members = None
-lone_in (member k d no_members) = Some (k, d)
-lone_in (member k d (member l e ms)) = None
+-- ---- lists
+
+-- what each item says
+abbrev pub read_each : {T : Type 0} → (Data → Option T) → Items → Option (List T)
+read_each says no_items = Some []
+read_each says (item d ds) = option_and_then (λ x. option_map (λ xs. x ∷ xs) (read_each says ds)) (says d)
+
+-- the items of the list under this key: none where it is missing
+abbrev pub items_under : Text → Data → Option Items
+items_under key d = optional_member no_items as_array key d
+
+-- what each of them says
+abbrev pub read_list : {T : Type 0} → (Data → Option T) → Text → Data → Option (List T)
+read_list says key d = option_and_then (read_each says) (items_under key d)
+
+-- ---- enums that are tagged by the names of their variants
+
+-- a text is the name of a variant with no content, and an object has the content under the name
+abbrev pub externally_tagged : {T : Type 0} → (Text → Option T) → (Text → Data → Option T) → Data → Option T
+externally_tagged unit content null = None
+externally_tagged unit content (boolean b) = None
+externally_tagged unit content (number n) = None
+externally_tagged unit content (string t) = unit t
+externally_tagged unit content (array ds) = None
+externally_tagged unit content (object ms) = option_and_then (λ m. content m.0 m.1) (lone_in ms)
 
 -- ---- the parts of a row
 
@@ -91,13 +103,9 @@ field_of_members d =
 abbrev pub field_in : Data → Option Field
 field_in d = if has_only field_names d then field_of_members d else None
 
-abbrev pub fields_in : Items → Option (List Field)
-fields_in no_items = Some []
-fields_in (item d ds) = option_and_then (λ f. option_map (λ fs. f ∷ fs) (fields_in ds)) (field_in d)
-
--- the fields of a struct: none where they are missing
-abbrev pub list_in : Data → Option (List Field)
-list_in d = optional_member [] (λ e. option_and_then fields_in (as_array e)) (codes "fields") d
+-- the fields of a struct
+abbrev pub fields_in : Data → Option (List Field)
+fields_in d = read_list field_in (codes "fields") d
 
 -- a row whose members are known by name
 abbrev pub flattened_of_members : Data → Option Flattened
@@ -105,23 +113,19 @@ flattened_of_members d =
     option_and_then (λ ty. option_map (λ need. record { ty = ty; required = need })
     (optional_member (required true true) required_in (codes "required") d)) (needed_member number_in (codes "type") d)
 
--- a row whose members stand in the map itself
+-- a row whose members are in the map itself
 abbrev pub flattened_from : Data → Option Flattened
 flattened_from d = if has_only (codes "type" ∷ codes "required" ∷ []) d then flattened_of_members d else None
 
-abbrev pub all_flattened_in : Items → Option (List Flattened)
-all_flattened_in no_items = Some []
-all_flattened_in (item d ds) = option_and_then (λ p. option_map (λ ps. p ∷ ps) (all_flattened_in ds)) (flattened_from d)
-
--- the rows flattened into a struct: none where they are missing
-abbrev pub flatten_in : Data → Option (List Flattened)
-flatten_in d = optional_member [] (λ e. option_and_then all_flattened_in (as_array e)) (codes "flatten") d
+-- the rows flattened into a struct
+abbrev pub all_flattened_in : Data → Option (List Flattened)
+all_flattened_in d = read_list flattened_from (codes "flatten") d
 
 -- the fields, the rows that are flattened, and whether other keys are excluded
 abbrev pub fields_of_members : Data → Option Fields
 fields_of_members d =
     option_and_then (λ closed. option_and_then (λ list. option_map (λ flatten. record { list = list; flatten = flatten; closed = closed })
-    (flatten_in d)) (list_in d)) (optional_member false as_bool (codes "closed") d)
+    (all_flattened_in d)) (fields_in d)) (optional_member false as_bool (codes "closed") d)
 
 abbrev pub fields_said : Data → Option Fields
 fields_said d = if has_only (codes "fields" ∷ codes "flatten" ∷ codes "closed" ∷ []) d then fields_of_members d else None
@@ -131,12 +135,8 @@ struct_in d = option_map struct (fields_said d)
 
 -- ---- lists of rows
 
-abbrev pub numbers_in : Items → Option (List ℕ)
-numbers_in no_items = Some []
-numbers_in (item d ds) = option_and_then (λ n. option_map (λ ns. n ∷ ns) (numbers_in ds)) (number_in d)
-
 abbrev pub parts_from : Data → Option (List ℕ)
-parts_from d = option_and_then numbers_in (as_array d)
+parts_from d = option_and_then (read_each number_in) (as_array d)
 
 -- ---- variants
 
@@ -152,12 +152,7 @@ payload_under name d =
     else (if bytes_eq name (codes "struct") then option_map struct_payload (fields_said d) else None))
 
 abbrev pub payload_in : Data → Option Payload
-payload_in null = None
-payload_in (boolean b) = None
-payload_in (number n) = None
-payload_in (string t) = payload_named t
-payload_in (array ds) = None
-payload_in (object ms) = option_and_then (λ m. payload_under m.0 m.1) (lone_in ms)
+payload_in d = externally_tagged payload_named payload_under d
 
 abbrev pub variant_keys : List Text
 variant_keys = codes "name" ∷ codes "notes" ∷ codes "payload" ∷ []
@@ -171,17 +166,13 @@ variant_of_members d =
 abbrev pub variant_in : Data → Option Variant
 variant_in d = if has_only variant_keys d then variant_of_members d else None
 
-abbrev pub variants_in : Items → Option (List Variant)
-variants_in no_items = Some []
-variants_in (item d ds) = option_and_then (λ x. option_map (λ xs. x ∷ xs) (variants_in ds)) (variant_in d)
-
--- the variants of an enum: none where they are missing
-abbrev pub variants_said : Data → Option (List Variant)
-variants_said d = optional_member [] (λ e. option_and_then variants_in (as_array e)) (codes "variants") d
+-- the variants of an enum
+abbrev pub variants_in : Data → Option (List Variant)
+variants_in d = read_list variant_in (codes "variants") d
 
 -- an enum of which nothing else is said
 abbrev pub enum_in : Data → Option (List Variant)
-enum_in d = if has_only (codes "variants" ∷ []) d then variants_said d else None
+enum_in d = if has_only (codes "variants" ∷ []) d then variants_in d else None
 
 abbrev pub external_in : Data → Option Shape
 external_in d = option_map external (enum_in d)
@@ -189,7 +180,7 @@ external_in d = option_map external (enum_in d)
 abbrev pub untagged_in : Data → Option Shape
 untagged_in d = option_map untagged (enum_in d)
 
--- beside a tag stand fields, the members of a row, or nothing
+-- beside a tag are fields, the members of a row, or nothing
 abbrev pub payload_inside : Payload → Option Payload
 payload_inside no_payload = Some no_payload
 payload_inside (newtype_payload n) = Some (newtype_payload n)
@@ -199,19 +190,17 @@ payload_inside (struct_payload x) = Some (struct_payload x)
 abbrev pub variant_inside : Variant → Option Variant
 variant_inside x = option_map (λ payload. record { name = x.name; payload = payload; notes = x.notes }) (payload_inside x.payload)
 
-abbrev pub internals_in : Items → Option (List Variant)
-internals_in no_items = Some []
-internals_in (item d ds) =
-    option_and_then (λ x. option_map (λ xs. x ∷ xs) (internals_in ds)) (option_and_then variant_inside (variant_in d))
+-- a variant beside a tag
+abbrev pub internal_variant_in : Data → Option Variant
+internal_variant_in d = option_and_then variant_inside (variant_in d)
 
--- the variants beside a tag: none where they are missing
-abbrev pub internals_said : Data → Option (List Variant)
-internals_said d = optional_member [] (λ e. option_and_then internals_in (as_array e)) (codes "variants") d
+abbrev pub internals_in : Data → Option (List Variant)
+internals_in d = read_list internal_variant_in (codes "variants") d
 
 abbrev pub internal_in : Data → Option Shape
 internal_in d =
     if has_only (codes "tag" ∷ codes "closed" ∷ codes "variants" ∷ []) d
-    then option_and_then (λ tag. option_and_then (λ closed. option_map (internal tag closed) (internals_said d))
+    then option_and_then (λ tag. option_and_then (λ closed. option_map (internal tag closed) (internals_in d))
     (optional_member false as_bool (codes "closed") d)) (needed_member as_str (codes "tag") d)
     else None
 
@@ -219,7 +208,7 @@ internal_in d =
 abbrev pub adjacent_of_members : Data → Option Shape
 adjacent_of_members d =
     option_and_then (λ tag. option_and_then (λ content. option_and_then (λ closed.
-    option_map (adjacent tag content closed) (variants_said d))
+    option_map (adjacent tag content closed) (variants_in d))
     (optional_member false as_bool (codes "closed") d))
     (needed_member as_str (codes "content") d))
     (needed_member as_str (codes "tag") d)

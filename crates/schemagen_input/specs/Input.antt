@@ -3,7 +3,7 @@ use Rattle.std.specs.Prelude.{ℕ, List, [], ◌∷◌, Bool, true, false, ◌&&
 use Rattle.std.specs.Prelude.{option_map, option_and_then, if◌then◌else◌, bytes_eq, codes}
 use Rattle.std.specs.List.{list_all, list_any}
 use Rattle.std.specs.Option.{option_map_or}
-use Rattle.serde_json.specs.Data.{Data, null, boolean, number, string, array, object, Items, no_items, item}
+use Rattle.serde_json.specs.Data.{Data, Items}
 use Rattle.serde_json.specs.Find.{as_bool, as_str, as_array}
 use Rattle.schemars_schema.specs.Json.{Text}
 use Rattle.schemars_shapes.specs.Shape.{Shape, Entry, numbers_of, either, map_from}
@@ -13,7 +13,9 @@ use Rattle.schemars_shapes.specs.Shape.{option, seq, set, array as array_shape, 
 use Rattle.schemars_shapes.specs.Shape.{result, bound, range, literal}
 use Rattle.schemars_schema.specs.Lookup.{schema_only}
 use Rattle.schemars_types.specs.Rows.{Row, with_entry}
-use Rattle.schemagen_input.specs.Forms.{has_only, needed_member, optional_member, lone_in, number_in, notes_in, kind_in, struct_in, parts_from}
+use Rattle.schemagen_json.specs.Members.{has_only}
+use Rattle.schemagen_input.specs.Forms.{needed_member, optional_member, read_each, externally_tagged, number_in, notes_in, kind_in}
+use Rattle.schemagen_input.specs.Forms.{struct_in, parts_from}
 use Rattle.schemagen_input.specs.Forms.{external_in, untagged_in, internal_in, adjacent_in}
 
 -- ---- shapes
@@ -59,7 +61,7 @@ either_in d = option_map (λ p. either p.0 p.1) (two_in (codes "left") (codes "r
 abbrev pub map_in : Data → Option Shape
 map_in d = option_map (λ p. map_from p.0 p.1) (two_in (codes "key") (codes "value") d)
 
--- maps, by the kind that this name tells
+-- maps, by the name of their kind
 abbrev pub fixed_under : Text → Data → Option Shape
 fixed_under name d =
     if bytes_eq name (codes "bound") then option_map bound (number_in d) else
@@ -67,14 +69,14 @@ fixed_under name d =
     else (if bytes_eq name (codes "result") then result_in d else (if bytes_eq name (codes "either") then either_in d else
     (if bytes_eq name (codes "map") then map_in d else None))))
 
--- lists, by the kind that this name tells
+-- lists, by the name of their kind
 abbrev pub list_under : Text → Data → Option Shape
 list_under name d =
     if bytes_eq name (codes "seq") then option_map seq (number_in d) else (if bytes_eq name (codes "set") then option_map set (number_in d)
     else (if bytes_eq name (codes "array") then array_in d else (if bytes_eq name (codes "up_to") then up_to_in d
     else (if bytes_eq name (codes "tuple") then tuple_in d else fixed_under name d))))
 
--- a schema that stands as it is written
+-- a schema that is used as it is written
 abbrev pub literal_in : Data → Option Shape
 literal_in d = option_map literal (schema_only d)
 
@@ -98,12 +100,7 @@ shape_under name d =
     else (if bytes_eq name (codes "adjacent") then adjacent_in d else plain_under name d))))
 
 abbrev pub shape_in : Data → Option Shape
-shape_in null = None
-shape_in (boolean b) = None
-shape_in (number n) = None
-shape_in (string t) = shape_named t
-shape_in (array ds) = None
-shape_in (object ms) = option_and_then (λ m. shape_under m.0 m.1) (lone_in ms)
+shape_in d = externally_tagged shape_named shape_under d
 
 -- ---- rows
 
@@ -132,8 +129,7 @@ abbrev pub row_in : Data → Option Row
 row_in d = option_and_then (λ r. option_map (λ e. with_entry e r) (entry_in d)) (heading_in d)
 
 abbrev pub rows_in : Items → Option (List Row)
-rows_in no_items = Some []
-rows_in (item d ds) = option_and_then (λ r. option_map (λ rs. r ∷ rs) (rows_in ds)) (row_in d)
+rows_in ds = read_each row_in ds
 
 -- ---- tables
 

@@ -1,6 +1,5 @@
 -- The definitions that contracts cite.
 pub mod Forms
-pub mod BorrowedValue
 pub mod Errors
 pub mod Input
 pub mod Written

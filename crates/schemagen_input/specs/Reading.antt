@@ -1,12 +1,12 @@
 -- How a table is read: the headings of all rows first, and then their entries.
-use Rattle.std.specs.Prelude.{ℕ, List, [], ◌∷◌, ◌++◌, Option, Some, None, option_map, option_and_then, if◌then◌else◌}
-use Rattle.serde_json.specs.Data.{Items, no_items, item}
+use Rattle.std.specs.Prelude.{ℕ, List, ◌++◌, Option, Some, None, option_and_then, if◌then◌else◌}
+use Rattle.serde_json.specs.Data.{Items}
 use Rattle.schemars_types.specs.Rows.{Row}
+use Rattle.schemagen_input.specs.Forms.{read_each}
 use Rattle.schemagen_input.specs.Input.{heading_in, rows_in, ids_differ, ids_of, all_fit}
 
 abbrev pub headings_in : Items → Option (List Row)
-headings_in no_items = Some []
-headings_in (item d ds) = option_and_then (λ r. option_map (λ rs. r ∷ rs) (headings_in ds)) (heading_in d)
+headings_in ds = read_each heading_in ds
 
 -- the rows whose ids differ, where these come after the rows so far
 abbrev pub reserved_after : List Row → Items → Option (List Row)

@@ -34,7 +34,7 @@ IsReadNumber (unsigned n) = n < 2 ^ 64
 IsReadNumber (negative z) = IsBelowZero z
 IsReadNumber (float x) = ⊤
 
--- the keys of its maps stand in the order of their bytes, each once
+-- the keys of its maps are in the order of their bytes, each once
 abbrev mutual
   pub IsAsRead : Data → Type 0
   IsAsRead null = ⊤

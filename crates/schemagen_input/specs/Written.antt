@@ -68,14 +68,15 @@ variant_json x =
 abbrev pub variants_json : List Variant → Data
 variants_json xs = with_one_member (codes "variants") (list_of variant_json xs)
 
+-- the members of an enum behind the names of its tags
+abbrev pub tagged_members : Bool → List Variant → List (Text × Data)
+tagged_members closed xs = (codes "closed", boolean closed) ∷ (codes "variants", list_of variant_json xs) ∷ []
+
 abbrev pub internal_json : Text → Bool → List Variant → Data
-internal_json tag closed xs =
-    object_of ((codes "tag", string tag) ∷ (codes "closed", boolean closed) ∷ (codes "variants", list_of variant_json xs) ∷ [])
+internal_json tag closed xs = object_of ((codes "tag", string tag) ∷ tagged_members closed xs)
 
 abbrev pub adjacent_json : Text → Text → Bool → List Variant → Data
-adjacent_json tag content closed xs =
-    object_of ((codes "tag", string tag) ∷ (codes "content", string content) ∷ (codes "closed", boolean closed)
-    ∷ (codes "variants", list_of variant_json xs) ∷ [])
+adjacent_json tag content closed xs = object_of ((codes "tag", string tag) ∷ (codes "content", string content) ∷ tagged_members closed xs)
 
 -- ---- shapes
 
@@ -141,7 +142,7 @@ json_of rows root = object_of ((codes "types", list_of row_json rows) ∷ (codes
 
 -- ---- what can be written
 
--- Each shape of the library is so: a literal is a schema, and beside a tag stand fields, the members of a row, or nothing.
+-- Each shape of the library is of this kind: a literal is a schema, and beside a tag are fields, the members of a row, or nothing.
 abbrev pub is_library_shape : Shape → Bool
 is_library_shape (literal d) = is_schema d
 is_library_shape (internal tag closed xs) = list_all (λ x. is_some (payload_inside x.payload)) xs

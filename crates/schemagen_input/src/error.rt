@@ -1,16 +1,16 @@
-//! Why a value is no input.
+//! Why a value is not an input.
 ghost use Rattle.std.specs.Prelude.{◌≡◌};
 ghost use Rattle.schemagen_input.specs.Errors.{as_input};
 
 use schemars_types::TypesError;
 use std::alloc::{AllocError, AllocFailed};
 
-/// Why a value is no input.
+/// Why a value is not an input.
 #[derive(Clone, Copy, Debug, PartialEq, Eq)]
 pub enum InputError {
     /// Memory ran out.
     OutOfMemory,
-    /// The value is no table with a number for its root.
+    /// The value is not a table with a number for its root.
     BadTable,
 }
 

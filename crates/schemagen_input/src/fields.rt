@@ -1,16 +1,15 @@
 //! Fields of structs.
 ghost use Rattle.std.specs.Prelude.{◌≡◌, true, None, Some, IfOk, IfErr, option_map, map, codes};
-ghost use Rattle.schemagen_input.specs.BorrowedValue.{data_of, items_data};
+ghost use Rattle.schemagen_json.specs.BorrowedValue.{data_of};
 ghost use Rattle.schemars_shapes.specs.Shape.{shape_of, field_of, flattened_of, fields_of};
 ghost use Rattle.schemars_shapes.specs.Shape.{required_of};
 ghost use Rattle.schemagen_input.specs.Forms.{required, required_each, required_in, field_in};
-ghost use Rattle.schemagen_input.specs.Forms.{fields_in, list_in, fields_said, struct_in};
-ghost use Rattle.schemagen_input.specs.Forms.{optional_member, flattened_from, all_flattened_in};
-ghost use Rattle.schemagen_input.specs.Forms.{flatten_in};
+ghost use Rattle.schemagen_input.specs.Forms.{fields_said, struct_in, flattened_from};
+ghost use Rattle.schemagen_input.specs.Forms.{optional_member, fields_in, all_flattened_in};
 
-use crate::borrowed_value::BorrowedValue;
 use crate::error::InputError;
-use crate::members::{flag_in, has_only, notes_in, number_of, text_in};
+use crate::members::{flag_in, items_under, notes_in, number_of, text_in};
+use schemagen_json::BorrowedValue;
 use schemars_types::{Field, Fields, Flattened, Required, Shape};
 use std::alloc::Global;
 
@@ -18,7 +17,7 @@ use std::alloc::Global;
 fn required_each(value: &BorrowedValue<'_>) -> Option<Required>
     ensures { option_map required_of result ≡ required_each (data_of value.now) }
 {
-    if !has_only(value, &["deserialize", "serialize"]) {
+    if !value.has_only(&["deserialize", "serialize"]) {
         return None;
     }
     let deserialize = value.get("deserialize")?.as_bool()?;
@@ -62,7 +61,7 @@ fn field_in(alloc: Global, value: &BorrowedValue<'_>) -> Result<Field, InputErro
     ensures bad { IfErr result
         (λ e. e ≡ InputError.BadTable → field_in (data_of value.now) ≡ None) }
 {
-    if !has_only(value, &FIELD_NAMES) {
+    if !value.has_only(&FIELD_NAMES) {
         return Err(InputError::BadTable);
     }
     let (Some(name), Some(ty), Some(required)) = (
@@ -82,38 +81,27 @@ fn field_in(alloc: Global, value: &BorrowedValue<'_>) -> Result<Field, InputErro
     })
 }
 
-fn fields_in(alloc: Global, values: &[BorrowedValue<'_>]) -> Result<Vec<Field>, InputError>
-    ensures ok { IfOk result (λ v. fields_in (items_data values.now)
-        ≡ Some (map field_of v.items)) }
-    ensures bad { IfErr result
-        (λ e. e ≡ InputError.BadTable → fields_in (items_data values.now) ≡ None) }
+// The fields of a struct; there are none where they are missing.
+fn fields_in(alloc: Global, value: &BorrowedValue<'_>) -> Result<Vec<Field>, InputError>
+    ensures ok { IfOk result (λ v. fields_in (data_of value.now) ≡ Some (map field_of v.items)) }
+    ensures bad { IfErr result (λ e. e ≡ InputError.BadTable
+        → fields_in (data_of value.now) ≡ None) }
 {
+    let Some(items) = items_under(value, "fields") else {
+        return Err(InputError::BadTable);
+    };
     let mut fields = Vec::new(alloc);
-    for value in values {
-        let field = field_in(alloc, value)?;
+    for item in items {
+        let field = field_in(alloc, item)?;
         fields.push(field)?;
     }
     Ok(fields)
 }
 
-// The fields of a struct; there are none where they are missing.
-fn list_in(alloc: Global, value: &BorrowedValue<'_>) -> Result<Vec<Field>, InputError>
-    ensures ok { IfOk result (λ v. list_in (data_of value.now) ≡ Some (map field_of v.items)) }
-    ensures bad { IfErr result (λ e. e ≡ InputError.BadTable → list_in (data_of value.now) ≡ None) }
-{
-    let Some(list) = value.get("fields") else {
-        return Ok(Vec::new(alloc));
-    };
-    match list.as_array() {
-        Some(values) => fields_in(alloc, values),
-        None => Err(InputError::BadTable),
-    }
-}
-
 fn flattened_in(value: &BorrowedValue<'_>) -> Option<Flattened>
     ensures { option_map flattened_of result ≡ flattened_from (data_of value.now) }
 {
-    if !has_only(value, &["type", "required"]) {
+    if !value.has_only(&["type", "required"]) {
         return None;
     }
     let ty = number_of(value, "type")?;
@@ -121,39 +109,24 @@ fn flattened_in(value: &BorrowedValue<'_>) -> Option<Flattened>
     Some(Flattened { ty, required })
 }
 
-fn all_flattened_in(
-    alloc: Global,
-    values: &[BorrowedValue<'_>],
-) -> Result<Vec<Flattened>, InputError>
-    ensures ok { IfOk result (λ v. all_flattened_in (items_data values.now)
-        ≡ Some (map flattened_of v.items)) }
-    ensures bad { IfErr result
-        (λ e. e ≡ InputError.BadTable → all_flattened_in (items_data values.now) ≡ None) }
+// The rows flattened into a struct; there are none where they are missing.
+fn all_flattened_in(alloc: Global, value: &BorrowedValue<'_>) -> Result<Vec<Flattened>, InputError>
+    ensures ok { IfOk result
+        (λ v. all_flattened_in (data_of value.now) ≡ Some (map flattened_of v.items)) }
+    ensures bad { IfErr result (λ e. e ≡ InputError.BadTable
+        → all_flattened_in (data_of value.now) ≡ None) }
 {
+    let Some(items) = items_under(value, "flatten") else {
+        return Err(InputError::BadTable);
+    };
     let mut rows = Vec::new(alloc);
-    for value in values {
-        let Some(row) = flattened_in(value) else {
+    for item in items {
+        let Some(row) = flattened_in(item) else {
             return Err(InputError::BadTable);
         };
         rows.push(row)?;
     }
     Ok(rows)
-}
-
-// The rows flattened into a struct; there are none where they are missing.
-fn flatten_in(alloc: Global, value: &BorrowedValue<'_>) -> Result<Vec<Flattened>, InputError>
-    ensures ok { IfOk result
-        (λ v. flatten_in (data_of value.now) ≡ Some (map flattened_of v.items)) }
-    ensures bad { IfErr result
-        (λ e. e ≡ InputError.BadTable → flatten_in (data_of value.now) ≡ None) }
-{
-    let Some(rows) = value.get("flatten") else {
-        return Ok(Vec::new(alloc));
-    };
-    match rows.as_array() {
-        Some(values) => all_flattened_in(alloc, values),
-        None => Err(InputError::BadTable),
-    }
 }
 
 /// The fields of a struct, the rows flattened into it, and whether other keys are excluded.
@@ -162,14 +135,14 @@ pub fn fields_said(alloc: Global, value: &BorrowedValue<'_>) -> Result<Fields, I
     ensures bad { IfErr result (λ e. e ≡ InputError.BadTable
         → fields_said (data_of value.now) ≡ None) }
 {
-    if !has_only(value, &["fields", "flatten", "closed"]) {
+    if !value.has_only(&["fields", "flatten", "closed"]) {
         return Err(InputError::BadTable);
     }
     let Some(closed) = flag_in(value, "closed") else {
         return Err(InputError::BadTable);
     };
-    let list = list_in(alloc, value)?;
-    let flatten = flatten_in(alloc, value)?;
+    let list = fields_in(alloc, value)?;
+    let flatten = all_flattened_in(alloc, value)?;
     Ok(Fields {
         list,
         flatten,

@@ -1,7 +1,7 @@
 //! The table that a JSON value says.
 ghost use Rattle.std.specs.Prelude.{◌≡◌, ◌≢◌, ◌<◌, ℕ, List, [], true, None, Some, IfOk, IfErr};
 ghost use Rattle.std.specs.Prelude.{option_map, length};
-ghost use Rattle.schemagen_input.specs.BorrowedValue.{data_of, items_data};
+ghost use Rattle.schemagen_json.specs.BorrowedValue.{data_of, items_data};
 ghost use Rattle.schemagen_input.specs.Forms.{needed_member};
 ghost use Rattle.schemagen_input.specs.Input.{heading_in, unentered, is_complete, table_in};
 ghost use Rattle.schemagen_input.specs.Input.{input_of};
@@ -10,10 +10,10 @@ ghost use Rattle.schemars_types.specs.Rows.{Row};
 ghost use Rattle.schemagen_input.specs.Reading.{headings_in, reserved_after, fitting_after};
 ghost use Rattle.serde_json.specs.Find.{as_array};
 
-use crate::borrowed_value::BorrowedValue;
 use crate::error::InputError;
-use crate::members::{has_only, number_of, text_in};
+use crate::members::{number_of, text_in};
 use crate::shapes::entry_in;
+use schemagen_json::BorrowedValue;
 use schemars_types::{TypeNo, Types};
 use std::alloc::Global;
 
@@ -23,7 +23,7 @@ const ROW_NAMES: [&str; 5] = ["id", "name", "inline", "notes", "shape"];
 fn heading_in<'a>(value: &BorrowedValue<'a>) -> Option<(&'a str, &'a str)>
     ensures { option_map (λ h. unentered h.0.now h.1.now) result ≡ heading_in (data_of value.now) }
 {
-    if !has_only(value, &ROW_NAMES) {
+    if !value.has_only(&ROW_NAMES) {
         return None;
     }
     let id = text_in(value, "id")?;
@@ -52,7 +52,7 @@ fn reserve_rows(alloc: Global, rows: &[BorrowedValue<'_>]) -> Result<Types, Inpu
     Ok(types)
 }
 
-// Gives the rows of the table their entries. A table takes no number that is no row's.
+// Defines the rows of the table. An entry that refers to an unknown row is refused.
 fn define_rows(
     alloc: Global,
     mut types: Types,
@@ -99,7 +99,7 @@ pub fn read_input(alloc: Global, value: &BorrowedValue<'_>) -> Result<(Types, Ty
     ensures input { (rows : List Row) (root : ℕ) → CanBeWritten rows
         → root < length rows → input_of (json_of rows root) ≡ Some (rows, root) }
 {
-    if !has_only(value, &["types", "root"]) {
+    if !value.has_only(&["types", "root"]) {
         return Err(InputError::BadTable);
     }
     let (Some(rows), Some(root)) = (items_in(value, "types"), number_of(value, "root")) else {

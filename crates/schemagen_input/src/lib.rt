@@ -1,7 +1,6 @@
 //! Reads tables of types, and example values, from JSON values.
 #![tactic(auto)]
 
-mod borrowed_value;
 mod error;
 mod fields;
 mod input;
@@ -12,7 +11,6 @@ mod shapes;
 mod text;
 mod variants;
 
-pub use borrowed_value::{BorrowedValue, ParseError};
 pub use error::InputError;
 pub use input::read_input;
 pub use locate::{InputFault, find_fault};

@@ -1,6 +1,6 @@
-//! Where a value is no table, and why.
+//! Where a value is not a table, and why.
 ghost use Rattle.std.specs.Prelude.{◌≡◌, None, IfOk, IsSome, MatchOption, string_bytes};
-ghost use Rattle.schemagen_input.specs.BorrowedValue.{data_of};
+ghost use Rattle.schemagen_json.specs.BorrowedValue.{data_of};
 ghost use Rattle.serde_json.specs.Find.{pointer as points_to};
 ghost use Rattle.schemagen_input.specs.Input.{table_in};
 
@@ -9,14 +9,14 @@ mod members;
 mod rows;
 mod stop;
 
-use crate::borrowed_value::BorrowedValue;
 use crate::error::InputError;
 use crate::input::read_input;
 use crate::locate::rows::check_table;
 use crate::locate::stop::Stop;
+use schemagen_json::BorrowedValue;
 use std::alloc::{AllocError, Global};
 
-/// Where a value is no table, and why.
+/// Where a value is not a table, and why.
 #[derive(Debug, Drop)]
 pub struct InputFault {
     /// A JSON Pointer (RFC 6901) to what is wrong, or to the object in which a member is missing.
@@ -48,7 +48,7 @@ pub fn find_fault(
     }
 }
 
-// The place in a value that is no table.
+// The place of the fault in a value that is not a table.
 fn locate(alloc: Global, value: &BorrowedValue<'_>) -> Result<InputFault, AllocError>
     ensures { IfOk result (λ f. IsSome (points_to (string_bytes f.place) (data_of value.now))) }
 {

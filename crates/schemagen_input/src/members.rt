@@ -1,53 +1,36 @@
 //! The members of objects, and what single values say.
 ghost use Rattle.std.specs.Prelude.{◌≡◌, false, None, Some, IfOk, IfErr, option_map};
-ghost use Rattle.std.specs.Prelude.{map};
+ghost use Rattle.serde_json.specs.Data.{no_items};
 ghost use Rattle.serde_json.specs.View.{members_view};
-ghost use Rattle.schemagen_input.specs.BorrowedValue.{data_of, items_data, members_data};
-ghost use Rattle.schemars_text.specs.OrderedText.{is_listed};
-ghost use Rattle.schemagen_input.specs.Forms.{has_only, lone_in, number_in, notes_in, kind_named};
-ghost use Rattle.schemagen_input.specs.Forms.{kind_in, parts_from, numbers_in};
+ghost use Rattle.schemagen_json.specs.BorrowedValue.{data_of, items_data};
+ghost use Rattle.schemagen_input.specs.Forms.{number_in, notes_in, kind_named};
+ghost use Rattle.schemagen_input.specs.Forms.{kind_in, parts_from, read_each, items_under};
 ghost use Rattle.schemagen_input.specs.Forms.{optional_member, needed_member};
 ghost use Rattle.serde_json.specs.Find.{as_bool, as_str};
 
-use crate::borrowed_value::{BorrowedValue, copy_members};
 use crate::error::InputError;
-use schemars_schema::edits::is_listed;
+use schemagen_json::{BorrowedValue, copy_members};
 use schemars_types::{IntKind, TypeNo};
 use serde_json::{Map, Value};
 use std::alloc::{AllocError, Global};
 
-/// Whether the value is an object whose members all have one of these names.
-pub fn has_only(value: &BorrowedValue<'_>, names: &[&str]) -> bool
-    ensures { result ≡ has_only (map (λ n. n.now) names.now) (data_of value.now) }
+fn no_items<'v, 'a>() -> &'v [BorrowedValue<'a>]
+    ensures { items_data result.now ≡ no_items }
 {
-    let Some(members) = value.as_object() else {
-        return false;
-    };
-    for (name, _) in members {
-        if !is_listed(name, names) {
-            return false;
-        }
-    }
-    true
+    &[]
 }
 
-/// The name of all members of an object that has one alone, and what it says.
-pub fn lone_member<'v, 'a>(
-    members: &'v Vec<(&'a str, BorrowedValue<'a>)>,
-) -> Option<(&'a str, &'v BorrowedValue<'a>)>
-    ensures { option_map (λ m. (m.0.now, data_of m.1.now)) result
-        ≡ lone_in (members_data members.now.items) }
+/// The items of the list under this key: none where it is missing.
+pub fn items_under<'v, 'a>(
+    value: &'v BorrowedValue<'a>,
+    key: &str,
+) -> Option<&'v [BorrowedValue<'a>]>
+    ensures { option_map (λ v. items_data v.now) result ≡ items_under key.now (data_of value.now) }
 {
-    if members.is_empty() {
-        return None;
-    }
-    let (name, last) = &members[members.len() - 1];
-    for (other, _) in members {
-        if other != name {
-            return None;
-        }
-    }
-    Some((*name, last))
+    let Some(list) = value.get(key) else {
+        return Some(no_items::<'v, 'a>());
+    };
+    Some(list.as_array()?)
 }
 
 /// A number of a row.
@@ -62,7 +45,8 @@ fn numbers_in(
     alloc: Global,
     values: &[BorrowedValue<'_>],
 ) -> Result<Option<Vec<TypeNo>>, AllocError>
-    ensures { IfOk result (λ r. option_map (λ v. v.items) r ≡ numbers_in (items_data values.now)) }
+    ensures { IfOk result (λ r. option_map (λ v. v.items) r
+        ≡ read_each number_in (items_data values.now)) }
 {
     let mut numbers = Vec::new(alloc);
     for value in values {

@@ -10,12 +10,12 @@ use schemars_sample::Sample;
 use serde_json::{Map, Value};
 use std::alloc::{AllocError, AllocFailed, Global};
 
-/// Why a JSON value is no example.
+/// Why a JSON value is not an example.
 #[derive(Clone, Copy, Debug, PartialEq, Eq, Drop)]
 pub enum SampleError {
     /// Memory ran out.
     OutOfMemory,
-    /// A number is no whole number from -2^63 to 2^64 - 1.
+    /// A number is not a whole number from -2^63 to 2^64 - 1.
     NotWhole,
 }
 
@@ -45,7 +45,7 @@ impl<T: Drop> From<AllocFailed<T>> for SampleError {
 /// entries are given one by one. The JSON of the example of a value that was read from a text is
 /// that value again.
 ///
-/// Refusals: `NotWhole` where a number in it is no 64-bit whole number, and want of memory.
+/// Refusals: `NotWhole` if a number in it is not a 64-bit whole number, and `OutOfMemory`.
 #[cycle(sample)]
 pub fn read_sample(alloc: Global, value: &Value) -> Result<Sample, SampleError>
     ensures ok { IfOk result (λ x. sample_input (view value.now) ≡ Some (example_of x)) }

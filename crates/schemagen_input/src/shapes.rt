@@ -1,6 +1,6 @@
 //! Shapes and entries.
 ghost use Rattle.std.specs.Prelude.{◌≡◌, None, Some, IfOk, IfErr, option_map};
-ghost use Rattle.schemagen_input.specs.BorrowedValue.{data_of};
+ghost use Rattle.schemagen_json.specs.BorrowedValue.{data_of};
 ghost use Rattle.schemars_shapes.specs.Shape.{shape_of, entry_of, formatted};
 ghost use Rattle.schemagen_input.specs.Input.{counted_in, array_in, up_to_in, tuple_in, list_under};
 ghost use Rattle.schemagen_input.specs.Input.{plain_under, literal_in, two_in, result_in};
@@ -8,13 +8,11 @@ ghost use Rattle.schemagen_input.specs.Input.{either_in, map_in, fixed_under};
 ghost use Rattle.schemagen_input.specs.Input.{shape_named, shape_under, shape_in, entry_in};
 ghost use Rattle.serde_json.specs.Find.{as_str};
 
-use crate::borrowed_value::BorrowedValue;
 use crate::error::InputError;
 use crate::fields::struct_in;
-use crate::members::{
-    flag_in, has_only, kind_in, lone_member, notes_in, number_in, number_of, parts_in,
-};
+use crate::members::{flag_in, kind_in, notes_in, number_in, number_of, parts_in};
 use crate::variants::{adjacent_in, external_in, internal_in, untagged_in};
+use schemagen_json::{BorrowedValue, lone_member};
 use schemars_schema::Schema;
 use schemars_types::{Shape, TypeEntry, TypeNo};
 use std::alloc::{AllocError, Global};
@@ -39,7 +37,7 @@ fn shape_named(name: &str) -> Option<Shape>
 fn counted_in(value: &BorrowedValue<'_>, count: &str) -> Option<(TypeNo, u64)>
     ensures { result ≡ counted_in count.now (data_of value.now) }
 {
-    if !has_only(value, &["of", count]) {
+    if !value.has_only(&["of", count]) {
         return None;
     }
     let n = number_of(value, "of")?;
@@ -106,7 +104,7 @@ fn plain_under(
     })
 }
 
-// A schema that stands as it is written.
+// A schema that is used as it is written.
 fn literal_in(alloc: Global, value: &BorrowedValue<'_>) -> Result<Option<Shape>, AllocError>
     ensures { IfOk result (λ s. option_map shape_of s ≡ literal_in (data_of value.now)) }
 {
@@ -116,7 +114,7 @@ fn literal_in(alloc: Global, value: &BorrowedValue<'_>) -> Result<Option<Shape>,
     }
 }
 
-// A list, of the kind that this name tells.
+// A list, of the kind with this name.
 fn list_under(
     alloc: Global,
     name: &str,
@@ -138,7 +136,7 @@ fn list_under(
 fn two_in(value: &BorrowedValue<'_>, first: &str, second: &str) -> Option<(TypeNo, TypeNo)>
     ensures { result ≡ two_in first.now second.now (data_of value.now) }
 {
-    if !has_only(value, &[first, second]) {
+    if !value.has_only(&[first, second]) {
         return None;
     }
     let m = number_of(value, first)?;
@@ -167,7 +165,7 @@ fn map_in(value: &BorrowedValue<'_>) -> Option<Shape>
     Some(Shape::Map(key, value))
 }
 
-// A map, of the kind that this name tells.
+// A map, of the kind with this name.
 fn fixed_under(name: &str, value: &BorrowedValue<'_>) -> Option<Shape>
     ensures { option_map shape_of result ≡ fixed_under name.now (data_of value.now) }
 {

@@ -1,13 +1,13 @@
 //! The table that a text says.
 ghost use Rattle.std.specs.Prelude.{◌≡◌, ◌≢◌, true, None, Some, Err, IfOk};
-ghost use Rattle.schemagen_input.specs.BorrowedValue.{data_of};
+ghost use Rattle.schemagen_json.specs.BorrowedValue.{data_of};
 ghost use Rattle.schemagen_input.specs.Input.{is_table, input_of};
 ghost use Rattle.schemagen_input.specs.Texts.{IsTableText, IsNoJson, IsBadTable};
 
-use crate::borrowed_value::{BorrowedValue, ParseError};
 use crate::error::InputError;
 use crate::input::read_input;
 use json::Scratch;
+use schemagen_json::{BorrowedValue, ParseError};
 use schemars_types::{TypeNo, Types};
 use std::alloc::Global;
 
@@ -18,7 +18,7 @@ pub enum TextError {
     OutOfMemory,
     /// The bytes are no UTF-8, or no JSON.
     NotJson,
-    /// The value is no table, or its root is none of the rows.
+    /// The value is not a table, or its root is not a row.
     BadTable,
 }
 
@@ -26,8 +26,8 @@ pub enum TextError {
 ///
 /// # Errors
 ///
-/// `NotJson` if the bytes are no JSON, `BadTable` if the JSON value is no table with a root, and
-/// want of memory.
+/// `NotJson` if the bytes are not JSON, `BadTable` if the JSON value is not a table with a root,
+/// and `OutOfMemory`.
 pub fn read_table(alloc: Global, bytes: &[u8]) -> Result<(Types, TypeNo), TextError>
     ensures ok { IfOk result (λ t. IsTableText t.0 t.1 bytes.now) }
     ensures table { IfOk result (λ t. is_table t.0 t.1 ≡ true) }

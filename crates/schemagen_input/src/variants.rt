@@ -1,19 +1,19 @@
 //! Variants of enums.
-ghost use Rattle.std.specs.Prelude.{◌≡◌, None, Some, IfOk, IfErr, option_map, option_and_then, map};
+ghost use Rattle.std.specs.Prelude.{◌≡◌, None, Some, IfOk, IfErr, option_map, map};
 ghost use Rattle.std.specs.Prelude.{codes};
-ghost use Rattle.schemagen_input.specs.BorrowedValue.{data_of, items_data};
+ghost use Rattle.schemagen_json.specs.BorrowedValue.{data_of};
 ghost use Rattle.schemars_shapes.specs.Shape.{shape_of, no_payload, payload_of, variant_of};
 ghost use Rattle.schemars_shapes.specs.Shape.{internal_payload_of, internal_variant_of};
 ghost use Rattle.schemagen_input.specs.Forms.{payload_named, payload_under, payload_in, variant_in};
-ghost use Rattle.schemagen_input.specs.Forms.{variants_in, variants_said, adjacent_in};
+ghost use Rattle.schemagen_input.specs.Forms.{variants_in, adjacent_in};
 ghost use Rattle.schemagen_input.specs.Forms.{enum_in, external_in, untagged_in};
 ghost use Rattle.schemagen_input.specs.Forms.{payload_inside, variant_inside, internals_in};
-ghost use Rattle.schemagen_input.specs.Forms.{internals_said, internal_in, optional_member};
+ghost use Rattle.schemagen_input.specs.Forms.{internal_variant_in, internal_in, optional_member};
 
-use crate::borrowed_value::BorrowedValue;
 use crate::error::InputError;
 use crate::fields::fields_said;
-use crate::members::{flag_in, has_only, lone_member, notes_in, number_in, parts_in, text_in};
+use crate::members::{flag_in, items_under, notes_in, number_in, parts_in, text_in};
+use schemagen_json::{BorrowedValue, lone_member};
 use schemars_types::{
     Adjacent, Internal, InternalPayload, InternalVariant, Payload, Shape, Variant,
 };
@@ -94,7 +94,7 @@ fn variant_in(alloc: Global, value: &BorrowedValue<'_>) -> Result<Variant, Input
     ensures bad { IfErr result
         (λ e. e ≡ InputError.BadTable → variant_in (data_of value.now) ≡ None) }
 {
-    if !has_only(value, &VARIANT_KEYS) {
+    if !value.has_only(&VARIANT_KEYS) {
         return Err(InputError::BadTable);
     }
     let Some(name) = text_in(value, "name") else {
@@ -110,34 +110,22 @@ fn variant_in(alloc: Global, value: &BorrowedValue<'_>) -> Result<Variant, Input
     })
 }
 
-fn variants_in(alloc: Global, values: &[BorrowedValue<'_>]) -> Result<Vec<Variant>, InputError>
-    ensures ok { IfOk result (λ v. variants_in (items_data values.now)
+// The variants of an enum; there are none where they are missing.
+fn variants_in(alloc: Global, value: &BorrowedValue<'_>) -> Result<Vec<Variant>, InputError>
+    ensures ok { IfOk result (λ v. variants_in (data_of value.now)
         ≡ Some (map variant_of v.items)) }
-    ensures bad { IfErr result
-        (λ e. e ≡ InputError.BadTable → variants_in (items_data values.now) ≡ None) }
+    ensures bad { IfErr result (λ e. e ≡ InputError.BadTable
+        → variants_in (data_of value.now) ≡ None) }
 {
+    let Some(items) = items_under(value, "variants") else {
+        return Err(InputError::BadTable);
+    };
     let mut variants = Vec::new(alloc);
-    for value in values {
-        let variant = variant_in(alloc, value)?;
+    for item in items {
+        let variant = variant_in(alloc, item)?;
         variants.push(variant)?;
     }
     Ok(variants)
-}
-
-// The variants of an enum; there are none where they are missing.
-fn variants_said(alloc: Global, value: &BorrowedValue<'_>) -> Result<Vec<Variant>, InputError>
-    ensures ok { IfOk result (λ v. variants_said (data_of value.now)
-        ≡ Some (map variant_of v.items)) }
-    ensures bad { IfErr result (λ e. e ≡ InputError.BadTable
-        → variants_said (data_of value.now) ≡ None) }
-{
-    let Some(variants) = value.get("variants") else {
-        return Ok(Vec::new(alloc));
-    };
-    match variants.as_array() {
-        Some(values) => variants_in(alloc, values),
-        None => Err(InputError::BadTable),
-    }
 }
 
 // The variants of an enum of which nothing else is said.
@@ -145,10 +133,10 @@ fn enum_in(alloc: Global, value: &BorrowedValue<'_>) -> Result<Vec<Variant>, Inp
     ensures ok { IfOk result (λ v. enum_in (data_of value.now) ≡ Some (map variant_of v.items)) }
     ensures bad { IfErr result (λ e. e ≡ InputError.BadTable → enum_in (data_of value.now) ≡ None) }
 {
-    if !has_only(value, &["variants"]) {
+    if !value.has_only(&["variants"]) {
         return Err(InputError::BadTable);
     }
-    variants_said(alloc, value)
+    variants_in(alloc, value)
 }
 
 /// An enum whose variants are tagged by their names.
@@ -199,54 +187,38 @@ fn variant_inside(variant: Variant) -> Option<InternalVariant>
     })
 }
 
-fn internals_in(
-    alloc: Global,
-    values: &[BorrowedValue<'_>],
-) -> Result<Vec<InternalVariant>, InputError>
-    ensures ok { IfOk result (λ v. internals_in (items_data values.now)
-        ≡ Some (map internal_variant_of v.items)) }
-    ensures bad { IfErr result
-        (λ e. e ≡ InputError.BadTable → internals_in (items_data values.now) ≡ None) }
-{
-    let mut variants = Vec::new(alloc);
-    for value in values {
-        let variant = internal_variant_in(alloc, value)?;
-        variants.push(variant)?;
-    }
-    Ok(variants)
-}
-
 fn internal_variant_in(
     alloc: Global,
     value: &BorrowedValue<'_>,
 ) -> Result<InternalVariant, InputError>
-    ensures ok { IfOk result (λ x. option_and_then variant_inside (variant_in (data_of value.now))
+    ensures ok { IfOk result (λ x. internal_variant_in (data_of value.now)
         ≡ Some (internal_variant_of x)) }
     ensures bad { IfErr result
-        (λ e. e ≡ InputError.BadTable
-        → option_and_then variant_inside (variant_in (data_of value.now)) ≡ None) }
+        (λ e. e ≡ InputError.BadTable → internal_variant_in (data_of value.now) ≡ None) }
 {
     let variant = variant_in(alloc, value)?;
     variant_inside(variant).ok_or(InputError::BadTable)
 }
 
 // The variants beside a tag; there are none where they are missing.
-fn internals_said(
+fn internals_in(
     alloc: Global,
     value: &BorrowedValue<'_>,
 ) -> Result<Vec<InternalVariant>, InputError>
-    ensures ok { IfOk result (λ v. internals_said (data_of value.now)
+    ensures ok { IfOk result (λ v. internals_in (data_of value.now)
         ≡ Some (map internal_variant_of v.items)) }
     ensures bad { IfErr result (λ e. e ≡ InputError.BadTable
-        → internals_said (data_of value.now) ≡ None) }
+        → internals_in (data_of value.now) ≡ None) }
 {
-    let Some(variants) = value.get("variants") else {
-        return Ok(Vec::new(alloc));
+    let Some(items) = items_under(value, "variants") else {
+        return Err(InputError::BadTable);
     };
-    match variants.as_array() {
-        Some(values) => internals_in(alloc, values),
-        None => Err(InputError::BadTable),
+    let mut variants = Vec::new(alloc);
+    for item in items {
+        let variant = internal_variant_in(alloc, item)?;
+        variants.push(variant)?;
     }
+    Ok(variants)
 }
 
 /// An enum whose variants are named by a member of their own maps.
@@ -255,13 +227,13 @@ pub fn internal_in(alloc: Global, value: &BorrowedValue<'_>) -> Result<Shape, In
     ensures bad { IfErr result (λ e. e ≡ InputError.BadTable
         → internal_in (data_of value.now) ≡ None) }
 {
-    if !has_only(value, &["tag", "closed", "variants"]) {
+    if !value.has_only(&["tag", "closed", "variants"]) {
         return Err(InputError::BadTable);
     }
     let (Some(tag), Some(closed)) = (text_in(value, "tag"), flag_in(value, "closed")) else {
         return Err(InputError::BadTable);
     };
-    let variants = internals_said(alloc, value)?;
+    let variants = internals_in(alloc, value)?;
     let tag = String::from_str(alloc, tag)?;
     Ok(Shape::Internal(Internal {
         tag,
@@ -278,7 +250,7 @@ pub fn adjacent_in(alloc: Global, value: &BorrowedValue<'_>) -> Result<Shape, In
     ensures bad { IfErr result (λ e. e ≡ InputError.BadTable
         → adjacent_in (data_of value.now) ≡ None) }
 {
-    if !has_only(value, &ADJACENT_KEYS) {
+    if !value.has_only(&ADJACENT_KEYS) {
         return Err(InputError::BadTable);
     }
     let (Some(tag), Some(content)) = (text_in(value, "tag"), text_in(value, "content")) else {
@@ -287,7 +259,7 @@ pub fn adjacent_in(alloc: Global, value: &BorrowedValue<'_>) -> Result<Shape, In
     let Some(closed) = flag_in(value, "closed") else {
         return Err(InputError::BadTable);
     };
-    let variants = variants_said(alloc, value)?;
+    let variants = variants_in(alloc, value)?;
     let tag = String::from_str(alloc, tag)?;
     let content = String::from_str(alloc, content)?;
     Ok(Shape::Adjacent(Adjacent {

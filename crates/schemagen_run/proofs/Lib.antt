@@ -4,3 +4,4 @@ pub mod Tables
 pub mod Runs
 pub mod Samples
 pub mod Writing
+mod Outputs

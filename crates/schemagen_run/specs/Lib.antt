@@ -3,3 +3,4 @@ pub mod Fault
 pub mod Run
 pub mod Words
 pub mod Writing
+pub mod Output

@@ -148,13 +148,13 @@ IsLineOf asked rows root line = IsLineIn asked.dialect asked rows root line
 abbrev pub IsUnplaced : Asked → List Row → ℕ → Type 0
 IsUnplaced asked rows root = IsAccepted rows × CannotPlace (fresh asked rows) root
 
--- why there is no document of this row, or are no definitions
+-- why there is no document of this row, or why there are no definitions
 pub record IsRefusal (asked : Asked) (rows : List Row) (root : ℕ) (e : GenerateError) : Type 0 where
   pub refused : (e ≡ OutOfMemory) ⊎ HasFault rows e ⊎ ((e ≡ DefinitionsPath) × IsUnplaced asked rows root)
   pub unfaulty : IsAccepted rows → (e ≡ OutOfMemory) ⊎ (e ≡ DefinitionsPath)
   pub only_memory : IsAccepted rows → HasPlainNotes rows → e ≡ OutOfMemory
 
--- and so is no line
+-- why there is no line
 pub record IsLineRefusal (asked : Asked) (rows : List Row) (root : ℕ) (f : Fault) : Type 0 where
   pub refused : (f ≡ Refused OUT_OF_MEMORY) ⊎ Tells rows f ⊎ ((f ≡ Refused DEFINITIONS_PATH) × IsUnplaced asked rows root)
   pub faults : IsLineFault f

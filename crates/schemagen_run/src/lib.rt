@@ -2,6 +2,7 @@
 #![tactic(auto)]
 
 pub mod fault;
+mod output;
 pub mod run;
 pub mod streams;
 mod words;

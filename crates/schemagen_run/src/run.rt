@@ -20,32 +20,31 @@ ghost use Rattle.schemagen_run.specs.Run.{IsAcceptedText, IsNotedText, IsFaultyT
 ghost use Rattle.schemagen_run.specs.Run.{IsLineRefusal};
 ghost use Rattle.schemagen_run.specs.Run.{settings_for, settings_of_dialect, transforms_of_dialect};
 ghost use Rattle.schemagen_run.specs.Run.{fresh};
-ghost use Rattle.schemagen_run.specs.Run.{IsWrittenDocument, IsTextLine, IsDocumentLine, IsLineOf};
+ghost use Rattle.schemagen_run.specs.Run.{IsLineOf};
 ghost use Rattle.schemagen_run.specs.Run.{IsTableLine, IsUnplacedText};
-ghost use Rattle.schemagen_run.specs.Run.{AreDefinitionsOf, AreTaken, IsDefinitionsLine};
+ghost use Rattle.schemagen_run.specs.Run.{AreTaken};
 ghost use Rattle.schemagen_run.specs.Run.{IsNotWhole, IsSampleText, IsSampleDocument};
 ghost use Rattle.schemagen_run.specs.Run.{IsExampleLine, IsSampleLineOf, IsSampleLine};
 ghost use Rattle.schemagen_run.specs.Run.{IsLineFor, IsUnplacedFor};
 ghost use Rattle.schemagen_run.specs.Writing.{WritesLine};
+ghost use Rattle.schemagen_run.specs.Output.{IsOutputOf, IsFreshFor};
 ghost use Rattle.schemagen_run.specs.Fault.{IsValueFault, IsReadFault, IsTableFault, IsOutside};
 ghost use Rattle.schemagen_run.specs.Fault.{IsTypesFault, IsSampleFault, IsFault};
 
 use crate::fault::{
     BAD_TABLE, DEFINITIONS_PATH, Fault, NOT_JSON, NOT_WHOLE, OUT_OF_MEMORY, READ, WRITE,
 };
-use crate::streams::{Failed, ReadError, Sink, Source, read_all};
+use crate::output::{Output, leave, write_output};
+use crate::streams::{ReadError, Sink, Source, read_all};
 use crate::words::{Asked, Command, Dialect, command_in};
 use schemagen_input::{SampleError, TextError, read_sample};
 use schemars::generate::{SchemaGenerator, SchemaSettings};
 use schemars::sample::Sample;
-use schemars::schema::write_ordered_definitions;
 use schemars::transform::NoTransform;
 use schemars::{GenerateError, Schema};
-use schemars_text::sink::write_all;
 use schemars_types::{TypeNo, Types};
 use serde_json::{Map, Value};
 use std::alloc::{AllocError, Global};
-use std::mem::ManuallyDrop;
 
 /// Reads a table of types from the source, and writes the root document of its root to the sink; or
 /// reads an example, and writes the root document of a schema that is made from it. The document is
@@ -300,101 +299,13 @@ fn write_line<K: Sink>(
     ensures refused { IfErr result
         (λ e. (e ≡ Fault.Refused WRITE) ⊎ IsLineRefusal asked types root e) }
 {
-    match asked.dialect {
-        Dialect::OpenApi3 => write_definitions(alloc, asked, types, root, sink),
-        Dialect::Draft2020_12 => write_document(alloc, asked, types, root, sink),
-        Dialect::Draft2019_09 => write_document(alloc, asked, types, root, sink),
-        Dialect::Draft07 => write_document(alloc, asked, types, root, sink),
-    }
-}
-
-// Writes the line of the root document of this row.
-fn write_document<K: Sink>(
-    alloc: Global,
-    asked: Asked,
-    types: Types,
-    root: TypeNo,
-    sink: &mut K,
-) -> Result<(), Fault>
-    requires table { is_table types root ≡ true }
-    requires draft { asked.dialect ≢ OpenApi3 }
-    ensures written { WritesLine K.bytes K.has_failed
-        (λ line. IsAccepted types × IsDocumentLine asked types root line) result
-        sink.old sink.new }
-    ensures refused { IfErr result
-        (λ e. (e ≡ Fault.Refused WRITE) ⊎ IsLineRefusal asked types root e) }
-{
-    let document = document_of(alloc, asked, types, root)?;
-    let answer = write_text(&document, sink);
-    leave(document);
+    let output = output_of(alloc, asked, types, root)?;
+    let answer = write_output(&output, sink);
+    leave(output);
     answer
 }
 
-// Leaves a document, or definitions, where they are. A run ends soon after their text is written,
-// and the pages of its memory are then given back at once: that is much faster than each part by
-// itself.
-fn leave<T: Drop>(written: T) {
-    let _kept = ManuallyDrop::new(written);
-}
-
-// Writes the text of a document, and a newline.
-fn write_text<K: Sink>(document: &Schema, sink: &mut K) -> Result<(), Fault>
-    ensures written { WritesLine K.bytes K.has_failed (IsTextLine document.now) result
-        sink.old sink.new }
-    ensures fault { IfErr result (λ e. e ≡ Fault.Refused WRITE) }
-{
-    document.write_ordered(sink)?;
-    end_line(sink)
-}
-
-// Writes the line of the definitions that this row leads to.
-fn write_definitions<K: Sink>(
-    alloc: Global,
-    asked: Asked,
-    types: Types,
-    root: TypeNo,
-    sink: &mut K,
-) -> Result<(), Fault>
-    requires table { is_table types root ≡ true }
-    requires openapi3 { asked.dialect ≡ OpenApi3 }
-    ensures written { WritesLine K.bytes K.has_failed (λ line. IsAccepted types
-        × ((taken : _) × AreDefinitionsOf asked types root taken × IsDefinitionsLine taken line))
-        result sink.old sink.new }
-    ensures refused { IfErr result
-        (λ e. (e ≡ Fault.Refused WRITE) ⊎ IsLineRefusal asked types root e) }
-{
-    let definitions = definitions_of(alloc, asked, types, root)?;
-    let answer = write_definitions_text(&definitions, sink);
-    leave(definitions);
-    answer
-}
-
-// Writes the text of definitions, and a newline.
-fn write_definitions_text<K: Sink>(
-    definitions: &Map<String, Value>,
-    sink: &mut K,
-) -> Result<(), Fault>
-    ensures written { WritesLine K.bytes K.has_failed
-        (IsDefinitionsLine (members_view definitions.now.entries)) result sink.old sink.new }
-    ensures fault { IfErr result (λ e. e ≡ Fault.Refused WRITE) }
-{
-    write_ordered_definitions(definitions, sink)?;
-    end_line(sink)
-}
-
-// Writes a newline.
-fn end_line<K: Sink>(sink: &mut K) -> Result<(), Fault>
-    ensures written { WritesLine K.bytes K.has_failed (λ line. line ≡ 10 ∷ []) result
-        sink.old sink.new }
-    ensures fault { IfErr result (λ e. e ≡ Fault.Refused WRITE) }
-{
-    match write_all(sink, b"\n") {
-        Ok(()) => Ok(()),
-        Err(Failed) => Err(Fault::Refused(WRITE)),
-    }
-}
-
-// A generator for what is asked, over this table.
+// A generator with the requested settings, over this table.
 fn generator_over(
     alloc: Global,
     asked: Asked,
@@ -410,38 +321,71 @@ fn generator_over(
     SchemaGenerator::with_types(alloc, settings, types)
 }
 
-// The root document of this row.
-fn document_of(
+// What is to be written for this row.
+fn output_of(
     alloc: Global,
     asked: Asked,
     types: Types,
     root: TypeNo,
-) -> Result<Schema, GenerateError>
-    requires table { is_table types root ≡ true }
-    requires draft { asked.dialect ≢ OpenApi3 }
-    ensures ok { IfOk result (λ d. IsWrittenDocument asked types root d) }
+) -> Result<Output, GenerateError>
+    requires { is_table types root ≡ true }
+    ensures ok { IfOk result (IsOutputOf asked types root) }
     ensures accepted { OnOk result (IsAccepted types) }
     ensures refused { IfErr result (IsRefusal asked types root) }
 {
     let generator = generator_over(alloc, asked, types)?;
-    generator.into_root_schema_for_type(alloc, root)
+    generated(alloc, asked, generator, root)
+}
+
+// What the generator makes for this row.
+fn generated(
+    alloc: Global,
+    asked: Asked,
+    generator: SchemaGenerator<NoTransform>,
+    root: TypeNo,
+) -> Result<Output, GenerateError>
+    requires { IsFreshFor asked generator root }
+    ensures ok { IfOk result (IsOutputOf asked generator.rows root) }
+    ensures refused { IfErr result (IsRefusal asked generator.rows root) }
+{
+    match asked.dialect {
+        Dialect::OpenApi3 => definitions_of(alloc, asked, generator, root),
+        Dialect::Draft2020_12 => document_of(alloc, asked, generator, root),
+        Dialect::Draft2019_09 => document_of(alloc, asked, generator, root),
+        Dialect::Draft07 => document_of(alloc, asked, generator, root),
+    }
+}
+
+// The root document of this row.
+fn document_of(
+    alloc: Global,
+    asked: Asked,
+    generator: SchemaGenerator<NoTransform>,
+    root: TypeNo,
+) -> Result<Output, GenerateError>
+    requires draft { asked.dialect ≢ OpenApi3 }
+    requires fresh { IsFreshFor asked generator root }
+    ensures ok { IfOk result (IsOutputOf asked generator.rows root) }
+    ensures refused { IfErr result (IsRefusal asked generator.rows root) }
+{
+    let document = generator.into_root_schema_for_type(alloc, root)?;
+    Ok(Output::Document(document))
 }
 
 // The definitions that this row leads to, through the transforms.
 fn definitions_of(
     alloc: Global,
     asked: Asked,
-    types: Types,
+    mut generator: SchemaGenerator<NoTransform>,
     root: TypeNo,
-) -> Result<Map<String, Value>, GenerateError>
-    requires table { is_table types root ≡ true }
+) -> Result<Output, GenerateError>
     requires openapi3 { asked.dialect ≡ OpenApi3 }
-    ensures ok { IfOk result (λ m. AreDefinitionsOf asked types root (members_view m.entries)) }
-    ensures accepted { OnOk result (IsAccepted types) }
-    ensures refused { IfErr result (IsRefusal asked types root) }
+    requires fresh { IsFreshFor asked generator root }
+    ensures ok { IfOk result (IsOutputOf asked generator.rows root) }
+    ensures refused { IfErr result (IsRefusal asked generator.rows root) }
 {
-    let mut generator = generator_over(alloc, asked, types)?;
-    taken_definitions(alloc, &mut generator, root)
+    let definitions = taken_definitions(alloc, &mut generator, root)?;
+    Ok(Output::Definitions(definitions))
 }
 
 // Makes a part for this row, and takes the definitions that it leads to.
@@ -491,7 +435,7 @@ fn write_example<K: Sink>(
         (λ e. (e ≡ Fault.Refused WRITE) ⊎ (e ≡ Fault.Refused OUT_OF_MEMORY)) }
 {
     let document = sample_document(alloc, dialect, sample)?;
-    write_text(&document, sink)
+    write_output(&Output::Document(document), sink)
 }
 
 // The example that the value is.

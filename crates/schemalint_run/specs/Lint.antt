@@ -13,7 +13,7 @@ abbrev pub IsPlainText : List ℕ → Type 0
 IsPlainText bytes =
     (rows : List Row) × ((root : ℕ) × IsTableText rows root bytes × IsAccepted rows × IsPlainTable rows)
 
--- no fault is told of the text of a table without faults alone, and that it is plain exactly where it is
+-- no fault is reported if and only if the text is a table without faults, and `plain` if and only if it is plain
 abbrev pub Judges : Verdict → List ℕ → Type 0
 Judges verdict bytes = ((verdict ≢ Refused) ↔ IsAcceptedText bytes) × ((verdict ≡ Plain) ↔ IsPlainText bytes)
 

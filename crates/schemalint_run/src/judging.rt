@@ -10,7 +10,8 @@ use crate::lines::{add_fault, add_row_fault};
 use crate::reasons::add_reasons;
 use crate::warnings::add_warnings;
 use json::Scratch;
-use schemagen_input::{BorrowedValue, ParseError, TextError, find_fault, read_input, read_table};
+use schemagen_input::{TextError, find_fault, read_input, read_table};
+use schemagen_json::{BorrowedValue, ParseError};
 use schemars_plain::is_plain;
 use schemars_types::{Types, TypesError};
 use serde_json::Value;
@@ -113,7 +114,7 @@ fn add_syntax_error(alloc: Global, text: &str, lines: &mut String) -> Result<(),
     }
 }
 
-// Adds where the value is no table, or that its root is none of the rows.
+// Adds the place at which the value is not a table, or that its root is not a row.
 fn add_bad_table(
     alloc: Global,
     value: &BorrowedValue<'_>,
@@ -132,7 +133,7 @@ fn add_bad_table(
     }
 }
 
-// Whether the table has no fault; the first is told.
+// Whether the table has no fault; the first fault is reported.
 fn is_accepted(alloc: Global, types: &Types, lines: &mut String) -> Result<bool, AllocError>
     ensures { IfOk result (λ b. IsTrue b ↔ IsAccepted types.now) }
 {

@@ -6,6 +6,7 @@ mod lines;
 mod places;
 mod reach;
 mod reasons;
+mod variants;
 mod warnings;
 
 pub use judging::{Report, Verdict, lint};

@@ -1,4 +1,4 @@
-//! Where something stands in a table.
+//! Places in a table.
 use schemars_types::{TypeNo, Types};
 use std::alloc::{AllocError, Global};
 

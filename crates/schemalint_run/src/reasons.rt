@@ -1,14 +1,12 @@
 //! Why a table is not plain.
 use crate::lines::add_line;
 use crate::places::row_place;
+use crate::variants::AnyVariant;
 use schemars_plain::{
     has_one_value, have_plain_parts, is_annotation, is_plain_member, is_plain_row,
 };
 use schemars_schema::Schema;
-use schemars_types::{
-    Field, Fields, InternalPayload, InternalVariant, Payload, Shape, TypeEntry, TypeNo, Types,
-    Variant,
-};
+use schemars_types::{Field, Shape, TypeEntry, TypeNo, Types};
 use serde_json::{Map, Value};
 use std::alloc::{AllocError, Global};
 
@@ -59,7 +57,7 @@ fn add_reason(
     add_line(alloc, lines, "not plain", place, reason)
 }
 
-// The notes of this owner that are no annotations.
+// The notes of this owner that are not annotations.
 fn add_notes(
     alloc: Global,
     place: &str,
@@ -88,7 +86,7 @@ fn add_shape(
         Shape::External(variants) | Shape::Untagged(variants) => {
             add_variants(alloc, place, variants, lines)
         }
-        Shape::Internal(internal) => add_internal(alloc, place, &internal.variants, lines),
+        Shape::Internal(internal) => add_variants(alloc, place, &internal.variants, lines),
         Shape::Adjacent(adjacent) => add_variants(alloc, place, &adjacent.variants, lines),
         Shape::Literal(schema) => add_literal(alloc, place, schema, lines),
         Shape::Null | Shape::Bool | Shape::Int(_) | Shape::NonZero(_) => Ok(()),
@@ -115,66 +113,21 @@ fn add_fields(
     Ok(())
 }
 
-fn add_variants(
+fn add_variants<V: AnyVariant>(
     alloc: Global,
     place: &str,
-    variants: &[Variant],
+    variants: &[V],
     lines: &mut String,
 ) -> Result<(), AllocError> {
     for variant in variants {
-        let fields = match &variant.payload {
-            Payload::Struct(fields) => Some(fields),
-            _ => None,
-        };
-        add_variant(
-            alloc,
-            place,
-            variant.name.as_str(),
-            &variant.notes,
-            fields,
-            lines,
-        )?;
+        let name = variant.name();
+        let owner = format!(in alloc; "the variant {name:?}")?;
+        add_notes(alloc, place, owner.as_str(), variant.notes(), lines)?;
+        if let Some(fields) = variant.fields() {
+            add_fields(alloc, place, &fields.list, lines)?;
+        }
     }
     Ok(())
-}
-
-fn add_internal(
-    alloc: Global,
-    place: &str,
-    variants: &[InternalVariant],
-    lines: &mut String,
-) -> Result<(), AllocError> {
-    for variant in variants {
-        let fields = match &variant.payload {
-            InternalPayload::Struct(fields) => Some(fields),
-            _ => None,
-        };
-        add_variant(
-            alloc,
-            place,
-            variant.name.as_str(),
-            &variant.notes,
-            fields,
-            lines,
-        )?;
-    }
-    Ok(())
-}
-
-fn add_variant(
-    alloc: Global,
-    place: &str,
-    name: &str,
-    notes: &Map<String, Value>,
-    fields: Option<&Fields>,
-    lines: &mut String,
-) -> Result<(), AllocError> {
-    let owner = format!(in alloc; "the variant {name:?}")?;
-    add_notes(alloc, place, owner.as_str(), notes, lines)?;
-    match fields {
-        Some(fields) => add_fields(alloc, place, &fields.list, lines),
-        None => Ok(()),
-    }
 }
 
 // What a literal has that is not promised to mean anything.

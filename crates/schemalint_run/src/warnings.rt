@@ -1,8 +1,9 @@
-//! What is no fault, and seldom meant.
+//! What is not a fault, but seldom meant.
 use crate::lines::add_line;
 use crate::places::row_place;
 use crate::reach::reached;
-use schemars_types::{Field, InternalPayload, Payload, Shape, TypeEntry, TypeNo, Types, Variant};
+use crate::variants::AnyVariant;
+use schemars_types::{Field, Shape, TypeEntry, TypeNo, Types};
 use std::alloc::{AllocError, Global};
 use std::collections::BTreeMap;
 
@@ -107,12 +108,7 @@ fn warn_of_options(
             warn_of_variants(alloc, types, n, variants, lines)
         }
         Shape::Internal(internal) => {
-            for variant in &internal.variants {
-                if let InternalPayload::Struct(fields) = &variant.payload {
-                    warn_of_fields(alloc, types, n, &fields.list, lines)?;
-                }
-            }
-            Ok(())
+            warn_of_variants(alloc, types, n, &internal.variants, lines)
         }
         Shape::Adjacent(adjacent) => {
             warn_of_variants(alloc, types, n, &adjacent.variants, lines)
@@ -128,15 +124,15 @@ fn warn_of_options(
     }
 }
 
-fn warn_of_variants(
+fn warn_of_variants<V: AnyVariant>(
     alloc: Global,
     types: &Types,
     n: TypeNo,
-    variants: &[Variant],
+    variants: &[V],
     lines: &mut String,
 ) -> Result<(), AllocError> {
     for variant in variants {
-        if let Payload::Struct(fields) = &variant.payload {
+        if let Some(fields) = variant.fields() {
             warn_of_fields(alloc, types, n, &fields.list, lines)?;
         }
     }

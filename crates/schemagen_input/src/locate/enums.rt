@@ -1,10 +1,9 @@
 //! Fields of structs and variants of enums.
-use crate::borrowed_value::BorrowedValue;
 use crate::locate::members::{
     check_flag, check_names, check_notes, check_row, check_row_in, check_rows, check_text, missing,
 };
 use crate::locate::stop::{Stop, inside, inside_item, refuse};
-use crate::members::lone_member;
+use schemagen_json::{BorrowedValue, lone_member};
 use std::alloc::Global;
 
 /// The fields of a struct, and the rows flattened into it.

@@ -1,7 +1,7 @@
 //! The members of objects, and what single values say.
-use crate::borrowed_value::BorrowedValue;
 use crate::locate::stop::{Stop, fault_here, inside, inside_item, refuse};
 use crate::members::kind_in;
+use schemagen_json::BorrowedValue;
 use schemars_schema::edits::is_listed;
 use std::alloc::Global;
 

@@ -1,12 +1,12 @@
 //! Tables, rows and shapes.
-use crate::borrowed_value::BorrowedValue;
 use crate::locate::enums::{check_adjacent, check_enum, check_fields, check_internal};
 use crate::locate::members::{
     check_count, check_flag, check_kind, check_names, check_notes, check_row, check_row_in,
     check_rows, check_text, missing,
 };
 use crate::locate::stop::{Stop, fault_here, inside, inside_item, refuse};
-use crate::members::{lone_member, text_in};
+use crate::members::text_in;
+use schemagen_json::{BorrowedValue, lone_member};
 use schemars_schema::edits::is_listed;
 use std::alloc::Global;
 
@@ -14,7 +14,7 @@ const SHAPES: [&str; 8] = [
     "null", "bool", "number", "text", "char", "any", "bytes", "schema",
 ];
 
-/// Stops at the first place at which a value is no table.
+/// Stops at the first place at which a value is not a table.
 pub fn check_table(alloc: Global, value: &BorrowedValue<'_>) -> Result<(), Stop> {
     check_names(alloc, value, &["types", "root"])?;
     check_count(alloc, value, "root")?;

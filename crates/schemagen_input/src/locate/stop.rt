@@ -1,4 +1,4 @@
-//! How a walk over a value stops, and the place that it tells.
+//! How a walk over a value stops, and the place that it reports.
 use crate::locate::InputFault;
 use std::alloc::{AllocError, AllocFailed, Global};
 
@@ -6,7 +6,7 @@ use std::alloc::{AllocError, AllocFailed, Global};
 #[derive(Drop)]
 pub enum Stop {
     OutOfMemory,
-    /// The place is told from where the walk stands.
+    /// The place is relative to the value at which the walk is.
     Fault(InputFault),
 }
 
@@ -22,7 +22,7 @@ impl<T: Drop> From<AllocFailed<T>> for Stop {
     }
 }
 
-/// A fault of the value at which the walk stands.
+/// A fault of the value at which the walk is.
 pub fn refuse(alloc: Global, reason: &str) -> Result<(), Stop> {
     let reason = String::from_str(alloc, reason)?;
     fault_here(alloc, reason)
@@ -36,7 +36,7 @@ pub fn fault_here(alloc: Global, reason: String) -> Result<(), Stop> {
     }))
 }
 
-/// What a walk over a member found, told from the object.
+/// The result of a walk over a member, with places relative to the object.
 pub fn inside(alloc: Global, name: &str, found: Result<(), Stop>) -> Result<(), Stop> {
     match found {
         Err(Stop::Fault(fault)) => {
@@ -49,7 +49,7 @@ pub fn inside(alloc: Global, name: &str, found: Result<(), Stop>) -> Result<(), 
     }
 }
 
-/// What a walk over an item found, told from the list.
+/// The result of a walk over an item, with places relative to the list.
 pub fn inside_item(alloc: Global, n: usize, found: Result<(), Stop>) -> Result<(), Stop> {
     let name = format!(in alloc; "{n}")?;
     inside(alloc, name.as_str(), found)

@@ -1,7 +1,7 @@
 -- A row takes its entry, unless the table refuses it.
 use Rattle.std.proofs.Common.{◌≡◌, [], length, None, sym, rules}
 use Rattle.schemars_shapes.specs.Shape.{entry_of}
-use Rattle.schemagen_input.specs.BorrowedValue.{items_data}
+use Rattle.schemagen_json.specs.BorrowedValue.{items_data}
 use Rattle.schemagen_input.specs.Reading.{fitting_after}
 use Rattle.schemagen_input.proofs.Reading.{defining_goes_on, defining_is_refused}
 use Rattle.schemagen_input.proofs.input.define_rows.Goals as goal

@@ -1,9 +1,9 @@
 -- The table is what its rows and its root are.
 use Rattle.std.proofs.Common.{◌≡◌, true, None, sym, ◌∙◌, codes, ◌∷◌, []}
 use Rattle.std.proofs.lemmas.Result.{err_from_is_err_and, IfErr-weaker}
-use Rattle.schemagen_input.specs.BorrowedValue.{data_of, items_data}
+use Rattle.schemagen_json.specs.BorrowedValue.{data_of, items_data}
 use Rattle.schemagen_input.specs.declared.error.InputError.TheVariants.{BadTable}
-use Rattle.schemagen_input.specs.Forms.{has_only}
+use Rattle.schemagen_json.specs.Members.{has_only}
 use Rattle.schemagen_input.specs.Input.{table_in}
 use Rattle.schemagen_input.proofs.Reading.{table_in-parts, tabled-not_reserved, tabled-not_fitting, tabled-done, rows_done}
 use Rattle.schemagen_input.proofs.Written.{input_back, is_read, is_not_refused}

@@ -1,5 +1,5 @@
 -- The root is one of the rows.
-use Rattle.schemagen_input.specs.BorrowedValue.{data_of}
+use Rattle.schemagen_json.specs.BorrowedValue.{data_of}
 use Rattle.schemagen_input.proofs.Roots.{is_input, is_no_input, has_root}
 use Rattle.schemagen_input.proofs.text.rooted_table.Goals as goal
 

@@ -1,10 +1,8 @@
 -- The variants so far, and then those that the rest says.
-use Rattle.std.proofs.Common.{◌≡◌, ◌++◌, drop, map, option_map}
-use Rattle.schemagen_input.specs.BorrowedValue.{items_data}
 use Rattle.schemars_shapes.specs.Shape.{variant_of}
-use Rattle.schemagen_input.specs.Forms.{variants_in}
+use Rattle.schemagen_input.specs.Forms.{variant_in}
+use Rattle.schemagen_input.proofs.Lists.{IsReadSoFar}
 use Rattle.schemagen_input.proofs.variants.variants_in.Given as goal
 
-abbrev pub invariant-loop-value : goal.invariant-loop-value
-invariant-loop-value l = variants_in (items_data l.values) ≡ option_map (λ xs. map variant_of l.variants.items ++ xs)
-    (variants_in (items_data (drop l.value-index l.values)))
+abbrev pub invariant-loop-item : goal.invariant-loop-item
+invariant-loop-item l = IsReadSoFar variant_of variant_in l.items l.item-index l.variants.items

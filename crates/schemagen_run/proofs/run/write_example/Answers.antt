@@ -21,4 +21,4 @@ returns-in_err-document g c =
 
 pub returns-clause-written : goal.returns-clause-written
 returns-clause-written g c =
-    weaker _ _ c.write_text.result _ _ (λ line of. (_, c.in_ok-document.ensures.ok, of)) c.write_text.ensures.written
+    weaker _ _ c.write_output.result _ _ (λ line of. (_, c.in_ok-document.ensures.ok, of)) c.write_output.ensures.written

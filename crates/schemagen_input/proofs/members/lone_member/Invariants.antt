@@ -1,9 +1,0 @@
--- The members so far have the name of the last one.
-use Rattle.std.proofs.Common.{◌≡◌, true, take}
-use Rattle.std.specs.List.{list_all}
-use Rattle.std.specs.Str.{bytes_eq}
-use Rattle.schemagen_input.proofs.BorrowedMembers.{Member}
-use Rattle.schemagen_input.proofs.members.lone_member.Given as goal
-
-abbrev pub invariant-loop-other : goal.invariant-loop-other
-invariant-loop-other l = list_all (λ (m : Member). bytes_eq m.0.now l.name.now) (take l.other-index l.other-items) ≡ true

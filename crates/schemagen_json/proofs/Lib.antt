@@ -1,0 +1,3 @@
+-- The lemmas of the proofs.
+mod Members
+mod Reading

@@ -1,0 +1,186 @@
+-- What is read is what the grammar reads, token by token.
+use Rattle.std.proofs.Common.{◌≡◌, ◌-◌, ◌<◌, [], ◌∷◌, length, Some, None, sym, ap, ◌∙◌, arith, rules}
+use Rattle.json.specs.Token.{Token}
+use Rattle.json.specs.Json.{parse_map, after_end_array, read_key, items, members, value}
+use Rattle.json.specs.Reads.{token_of}
+use Rattle.json.proofs.Grammar.{value_is, read_key-shorter}
+use Rattle.serde_json.specs.Data.{null, boolean, number, string, array, object, put}
+use Rattle.serde_json.specs.Read.{of_json, of_items, of_members, converted}
+use Rattle.serde_json.specs.View.{number_view}
+use Rattle.schemagen_json.specs.declared.borrowed_value.BorrowedValue.{String, Number, Bool, Null, the_lemmas}
+use Rattle.schemagen_json.specs.BorrowedValue.{data_of, members_data}
+use Rattle.schemagen_json.proofs.Members.{data_of-Array, data_of-Object, members_data-push}
+use Rattle.schemagen_json.proofs.Reading.{nothing_read, string_read, boolean_read, null_read, number_read, number_refused}
+use Rattle.schemagen_json.proofs.Reading.{array_opened, object_opened, array_too_deep, object_too_deep, read_at}
+use Rattle.schemagen_json.proofs.Reading.{items_before, items_before-none, one_more_item, none_before}
+use Rattle.schemagen_json.proofs.Reading.{item_read, item_refused, items_closed, member_read, member_refused, name_refused}
+use Rattle.schemagen_json.proofs.Reading.{members_closed}
+use Rattle.schemagen_json.proofs.borrowed_value.reading.+read.Goals as goal
+
+pub read-returns-in_err-token-clause-not_json : goal.read-returns-in_err-token-clause-not_json
+read-returns-in_err-token-clause-not_json t c refused = nothing_read c.args.depth c.args.reader.now [] (grind arith)
+
+pub read-returns-then-depth-eq0-clause-not_json : goal.read-returns-then-depth-eq0-clause-not_json
+read-returns-then-depth-eq0-clause-not_json t c refused =
+    let first : c.args.reader.now ≡ Token.begin_array ∷ c.next.new.self = grind (arith, c.in-BeginArray.is) in
+    let none : c.args.depth ≡ 0 = omega arith in
+    ap (λ k. read_at k c.args.reader.now) none ∙ array_too_deep c.args.reader.now c.next.new.self first
+
+pub read-returns-then-depth-eq0-2-clause-not_json : goal.read-returns-then-depth-eq0-2-clause-not_json
+read-returns-then-depth-eq0-2-clause-not_json t c refused =
+    let first : c.args.reader.now ≡ Token.begin_object ∷ c.next.new.self = grind (arith, c.in-BeginObject.is) in
+    let none : c.args.depth ≡ 0 = omega arith in
+    ap (λ k. read_at k c.args.reader.now) none ∙ object_too_deep c.args.reader.now c.next.new.self first
+
+pub read-returns-in_err-read_items-in-BeginArray-clause-not_json : goal.read-returns-in_err-read_items-in-BeginArray-clause-not_json
+read-returns-in_err-read_items-in-BeginArray-clause-not_json t c refused =
+    let first : c.args.reader.now ≡ Token.begin_array ∷ c.next.new.self = grind (arith, c.in-BeginArray.is) in
+    array_opened c.args.depth c.args.reader.now c.next.new.self (omega arith) first
+    ∙ ap (parse_map array) (c.read_items.ensures.not_json (grind arith))
+
+pub read-returns-in_err-read_members-in-BeginObject-clause-not_json : goal.read-returns-in_err-read_members-in-BeginObject-clause-not_json
+read-returns-in_err-read_members-in-BeginObject-clause-not_json t c refused =
+    let first : c.args.reader.now ≡ Token.begin_object ∷ c.next.new.self = grind (arith, c.in-BeginObject.is) in
+    object_opened c.args.depth c.args.reader.now c.next.new.self (omega arith) first
+    ∙ ap (parse_map object) (c.read_members.ensures.not_json (grind arith))
+
+pub read-returns-in-String-clause-ok : goal.read-returns-in-String-clause-ok
+read-returns-in-String-clause-ok t c =
+    let first : c.args.reader.now ≡ Token.string c.in-String.text.now ∷ c.next.new.self = grind (arith, c.in-String.is) in
+    let seen : data_of (String c.in-String.text) ≡ string c.in-String.text.now = search (rules, the_lemmas) in
+    string_read c.args.depth c.args.reader.now c.next.new.self _ first ∙ ap (λ d. Some (d, c.next.new.self)) (sym seen)
+
+pub read-returns-in-Some-clause-ok : goal.read-returns-in-Some-clause-ok
+read-returns-in-Some-clause-ok t c =
+    let first : c.args.reader.now ≡ Token.number c.in-Number.text.now ∷ c.next.new.self = grind (arith, c.in-Number.is) in
+    let seen : data_of (Number c.in-Some.number) ≡ number (number_view c.in-Some.number) = search (rules, the_lemmas) in
+    number_read c.args.depth c.args.reader.now c.next.new.self _ _ first (sym c.in-Some.ensures)
+    ∙ ap (λ d. Some (d, c.next.new.self)) (sym seen)
+
+pub read-returns-in-None-clause-not_json : goal.read-returns-in-None-clause-not_json
+read-returns-in-None-clause-not_json t c refused =
+    let first : c.args.reader.now ≡ Token.number c.in-Number.text.now ∷ c.next.new.self = grind (arith, c.in-Number.is) in
+    number_refused c.args.depth c.args.reader.now c.next.new.self _ first (sym c.in-None.ensures)
+
+pub read-returns-in-Bool-clause-ok : goal.read-returns-in-Bool-clause-ok
+read-returns-in-Bool-clause-ok t c =
+    let first : c.args.reader.now ≡ Token.boolean c.in-Bool.b ∷ c.next.new.self = grind (arith, c.in-Bool.is) in
+    let seen : data_of (Bool c.in-Bool.b) ≡ boolean c.in-Bool.b = search (rules, the_lemmas) in
+    boolean_read c.args.depth c.args.reader.now c.next.new.self _ first ∙ ap (λ d. Some (d, c.next.new.self)) (sym seen)
+
+pub read-returns-in-Null-clause-ok : goal.read-returns-in-Null-clause-ok
+read-returns-in-Null-clause-ok t c =
+    let first : c.args.reader.now ≡ Token.null ∷ c.next.new.self = grind (arith, c.in-Null.is) in
+    let seen : data_of Null ≡ null = search (rules, the_lemmas) in
+    null_read c.args.depth c.args.reader.now c.next.new.self first ∙ ap (λ d. Some (d, c.next.new.self)) (sym seen)
+
+pub read-returns-in-EndObject-clause-not_json : goal.read-returns-in-EndObject-clause-not_json
+read-returns-in-EndObject-clause-not_json t c refused =
+    let first : c.args.reader.now ≡ token_of c.in_ok-token.token ∷ c.next.new.self = grind arith in
+    let none : value c.args.depth c.args.reader.now ≡ None = rw (value_is c.args.depth c.args.reader.now, first) (grind arith) in
+    ap (converted of_json) none
+
+pub read-returns-in_ok-read_items-in-BeginArray-clause-ok : goal.read-returns-in_ok-read_items-in-BeginArray-clause-ok
+read-returns-in_ok-read_items-in-BeginArray-clause-ok t c =
+    let first : c.args.reader.now ≡ Token.begin_array ∷ c.next.new.self = grind (arith, c.in-BeginArray.is) in
+    let found = c.in_ok-read_items-in-BeginArray in
+    array_opened c.args.depth c.args.reader.now c.next.new.self (omega arith) first
+    ∙ ap (parse_map array) found.ensures.ok ∙ ap (λ d. Some (d, c.read_items.new.reader)) (sym (data_of-Array found.field-0))
+
+pub read-returns-in_ok-read_members-in-BeginObject-clause-ok : goal.read-returns-in_ok-read_members-in-BeginObject-clause-ok
+read-returns-in_ok-read_members-in-BeginObject-clause-ok t c =
+    let first : c.args.reader.now ≡ Token.begin_object ∷ c.next.new.self = grind (arith, c.in-BeginObject.is) in
+    let found = c.in_ok-read_members-in-BeginObject in
+    object_opened c.args.depth c.args.reader.now c.next.new.self (omega arith) first
+    ∙ ap (parse_map object) found.ensures.ok ∙ ap (λ d. Some (d, c.read_members.new.reader)) (sym (data_of-Object found.field-0))
+
+pub read_items-items-init : goal.read_items-items-init
+read_items-items-init t c =
+    let all = converted of_items (items (value c.args.depth) (length c.args.reader.now) c.args.reader.now) in (
+      length c.args.reader.now,
+      omega arith,
+      sym (none_before all)
+          ∙ ap (λ vs. parse_map (items_before vs) all) (sym c.new-found.ensures.items),
+      omega arith,
+    )
+
+pub read_items-returns-in_err-item-clause-not_json : goal.read_items-returns-in_err-item-clause-not_json
+read_items-returns-in_err-item-clause-not_json t c refused =
+    let l = c.items in
+    let going : (after_end_array l.reader ≡ None) × (c.take_end_array.new.self ≡ l.reader) = grind arith in
+    l.invariant.2 ∙ ap (parse_map (items_before l.found.items))
+    (item_refused (value c.args.depth) l.invariant.0 l.reader going.0 (rw (← going.1) (c.read.ensures.not_json (grind arith))))
+
+pub read_items-items-preserved : goal.read_items-items-preserved
+read_items-items-preserved t c =
+    let p = value c.args.depth in
+    let l = c.items in
+    let n = l.invariant.0 in
+    let going : (after_end_array l.reader ≡ None) × (c.take_end_array.new.self ≡ l.reader) = grind arith in
+    let done = c.in_ok-item.ensures in
+    let v = c.in_ok-item.item in
+    let rest = c.read.new.reader in
+    let less : length rest < length l.reader = rw (← going.1) done.shorter in
+    let turn = item_read p n l.reader rest (data_of v) (omega (arith, l.invariant.1)) going.0 (rw (← going.1) done.ok) in (
+      n - 1,
+      omega (arith, l.invariant.1),
+      l.invariant.2 ∙ ap (parse_map (items_before l.found.items)) turn ∙ one_more_item l.found.items v _
+          ∙ ap (λ vs. parse_map (items_before vs) (converted of_items (items p (n - 1) rest))) (sym c.in_ok-push.ensures.items),
+      omega (arith, l.invariant.3),
+    )
+
+pub read_items-returns-clause-ok : goal.read_items-returns-clause-ok
+read_items-returns-clause-ok t c =
+    let l = c.items in
+    let rest = c.take_end_array.new.self in
+    l.invariant.2
+    ∙ ap (parse_map (items_before l.found.items)) (items_closed (value c.args.depth) l.invariant.0 l.reader rest l.invariant.1 (grind arith))
+    ∙ ap (λ ds. Some (ds, rest)) (items_before-none l.found.items)
+
+pub read_members-members-init : goal.read_members-members-init
+read_members-members-init t c =
+    let all = members (value c.args.depth) (length c.args.reader.now) c.args.reader.now in
+    (length c.args.reader.now, omega arith, ap (λ es. converted (λ ms. of_members ms (members_data es)) all) (sym c.new-found.ensures.items), omega arith)
+
+pub read_members-returns-in_err-name-clause-not_json : goal.read_members-returns-in_err-name-clause-not_json
+read_members-returns-in_err-name-clause-not_json t c refused =
+    let l = c.members in
+    l.invariant.2 ∙ name_refused (value c.args.depth) (members_data l.found.items) l.invariant.0 l.reader c.in_err-name.ensures.value
+
+pub read_members-returns-in_err-member-clause-not_json : goal.read_members-returns-in_err-member-clause-not_json
+read_members-returns-in_err-member-clause-not_json t c refused =
+    let l = c.members in
+    let behind = c.next_key.new.self in
+    let named : read_key l.reader ≡ Some (Some c.in-Some.name.now, behind) = grind arith in
+    l.invariant.2
+    ∙ member_refused (value c.args.depth) (members_data l.found.items) l.invariant.0 c.in-Some.name.now l.reader behind named
+    (c.read.ensures.not_json (grind arith))
+
+pub read_members-members-preserved : goal.read_members-members-preserved
+read_members-members-preserved t c =
+    let p = value c.args.depth in
+    let l = c.members in
+    let n = l.invariant.0 in
+    let name = c.in-Some.name in
+    let behind = c.next_key.new.self in
+    let named : read_key l.reader ≡ Some (Some name.now, behind) = grind arith in
+    let done = c.in_ok-member.ensures in
+    let v = c.in_ok-member.member in
+    let rest = c.read.new.reader in
+    let less = read_key-shorter l.reader (Some name.now) behind named in
+    let lesser = done.shorter in
+    let grown : members_data c.push.new.self.items ≡ put name.now (data_of v) (members_data l.found.items) =
+    ap members_data c.in_ok-push.ensures.items ∙ members_data-push l.found.items (name, v) in (
+      n - 1,
+      omega (arith, l.invariant.1),
+      l.invariant.2
+          ∙ member_read p (members_data l.found.items) n name.now l.reader behind rest (data_of v) (omega (arith, l.invariant.1)) named done.ok
+          ∙ ap (λ found. converted (λ ms. of_members ms found) (members p (n - 1) rest)) (sym grown),
+      omega (arith, l.invariant.3),
+    )
+
+pub read_members-returns-clause-ok : goal.read_members-returns-clause-ok
+read_members-returns-clause-ok t c =
+    let l = c.members in
+    l.invariant.2
+    ∙ members_closed (value c.args.depth) (members_data l.found.items) l.invariant.0 l.reader c.next_key.new.self l.invariant.1 (grind arith)

@@ -1,0 +1,39 @@
+-- What is made for a row is its output.
+use Rattle.std.proofs.Common.{◌≡◌, ◌≢◌, ℕ, List, true, ap, ◌∙◌, sym, subst}
+use Rattle.serde_json.specs.Data.{Data, Members}
+use Rattle.schemars_schema.specs.Json.{Text}
+use Rattle.schemars_types.specs.Rows.{Row}
+use Rattle.schemars_types.specs.Faults.{IsAccepted}
+use Rattle.schemars_transform.specs.declared.no_transform.NoTransform.{NoTransform}
+use Rattle.schemars_generate.specs.Generator.{Generator, state, transforms_of}
+use Rattle.schemars_headline.specs.State.{State}
+use Rattle.schemagen_input.specs.Input.{is_table}
+use Rattle.schemagen_run.specs.declared.words.Asked.{Asked}
+use Rattle.schemagen_run.specs.declared.words.Dialect.{Dialect}
+use Rattle.schemagen_run.specs.declared.words.Dialect.TheVariants.{OpenApi3}
+use Rattle.schemagen_run.specs.declared.output.Output.TheVariants.{Document}
+use Rattle.schemagen_run.specs.Run.{IsWrittenDocument, AreDefinitionsOf, IsDefinitionsLine, IsLineIn, IsLineOf, fresh}
+use Rattle.schemagen_run.specs.Run.{transforms_of_dialect}
+use Rattle.schemagen_run.specs.Output.{IsOutputOf, IsFreshFor}
+use Rattle.schemagen_run.proofs.Runs.{in_draft}
+
+pub document_is_output : (asked : Asked) (rows : List Row) (root : ℕ) (d : Data) → asked.dialect ≢ OpenApi3
+    → IsWrittenDocument asked rows root d → IsOutputOf asked rows root (Document d)
+document_is_output asked rows root d draft written = λ line of. in_draft asked rows root line asked.dialect draft (d, written, of)
+
+pub definitions_line : (asked : Asked) (rows : List Row) (root : ℕ) (taken : Members) (line : Text) → asked.dialect ≡ OpenApi3
+    → AreDefinitionsOf asked rows root taken → IsDefinitionsLine taken line → IsLineOf asked rows root line
+definitions_line asked rows root taken line openapi3 are of =
+    subst (λ (d : Dialect). IsLineIn d asked rows root line) (sym openapi3) (taken, are, of)
+
+pub is_fresh : (asked : Asked) (g : Generator NoTransform) (rows : List Row) (root : ℕ) → state g ≡ fresh asked rows
+    → transforms_of g ≡ transforms_of_dialect asked.dialect → is_table rows root ≡ true → IsAccepted rows
+    → IsFreshFor asked g root
+is_fresh asked g rows root same transforms table accepted =
+    let here : g.rows ≡ rows = ap (λ (s : State). s.rows) same in
+    record {
+      fresh = same ∙ ap (fresh asked) (sym here);
+      transforms = transforms;
+      table = ap (λ (rs : List Row). is_table rs root) here ∙ table;
+      accepted = subst IsAccepted (sym here) accepted;
+    }

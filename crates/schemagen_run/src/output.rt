@@ -1,0 +1,65 @@
+//! What a run writes.
+ghost use Rattle.std.specs.Prelude.{◌≡◌, ◌≢◌, Err, IsTrue, IfErr, OnOk, [], ◌∷◌};
+ghost use Rattle.schemars_text.specs.Sent.{IsSent, IsSentInPart};
+ghost use Rattle.schemagen_run.specs.Output.{output_has_float, output_text, IsOutputLine};
+ghost use Rattle.schemagen_run.specs.Writing.{WritesLine};
+
+use crate::fault::{Fault, WRITE};
+use crate::streams::{Failed, Sink};
+use schemars::Schema;
+use schemars::schema::{OrderedError, write_ordered_definitions};
+use schemars_text::sink::write_all;
+use serde_json::{Map, Value};
+use std::mem::ManuallyDrop;
+
+/// What a run writes.
+#[derive(Drop)]
+pub(crate) enum Output {
+    Document(Schema),
+    Definitions(Map<String, Value>),
+}
+
+/// Writes the text of an output, and a newline.
+pub(crate) fn write_output<K: Sink>(output: &Output, sink: &mut K) -> Result<(), Fault>
+    ensures written { WritesLine K.bytes K.has_failed (IsOutputLine output.now) result
+        sink.old sink.new }
+    ensures fault { IfErr result (λ e. e ≡ Fault.Refused WRITE) }
+{
+    write_text(output, sink)?;
+    end_line(sink)
+}
+
+// Writes the text of an output.
+fn write_text<K: Sink>(output: &Output, sink: &mut K) -> Result<(), OrderedError>
+    ensures written { OnOk result
+        (IsSent (output_has_float output.now) (output_text output.now) (K.bytes sink.old)
+        (K.bytes sink.new) (K.has_failed sink.new)) }
+    ensures beginning { result ≡ Err OrderedError.Write
+        → IsSentInPart (output_has_float output.now) (output_text output.now)
+        (K.bytes sink.old) (K.bytes sink.new) }
+    ensures failed { result ≡ Err OrderedError.Write → IsTrue (K.has_failed sink.new) }
+    ensures memory { result ≢ Err OrderedError.OutOfMemory }
+{
+    match output {
+        Output::Document(document) => document.write_ordered(sink),
+        Output::Definitions(definitions) => write_ordered_definitions(definitions, sink),
+    }
+}
+
+// Writes a newline.
+fn end_line<K: Sink>(sink: &mut K) -> Result<(), Fault>
+    ensures written { WritesLine K.bytes K.has_failed (λ line. line ≡ 10 ∷ []) result
+        sink.old sink.new }
+    ensures fault { IfErr result (λ e. e ≡ Fault.Refused WRITE) }
+{
+    match write_all(sink, b"\n") {
+        Ok(()) => Ok(()),
+        Err(Failed) => Err(Fault::Refused(WRITE)),
+    }
+}
+
+/// Leaves an output where it is. A run ends soon after its text is written, and the pages of its
+/// memory are then given back at once: that is much faster than each part by itself.
+pub(crate) fn leave(output: Output) {
+    let _kept = ManuallyDrop::new(output);
+}
