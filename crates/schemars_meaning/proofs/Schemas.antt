@@ -8,19 +8,18 @@ use Rattle.schemars_schema.specs.SchemaData.{IsSchema}
 use Rattle.schemars_flatten.proofs.Schemas.{flattened-schema, flattened_part-schema, opened_inside-schema}
 use Rattle.schemars_shapes.specs.Shape as shape
 use Rattle.schemars_shapes.specs.Shape.{Shape, Flattened, Entry, Variant}
-use Rattle.schemars_types.specs.Rows.{Row}
 use Rattle.schemars_types.specs.declared.contract.Contract.{Contract}
 use Rattle.schemars_types.specs.Meaning.{is_required}
 use Rattle.schemars_types.specs.KeyOptions.{KeyOptions, keys, key_options}
 use Rattle.schemars_documents.specs.Documents.{is_signed}
 use Rattle.schemars_documents.specs.Basis.{Basis}
-use Rattle.schemars_documents.specs.Template.{Template, Ask, members_of, finished, asked, list, members, nullable}
+use Rattle.schemars_documents.specs.Template.{Template, members_of, finished, asked, list, members, nullable}
 use Rattle.schemars_documents.specs.Template.{noted, with_keywords, tagged, left, filled}
 use Rattle.schemars_documents.specs.OfShape.{template_of, entry_template, values_template, with_flattened, fields_template, bare_units}
 use Rattle.schemars_documents.specs.OfShape.{other_items, choice_of, untagged_template, internal_template, literal_document}
-use Rattle.schemars_documents.specs.Describes.{AreAnswered, IsAnswered, IsWritten, Describes}
+use Rattle.schemars_documents.specs.Describes.{IsWritten, Describes}
 use Rattle.schemars_meaning.proofs.Notes.{annotated-schema}
-use Rattle.schemars_meaning.proofs.Parts.{answers_all, first_all, answer_holds, described_holds, written_holds}
+use Rattle.schemars_meaning.proofs.Parts.{first_all, described_holds, written_holds}
 use Rattle.schemars_meaning.proofs.ReferencesKept.{allow_null-schema}
 use Rattle.schemars_documents.specs.OfShape.{adjacent_template}
 
@@ -109,16 +108,6 @@ pub filled_schema : (basis : Basis) (e : Entry) (ts : List Data) → AreSchemas 
 filled_schema basis e ts h = made_schema (entry_template basis e) ts h (shape_makes basis e.shape)
 
 -- ---- answers
-
--- an answer is a schema, where documents of rows are and what is written for them
-pub answered_schema : (rows : List Row) (InPlace : ℕ → Bool → Type 0) (Written Own : ℕ → Data → Type 0)
-    → ((j : ℕ) (t : Data) → Written j t → IsSchema t) → ((j : ℕ) (t : Data) → Own j t → IsSchema t)
-    → (a : Ask) (t : Data) → IsAnswered rows InPlace Written Own a t → IsSchema t
-answered_schema = answer_holds IsSchema flattened_part-schema opened_inside-schema
-
-pub answers_schemas : (Answers : Ask → Data → Type 0) → ((a : Ask) (t : Data) → Answers a t → IsSchema t) → (asks : List Ask)
-    (ts : List Data) → AreAnswered Answers asks ts → AreSchemas ts
-answers_schemas = answers_all IsSchema
 
 -- ---- documents of rows
 
