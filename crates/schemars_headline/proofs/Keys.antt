@@ -19,7 +19,7 @@ use Rattle.schemars_schema.specs.Annotations.{is_annotation}
 use Rattle.schemars_schema.proofs.Objects.{annotation-not_listed}
 use Rattle.schemars_headline.specs.Keys.{HasKeysOnce}
 use Rattle.schemars_build.specs.Work.{IsKey}
-use Rattle.schemars_schema.proofs.Members.{get_member-here}
+use Rattle.schemars_text.proofs.Members.{get_member-here}
 
 -- ---- which keys there are
 
