@@ -17,7 +17,7 @@ use Rattle.schemars_schema.specs.Json.{Text}
 use Rattle.schemars_schema.specs.References.{references}
 use Rattle.schemars_types.specs.Edges.{is_inline_at}
 use Rattle.schemars_types.specs.Faults.{IsChecked}
-use Rattle.schemars_flatten.specs.Opening.{opened_inside, stands_in_place}
+use Rattle.schemars_flatten.specs.Opening.{opened_inside, must_be_in_place}
 use Rattle.schemars_flatten.specs.Parts.{flattened_part}
 use Rattle.schemars_documents.specs.Documents.{reference}
 use Rattle.schemars_types.specs.declared.contract.Contract.{Contract}
@@ -333,7 +333,7 @@ module _ (plan : Plan) (outside : Bool) (old : Work) (want : Wanted) (now : Work
       (step, un, (s, here, same))
 
   pub closes_content : (b : Bool) (t : Data) → d.purpose ≡ purpose.Content → b ≡ (is_inline_at plan.rows d.row || plan.inlines)
-      → stands_in_place b s ≡ true → t ≡ opened_inside s → IsRepliedBy plan outside old want now (answer t)
+      → must_be_in_place b s ≡ true → t ≡ opened_inside s → IsRepliedBy plan outside old want now (answer t)
   closes_content b t is place stands same =
       let begun = begun_for purpose.Content is in
       let here : IsFilledIn plan outside h.mid now d.row s = subst (λ w. IsFilledIn plan outside w now d.row s) begun.1
@@ -344,7 +344,7 @@ module _ (plan : Plan) (outside : Bool) (old : Work) (want : Wanted) (now : Work
 
   -- the row is asked once more, as a part
   pub closes_referred : (b : Bool) (new : Work) (r : Reply) → d.purpose ≡ purpose.Content
-      → b ≡ (is_inline_at plan.rows d.row || plan.inlines) → stands_in_place b s ≡ false
+      → b ≡ (is_inline_at plan.rows d.row || plan.inlines) → must_be_in_place b s ≡ false
       → IsRepliedBy plan d.in_definition now (asked (part d.row)) new r → IsRepliedBy plan outside old want new r
   closes_referred b new r is place stands again =
       let begun = begun_for purpose.Content is in

@@ -23,7 +23,7 @@ use crate::work::Work;
 use schemars_documents::entry_template;
 use schemars_documents::template::basis::Basis;
 use schemars_documents::template::{Ask, SchemaTemplate, fill};
-use schemars_flatten::{as_flattened, open_inside, stands_in_place};
+use schemars_flatten::{as_flattened, open_inside, must_be_in_place};
 use schemars_schema::Schema;
 use schemars_schema::encoding::encode_ref_name;
 use schemars_types::{Contract, TypeNo, Types, row_inside, without_options};
@@ -96,8 +96,8 @@ pub fn own_document(
     Ok(own)
 }
 
-/// Returns the answer to a request: the row's schema as a part, a schema of its members, or a schema
-/// of the content beside a tag.
+/// Returns the answer to a request: the row's schema as a part, a schema of its members, or a
+/// schema of the content beside a tag.
 pub fn answer(
     alloc: Global,
     plan: &Plan<'_>,
@@ -431,7 +431,7 @@ fn closed<'t>(
             Ok(Some(schema))
         }
         Purpose::Content => {
-            if !stands_in_place(&schema, is_inline(plan.types, row) || plan.inlines) {
+            if !must_be_in_place(&schema, is_inline(plan.types, row) || plan.inlines) {
                 return part(alloc, plan, work, making, in_definition, row);
             }
             open_inside(alloc, &mut schema)?;

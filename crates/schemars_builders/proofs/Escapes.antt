@@ -53,7 +53,7 @@ unescaped-escaped (b ∷ bs) = unescaped_byte b (escaped bs) ∙ ap (λ l. b ∷
 
 -- ---- the bytes of a character
 
--- a list has a number, whichever side of the test it stands on
+-- a list has a number, whichever side of the test it is on
 pub list_any-either_way : (b : ℕ) (bs : List ℕ) → list_any (λ s. s == b) bs ≡ list_any (λ s. b == s) bs
 list_any-either_way b [] = refl
 list_any-either_way b (s ∷ bs) =

@@ -63,7 +63,7 @@ literal_type ms plain = go (get_member (codes "type") ms) refl
     go None is = tt
     go (Some d) is = type_form d (and_parts (is_some (types_in d)) _ (plain_at (codes "type") ms d plain is)).0
 
--- ---- a key stands once
+-- ---- a key occurs once
 
 key_once : (k : Text) (ms : Members) → ArePlainMembers ms → get_member k (without k ms) ≡ None
 key_once k no_members plain = refl

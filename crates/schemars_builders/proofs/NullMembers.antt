@@ -83,14 +83,14 @@ abbrev pub nulled : Raw → Raw
 nulled g = with_changed (type_plus (g (codes "type"))) (const_plus (g (codes "const")))
     (values_plus (g (codes "const")) (g (codes "enum"))) g
 
--- where no `const` stands, the type and the values are changed alone
+-- where there is no `const`, only the type and the values are changed
 without_const : (ms : Members) → get_member (codes "const") ms ≡ None
     → with_null ms ≡ null_in_enum (get_member (codes "enum") ms) (with_null_type ms)
 without_const ms none =
     ap (λ o. null_in_const o (with_null_type ms)) (at_type ms (codes "const") refl ∙ none)
     ∙ ap (λ o. null_in_enum o (with_null_type ms)) (at_type ms (codes "enum") refl)
 
--- where one stands that isn't null, it is one value of two
+-- where there is one that is not null, it is one value of two
 pub with_const : (ms : Members) (c : Data) → get_member (codes "const") ms ≡ Some c
     → with_null ms ≡ (if is_null c then with_null_type ms else const_or_null c (with_null_type ms))
 with_const ms c some = ap (λ o. null_in_const o (with_null_type ms)) (at_type ms (codes "const") refl ∙ some)
@@ -204,7 +204,7 @@ is_null_value : (v : Data) → is_null v ≡ true → v ≡ null
 is_null_value null h = refl
 is_null_value _ h = absurd (true≢false (sym h))
 
--- no keyword that combines schemas stands there
+-- there is no keyword that combines schemas
 pub alone_parts : (ms : Members) → is_combined (object ms) ≡ false
     → (get_member (codes "allOf") ms ≡ None) × (get_member (codes "anyOf") ms ≡ None) × (get_member (codes "oneOf") ms ≡ None)
     × (get_member (codes "$ref") ms ≡ None)
@@ -321,7 +321,7 @@ unevaluated_of_null : (reads : Bool) (judged : Text → Bool) (o : Option Readin
 unevaluated_of_null true judged o = silent o
 unevaluated_of_null false judged o = refl
 
--- where a reference stands alone, the rest of two objects need not agree
+-- beside a reference that is alone, the rest of two objects need not agree
 beside : (alone : Bool) (r s t : Judge) (v : Data) → s.fits v ≡ t.fits v
     → (if alone then r else s).fits v ≡ (if alone then r else t).fits v
 beside true r s t v e = refl

@@ -8,7 +8,7 @@ use Rattle.schemars_shapes.specs.Shape.{Entry}
 use Rattle.schemars_types.specs.Rows.{Row, entry_at}
 use Rattle.schemars_types.specs.Edges.{option_at}
 pub use Rattle.schemars_types.specs.Effective.{without_options_within, without_options}
-use Rattle.schemars_flatten.specs.Opening.{opened_inside, stands_in_place}
+use Rattle.schemars_flatten.specs.Opening.{opened_inside, must_be_in_place}
 use Rattle.schemars_flatten.specs.Parts.{flattened_part}
 use Rattle.schemars_documents.specs.Documents.{reference}
 use Rattle.schemars_documents.specs.Template.{Template, Ask, part, members_of, content, asks_of, filled}
@@ -40,10 +40,10 @@ are_optional rows n required = is_some (option_at rows n) && not required
 -- the content beside a tag: a document of its own, opened inside, or what is written for the row
 abbrev pub IsContent : Bool → (Data → Type 0) → (Data → Type 0) → Data → Type 0
 IsContent in_place Own Written s = (d : Data) × Own d
-    × (((stands_in_place in_place d ≡ true) × (s ≡ opened_inside d)) ⊎ ((stands_in_place in_place d ≡ false) × Written s))
+    × (((must_be_in_place in_place d ≡ true) × (s ≡ opened_inside d)) ⊎ ((must_be_in_place in_place d ≡ false) × Written s))
 
--- `Written n` says how row n may be written as a part, `Own n` which documents it has, and `InPlace n` whether it stands in
--- place wherever it stands
+-- `Written n` says how row n may be written as a part, `Own n` which documents it has, and `InPlace n` whether it is
+-- always in place
 abbrev pub IsAnswered : List Row → (ℕ → Bool → Type 0) → (ℕ → Data → Type 0) → (ℕ → Data → Type 0) → Ask → Data → Type 0
 IsAnswered rows InPlace Written Own (part n) s = Written n s
 IsAnswered rows InPlace Written Own (members_of n required) s =

@@ -18,7 +18,7 @@ use Rattle.schemars_schema.specs.References.{NoSchemas, OneSchema, SchemaList, w
 use Rattle.schemars_schema.specs.Acceptance.{both_some}
 use Rattle.schemars_schema.proofs.Containers.{object-as_object}
 use Rattle.schemars_schema.proofs.Containers.{array-as_array}
-use Rattle.schemars_flatten.specs.Flatten.{stands, has_subschema, moved, moved_beside, opened_schema}
+use Rattle.schemars_flatten.specs.Flatten.{contains_key, has_subschema, moved, moved_beside, opened_schema}
 use Rattle.schemars_flatten.specs.Flatten.{appended}
 use Rattle.schemars_flatten.specs.Flatten.{joined, merged, is_joined, is_merged, is_choice, united, with_united}
 use Rattle.schemars_flatten.specs.Flatten.{alone}
@@ -245,14 +245,14 @@ module _ (S : Data → Type 0) (Q : Text → Data → Type 0) (h : IsByKeyword S
           (all_without Q (codes "additionalProperties") ms all)
 
   all_moved_beside : (others ms : Members) → AllMembers Q ms → AllMembers Q (moved_beside others ms)
-  all_moved_beside others ms all = go (stands (codes "unevaluatedProperties") others || has_subschema others)
+  all_moved_beside others ms all = go (contains_key (codes "unevaluatedProperties") others || has_subschema others)
     where
       go : (b : Bool) → AllMembers Q (if b then moved ms else ms)
       go true = all_moved ms all
       go false = all
 
   all_opened : (ms : Members) → AllMembers Q ms → AllMembers Q (flatten.opened_keywords ms)
-  all_opened ms all = go (stands (codes "additionalProperties") ms || stands (codes "unevaluatedProperties") ms)
+  all_opened ms all = go (contains_key (codes "additionalProperties") ms || contains_key (codes "unevaluatedProperties") ms)
       (has_subschema ms)
     where
       go : (stays combined : Bool) → AllMembers Q (if stays then ms else

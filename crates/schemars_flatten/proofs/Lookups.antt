@@ -14,7 +14,7 @@ use Rattle.schemars_schema.specs.Edits.{replaced}
 use Rattle.schemars_text.proofs.Members.{differ, get_member-later, get_member-member}
 use Rattle.schemars_schema.proofs.Members.{get_member-replaced}
 use Rattle.schemars_schema.proofs.Members.{get_member-replaced_other}
-use Rattle.schemars_flatten.specs.Flatten.{stands, is_choice, united, with_united, with_keyword, with_keywords}
+use Rattle.schemars_flatten.specs.Flatten.{contains_key, is_choice, united, with_united, with_keyword, with_keywords}
 use Rattle.schemars_flatten.specs.Flatten.{moved_beside, united_all}
 use Rattle.schemars_flatten.specs.FlattenLaw.{has_keys_once, is_object_keyword, are_object_keywords, are_apart}
 
@@ -97,7 +97,7 @@ no_choice k d h = go (bytes_eq k (codes "oneOf")) (bytes_eq k (codes "anyOf")) r
         absurd (true≢false (sym h ∙ ap (λ x. is_object_keyword x d) ((bytes_eq-Decides k (codes "anyOf")).0 also)))
     go false false is also = refl
 
-not_there : (k : Text) (ms : Members) → not (stands k ms) ≡ true → get_member k ms ≡ None
+not_there : (k : Text) (ms : Members) → not (contains_key k ms) ≡ true → get_member k ms ≡ None
 not_there k ms h = go (get_member k ms) h
   where
     go : (o : Option Data) → not (is_some o) ≡ true → o ≡ None
@@ -116,7 +116,7 @@ pub keywords_at : (q : Text) (ns ms : Members) → are_object_keywords ns ≡ tr
 keywords_at q no_members ms all once = sym (united_none q (get_member q ms))
 keywords_at q (member k d ns) ms all once =
     let plain = and_parts (is_object_keyword k d) (are_object_keywords ns) all in
-    let alone = and_parts (not (stands k ns)) (has_keys_once ns) once in
+    let alone = and_parts (not (contains_key k ns)) (has_keys_once ns) once in
     let rest = keywords_at q ns (with_keyword k d ms) plain.1 alone.1 in
     rest ∙ (ap (λ x. united_option q (get_member q x) (get_member q ns)) (keyword_put k d ms plain.0)
     ∙ go (bytes_eq q k) refl (not_there k ns alone.0))
@@ -147,7 +147,7 @@ pub properties_at : (q : Text) (ns ms : Members) → has_keys_once ns ≡ true
     → get_member q (put_members ns ms) ≡ either_option (get_member q ns) (get_member q ms)
 properties_at q no_members ms once = refl
 properties_at q (member k d ns) ms once =
-    let alone = and_parts (not (stands k ns)) (has_keys_once ns) once in
+    let alone = and_parts (not (contains_key k ns)) (has_keys_once ns) once in
     properties_at q ns (put k d ms) alone.1 ∙ go (bytes_eq q k) refl (not_there k ns alone.0)
   where
     go : (b : Bool) → bytes_eq q k ≡ b → get_member k ns ≡ None
@@ -171,7 +171,7 @@ apart_at q ms ns d apart h = go ns apart (sym (get_member-at q ns) ∙ h)
     go : (ls : Members) → are_apart ms ls ≡ true → at q ls ≡ Some d → get_member q ms ≡ None
     go no_members apart h = cc
     go (member k e ls) apart h =
-        let parts = and_parts (not (stands k ms)) (are_apart ms ls) apart in
+        let parts = and_parts (not (contains_key k ms)) (are_apart ms ls) apart in
         step (bytes_eq q k) refl h (not_there k ms parts.0) (go ls parts.1)
       where
         step : (b : Bool) → bytes_eq q k ≡ b → (if b then Some e else at q ls) ≡ Some d → get_member k ms ≡ None

@@ -1,4 +1,4 @@
--- What documents become as parts of others, computed. The keys of an object stand in order.
+-- What documents become as parts of others, computed. The keys of an object are in order.
 use Rattle.std.proofs.Common.{◌≡◌, List, [], ◌∷◌, true, false, refl}
 use Prim.Native.String.{String}
 use Rattle.serde_json.specs.Data.{Data, null, boolean, object, no_members}
@@ -6,7 +6,7 @@ use Rattle.schemars_schema.proofs.JsonLiterals.{text, list, entry, one, empty}
 use Rattle.schemars_walk.specs.Rewritten.{forms, in_items, in_names, in_keywords}
 use Rattle.schemars_flatten.specs.Opening.{closed_in, closed_in_items, closed_in_keywords, opened, opened_inside}
 use Rattle.schemars_flatten.specs.Opening.{closes_inside}
-use Rattle.schemars_flatten.specs.Opening.{stands_in_place}
+use Rattle.schemars_flatten.specs.Opening.{must_be_in_place}
 use Rattle.schemars_flatten.specs.Parts.{flattened_part}
 
 -- ---- JSON in short
@@ -171,22 +171,22 @@ nothing_closed : closes_inside (object (entry "anyOf" (list (of_w ∷ [])) (entr
 unfolding closed_in closed_in_items closed_in_keywords
 nothing_closed = refl
 
-open_by_reference : stands_in_place false of_w ≡ false
+open_by_reference : must_be_in_place false of_w ≡ false
 unfolding closed_in closed_in_items closed_in_keywords
 open_by_reference = refl
 
-open_in_place : stands_in_place true of_w ≡ true
+open_in_place : must_be_in_place true of_w ≡ true
 unfolding closed_in closed_in_items closed_in_keywords
 open_in_place = refl
 
-null_in_place : stands_in_place false (one "type" (text "null")) ≡ true
+null_in_place : must_be_in_place false (one "type" (text "null")) ≡ true
 unfolding closed_in closed_in_items closed_in_keywords
 null_in_place = refl
 
-closed_in_place : stands_in_place false closed_of_w ≡ true
+closed_in_place : must_be_in_place false closed_of_w ≡ true
 unfolding closed_in closed_in_items closed_in_keywords
 closed_in_place = refl
 
-closed_inside_in_place : stands_in_place false (one "oneOf" (list (closed_of_w ∷ []))) ≡ true
+closed_inside_in_place : must_be_in_place false (one "oneOf" (list (closed_of_w ∷ []))) ≡ true
 unfolding closed_in closed_in_items closed_in_keywords
 closed_inside_in_place = refl

@@ -11,7 +11,7 @@ use Rattle.schemars_walk.specs.Rewritten.{form_at, forms, in_items, in_keywords}
 use Rattle.schemars_flatten.specs.Opening.{closes_by, closes, opened_at, opened_here, same_object_place, opening}
 use Rattle.schemars_flatten.specs.Opening.{opened}
 use Rattle.schemars_flatten.specs.Opening.{opened_inside, closed_at, closed_in, closed_in_items, closed_in_keywords}
-use Rattle.schemars_flatten.specs.Opening.{closes_inside, has_type, stands_in_place}
+use Rattle.schemars_flatten.specs.Opening.{closes_inside, has_type, must_be_in_place}
 
 here_unchanged : (s : Data) → closes s ≡ false → opened_here s ≡ s
 here_unchanged s h =
@@ -67,7 +67,7 @@ inside_unchanged (object ms) h = ap object (keywords_unchanged ms h)
 inside_unchanged _ h = refl
 
 -- so a reference may stand for the document
-pub reference_unchanged : (inline : Bool) (s : Data) → stands_in_place inline s ≡ false → opened_inside s ≡ s
+pub reference_unchanged : (inline : Bool) (s : Data) → must_be_in_place inline s ≡ false → opened_inside s ≡ s
 reference_unchanged inline s h =
     let rest = (or_parts inline (has_type (codes "null") s || (closes s || closes_inside s)) h).1 in
     let closed = (or_parts (has_type (codes "null") s) (closes s || closes_inside s) rest).1 in

@@ -11,15 +11,15 @@ use Rattle.schemars_schema.specs.Acceptance.{both_some}
 
 -- ---- keywords that judge what is left of an object
 
-abbrev pub stands : Text → Members → Bool
-stands k ms = is_some (get_member k ms)
+abbrev pub contains_key : Text → Members → Bool
+contains_key k ms = is_some (get_member k ms)
 
 -- a keyword applies schemas to the same value
 abbrev pub has_subschema : Members → Bool
 has_subschema ms =
-    stands (codes "if") ms
-    || (stands (codes "allOf") ms
-    || (stands (codes "anyOf") ms || (stands (codes "oneOf") ms || stands (codes "$ref") ms)))
+    contains_key (codes "if") ms
+    || (contains_key (codes "allOf") ms
+    || (contains_key (codes "anyOf") ms || (contains_key (codes "oneOf") ms || contains_key (codes "$ref") ms)))
 
 -- what was additional is unevaluated
 abbrev pub moved : Members → Members
@@ -30,7 +30,7 @@ moved ms = elim (get_member (codes "additionalProperties") ms) [
 
 -- beside these keywords of the other side
 abbrev pub moved_beside : Members → Members → Members
-moved_beside others ms = if stands (codes "unevaluatedProperties") others || has_subschema others then moved ms else ms
+moved_beside others ms = if contains_key (codes "unevaluatedProperties") others || has_subschema others then moved ms else ms
 
 -- the keyword that judges what is left of an object
 abbrev pub rest_keyword : Members → Text
@@ -39,7 +39,7 @@ rest_keyword ms = if has_subschema ms then codes "unevaluatedProperties" else co
 -- further members of the object are let in, unless a keyword speaks of them
 abbrev pub opened_keywords : Members → Members
 opened_keywords ms =
-    if stands (codes "additionalProperties") ms || stands (codes "unevaluatedProperties") ms then ms
+    if contains_key (codes "additionalProperties") ms || contains_key (codes "unevaluatedProperties") ms then ms
     else put (rest_keyword ms) (boolean true) ms
 
 -- ---- a keyword that both sides have

@@ -9,12 +9,12 @@ use Rattle.schemars_schema.specs.Annotations.{is_annotation}
 use Rattle.schemars_schema.specs.Verdict.{both}
 use Rattle.schemars_schema.specs.Acceptance.{Context, judge, texts_in}
 use Rattle.schemars_schema.specs.Edits.{is_text}
-use Rattle.schemars_flatten.specs.Flatten.{stands}
+use Rattle.schemars_flatten.specs.Flatten.{contains_key}
 
 -- each key once, as in a map
 abbrev pub has_keys_once : Members → Bool
 has_keys_once no_members = true
-has_keys_once (member k d ms) = not (stands k ms) && has_keys_once ms
+has_keys_once (member k d ms) = not (contains_key k ms) && has_keys_once ms
 
 abbrev pub are_schemas : Members → Bool
 are_schemas no_members = true
@@ -47,7 +47,7 @@ properties_of s = elim (option_and_then as_object (get (codes "properties") s)) 
 -- no name in both
 abbrev pub are_apart : Members → Members → Bool
 are_apart ms no_members = true
-are_apart ms (member k d ns) = not (stands k ms) && are_apart ms ns
+are_apart ms (member k d ns) = not (contains_key k ms) && are_apart ms ns
 
 -- two schemas of objects, with no property in both
 pub record AreJoinable (s o : Data) : Type 0 where

@@ -119,5 +119,5 @@ abbrev pub has_type : Text → Data → Bool
 has_type t s = is_text t (option_and_then as_str (get (codes "type") s))
 
 -- its document is in place: a reference would not let the tag in
-abbrev pub stands_in_place : Bool → Data → Bool
-stands_in_place inline s = inline || (has_type (codes "null") s || (closes s || closes_inside s))
+abbrev pub must_be_in_place : Bool → Data → Bool
+must_be_in_place inline s = inline || (has_type (codes "null") s || (closes s || closes_inside s))

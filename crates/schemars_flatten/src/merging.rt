@@ -2,7 +2,7 @@
 ghost use Rattle.std.specs.Prelude.{◌≡◌, codes, OnOk};
 ghost use Rattle.serde_json.specs.Data.{put};
 ghost use Rattle.serde_json.specs.View.{view, members_view};
-ghost use Rattle.schemars_flatten.specs.Flatten.{stands, has_subschema, moved, moved_beside};
+ghost use Rattle.schemars_flatten.specs.Flatten.{contains_key, has_subschema, moved, moved_beside};
 ghost use Rattle.schemars_flatten.specs.Flatten.{rest_keyword, opened_keywords, united_all};
 ghost use Rattle.schemars_flatten.specs.Flatten.{flattened};
 ghost use Rattle.schemars_flatten.specs.FlattenLaw.{AreJoinable, AcceptsBoth};
@@ -72,7 +72,7 @@ fn move_beside(
     ensures { OnOk result (members_view members.new.entries
         ≡ moved_beside (members_view others.now.entries) (members_view members.old.entries)) }
 {
-    if stands(others, "unevaluatedProperties") || has_subschema(others) {
+    if contains_key(others, "unevaluatedProperties") || has_subschema(others) {
         move_additional(alloc, members)
     } else {
         Ok(())
@@ -94,7 +94,9 @@ fn open(alloc: Global, members: &mut Map<String, Value>) -> Result<(), AllocErro
     ensures { OnOk result (members_view members.new.entries
         ≡ opened_keywords (members_view members.old.entries)) }
 {
-    if stands(members, "additionalProperties") || stands(members, "unevaluatedProperties") {
+    if contains_key(members, "additionalProperties")
+        || contains_key(members, "unevaluatedProperties")
+    {
         return Ok(());
     }
     serde_json::put(members, alloc, rest_keyword(members), Value::Bool(true))
@@ -115,15 +117,15 @@ fn rest_keyword(members: &Map<String, Value>) -> &'static str
 fn has_subschema(members: &Map<String, Value>) -> bool
     ensures { result ≡ has_subschema (members_view members.now.entries) }
 {
-    stands(members, "if")
-        || stands(members, "allOf")
-        || stands(members, "anyOf")
-        || stands(members, "oneOf")
-        || stands(members, "$ref")
+    contains_key(members, "if")
+        || contains_key(members, "allOf")
+        || contains_key(members, "anyOf")
+        || contains_key(members, "oneOf")
+        || contains_key(members, "$ref")
 }
 
-fn stands(members: &Map<String, Value>, key: &str) -> bool
-    ensures { result ≡ stands key.now (members_view members.now.entries) }
+fn contains_key(members: &Map<String, Value>, key: &str) -> bool
+    ensures { result ≡ contains_key key.now (members_view members.now.entries) }
 {
     members.contains_key(key)
 }

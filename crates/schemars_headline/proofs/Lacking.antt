@@ -17,7 +17,7 @@ use Rattle.schemars_builders.specs.Variants.{unit_variant}
 use Rattle.schemars_builders.specs.Properties.{tagged, closed_where, has_null_type}
 use Rattle.schemars_builders.specs.Properties.{internally_tagged_variant}
 use Rattle.schemars_flatten.specs.Flatten as flatten
-use Rattle.schemars_flatten.specs.Flatten.{stands, has_subschema, moved, moved_beside, opened_schema, united, with_united}
+use Rattle.schemars_flatten.specs.Flatten.{contains_key, has_subschema, moved, moved_beside, opened_schema, united, with_united}
 use Rattle.schemars_flatten.specs.Flatten.{both_choices, with_choice, is_choice, with_keyword, with_keywords, flattened}
 use Rattle.schemars_walk.specs.Rewritten.{form_at, forms, in_keywords}
 use Rattle.schemars_flatten.specs.Opening.{closes_by, opened_at, opened_here, same_object_place, opening, opened, opened_inside}
@@ -154,14 +154,14 @@ module _ (key : Text) (is_key : IsDefinitionsKey key) where
           (lacks_without (codes "additionalProperties") ms h)
 
   lacks_moved_beside : (others ms : Members) → Lacks ms → Lacks (moved_beside others ms)
-  lacks_moved_beside others ms h = go (stands (codes "unevaluatedProperties") others || has_subschema others)
+  lacks_moved_beside others ms h = go (contains_key (codes "unevaluatedProperties") others || has_subschema others)
     where
       go : (b : Bool) → Lacks (if b then moved ms else ms)
       go true = lacks_moved ms h
       go false = h
 
   lacks_let_in : (ms : Members) → Lacks ms → Lacks (flatten.opened_keywords ms)
-  lacks_let_in ms h = go (stands (codes "additionalProperties") ms || stands (codes "unevaluatedProperties") ms) (has_subschema ms)
+  lacks_let_in ms h = go (contains_key (codes "additionalProperties") ms || contains_key (codes "unevaluatedProperties") ms) (has_subschema ms)
     where
       go : (stays combined : Bool) → Lacks (if stays then ms else
           put (if combined then codes "unevaluatedProperties" else codes "additionalProperties") (boolean true) ms)

@@ -10,7 +10,7 @@ use Rattle.schemars_schema.specs.Verdict.{Verdict, Yes, No, Open, both, all_of}
 use Rattle.schemars_schema.specs.Acceptance.{Dialect, Context, Raw, Readings, keywords, all_keywords, items_say}
 use Rattle.schemars_schema.specs.Acceptance.{reference_says, type_says, const_says, enum_says}
 use Rattle.schemars_schema.specs.Acceptance.{each_says}
-use Rattle.schemars_schema.specs.Acceptance.{judged_beside, stands_schema, reference_alone, is_reference}
+use Rattle.schemars_schema.specs.Acceptance.{judged_beside, has_schema, reference_alone, is_reference}
 use Rattle.schemars_schema.specs.Acceptance.{judge, read_data, read_members, reading_at}
 use Rattle.schemars_schema.proofs.Objects.{reading_at-members}
 use Rattle.schemars_laws.proofs.Keywords.{counts_say, members_say, last_say, fits-all, left_out, AgreeOutside, left_out-agree}
@@ -129,7 +129,7 @@ module _ (c : Context) (old new : Dialect) (siblings : new.judges_siblings ≡ o
   unfolding all_keywords
   judges-moved v k =
       judges-agree (record c { dialect = new }) g f reread read v k e h
-      ∙ ap (λ b. judged_beside c f read v k || (b && stands_schema (read (codes "unevaluatedProperties")))) unevaluated
+      ∙ ap (λ b. judged_beside c f read v k || (b && has_schema (read (codes "unevaluatedProperties")))) unevaluated
 
   reference-moved : g (codes "$ref") ≡ f (codes "$ref")
   reference-moved = e (codes "$ref") refl

@@ -12,7 +12,7 @@ use Rattle.schemars_schema.specs.Acceptance.{properties_say, pattern_properties_
 use Rattle.schemars_laws.proofs.Keywords.{all_say, fits-all}
 use Rattle.schemars_schema.specs.Acceptance.{reference_says}
 use Rattle.schemars_schema.specs.Acceptance.{reference_alone, judged_by, judged_by_reference}
-use Rattle.schemars_schema.specs.Acceptance.{unevaluated_properties_say, judged_beside, is_covered, stands_schema, judged_by_list}
+use Rattle.schemars_schema.specs.Acceptance.{unevaluated_properties_say, judged_beside, is_covered, has_schema, judged_by_list}
 
 -- the place under a keyword whose schemas are read, whether a walk reaches them or not
 abbrev pub place_read : Bool → Text → Place
@@ -82,12 +82,12 @@ not-seen : (o : Option Reading) (v : Data) → not_says (option_map (seen OneSch
 not-seen None v = refl
 not-seen (Some x) v = refl
 
-stands-seen : (o : Option Reading) → stands_schema (option_map (seen OneSchema) o) ≡ stands_schema o
+stands-seen : (o : Option Reading) → has_schema (option_map (seen OneSchema) o) ≡ has_schema o
 stands-seen None = refl
 stands-seen (Some x) = refl
 
 stands_unevaluated-seen : (b : Bool) (o : Option Reading)
-    → b && stands_schema (option_map (seen (place_unevaluated b)) o) ≡ b && stands_schema o
+    → b && has_schema (option_map (seen (place_unevaluated b)) o) ≡ b && has_schema o
 stands_unevaluated-seen true o = stands-seen o
 stands_unevaluated-seen false o = refl
 
@@ -194,7 +194,7 @@ module _ (c : Context) (f : Text → Judge) (raw : Raw) (read : Readings) (e : A
   judged-follow : (v : Data) (k : Text) → judged_beside (record c { follow = f }) raw read v k ≡ judged_beside c raw read v k
   judged-follow v k =
       or-else (is_covered c.patterns (read (codes "properties")) (read (codes "patternProperties")) k)
-      (or-else (stands_schema (read (codes "additionalProperties")))
+      (or-else (has_schema (read (codes "additionalProperties")))
       (or-else (judged_by_list (read (codes "allOf")) v k)
       (or-else (judged_by_list (read (codes "anyOf")) v k)
       (or-else (judged_by_list (read (codes "oneOf")) v k)
@@ -213,7 +213,7 @@ module _ (c : Context) (f : Text → Judge) (raw : Raw) (read : Readings) (e : A
   all_keywords-follow =
       judge_ext _ _
       (λ v. fits-all (record c { follow = f }) raw read v ∙ (ap all_of (verdicts-follow v) ∙ sym (fits-all c raw read v)))
-      (λ v k. ap (λ b. b || (c.dialect.reads_unevaluated && stands_schema (read (codes "unevaluatedProperties")))) (judged-follow v k))
+      (λ v k. ap (λ b. b || (c.dialect.reads_unevaluated && has_schema (read (codes "unevaluatedProperties")))) (judged-follow v k))
 
   alone-follow : reference_alone (record c { follow = f }) raw ≡ reference_alone c raw
   alone-follow =

@@ -18,7 +18,7 @@ use Rattle.schemars_schema.specs.Acceptance.{Dialect, Context, Raw, Readings, Ju
 use Rattle.schemars_schema.specs.Acceptance.{truth_value, read_data, read_items, read_members, reading_at, judged_by_reference, judged_by, judged_by_list}
 use Rattle.schemars_schema.specs.Acceptance.{judged_by_some, judged_beside, both_some}
 use Rattle.schemars_schema.specs.Acceptance.{reference_says, type_says, const_says, enum_says, items_say}
-use Rattle.schemars_schema.specs.Acceptance.{stands_schema, is_covered}
+use Rattle.schemars_schema.specs.Acceptance.{has_schema, is_covered}
 use Rattle.schemars_schema.specs.Acceptance.{each_says}
 use Rattle.schemars_schema.proofs.Objects.{schema-judge, reading_at-members, judge-agree}
 use Rattle.schemars_transform.specs.Built.{referring, reference_moved, without_siblings}
@@ -50,12 +50,12 @@ before_say c raw read v =
 judged_say : Context → Readings → Data → Text → Bool → Bool → Bool
 judged_say c read v k listed referred =
     is_covered c.patterns (read (codes "properties")) (read (codes "patternProperties")) k
-    || (stands_schema (read (codes "additionalProperties"))
+    || (has_schema (read (codes "additionalProperties"))
     || (listed || (judged_by_list (read (codes "anyOf")) v k || (judged_by_list (read (codes "oneOf")) v k || referred))))
 
 judges_say : Context → Readings → Data → Text → Bool → Bool → Bool
 judges_say c read v k listed referred =
-    judged_say c read v k listed referred || (c.dialect.reads_unevaluated && stands_schema (read (codes "unevaluatedProperties")))
+    judged_say c read v k listed referred || (c.dialect.reads_unevaluated && has_schema (read (codes "unevaluatedProperties")))
 
 -- what all keywords say, by what the list and the reference say
 whole_say : Context → Raw → Readings → Data → Verdict → Verdict → (Text → Bool) → (Text → Bool) → Verdict
@@ -260,15 +260,15 @@ module _ (c : Context) (raw : Raw) (read : Readings) (v : Data) (a r : Verdict) 
       regrouped : (k : Text) → judged_say c read v k (listed k || referred k) false ≡ judged_say c read v k (listed k) (referred k)
       regrouped k =
           judged_with (is_covered c.patterns (read (codes "properties")) (read (codes "patternProperties")) k)
-          (stands_schema (read (codes "additionalProperties"))) (listed k) (judged_by_list (read (codes "anyOf")) v k)
+          (has_schema (read (codes "additionalProperties"))) (listed k) (judged_by_list (read (codes "anyOf")) v k)
           (judged_by_list (read (codes "oneOf")) v k) (referred k)
 
   judges-moved : (k : Text) → judges_say c read v k (listed k || referred k) false ≡ judges_say c read v k (listed k) (referred k)
   unfolding judges_say judged_say
   judges-moved k =
-      ap (λ b. b || (c.dialect.reads_unevaluated && stands_schema (read (codes "unevaluatedProperties"))))
+      ap (λ b. b || (c.dialect.reads_unevaluated && has_schema (read (codes "unevaluatedProperties"))))
       (judged_with (is_covered c.patterns (read (codes "properties")) (read (codes "patternProperties")) k)
-      (stands_schema (read (codes "additionalProperties"))) (listed k) (judged_by_list (read (codes "anyOf")) v k)
+      (has_schema (read (codes "additionalProperties"))) (listed k) (judged_by_list (read (codes "anyOf")) v k)
       (judged_by_list (read (codes "oneOf")) v k) (referred k))
 
 -- in a dialect that passes over siblings

@@ -10,7 +10,7 @@ use Rattle.schemars_schema.specs.SchemaData.{IsSchema}
 use Rattle.schemars_schema.specs.Edits.{without}
 use Rattle.schemars_schema.specs.Verdict.{Yes}
 use Rattle.schemars_schema.specs.Acceptance.{Dialect, Context, Raw, Readings, judge, keywords, all_keywords, reference_alone, is_reference}
-use Rattle.schemars_schema.specs.Acceptance.{read_data, read_members, reading_at, unevaluated_properties_say, judged_beside, stands_schema}
+use Rattle.schemars_schema.specs.Acceptance.{read_data, read_members, reading_at, unevaluated_properties_say, judged_beside, has_schema}
 use Rattle.schemars_schema.proofs.Objects.{judge-agree, reading_at-members}
 use Rattle.schemars_text.proofs.Members.{differ}
 use Rattle.schemars_transform.specs.Unevaluated.{unevaluated_as_additional, closed_by, property_names, properties_made, properties_named, object_with_names, with_names}
@@ -37,7 +37,7 @@ module _ (c : Context) (d : Dialect) (raw : Raw) (read : Readings) (none : read 
 
   judges-same : (v : Data) (k : Text) → (all_keywords now raw read).judges v k ≡ (all_keywords was raw read).judges v k
   unfolding all_keywords
-  judges-same v k = ap (λ o. judged_beside c raw read v k || stands_schema o) (sym none)
+  judges-same v k = ap (λ o. judged_beside c raw read v k || has_schema o) (sym none)
 
   keywords-same : keywords now raw read ≡ keywords was raw read
   keywords-same =

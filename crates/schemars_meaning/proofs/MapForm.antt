@@ -8,7 +8,7 @@ use Rattle.schemars_schema.specs.Json.{Text}
 use Rattle.schemars_schema.specs.Verdict.{Verdict, both, verdict, all_of, one_of}
 use Rattle.schemars_schema.specs.Acceptance.{Context, Judge, Raw, Reading, judge, read_data, all_keywords, is_covered}
 use Rattle.schemars_schema.specs.Acceptance.{type_says, required_says, properties_say, additional_properties_say}
-use Rattle.schemars_schema.specs.Acceptance.{each_says, unevaluated_properties_say, judged_by_list, stands_schema, judged_beside}
+use Rattle.schemars_schema.specs.Acceptance.{each_says, unevaluated_properties_say, judged_by_list, has_schema, judged_beside}
 use Rattle.schemars_schema.proofs.Verdicts.{both-yes}
 use Rattle.schemars_schema.proofs.Objects.{says, judge-object, says-agree, IsKeyword}
 use Rattle.schemars_schema.proofs.Silent.{items_none, const_none}
@@ -42,7 +42,7 @@ module _ (c : Context) (x : Keywords) where
   covered k = is_covered c.patterns (read x.properties) None k
 
   abbrev pub beside : Data → Text → Bool
-  beside v k = covered k || (stands_schema (read x.additional)
+  beside v k = covered k || (has_schema (read x.additional)
       || (judged_by_list (read x.all) v k || (judged_by_list (read x.one) v k || false)))
 
   abbrev pub form_fits : Data → Verdict
@@ -95,11 +95,11 @@ says-fits c x on typed v =
     ) refl
 
 pub says-judges : (c : Context) (x : Keywords) → c.dialect.reads_unevaluated ≡ true → (v : Data) (k : Text)
-    → (says c (look_up x)).judges v k ≡ beside c x v k || stands_schema (read c x x.unevaluated)
+    → (says c (look_up x)).judges v k ≡ beside c x v k || has_schema (read c x x.unevaluated)
 unfolding says all_keywords
 says-judges c x on v k =
     ap (λ (j : Judge). j.judges v k) (alone c.dialect.judges_siblings _ _)
-    ∙ ap (λ s. beside c x v k || s) (on_stands c.dialect.reads_unevaluated on (stands_schema (read c x x.unevaluated)))
+    ∙ ap (λ s. beside c x v k || s) (on_stands c.dialect.reads_unevaluated on (has_schema (read c x x.unevaluated)))
 
 -- an object with these look-ups at keywords
 abbrev pub HasKeywords : Keywords → Members → Type 0

@@ -5,7 +5,7 @@ use Rattle.schemars_schema.specs.Json.{Text}
 use Rattle.schemars_shapes.specs.Shape.{Field, Entry}
 use Rattle.schemars_types.specs.declared.contract.Contract.{Contract}
 use Rattle.schemars_types.specs.Rows.{Row, entry_at}
-use Rattle.schemars_flatten.specs.Opening.{opened_inside, stands_in_place}
+use Rattle.schemars_flatten.specs.Opening.{opened_inside, must_be_in_place}
 use Rattle.schemars_documents.specs.Basis.{Basis}
 use Rattle.schemars_documents.specs.Template.{Template, Ask, part, members_of, content, asks_of}
 use Rattle.schemars_documents.specs.Describes.{AreAnswered, Fills, IsOwnDocument, IsContent, IsAnswered, IsWritten, Describes}
@@ -31,8 +31,8 @@ content_map : (b : Bool) (O P W V : Data → Type 0) → ((d : Data) → O d →
     → IsContent b O W s → IsContent b P V s
 content_map b O P W V own writes s h = (h.0, own h.0 h.1, go h.2)
   where
-    go : ((stands_in_place b h.0 ≡ true) × (s ≡ opened_inside h.0)) ⊎ ((stands_in_place b h.0 ≡ false) × W s)
-        → ((stands_in_place b h.0 ≡ true) × (s ≡ opened_inside h.0)) ⊎ ((stands_in_place b h.0 ≡ false) × V s)
+    go : ((must_be_in_place b h.0 ≡ true) × (s ≡ opened_inside h.0)) ⊎ ((must_be_in_place b h.0 ≡ false) × W s)
+        → ((must_be_in_place b h.0 ≡ true) × (s ≡ opened_inside h.0)) ⊎ ((must_be_in_place b h.0 ≡ false) × V s)
     go (inl i) = inl i
     go (inr i) = inr (i.0, writes s i.1)
 

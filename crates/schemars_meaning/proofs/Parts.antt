@@ -4,7 +4,7 @@ use Rattle.std.specs.Prelude.{Bool, true, false, if◌then◌else◌}
 use Rattle.std.specs.List.{AllByRecursion}
 use Rattle.serde_json.specs.Data.{Data, boolean}
 use Rattle.schemars_schema.specs.Json.{Text}
-use Rattle.schemars_flatten.specs.Opening.{opened_inside, stands_in_place}
+use Rattle.schemars_flatten.specs.Opening.{opened_inside, must_be_in_place}
 use Rattle.schemars_flatten.specs.Parts.{flattened_part}
 use Rattle.schemars_shapes.specs.Shape.{Entry}
 use Rattle.schemars_types.specs.Rows.{Row, entry_at}
@@ -67,8 +67,8 @@ module _ (P : Data → Type 0) (part_stays : (b : Bool) (s : Data) → P s → P
       go : IsContent h.0 (Own n) (Written n) t → P t
       go g = by g.2
         where
-          by : ((stands_in_place h.0 g.0 ≡ true) × (t ≡ opened_inside g.0))
-              ⊎ ((stands_in_place h.0 g.0 ≡ false) × Written n t) → P t
+          by : ((must_be_in_place h.0 g.0 ≡ true) × (t ≡ opened_inside g.0))
+              ⊎ ((must_be_in_place h.0 g.0 ≡ false) × Written n t) → P t
           by (inl i) = subst P (sym i.1) (inside_stays g.0 (own n g.0 g.1))
           by (inr i) = writes n t i.1
 

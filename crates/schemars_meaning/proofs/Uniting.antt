@@ -15,7 +15,7 @@ use Rattle.schemars_schema.proofs.Objects.{keyword-plain}
 use Rattle.schemars_text.proofs.Members.{differ}
 use Rattle.schemars_schema.proofs.Members.{get_member-without}
 use Rattle.schemars_schema.proofs.SortedMembers.{IsSorted, sorted-put, sorted-without}
-use Rattle.schemars_flatten.specs.Flatten.{with_keywords, moved, moved_beside, united_all, stands, has_subschema}
+use Rattle.schemars_flatten.specs.Flatten.{with_keywords, moved, moved_beside, united_all, contains_key, has_subschema}
 use Rattle.schemars_flatten.specs.Flatten.{appended}
 use Rattle.schemars_flatten.proofs.Lookups.{united_option, united_none}
 use Rattle.schemars_documents.specs.Documents.{Keyword}
@@ -288,7 +288,7 @@ module _ (es1 : List Keyword) (ns1 : List Text) (ps1 : Parts) (closed : Bool) (m
   ) refl
 
   second_stays : (xs : Members) → moved_beside xs m2 ≡ m2
-  second_stays xs = go (stands (codes "unevaluatedProperties") xs || has_subschema xs)
+  second_stays xs = go (contains_key (codes "unevaluatedProperties") xs || has_subschema xs)
     where
       go : (b : Bool) → (if b then moved m2 else m2) ≡ m2
       go true = rw (form2.at (codes "additionalProperties") refl, moved) refl

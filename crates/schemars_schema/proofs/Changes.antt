@@ -1,4 +1,4 @@
--- A member that is changed where it stands, and one that joins.
+-- A member that is changed in its place, and one that is added.
 use Rattle.std.proofs.Common.{◌≡◌, ℕ, List, Option, Some, None, option_map, is_some, nat_cmp, string_bytes, refl, ap, ◌∙◌}
 use Rattle.std.specs.Cmp.Lexicographic.{slice_cmp}
 use Rattle.std.specs.Map.{lookup, set_value}

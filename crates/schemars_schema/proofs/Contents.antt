@@ -50,7 +50,7 @@ members_have_float-put k d (member l e ms) here all = go (slice_cmp nat_cmp k l)
     go Equal later = rw here parts.1
     go Greater later = rw parts.0 later
 
--- no schema stands under an annotation
+-- there is no schema under an annotation
 pub found_under-annotation : (k : Text) (d : Data) → is_annotation k ≡ true → found_under k d ≡ []
 found_under-annotation k d note =
     rw (

@@ -190,7 +190,7 @@ unescape-escaped (b ∷ bs) = go (b == 126) (b == 47) refl refl (unescape-escape
     go false true is is_slash later = rw (eqb-true b 47 is_slash, later)
     go false false is is_slash later = unescape_other b (escaped bs) is ∙ ap (λ l. b ∷ l) later
 
--- ---- no `/` stands in them
+-- ---- they have no `/`
 
 lacks_append : (xs ys : List ℕ) → Lacks 47 xs → Lacks 47 ys → Lacks 47 (xs ++ ys)
 lacks_append [] ys h k i less = k i less

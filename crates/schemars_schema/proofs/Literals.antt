@@ -37,7 +37,7 @@ literal_is_schema (boolean b) plain = tt
 literal_is_schema (object ms) plain = tt
 literal_is_schema _ plain = absurd plain
 
--- ---- the keywords that stand there
+-- ---- the keywords that are there
 
 abbrev literal_keywords : List Text
 literal_keywords =
@@ -60,7 +60,7 @@ plain_at k (member l e ms) d plain at = go (slice_cmp nat_cmp k l) refl at (plai
         (exact_bytes k l is) ∙ plain.0)
     go Greater is at later = later at
 
--- nothing stands under a key of no form
+-- there is nothing under a key of no form
 pub plain_absent : (k : Text) (ms : Members) → ArePlainMembers ms → ((d : Data) → is_plain_member k d ≡ false)
     → get_member k ms ≡ None
 plain_absent k ms plain never = go (get_member k ms) refl
@@ -199,7 +199,7 @@ not_among k (l ∷ ls) ms all is = go (bytes_eq k l) refl is (not_among k ls ms 
     go true same is later = ap (λ x. is_listed x ms) ((bytes_eq-Decides k l).0 same) ∙ parts.0
     go false same is later = later is
 
--- no schema stands under the keywords
+-- there is no schema under the keywords
 keyword-holds_none : (k : Text) (d : Data) → is_listed k literal_keywords ≡ true → found_under k d ≡ []
 keyword-holds_none k d is =
     rw (

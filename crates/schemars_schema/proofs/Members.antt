@@ -50,7 +50,7 @@ get_member-without k l (member m e ms) other = go (bytes_eq l m) refl (get_membe
     go true same again = sym (get_member-later k m e ms (ap (bytes_eq k) (sym ((bytes_eq-Decides l m).0 same)) ∙ other))
     go false same again = past (slice_cmp nat_cmp k m) e _ _ again
 
--- another member that is put in doesn't change how often a key stands there
+-- another member that is put in doesn't change how often a key occurs
 pub without-put : (k l : Text) (d : Data) (ms : Members) → bytes_eq k l ≡ false
     → get_member k (without k (put l d ms)) ≡ get_member k (without k ms)
 without-put k l d no_members other = rw other (get_member-later k l d no_members other)

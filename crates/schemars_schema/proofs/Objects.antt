@@ -1,4 +1,4 @@
--- What an object says depends on what stands under its keywords alone.
+-- What an object says depends only on the values of its keywords.
 use Rattle.std.proofs.Common.{◌≡◌, List, [], ◌∷◌, Option, Some, None, Bool, true, false, Ordering, Less, Equal, Greater}
 use Rattle.std.proofs.Common.{refl, sym, ap, ◌∙◌, option_map, is_eq, true≢false}
 use Rattle.std.proofs.Math.Path.{fun_ext}

@@ -49,7 +49,7 @@ below_is_shorter p tokens token below is h = omega (arith, ap length is, ap leng
 
 -- ---- a token
 
--- what becomes of an object by what stands at a token
+-- what becomes of an object, by the value at a token
 abbrev pub onward : List Text → Text → Members → Members → Option Data → Option Data
 onward ts t new ms None = option_map (λ d. object (put t d ms)) (placed ts new None)
 onward ts t new ms (Some e) = option_map (λ d. object (replaced t d ms)) (placed ts new (Some e))
@@ -98,7 +98,7 @@ placed_inside r all ts t new ms inner after now is found write h = rw is (go r (
     go (Ok true) (Some d) e h = let same : d ≡ object inner = cc in rw (same, h, write) refl
     go (Ok false) (Some d) e h = let same : d ≡ object inner = cc in rw (same, h) refl
 
--- ---- where definitions stand
+-- ---- the place of the definitions
 
 tokens-defs : tokens_of (codes "/$defs") ≡ Some (codes "$defs" ∷ [])
 unfolding serde_json_on_literals
@@ -121,7 +121,7 @@ placed_at-two : (p key below : Text) (new ms : Members) → tokens_of p ≡ Some
 placed_at-two p key below new ms is missing = rw is (placed_missing (key ∷ below ∷ []) (below ∷ []) key new ms
     (object (member below (object new) no_members)) refl missing refl)
 
--- members put where no definitions stand yet
+-- members put where there are no definitions yet
 pub placed_at-defs : (new ms : Members) → get_member (codes "$defs") ms ≡ None
     → placed_at (codes "/$defs") new (object ms) ≡ Some (object (put (codes "$defs") (object new) ms))
 placed_at-defs new ms missing = placed_at-one (codes "/$defs") (codes "$defs") new ms tokens-defs missing
@@ -165,7 +165,7 @@ pub pointer-components : (ms parts : Members) (d : Data) → get_member (codes "
 unfolding serde_json_on_literals
 pointer-components ms parts d outer inner = rw outer inner
 
--- a pointer that stands in a reference as it is
+-- a pointer that is in a reference as it is
 pub record IsPlain (p : Text) : Type 0 where
   pub ascii : are_ascii p ≡ true
   pub no_escape : has_escape p ≡ false

@@ -90,7 +90,7 @@ sorted-without k (member l e ms) h = go (bytes_eq k l) (sorted-without k ms h.1)
 
 -- ---- look-ups
 
--- a key that stands before all is not there
+-- a key that is before all others is not there
 pub get_member-above : (k : Text) (ms : Members) → IsAbove k ms → get_member k ms ≡ None
 get_member-above k no_members h = refl
 get_member-above k (member l d ms) h = rw h.0 (get_member-above k ms h.1)

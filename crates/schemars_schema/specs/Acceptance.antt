@@ -341,16 +341,16 @@ abbrev pub judged_by_reference : (Text → Judge) → Option Data → Data → T
 judged_by_reference follow reference v k = elim (option_and_then as_str reference)
     [ None ↦ false | Some name ↦ judged_by (follow name) v k ]
 
--- a schema there judges all that is left
-abbrev pub stands_schema : Option Reading → Bool
-stands_schema schema = is_some (option_and_then (λ x. x.schema) schema)
+-- there is a schema, which judges all that is left
+abbrev pub has_schema : Option Reading → Bool
+has_schema schema = is_some (option_and_then (λ x. x.schema) schema)
 
 -- ---- a schema object
 
 abbrev pub judged_beside : Context → Raw → Readings → Data → Text → Bool
 judged_beside c raw read v k =
     is_covered c.patterns (read (codes "properties")) (read (codes "patternProperties")) k
-    || (stands_schema (read (codes "additionalProperties"))
+    || (has_schema (read (codes "additionalProperties"))
     || (judged_by_list (read (codes "allOf")) v k
     || (judged_by_list (read (codes "anyOf")) v k
     || (judged_by_list (read (codes "oneOf")) v k || judged_by_reference c.follow (raw (codes "$ref")) v k))))
@@ -383,7 +383,7 @@ all_keywords c raw read = record {
       ∷ not_says (read (codes "not")) v
       ∷ unevaluated_properties_say c.dialect.reads_unevaluated (judged_beside c raw read v) (read (codes "unevaluatedProperties")) v
       ∷ []);
-  judges = λ v k. judged_beside c raw read v k || (c.dialect.reads_unevaluated && stands_schema (read (codes "unevaluatedProperties")));
+  judges = λ v k. judged_beside c raw read v k || (c.dialect.reads_unevaluated && has_schema (read (codes "unevaluatedProperties")));
 }
 
 abbrev pub reference_alone : Context → Raw → Judge

@@ -11,7 +11,7 @@ pub mod meta_schemas {
     /// JSON Schema 2020-12.
     pub const DRAFT2020_12: &str = "https://json-schema.org/draft/2020-12/schema";
 
-    /// The schema objects of OpenAPI 3.0. Such a schema mostly stands inside an OpenAPI document,
+    /// The schema objects of OpenAPI 3.0. Such a schema is mostly part of an OpenAPI document,
     /// and then has no `$schema` of its own.
     pub const OPENAPI3: &str =
         "https://spec.openapis.org/oas/3.0/schema/2024-10-18#/definitions/Schema";

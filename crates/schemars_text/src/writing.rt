@@ -22,11 +22,11 @@ use std::alloc::{AllocError, Global};
 
 /// A schema as compact JSON, with the members of each schema object in a fixed order: `$id`,
 /// `$schema`, `title`, `description`, `type`, `format` and `properties` come first, `$defs` and
-/// `definitions` last, and the others stand between them in map order.
+/// `definitions` last, and the others are between them in map order.
 ///
-/// What stands under `properties`, `patternProperties`, `dependentSchemas`, `$defs` and
-/// `definitions` are schemas by name: the names keep map order. What stands under `examples`,
-/// `default` and keys that begin with `x-` is plain JSON, in map order.
+/// The members of `properties`, `patternProperties`, `dependentSchemas`, `$defs` and `definitions`
+/// are schemas by name, and the names are in map order. The value of `examples`, of `default` and
+/// of a key that begins with `x-` is plain JSON, in map order.
 ///
 /// A number with a fraction or beyond 64 bits has the digits that `serde_json` gives it.
 pub fn to_ordered_string(alloc: Global, schema: &Value) -> Result<String, AllocError>

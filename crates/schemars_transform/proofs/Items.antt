@@ -1,4 +1,4 @@
--- What stands under `items`, call by call.
+-- The value of `items`, call by call.
 use Rattle.std.proofs.Common.{◌≡◌, Some, codes}
 use Rattle.serde_json.specs.Data.{Data, object}
 use Rattle.serde_json.specs.Find.{get}

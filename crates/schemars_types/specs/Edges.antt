@@ -39,7 +39,7 @@ below_all rows [] = []
 below_all rows (n ∷ ns) = below rows n ++ below_all rows ns
 
 -- The rows that a shape asks whether they are written in place or not: a map asks that of its keys, and others those whose
--- members stand in their own maps. Of a flattened Option the rows below are asked too.
+-- members are in their own maps. Of a flattened Option the rows below are asked too.
 abbrev pub asked_in : List Row → Shape → List ℕ
 asked_in rows s = asked_numbers s ++ below_all rows (flattened_numbers s)
 

@@ -36,7 +36,7 @@ Refusal rows (EmptyCycle n) =
     IsFree (IsUndefined rows) × IsFree (HasRepeated rows) × IsFree (OnDirectCycle rows) × IsLeast (OnEmptyCycle rows) n
 Refusal rows _ = ⊥
 
--- What follows for a table without faults: every row has its entry, whose numbers are those of rows, no name stands twice in a list of
+-- What follows for a table without faults: every row has its entry, whose numbers are those of rows, no name occurs twice in a list of
 -- fields or of variants, and heights and ranks, which have a bound, fall along the edges.
 pub record IsChecked (rows : List Row) : Type 0 where
   pub within : RefersWithin rows

@@ -1,5 +1,5 @@
--- The meaning of tables in which only structs that have to be there are flattened: no Option is looked through, and no enum stands among
--- the members of a struct.
+-- The meaning of tables in which only structs that have to be there are flattened: no Option is looked through, and no enum is
+-- among the members of a struct.
 use Rattle.std.specs.Prelude.{ℕ, zero, suc, ◌+◌, ◌*◌, List, [], length, map, Bool, false, Some, None}
 use Rattle.std.specs.Option.{option_map_or}
 use Rattle.serde_json.specs.Data.{Data, depth}

@@ -48,36 +48,23 @@ EachMember {S} Q s (member k d ms) r u es =
 
 -- a value that is not a schema is passed over
 abbrev pub AtSchema : {S : Type 0} → TransformStep S → TransformStep S
-AtSchema Q s null r u e = PassedOver s null r u e
 AtSchema Q s (boolean b) r u e = Q s (boolean b) r u e
-AtSchema Q s (number n) r u e = PassedOver s (number n) r u e
-AtSchema Q s (string t) r u e = PassedOver s (string t) r u e
-AtSchema Q s (array ds) r u e = PassedOver s (array ds) r u e
 AtSchema Q s (object ms) r u e = Q s (object ms) r u e
+AtSchema Q s d r u e = PassedOver s d r u e
 
 abbrev pub AtList : {S : Type 0} → TransformStep S → TransformStep S
-AtList Q s null r u e = PassedOver s null r u e
-AtList Q s (boolean b) r u e = PassedOver s (boolean b) r u e
-AtList Q s (number n) r u e = PassedOver s (number n) r u e
-AtList Q s (string t) r u e = PassedOver s (string t) r u e
 AtList Q s (array ds) r u e = (es : Items) × EachItem (AtSchema Q) s ds r u es × OnOk r (e ≡ array es)
-AtList Q s (object ms) r u e = PassedOver s (object ms) r u e
+AtList Q s d r u e = PassedOver s d r u e
 
 abbrev pub AtSchemaOrList : {S : Type 0} → TransformStep S → TransformStep S
-AtSchemaOrList Q s null r u e = PassedOver s null r u e
 AtSchemaOrList Q s (boolean b) r u e = Q s (boolean b) r u e
-AtSchemaOrList Q s (number n) r u e = PassedOver s (number n) r u e
-AtSchemaOrList Q s (string t) r u e = PassedOver s (string t) r u e
 AtSchemaOrList Q s (array ds) r u e = (es : Items) × EachItem (AtSchema Q) s ds r u es × OnOk r (e ≡ array es)
 AtSchemaOrList Q s (object ms) r u e = Q s (object ms) r u e
+AtSchemaOrList Q s d r u e = PassedOver s d r u e
 
 abbrev pub AtNames : {S : Type 0} → TransformStep S → TransformStep S
-AtNames Q s null r u e = PassedOver s null r u e
-AtNames Q s (boolean b) r u e = PassedOver s (boolean b) r u e
-AtNames Q s (number n) r u e = PassedOver s (number n) r u e
-AtNames Q s (string t) r u e = PassedOver s (string t) r u e
-AtNames Q s (array ds) r u e = PassedOver s (array ds) r u e
 AtNames Q s (object ms) r u e = (es : Members) × EachMember (λ k. AtSchema Q) s ms r u es × OnOk r (e ≡ object es)
+AtNames Q s d r u e = PassedOver s d r u e
 
 abbrev pub AtPlace : {S : Type 0} → references.Place → TransformStep S → TransformStep S
 AtPlace NoSchemas Q s d r u e = PassedOver s d r u e
@@ -88,12 +75,8 @@ AtPlace SchemasByName Q s d r u e = AtNames Q s d r u e
 
 -- the direct subschemas of a schema; a truth value has none
 abbrev pub Walked : {S : Type 0} → TransformStep S → TransformStep S
-Walked Q s null r u e = PassedOver s null r u e
-Walked Q s (boolean b) r u e = PassedOver s (boolean b) r u e
-Walked Q s (number n) r u e = PassedOver s (number n) r u e
-Walked Q s (string t) r u e = PassedOver s (string t) r u e
-Walked Q s (array ds) r u e = PassedOver s (array ds) r u e
 Walked Q s (object ms) r u e = (es : Members) × EachMember (λ k. AtPlace (place_under k) Q) s ms r u es × OnOk r (e ≡ object es)
+Walked Q s d r u e = PassedOver s d r u e
 
 -- a schema, and then the schemas inside it, from the top down, on so many levels; a schema below them is refused
 unfoldable pub Recursed : {S : Type 0} → TransformStep S → ℕ → TransformStep S
@@ -118,9 +101,6 @@ LeftAlone s d r u e = (r ≡ Ok false) × (u ≡ s) × (e ≡ d)
 
 -- a value that may be a schema: one that is none is left alone
 abbrev pub OnValue : {S : Type 0} → TransformStep S → S → Data → Result Bool TransformError → S → Data → Type 0
-OnValue Q s null r u e = LeftAlone s null r u e
 OnValue Q s (boolean b) r u e = Transformed Q s (boolean b) r u e
-OnValue Q s (number n) r u e = LeftAlone s (number n) r u e
-OnValue Q s (string t) r u e = LeftAlone s (string t) r u e
-OnValue Q s (array ds) r u e = LeftAlone s (array ds) r u e
 OnValue Q s (object ms) r u e = Transformed Q s (object ms) r u e
+OnValue Q s d r u e = LeftAlone s d r u e

@@ -6,7 +6,7 @@ ghost use Rattle.schemars_schema.specs.Edits.{is_text};
 ghost use Rattle.schemars_flatten.specs.Opening.{closes, closed_in, closed_in_items};
 ghost use Rattle.schemars_flatten.specs.Opening.{closed_in_keywords};
 ghost use Rattle.schemars_flatten.specs.Opening.{closed_at, closes_inside, has_type};
-ghost use Rattle.schemars_flatten.specs.Opening.{stands_in_place};
+ghost use Rattle.schemars_flatten.specs.Opening.{must_be_in_place};
 ghost use Rattle.schemars_flatten.specs.Opening.{opened_inside};
 
 use crate::part::opening::closes_by;
@@ -19,15 +19,15 @@ use serde_json::{Map, Value};
 /// that of an object; or if it, or a schema inside it that judges the same object, has
 /// `additionalProperties` or `unevaluatedProperties` with the value false, which would refuse the
 /// tag. If a reference will do, opening the schemas inside changes nothing.
-pub fn stands_in_place(schema: &Schema, inline: bool) -> bool
-    ensures value { result ≡ stands_in_place inline schema.now }
+pub fn must_be_in_place(schema: &Schema, inline: bool) -> bool
+    ensures value { result ≡ must_be_in_place inline schema.now }
     ensures unchanged { result ≡ false → opened_inside schema.now ≡ schema.now }
 {
     asks_for_place(schema, inline)
 }
 
 fn asks_for_place(schema: &Schema, inline: bool) -> bool
-    ensures { result ≡ stands_in_place inline schema.now }
+    ensures { result ≡ must_be_in_place inline schema.now }
 {
     inline
         || has_type(schema.as_value(), "null")

@@ -102,7 +102,7 @@ pub fn flattened_numbers(alloc: Global, shape: &Shape) -> Result<Vec<TypeNo>, Al
 }
 
 /// The rows that the shape asks at once, whether they are written in place or not: that of a
-/// map's keys, and those whose members stand in the shape's own maps.
+/// map's keys, and those whose members are in the shape's own maps.
 pub fn asked_numbers(alloc: Global, shape: &Shape) -> Result<Vec<TypeNo>, AllocError>
     ensures { IfOk result (λ v. v.items ≡ asked_numbers (shape_of shape.now)) }
 {

@@ -22,7 +22,7 @@ use std::alloc::{AllocError, Global};
 #[derive(Clone, Copy)]
 pub enum EdgeKind {
     /// to the rows that are asked at once: those that are written in place, that of a map's keys,
-    /// and those whose members stand in a row's own maps
+    /// and those whose members are in a row's own maps
     Direct,
     /// to the rows whose values, or whose members, a row has
     SameValue,

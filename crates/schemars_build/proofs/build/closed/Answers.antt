@@ -88,8 +88,8 @@ returns-in-Members-clause-replies c = λ outside old want h.
       is_like = closing_answered plan outside old want now now d (reverse c.args.making.now.items) t h (omega arith) replied;
     }
 
-pub returns-then-not-stands_in_place-clause-replies : goal.returns-then-not-stands_in_place-clause-replies
-returns-then-not-stands_in_place-clause-replies c =
+pub returns-then-not-must_be_in_place-clause-replies : goal.returns-then-not-must_be_in_place-clause-replies
+returns-then-not-must_be_in_place-clause-replies c =
     let plan = plan_of c.args.plan.now in
     let now = c.args.work.now in
     let new = c.part.new.work in

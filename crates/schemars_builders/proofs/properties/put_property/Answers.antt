@@ -1,4 +1,4 @@
--- A property among those that stand, or the first.
+-- A property among those that are there, or the first.
 use Rattle.std.proofs.Common.{◌≡◌, Some, None, option_map, codes, ap, ◌∙◌}
 use Rattle.std.proofs.lemmas.Result.{on_ok_weaker}
 use Rattle.serde_json.specs.Data.{object, no_members, put}

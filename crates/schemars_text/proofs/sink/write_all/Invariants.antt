@@ -1,4 +1,4 @@
--- The sink has taken what stands before the rest, and has not failed since the first write.
+-- The sink has taken what is before the rest, and has not failed since the first write.
 use Rattle.std.proofs.Common.{◌≡◌, ℕ, ◌<◌, List, ◌++◌, length, false}
 use Rattle.std.specs.Io.KnownBytes.{Appends}
 use Rattle.schemars_text.proofs.sink.write_all.Given as goal

@@ -1,4 +1,4 @@
--- Where no `oneOf` stands nothing is taken out.
+-- Where there is no `oneOf`, nothing is removed.
 use Rattle.schemars_flatten.proofs.Optional.{no_choice}
 use Rattle.schemars_flatten.proofs.part.optional.choice_or_anything.Goals as goal
 

@@ -1,4 +1,4 @@
--- What stands under `oneOf` is changed where it stands.
+-- The value of `oneOf` is changed in its place.
 use Rattle.std.proofs.Common.{codes}
 use Rattle.std.proofs.lemmas.Result.{on_ok_weaker}
 use Rattle.serde_json.specs.View.{view}

@@ -1,4 +1,4 @@
--- No name stands twice among the variants, nor among the fields of one before; what is repeated behind is so in all.
+-- No name occurs twice among the variants, nor among the fields of one before; what is repeated behind is so in all.
 use Rattle.std.proofs.Common.{map, drop}
 use Rattle.std.specs.Str.{bytes_eq}
 use Rattle.std.specs.List.{IsDistinct}
