@@ -108,7 +108,7 @@ pub fn required_names(
     ensures { IfOk result (λ v. items_view v.items
         ≡ text_items (required_names contract (map field_of fields.now))) }
 {
-    let mut names = Vec::new(alloc);
+    let mut names = Vec::with_capacity(alloc, fields.len())?;
     for field in fields {
         if is_required(contract, field.required) {
             let name = Value::try_from_str(alloc, field.name.as_str())?;

@@ -325,7 +325,7 @@ fn fill_schemas(
     ensures left { OnOk result (parts.new.items ≡ left (list (templates_of
         (map template_view schemas.entry.items))) parts.old.items) }
 {
-    let mut values = Vec::new(alloc);
+    let mut values = Vec::with_capacity(alloc, schemas.len())?;
     for template in schemas {
         let schema = fill_schema(alloc, template, parts)?;
         serde_json::push(&mut values, schema.to_value())?;

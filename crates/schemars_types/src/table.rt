@@ -24,8 +24,8 @@ use std::marker::Model;
 /// A table of types, by number and by id.
 ///
 /// A row has an id, a name and, once it is defined, an entry. Rows are numbered from 0 in the order
-/// in which their ids were reserved, and are never removed. Entries refer to rows by number, so a
-/// type can be reserved first and then refer to itself:
+/// in which their ids were reserved. Entries refer to rows by number, so a type can be reserved
+/// first and then refer to itself:
 ///
 /// ```
 /// let node = types.reserve(id, name)?;
@@ -185,6 +185,14 @@ impl Types {
             → take (length first.now) self.now ≡ first.now → IsTrue result }
     {
         slots_begin_with(&self.slots, &first.slots)
+    }
+
+    /// Removes the rows from `len` on, to which no row before them refers.
+    pub fn truncate(&mut self, len: usize)
+        requires { RefersWithin (take len self.old) }
+        ensures { self.new ≡ take len self.old }
+    {
+        self.slots.truncate(len);
     }
 
     fn first_unknown(&self, n: TypeNo, shape: &Shape) -> Option<TypeNo>

@@ -53,7 +53,7 @@ fn adjacent_items<'t>(
     ensures { IfOk result (λ v. map template_view v.items
         ≡ map (adjacent_item contract tag.now content.now closed) (map variant_of variants.now)) }
 {
-    let mut items = Vec::new(alloc);
+    let mut items = Vec::with_capacity(alloc, variants.len())?;
     for variant in variants {
         let item = adjacent_item(alloc, contract, tag, content, closed, variant)?;
         items.push(item)?;

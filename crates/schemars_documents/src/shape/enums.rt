@@ -71,7 +71,7 @@ fn bare_units(alloc: Global, variants: &[Variant]) -> Result<Vec<Value>, AllocEr
     ensures { IfOk result (λ v. items_view v.items
         ≡ text_items (bare_units (map variant_of variants.now))) }
 {
-    let mut names = Vec::new(alloc);
+    let mut names = Vec::with_capacity(alloc, variants.len())?;
     for variant in variants {
         if is_bare_unit(variant) {
             let name = Value::try_from_str(alloc, variant.name.as_str())?;
@@ -174,7 +174,7 @@ fn payload_items<'t>(
     ensures { IfOk result (λ v. map template_view v.items
         ≡ map (payload_item contract titles) (map variant_of variants.now)) }
 {
-    let mut items = Vec::new(alloc);
+    let mut items = Vec::with_capacity(alloc, variants.len())?;
     for variant in variants {
         let item = payload_item(alloc, contract, titles, variant)?;
         items.push(item)?;

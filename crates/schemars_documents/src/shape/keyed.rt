@@ -124,7 +124,7 @@ fn values_at<'t>(
     ensures { IfOk result (λ v. map property_view v.items
         ≡ values_of value (map (λ t. t.now) keys.now)) }
 {
-    let mut values = Vec::new(alloc);
+    let mut values = Vec::with_capacity(alloc, keys.len())?;
     for key in keys {
         values.push((*key, row(value)))?;
     }

@@ -93,7 +93,7 @@ pub fn tuple_template<'t>(alloc: Global, parts: &[TypeNo]) -> Result<SchemaTempl
 fn rows_in_order<'t>(alloc: Global, parts: &[TypeNo]) -> Result<Vec<SchemaTemplate<'t>>, AllocError>
     ensures { IfOk result (λ v. map template_view v.items ≡ map row parts.now) }
 {
-    let mut rows = Vec::new(alloc);
+    let mut rows = Vec::with_capacity(alloc, parts.len())?;
     for part in parts {
         rows.push(row(*part))?;
     }

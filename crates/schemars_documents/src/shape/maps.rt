@@ -38,12 +38,12 @@ pub fn map_template<'t>(
     Ok(object_with(keywords))
 }
 
-/// The keyword `type` with this name.
+/// The keyword `type` with this name, with room for the three others of a map.
 pub fn typed<'t>(alloc: Global, name: &str) -> Result<Vec<(&'t str, ValueTemplate<'t>)>, AllocError>
     ensures { IfOk result (λ v. map keyword_view v.items ≡ typed_template name.now ∷ []) }
 {
     let name = text(alloc, name)?;
-    let mut keywords: Vec<(&'t str, ValueTemplate<'t>)> = Vec::new(alloc);
+    let mut keywords: Vec<(&'t str, ValueTemplate<'t>)> = Vec::with_capacity(alloc, 4)?;
     keywords.push(("type", name))?;
     Ok(keywords)
 }
@@ -144,7 +144,7 @@ fn members_of(
     ensures { IfOk result (λ v. map ask_of v.items
         ≡ map (members_asked contract) (map flattened_of flatten.now)) }
 {
-    let mut members = Vec::new(alloc);
+    let mut members = Vec::with_capacity(alloc, flatten.len())?;
     for part in flatten {
         let required = is_required(contract, part.required);
         members.push(Ask::MembersOf(part.ty, required))?;
@@ -160,7 +160,7 @@ fn properties<'t>(
     ensures { IfOk result (λ v. map property_view v.items
         ≡ map property (map field_of fields.now)) }
 {
-    let mut properties = Vec::new(alloc);
+    let mut properties = Vec::with_capacity(alloc, fields.len())?;
     for field in fields {
         let part = Box::new(alloc, row(field.ty))?;
         let noted = SchemaTemplate::Noted(&field.notes, part);
@@ -204,7 +204,7 @@ fn names<'t>(
     ensures { IfOk result (λ v. items_view v.items
         ≡ text_items (map (λ e. e.0) (map property_view properties.now))) }
 {
-    let mut names = Vec::new(alloc);
+    let mut names = Vec::with_capacity(alloc, properties.len())?;
     for property in properties {
         let name = Value::try_from_str(alloc, property.0)?;
         serde_json::push(&mut names, name)?;

@@ -43,7 +43,7 @@ fn internal_items<'t>(
     ensures { IfOk result (λ v. map template_view v.items
         ≡ map (internal_item contract tag.now closed) (map internal_variant_of variants.now)) }
 {
-    let mut items = Vec::new(alloc);
+    let mut items = Vec::with_capacity(alloc, variants.len())?;
     for variant in variants {
         let item = internal_item(alloc, contract, tag, closed, variant)?;
         items.push(item)?;
