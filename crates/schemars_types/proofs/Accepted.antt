@@ -30,7 +30,7 @@ least_repeated rows n name differ r = ((name, r), λ k below (other, s). never_f
 
 -- ---- edges
 
-to_same_value : (rows : List Row) (n m : ℕ) → Contains (targets_along SameValue rows n) m → SameValueEdge rows n m
+pub to_same_value : (rows : List Row) (n m : ℕ) → Contains (targets_along SameValue rows n) m → SameValueEdge rows n m
 to_same_value rows n m among = let (c, t) = Contains-filter (is_row rows) (same_value_numbers_at rows n) m among in
     (c, ltb-true m (length rows) t)
 

@@ -1,15 +1,16 @@
 -- The rows whose options a row's own depend on.
 use Rattle.std.proofs.Common.{◌≡◌, ◌<◌, ◌∙◌, inl, inr, ℕ, zero, suc, List, [], ◌∷◌}
-use Rattle.std.proofs.Common.{Some, length, get_or, map, Contains, refl, ap, sym, subst, arith}
+use Rattle.std.proofs.Common.{Option, Some, None, length, get_or, map, Contains, refl, ap, sym, subst, arith}
+use Rattle.std.specs.Prelude.{option_and_then}
 use Rattle.std.specs.Option.{option_map_or}
 use Rattle.std.proofs.lemmas.List.Elements.{Contains-append_left, Contains-append_right, Contains-append_cases}
 use Rattle.schemars_shapes.specs.declared.variant.Variant as src-variant
 use Rattle.schemars_shapes.specs.Shape as shape
 use Rattle.schemars_shapes.specs.Shape.{Shape, Entry, Variant, Payload, no_payload, newtype_payload, tuple_payload, struct_payload}
 use Rattle.schemars_shapes.specs.Shape.{flattened_rows, payload_numbers, payload_flattened, payload_same, of_variants, variant_numbers}
-use Rattle.schemars_shapes.specs.Shape.{numbers_of, same_value_numbers, variant_of, payload_of}
+use Rattle.schemars_shapes.specs.Shape.{numbers_of, same_value_numbers, flattened_numbers, asked_numbers, option_of, variant_of, payload_of}
 use Rattle.schemars_types.specs.Rows.{Row, entry_at}
-use Rattle.schemars_types.specs.Edges.{RefersWithin, SameValueEdge, numbers_at, same_value_numbers_at}
+use Rattle.schemars_types.specs.Edges.{RefersWithin, SameValueEdge, numbers_at, same_value_numbers_at, option_at}
 use Rattle.schemars_types.proofs.GraphLemmas.{nothing_among}
 
 same_of_payload : (p : Payload) (m : ℕ) → Contains (payload_same p) m → Contains (payload_numbers p) m
@@ -43,6 +44,27 @@ same_number (shape.adjacent tag content closed xs) m c = of_variants_among paylo
 same_number (shape.untagged xs) m c = of_variants_among payload_same same_of_payload xs m c
 same_number _ m c = absurd (nothing_among m c)
 
+pub flattened_number : (s : Shape) (m : ℕ) → Contains (flattened_numbers s) m → Contains (numbers_of s) m
+flattened_number (shape.struct x) m c = Contains-append_right (map (λ f. f.ty) x.list) (flattened_rows x) m c
+flattened_number (shape.external xs) m c = of_variants_among payload_flattened flattened_of_payload xs m c
+flattened_number (shape.internal tag closed xs) m c = of_variants_among payload_flattened flattened_of_payload xs m c
+flattened_number (shape.adjacent tag content closed xs) m c = of_variants_among payload_flattened flattened_of_payload xs m c
+flattened_number (shape.untagged xs) m c = of_variants_among payload_flattened flattened_of_payload xs m c
+flattened_number _ m c = absurd (nothing_among m c)
+
+pub asked_number : (s : Shape) (m : ℕ) → Contains (asked_numbers s) m → Contains (numbers_of s) m
+asked_number (shape.map_from key value) m c = Contains-append_left (key ∷ []) (value ∷ []) m c
+asked_number (shape.struct x) m c = Contains-append_right (map (λ f. f.ty) x.list) (flattened_rows x) m c
+asked_number (shape.external xs) m c = of_variants_among payload_flattened flattened_of_payload xs m c
+asked_number (shape.internal tag closed xs) m c = of_variants_among payload_same same_of_payload xs m c
+asked_number (shape.adjacent tag content closed xs) m c = of_variants_among payload_flattened flattened_of_payload xs m c
+asked_number (shape.untagged xs) m c = of_variants_among payload_flattened flattened_of_payload xs m c
+asked_number _ m c = absurd (nothing_among m c)
+
+option_number : (s : Shape) (m : ℕ) → option_of s ≡ Some m → Contains (same_value_numbers s) m
+option_number (shape.option n) m is = let here : n ≡ m = cc in (0, omega arith, here)
+option_number _ m is = cc
+
 -- they are ends of edges
 pub asked : (rows : List Row) → RefersWithin rows → (n : ℕ) (e : Entry) → entry_at rows n ≡ Some e → (m : ℕ)
     → Contains (same_value_numbers e.shape) m → SameValueEdge rows n m
@@ -52,6 +74,15 @@ asked rows within n e at m c =
     ≡ same_value_numbers e.shape = ap (λ o. option_map_or (λ x. same_value_numbers x.shape) o []) at in
     let all : numbers_at rows n ≡ numbers_of e.shape = ap (λ o. option_map_or (λ x. numbers_of x.shape) o []) at in
     (subst P (sym same) c, within.within n m (subst P (sym all) (same_number e.shape m c)))
+
+pub option_asked : (rows : List Row) → RefersWithin rows → (n m : ℕ) → option_at rows n ≡ Some m → SameValueEdge rows n m
+option_asked rows within n m is = by (entry_at rows n) refl
+  where
+    by : (o : Option Entry) → entry_at rows n ≡ o → SameValueEdge rows n m
+    by None at = let none : None ≡ Some m = sym (ap (option_and_then (λ e. option_of e.shape)) at) ∙ is in cc
+    by (Some e) at =
+        let here : option_of e.shape ≡ Some m = sym (ap (option_and_then (λ x. option_of x.shape)) at) ∙ is in
+        asked rows within n e at m (option_number e.shape m here)
 
 pub entry_low : (rows : List Row) (n : ℕ) (e : Entry) → entry_at rows n ≡ Some e → n < length rows
 entry_low [] n e at = cc

@@ -1,22 +1,22 @@
 -- The edges of a table lie among its rows, and a graph of targets has the same walks.
-use Rattle.std.proofs.Common.{◌≡◌, ◌<◌, ◌∙◌, ◌⊎◌, inl, inr, ℕ, zero, suc, List, [], ◌∷◌, ◌++◌, Bool, true, false, Option}
-use Rattle.std.proofs.Common.{Some, None, length, filter, cond, Contains, MatchOption, refl, sym, ap, subst}
+use Rattle.std.proofs.Common.{◌≡◌, ◌<◌, ◌≤◌, ◌+◌, ◌-◌, ◌∙◌, ◌⊎◌, inl, inr, ℕ, zero, suc, List, [], ◌∷◌, ◌++◌, Bool, true, false}
+use Rattle.std.proofs.Common.{Some, None, length, filter, map, cond, nat_le, Contains, refl, sym, ap, subst}
 use Rattle.std.proofs.Common.{arith, true≢false, append_assoc, append-nil}
 use Rattle.std.specs.Option.{option_map_or}
 use Rattle.std.proofs.lemmas.List.Elements.{Contains-append_left, Contains-append_right, Contains-append_cases}
-use Rattle.std.proofs.lemmas.Bool.{lt-ltb, ltb-true}
+use Rattle.std.proofs.lemmas.Bool.{lt-ltb, ltb-true, leb-true, leb-false}
 use Rattle.schemars_shapes.specs.Shape.{Entry, numbers_of, same_value_numbers}
 use Rattle.schemars_types.specs.Rows.{Row, entry_at}
-use Rattle.schemars_types.specs.Walks.{Leads, OnCycle, IsFree, IsLeast}
-use Rattle.schemars_types.specs.Search.{Graph, targets_in, IsClosed, HasTargets}
+use Rattle.schemars_types.specs.Walks.{Walk, one, then, Leads, OnCycle, IsFree, IsLeast, EdgeFrom}
+use Rattle.schemars_types.specs.Search.{Graph, targets_in, IsClosed, HasTargets, counted_from}
 use Rattle.schemars_types.specs.Edges.{numbers_at, is_inline_at, asked_in, asked_at, is_row, DirectEdge, same_value_numbers_at}
 use Rattle.schemars_types.specs.Edges.{option_at, below_within}
-use Rattle.schemars_types.specs.EdgeKind.{targets_along}
+use Rattle.schemars_types.specs.EdgeKind.{targets_along, targets_from}
 use Rattle.schemars_types.specs.declared.check.faults.EdgeKind.{EdgeKind}
 use Rattle.schemars_types.specs.declared.check.faults.EdgeKind.TheVariants.{Direct, SameValue}
-use Rattle.schemars_types.proofs.GraphLemmas.{Contains-later, targets_in-within, walk_along}
+use Rattle.schemars_types.proofs.GraphLemmas.{Contains-later, nothing_among, targets_in-within, walk_within, walk_under}
 
-Contains-cons : (x m : ℕ) (xs : List ℕ) → Contains (x ∷ xs) m → (x ≡ m) ⊎ Contains xs m
+pub Contains-cons : (x m : ℕ) (xs : List ℕ) → Contains (x ∷ xs) m → (x ≡ m) ⊎ Contains xs m
 Contains-cons x m xs (zero, below, is) = inl is
 Contains-cons x m xs (suc k, below, is) = inr (k, omega arith, is)
 
@@ -103,28 +103,78 @@ pub none_joins : (found : List ℕ) (rows : List Row) (steps n : ℕ) (all : Lis
 none_joins found rows steps n all none is =
     sym (append-nil found) ∙ (ap (λ ms. found ++ ms) (sym (below_none rows steps n none)) ∙ is)
 
--- ---- the graph of a table
+-- ---- numbers that are counted from another
 
-module _ (kind : EdgeKind) (rows : List Row) (graph : Graph) (h : HasTargets (targets_along kind rows) (length rows) graph) where
-  to_table : (n m : ℕ) → Contains (targets_in graph n) m → Contains (targets_along kind rows n) m
+counted_back : (from : ℕ) (ns : List ℕ) (m : ℕ) → Contains (counted_from from ns) m → Contains ns (from + m)
+counted_back from [] m among = absurd (nothing_among m among)
+counted_back from (x ∷ ns) m among = by (nat_le from x) refl among (counted_back from ns m)
+  where
+    by : (b : Bool) → nat_le from x ≡ b → Contains (map (λ k. k - from) (cond b (x ∷ filter (nat_le from) ns) (filter (nat_le from) ns))) m
+        → (Contains (counted_from from ns) m → Contains ns (from + m)) → Contains (x ∷ ns) (from + m)
+    by true e h rest = let low = leb-true from x e in elim (Contains-cons (x - from) m (counted_from from ns) h) [
+      | inl same ↦ (0, omega arith, omega arith)
+      | inr later ↦ Contains-later x (from + m) ns (rest later)
+    ]
+    by false e h rest = Contains-later x (from + m) ns (rest h)
+
+counted_on : (from : ℕ) (ns : List ℕ) (m : ℕ) → from ≤ m → Contains ns m → Contains (counted_from from ns) (m - from)
+counted_on from [] m low among = absurd (nothing_among m among)
+counted_on from (x ∷ ns) m low among = by (nat_le from x) refl (Contains-cons x m ns among) (counted_on from ns m low)
+  where
+    by : (b : Bool) → nat_le from x ≡ b → (x ≡ m) ⊎ Contains ns m → (Contains ns m → Contains (counted_from from ns) (m - from))
+        → Contains (map (λ k. k - from) (cond b (x ∷ filter (nat_le from) ns) (filter (nat_le from) ns))) (m - from)
+    by true e (inl same) rest = (0, omega arith, ap (λ k. k - from) same)
+    by true e (inr later) rest = Contains-later (x - from) (m - from) (counted_from from ns) (rest later)
+    by false e (inl same) rest = let high = leb-false from x e in absurd (omega arith)
+    by false e (inr later) rest = rest later
+
+-- ---- the graph of a table's rows from `from` on
+
+starts_from : (E : ℕ → ℕ → Type 0) (from n m : ℕ) → Walk (EdgeFrom from E) n m → from ≤ n
+starts_from E from n m (one m' e) = e.0
+starts_from E from n m (then k m' w e) = starts_from E from n k w
+
+module _ (kind : EdgeKind) (rows : List Row) (from : ℕ) (graph : Graph)
+    (h : HasTargets (targets_from kind from rows) (length rows - from) graph) where
+  abbrev Edge : ℕ → ℕ → Type 0
+  Edge = EdgeFrom from (Leads (targets_along kind rows))
+
+  to_table : (n m : ℕ) → Contains (targets_in graph n) m → Edge (from + n) (from + m)
   to_table n m among =
-      let below = targets_in-within graph n m among in
-      subst (λ (ms : List ℕ). Contains ms m) (h.at n (omega (arith, h.len_is))) among
+      let below = targets_in-within graph n m among in (
+        omega arith,
+        omega arith,
+        counted_back from (targets_along kind rows (from + n)) m
+            (subst (λ (ms : List ℕ). Contains ms m) (h.at n (omega (arith, h.len_is))) among),
+      )
 
-  from_table : (n m : ℕ) → Contains (targets_along kind rows n) m → Contains (targets_in graph n) m
-  from_table n m among = subst (λ (ms : List ℕ). Contains ms m) (sym (h.at n (ends_within kind rows n m among).0)) among
+  from_table : (n m : ℕ) → Edge n m → Contains (targets_in graph (n - from)) (m - from)
+  from_table n m (low, high, among) =
+      let ends = ends_within kind rows n m among in
+      let back : from + (n - from) ≡ n = omega arith in
+      let counted = counted_on from (targets_along kind rows n) m high among in
+      let there : targets_in graph (n - from) ≡ counted_from from (targets_along kind rows n) =
+      h.at (n - from) (omega (arith, ends.0)) ∙ ap (λ k. counted_from from (targets_along kind rows k)) back in
+      subst (λ (ms : List ℕ). Contains ms (m - from)) (sym there) counted
 
   pub graph_closed : IsClosed graph
   graph_closed = record {
-    within = λ n m among. let ends = ends_within kind rows n m (to_table n m among) in
+    within = λ n m among. let (low, high, leads) = to_table n m among in
+        let ends = ends_within kind rows (from + n) (from + m) leads in
         omega (arith, ends.1, h.len_is);
   }
 
-  pub cycles_alike : (r : Option ℕ) → MatchOption r (IsFree (OnCycle (Leads (targets_in graph))))
-      (IsLeast (OnCycle (Leads (targets_in graph))))
-      → MatchOption r (IsFree (OnCycle (Leads (targets_along kind rows)))) (IsLeast (OnCycle (Leads (targets_along kind rows))))
-  cycles_alike None free = λ n w. free n (walk_along (Leads (targets_along kind rows)) (Leads (targets_in graph)) from_table n n w)
-  cycles_alike (Some n) least = (
-    walk_along (Leads (targets_in graph)) (Leads (targets_along kind rows)) to_table n n least.0,
-    λ k below w. least.1 k below (walk_along (Leads (targets_along kind rows)) (Leads (targets_in graph)) from_table k k w),
+  pub found_within : (n : ℕ) → OnCycle (Leads (targets_in graph)) n → from + n < length rows
+  found_within n cycle = omega (arith, walk_within graph n n cycle, h.len_is)
+
+  into : (n : ℕ) → OnCycle Edge n → OnCycle (Leads (targets_in graph)) (n - from)
+  into n w = walk_under Edge (Leads (targets_in graph)) (λ k. k - from) from_table n n w
+
+  pub none_on_cycle : IsFree (OnCycle (Leads (targets_in graph))) → IsFree (OnCycle Edge)
+  none_on_cycle free n w = free (n - from) (into n w)
+
+  pub least_on_cycle : (n : ℕ) → IsLeast (OnCycle (Leads (targets_in graph))) n → IsLeast (OnCycle Edge) (from + n)
+  least_on_cycle n least = (
+    walk_under (Leads (targets_in graph)) Edge (λ k. from + k) to_table n n least.0,
+    λ k below w. least.1 (k - from) (omega (arith, starts_from (Leads (targets_along kind rows)) from k k w)) (into k w),
   )

@@ -28,6 +28,11 @@ pub walk_along : (E F : ℕ → ℕ → Type 0) → ((n m : ℕ) → E n m → F
 walk_along E F f n m (one m' e) = one m' (f n m' e)
 walk_along E F f n m (then k m' w e) = then k m' (walk_along E F f n k w) (f k m' e)
 
+-- the same under other numbers
+pub walk_under : (E F : ℕ → ℕ → Type 0) (g : ℕ → ℕ) → ((n m : ℕ) → E n m → F (g n) (g m)) → (n m : ℕ) → Walk E n m → Walk F (g n) (g m)
+walk_under E F g f n m (one m' e) = one (g m') (f n m' e)
+walk_under E F g f n m (then k m' w e) = then (g k) (g m') (walk_under E F g f n k w) (f k m' e)
+
 -- one number further
 pub falls_more : (graph : Graph) (ranks : List ℕ) (n : ℕ) → ((k m : ℕ) → k < n → Contains (targets_in graph k) m
     → slice_index ranks m < slice_index ranks k) → All (λ m. slice_index ranks m < slice_index ranks n) (targets_in graph n)

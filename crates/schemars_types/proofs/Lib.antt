@@ -16,6 +16,7 @@ pub mod Texts
 pub mod Adding
 pub mod Asked
 pub mod Settling
+pub mod Further
 pub mod Options
 pub mod Shapes
 mod Examples

@@ -85,10 +85,10 @@ lists_differ_or_repeated (names ∷ lists) =
 pub differ_undefined : (rows : List Row) (n : ℕ) → entry_at rows n ≡ None → AreDistinctLists (names_at rows n)
 differ_undefined rows n none = rw none tt
 
-pub differ_all : (rows : List Row) (len : ℕ) → length rows ≤ len → ((k : ℕ) → k < len → AreDistinctLists (names_at rows k)) → (n : ℕ)
+pub differ_past : (rows : List Row) (len : ℕ) → length rows ≤ len → (n : ℕ) → (n < len → AreDistinctLists (names_at rows n))
     → AreDistinctLists (names_at rows n)
-differ_all rows len all differ n = elim (cases_lt n (length rows)) [
-  | inl below ↦ differ n (omega arith)
+differ_past rows len all n differ = elim (cases_lt n (length rows)) [
+  | inl below ↦ differ (omega arith)
   | inr past ↦ differ_undefined
       rows n (ap (option_and_then (λ r. r.entry)) (slice_get_past rows n past))
 ]

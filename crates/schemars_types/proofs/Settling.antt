@@ -89,7 +89,7 @@ all_options-shape rows checked n e at =
 
 -- ---- further rows
 
-entry_at-take : (k : ℕ) (rows : List Row) (n : ℕ) → n < k → entry_at (take k rows) n ≡ entry_at rows n
+pub entry_at-take : (k : ℕ) (rows : List Row) (n : ℕ) → n < k → entry_at (take k rows) n ≡ entry_at rows n
 entry_at-take zero rows n low = absurd (omega arith)
 entry_at-take (suc k) [] n low = refl
 entry_at-take (suc k) (r ∷ rows) zero low = refl

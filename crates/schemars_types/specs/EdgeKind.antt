@@ -1,6 +1,7 @@
 -- The edges of a table by their kind.
-use Rattle.std.specs.Prelude.{ℕ, List, ◌++◌, filter}
+use Rattle.std.specs.Prelude.{ℕ, ◌+◌, List, ◌++◌, filter}
 use Rattle.schemars_types.specs.Rows.{Row}
+use Rattle.schemars_types.specs.Search.{counted_from}
 use Rattle.schemars_types.specs.Edges.{numbers_at, is_inline_at, asked_at, is_row, same_value_numbers_at}
 use Rattle.schemars_types.specs.declared.check.faults.EdgeKind.{EdgeKind}
 use Rattle.schemars_types.specs.declared.check.faults.EdgeKind.TheVariants.{Direct, SameValue}
@@ -9,3 +10,7 @@ use Rattle.schemars_types.specs.declared.check.faults.EdgeKind.TheVariants.{Dire
 abbrev pub targets_along : EdgeKind → List Row → ℕ → List ℕ
 targets_along Direct rows n = filter (is_inline_at rows) (numbers_at rows n) ++ filter (is_row rows) (asked_at rows n)
 targets_along SameValue rows n = filter (is_row rows) (same_value_numbers_at rows n)
+
+-- the edges of this kind between the rows from row `from` on, all counted from there
+abbrev pub targets_from : EdgeKind → ℕ → List Row → ℕ → List ℕ
+targets_from kind from rows n = counted_from from (targets_along kind rows (from + n))

@@ -1,6 +1,6 @@
 -- Graphs as the program holds them, and sets of rows that a search has met.
-use Rattle.std.specs.Prelude.{◌≡◌, ◌<◌, ◌≤◌, ◌+◌, ◌⊎◌, ℕ, suc, List, [], ◌∷◌, length, Contains, slice_get, slice_index}
-use Rattle.std.specs.Prelude.{Bool, true, false, Some, Vec}
+use Rattle.std.specs.Prelude.{◌≡◌, ◌<◌, ◌≤◌, ◌+◌, ◌-◌, ◌⊎◌, ℕ, suc, List, [], ◌∷◌, length, Contains, slice_get, slice_index}
+use Rattle.std.specs.Prelude.{Bool, true, false, Some, Vec, map, filter, nat_le}
 use Rattle.std.specs.declared.alloc.Global.{Global}
 use Rattle.std.specs.Option.{option_map_or}
 use Rattle.schemars_types.specs.Walks.{Walk, Leads}
@@ -20,6 +20,10 @@ pub record IsClosed (graph : Graph) : Type 0 where
 pub record HasTargets (targets : ℕ → List ℕ) (len : ℕ) (graph : Graph) : Type 0 where
   pub len_is : length graph ≡ len
   pub at : (n : ℕ) → n < len → targets_in graph n ≡ targets n
+
+-- those of these numbers that are not below `from`, counted from there
+abbrev pub counted_from : ℕ → List ℕ → List ℕ
+counted_from from ns = map (λ n. n - from) (filter (nat_le from) ns)
 
 -- ranks fall along each edge
 pub record Falls (graph : Graph) (ranks : List ℕ) : Type 0 where

@@ -1,5 +1,5 @@
 -- Walks along the edges of a graph, and how far they go where they never close.
-use Rattle.std.specs.Prelude.{◌<◌, ℕ, zero, suc, max, List, [], ◌∷◌, Contains}
+use Rattle.std.specs.Prelude.{◌<◌, ◌≤◌, ℕ, zero, suc, max, List, [], ◌∷◌, Contains}
 
 -- an edge, or a walk and an edge from its end
 pub data Walk (Edge : ℕ → ℕ → Type 0) (n : ℕ) : ℕ → Type 0 where
@@ -21,6 +21,13 @@ IsFree Fault = (n : ℕ) → ¬ Fault n
 -- n is the first
 abbrev pub IsLeast : (ℕ → Type 0) → ℕ → Type 0
 IsLeast Fault n = Fault n × ((k : ℕ) → k < n → ¬ Fault k)
+
+-- the same faults and the same edges, of numbers from `from` on alone
+abbrev pub FaultFrom : ℕ → (ℕ → Type 0) → ℕ → Type 0
+FaultFrom from Fault n = (from ≤ n) × Fault n
+
+abbrev pub EdgeFrom : ℕ → (ℕ → ℕ → Type 0) → ℕ → ℕ → Type 0
+EdgeFrom from Edge n m = (from ≤ n) × (from ≤ m) × Edge n m
 
 abbrev pub largest : (ℕ → ℕ) → List ℕ → ℕ
 largest f [] = 0

@@ -1,5 +1,5 @@
 //! The faults of a table.
-ghost use Rattle.std.specs.Prelude.{◌≡◌, ◌⊎◌, OnOk, IfErr};
+ghost use Rattle.std.specs.Prelude.{◌≡◌, ◌⊎◌, take, OnOk, IfErr};
 ghost use Rattle.schemars_types.specs.Faults.{IsAccepted, IsChecked, Refusal};
 
 pub(crate) mod cycles;
@@ -26,16 +26,33 @@ impl Types {
         ensures refused { IfErr result (λ e. (e ≡ TypesError.OutOfMemory) ⊎ Refusal self.now e) }
         ensures only_memory { IsAccepted self.now → IfErr result (λ e. e ≡ TypesError.OutOfMemory) }
     {
-        if let Some(n) = first_undefined(self) {
+        self.check_from(alloc, 0)
+    }
+
+    /// Checks a table whose first `checked` rows are by themselves a table that `check` accepts.
+    /// The result is that of `check`, but only the rows after them are checked: however many rows
+    /// there are before, this takes no longer.
+    ///
+    /// # Errors
+    ///
+    /// Those of `check`.
+    pub fn check_from(&self, alloc: Global, checked: usize) -> Result<(), TypesError>
+        requires { IsChecked (take checked self.now) }
+        ensures accepted { OnOk result (IsAccepted self.now) }
+        ensures checked { OnOk result (IsChecked self.now) }
+        ensures refused { IfErr result (λ e. (e ≡ TypesError.OutOfMemory) ⊎ Refusal self.now e) }
+        ensures only_memory { IsAccepted self.now → IfErr result (λ e. e ≡ TypesError.OutOfMemory) }
+    {
+        if let Some(n) = first_undefined(self, checked) {
             return Err(TypesError::UndefinedType(n));
         }
-        if let Some((n, name)) = first_repeated(alloc, self)? {
+        if let Some((n, name)) = first_repeated(alloc, self, checked)? {
             return Err(TypesError::RepeatedName(n, name));
         }
-        if let Some(n) = first_on_cycle(alloc, self, EdgeKind::Direct)? {
+        if let Some(n) = first_on_cycle(alloc, self, EdgeKind::Direct, checked)? {
             return Err(TypesError::DirectCycle(n));
         }
-        if let Some(n) = first_on_cycle(alloc, self, EdgeKind::SameValue)? {
+        if let Some(n) = first_on_cycle(alloc, self, EdgeKind::SameValue, checked)? {
             return Err(TypesError::EmptyCycle(n));
         }
         Ok(())

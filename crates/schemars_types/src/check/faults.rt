@@ -1,13 +1,13 @@
 //! The faults of a table.
-ghost use Rattle.std.specs.Prelude.{◌≡◌, ◌<◌, ◌++◌, ℕ, length, map, filter, None, IfOk, OnOk};
-ghost use Rattle.std.specs.Prelude.{MatchOption, string_bytes};
+ghost use Rattle.std.specs.Prelude.{◌≡◌, ◌<◌, ◌≤◌, ◌-◌, ◌++◌, ℕ, length, map, filter, None, IfOk};
+ghost use Rattle.std.specs.Prelude.{OnOk, MatchOption, string_bytes};
 ghost use Rattle.schemars_shapes.specs.Shape.{shape_of, numbers_of};
-ghost use Rattle.schemars_types.specs.Walks.{Leads, OnCycle, IsFree, IsLeast};
-ghost use Rattle.schemars_types.specs.Search.{HasTargets};
+ghost use Rattle.schemars_types.specs.Walks.{Leads, OnCycle, IsFree, IsLeast, FaultFrom, EdgeFrom};
+ghost use Rattle.schemars_types.specs.Search.{HasTargets, counted_from};
 ghost use Rattle.schemars_shapes.specs.Repeated.{AreDistinctLists, IsFirstRepeated};
 ghost use Rattle.schemars_types.specs.Edges.{is_inline_at, is_row, asked_in, below};
 ghost use Rattle.schemars_types.specs.Edges.{names_at, RefersWithin};
-ghost use Rattle.schemars_types.specs.EdgeKind.{targets_along};
+ghost use Rattle.schemars_types.specs.EdgeKind.{targets_along, targets_from};
 ghost use Rattle.schemars_types.specs.Undefined.{IsUndefined};
 
 use crate::check::cycles::least_on_cycle;
@@ -28,13 +28,13 @@ pub enum EdgeKind {
     SameValue,
 }
 
-/// The first row that was never defined.
-pub fn first_undefined(types: &Types) -> Option<TypeNo>
-    ensures first { MatchOption result (IsFree (IsUndefined types.now))
-        (IsLeast (IsUndefined types.now)) }
+/// The first row from row `from` on that was never defined.
+pub fn first_undefined(types: &Types, from: usize) -> Option<TypeNo>
+    ensures first { MatchOption result (IsFree (FaultFrom from (IsUndefined types.now)))
+        (IsLeast (FaultFrom from (IsUndefined types.now))) }
     ensures within { RefersWithin types.now }
 {
-    for n in 0..types.len() {
+    for n in from..types.len() {
         if types.entry(n).is_none() {
             return Some(n);
         }
@@ -42,14 +42,18 @@ pub fn first_undefined(types: &Types) -> Option<TypeNo>
     None
 }
 
-/// The first row with a name twice, and the name.
-pub fn first_repeated(alloc: Global, types: &Types) -> Result<Option<(TypeNo, String)>, AllocError>
+/// The first row from row `from` on with a name twice, and the name.
+pub fn first_repeated(
+    alloc: Global,
+    types: &Types,
+    from: usize,
+) -> Result<Option<(TypeNo, String)>, AllocError>
     ensures { IfOk result (λ r.
-        MatchOption r ((n : ℕ) → AreDistinctLists (names_at types.now n))
-        (λ p. ((k : ℕ) → k < p.0 → AreDistinctLists (names_at types.now k))
+        MatchOption r ((n : ℕ) → from ≤ n → AreDistinctLists (names_at types.now n))
+        (λ p. ((k : ℕ) → from ≤ k → k < p.0 → AreDistinctLists (names_at types.now k))
         × IsFirstRepeated (names_at types.now p.0) (string_bytes p.1))) }
 {
-    for n in 0..types.len() {
+    for n in from..types.len() {
         if let Some(name) = repeated_name(alloc, types, n)? {
             return Ok(Some((n, name)));
         }
@@ -68,32 +72,62 @@ fn repeated_name(alloc: Global, types: &Types, n: TypeNo) -> Result<Option<Strin
     }
 }
 
-/// The lowest row on a cycle of edges of this kind.
+/// The lowest row on a cycle of edges of this kind between rows from row `from` on.
 pub fn first_on_cycle(
     alloc: Global,
     types: &Types,
     kind: EdgeKind,
+    from: usize,
 ) -> Result<Option<TypeNo>, AllocError>
     ensures { IfOk result (λ r.
-        MatchOption r (IsFree (OnCycle (Leads (targets_along kind types.now))))
-        (IsLeast (OnCycle (Leads (targets_along kind types.now))))) }
+        MatchOption r (IsFree (OnCycle (EdgeFrom from (Leads (targets_along kind types.now)))))
+        (IsLeast (OnCycle (EdgeFrom from (Leads (targets_along kind types.now)))))) }
 {
-    let graph = graph(alloc, types, kind)?;
-    let found = least_on_cycle(alloc, &graph)?;
-    Ok(found)
+    // The sum below is the number of a row.
+    let _len = types.len();
+    let graph = graph(alloc, types, kind, from)?;
+    match least_on_cycle(alloc, &graph)? {
+        Some(n) => Ok(Some(from + n)),
+        None => Ok(None),
+    }
 }
 
-fn graph(alloc: Global, types: &Types, kind: EdgeKind) -> Result<Vec<Vec<TypeNo>>, AllocError>
-    ensures { IfOk result (λ v. HasTargets (targets_along kind types.now)
-        (length types.now) v.items) }
+// The rows from row `from` on, as a graph of its own whose first number is that row.
+fn graph(
+    alloc: Global,
+    types: &Types,
+    kind: EdgeKind,
+    from: usize,
+) -> Result<Vec<Vec<TypeNo>>, AllocError>
+    ensures { IfOk result (λ v. HasTargets (targets_from kind from types.now)
+        (length types.now - from) v.items) }
 {
-    let len = types.len();
+    let len = types.len().saturating_sub(from);
     let mut graph = Vec::with_capacity(alloc, len)?;
     for n in 0..len {
-        let targets = targets(alloc, types, kind, n)?;
-        graph.push(targets)?;
+        let targets = targets(alloc, types, kind, from + n)?;
+        graph.push(counted_from(targets, from))?;
     }
     Ok(graph)
+}
+
+// Those of these numbers that are not below `from`, counted from there.
+fn counted_from(numbers: Vec<TypeNo>, from: usize) -> Vec<TypeNo>
+    ensures { result.items ≡ counted_from from numbers.items }
+{
+    let mut numbers = numbers;
+    numbers.retain(|n| *n >= from);
+    count_from(&mut numbers, from);
+    numbers
+}
+
+// Counts these numbers from `from`.
+fn count_from(numbers: &mut [TypeNo], from: usize)
+    ensures { numbers.new ≡ map (λ n. n - from) numbers.old }
+{
+    for n in numbers.iter_mut() {
+        *n = n.saturating_sub(from);
+    }
 }
 
 fn targets(

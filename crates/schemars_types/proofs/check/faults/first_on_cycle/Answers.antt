@@ -1,16 +1,29 @@
-use Rattle.std.proofs.Common.{MatchOption, sym, subst}
+use Rattle.std.proofs.Common.{sym, subst, arith}
+use Rattle.std.proofs.lemmas.Option.{MatchOption-at_some, MatchOption-at_none}
 use Rattle.schemars_types.specs.Search.{Graph, IsClosed, targets_in}
 use Rattle.schemars_types.specs.Walks.{Leads, OnCycle, IsFree, IsLeast}
-use Rattle.schemars_types.proofs.EdgeLemmas.{graph_closed, cycles_alike}
+use Rattle.schemars_types.proofs.EdgeLemmas.{graph_closed, found_within, none_on_cycle, least_on_cycle}
 use Rattle.schemars_types.proofs.check.faults.first_on_cycle.Goals as goal
 
 pub least_on_cycle-requires : goal.least_on_cycle-requires
 least_on_cycle-requires c = subst (λ (g : Graph). IsClosed g) (sym c.deref.ensures.value)
-    (graph_closed c.args.kind c.args.types.now c.in_ok-graph.graph.items c.in_ok-graph.ensures)
+    (graph_closed c.args.kind c.args.types.now c.args.from c.in_ok-graph.graph.items c.in_ok-graph.ensures)
+
+pub overflow_add-result : goal.overflow_add-result
+overflow_add-result c =
+    let P : Graph → Type 0 = λ g. IsLeast (OnCycle (Leads (targets_in g))) c.in-Some.n in
+    let found = subst P c.deref.ensures.value (MatchOption-at_some _ _ _ c.in-Some.is c.in_ok-n.ensures) in
+    let below = found_within c.args.kind c.args.types.now c.args.from c.in_ok-graph.graph.items c.in_ok-graph.ensures c.in-Some.n found.0 in
+    omega (arith, below, c.len-len.ensures.len)
+
+pub returns-in-Some : goal.returns-in-Some
+returns-in-Some c =
+    let P : Graph → Type 0 = λ g. IsLeast (OnCycle (Leads (targets_in g))) c.in-Some.n in
+    let found = subst P c.deref.ensures.value (MatchOption-at_some _ _ _ c.in-Some.is c.in_ok-n.ensures) in
+    least_on_cycle c.args.kind c.args.types.now c.args.from c.in_ok-graph.graph.items c.in_ok-graph.ensures c.in-Some.n found
 
 pub returns : goal.returns
 returns c =
-    let P : Graph → Type 0 = λ g. MatchOption c.in_ok-found.found (IsFree (OnCycle (Leads (targets_in g))))
-    (IsLeast (OnCycle (Leads (targets_in g)))) in
-    cycles_alike c.args.kind c.args.types.now c.in_ok-graph.graph.items c.in_ok-graph.ensures c.in_ok-found.found
-    (subst P c.deref.ensures.value c.in_ok-found.ensures)
+    let P : Graph → Type 0 = λ g. IsFree (OnCycle (Leads (targets_in g))) in
+    none_on_cycle c.args.kind c.args.types.now c.args.from c.in_ok-graph.graph.items c.in_ok-graph.ensures
+    (subst P c.deref.ensures.value (MatchOption-at_none _ _ c.in-None.is c.in_ok-n.ensures))

@@ -1,8 +1,8 @@
--- In the rows before the names differ.
-use Rattle.std.proofs.Common.{ℕ, ◌<◌}
+-- In the rows from the first on and before the next the names differ.
+use Rattle.std.proofs.Common.{ℕ, ◌<◌, ◌≤◌}
 use Rattle.schemars_shapes.specs.Repeated.{AreDistinctLists}
 use Rattle.schemars_types.specs.Edges.{names_at}
 use Rattle.schemars_types.proofs.check.faults.first_repeated.Given as goal
 
 abbrev pub invariant-loop-n : goal.invariant-loop-n
-invariant-loop-n l = (k : ℕ) → k < l.n → AreDistinctLists (names_at l.types k)
+invariant-loop-n l = (k : ℕ) → l.from ≤ k → k < l.n → AreDistinctLists (names_at l.types k)
