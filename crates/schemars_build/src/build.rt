@@ -23,7 +23,7 @@ use crate::work::Work;
 use schemars_documents::entry_template;
 use schemars_documents::template::basis::Basis;
 use schemars_documents::template::{Ask, SchemaTemplate, fill};
-use schemars_flatten::{as_flattened, open_inside, must_be_in_place};
+use schemars_flatten::{as_flattened, must_be_in_place, open_inside};
 use schemars_schema::Schema;
 use schemars_schema::encoding::encode_ref_name;
 use schemars_types::{Contract, TypeNo, Types, row_inside, without_options};
