@@ -43,7 +43,7 @@ use Rattle.schemars_meaning.proofs.Opened.{no_parts}
 use Rattle.schemars_meaning.proofs.Items.{IsItem, AllItems, PartsAre, OneIs}
 use Rattle.schemars_meaning.proofs.StructDocuments.{IsStruct}
 use Rattle.schemars_meaning.proofs.PartsDescribed.{under_apart}
-use Rattle.schemars_meaning.proofs.StructsCounted.{struct_stands, tell_inside}
+use Rattle.schemars_meaning.proofs.ShapesCounted.{struct_stands, tell_inside}
 use Rattle.schemars_meaning.proofs.Referring.{under_rows}
 use Rattle.schemars_headline.proofs.Changes.{Demand, with_rest, Class, class-of, nothing, are-put, IsGood, good}
 use Rattle.schemars_headline.proofs.Documents.{map-good, fields-named}
@@ -52,7 +52,7 @@ use Rattle.schemars_headline.proofs.Held.{flattened-holds, part-holds}
 use Rattle.schemars_headline.proofs.Classes.{In, Answer, StructsGood, IsNotedUnder, each-good}
 use Rattle.schemars_meaning.proofs.SettledTables.{IsSettled}
 
--- ---- what stands under each key of members in order
+-- ---- the value of each key of members in order
 
 asked-each : (P : Members → Type 0) (ms : Members) → IsSorted ms
     → ((k : Text) (d : Data) → get_member k ms ≡ Some d → demanded (place_under k) (asked P d)) → asked_of_keywords P ms
@@ -70,7 +70,7 @@ asked-each P (member k d ms) sorted each = (
         cc
     past j e found false is = get_member-later j k d ms is ∙ found
 
--- ---- what stands beside the choices of a struct
+-- ---- what is beside the choices of a struct
 
 truth_there : (b : Bool) → IsNoObject (closed_there b)
 unfolding closed_there
@@ -101,7 +101,7 @@ module _ (N : Text → Type 0) where
   abbrev C : Members → Type 0
   C = Class R
 
-  -- what stands there is of the class, where what stands in it is
+  -- the value is of the class, where what is in it is
   abbrev IsSound : Option Data → Type 0
   IsSound o = (d : Data) → o ≡ Some d → HoldsList C d → (asked C d).as_list
 
@@ -128,7 +128,7 @@ module _ (N : Text → Type 0) where
     missing : (k : Text) (d : Data) (Q : Type 0) → get_member k ms ≡ None → get_member k ms ≡ Some d → Q
     missing k d Q none found = let never : None ≡ Some d = sym none ∙ found in cc
 
-    -- of the keywords with schemas of the same object, `allOf` and `oneOf` may stand there
+    -- of the keywords with schemas of the same object, `allOf` and `oneOf` may be present
     keyword : (k : Text) (d : Data) → get_member k ms ≡ Some d → HoldsAt C k d → Asked k d
     keyword k d found held = go (is_listed k with_same_object) (is_listed k with_same_objects) refl refl held
       where

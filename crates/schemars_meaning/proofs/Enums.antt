@@ -16,7 +16,8 @@ use Rattle.schemars_types.specs.declared.contract.Contract.{Contract}
 use Rattle.schemars_documents.specs.PlainTable.{ArePlainVariants, payload_parts, variant_parts}
 use Rattle.schemars_documents.specs.Basis.{Basis}
 use Rattle.schemars_documents.specs.Template.{Ask, part, Template, noted, Templates, asks_of, asks_in, filled, filled_in}
-use Rattle.schemars_documents.specs.OfShape.{templates_of, any_of_template, payload_template, bare_units, other_items, units_template, choice_of}
+use Rattle.schemars_documents.specs.OfShape.{templates_of, any_of_template, payload_template, bare_units, other_items, units_template}
+use Rattle.schemars_documents.specs.OfShape.{choice_of}
 use Rattle.schemars_documents.specs.OfShape.{external_template, payload_item, untagged_template, titled, title_alone, struct_template}
 use Rattle.schemars_documents.specs.OfShape.{internal_item, internal_template}
 use Rattle.schemars_meaning.proofs.Filling.{Fit, without_end, parted}

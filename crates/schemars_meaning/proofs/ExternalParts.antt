@@ -1,4 +1,4 @@
--- An enum that is told by its names, where it is flattened: units without notes, and any others.
+-- An enum whose variants have their names as keys, where it is flattened: units without notes, and any others.
 use Rattle.std.proofs.Common.{◌≡◌, ℕ, ◌<◌, List, [], ◌∷◌, ◌++◌, Bool, true, false, map, refl, sym, subst, append-nil}
 use Rattle.std.specs.Prelude.{if◌then◌else◌}
 use Rattle.serde_json.specs.Data.{Data, Members, depth}

@@ -1,4 +1,4 @@
--- What the document of an enum says that is told by its names, whose payloads may have enums among their members.
+-- What the document of an enum says whose variants have their names as keys, and whose payloads may have enums among their members.
 use Rattle.std.proofs.Common.{◌≡◌, ℕ, ◌<◌, List, [], ◌∷◌, ◌++◌, map, Option, Some, None, Bool, true, false}
 use Rattle.std.proofs.Common.{refl, sym, ap, ◌∙◌, subst, true≢false}
 use Rattle.std.specs.Prelude.{bytes_eq, if◌then◌else◌, is_some, ◌&&◌, ◌||◌}

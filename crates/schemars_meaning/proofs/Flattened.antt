@@ -23,11 +23,11 @@ use Rattle.schemars_meaning.proofs.Filling.{Fit, without_end, parted}
 
 -- ---- notes and fields behind each other
 
-noted_by-append : (ns ms : List Members) (s : Data) → noted_by (ns ++ ms) s ≡ noted_by ns (noted_by ms s)
+pub noted_by-append : (ns ms : List Members) (s : Data) → noted_by (ns ++ ms) s ≡ noted_by ns (noted_by ms s)
 noted_by-append [] ms s = refl
 noted_by-append (n ∷ ns) ms s = ap (annotated n) (noted_by-append ns ms s)
 
-AllNotes-append : (ns ms : List Members) → AllNotes ns → AllNotes ms → AllNotes (ns ++ ms)
+pub AllNotes-append : (ns ms : List Members) → AllNotes ns → AllNotes ms → AllNotes (ns ++ ms)
 AllNotes-append [] ms a b = b
 AllNotes-append (n ∷ ns) ms a b = (a.0, AllNotes-append ns ms a.1 b)
 
@@ -41,6 +41,11 @@ required_names-append contract (x ∷ xs) ys = go (is_required contract x.requir
         ≡ (if b then x.name ∷ required_names contract xs else required_names contract xs) ++ required_names contract ys
     go true later = ap (λ ks. x.name ∷ ks) later
     go false later = later
+
+-- what is flattened in a plain table must be present
+pub must_be_present : (rows : List Row) (contract : Contract) (p : Flattened) → IsPlainPart rows p → is_required contract p.required ≡ true
+must_be_present rows Deserialize p plain = plain.1
+must_be_present rows Serialize p plain = plain.2
 
 module _ (W : ℕ → Data → Type 0) where
   pub AreWritten-append : (xs ys : List Field) (ts us : List Data) → AreWritten W xs ts → AreWritten W ys us
@@ -137,13 +142,6 @@ module _ (A : Ask → Data → Type 0) where
         let all = map_fills xs (required_names contract xs) closed us fit in
         record { parts = all.0; written = all.1; notes = []; are_notes = tt; is = all.2 }
 
-    has_to_be_there : (p : Flattened) → IsPlainPart rows p → is_required contract p.required ≡ true
-    has_to_be_there p plain = go contract
-      where
-        go : (k : Contract) → is_required k p.required ≡ true
-        go Deserialize = plain.1
-        go Serialize = plain.2
-
     part_fills : (p : Flattened) (t : Template) (xs : List Field) (closed : Bool) → IsPlainPart rows p → FieldsFill t xs closed
         → FieldsFill (with_keywords t (asked (members_of p.ty (is_required contract p.required)))) (xs ++ has p) closed
     part_fills p t xs closed plain own us fit =
@@ -157,7 +155,7 @@ module _ (A : Ask → Data → Type 0) where
             → IsFieldsDocument W contract (has p) false (first b)
         answered [] h = absurd h
         answered (u ∷ b) h =
-            let Q : Bool → Type 0 = λ r. A (members_of p.ty r) u in fields p u plain (subst Q (has_to_be_there p plain) h.0)
+            let Q : Bool → Type 0 = λ r. A (members_of p.ty r) u in fields p u plain (subst Q (must_be_present rows contract p plain) h.0)
 
     parts_fill : (ps : List Flattened) (t : Template) (xs : List Field) (closed : Bool) → ArePlainParts rows ps → FieldsFill t xs closed
         → FieldsFill (with_flattened contract ps t) (xs ++ flattened_fields has ps) closed

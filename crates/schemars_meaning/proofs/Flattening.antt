@@ -337,6 +337,19 @@ nothing_inside (member k d ms) no_if no_then no_else no_all no_any no_one = rw (
       (lacks-later (codes "anyOf") k d ms no_any) (lacks-later (codes "oneOf") k d ms no_one),
 )
 
+-- a schema of no texts lists none
+pub no_texts : (ms : Members) → has_type (codes "string") (object ms) ≡ false
+    → units_as_objects (object ms) ≡ list_changed_at (codes "oneOf") first_as_objects (object ms)
+no_texts ms = go (has_type (codes "string") (object ms))
+  where
+    go : (b : Bool) → b ≡ false
+        → elim (if b then option_map unit_objects (option_and_then as_array (get (codes "enum") (object ms))) else None) [
+          | None ↦ list_changed_at (codes "oneOf") first_as_objects (object ms)
+          | Some units ↦ with_units units (removed (codes "type") (removed (codes "enum") (object ms)))
+        ] ≡ list_changed_at (codes "oneOf") first_as_objects (object ms)
+    go true is = absurd (true≢false is)
+    go false is = refl
+
 module _ (notes : List Members) (es : List Keyword) (r : List Text) (all : AllNotes notes) where
   part_members : Members
   part_members = noted notes (keywords es r false)
@@ -359,17 +372,9 @@ module _ (notes : List Members) (es : List Keyword) (r : List Text) (all : AllNo
 
   -- no texts are listed, and there is no choice
   no_units : units_as_objects (object part_members) ≡ object part_members
-  no_units = listed (has_type (codes "string") (object part_members)) no_text
+  no_units = no_texts part_members no_text
       ∙ choice (get_member (codes "oneOf") part_members) (part-lacks (codes "oneOf") refl refl refl refl refl)
     where
-      listed : (b : Bool) → b ≡ false
-          → elim (if b then option_map unit_objects (option_and_then as_array (get (codes "enum") (object part_members))) else None) [
-            | None ↦ list_changed_at (codes "oneOf") first_as_objects (object part_members)
-            | Some units ↦ with_units units (removed (codes "type") (removed (codes "enum") (object part_members)))
-          ] ≡ list_changed_at (codes "oneOf") first_as_objects (object part_members)
-      listed true is = absurd (true≢false is)
-      listed false is = refl
-
       choice : (o : Option Data) → o ≡ None
           → elim o [
             | None ↦ object part_members

@@ -27,8 +27,7 @@ use Rattle.schemars_documents.specs.Describes.{Fills, IsOwnDocument, IsAnswered,
 use Rattle.schemars_meaning.proofs.Notes.{judge-annotated}
 use Rattle.schemars_meaning.proofs.Meanings.{IsSame, Inside}
 use Rattle.schemars_meaning.proofs.Heights as heights
-use Rattle.schemars_meaning.proofs.StructsCounted.{HasRoom}
-use Rattle.schemars_meaning.proofs.ShapesCounted.{shape_says}
+use Rattle.schemars_meaning.proofs.ShapesCounted.{HasRoom, shape_says}
 use Rattle.schemars_meaning.proofs.ReadyUnder.{bare_ready, written_ready}
 use Rattle.schemars_meaning.proofs.SettledTables.{IsSettled}
 
@@ -241,7 +240,8 @@ module _ (s : Setting) where
   unfolding Describes belongs_within
   own h n d below good said k t is v json same zero costs low = absurd (omega arith)
   own h n d below good said k t is v json same (suc m) costs low =
-      own_says h n d below good said k (described_low (suc d) k t is) (entry_at rows k) refl (s.settled.plain k) t is v json same m costs low
+      own_says h n d below good said k (described_low (suc d) k t is) (entry_at rows k) refl (s.settled.plain k) t is v json
+      same m costs low
 
   nothing : (k : ℕ) (t : Data) → D zero k t → ⊥
   unfolding Describes

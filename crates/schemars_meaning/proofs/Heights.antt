@@ -34,7 +34,7 @@ module _ (dialect : Dialect) (patterns : Patterns) (document : Data) (Refers : �
   unfolding follow
   followed n r t e = rw (e, follow)
 
-  -- one row: its document says what it means, where smaller values are told rightly whatever the depth, and the value itself in what
+  -- one row: its document says what it means, where those of smaller values do whatever the depth, and the value itself in what
   -- the document refers to and holds
   module _ (nothing : (k : ℕ) (t : Data) → D zero k t → ⊥)
       (own : (h n d : ℕ) → Below h n → Good h n → Said h n d → Said h n (suc d)) where

@@ -33,13 +33,11 @@ use Rattle.schemars_types.specs.Meaning.{Choice, every_part, shut}
 use Rattle.schemars_types.specs.Meaning.{offers, has_tagged, has_internal}
 use Rattle.schemars_types.specs.Effective.{spread_variant, effective, flattened_enums, enum_at}
 use Rattle.schemars_meaning.proofs.MapDocument.{map_document}
-use Rattle.schemars_meaning.proofs.MapKeywords.{keywords}
 use Rattle.schemars_meaning.proofs.Filling.{Fit, without_end, parted}
 use Rattle.schemars_meaning.proofs.Notes.{annotated-schema}
 use Rattle.schemars_meaning.proofs.Notes.{annotated_fits}
-use Rattle.schemars_meaning.proofs.Opened.{no_parts, map_form}
 use Rattle.schemars_meaning.proofs.StructDocuments.{IsStruct}
-use Rattle.schemars_meaning.proofs.Tags.{tagged_means}
+use Rattle.schemars_meaning.proofs.Tags.{no_keys, null_tagged, tagged_means}
 use Rattle.schemars_meaning.proofs.ExternalSays.{AllFit, one_says}
 
 -- ---- of variants whose names are all different one has the value at most
@@ -180,26 +178,9 @@ module _ (c : Context) (on : c.dialect.reads_unevaluated ≡ true) (contract : C
   unit_fits : (tag name : Text) (closed : Bool) → (judge c (internally_tagged_variant tag name closed (type_alone (codes "null")))).fits v
       ≡ verdict (has_tagged contract M [] tag [] closed name v)
   unit_fits tag name closed =
-      ap (λ t. (judge c t).fits v) (sym (same closed))
+      ap (λ t. (judge c t).fits v) (sym (null_tagged tag name closed))
       ∙ tagged_means c on contract (λ j. A (part j)) M schemas v json agree tells tag name closed [] [] closed
-      (map_document [] [] closed) tt tt
-      (record {
-        written = [];
-        are_written = refl;
-        parts = no_parts;
-        members = keywords [] [] closed;
-        is = refl;
-        form = map_form [] [] [] closed tt;
-        every = refl;
-        claimed = λ k. refl;
-        choices = (tt, tt);
-        bare = λ e. refl;
-      })
-    where
-      same : (b : Bool) → internally_tagged_variant tag name b (map_document [] [] b)
-          ≡ internally_tagged_variant tag name b (type_alone (codes "null"))
-      same false = refl
-      same true = refl
+      (map_document [] [] closed) tt tt (no_keys c on contract (λ j. A (part j)) v closed)
 
   item_fits : (tag : Text) (closed : Bool) (name : Text) (p : Payload) (notes : Members) → IsInside part_fields Told p → (us : List Data)
       → Fit A (asks_of (content_template contract p)) us

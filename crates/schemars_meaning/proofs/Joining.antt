@@ -42,7 +42,7 @@ one_left None b = b
 one_left (Some a) None = Some a
 one_left (Some a) (Some b) = None
 
--- and stand under `allOf`
+-- and are under `allOf`
 abbrev pub with_both : Option Data → Option Data → Option Data → Option Data
 with_both None b x = x
 with_both (Some a) None x = x

@@ -143,7 +143,7 @@ module _ (patterns : Patterns) (f : Text → Judge) (A : Ask → Data → Type 0
   are_entries (t ∷ texts) [] h = absurd h
   are_entries (t ∷ texts) (u ∷ us) h = (schemas u h.0, are_entries texts us h.1)
 
-  -- a schema of the value stands at each of the texts
+  -- each of the texts has a schema of the value
   abbrev Found : Bool → Option Data → Option Data → Type 0
   Found false g before = g ≡ before
   Found true g before = (t : Data) × A (part value) t × (g ≡ Some t)

@@ -41,7 +41,6 @@ pub mod FieldsDescribed
 pub mod Schemas
 pub mod SettledTables
 pub mod PartsDescribed
-pub mod StructsCounted
 pub mod ShapesCounted
 pub mod ReadyUnder
 pub mod Heights

@@ -13,7 +13,7 @@ use Rattle.schemars_schema.proofs.Verdicts.{both-yes}
 use Rattle.schemars_schema.proofs.Objects.{says, judge-object, says-agree, IsKeyword}
 use Rattle.schemars_schema.proofs.Silent.{items_none, const_none}
 
--- what stands under each keyword
+-- the value of each keyword
 pub record Keywords : Type 0 where
   pub type : Option Data
   pub properties : Option Data

@@ -25,13 +25,13 @@ use Rattle.schemars_meaning.proofs.Refers.{refers-put, named-put, tagged-refers}
 use Rattle.schemars_meaning.proofs.Schemas.{AreSchemas, MakesSchema, made_schema}
 use Rattle.schemars_meaning.proofs.SpreadMaps.{regroup, answered_left, Keeps}
 
--- ---- where nodes stand in a template
+-- ---- where the nodes of a template are
 
 -- it asks nothing, so that it leaves each answer
 abbrev pub TakesNone : Template → Type 0
 TakesNone t = (ts : List Data) → left t ts ≡ ts
 
--- what may stand under a keyword: under `$ref`, or else in a place of this kind
+-- what the value of a keyword may be: under `$ref`, or else in a place of this kind
 abbrev pub StandsAt : Bool → Place → Template → Type 0 → Type 0 → Type 0 → Type 0
 StandsAt true p t Schema Schemas Named = ⊥
 StandsAt false NoSchemas t Schema Schemas Named = TakesNone t
@@ -40,7 +40,7 @@ StandsAt false SchemaList t Schema Schemas Named = Schemas
 StandsAt false SchemaOrList t Schema Schemas Named = MakesSchema t × Schema
 StandsAt false SchemasByName t Schema Schemas Named = Named
 
--- Where Q holds, each name stands once, and what is put together keeps the references of answers; elsewhere one direction alone is
+-- Where Q holds, each name is there once, and what is put together keeps the references of answers; elsewhere one direction alone is
 -- shown.
 module _ (Q : Type 0) (Answers : Ask → Data → Type 0) where
   -- read as a schema, as a list of schemas, as schemas by name; finished JSON has no references there, and keys are all different

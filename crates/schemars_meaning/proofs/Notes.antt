@@ -2,7 +2,7 @@
 use Rattle.std.proofs.Common.{◌≡◌, inl, inr, List, [], ◌∷◌, Option, Some, None, Bool, true, false, refl, sym, ap, ◌∙◌, true≢false}
 use Rattle.std.specs.Prelude.{codes, is_some, bytes_eq, option_and_then, if◌then◌else◌}
 use Rattle.std.proofs.lemmas.Slice.Eq.{bytes_eq-Decides}
-use Rattle.serde_json.specs.Data.{Data, null, boolean, string, object, Members, no_members, member, put}
+use Rattle.serde_json.specs.Data.{Data, boolean, string, object, Members, no_members, member, put}
 use Rattle.serde_json.specs.Find.{get_member, as_str}
 use Rattle.serde_json.proofs.Views.{get_member-put}
 use Rattle.schemars_schema.specs.Json.{Text}
@@ -69,7 +69,7 @@ module _ (patterns : Patterns) (f : Text → Judge) where
 
 -- ---- null can be allowed beside notes
 
--- a note stands there, so that no keyword stands alone
+-- a note is present, so that no keyword is alone
 abbrev HasNote : Members → Type 0
 HasNote ms = (k : Text) × (d : Data) × (is_annotation k ≡ true) × (get_member k ms ≡ Some d)
 
@@ -80,7 +80,7 @@ put_members-noted (member k d notes) ms h noted = put_members-noted notes (put k
 noted-not_choice : (ms : Members) → HasNote ms → is_null_choice (object ms) ≡ true → ⊥
 noted-not_choice ms noted stays = true≢false (sym noted.2 ∙ ap is_annotation (choice_key ms stays noted.0 noted.1 noted.3))
 
--- notes change nothing of how often a keyword stands there
+-- notes change nothing of whether a keyword is present
 once_still : (l : Text) (notes ms : Members) → is_annotation l ≡ false → AreNotes notes
     → get_member l (without l (put_members notes ms)) ≡ get_member l (without l ms)
 once_still l no_members ms e h = refl

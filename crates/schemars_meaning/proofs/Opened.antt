@@ -19,11 +19,11 @@ use Rattle.schemars_documents.specs.Documents.{Keyword}
 use Rattle.schemars_meaning.proofs.MapDocument.{AllNotes}
 use Rattle.schemars_meaning.proofs.MapKeywords.{noted, noted-beside, sorted-noted, keywords, sorted-keywords, type-at}
 use Rattle.schemars_meaning.proofs.MapKeywords.{properties-at, required-at}
-use Rattle.schemars_meaning.proofs.MapKeywords.{closed-at, keyword-lacks, closed_there, properties_there, required_there}
+use Rattle.schemars_meaning.proofs.MapKeywords.{closed-at, keyword-lacks, closed_there}
 use Rattle.schemars_meaning.proofs.MapForm.{Keywords, look_up}
 use Rattle.schemars_meaning.proofs.Offers.{one_object}
 use Rattle.schemars_meaning.proofs.StructForm.{Part, Parts, objects, all_there, one_there, additional_there, unevaluated_there}
-use Rattle.schemars_meaning.proofs.StructForm.{additional_beside, unevaluated_beside, struct_keywords}
+use Rattle.schemars_meaning.proofs.StructForm.{additional_beside, unevaluated_beside, any_keywords, struct_keywords}
 use Rattle.schemars_meaning.proofs.Joining.{without-here}
 use Rattle.schemars_meaning.proofs.Uniting.{IsForm, by_seven, look_up-other, part_keywords}
 
@@ -53,7 +53,7 @@ map_form notes es r closed all = record {
         → get_member q (noted notes (keywords es r closed)) ≡ z
     here q e z is = noted-beside q notes (keywords es r closed) e all ∙ is
 
--- ---- what stands under each name after opening
+-- ---- the value of each name after opening
 
 get_in_keywords : (k : Text) (ms : Members) → get_member k (in_keywords opening tt ms)
     ≡ option_map (λ d. form_at (same_object_place k) d (forms opening tt d)) (get_member k ms)
@@ -152,35 +152,14 @@ stays None = refl
 stays (Some d) = refl
 
 -- where further members are let in there is no keyword for the rest
-pub additional_open : (ps : Parts) → additional_there ps false ≡ None
+pub rest_open : (ps : Parts) → (additional_there ps false ≡ None) × (unevaluated_there ps false ≡ None)
 unfolding closed_there
-additional_open ps = go ps.all ps.one
+rest_open ps = go ps.all ps.one
   where
-    go : (a : List Part) (o : Option Part) → additional_beside a o false ≡ None
-    go [] None = refl
-    go [] (Some p) = refl
-    go (q ∷ a) o = refl
-
-pub unevaluated_open : (ps : Parts) → unevaluated_there ps false ≡ None
-unfolding closed_there
-unevaluated_open ps = go ps.all ps.one
-  where
-    go : (a : List Part) (o : Option Part) → unevaluated_beside a o false ≡ None
-    go [] None = refl
-    go [] (Some p) = refl
-    go (q ∷ a) o = refl
-
--- a struct that may be closed, of any type
-abbrev pub any_keywords : Option Data → List Keyword → List Text → Parts → Option Data → Option Data → Keywords
-any_keywords t es ns ps additional unevaluated = record {
-  type = t;
-  properties = properties_there es;
-  required = required_there ns;
-  additional = additional;
-  all = all_there ps.all;
-  one = one_there ps.one;
-  unevaluated = unevaluated;
-}
+    go : (a : List Part) (o : Option Part) → (additional_beside a o false ≡ None) × (unevaluated_beside a o false ≡ None)
+    go [] None = (refl, refl)
+    go [] (Some p) = (refl, refl)
+    go (q ∷ a) o = (refl, refl)
 
 -- its document where it is a part
 pub record Part_form (t : Option Data) (es : List Keyword) (ns : List Text) (ps : Parts) (s : Data) : Type 0 where

@@ -18,10 +18,11 @@ use Rattle.schemars_meaning.proofs.MapKeywords.{noted, noted_by-object, noted-be
 use Rattle.schemars_meaning.proofs.MapKeywords.{properties_there}
 use Rattle.schemars_meaning.proofs.MapForm.{look_up}
 use Rattle.schemars_meaning.proofs.Offers.{one_object}
-use Rattle.schemars_meaning.proofs.StructForm.{Part, Parts, choices_in, struct_keywords, all_there, one_there, additional_there}
+use Rattle.schemars_meaning.proofs.StructForm.{Part, Parts, choices_in, any_keywords, struct_keywords, all_there, one_there}
+use Rattle.schemars_meaning.proofs.StructForm.{additional_there}
 use Rattle.schemars_meaning.proofs.Uniting.{IsForm, part_keywords, by_seven, look_up-other}
-use Rattle.schemars_meaning.proofs.Opened.{no_parts, opened_form, opened_parts, opened_part, opened_one, Part_form, any_keywords}
-use Rattle.schemars_meaning.proofs.Opened.{additional_open, unevaluated_open}
+use Rattle.schemars_meaning.proofs.Opened.{no_parts, opened_form, opened_parts, opened_part, opened_one, Part_form}
+use Rattle.schemars_meaning.proofs.Opened.{rest_open}
 use Rattle.schemars_meaning.proofs.Items.{IsItem, AnyItems, any_items, opened_any, OneIs, choices_opened}
 use Rattle.schemars_meaning.proofs.Spread.{field_keywords, AreWritten}
 use Rattle.schemars_meaning.proofs.StructDocuments.{IsStruct, IsPart, HasNoUnits, part_form, units_missing}
@@ -97,10 +98,10 @@ module _ (c : Context) (on : c.dialect.reads_unevaluated ≡ true) where
         let es = field_keywords xs a.written in
         let t : Option Data = Some (string (codes "object")) in
         let ns = required_names contract xs in
+        let rest = rest_open a.parts in
         let form : IsForm (any_keywords t es ns a.parts None None) a.members =
-        subst (λ z. IsForm (any_keywords t es ns a.parts z None) a.members) (additional_open a.parts)
-        (subst (λ z. IsForm (any_keywords t es ns a.parts (additional_there a.parts false) z) a.members)
-        (unevaluated_open a.parts) a.form) in
+        subst (λ z. IsForm (any_keywords t es ns a.parts z None) a.members) rest.0
+        (subst (λ z. IsForm (any_keywords t es ns a.parts (additional_there a.parts false) z) a.members) rest.1 a.form) in
         let d : Part_form t es ns (opened_parts a.parts) (flattened_part false (object a.members)) =
         part_form t es ns a.parts false false a.members form refl (no_units a.parts.one v a.choices.1) in record {
           type = t;

@@ -5,7 +5,7 @@ use Rattle.serde_json.specs.Data.{Data}
 use Rattle.schemars_schema.specs.Json.{Text}
 use Rattle.schemars_builders.proofs.Nulls.{IsReady, AreReady, some_accepts_null}
 use Rattle.schemars_shapes.specs.declared.shape.IntKind.{IntKind}
-use Rattle.schemars_shapes.specs.declared.shape.IntKind.TheVariants.{I8, I16, I32, I64, I128, Isize, U8, U16, U32, U64, U128, Usize}
+use Rattle.schemars_shapes.specs.declared.shape.IntKind.TheVariants.{I8, I16, I32, I64, I128, Isize}
 use Rattle.schemars_types.specs.declared.contract.Contract.{Contract}
 use Rattle.schemars_types.specs.declared.contract.Contract.TheVariants.{Deserialize, Serialize}
 use Rattle.schemars_documents.specs.Documents.{Keyword, int_document, non_zero_document, bytes_document, required_names, reference}
@@ -17,17 +17,7 @@ use Rattle.schemars_meaning.proofs.ByShape.{tuple_document, one_of_document, any
 
 pub int_ready : (kind : IntKind) → IsReady (int_document kind)
 int_ready I8 = inr (record { alone = refl; type_form = refl; values = inl refl; not_form = inl refl })
-int_ready I16 = inr (record { alone = refl; type_form = refl; values = inl refl; not_form = inl refl })
-int_ready I32 = inr (record { alone = refl; type_form = refl; values = inl refl; not_form = inl refl })
-int_ready I64 = inr (record { alone = refl; type_form = refl; values = inl refl; not_form = inl refl })
-int_ready I128 = inr (record { alone = refl; type_form = refl; values = inl refl; not_form = inl refl })
-int_ready Isize = inr (record { alone = refl; type_form = refl; values = inl refl; not_form = inl refl })
-int_ready U8 = inr (record { alone = refl; type_form = refl; values = inl refl; not_form = inl refl })
-int_ready U16 = inr (record { alone = refl; type_form = refl; values = inl refl; not_form = inl refl })
-int_ready U32 = inr (record { alone = refl; type_form = refl; values = inl refl; not_form = inl refl })
-int_ready U64 = inr (record { alone = refl; type_form = refl; values = inl refl; not_form = inl refl })
-int_ready U128 = inr (record { alone = refl; type_form = refl; values = inl refl; not_form = inl refl })
-int_ready Usize = inr (record { alone = refl; type_form = refl; values = inl refl; not_form = inl refl })
+int_ready _ = inr (record { alone = refl; type_form = refl; values = inl refl; not_form = inl refl })
 
 pub non_zero_ready : (kind : IntKind) → IsReady (non_zero_document kind)
 non_zero_ready I8 = inr (record { alone = refl; type_form = refl; values = inl refl; not_form = inr refl })
@@ -36,12 +26,7 @@ non_zero_ready I32 = inr (record { alone = refl; type_form = refl; values = inl 
 non_zero_ready I64 = inr (record { alone = refl; type_form = refl; values = inl refl; not_form = inr refl })
 non_zero_ready I128 = inr (record { alone = refl; type_form = refl; values = inl refl; not_form = inr refl })
 non_zero_ready Isize = inr (record { alone = refl; type_form = refl; values = inl refl; not_form = inr refl })
-non_zero_ready U8 = inr (record { alone = refl; type_form = refl; values = inl refl; not_form = inl refl })
-non_zero_ready U16 = inr (record { alone = refl; type_form = refl; values = inl refl; not_form = inl refl })
-non_zero_ready U32 = inr (record { alone = refl; type_form = refl; values = inl refl; not_form = inl refl })
-non_zero_ready U64 = inr (record { alone = refl; type_form = refl; values = inl refl; not_form = inl refl })
-non_zero_ready U128 = inr (record { alone = refl; type_form = refl; values = inl refl; not_form = inl refl })
-non_zero_ready Usize = inr (record { alone = refl; type_form = refl; values = inl refl; not_form = inl refl })
+non_zero_ready _ = inr (record { alone = refl; type_form = refl; values = inl refl; not_form = inl refl })
 
 pub bytes_ready : (contract : Contract) → IsReady (bytes_document contract)
 bytes_ready Deserialize = inr (record {

@@ -9,10 +9,9 @@ use Rattle.schemars_builders.specs.NullLaw.{context2020_12}
 use Rattle.schemars_builders.proofs.Nulls.{IsReady}
 use Rattle.schemars_shapes.specs.Shape as shape
 use Rattle.schemars_shapes.specs.Shape.{Fields, Shape, Entry}
-use Rattle.schemars_types.specs.Rows.{Row, entry_at}
+use Rattle.schemars_types.specs.Rows.{entry_at}
 use Rattle.schemars_types.specs.Effective.{flattened_in, part_enums}
 use Rattle.schemars_types.specs.Effective.{spread_in}
-use Rattle.schemars_types.specs.declared.contract.Contract.{Contract}
 use Rattle.schemars_documents.specs.PlainTable.{IsPlainShape, ArePartsUnder, IsEntryUnder, parts_in}
 use Rattle.schemars_documents.specs.Basis.{Basis}
 use Rattle.schemars_documents.specs.Template.{Ask, asks_of, filled}
@@ -25,16 +24,12 @@ use Rattle.schemars_meaning.proofs.Meanings.{shape_ready}
 use Rattle.schemars_meaning.proofs.Ready.{reference_ready}
 use Rattle.schemars_meaning.proofs.StructReady.{map_with_parts_ready}
 use Rattle.schemars_meaning.proofs.PartsDescribed.{under_apart}
-use Rattle.schemars_meaning.proofs.StructsCounted.{struct_stands, tell_inside}
+use Rattle.schemars_meaning.proofs.ShapesCounted.{struct_stands, tell_inside}
 use Rattle.schemars_meaning.proofs.SettledTables.{IsSettled}
 
 module _ (patterns : Patterns) (f : Text → Judge) (basis : Basis) (Refers : ℕ → Text → Type 0)
     (settled : IsSettled basis) (ranks : ℕ) (some : 0 < ranks) where
-  abbrev rows : List Row
-  rows = basis.rows
-
-  abbrev contract : Contract
-  contract = basis.contract
+  open basis use {rows, contract}
 
   abbrev In : ℕ → ℕ → Data → Type 0
   In d = IsWritten Refers (Describes basis Refers d)

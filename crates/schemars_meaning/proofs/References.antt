@@ -464,14 +464,14 @@ answers_refer us (t ∷ ts) h among = (
   answers_refer us ts h.1 (λ x i. among x (among_right (references t) (references_of ts) x i)),
 )
 
--- each reference of a row's document stands in one of the answers
+-- each reference of a row's document is in one of the answers
 pub among_parts : (basis : Basis) (e : Entry) → IsNotedThroughout (Some e) → (ts : List Data) → AreSchemas ts
     → Among (references (filled (entry_template basis e) ts)) (references_of ts)
 among_parts basis e notes ts h x i =
     All-contains (Contains (references_of ts)) (references (filled (entry_template basis e) ts)) x
     (all_refer (Contains (references_of ts)) basis e notes ts (answers_refer (references_of ts) ts h (λ y j. j))) i
 
--- each reference of an answer stands in the document
+-- each reference of an answer is in the document
 pub parts_among : (basis : Basis) (e : Entry) → IsPlainEntry basis.rows (Some e) → (Answers : Ask → Data → Type 0)
     → AnswersFields (flattened_in basis.rows) basis.rows basis.contract Answers → (ts : List Data)
     → AreAnswered Answers (asks_of (entry_template basis e)) ts
@@ -480,6 +480,7 @@ parts_among basis e plain Answers spread ts answers x i =
     let t = entry_template basis e in
     let ended : AreAnswered Answers (asks_of t ++ []) ts =
     subst (λ xs. AreAnswered Answers xs ts) (sym (append-nil (asks_of t))) answers in
-    let is = entry_as_schema (Unit {0}) Answers basis (λ q. spread) e (plain.0, plain-shape_noted basis.rows e.shape plain.1) (λ q. plain) in
+    let is = entry_as_schema (Unit {0}) Answers basis (λ q. spread) e (plain.0, plain-shape_noted basis.rows e.shape plain.1)
+    (λ q. plain) in
     subst (λ xs. Contains xs x) (ap (λ us. references (filled t ts) ++ references_of us) (answered_left Answers t [] ts ended)
     ∙ append-nil (references (filled t ts))) (kept_schema (Unit {0}) Answers tt t [] ts ended is x i)

@@ -111,7 +111,7 @@ members-has k d (member l e ms) = go (slice_cmp nat_cmp k l) (members-has k d ms
     go Equal later = among_left (references d) (found_in_members ms)
     go Greater later = λ x h. Contains-append_right (references e) (found_in_members (put k d ms)) x (later x h)
 
--- ---- where no reference stands under the key
+-- ---- where the value of the key has no reference
 
 keywords-put : (k : Text) (d : Data) (ms : Members) → ((e : Data) → found_under k e ≡ [])
     → found_in_keywords (put k d ms) ≡ found_in_keywords ms
@@ -296,7 +296,7 @@ others_apart k (l ∷ ks) = go (bytes_eq l k) refl (others_apart k ks)
     go true same h = h
     go false other h = (other, h)
 
--- nothing stands under these keys
+-- these keys are absent
 abbrev pub AreNew : List Text → Members → Type 0
 AreNew [] ms = Unit {0}
 AreNew (k ∷ ks) ms = (get_member k ms ≡ None) × AreNew ks ms

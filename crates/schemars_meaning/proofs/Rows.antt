@@ -33,7 +33,7 @@ abbrev pub payload_contents : Payload → List ℕ
 payload_contents (newtype_payload n) = n ∷ []
 payload_contents _ = []
 
--- the rows whose values stand beside a tag
+-- the rows whose values are beside a tag
 abbrev pub contents_of : Shape → List ℕ
 contents_of (internal tag closed xs) = of_variants payload_contents xs
 contents_of _ = []

@@ -2,7 +2,7 @@
 use Rattle.std.proofs.Common.{ℕ, zero, suc, List, [], ◌∷◌, Bool, true, false}
 use Rattle.std.specs.List.{AllByRecursion}
 use Rattle.std.specs.Prelude.{if◌then◌else◌}
-use Rattle.serde_json.specs.Data.{Data, boolean, array}
+use Rattle.serde_json.specs.Data.{Data, boolean}
 use Rattle.schemars_schema.specs.Json.{Text}
 use Rattle.schemars_schema.specs.SchemaData.{IsSchema}
 use Rattle.schemars_flatten.proofs.Schemas.{flattened-schema, flattened_part-schema, opened_inside-schema}

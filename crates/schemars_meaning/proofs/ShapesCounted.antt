@@ -1,7 +1,8 @@
--- In a table that is plain under its contract the document of a shape says under 2020-12 what the shape means, with steps counted down,
--- where smaller values are told rightly.
-use Rattle.std.proofs.Common.{◌≡◌, inl, inr, ℕ, ◌+◌, ◌*◌, ◌<◌, ◌≤◌, List, [], ◌∷◌, ◌++◌, Bool, map, refl, ap}
-use Rattle.std.proofs.Common.{◌∙◌}
+-- In a table that is plain under its contract the documents of structs, payloads and shapes say under 2020-12 what they mean, with
+-- steps counted down, where those of smaller values do.
+use Rattle.std.proofs.Common.{◌≡◌, ◌⊎◌, inl, inr, ℕ, zero, suc, ◌+◌, ◌*◌, ◌<◌, ◌≤◌, List, [], ◌∷◌, Bool, map, refl, sym, ap, ◌∙◌, subst}
+use Rattle.std.proofs.Common.{arith, ◌++◌}
+use Rattle.std.proofs.Math.Nat.{mul-le-mul_right}
 use Rattle.std.specs.Prelude.{◌||◌}
 use Rattle.std.specs.List.{list_any}
 use Rattle.serde_json.specs.Data.{Data, depth}
@@ -10,51 +11,76 @@ use Rattle.schemars_schema.specs.SchemaData.{IsSchema}
 use Rattle.schemars_schema.specs.Verdict.{verdict}
 use Rattle.schemars_schema.specs.Acceptance.{Context, Judge, Patterns, judge}
 use Rattle.schemars_builders.specs.NullLaw.{context2020_12}
-use Rattle.schemars_builders.proofs.Nulls.{IsReady}
+use Rattle.schemars_builders.proofs.Nulls.{ready-schema, IsReady}
 use Rattle.schemars_shapes.specs.Shape as shape
-use Rattle.schemars_shapes.specs.Shape.{Fields, Flattened, Shape, Payload, Variant, no_payload, newtype_payload, tuple_payload}
-use Rattle.schemars_shapes.specs.Shape.{struct_payload}
+use Rattle.schemars_shapes.specs.Shape.{Field, Fields, Flattened, Payload, no_payload, newtype_payload, tuple_payload, struct_payload}
+use Rattle.schemars_shapes.specs.Shape.{Shape, Variant}
 use Rattle.schemars_types.specs.Rows.{Row}
-use Rattle.schemars_types.specs.KeyOptions.{key_options}
-use Rattle.schemars_types.specs.Effective.{flattened_in, part_enums}
-use Rattle.schemars_types.specs.Effective.{spread_payload, spread_variant, spread_in}
+use Rattle.schemars_types.specs.Effective.{effective, flattened_in, flattened_enums, part_enums, enum_at, spread_payload, spread_variant}
+use Rattle.schemars_types.specs.Effective.{spread_in}
 use Rattle.schemars_types.specs.declared.contract.Contract.{Contract}
-use Rattle.schemars_types.specs.Meaning.{Choice, has_payload, has_shape, belongs_within, choices_within}
-use Rattle.schemars_documents.specs.PlainTable.{IsPlainPayload, ArePlainVariants, IsTagged, AreTagged, IsPlainShape}
-use Rattle.schemars_documents.specs.PlainTable.{ArePartsUnder, parts_in, payload_parts, variant_parts}
+use Rattle.schemars_types.specs.Meaning.{Choice, is_required, offers, has_payload, belongs_within, choices_within, has_shape}
+use Rattle.schemars_types.specs.KeyOptions.{key_options}
+use Rattle.schemars_flatten.proofs.Schemas.{flattened-schema}
+use Rattle.schemars_documents.specs.PlainTable.{IsPlainPayload, IsPartUnder, ArePartsUnder, payload_parts, ArePlainVariants, IsTagged}
+use Rattle.schemars_documents.specs.PlainTable.{AreTagged, IsPlainShape, parts_in, variant_parts}
 use Rattle.schemars_documents.specs.Basis.{Basis}
-use Rattle.schemars_documents.specs.Template.{Ask}
-use Rattle.schemars_documents.specs.OfShape.{template_of, payload_template}
-use Rattle.schemars_documents.specs.Describes.{Fills, IsAnswered, IsWritten, Describes}
-use Rattle.schemars_meaning.proofs.ByShape.{others_fill}
-use Rattle.schemars_meaning.proofs.EachShape.{null_says}
+use Rattle.schemars_documents.specs.Template.{Ask, Template, members_of, asked, with_keywords, asks_of, filled, first, left}
+use Rattle.schemars_documents.specs.OfShape.{struct_template, payload_template, fields_template, with_flattened, template_of}
+use Rattle.schemars_documents.specs.Describes.{IsAnswered, IsWritten, Describes, Fills}
+use Rattle.schemars_meaning.proofs.Filling.{Fit}
+use Rattle.schemars_meaning.proofs.ByShape.{tuple_fills, tuple_document, others_fill}
+use Rattle.schemars_meaning.proofs.EachShape.{null_says, tuple_says}
 use Rattle.schemars_meaning.proofs.Choices.{unit_says, units_say}
+use Rattle.schemars_meaning.proofs.Ready.{tuple_ready}
+use Rattle.schemars_meaning.proofs.Schemas.{written_schema}
+use Rattle.schemars_meaning.proofs.StructDocuments.{IsStruct, means, both_empty}
+use Rattle.schemars_meaning.proofs.StructFilled.{struct_fills}
+use Rattle.schemars_meaning.proofs.PartsDescribed.{parts_answer, known_all, offered_all, choices_counted, under_apart}
+use Rattle.schemars_meaning.proofs.SettledTables.{IsSettled}
 use Rattle.schemars_meaning.proofs.Enums.{IsNewtypeIn, Tells, AllFit, untagged_says}
 use Rattle.schemars_meaning.proofs.Meanings.{Inside, simple_says}
-use Rattle.schemars_meaning.proofs.Schemas.{written_schema}
 use Rattle.schemars_meaning.proofs.ExternalSays.{AreTold, external_says}
 use Rattle.schemars_meaning.proofs.InternalSays.{IsInside, AreInside, internal_says}
-use Rattle.schemars_meaning.proofs.PartsDescribed.{under_apart}
-use Rattle.schemars_meaning.proofs.StructsCounted.{HasRoom, Told, Tell, struct_stands, struct_says, tuple_tells, tell_inside}
-use Rattle.schemars_meaning.proofs.StructDocuments.{both_empty}
 use Rattle.schemars_meaning.proofs.AdjacentSays.{adjacent_says}
-use Rattle.schemars_meaning.proofs.SettledTables.{IsSettled}
+
+closer : (a b h m : ℕ) → a < b → b * h ≤ m → a * h + h ≤ m
+closer a b h m less enough = grind (arith, mul-le-mul_right)
+
+-- nothing is flattened, or a step is left for what is
+abbrev pub HasRoom : ℕ → Data → ℕ → List Flattened → Type 0
+HasRoom ranks w m ps = (ps ≡ []) ⊎ (depth w * ranks < m)
+
+-- a plain payload, into which parts are flattened
+abbrev pub Told : Contract → List Row → Payload → Type 0
+Told contract rows p =
+    IsPlainPayload (spread_payload (flattened_in rows) (part_enums rows) p) × ArePartsUnder contract rows (payload_parts p)
 
 room_apart : (ranks : ℕ) (v : Data) (m : ℕ) (ps qs : List Flattened) → HasRoom ranks v m (ps ++ qs)
     → HasRoom ranks v m ps × HasRoom ranks v m qs
 room_apart ranks v m ps qs (inl none) = let each = both_empty ps qs none in (inl each.0, inl each.1)
 room_apart ranks v m ps qs (inr room) = (inr room, inr room)
 
+-- ---- what fills the template of a struct is a schema
+
+with_flattened_schema : (contract : Contract) (ps : List Flattened) (t : Template) → ((us : List Data) → IsSchema (filled t us))
+    → (us : List Data) → IsSchema (filled (with_flattened contract ps t) us)
+with_flattened_schema contract [] t is us = is us
+with_flattened_schema contract (p ∷ ps) t is us =
+    with_flattened_schema contract ps (with_keywords t (asked (members_of p.ty (is_required contract p.required))))
+    (λ ws. flattened-schema (filled t ws) (first (left t ws)) (is ws)) us
+
+struct_schema : (contract : Contract) (y : Fields) (us : List Data) → IsSchema (filled (struct_template contract y) us)
+struct_schema contract y us = with_flattened_schema contract y.flatten (fields_template contract y.list y.closed) (λ ws. tt) us
+
+-- ---- a table that is plain under its contract, and whose rows have the fields and enums of their shapes
+
 module _ (patterns : Patterns) (f : Text → Judge) (basis : Basis) (Refers : ℕ → Text → Type 0)
     (settled : IsSettled basis) (ranks : ℕ) (some : 0 < ranks) (top : ℕ) where
   abbrev c : Context
   c = context2020_12 patterns f
 
-  abbrev rows : List Row
-  rows = basis.rows
-
-  abbrev contract : Contract
-  contract = basis.contract
+  open basis use {rows, contract}
 
   abbrev In : ℕ → ℕ → Data → Type 0
   In d = IsWritten Refers (Describes basis Refers d)
@@ -71,121 +97,216 @@ module _ (patterns : Patterns) (f : Text → Judge) (basis : Basis) (Refers : �
   abbrev schemas : (d j : ℕ) (t : Data) → In d j t → IsSchema t
   schemas d j t is = written_schema basis Refers d j t is
 
+  abbrev spreads : Payload → Payload
+  spreads p = spread_payload (flattened_in rows) (part_enums rows) p
+
   abbrev each : Variant → Variant
   each x = spread_variant (flattened_in rows) (part_enums rows) x
 
   abbrev IsTold : Payload → Type 0
   IsTold p = Told contract rows p
 
-  -- `said` and `ready` speak of what is written for rows
+  -- of values below `top`, after so many steps, parts say what their rows mean
   module _ (said : (d j : ℕ) (t w : Data) → In d j t → IsJson w → depth w < top → (m : ℕ) → depth w * ranks + ranks ≤ m
-      → (judge c t).fits w ≡ verdict (B m j w))
-      (ready : (d j : ℕ) (t : Data) → In d j t → IsReady t)
-      (v : Data) (json : IsJson v) (within : depth v ≤ top) (m : ℕ) (enough : depth v * ranks ≤ m) (d : ℕ) where
-    abbrev tell : (n : ℕ) → depth v * ranks ≤ n → (d : ℕ)
-        → Tell patterns f basis Refers settled ranks some top said v n d
-    tell = tell_inside patterns f basis Refers settled ranks some top said v within
+      → (judge c t).fits w ≡ verdict (B m j w)) where
+    agree : (v : Data) → depth v ≤ top → (m : ℕ) → depth v * ranks ≤ m → (d j : ℕ) (t w : Data) → In d j t → IsJson w → depth w < depth v
+        → (judge c t).fits w ≡ verdict (B m j w)
+    agree v within m enough d j t w is js less = said d j t w is js (omega arith) m (closer (depth w) (depth v) ranks m less enough)
 
-    abbrev Room : List Flattened → Type 0
-    Room ps = HasRoom ranks v m ps
+    -- what payloads are to say inside v, after m steps
+    abbrev pub Tell : Data → ℕ → ℕ → Type 0
+    Tell v m d = (p : Payload) → Told contract rows p → (us : List Data) → Fit (Answer d) (asks_of (payload_template contract p)) us
+        → IsSchema (filled (payload_template contract p) us)
+        × ((w : Data) → IsJson w → depth w < depth v → (judge c (filled (payload_template contract p) us)).fits w
+        ≡ verdict (has_payload contract (B m) (C m) (spreads p) w))
 
-    -- the part that has the row's own values, or one inside the value
-    abbrev Agrees : Shape → Type 0
-    Agrees kind = (j : ℕ) (t w : Data) → In d j t → IsJson w → Inside kind v j w → (judge c t).fits w ≡ verdict (B m j w)
+    -- the document of a map with the fields of y, and with its enums
+    abbrev pub IsStructOf : ℕ → Data → ℕ → Fields → Data → Type 0
+    IsStructOf d w m y s = IsStruct c refl contract (In d) w (effective (flattened_in rows) y)
+        (offers (C m) (map enum_at (flattened_enums (part_enums rows) y.flatten)) w) y.closed s
 
-    -- ---- told by their names
+    abbrev Stands : ℕ → Data → ℕ → Fields → Type 0
+    Stands d w m y = (us : List Data) → Fit (Answer d) (asks_of (struct_template contract y)) us
+        → IsStructOf d w m y (filled (struct_template contract y) us)
 
-    told_each : (xs : List Variant) → ArePlainVariants (map each xs) → ArePartsUnder contract rows (variant_parts xs)
-        → AreTold IsTold xs
-    told_each [] fine under = tt
-    told_each (x ∷ xs) fine under =
-        let apart = under_apart contract rows (payload_parts x.payload) (variant_parts xs) under in
-        ((fine.1, apart.0), fine.0, told_each xs fine.2 apart.1)
+    bare_stands : (d : ℕ) (w : Data) (m : ℕ) (list : List Field) (flatten : List Flattened) (closed : Bool) → flatten ≡ []
+        → Stands d w m (record { list = list; flatten = flatten; closed = closed })
+    bare_stands d w m list [] closed none us fit =
+        struct_fills (Answer d) c refl contract w (flattened_in rows) (λ p. []) (λ p. ⊥) (λ p t h. absurd h)
+        (record { list = list; flatten = []; closed = closed }) tt us fit
+    bare_stands d w m list (p ∷ ps) closed none us fit = cc
 
-    -- ---- untagged
+    -- what fills its template is, where payloads inside say what they mean
+    pub struct_stands : (w : Data) → IsJson w → depth w ≤ top → (m : ℕ) → depth w * ranks ≤ m → (d : ℕ) (y : Fields)
+        → HasRoom ranks w m y.flatten
+        → ArePartsUnder contract rows y.flatten → ((n : ℕ) → depth w * ranks ≤ n → (d : ℕ) → Tell w n d) → Stands d w m y
+    struct_stands w js within m enough d y (inl none) under tell us fit = bare_stands d w m y.list y.flatten y.closed none us fit
+    struct_stands w js within zero enough d y (inr room) under tell us fit = absurd (omega arith)
+    struct_stands w js within (suc m) enough d y (inr room) under tell us fit =
+        let answers = parts_answer c refl basis Refers settled w (C (suc m)) (B m) (C m)
+        (λ n e at. choices_counted rows contract patterns m n e w at) js (agree w within m (omega arith)) (null_says patterns f basis (B m))
+        (unit_says patterns f basis (B m)) (tell m (omega arith)) in
+        subst (λ os. IsStruct c refl contract (In d) w (effective (flattened_in rows) y) os y.closed
+        (filled (struct_template contract y) us))
+        (offered_all c refl basis Refers settled w (C (suc m)) y.flatten)
+        (struct_fills (Answer d) c refl contract w (flattened_in rows) _ (IsPartUnder contract rows) (answers d) y
+        (known_all c refl basis Refers settled w (C (suc m)) d (answers d) y.flatten under) us fit)
 
-    payload_tells : (p : Payload) → IsTold p → Room (payload_parts p)
-        → ((n : ℕ) (t : Data) → p ≡ newtype_payload n → In d n t → (judge c t).fits v ≡ verdict (B m n v))
-        → Tells patterns f basis (Answer d) (B m) (payload_template contract p)
-        (has_payload contract (B m) (C m) (spread_payload (flattened_in rows) (part_enums rows) p) v) v
-    payload_tells no_payload told room same us fit = (tt, null_says patterns f basis (B m) v)
-    payload_tells (newtype_payload n) told room same [] fit = absurd fit
-    payload_tells (newtype_payload n) told room same (t ∷ us) fit = (schemas d n t fit.0, same n t refl fit.0)
-    payload_tells (tuple_payload ns) told room same us fit = (
-      (tell m enough d (tuple_payload ns) told us fit).0,
-      tuple_tells patterns f basis Refers settled ranks some top said v within m enough d ns json us fit,
-    )
-    payload_tells (struct_payload y) told room same us fit = (
-      (tell m enough d (struct_payload y) told us fit).0,
-      struct_says patterns f basis Refers settled ranks some top said v json within m enough d y room told tell us fit,
-    )
+    -- so it says what the struct means
+    pub struct_says : (w : Data) → IsJson w → depth w ≤ top → (m : ℕ) → depth w * ranks ≤ m → (d : ℕ) (y : Fields)
+        → HasRoom ranks w m y.flatten
+        → Told contract rows (struct_payload y) → ((n : ℕ) → depth w * ranks ≤ n → (d : ℕ) → Tell w n d) → (us : List Data)
+        → Fit (Answer d) (asks_of (struct_template contract y)) us
+        → (judge c (filled (struct_template contract y) us)).fits w
+        ≡ verdict (has_payload contract (B m) (C m) (spreads (struct_payload y)) w)
+    struct_says w js within m enough d y room told tell us fit =
+        means c refl contract (In d) w (B m) (schemas d) (effective (flattened_in rows) y) _ y.closed
+        (filled (struct_template contract y) us)
+        told.0.0 told.0.1 (struct_stands w js within m enough d y room told.1 tell us fit) js
+        (λ j t x is jx less. agree w within m enough d j t x is jx less)
 
-    payloads_tell : (xs : List Variant) → ArePlainVariants (map each xs) → ArePartsUnder contract rows (variant_parts xs)
-        → Room (variant_parts xs)
-        → ((n : ℕ) (t : Data) → IsNewtypeIn n xs → In d n t → (judge c t).fits v ≡ verdict (B m n v))
-        → AllFit patterns f basis (Answer d) (B m) xs (map (λ x. has_payload contract (B m) (C m) x.payload v) (map each xs)) v
-    payloads_tell [] fine under room same = tt
-    payloads_tell (x ∷ xs) fine under room same =
-        let apart = under_apart contract rows (payload_parts x.payload) (variant_parts xs) under in
-        let rooms = room_apart ranks v m (payload_parts x.payload) (variant_parts xs) room in (
-          fine.0,
-          payload_tells x.payload (fine.1, apart.0) rooms.0 (λ n t e is. same n t (inl e) is),
-          payloads_tell xs fine.2 apart.1 rooms.1 (λ n t later is. same n t (inr later) is),
+    pub tuple_tells : (v : Data) → depth v ≤ top → (m : ℕ) → depth v * ranks ≤ m → (d : ℕ) (ns : List ℕ) → IsJson v → (us : List Data)
+        → Fit (Answer d) (asks_of (payload_template contract (tuple_payload ns))) us
+        → (judge c (filled (payload_template contract (tuple_payload ns)) us)).fits v
+        ≡ verdict (has_payload contract (B m) (C m) (tuple_payload ns) v)
+    tuple_tells v within m enough d ns json us fit =
+        let t = tuple_fills (Answer d) ns us fit in
+        ap (λ s. (judge c s).fits v) t.2 ∙ tuple_says patterns f basis (B m) (In d) (schemas d) ns t.0 t.1 v json
+        (λ j t x is jx less. agree v within m enough d j t x is jx less)
+
+    -- payloads say what they mean of smaller values
+    pub payloads : (k : ℕ) (v : Data) → depth v ≤ k → depth v ≤ top → (m : ℕ) → depth v * ranks ≤ m → (d : ℕ) → Tell v m d
+    payloads k v low within m enough d no_payload told us fit = (tt, λ w js less. null_says patterns f basis (B m) w)
+    payloads k v low within m enough d (newtype_payload n) told [] fit = absurd fit
+    payloads k v low within m enough d (newtype_payload n) told (t ∷ us) fit =
+        (schemas d n t fit.0, λ w js less. agree v within m enough d n t w fit.0 js less)
+    payloads k v low within m enough d (tuple_payload ns) told us fit =
+        let t = tuple_fills (Answer d) ns us fit in (
+          subst IsSchema (sym t.2) (ready-schema (tuple_document t.0) (tuple_ready t.0)),
+          λ w js less.
+              let near = closer (depth w) (depth v) ranks m less enough in
+              tuple_tells w (omega arith) m (omega arith) d ns js us fit,
         )
+    payloads zero v low within m enough d (struct_payload y) told us fit =
+        (struct_schema contract y us, λ w js less. absurd (omega arith))
+    payloads (suc k) v low within m enough d (struct_payload y) told us fit = (
+      struct_schema contract y us,
+      λ w js less.
+          let near = closer (depth w) (depth v) ranks m less enough in
+          let left : depth w * ranks ≤ m = omega arith in
+          struct_says w js (omega arith) m left d y (inr (omega arith)) told
+          (λ n e b. payloads k w (omega arith) (omega arith) n e b) us fit,
+    )
 
-    any_same : (xs : List Variant) → list_any (λ b. b) (map (λ x. has_payload contract (B m) (C m) x.payload v) xs)
-        ≡ list_any (λ x. has_payload contract (B m) (C m) x.payload v) xs
-    any_same [] = refl
-    any_same (x ∷ xs) = ap (λ b. has_payload contract (B m) (C m) x.payload v || b) (any_same xs)
+    -- and what is at the value itself
+    pub tell_inside : (v : Data) → depth v ≤ top → (n : ℕ) → depth v * ranks ≤ n → (d : ℕ) → Tell v n d
+    tell_inside v within n enough d = payloads (depth v) v (omega arith) within n enough d
 
-    -- ---- tagged inside
+    -- ---- shapes
 
-    abbrev StructTold : Fields → Type 0
-    StructTold y = ArePartsUnder contract rows y.flatten × Room y.flatten
+    -- `ready` speaks of what is written for rows
+    module _ (ready : (d j : ℕ) (t : Data) → In d j t → IsReady t) (v : Data) (json : IsJson v) (within : depth v ≤ top)
+        (m : ℕ) (enough : depth v * ranks ≤ m) (d : ℕ) where
+      abbrev tell : (n : ℕ) → depth v * ranks ≤ n → (d : ℕ) → Tell v n d
+      tell = tell_inside v within
 
-    inside_one : (tag : Text) (p : Payload) → IsPlainPayload (spread_payload (flattened_in rows) (part_enums rows) p)
-        → IsTagged tag (spread_payload (flattened_in rows) (part_enums rows) p) → ArePartsUnder contract rows (payload_parts p)
-        → Room (payload_parts p) → IsInside (flattened_in rows) StructTold p
-    inside_one tag no_payload fine tagged under room = tt
-    inside_one tag (newtype_payload n) fine tagged under room = absurd tagged
-    inside_one tag (tuple_payload ns) fine tagged under room = absurd tagged
-    inside_one tag (struct_payload y) fine tagged under room = ((under, room), fine.0, fine.1)
+      abbrev Room : List Flattened → Type 0
+      Room ps = HasRoom ranks v m ps
 
-    inside_each : (tag : Text) (xs : List Variant) → ArePlainVariants (map each xs) → AreTagged tag (map each xs)
-        → ArePartsUnder contract rows (variant_parts xs) → Room (variant_parts xs) → AreInside (flattened_in rows) StructTold xs
-    inside_each tag [] fine tagged under room = tt
-    inside_each tag (x ∷ xs) fine tagged under room =
-        let apart = under_apart contract rows (payload_parts x.payload) (variant_parts xs) under in
-        let rooms = room_apart ranks v m (payload_parts x.payload) (variant_parts xs) room in
-        (inside_one tag x.payload fine.1 tagged.0 apart.0 rooms.0, fine.0, inside_each tag xs fine.2 tagged.1 apart.1 rooms.1)
+      -- the part that has the row's own values, or one inside the value
+      abbrev Agrees : Shape → Type 0
+      Agrees kind = (j : ℕ) (t w : Data) → In d j t → IsJson w → Inside kind v j w → (judge c t).fits w ≡ verdict (B m j w)
 
-    -- ---- by shape
+      -- ---- an enum whose variants have their names as keys
 
-    pub shape_says : (kind : Shape) → Room (parts_in kind) → IsPlainShape (spread_in rows kind)
-        → ArePartsUnder contract rows (parts_in kind)
-        → (s : Data) → Fills (Answer d) (template_of basis kind) s → Agrees kind
-        → (judge c s).fits v ≡ verdict (has_shape contract patterns (key_options rows) (C m) (B m) (spread_in rows kind) v)
-    shape_says (shape.struct x) room fine under s h agree =
-        rw h.is (struct_says patterns f basis Refers settled ranks some top said v json within m enough d x room
-        (fine, under) tell h.parts h.answered)
-    shape_says (shape.external xs) room fine under s h agree =
-        rw h.is (external_says c refl contract (Answer d) (flattened_in rows) (part_enums rows) (B m) (C m) IsTold v json (tell m enough d)
-        (λ name. unit_says patterns f basis (B m) name v) (λ ks. units_say patterns f basis (B m) ks v) xs fine.0
-        (told_each xs fine.1 under) h.parts h.answered)
-    shape_says (shape.untagged xs) room fine under s h agree =
-        rw h.is (untagged_says patterns f basis (Answer d) (B m) xs
-        (map (λ x. has_payload contract (B m) (C m) x.payload v) (map each xs)) v
-        (payloads_tell xs fine under room (λ n t same w. agree n t v w json (inr (same, refl)))) h.parts h.answered
-        ∙ ap verdict (any_same (map each xs)))
-    shape_says (shape.internal tag closed xs) room fine under s h agree =
-        rw h.is (internal_says c refl contract (Answer d) (B m) (C m) (schemas d) v json
-        (λ j t w is js less. agree j t w is js (inl less)) (unit_says patterns f basis (B m)) (flattened_in rows)
-        (part_enums rows) StructTold
-        (λ y told us fit. struct_stands patterns f basis Refers settled ranks some top said v json within m enough
-        d y told.1 told.0 tell us fit) tag closed xs fine.0 (inside_each tag xs fine.1 fine.2 under room) h.parts h.answered)
-    shape_says (shape.adjacent tag key closed xs) room fine under s h agree =
-        rw h.is (adjacent_says c refl contract (Answer d) (B m) (C m) v json (unit_says patterns f basis (B m)) (flattened_in rows)
-        (part_enums rows) IsTold (tell m enough d) tag key fine.0 closed xs fine.1 (told_each xs fine.2 under) h.parts h.answered)
-    shape_says kind room fine under s h agree =
-        simple_says patterns f basis (Answer d) (B m) (C m) (flattened_in rows) (part_enums rows) (ready d) kind s tt fine
-        (others_fill (Answer d) (flattened_in rows) basis kind s h.parts tt h.answered h.is) v json agree
+      told_each : (xs : List Variant) → ArePlainVariants (map each xs) → ArePartsUnder contract rows (variant_parts xs)
+          → AreTold IsTold xs
+      told_each [] fine under = tt
+      told_each (x ∷ xs) fine under =
+          let apart = under_apart contract rows (payload_parts x.payload) (variant_parts xs) under in
+          ((fine.1, apart.0), fine.0, told_each xs fine.2 apart.1)
+
+      -- ---- untagged
+
+      payload_tells : (p : Payload) → IsTold p → Room (payload_parts p)
+          → ((n : ℕ) (t : Data) → p ≡ newtype_payload n → In d n t → (judge c t).fits v ≡ verdict (B m n v))
+          → Tells patterns f basis (Answer d) (B m) (payload_template contract p) (has_payload contract (B m) (C m) (spreads p) v) v
+      payload_tells no_payload told room same us fit = (tt, null_says patterns f basis (B m) v)
+      payload_tells (newtype_payload n) told room same [] fit = absurd fit
+      payload_tells (newtype_payload n) told room same (t ∷ us) fit = (schemas d n t fit.0, same n t refl fit.0)
+      payload_tells (tuple_payload ns) told room same us fit = (
+        (tell m enough d (tuple_payload ns) told us fit).0,
+        tuple_tells v within m enough d ns json us fit,
+      )
+      payload_tells (struct_payload y) told room same us fit = (
+        (tell m enough d (struct_payload y) told us fit).0,
+        struct_says v json within m enough d y room told tell us fit,
+      )
+
+      payloads_tell : (xs : List Variant) → ArePlainVariants (map each xs) → ArePartsUnder contract rows (variant_parts xs)
+          → Room (variant_parts xs)
+          → ((n : ℕ) (t : Data) → IsNewtypeIn n xs → In d n t → (judge c t).fits v ≡ verdict (B m n v))
+          → AllFit patterns f basis (Answer d) (B m) xs (map (λ x. has_payload contract (B m) (C m) x.payload v) (map each xs)) v
+      payloads_tell [] fine under room same = tt
+      payloads_tell (x ∷ xs) fine under room same =
+          let apart = under_apart contract rows (payload_parts x.payload) (variant_parts xs) under in
+          let rooms = room_apart ranks v m (payload_parts x.payload) (variant_parts xs) room in (
+            fine.0,
+            payload_tells x.payload (fine.1, apart.0) rooms.0 (λ n t e is. same n t (inl e) is),
+            payloads_tell xs fine.2 apart.1 rooms.1 (λ n t later is. same n t (inr later) is),
+          )
+
+      any_same : (xs : List Variant) → list_any (λ b. b) (map (λ x. has_payload contract (B m) (C m) x.payload v) xs)
+          ≡ list_any (λ x. has_payload contract (B m) (C m) x.payload v) xs
+      any_same [] = refl
+      any_same (x ∷ xs) = ap (λ b. has_payload contract (B m) (C m) x.payload v || b) (any_same xs)
+
+      -- ---- tagged inside
+
+      abbrev StructTold : Fields → Type 0
+      StructTold y = ArePartsUnder contract rows y.flatten × Room y.flatten
+
+      inside_one : (tag : Text) (p : Payload) → IsPlainPayload (spreads p) → IsTagged tag (spreads p)
+          → ArePartsUnder contract rows (payload_parts p) → Room (payload_parts p) → IsInside (flattened_in rows) StructTold p
+      inside_one tag no_payload fine tagged under room = tt
+      inside_one tag (newtype_payload n) fine tagged under room = absurd tagged
+      inside_one tag (tuple_payload ns) fine tagged under room = absurd tagged
+      inside_one tag (struct_payload y) fine tagged under room = ((under, room), fine.0, fine.1)
+
+      inside_each : (tag : Text) (xs : List Variant) → ArePlainVariants (map each xs) → AreTagged tag (map each xs)
+          → ArePartsUnder contract rows (variant_parts xs) → Room (variant_parts xs) → AreInside (flattened_in rows) StructTold xs
+      inside_each tag [] fine tagged under room = tt
+      inside_each tag (x ∷ xs) fine tagged under room =
+          let apart = under_apart contract rows (payload_parts x.payload) (variant_parts xs) under in
+          let rooms = room_apart ranks v m (payload_parts x.payload) (variant_parts xs) room in
+          (inside_one tag x.payload fine.1 tagged.0 apart.0 rooms.0, fine.0, inside_each tag xs fine.2 tagged.1 apart.1 rooms.1)
+
+      -- ---- by shape
+
+      pub shape_says : (kind : Shape) → Room (parts_in kind) → IsPlainShape (spread_in rows kind)
+          → ArePartsUnder contract rows (parts_in kind)
+          → (s : Data) → Fills (Answer d) (template_of basis kind) s → Agrees kind
+          → (judge c s).fits v ≡ verdict (has_shape contract patterns (key_options rows) (C m) (B m) (spread_in rows kind) v)
+      shape_says (shape.struct x) room fine under s h agree =
+          rw h.is (struct_says v json within m enough d x room (fine, under) tell h.parts h.answered)
+      shape_says (shape.external xs) room fine under s h agree =
+          rw h.is (external_says c refl contract (Answer d) (flattened_in rows) (part_enums rows) (B m) (C m) IsTold v json
+          (tell m enough d) (λ name. unit_says patterns f basis (B m) name v) (λ ks. units_say patterns f basis (B m) ks v) xs fine.0
+          (told_each xs fine.1 under) h.parts h.answered)
+      shape_says (shape.untagged xs) room fine under s h agree =
+          rw h.is (untagged_says patterns f basis (Answer d) (B m) xs
+          (map (λ x. has_payload contract (B m) (C m) x.payload v) (map each xs)) v
+          (payloads_tell xs fine under room (λ n t same w. agree n t v w json (inr (same, refl)))) h.parts h.answered
+          ∙ ap verdict (any_same (map each xs)))
+      shape_says (shape.internal tag closed xs) room fine under s h agree =
+          rw h.is (internal_says c refl contract (Answer d) (B m) (C m) (schemas d) v json
+          (λ j t w is js less. agree j t w is js (inl less)) (unit_says patterns f basis (B m)) (flattened_in rows)
+          (part_enums rows) StructTold
+          (λ y told us fit. struct_stands v json within m enough d y told.1 told.0 tell us fit) tag closed xs fine.0
+          (inside_each tag xs fine.1 fine.2 under room) h.parts h.answered)
+      shape_says (shape.adjacent tag key closed xs) room fine under s h agree =
+          rw h.is (adjacent_says c refl contract (Answer d) (B m) (C m) v json (unit_says patterns f basis (B m)) (flattened_in rows)
+          (part_enums rows) IsTold (tell m enough d) tag key fine.0 closed xs fine.1 (told_each xs fine.2 under) h.parts h.answered)
+      shape_says kind room fine under s h agree =
+          simple_says patterns f basis (Answer d) (B m) (C m) (flattened_in rows) (part_enums rows) (ready d) kind s tt fine
+          (others_fill (Answer d) (flattened_in rows) basis kind s h.parts tt h.answered h.is) v json agree

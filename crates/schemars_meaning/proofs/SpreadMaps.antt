@@ -17,7 +17,6 @@ use Rattle.schemars_flatten.specs.Flatten.{flattened}
 use Rattle.schemars_shapes.specs.Shape.{Field, Flattened, Fields}
 use Rattle.schemars_types.specs.Rows.{Row}
 use Rattle.schemars_types.specs.declared.contract.Contract.{Contract}
-use Rattle.schemars_types.specs.declared.contract.Contract.TheVariants.{Deserialize, Serialize}
 use Rattle.schemars_types.specs.Meaning.{is_required}
 use Rattle.schemars_types.specs.Effective.{flattened_fields, effective, flattened_in}
 use Rattle.schemars_documents.specs.Documents.{Keyword, required_names, annotated}
@@ -29,6 +28,7 @@ use Rattle.schemars_documents.specs.OfShape.{templates_of, property, map_templat
 use Rattle.schemars_documents.specs.Describes.{AreAnswered, references_of}
 use Rattle.schemars_meaning.proofs.Rows.{asks_at}
 use Rattle.schemars_meaning.proofs.MapDocument.{map_document, noted_by, AllNotes}
+use Rattle.schemars_meaning.proofs.Flattened.{noted_by-append, AllNotes-append, must_be_present}
 use Rattle.schemars_meaning.proofs.Flattening.{flattened-maps, tagged-map}
 use Rattle.schemars_meaning.proofs.Spread.{field_keywords, AreWritten, IsFieldsDocument, AnswersFields}
 use Rattle.schemars_meaning.proofs.ReferencesKept.{Among, among_left, among_right, among_append, among_equal, among_turn}
@@ -292,21 +292,6 @@ module _ (Answers : Ask → Data → Type 0) where
     abbrev at : Flattened → Ask
     at p = members_of p.ty (is_required contract p.required)
 
-    plain_required : (p : Flattened) → IsPlainPart rows p → is_required contract p.required ≡ true
-    plain_required p h = go contract
-      where
-        go : (c : Contract) → is_required c p.required ≡ true
-        go Deserialize = h.1
-        go Serialize = h.2
-
-    noted-append : (n1 n2 : List Members) (s : Data) → noted_by (n1 ++ n2) s ≡ noted_by n1 (noted_by n2 s)
-    noted-append [] n2 s = refl
-    noted-append (n ∷ n1) n2 s = ap (annotated n) (noted-append n1 n2 s)
-
-    all-append : (n1 n2 : List Members) → AllNotes n1 → AllNotes n2 → AllNotes (n1 ++ n2)
-    all-append [] n2 h g = g
-    all-append (n ∷ n1) n2 h g = (h.0, all-append n1 n2 h.1 g)
-
     keys-fields : (W : Ask → Data → Type 0) (xs : List Field) (ts : List Data) → AreWritten (λ j. W (part j)) xs ts
         → keys_of (field_keywords xs ts) ≡ names_in xs
     keys-fields W [] ts h = refl
@@ -333,7 +318,7 @@ module _ (Answers : Ask → Data → Type 0) where
             let more = field_keywords fields f.parts in
             let needed = required_names contract fields in record {
               notes = m.notes ++ f.notes;
-              are_notes = all-append m.notes f.notes m.are_notes f.are_notes;
+              are_notes = AllNotes-append m.notes f.notes m.are_notes f.are_notes;
               keywords = m.keywords ++ more;
               keys = map-append (λ e. e.0) m.keywords more
                   ∙ (λ i. m.keys i ++ keys-fields Answers fields f.parts f.written i);
@@ -342,7 +327,7 @@ module _ (Answers : Ask → Data → Type 0) where
               is = (λ i. flattened (m.is i) (first (same i)))
                   ∙ (ap (flattened (noted_by m.notes (map_document m.keywords m.required m.closed))) f.is
                   ∙ (flattened-maps m.notes f.notes m.keywords more m.required needed m.closed m.are_notes f.are_notes
-                  ∙ sym (noted-append m.notes f.notes _)));
+                  ∙ sym (noted_by-append m.notes f.notes _)));
               kept = λ x i.
                   let values = values_in m.keywords in
                   let joined : references_of (values_in (m.keywords ++ more))
@@ -369,7 +354,7 @@ module _ (Answers : Ask → Data → Type 0) where
             → HoldsMap (with_keywords t (asked (at p))) (names ++ names_in fields) ts
         go [] same answer = absurd answer
         go (d ∷ us) same answer =
-            whole d us same (spread p d plain (subst (λ b. Answers (members_of p.ty b) d) (plain_required p plain) answer.0))
+            whole d us same (spread p d plain (subst (λ b. Answers (members_of p.ty b) d) (must_be_present rows contract p plain) answer.0))
 
     abbrev pub spread_names : List Flattened → List Text
     spread_names ps = names_in (flattened_fields (flattened_in rows) ps)

@@ -1,14 +1,14 @@
 -- The documents of structs with flattened enums, put into one another, and what they mean.
-use Rattle.std.proofs.Common.{◌≡◌, ℕ, ◌<◌, List, [], ◌∷◌, ◌++◌, Option, Some, None, Bool, true, false, option_map, refl, sym, ap}
-use Rattle.std.proofs.Common.{◌∙◌, subst, true≢false}
+use Rattle.std.proofs.Common.{◌≡◌, ℕ, ◌<◌, List, [], ◌∷◌, ◌++◌, Option, Some, None, Bool, true, false, refl, sym, ap}
+use Rattle.std.proofs.Common.{◌∙◌, subst}
 use Rattle.std.specs.Prelude.{codes, bytes_eq, if◌then◌else◌, ◌&&◌, ◌||◌, not, option_and_then}
-use Rattle.serde_json.specs.Data.{Data, null, array, object, string, Items, Members, no_members, member}
+use Rattle.serde_json.specs.Data.{Data, null, array, object, Items, Members, no_members, member}
 use Rattle.serde_json.specs.Data.{depth}
-use Rattle.serde_json.specs.Find.{get, get_member, as_str, as_array}
+use Rattle.serde_json.specs.Find.{get_member, as_str}
 use Rattle.serde_json.specs.View.{items_of}
 use Rattle.schemars_schema.specs.Json.{Text, IsJson}
 use Rattle.schemars_schema.specs.SchemaData.{IsSchema}
-use Rattle.schemars_schema.specs.Edits.{replaced, removed, is_text, on_list}
+use Rattle.schemars_schema.specs.Edits.{replaced, is_text, on_list}
 use Rattle.schemars_schema.specs.Annotations.{AreNotes}
 use Rattle.schemars_schema.specs.Verdict.{verdict}
 use Rattle.schemars_schema.specs.Acceptance.{Context, judge}
@@ -16,9 +16,8 @@ use Rattle.schemars_text.proofs.Members.{get_member-later, get_member-here}
 use Rattle.std.proofs.lemmas.Slice.Eq.{bytes_eq-Decides}
 use Rattle.schemars_flatten.specs.Flatten.{flattened, united_all, appended}
 use Rattle.schemars_flatten.specs.Opening.{opened, has_type}
-use Rattle.schemars_flatten.specs.Parts.{flattened_part, unit_objects, first_units, behind_first, first_as_objects}
+use Rattle.schemars_flatten.specs.Parts.{flattened_part, first_units, behind_first, first_as_objects}
 use Rattle.schemars_flatten.specs.Parts.{list_changed_at, units_as_objects}
-use Rattle.schemars_flatten.specs.Parts.{with_units}
 use Rattle.schemars_shapes.specs.Shape.{Field}
 use Rattle.schemars_types.specs.declared.contract.Contract.{Contract}
 use Rattle.schemars_types.specs.Meaning.{every_member, member_fits, has_required}
@@ -26,11 +25,12 @@ use Rattle.schemars_documents.specs.PlainTable.{AreDistinct, AreNoted}
 use Rattle.schemars_documents.specs.Documents.{Keyword, annotated, required_names}
 use Rattle.schemars_types.specs.Meaning.{Choice, every_part, claims, shut, has_fields}
 use Rattle.schemars_meaning.proofs.MapKeywords.{noted, noted_by-object, noted-beside, sorted-noted, closed_there}
-use Rattle.schemars_meaning.proofs.StructForm.{Part, Parts, choices_in, struct_keywords, one_there}
+use Rattle.schemars_meaning.proofs.Flattening.{no_texts}
+use Rattle.schemars_meaning.proofs.StructForm.{Part, Parts, choices_in, any_keywords, struct_keywords, one_there}
 use Rattle.schemars_meaning.proofs.StructForm.{every_part-append, claims-append}
 use Rattle.schemars_meaning.proofs.StructMeans.{value_says}
 use Rattle.schemars_meaning.proofs.Uniting.{IsForm, form-keywords, part_keywords, join, join_every, join_claims, united_form}
-use Rattle.schemars_meaning.proofs.Opened.{no_parts, opened_form, opened_parts, Part_form, any_keywords}
+use Rattle.schemars_meaning.proofs.Opened.{no_parts, opened_form, opened_parts, Part_form}
 use Rattle.schemars_meaning.proofs.Items.{ChoicesAre, choices_say, choices_join}
 use Rattle.schemars_meaning.proofs.Spread.{field_keywords, AreWritten}
 use Rattle.schemars_meaning.proofs.Flattened.{AreWritten-append, field_keywords-append, required_names-append}
@@ -169,18 +169,10 @@ module _ (t : Option Data) (es : List Keyword) (ns : List Text) (ps : Parts) (a 
     (form : IsForm (any_keywords t es ns ps (closed_there a) (closed_there u)) ms) (no_text : IsNoText t) where
   pub units_missing : HasNoUnits ps.one → units_as_objects (object ms) ≡ object ms
   unfolding one_there
-  units_missing units = none (has_type (codes "string") (object ms)) typed ∙ choice ps.one units (form.at (codes "oneOf") refl)
+  units_missing units = no_texts ms typed ∙ choice ps.one units (form.at (codes "oneOf") refl)
     where
       typed : has_type (codes "string") (object ms) ≡ false
       typed = ap (λ o. is_text (codes "string") (option_and_then as_str o)) (form.at (codes "type") refl) ∙ no_text
-
-      none : (b : Bool) → b ≡ false
-          → elim (if b then option_map unit_objects (option_and_then as_array (get (codes "enum") (object ms))) else None) [
-            | None ↦ list_changed_at (codes "oneOf") first_as_objects (object ms)
-            | Some units ↦ with_units units (removed (codes "type") (removed (codes "enum") (object ms)))
-          ] ≡ list_changed_at (codes "oneOf") first_as_objects (object ms)
-      none true is = absurd (true≢false is)
-      none false is = refl
 
       changed : (o : Option Data) → get_member (codes "oneOf") ms ≡ o
           → list_changed_at (codes "oneOf") first_as_objects (object ms) ≡ elim o [

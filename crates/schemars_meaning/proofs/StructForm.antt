@@ -1,5 +1,5 @@
--- What the document of a struct says, with the enums that are flattened into it: several of them stand under `allOf`, and one
--- may stand under `oneOf`. Where it is closed, `unevaluatedProperties` refuses just the keys that belong to nothing.
+-- What the document of a struct says, with the enums that are flattened into it: several of them are under `allOf`, and one
+-- may be under `oneOf`. Where it is closed, `unevaluatedProperties` refuses just the keys that belong to nothing.
 use Rattle.std.proofs.Common.{◌≡◌, List, [], ◌∷◌, ◌++◌, map, Option, Some, None, Bool, true, false, option_map, refl, sym}
 use Rattle.std.proofs.Common.{ap, ◌∙◌}
 use Rattle.std.proofs.Common.{true≢false}
@@ -61,7 +61,7 @@ unfoldable pub one_there : Option Part → Option Data
 one_there None = None
 one_there (Some p) = Some (list_of p)
 
--- a keyword for the rest stands as it has to beside choices
+-- the keyword for the rest, as it has to be beside choices
 abbrev pub additional_beside : List Part → Option Part → Bool → Option Data
 additional_beside [] None closed = closed_there closed
 additional_beside [] (Some p) closed = None
@@ -78,17 +78,21 @@ unevaluated_beside (q ∷ qs) o closed = closed_there closed
 abbrev pub unevaluated_there : Parts → Bool → Option Data
 unevaluated_there ps closed = unevaluated_beside ps.all ps.one closed
 
--- the keywords of a map with these properties, required names and choices
-abbrev pub struct_keywords : List Keyword → List Text → Parts → Bool → Keywords
-struct_keywords es ns ps closed = record {
-  type = Some (string (codes "object"));
+-- the keywords of a map with these properties, required names and choices, and with these of its type and for the rest
+abbrev pub any_keywords : Option Data → List Keyword → List Text → Parts → Option Data → Option Data → Keywords
+any_keywords t es ns ps additional unevaluated = record {
+  type = t;
   properties = properties_there es;
   required = required_there ns;
-  additional = additional_there ps closed;
+  additional = additional;
   all = all_there ps.all;
   one = one_there ps.one;
-  unevaluated = unevaluated_there ps closed;
+  unevaluated = unevaluated;
 }
+
+abbrev pub struct_keywords : List Keyword → List Text → Parts → Bool → Keywords
+struct_keywords es ns ps closed =
+    any_keywords (Some (string (codes "object"))) es ns ps (additional_there ps closed) (unevaluated_there ps closed)
 
 -- ---- choices behind each other
 

@@ -28,7 +28,7 @@ use Rattle.schemars_meaning.proofs.StructForm.{struct_keywords}
 use Rattle.schemars_meaning.proofs.StructForm.{ChoicesSay, judges_of, named_says, rest_says, object_says, all_fits, one_fit, covered_by}
 use Rattle.schemars_meaning.proofs.Fields.{Finds}
 
--- what is required, what stands under names, the parts and what is left
+-- what is required, what the names have, the parts and what is left
 grouped : (h p m : Bool) (x y : Verdict) → both x y ≡ verdict m → both (verdict h) (both x (both (verdict p) y)) ≡ verdict (p && (m && h))
 grouped h p m x y is =
     ap (both (verdict h)) (sym (both-assoc x (verdict p) y) ∙ (ap (λ z. both z y) (both-swap x (verdict p))
@@ -47,7 +47,7 @@ grouped h p m x y is =
 
 module _ (c : Context) (on : c.dialect.reads_unevaluated ≡ true) (contract : Contract) (W : ℕ → Data → Type 0) (M : ℕ → Data → Bool)
     (schemas : (j : ℕ) (t : Data) → W j t → IsSchema t) where
-  -- what stands at a name tests by the field's type
+  -- the value of a name tests by the field's type
   abbrev Tested : Option Field → Option Judge → Data → Type 0
   Tested None o w = o ≡ None
   Tested (Some x) o w = (p : Judge) × (o ≡ Some p) × (p.fits w ≡ verdict (M x.ty w))

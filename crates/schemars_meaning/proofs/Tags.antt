@@ -43,6 +43,28 @@ use Rattle.schemars_meaning.proofs.StructDocuments.{IsStruct, every_alike}
 use Rattle.schemars_meaning.proofs.Spread.{field_keywords, AreWritten}
 use Rattle.schemars_meaning.proofs.Fields.{Finds, field_found, entries, required_same}
 
+-- the document of a map without keys
+pub no_keys : (c : Context) (on : c.dialect.reads_unevaluated ≡ true) (contract : Contract) (W : ℕ → Data → Type 0) (v : Data)
+    (closed : Bool) → IsStruct c on contract W v [] [] closed (map_document [] [] closed)
+no_keys c on contract W v closed = record {
+  written = [];
+  are_written = refl;
+  parts = no_parts;
+  members = keywords [] [] closed;
+  is = refl;
+  form = map_form [] [] [] closed tt;
+  every = refl;
+  claimed = λ k. refl;
+  choices = (tt, tt);
+  bare = λ e. refl;
+}
+
+-- with a tag it is that of null with the tag
+pub null_tagged : (tag name : Text) (b : Bool) → internally_tagged_variant tag name b (map_document [] [] b)
+    ≡ internally_tagged_variant tag name b (type_alone (codes "null"))
+null_tagged tag name false = refl
+null_tagged tag name true = refl
+
 -- ---- the tag as one more field, of a row before the others whose values are the name
 
 pub shifted : Field → Field
@@ -107,7 +129,7 @@ module _ (W : ℕ → Data → Type 0) (M : ℕ → Data → Bool) (name : Text)
   written_shifted (x ∷ xs) [] h = absurd h
   written_shifted (x ∷ xs) (t ∷ ts) h = (h.0, written_shifted xs ts h.1)
 
-  -- the name stands at the tag, and a field's schema at its own name elsewhere
+  -- the name is at the tag, and a field's schema at its own name elsewhere
   found_with_tag : (tag : Text) (xs : List Field) (ts : List Data) → AreDistinct xs → AreNoted xs → AreWritten W xs ts → (k : Text)
       → Finds WithTag (field_named (with_tag tag xs) k)
       (get_member k (put_all (field_keywords xs ts ++ (tag, unit_variant name) ∷ []) no_members)) None
@@ -369,25 +391,7 @@ module _ (c : Context) (on : c.dialect.reads_unevaluated ≡ true) (contract : C
       → IsItem c on deny (annotated notes (internally_tagged_variant tag name deny (type_alone (codes "null"))))
       (record { fits = has_tagged contract M [] tag [] false name v; has_key = λ k. bytes_eq tag k || is_some (field_named [] k) }) v
   tagged_unit tag name deny notes plain =
-      let here : IsItem c on deny (annotated notes (internally_tagged_variant tag name deny (map_document [] [] deny)))
-      (record { fits = has_tagged contract M [] tag [] false name v; has_key = λ k. bytes_eq tag k || is_some (field_named [] k) }) v =
-      tagged_item tag name deny notes [] deny (map_document [] [] deny) plain tt tt (record {
-        written = [];
-        are_written = refl;
-        parts = no_parts;
-        members = keywords [] [] deny;
-        is = refl;
-        form = map_form [] [] [] deny tt;
-        every = refl;
-        claimed = λ k. refl;
-        choices = (tt, tt);
-        bare = λ e. refl;
-      }) in
       subst (λ t. IsItem c on deny (annotated notes t)
       (record { fits = has_tagged contract M [] tag [] false name v; has_key = λ k. bytes_eq tag k || is_some (field_named [] k) }) v)
-      (same deny) here
-    where
-      same : (b : Bool) → internally_tagged_variant tag name b (map_document [] [] b)
-          ≡ internally_tagged_variant tag name b (type_alone (codes "null"))
-      same false = refl
-      same true = refl
+      (null_tagged tag name deny)
+      (tagged_item tag name deny notes [] deny (map_document [] [] deny) plain tt tt (no_keys c on contract W v deny))

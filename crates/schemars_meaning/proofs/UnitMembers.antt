@@ -1,4 +1,4 @@
--- An enum that is told by its names, where it is flattened with units among its variants: these become maps behind the others.
+-- An enum whose variants have their names as keys, flattened with units among its variants: these become maps behind the others.
 use Rattle.std.proofs.Common.{◌≡◌, ℕ, List, [], ◌∷◌, ◌++◌, Option, Some, None, Bool, true, false, map, refl, sym, ap, ◌∙◌, subst}
 use Rattle.std.proofs.lemmas.Slice.Eq.{bytes_eq-Decides}
 use Rattle.std.specs.Prelude.{if◌then◌else◌, bytes_eq, ◌&&◌, ◌||◌, not, codes, option_map, option_and_then}
@@ -31,10 +31,10 @@ use Rattle.schemars_meaning.proofs.MapKeywords.{noted, noted_by-object, noted-be
 use Rattle.schemars_meaning.proofs.MapKeywords.{properties_there, required_there}
 use Rattle.schemars_meaning.proofs.MapForm.{Keywords, look_up}
 use Rattle.schemars_meaning.proofs.Offers.{one_object}
-use Rattle.schemars_meaning.proofs.StructForm.{Part, Parts, all_there, one_there}
+use Rattle.schemars_meaning.proofs.StructForm.{Part, Parts, any_keywords, all_there, one_there}
 use Rattle.schemars_meaning.proofs.Joining.{without-here}
 use Rattle.schemars_meaning.proofs.Uniting.{IsForm, by_seven, look_up-other}
-use Rattle.schemars_meaning.proofs.Opened.{opened_form, opened_parts, Part_form, any_keywords}
+use Rattle.schemars_meaning.proofs.Opened.{opened_form, opened_parts, Part_form}
 use Rattle.schemars_meaning.proofs.Items.{AnyItems, any_append, opened_any, member_item}
 use Rattle.schemars_meaning.proofs.StructDocuments.{IsPart}
 

@@ -20,13 +20,13 @@ use Rattle.schemars_flatten.specs.Flatten.{appended}
 use Rattle.schemars_flatten.proofs.Lookups.{united_option, united_none}
 use Rattle.schemars_documents.specs.Documents.{Keyword}
 use Rattle.schemars_types.specs.Meaning.{Choice, every_part, claims}
-use Rattle.schemars_meaning.proofs.MapKeywords.{sorted-with_keywords, properties_there, required_there, closed_there}
+use Rattle.schemars_meaning.proofs.MapKeywords.{sorted-with_keywords, closed_there}
 use Rattle.schemars_meaning.proofs.MapKeywords.{properties-united}
 use Rattle.schemars_meaning.proofs.MapKeywords.{required-united}
 use Rattle.schemars_meaning.proofs.MapForm.{Keywords, look_up, HasKeywords}
 use Rattle.schemars_meaning.proofs.Offers.{one_object}
 use Rattle.schemars_meaning.proofs.StructForm.{Part, Parts, objects, all_in, one_in, choices_in, all_there, one_there}
-use Rattle.schemars_meaning.proofs.StructForm.{additional_there, unevaluated_there}
+use Rattle.schemars_meaning.proofs.StructForm.{any_keywords, additional_there, unevaluated_there}
 use Rattle.schemars_meaning.proofs.StructForm.{additional_beside, unevaluated_beside, struct_keywords, every_part-append, claims-append}
 use Rattle.schemars_meaning.proofs.Joining.{without-here, one_left, with_both, Joined, joined}
 
@@ -130,27 +130,13 @@ look_up-other x q t p r c a o u = rw (t, p, r, c, a, o, u) refl
 
 -- what a part has: no keyword for the rest
 abbrev pub part_keywords : Option Data → List Keyword → List Text → Parts → Keywords
-part_keywords t es ns ps = record {
-  type = t;
-  properties = properties_there es;
-  required = required_there ns;
-  additional = None;
-  all = all_there ps.all;
-  one = one_there ps.one;
-  unevaluated = None;
-}
+part_keywords t es ns ps = any_keywords t es ns ps None None
 
 -- a struct's keywords once further members are let in beside a choice of the other side
 abbrev beside_choice : Bool → List Keyword → List Text → Parts → Bool → Keywords
-beside_choice b es ns ps closed = record {
-  type = Some (string (codes "object"));
-  properties = properties_there es;
-  required = required_there ns;
-  additional = if b then None else additional_there ps closed;
-  all = all_there ps.all;
-  one = one_there ps.one;
-  unevaluated = if b then closed_there closed else unevaluated_there ps closed;
-}
+beside_choice b es ns ps closed =
+    any_keywords (Some (string (codes "object"))) es ns ps (if b then None else additional_there ps closed)
+    (if b then closed_there closed else unevaluated_there ps closed)
 
 abbrev pub has_parts : Parts → Bool
 has_parts ps = is_some (all_there ps.all) || (is_some (one_there ps.one) || false)
