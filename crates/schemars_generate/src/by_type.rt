@@ -175,7 +175,8 @@ fn join<T: JsonSchema>(alloc: Global, types: &mut Types) -> Result<TypeNo, Gener
     ensures known { IfOk result (λ n. n < length types.new) }
     ensures refused { IfErr result (IsTypeRefusal types.old) }
 {
+    let checked = types.len();
     let n = register::<T>(alloc, types)?;
-    types.check(alloc)?;
+    types.check_from(alloc, checked)?;
     Ok(n)
 }
