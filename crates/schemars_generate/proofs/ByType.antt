@@ -51,11 +51,14 @@ all-same (r ∷ rs) (s ∷ ss) defined h =
     λ i. first i ∷ rest i
 
 -- so a table without faults begins a table that keeps its rows
+pub begins : (old new : List Row) → IsChecked old → Keeps old new → take (length old) new ≡ old
+begins old new checked kept = all-same old new checked.defined kept.rows
+
 pub joined : (id : Text) (inline : Bool) (describes : List Row → Entry → Type 0) (old new : List Row) (n : ℕ) → IsChecked old
     → Keeps old new → place_of id new ≡ Some n → (entry_under id old ≡ None → IsDescribed describes inline new n) → IsAccepted new
     → IsJoined id inline describes old new n
 joined id inline describes old new n checked kept number described accepted = record {
-  begins = all-same old new checked.defined kept.rows;
+  begins = begins old new checked kept;
   number = number;
   described = described;
   accepted = accepted;

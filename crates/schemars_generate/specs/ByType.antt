@@ -3,18 +3,20 @@ use Rattle.std.specs.Prelude.{◌≡◌, ◌⊎◌, ℕ, Bool, List, Some, None,
 use Rattle.serde_json.specs.Data.{Data}
 use Rattle.schemars_schema.specs.Json.{Text}
 use Rattle.schemars_shapes.specs.Shape.{Entry}
-use Rattle.schemars_types.specs.Rows.{Row, place_of}
-use Rattle.schemars_types.specs.Faults.{IsAccepted}
+use Rattle.schemars_types.specs.Rows.{Row, place_of, HasDistinctIds}
+use Rattle.schemars_types.specs.Faults.{IsAccepted, IsChecked}
 use Rattle.schemars_types.specs.declared.error.TypesError.{TypesError}
 use Rattle.schemars_impls.specs.Describes.{entry_under, IsDescribed}
 use Rattle.schemars_impls.specs.Keeps.{Keeps}
 use Rattle.schemars_impls.specs.Refused.{HasCause}
+use Rattle.schemars_build.specs.Naming.{IsOneToOne}
+use Rattle.schemars_build.specs.Work.{Work}
 use Rattle.schemars_walk.specs.Walk.{TransformStep}
 use Rattle.schemars_headline.specs.Drafts.{Draft, dialect_of}
 use Rattle.schemars_headline.specs.Headline.{RootHeadline}
 use Rattle.schemars_headline.specs.State.{State}
 use Rattle.schemars_generate.specs.Refusals.{error_of}
-use Rattle.schemars_generate.specs.Generator.{Transforms}
+use Rattle.schemars_generate.specs.Generator.{Transforms, held_work}
 use Rattle.schemars_generate.specs.Settings.{transforms_for}
 use Rattle.schemars_generate.specs.Through.{IsTransformed, IsRootRefusal}
 use Rattle.schemars_generate.specs.declared.error.GenerateError.{GenerateError}
@@ -31,6 +33,14 @@ pub record IsJoined (id : Text) (inline : Bool) (describes : List Row → Entry 
   pub number : place_of id new ≡ Some n
   pub described : entry_under id old ≡ None → IsDescribed describes inline new n
   pub accepted : IsAccepted new
+
+-- a table, and the names and definitions made in it, as a generator holds them between calls
+pub record AreHeld (rows : List Row) (w : Work) : Type 0 where
+  pub accepted : IsAccepted rows
+  pub checked : IsChecked rows
+  pub ids : HasDistinctIds rows
+  pub one_to_one : IsOneToOne w.names
+  pub between : w ≡ held_work w.names w.definitions
 
 -- the transforms made the document of row n, of which R holds before them, in this table
 pub record IsRootInTable {O : Type 0} (Q : TransformStep O) (ts us : Transforms O) (s : State) (n : ℕ) (R : Data → Type 0) (d : Data)

@@ -1,17 +1,19 @@
 //! Calls by type, which add rows to the generator's table.
-ghost use Rattle.std.specs.Prelude.{ℕ, List, ◌≡◌, ◌<◌, length, IfOk, IfErr, OnOk, OnErr};
-ghost use Rattle.schemars_types.specs.Faults.{IsChecked};
+ghost use Rattle.std.specs.Prelude.{ℕ, List, ◌≡◌, ◌<◌, length, take, IfOk, IfErr, OnOk, OnErr};
+ghost use Rattle.schemars_types.specs.Faults.{IsAccepted, IsChecked};
 ghost use Rattle.schemars_types.specs.Rows.{Row};
-ghost use Rattle.schemars_headline.specs.State.{HasOwnDefinitions};
+ghost use Rattle.schemars_headline.specs.State.{HasOwnDefinitions, work_of};
 ghost use Rattle.schemars_generate.specs.Answers.{IsSubschemaFor};
-ghost use Rattle.schemars_generate.specs.ByType.{IsJoined, IsTypeRefusal, IsRootInTable};
+ghost use Rattle.schemars_generate.specs.ByType.{AreHeld, IsJoined, IsTypeRefusal, IsRootInTable};
 ghost use Rattle.schemars_generate.specs.ByType.{IsRootOfTypeRefusal, with_rows};
-ghost use Rattle.schemars_generate.specs.Generator.{held_transforms, state};
+ghost use Rattle.schemars_generate.specs.Generator.{held_transforms, state, state_of};
 ghost use Rattle.schemars_generate.specs.Through.{IsUntransformed, IsUntransformedCall};
 
 use crate::document::{answer_of, root_document};
 use crate::error::GenerateError;
 use crate::generate::{SchemaGenerator, last_root};
+use crate::settings::SchemaSettings;
+use schemars_build::work::Work;
 use schemars_documents::template::Ask;
 use schemars_impls::{JsonSchema, register};
 use schemars_schema::Schema;
@@ -42,12 +44,14 @@ impl<O> SchemaGenerator<O> {
         ensures refused { IfErr result (IsTypeRefusal self.old.rows) }
         ensures err { OnErr result (self.new ≡ self.old) }
     {
-        let mut types = self.types.clone()?;
-        let n = join::<T>(alloc, &mut types)?;
-        self.work.extend(types.len())?;
-        let schema = answer_of(alloc, &self.settings, &types, &mut self.work, Ask::Part(n))?;
-        self.types = types;
-        Ok(schema)
+        let len = self.types.len();
+        match subschema_of::<T, O>(alloc, &self.settings, &mut self.types, &mut self.work) {
+            Ok(schema) => Ok(schema),
+            Err(e) => {
+                self.types.truncate(len);
+                Err(e)
+            }
+        }
     }
 }
 
@@ -73,12 +77,14 @@ impl<O: Transform + Drop> SchemaGenerator<O> {
             (IsJoined T.id T.inline T.describes self.old.rows)) }
         ensures err { OnErr result (state self.new ≡ state self.old) }
     {
-        let mut types = self.types.clone()?;
-        let n = join::<T>(alloc, &mut types)?;
-        self.work.extend(types.len())?;
-        let document = root_document(alloc, &mut self.settings, &types, &mut self.work, n)?;
-        self.types = types;
-        Ok(document)
+        let len = self.types.len();
+        match root_of::<T, O>(alloc, &mut self.settings, &mut self.types, &mut self.work) {
+            Ok(document) => Ok(document),
+            Err(e) => {
+                self.types.truncate(len);
+                Err(e)
+            }
+        }
     }
 
     /// Generates the root document of a type as `root_schema_for` does, and consumes the
@@ -103,15 +109,74 @@ impl<O: Transform + Drop> SchemaGenerator<O> {
     }
 }
 
-// The row of a type, which is added to the table if it is not in it.
+// The schema of a type. Its row is added to the table if it is not in it, and stays on an error.
+fn subschema_of<T: JsonSchema, O>(
+    alloc: Global,
+    settings: &SchemaSettings<O>,
+    types: &mut Types,
+    work: &mut Work,
+) -> Result<Schema, GenerateError>
+    requires checked { IsAccepted types.old × IsChecked types.old }
+    requires between { work.old ≡ work_of (state_of settings.now types.old work.old) }
+    ensures begins { take (length types.old) types.new ≡ types.old }
+    ensures subschema { IfOk result (λ d. (n : ℕ)
+        × IsJoined T.id T.inline T.describes types.old types.new n
+        × IsSubschemaFor (state_of settings.now types.new work.old)
+        (state_of settings.now types.new work.new) n d) }
+    ensures own { OnOk result (HasOwnDefinitions (state_of settings.now types.old work.old)
+        → HasOwnDefinitions (state_of settings.now types.new work.new)) }
+    ensures held { OnOk result (AreHeld types.new work.new) }
+    ensures refused { IfErr result (IsTypeRefusal types.old) }
+    ensures err { OnErr result (work.new ≡ work.old) }
+{
+    let n = join::<T>(alloc, types)?;
+    work.extend(types.len())?;
+    let schema = answer_of(alloc, settings, types, work, Ask::Part(n))?;
+    Ok(schema)
+}
+
+// The root document of a type, through the transforms. Its row is added to the table if it is not
+// in it, and stays on an error.
+fn root_of<T: JsonSchema, O: Transform>(
+    alloc: Global,
+    settings: &mut SchemaSettings<O>,
+    types: &mut Types,
+    work: &mut Work,
+) -> Result<Schema, GenerateError>
+    requires checked { IsAccepted types.old × IsChecked types.old }
+    requires between { work.old ≡ work_of (state_of settings.old types.old work.old) }
+    ensures begins { take (length types.old) types.new ≡ types.old }
+    ensures root { IfOk result (λ d. (n : ℕ)
+        × IsJoined T.id T.inline T.describes types.old types.new n
+        × IsRootInTable O.makes settings.old.transforms settings.new.transforms
+        (state_of settings.old types.new work.old) n
+        (IsUntransformedCall (state_of settings.old types.new work.old) n
+        (state_of settings.new types.new work.new)) d) }
+    ensures held { OnOk result (AreHeld types.new work.new) }
+    ensures refused { IfErr result (IsRootOfTypeRefusal O.makes settings.old.transforms
+        settings.new.transforms (state_of settings.old types.old work.old)
+        (IsJoined T.id T.inline T.describes types.old)) }
+    ensures rest { settings.new
+        ≡ record settings.old { transforms = settings.new.transforms } }
+    ensures err { OnErr result (work.new ≡ work.old) }
+{
+    let n = join::<T>(alloc, types)?;
+    work.extend(types.len())?;
+    let document = root_document(alloc, settings, types, work, n)?;
+    Ok(document)
+}
+
+// The row of a type. It is added to the table if it is not in it, and stays on an error.
 fn join<T: JsonSchema>(alloc: Global, types: &mut Types) -> Result<TypeNo, GenerateError>
-    requires checked { IsChecked types.old }
+    requires checked { IsAccepted types.old × IsChecked types.old }
+    ensures begins { take (length types.old) types.new ≡ types.old }
     ensures joined { IfOk result (IsJoined T.id T.inline T.describes types.old types.new) }
     ensures checked { OnOk result (IsChecked types.new) }
     ensures known { IfOk result (λ n. n < length types.new) }
     ensures refused { IfErr result (IsTypeRefusal types.old) }
 {
+    let checked = types.len();
     let n = register::<T>(alloc, types)?;
-    types.check(alloc)?;
+    types.check_from(alloc, checked)?;
     Ok(n)
 }

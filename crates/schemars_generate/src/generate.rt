@@ -195,7 +195,7 @@ impl<O> SchemaGenerator<O> {
         if !types.begins_with(&self.types) {
             return Err(GenerateError::NotAnExtension);
         }
-        types.check(alloc)?;
+        types.check_from(alloc, self.types.len())?;
         self.work.extend(types.len())?;
         self.types = types;
         Ok(())

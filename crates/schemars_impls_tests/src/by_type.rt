@@ -1,7 +1,7 @@
 //! Calls by type.
 use crate::expect::expect;
-use crate::own_types::Node;
-use schemars::{GenerateError, SchemaGenerator, schema_for};
+use crate::own_types::{Author, Node};
+use schemars::{GenerateError, Schema, SchemaGenerator, schema_for};
 use std::alloc::Global;
 use std::test::Fail;
 
@@ -54,6 +54,27 @@ fn expect_bytes(alloc: Global, generator: &mut SchemaGenerator) -> Result<(), Fa
 fn types_join_a_generator(rt: HostRuntime) -> Result<(), Fail> {
     let mut generator = SchemaGenerator::default(rt.alloc());
     expect_bytes(rt.alloc(), &mut generator)
+}
+
+fn is_undefined(answer: Result<Schema, GenerateError>) -> bool {
+    matches!(answer, Err(GenerateError::UndefinedType(_)))
+}
+
+// An author has books, and only the author is registered here: the table has three rows after both
+// calls, and not those of an author.
+fn expect_refused(alloc: Global, generator: &mut SchemaGenerator) -> Result<(), Fail> {
+    expect_bytes(alloc, generator)?;
+    let part = generator.subschema_for::<Author>(alloc);
+    expect(is_undefined(part), "no part")?;
+    let root = generator.root_schema_for::<Author>(alloc);
+    expect(is_undefined(root), "no root document")?;
+    expect_bytes(alloc, generator)
+}
+
+#[test]
+fn a_type_that_is_refused_leaves_no_rows(rt: HostRuntime) -> Result<(), Fail> {
+    let mut generator = SchemaGenerator::default(rt.alloc());
+    expect_refused(rt.alloc(), &mut generator)
 }
 
 fn part_of_nodes(alloc: Global, generator: &mut SchemaGenerator) -> Result<String, GenerateError> {

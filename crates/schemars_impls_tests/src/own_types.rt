@@ -117,7 +117,7 @@ fn a_list_is_inside_itself(rt: HostRuntime) -> Result<(), Fail> {
 }
 
 #[cycle(books)]
-struct Author {
+pub(crate) struct Author {
     name: String,
     books: Vec<Book>,
 }
