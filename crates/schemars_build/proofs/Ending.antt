@@ -20,10 +20,11 @@ use Rattle.schemars_documents.specs.declared.template.Ask as src-ask
 use Rattle.schemars_build.specs.Missing.{missing, IsAskedIn}
 use Rattle.schemars_build.specs.Left.{left_of_own_document, left_of_part}
 use Rattle.schemars_build.specs.Left.{width, places, left_of_filled, left_of_asked}
-use Rattle.schemars_build.specs.Left.{asks_at, sum_below, breadth, document_rank, weight, unanswered_in, pending_around, left_waiting, left_going}
-use Rattle.schemars_build.specs.Left.{left_of_reply, IsWithin}
+use Rattle.schemars_build.specs.Left.{asks_at, sum_below, breadth, document_rank, weight, unanswered_in, pending_around, left_waiting}
+use Rattle.schemars_build.specs.Left.{left_going}
+use Rattle.schemars_build.specs.Left.{left_of_reply, IsWithin, IsLess}
 use Rattle.schemars_build.specs.Making.{Wanted, IsBegun, IsTemplate, IsOpened}
-use Rattle.schemars_build.specs.Making.{IsInMaking, HasAnswered, IsRepliedBy, Reply, answer, document}
+use Rattle.schemars_build.specs.Making.{IsInMaking, HasAnswered, IsRepliedBy, HasReplied, Reply, answer, document}
 use Rattle.schemars_build.specs.declared.build.Document.{Document}
 use Rattle.schemars_build.specs.declared.build.Purpose.{Purpose}
 use Rattle.schemars_build.specs.declared.build.Purpose.TheVariants as purpose
@@ -259,6 +260,17 @@ module _ (p : Plan) where
       let e = waiting_fewer new now fewer (pending_around d.purpose now.pending) ds in
       let f = heavy now now.pending d in
       omega (arith, all, e, f)
+
+  -- and that is the reply
+  pub closing_replies : (outside : Bool) (old : Work) (want : Wanted) (now new : Work) (d : Document) (ds : List Document) (s : Data)
+      → IsInMaking p outside old want now d → missing p.rows p.contract new ≤ missing p.rows p.contract now
+      → IsRepliedBy p outside old want new (answer s) → HasReplied p outside old want ds (IsLess p now d ds new) new ds (Some s)
+  closing_replies outside old want now new d ds s h fewer is = record {
+    reply = answer s;
+    given = (refl, refl);
+    replied = is;
+    is_like = closing_answered outside old want now new d ds s h fewer is;
+  }
 
   -- d is done
   pub closing_less : (outside : Bool) (old : Work) (want : Wanted) (now new : Work) (d : Document) (ds : List Document) (r : Reply) (k : ℕ)

@@ -1,4 +1,4 @@
--- Lists whose first element to read stands last.
+-- Lists whose first element to read is the last.
 use Rattle.std.proofs.Common.{◌≡◌, ◌-◌, ℕ, List, [], ◌∷◌, ◌++◌, length, reverse, ap, sym, ◌∙◌, arith, slice_set, slice_index_or}
 use Rattle.std.proofs.lemmas.List.{reverse-append, reverse-reverse, length-append, length-reverse}
 use Rattle.std.proofs.Math.Seq.{set-append_seam, get_or-append_seam}

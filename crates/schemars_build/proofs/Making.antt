@@ -5,6 +5,7 @@ use Rattle.std.specs.Prelude.{◌&&◌, ◌||◌, if◌then◌else◌, String}
 use Rattle.std.specs.declared.alloc.Global.{Global}
 use Rattle.std.specs.Str.{IsUtf8}
 use Rattle.std.proofs.Common.{get_or, reverse, slice_index_or, ◌-◌}
+use Rattle.std.proofs.lemmas.Option.{none-some}
 use Rattle.std.proofs.lemmas.List.{take_all, length-append, length-map, get_or-map}
 use Rattle.schemars_documents.specs.declared.template.Ask as src-ask
 use Rattle.schemars_build.specs.Missing.{IsAskedIn, row_asked}
@@ -295,8 +296,8 @@ making_undone plan outside old want now d h =
 
 -- ---- a document that is done
 
-module _ (plan : Plan) (outside : Bool) (old : Work) (want : Wanted) (now : Work) (d : Document) (h : IsInMaking plan outside old want now d)
-    (s : Data) (filled : IsFilledIn plan d.in_definition h.start now d.row s) where
+module _ (plan : Plan) (outside : Bool) (old : Work) (want : Wanted) (now : Work) (d : Document)
+    (h : IsInMaking plan outside old want now d) (s : Data) (filled : IsFilledIn plan d.in_definition h.start now d.row s) where
   leads_for : (p : Purpose) → d.purpose ≡ p → ComesFrom plan outside old want h.mid (wanted_for d.row p)
   leads_for p is = subst (λ q. ComesFrom plan outside old want h.mid (wanted_for d.row q)) is h.leads
 
@@ -422,33 +423,21 @@ module _ (plan : Plan) (first : Bool) (start : Work) (all : Wanted) (now : Work)
       let is : P first start all = subst (λ x. P first start x) none.2 (subst (λ w. P first w want) none.1
       (subst (λ b. P b old want) none.0 here)) in
       (is.0, is.2)
-  home outside old want ds (document d) t given waiting replied = absurd (is_none given.0)
-    where
-      is_none : Some t ≡ None → ⊥
-      is_none e = cc
+  home outside old want ds (document d) t given waiting replied = absurd (none-some t (sym given.0))
 
   -- where nothing waits, the answer is what was wanted first
   pub taken_home : (es : List Document) (o : Option Data) (fs : List Document) (s : Data) → IsTaken es o fs (Some s)
       → GoesOn plan first start all now es o → Step plan start now × IsReply plan first start now all s
-  taken_home es None fs s is h = absurd (not_none is.0)
-    where
-      not_none : Some s ≡ None → ⊥
-      not_none e = cc
+  taken_home es None fs s is h = absurd (none-some s (sym is.0))
   taken_home [] (Some t) fs s is h =
       subst (λ v. Step plan start now × IsReply plan first start now all v) (sym (same_answer s t is))
       (home h.outside h.old h.want h.around h.reply t h.given h.waiting h.replied)
-  taken_home (d ∷ ds) (Some t) fs s is h = absurd (not_none is.0)
-    where
-      not_none : Some s ≡ None → ⊥
-      not_none e = cc
+  taken_home (d ∷ ds) (Some t) fs s is h = absurd (none-some s (sym is.0))
 
   going : (outside : Bool) (old : Work) (want : Wanted) (around es : List Document) (r : Reply) → IsGivenBack r around es None
       → AreWaiting plan first start all outside old want around → IsRepliedBy plan outside old want now r
       → AreMaking plan first start all now es
-  going outside old want around es (answer s) given waiting replied = absurd (not_none given.0)
-    where
-      not_none : None ≡ Some s → ⊥
-      not_none e = cc
+  going outside old want around es (answer s) given waiting replied = absurd (none-some s given.0)
   going outside old want around es (document d) given waiting replied = record {
     outside = outside;
     old = old;
@@ -469,20 +458,14 @@ module _ (plan : Plan) (first : Bool) (start : Work) (all : Wanted) (now : Work)
     subst (λ xs. AreWaiting plan first start all outside old want xs) (sym given.1) waiting,
     subst (λ v. IsRepliedBy plan outside old want now (answer v)) (sym (same_answer t u given.0)) replied,
   )
-  waits outside old want around es (document d) t given waiting replied = absurd (not_none given.0)
-    where
-      not_none : Some t ≡ None → ⊥
-      not_none e = cc
+  waits outside old want around es (document d) t given waiting replied = absurd (none-some t (sym given.0))
 
   -- the document that had waited goes on, or the one that was begun
   pub taken_goes : (es : List Document) (o : Option Data) (fs : List Document) → IsTaken es o fs None
       → GoesOn plan first start all now es o → AreMaking plan first start all now fs
   taken_goes es None fs is h = subst (λ xs. AreMaking plan first start all now xs) (sym is.1)
       (going h.outside h.old h.want h.around es h.reply h.given h.waiting h.replied)
-  taken_goes [] (Some t) fs is h = absurd (not_none is)
-    where
-      not_none : None ≡ Some t → ⊥
-      not_none e = cc
+  taken_goes [] (Some t) fs is h = absurd (none-some t is)
   taken_goes (d ∷ ds) (Some t) fs is h =
       let both = waits h.outside h.old h.want h.around (d ∷ ds) h.reply t h.given h.waiting h.replied in
       let at = both.0 in
@@ -501,10 +484,7 @@ module _ (plan : Plan) (first : Bool) (start : Work) (all : Wanted) (now : Work)
   pub taken_left : (es : List Document) (o : Option Data) (fs : List Document) → IsTaken es o fs None
       → GoesOn plan first start all now es o → left_making plan now fs ≡ left_of_turn plan now es o
   taken_left es None fs is h = ap (left_making plan now) is.1
-  taken_left [] (Some t) fs is h = absurd (not_none is)
-    where
-      not_none : None ≡ Some t → ⊥
-      not_none e = cc
+  taken_left [] (Some t) fs is h = absurd (none-some t is)
   taken_left (d ∷ ds) (Some t) fs is h =
       let both = waits h.outside h.old h.want h.around (d ∷ ds) h.reply t h.given h.waiting h.replied in
       ap (left_making plan now) is.2 ∙ answered_same plan now d is.1 t ds both.0.4.less is.3

@@ -24,7 +24,7 @@ pending_at rows i n at = by (is_pending rows n) refl
     by false is = absurd (never_among (nat_eq n) rows i n is at (itself n))
 
 module _ (rows marks : List ℕ) (n : ℕ) (h : AreMarked rows marks) where
-  -- a row that is pending stands at its mark
+  -- a row that is pending is at its mark
   marked_there : is_pending rows n ≡ true → (i : ℕ) × (slice_get marks n ≡ Some i) × (slice_get rows i ≡ Some n)
   marked_there is =
       let found = place_of_any (nat_eq n) rows is in

@@ -1,5 +1,6 @@
 -- A template with the keywords of answers put in: what it asks, and how it is filled.
-use Rattle.std.proofs.Common.{rules, Box, Vec, Global, ◌≡◌, List, [], ◌∷◌, ◌++◌, map, refl, sym, ◌∙◌, append-nil, append_assoc}
+use Rattle.std.proofs.Common.{rules, Box, Vec, Global, ◌≡◌, List, [], ◌∷◌, ◌++◌, map, refl, sym, ap, ◌∙◌}
+use Rattle.std.proofs.Common.{append-nil, append_assoc}
 use Rattle.serde_json.specs.Data.{Data}
 use Rattle.schemars_shapes.specs.Shape.{Flattened}
 use Rattle.schemars_types.specs.declared.contract.Contract.{Contract}
@@ -18,20 +19,24 @@ pub answers_asked : (t : Template) (rest : List Ask) → asks_of (with_answers t
 answers_asked t [] = sym (append-nil (asks_of t))
 answers_asked t (a ∷ rest) = answers_asked (with_keywords t (asked a)) rest ∙ append_assoc (asks_of t) (a ∷ []) rest
 
--- the template may be filled first
-pub answers_filled : (t : Template) (rest : List Ask) (ts : List Data)
-    → filled (with_answers t rest) ts ≡ filled (with_answers (finished (filled t ts)) rest) (left t ts)
-answers_filled t [] ts = refl
-answers_filled t (a ∷ rest) ts =
-    answers_filled (with_keywords t (asked a)) rest ts
-    ∙ sym (answers_filled (with_keywords (finished (filled t ts)) (asked a)) rest (left t ts))
+-- the template may be filled first, whatever is read of the whole
+pub filled_first : {R : Type 0} (G : Template → List Data → R)
+    → ((t : Template) (ts : List Data) → G t ts ≡ G (finished (filled t ts)) (left t ts))
+    → (t : Template) (rest : List Ask) (ts : List Data)
+    → G (with_answers t rest) ts ≡ G (with_answers (finished (filled t ts)) rest) (left t ts)
+filled_first G may t [] ts = may t ts
+filled_first G may t (a ∷ rest) ts =
+    filled_first G may (with_keywords t (asked a)) rest ts
+    ∙ sym (filled_first G may (with_keywords (finished (filled t ts)) (asked a)) rest (left t ts))
 
-pub answers_left : (t : Template) (rest : List Ask) (ts : List Data)
-    → left (with_answers t rest) ts ≡ left (with_answers (finished (filled t ts)) rest) (left t ts)
-answers_left t [] ts = refl
-answers_left t (a ∷ rest) ts =
-    answers_left (with_keywords t (asked a)) rest ts
-    ∙ sym (answers_left (with_keywords (finished (filled t ts)) (asked a)) rest (left t ts))
+-- and the rest is then read of the whole
+pub answers_later : {R : Type 0} (G : Template → List Data → R)
+    → ((t : Template) (ts : List Data) → G t ts ≡ G (finished (filled t ts)) (left t ts))
+    → (t : Template) (rest : List Ask) (whole : Template) → with_answers t rest ≡ whole → (ts us : List Data) (d : Data)
+    → d ≡ filled t ts → us ≡ left t ts → G (with_answers (finished d) rest) us ≡ G whole ts
+answers_later G may t rest whole same ts us d is later =
+    ap (λ e. G (with_answers (finished e) rest) us) is
+    ∙ (ap (G (with_answers (finished (filled t ts)) rest)) later ∙ (sym (filled_first G may t rest ts) ∙ ap (λ u. G u ts) same))
 
 pub flattened_answers : (contract : Contract) (ps : List Flattened) (t : Template)
     → with_answers t (map (members_asked contract) ps) ≡ with_flattened contract ps t

@@ -1,4 +1,5 @@
--- In a plain table only structs that have to be there are flattened: no row has another meaning, and the table is plain under each contract.
+-- In a plain table only structs that must be present are flattened: no row has another meaning, and the table is plain under each
+-- contract.
 use Rattle.std.proofs.Common.{◌≡◌, ℕ, zero, suc, List, [], ◌∷◌, ◌++◌, map, Option, Some, None, Bool, false, refl, sym, ap, ◌∙◌}
 use Rattle.std.proofs.Common.{subst, true≢false, length}
 use Rattle.std.proofs.Math.Path.{fun_ext}
@@ -18,8 +19,8 @@ use Rattle.schemars_types.specs.Effective.{without_options_within, without_optio
 use Rattle.schemars_types.specs.Effective.{fields_within, row_fields, flattened_enums, shape_enums, enums_within, part_enums, enum_at}
 use Rattle.schemars_types.specs.Effective.{spread_fields, spread_payload, spread_variant, spread_in}
 use Rattle.schemars_types.specs.declared.contract.Contract.{Contract}
-use Rattle.schemars_types.specs.Meaning.{Choice, is_required, has_payload, has_variant, has_internal, has_adjacent, has_shape, belongs_within}
-use Rattle.schemars_types.specs.Meaning.{choices_within, belongs}
+use Rattle.schemars_types.specs.Meaning.{Choice, is_required, has_payload, has_variant, has_internal, has_adjacent, has_shape}
+use Rattle.schemars_types.specs.Meaning.{belongs_within, choices_within, belongs}
 use Rattle.schemars_types.specs.OpenStructs.{joined_fields, joined_payload, joined_variant, joined_shape, struct_fields_within, joined_in}
 use Rattle.schemars_types.specs.OpenStructs.{no_choices, belongs_plainly_within, belongs_plainly}
 use Rattle.schemars_documents.specs.PlainTable.{IsTagged, AreTagged, IsPlainShape, IsOpenStruct, IsPlainPart}

@@ -15,7 +15,7 @@ use Rattle.schemars_documents.specs.declared.template.SchemaTemplate.{SchemaTemp
 not_none : (n : ℕ) → (suc n == 0) ≡ false
 not_none n = grind (arith, nat_tests)
 
--- what stands under `enum`, whatever the items are
+-- the units of an enum, whatever the items are
 abbrev pub units_of : Items → spec.Template
 units_of names = object_with (typed_template (codes "string") ∷ said (codes "enum") (array names) ∷ [])
 

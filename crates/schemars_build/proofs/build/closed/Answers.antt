@@ -8,7 +8,7 @@ use Rattle.schemars_types.specs.Edges.{is_inline_at}
 use Rattle.schemars_documents.specs.Template.{part}
 use Rattle.schemars_build.specs.Work.{reference_to}
 use Rattle.schemars_build.specs.Plans.{plan_of}
-use Rattle.schemars_build.specs.Making.{asked, IsBegun, answer}
+use Rattle.schemars_build.specs.Making.{asked, IsBegun}
 use Rattle.schemars_build.specs.declared.build.Purpose.TheVariants as purpose
 use Rattle.std.proofs.lemmas.Str.{IsUtf8-string_bytes}
 use Rattle.std.proofs.lemmas.Result.{IfOk-weaker}
@@ -19,7 +19,7 @@ use Rattle.serde_json.proofs.Views.{get_member-put}
 use Rattle.schemars_build.specs.Missing.{missing}
 use Rattle.schemars_build.specs.Left.{document_rank, left_of_part}
 use Rattle.schemars_build.proofs.Descending.{content_to_part}
-use Rattle.schemars_build.proofs.Ending.{closing_answered, closing_less, left_fewer, finished_fewer, replied_fewer}
+use Rattle.schemars_build.proofs.Ending.{closing_replies, closing_less, left_fewer, finished_fewer, replied_fewer}
 use Rattle.schemars_build.proofs.build.closed.Goals as goal
 
 pub returns-in-Own-clause-replies : goal.returns-in-Own-clause-replies
@@ -30,14 +30,8 @@ returns-in-Own-clause-replies c = λ outside old want h.
     let d = c.args.document in
     let s = c.in_ok-schema.schema in
     let filled = filled_made plan outside old want now d h c.requires.all_answered s c.requires.checked c.in_ok-schema.ensures in
-    let replied = closes_own plan outside old want now d h s filled c.in-Own.entered new c.in-Own.is c.leave.ensures in
-    record {
-      reply = answer s;
-      given = (refl, refl);
-      replied = replied;
-      is_like = closing_answered plan outside old want now new d (reverse c.args.making.now.items) s h
-          (left_fewer plan now new _ c.leave.ensures) replied;
-    }
+    closing_replies plan outside old want now new d (reverse c.args.making.now.items) s h (left_fewer plan now new _ c.leave.ensures)
+    (closes_own plan outside old want now d h s filled c.in-Own.entered new c.in-Own.is c.leave.ensures)
 
 pub returns-in-Definition-clause-replies : goal.returns-in-Definition-clause-replies
 returns-in-Definition-clause-replies c = λ outside old want h.
@@ -64,12 +58,7 @@ returns-in-Definition-clause-replies c = λ outside old want h.
     let x = left_fewer plan now mid _ c.leave-in-Definition.ensures in
     let y = finished_fewer plan mid k s (boolean false) here in
     let z = ap (missing plan.rows plan.contract) finished in
-    record {
-      reply = answer t;
-      given = (refl, refl);
-      replied = replied;
-      is_like = closing_answered plan outside old want now new d (reverse c.args.making.now.items) t h (omega (arith, x, y, z)) replied;
-    }
+    closing_replies plan outside old want now new d (reverse c.args.making.now.items) t h (omega (arith, x, y, z)) replied
 
 pub returns-in-Members-clause-replies : goal.returns-in-Members-clause-replies
 returns-in-Members-clause-replies c = λ outside old want h.
@@ -79,14 +68,9 @@ returns-in-Members-clause-replies c = λ outside old want h.
     let s = c.in_ok-schema.schema in
     let t = c.as_flattened.new.schema in
     let filled = filled_made plan outside old want now d h c.requires.all_answered s c.requires.checked c.in_ok-schema.ensures in
-    let replied = closes_members plan outside old want now d h s filled c.in-Members.is_optional t c.in-Members.is
-    c.in_ok-as_flattened-in-Members.ensures in
-    record {
-      reply = answer t;
-      given = (refl, refl);
-      replied = replied;
-      is_like = closing_answered plan outside old want now now d (reverse c.args.making.now.items) t h (omega arith) replied;
-    }
+    closing_replies plan outside old want now now d (reverse c.args.making.now.items) t h (omega arith)
+    (closes_members plan outside old want now d h s filled c.in-Members.is_optional t c.in-Members.is
+    c.in_ok-as_flattened-in-Members.ensures)
 
 pub returns-then-not-must_be_in_place-clause-replies : goal.returns-then-not-must_be_in_place-clause-replies
 returns-then-not-must_be_in_place-clause-replies c =
@@ -121,12 +105,6 @@ returns-clause-replies c = λ outside old want h.
     let s = c.in_ok-schema.schema in
     let t = c.open_inside.new.schema in
     let filled = filled_made plan outside old want now d h c.requires.all_answered s c.requires.checked c.in_ok-schema.ensures in
-    let replied = closes_content plan outside old want now d h s filled
-    (is_inline_at plan.rows d.row || plan.inlines) t c.in-Content.is refl
-    (search rules) (search rules) in
-    record {
-      reply = answer t;
-      given = (refl, refl);
-      replied = replied;
-      is_like = closing_answered plan outside old want now now d (reverse c.args.making.now.items) t h (omega arith) replied;
-    }
+    closing_replies plan outside old want now now d (reverse c.args.making.now.items) t h (omega arith)
+    (closes_content plan outside old want now d h s filled (is_inline_at plan.rows d.row || plan.inlines) t c.in-Content.is refl
+    (search rules) (search rules))

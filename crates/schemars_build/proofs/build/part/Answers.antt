@@ -14,7 +14,7 @@ use Rattle.schemars_build.specs.Parts.{IsPart, IsMade}
 use Rattle.schemars_build.specs.Plans.{plan_of}
 use Rattle.schemars_build.specs.Reached.{AreReached}
 use Rattle.schemars_build.specs.Making.{own, defined, asked}
-use Rattle.schemars_build.specs.Making.{IsRepliedBy, HasReplied, answer, document}
+use Rattle.schemars_build.specs.Making.{ComesFrom, IsRepliedBy, HasReplied, answer, document}
 use Rattle.schemars_build.specs.declared.build.Purpose.TheVariants as purpose
 use Rattle.std.specs.Option.{option_eq}
 use Rattle.std.proofs.Common.{reverse}
@@ -28,6 +28,7 @@ use Rattle.schemars_build.proofs.Making.{leads_in_place, leads_defined, opened_r
 use Rattle.schemars_build.specs.Left.{left_of_own_document, left_of_part, IsWithin}
 use Rattle.schemars_build.proofs.Descending.{to_own}
 use Rattle.schemars_build.proofs.Ending.{opened_within, within_more, definition_within}
+use Rattle.schemars_build.proofs.build.part.Goals.{In_ok-begin_new, After-enter}
 use Rattle.schemars_build.proofs.build.part.Goals as goal
 
 other_row : (o : Option ℕ) (n : ℕ) → false ≡ option_eq eqb o (Some n) → o ≢ Some n
@@ -104,6 +105,31 @@ returns-then-eq-clause-replies c =
       is_like = tt;
     }
 
+-- the row is asked by its name
+by_name : (c : goal.In_ok-begin_new) → ComesFrom (plan_of c.args.plan.now) c.args.in_definition c.args.work.now (asked (part c.args.n))
+    c.name_for.new.self (defined (string_bytes c.in_ok-name.name))
+by_name c =
+    let plan = plan_of c.args.plan.now in
+    let old = c.args.work.now in
+    let n = c.args.n in
+    let placed : is_in_place plan.rows plan.inlines old.pending n ≡ false = sym c.is_in_place.ensures ∙ c.if-is_in_place.false in
+    leads_defined plan c.args.in_definition old c.name_for.new.self n (string_bytes c.in_ok-name.name) c.in_ok-name.ensures.rest
+    c.in_ok-name.ensures.given c.in_ok-name.ensures.no_other c.in_ok-name.ensures.named placed
+    (not_inline (is_inline_at plan.rows n) _ placed) (other_row plan.root n c.if-eq.ensures) c.requires.known c.in_ok-name.ensures.undone
+
+-- the name had no definition, and has begun one
+is_begun : (c : goal.After-enter) → let k = string_bytes c.in_ok-name.name in record {
+  none : get_member k c.name_for.new.self.definitions ≡ None;
+  begun : c.begin_new.new.self ≡ begun_with c.name_for.new.self k;
+}
+is_begun c =
+    let mid = c.name_for.new.self in
+    record {
+      none = was_missing _ (get_member (string_bytes c.in_ok-name.name) mid.definitions) (c.in_ok-begin_new.ensures.is_new
+          ∙ ap (λ q. not (is_some (get_member q mid.definitions))) c.as_str.ensures.value) c.if-not-branch.false;
+      begun = c.in_ok-begin_new.ensures.begun c.if-not-branch.false ∙ ap (begun_with mid) c.as_str.ensures.value;
+    }
+
 pub returns-then-not-branch-clause-replies : goal.returns-then-not-branch-clause-replies
 returns-then-not-branch-clause-replies c =
     let plan = plan_of c.args.plan.now in
@@ -112,11 +138,9 @@ returns-then-not-branch-clause-replies c =
     let n = c.args.n in
     let mid = c.name_for.new.self in
     let k = string_bytes c.in_ok-name.name in
-    let placed : is_in_place plan.rows plan.inlines old.pending n ≡ false = sym c.is_in_place.ensures ∙ c.if-is_in_place.false in
-    let apart : is_inline_at plan.rows n ≡ false = not_inline (is_inline_at plan.rows n) _ placed in
-    let is_new : c.in_ok-begin_new.field-0 ≡ not (is_some (get_member k mid.definitions)) =
-    c.in_ok-begin_new.ensures.is_new ∙ ap (λ q. not (is_some (get_member q mid.definitions))) c.as_str.ensures.value in
-    let found = was_there _ (get_member k mid.definitions) is_new c.if-not-branch.true in
+    let named = (goal.at.returns-then-not-branch-clause-replies c).In_ok-begin_new in
+    let found = was_there _ (get_member k mid.definitions) (c.in_ok-begin_new.ensures.is_new
+    ∙ ap (λ q. not (is_some (get_member q mid.definitions))) c.as_str.ensures.value) c.if-not-branch.true in
     let made : IsMade plan mid mid k =
     record { defined = key-found k mid.definitions found; reached = λ plain. nothing_added plan false mid _ } in
     let same : c.in_ok-reference.reference ≡ reference (reference_to plan.path k) =
@@ -126,34 +150,22 @@ returns-then-not-branch-clause-replies c =
       given = (refl, refl);
       replied = subst (λ w. IsRepliedBy plan inside old (asked (part n)) w (answer c.in_ok-reference.reference))
           (sym (c.in_ok-begin_new.ensures.same c.if-not-branch.true))
-          (replied_from plan inside old (asked (part n)) mid (defined k) mid (answer c.in_ok-reference.reference)
-          (leads_defined plan inside old mid n k c.in_ok-name.ensures.rest c.in_ok-name.ensures.given c.in_ok-name.ensures.no_other
-          c.in_ok-name.ensures.named placed apart (other_row plan.root n c.if-eq.ensures) c.requires.known c.in_ok-name.ensures.undone)
+          (replied_from plan inside old (asked (part n)) mid (defined k) mid (answer c.in_ok-reference.reference) (by_name named)
           (step_refl plan mid, refl, (made, same)));
       is_like = tt;
     }
 
 pub returns-in_err-entered-clause-undone : goal.returns-in_err-entered-clause-undone
 returns-in_err-entered-clause-undone c =
-    let mid = c.name_for.new.self in
-    let k = string_bytes c.in_ok-name.name in
-    let is_new : c.in_ok-begin_new.field-0 ≡ not (is_some (get_member k mid.definitions)) =
-    c.in_ok-begin_new.ensures.is_new ∙ ap (λ q. not (is_some (get_member q mid.definitions))) c.as_str.ensures.value in
-    let none = was_missing _ (get_member k mid.definitions) is_new c.if-not-branch.false in
-    let begun : c.begin_new.new.self ≡ begun_with mid k =
-    c.in_ok-begin_new.ensures.begun c.if-not-branch.false ∙ ap (begun_with mid) c.as_str.ensures.value in
-    ap undone c.in_err-entered.ensures.err ∙ (ap undone begun ∙ (undone-begun mid k none ∙ c.in_ok-name.ensures.undone))
+    let new = is_begun (goal.at.returns-in_err-entered-clause-undone c).After-enter in
+    ap undone c.in_err-entered.ensures.err ∙ (ap undone new.begun
+    ∙ (undone-begun c.name_for.new.self (string_bytes c.in_ok-name.name) new.none ∙ c.in_ok-name.ensures.undone))
 
 pub returns-clause-undone : goal.returns-clause-undone
 returns-clause-undone c =
-    let mid = c.name_for.new.self in
-    let k = string_bytes c.in_ok-name.name in
-    let is_new : c.in_ok-begin_new.field-0 ≡ not (is_some (get_member k mid.definitions)) =
-    c.in_ok-begin_new.ensures.is_new ∙ ap (λ q. not (is_some (get_member q mid.definitions))) c.as_str.ensures.value in
-    let none = was_missing _ (get_member k mid.definitions) is_new c.if-not-branch.false in
-    let begun : c.begin_new.new.self ≡ begun_with mid k =
-    c.in_ok-begin_new.ensures.begun c.if-not-branch.false ∙ ap (begun_with mid) c.as_str.ensures.value in
-    ap undone c.in_ok-entered.ensures.ok ∙ (ap undone begun ∙ (undone-begun mid k none ∙ c.in_ok-name.ensures.undone))
+    let new = is_begun (goal.at.returns-clause-undone c).After-enter in
+    ap undone c.in_ok-entered.ensures.ok ∙ (ap undone new.begun
+    ∙ (undone-begun c.name_for.new.self (string_bytes c.in_ok-name.name) new.none ∙ c.in_ok-name.ensures.undone))
 
 pub returns-clause-replies : goal.returns-clause-replies
 returns-clause-replies c =
@@ -163,32 +175,25 @@ returns-clause-replies c =
     let n = c.args.n in
     let mid = c.name_for.new.self in
     let k = string_bytes c.in_ok-name.name in
-    let placed : is_in_place plan.rows plan.inlines old.pending n ≡ false = sym c.is_in_place.ensures ∙ c.if-is_in_place.false in
-    let apart : is_inline_at plan.rows n ≡ false = not_inline (is_inline_at plan.rows n) _ placed in
-    let is_new : c.in_ok-begin_new.field-0 ≡ not (is_some (get_member k mid.definitions)) =
-    c.in_ok-begin_new.ensures.is_new ∙ ap (λ q. not (is_some (get_member q mid.definitions))) c.as_str.ensures.value in
-    let none = was_missing _ (get_member k mid.definitions) is_new c.if-not-branch.false in
-    let begun : c.begin_new.new.self ≡ begun_with mid k =
-    c.in_ok-begin_new.ensures.begun c.if-not-branch.false ∙ ap (begun_with mid) c.as_str.ensures.value in
+    let at = goal.at.returns-clause-replies c in
+    let named = is_begun at.After-enter in
     let entered_new : c.in_ok-entered.entered ≡ plan.inlines && not (is_pending mid.pending n) =
-    c.in_ok-entered.ensures.is_new ∙ ap (λ w. plan.inlines && not (is_pending w.pending n)) begun in
+    c.in_ok-entered.ensures.is_new ∙ ap (λ w. plan.inlines && not (is_pending w.pending n)) named.begun in
     let while_made : Work → Work = λ w. record w { pending = pending_in plan.inlines w.pending n } in
     let entered : c.enter.new.self ≡ record (begun_with mid k) { pending = pending_in plan.inlines mid.pending n } =
-    c.in_ok-entered.ensures.ok ∙ ap while_made begun in
+    c.in_ok-entered.ensures.ok ∙ ap while_made named.begun in
     let step : Step plan old mid = subst (λ w. Step plan old w) (sym c.in_ok-name.ensures.rest)
     (step_names plan old mid.names c.in_ok-name.ensures.given) in
     let p = purpose.Definition c.in_ok-name.name c.in_ok-entered.entered in
     let new = c.enter.new.self in
     let ds = reverse c.args.making.now.items in
     let es = reverse c.opened.new.making.items in
-    let leads = leads_defined plan inside old mid n k c.in_ok-name.ensures.rest c.in_ok-name.ensures.given c.in_ok-name.ensures.no_other
-    c.in_ok-name.ensures.named placed apart (other_row plan.root n c.if-eq.ensures) c.requires.known c.in_ok-name.ensures.undone in
     IfOk-weaker c.opened.result _ (HasReplied plan inside old (asked (part n)) ds (IsWithin plan (left_of_part plan old n) new) new es)
     (λ o x. record {
       reply = document x.0;
       given = x.2;
-      replied = opened_reply plan inside true old (asked (part n)) mid new n p x.0 x.1 leads
-          (refl, entered_new, none, c.in_ok-name.ensures.named, entered);
+      replied = opened_reply plan inside true old (asked (part n)) mid new n p x.0 x.1 (by_name at.In_ok-begin_new)
+          (refl, entered_new, named.none, c.in_ok-name.ensures.named, entered);
       is_like = opened_within plan true n p x.0 new (left_of_part plan old n) x.1
-          (definition_within plan old mid new n k c.requires.checked c.requires.known step c.in_ok-name.ensures.named none entered);
+          (definition_within plan old mid new n k c.requires.checked c.requires.known step c.in_ok-name.ensures.named named.none entered);
     }) c.opened.ensures

@@ -7,25 +7,22 @@ use Rattle.serde_json.specs.declared.value.Value.{Value}
 use Rattle.schemars_schema.specs.SchemaData.{members_in}
 use Rattle.schemars_schema.specs.Edits.{replaced}
 use Rattle.schemars_build.proofs.Members.{replaced-absent, get-object}
+use Rattle.schemars_build.proofs.work.set_member.Goals.{In-Some}
 use Rattle.schemars_build.proofs.work.set_member.Goals as goal
 
-pub returns-in-Some-clause-members : goal.returns-in-Some-clause-members
-returns-in-Some-clause-members c =
+is_now : (c : goal.In-Some) → c.get_mut.follows.lender c.args.value
+    ≡ object (replaced c.args.key.now (view c.args.value) (members_in c.args.object.now))
+is_now c =
     let now = c.get_mut.follows.lender c.args.value in
     let P : Option (MutBor Value) → Type 0 = λ r. OnSome r (now ≡ object
     (replaced c.args.key.now (view c.args.value) (members_in c.args.object.now))) in
-    let e : now ≡ object (replaced c.args.key.now (view c.args.value) (members_in c.args.object.now)) =
-    subst P c.in-Some.is (c.get_mut.follows.holds c.args.value) in
-    ap members_in e
+    subst P c.in-Some.is (c.get_mut.follows.holds c.args.value)
+
+pub returns-in-Some-clause-members : goal.returns-in-Some-clause-members
+returns-in-Some-clause-members c = ap members_in (is_now (goal.at.returns-in-Some-clause-members c).In-Some)
 
 pub returns-in-Some-clause-object : goal.returns-in-Some-clause-object
-returns-in-Some-clause-object c =
-    let now = c.get_mut.follows.lender c.args.value in
-    let P : Option (MutBor Value) → Type 0 = λ r. OnSome r (now ≡ object
-    (replaced c.args.key.now (view c.args.value) (members_in c.args.object.now))) in
-    let e : now ≡ object (replaced c.args.key.now (view c.args.value) (members_in c.args.object.now)) =
-    subst P c.in-Some.is (c.get_mut.follows.holds c.args.value) in
-    ap (λ d. is_some (as_object d)) e
+returns-in-Some-clause-object c = ap (λ d. is_some (as_object d)) (is_now (goal.at.returns-in-Some-clause-object c).In-Some)
 
 pub returns-in_default-clause-members : goal.returns-in_default-clause-members
 returns-in_default-clause-members c =

@@ -1,8 +1,9 @@
-use Rattle.std.proofs.Common.{◌≡◌, ◌∙◌, ◌++◌, ap, sym, map, append_assoc, append-nil}
-use Rattle.std.proofs.lemmas.List.{map-append, drop_all}
+use Rattle.std.proofs.Common.{◌≡◌, ◌∙◌, ◌++◌, refl, ap, sym, map, append_assoc}
+use Rattle.std.proofs.lemmas.List.{map-append}
 use Rattle.schemars_documents.specs.Template.{asks_of}
 use Rattle.schemars_documents.specs.OfShape.{object_with}
 use Rattle.schemars_documents.specs.View.{ask_of, template_view, value_view, keyword_view, property_view}
+use Rattle.schemars_documents.proofs.Items.{no_more}
 use Rattle.schemars_documents.proofs.Answering.{seen_members, answers_asked}
 use Rattle.schemars_documents.proofs.Templates.{seen_object, seen_named}
 use Rattle.schemars_documents.proofs.template.+add_asks.Goals as goal
@@ -10,29 +11,19 @@ use Rattle.schemars_documents.proofs.template.+add_asks.Goals as goal
 -- No template is left, so nothing more is asked.
 pub add_asks-returns-after-loop-keyword : goal.add_asks-returns-after-loop-keyword
 add_asks-returns-after-loop-keyword t c =
-    let old = map ask_of c.args.asks.now.items in
-    let asks = map ask_of c.loop-keyword.asks.items in
-    let all = c.deref-keyword-items.result.now in
-    let ended = drop_all c.loop-keyword.keyword-index all c.loop-keyword-test.false in
-    sym (append-nil asks)
-    ∙ (ap (λ es. asks ++ asks_of (object_with (map keyword_view es))) (sym ended)
-    ∙ (c.loop-keyword.invariant
-    ∙ ap (λ u. old ++ asks_of u)
+    no_more (λ es. asks_of (object_with (map keyword_view es))) c.deref-keyword-items.result.now c.loop-keyword.keyword-index
+    (map ask_of c.loop-keyword.asks.items) _ c.loop-keyword-test.false refl c.loop-keyword.invariant
+    ∙ ap (λ u. map ask_of c.args.asks.now.items ++ asks_of u)
     (ap (λ es. object_with (map keyword_view es)) c.deref-keyword-items.ensures.value
-    ∙ sym (ap template_view c.in-Object.is ∙ seen_object c.in-Object.keywords))))
+    ∙ sym (ap template_view c.in-Object.is ∙ seen_object c.in-Object.keywords))
 
 pub add_value_asks-returns-after-loop-named : goal.add_value_asks-returns-after-loop-named
 add_value_asks-returns-after-loop-named t c =
-    let old = map ask_of c.args.asks.now.items in
-    let asks = map ask_of c.loop-named.asks.items in
-    let all = c.deref-named-items.result.now in
-    let ended = drop_all c.loop-named.named-index all c.loop-named-test.false in
-    sym (append-nil asks)
-    ∙ (ap (λ es. asks ++ asks_of (object_with (map property_view es))) (sym ended)
-    ∙ (c.loop-named.invariant
-    ∙ ap (λ u. old ++ asks_of u)
+    no_more (λ es. asks_of (object_with (map property_view es))) c.deref-named-items.result.now c.loop-named.named-index
+    (map ask_of c.loop-named.asks.items) _ c.loop-named-test.false refl c.loop-named.invariant
+    ∙ ap (λ u. map ask_of c.args.asks.now.items ++ asks_of u)
     (ap (λ es. object_with (map property_view es)) c.deref-named-items.ensures.value
-    ∙ sym (ap value_view c.in-Named.is ∙ seen_named c.in-Named.schemas))))
+    ∙ sym (ap value_view c.in-Named.is ∙ seen_named c.in-Named.schemas))
 
 pub add_asks-returns-in_ok-extend_from_slice-in-WithMembers : goal.add_asks-returns-in_ok-extend_from_slice-in-WithMembers
 add_asks-returns-in_ok-extend_from_slice-in-WithMembers t c =

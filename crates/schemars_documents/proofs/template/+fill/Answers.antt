@@ -1,11 +1,11 @@
-use Rattle.std.proofs.Common.{◌≡◌, ◌≤◌, ℕ, [], map, max, ap, sym, ◌∙◌, subst, arith, rules, Bor}
+use Rattle.std.proofs.Common.{◌≡◌, ◌≤◌, ℕ, [], map, max, refl, ap, sym, ◌∙◌, subst, arith, rules, Bor}
 use denote.Param.Weighed.{most}
 use Rattle.serde_json.specs.Data.{object}
 use Rattle.serde_json.specs.View.{members_view}
 use Rattle.serde_json.proofs.Views.{view-Object}
-use Rattle.schemars_documents.specs.Template.{finished, filled, left}
+use Rattle.schemars_documents.specs.Template.{filled, left}
 use Rattle.schemars_documents.specs.View.{ask_of, template_view, property_view, with_answers}
-use Rattle.schemars_documents.proofs.Answering.{answers_filled, answers_left}
+use Rattle.schemars_documents.proofs.Answering.{answers_later}
 use Rattle.schemars_schema.specs.Json.{Text}
 use Rattle.schemars_documents.specs.declared.template.SchemaTemplate.{SchemaTemplate, size-SchemaTemplate}
 use Rattle.schemars_documents.specs.declared.template.ValueTemplate.{ValueTemplate, size-ValueTemplate}
@@ -49,26 +49,18 @@ fill_named-returns-clause-value t c =
 -- The inner template is filled first, and then the members join.
 pub fill_with_members-returns-clause-value : goal.fill_with_members-returns-clause-value
 fill_with_members-returns-clause-value t c =
-    let ts = c.args.parts.now.items in
-    let own = template_view c.args.inner.value in
-    let asks = map ask_of c.args.members.items in
-    let inside = ap template_view c.into_inner.ensures in
-    let value = c.in_ok-schema.ensures.value ∙ ap (λ u. filled u ts) inside in
-    let rest = c.in_ok-schema.ensures.left ∙ ap (λ u. left u ts) inside in
+    let asks = map ask_of c.deref.result.now in
     c.in_ok-add_members.ensures.value
-    ∙ (ap (λ d. filled (with_answers (finished d) (map ask_of c.deref.result.now)) c.fill_schema.new.parts.items) value
-    ∙ (ap (λ ms. filled (with_answers (finished (filled own ts)) (map ask_of ms)) c.fill_schema.new.parts.items) c.deref.ensures.value
-    ∙ (ap (filled (with_answers (finished (filled own ts)) asks)) rest ∙ sym (answers_filled own asks ts))))
+    ∙ answers_later filled (λ u us. refl) _ asks _
+    (ap (λ b. with_answers (template_view b) asks) c.into_inner.ensures
+    ∙ ap (λ ms. with_answers (template_view c.args.inner.value) (map ask_of ms)) c.deref.ensures.value)
+    c.args.parts.now.items c.fill_schema.new.parts.items _ c.in_ok-schema.ensures.value c.in_ok-schema.ensures.left
 
 pub fill_with_members-returns-clause-left : goal.fill_with_members-returns-clause-left
 fill_with_members-returns-clause-left t c =
-    let ts = c.args.parts.now.items in
-    let own = template_view c.args.inner.value in
-    let asks = map ask_of c.args.members.items in
-    let inside = ap template_view c.into_inner.ensures in
-    let value = c.in_ok-schema.ensures.value ∙ ap (λ u. filled u ts) inside in
-    let rest = c.in_ok-schema.ensures.left ∙ ap (λ u. left u ts) inside in
+    let asks = map ask_of c.deref.result.now in
     c.in_ok-add_members.ensures.left
-    ∙ (ap (λ d. left (with_answers (finished d) (map ask_of c.deref.result.now)) c.fill_schema.new.parts.items) value
-    ∙ (ap (λ ms. left (with_answers (finished (filled own ts)) (map ask_of ms)) c.fill_schema.new.parts.items) c.deref.ensures.value
-    ∙ (ap (left (with_answers (finished (filled own ts)) asks)) rest ∙ sym (answers_left own asks ts))))
+    ∙ answers_later left (λ u us. refl) _ asks _
+    (ap (λ b. with_answers (template_view b) asks) c.into_inner.ensures
+    ∙ ap (λ ms. with_answers (template_view c.args.inner.value) (map ask_of ms)) c.deref.ensures.value)
+    c.args.parts.now.items c.fill_schema.new.parts.items _ c.in_ok-schema.ensures.value c.in_ok-schema.ensures.left

@@ -23,7 +23,8 @@ pub invariant_of-self-in_err-reserve : goal.invariant_of-self-in_err-reserve
 invariant_of-self-in_err-reserve c = record {
   same = ap length c.in_err-reserve.ensures.items ∙ c.self.invariant.same;
   placed = placed_same c.self.inside.owners.items c.reserve.new.self.items (λ m d. place_of_owner m d c.self.inside.places.items)
-      (λ m d. place_of_owner m d c.extend.new.places.items) c.in_err-reserve.ensures.items c.in_ok-extend.ensures.same c.self.invariant.placed;
+      (λ m d. place_of_owner m d c.extend.new.places.items) c.in_err-reserve.ensures.items c.in_ok-extend.ensures.same
+      c.self.invariant.placed;
   used = λ base count found j less. subst (λ (os : List Owner). is_used (candidate base j) (naming_of os c.self.inside.given.keys) ≡ true)
       (sym c.in_err-reserve.ensures.items) (c.self.invariant.used base count found j less);
 }

@@ -13,7 +13,7 @@ returns-in_default c =
     sym (not_marked c.self.inside.rows.items marks c.args.n c.self.invariant none)
     ∙ ap (λ (ns : List ℕ). is_pending ns c.args.n) c.self.view_is
 
--- what stands at a place of a list
+-- the element at a place of a list
 at_place : (xs ys : List ℕ) (i n : ℕ) → ys ≡ xs → i < length ys → n ≡ get_or ys i n → slice_get xs i ≡ Some n
 at_place xs ys i n same less is = ap (λ (ns : List ℕ). slice_get ns i) (sym same) ∙ slice_get_read ys (length ys) i n refl less is
 

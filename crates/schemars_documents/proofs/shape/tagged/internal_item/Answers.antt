@@ -1,4 +1,4 @@
--- The variant's notes stand beside its tag and its content.
+-- The variant's notes are beside its tag and its content.
 use Rattle.std.proofs.Common.{◌≡◌, ap, ◌∙◌, rules, Bool, Bor, Box, BTreeMap, String, Global}
 use Rattle.serde_json.specs.View.{members_view}
 use Rattle.serde_json.specs.declared.value.Value.{Value}
