@@ -1,4 +1,4 @@
--- The transforms of the drafts make the same of members that differ in what stands under one key, but for what they make of that.
+-- The transforms of the drafts make the same of members that differ in the value of one key, but for what they make of that.
 use Rattle.std.proofs.Common.{◌≡◌, ◌≢◌, ◌⊎◌, inl, inr, suc, Option, Some, None, Bool, true, false, Ordering, Less, Equal, Greater}
 use Rattle.std.proofs.Common.{nat_cmp, codes, refl, sym, ap, ◌∙◌, subst}
 use Rattle.std.specs.Prelude.{bytes_eq, if◌then◌else◌, ◌==◌}
@@ -234,7 +234,7 @@ module _ (key : Text) where
             (differ-get (codes "items") m_rest n_rest (read-apart (codes "items") refl) outside)
             (old q (get_member (codes "items") m_rest))
 
--- what is made of two such documents, where it is told of their members
+-- what is made of two such documents, where it is known of their members
 pub differ-then : (key : Text) (T : Data → Data) (P : Members → Type 0)
     → ((ms ns : Members) → P ns → DifferAt key ms ns → DifferIn key (T (object ms)) (T (object ns))) → (d e : Data) → DifferIn key d e
     → ((ns : Members) → e ≡ object ns → P ns) → DifferIn key (T d) (T e)

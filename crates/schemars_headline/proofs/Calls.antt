@@ -180,6 +180,15 @@ reference_of_part s n d (inl (r, (inl h, e), same)) apart = cc
 reference_of_part s n d (inl (r, (inr h, e), same)) apart = (h.0, h.1, h.2, same ∙ ap reference h.3)
 reference_of_part s n d (inr h) apart = absurd (true≢false (sym h.1 ∙ apart))
 
+-- what a call leaves of its work
+abbrev left_by : State → Work → Work
+left_by s w = work_of (record s { names = w.names; definitions = w.definitions })
+
+refers_left : (s : State) (w : Work) (j : ℕ) (r : Text) → Refers (state_plan s None) false w j r
+    → Refers (state_plan s None) false (left_by s w) j r
+refers_left s w j r (inl h) = cc
+refers_left s w j r (inr h) = inr h
+
 -- what the running call has marked doesn't matter without a root
 pub part_kept : (s new : State) (w : Work) (n : ℕ) (d : Data) → new ≡ record s { names = w.names; definitions = w.definitions }
     → w.pending ≡ [] → IsSubschema (state_plan s None) false w n d → IsSubschema (state_plan new None) false (work_of new) n d
@@ -188,20 +197,15 @@ part_kept s new w n d same none h =
     let P : State → Type 0 = λ x. IsSubschema (state_plan x None) false (work_of x) n d in
     let Q : List ℕ → Type 0 = λ p. IsPlaced plan.rows plan.inlines p (Refers plan false w)
     (IsDocument (basis_of_plan plan) plan.inlines (Refers plan false w) p) n d in
-    subst P (sym same) (placed_map plan.rows plan.inlines [] (Refers plan false w) (Refers plan false v)
-    (IsDocument (basis_of_plan plan) plan.inlines (Refers plan false w) [])
-    (IsDocument (basis_of_plan plan) plan.inlines (Refers plan false v) [])
-    moved (document-wider (basis_of_plan plan) plan.inlines (Refers plan false w) (Refers plan false v) moved []) n d (subst Q none h))
-  where
-    v : Work
-    v = work_of (record s { names = w.names; definitions = w.definitions })
-
-    moved : (j : ℕ) (r : Text) → Refers (state_plan s None) false w j r → Refers (state_plan s None) false v j r
-    moved j r (inl h) = cc
-    moved j r (inr h) = inr h
+    let R : ℕ → Text → Type 0 = Refers plan false w in
+    let S : ℕ → Text → Type 0 = Refers plan false (left_by s w) in
+    let moved = refers_left s w in
+    subst P (sym same) (placed_map plan.rows plan.inlines [] R S (IsDocument (basis_of_plan plan) plan.inlines R [])
+    (IsDocument (basis_of_plan plan) plan.inlines S []) moved (document-wider (basis_of_plan plan) plan.inlines R S moved []) n d
+    (subst Q none h))
 
 pub step_kept : (s : State) (w : Work) → Step (state_plan s None) (work_of s) w
-    → Step (state_plan s None) (work_of s) (work_of (record s { names = w.names; definitions = w.definitions }))
+    → Step (state_plan s None) (work_of s) (left_by s w)
 unfolding definition-moved
 step_kept s w h = record {
   names = h.names;
@@ -209,8 +213,8 @@ step_kept s w h = record {
   adds = λ k d none some.
       let added = h.adds k d none some in
       record {
-        definition = definition-moved (state_plan s None) (state_plan s None) w v refl refl refl refl (λ n name e. e) moved k d
-            added.definition;
+        definition = definition-moved (state_plan s None) (state_plan s None) w (left_by s w) refl refl refl refl (λ n name e. e)
+            (refers_left s w) k d added.definition;
         more = added.more;
         within = added.within;
       };
@@ -218,17 +222,10 @@ step_kept s w h = record {
   still_meets = λ e. e;
   still_pending = refl;
 }
-  where
-    v : Work
-    v = work_of (record s { names = w.names; definitions = w.definitions })
-
-    moved : (j : ℕ) (r : Text) → Refers (state_plan s None) false w j r → Refers (state_plan s None) false v j r
-    moved j r (inl h) = cc
-    moved j r (inr h) = inr h
 
 -- nor does what the call has begun and marked
 pub reached_kept : (plan : Plan) (inside : Bool) (s : State) (old w : Work) (from : List Data) → AreReached plan inside old w from
-    → AreReached plan inside old (work_of (record s { names = w.names; definitions = w.definitions })) from
+    → AreReached plan inside old (left_by s w) from
 reached_kept plan inside s old w from h = record {
   definitions = h.definitions;
   names = h.names;

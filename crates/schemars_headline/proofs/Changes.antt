@@ -1,5 +1,6 @@
 -- Which changes leave a schema object one that the laws of the drafts speak of.
-use Rattle.std.proofs.Common.{◌≡◌, ◌≢◌, ◌⊎◌, inl, inr, List, [], ◌∷◌, Option, Some, None, Bool, true, false, codes, refl, sym, ap, ◌∙◌, subst}
+use Rattle.std.proofs.Common.{◌≡◌, ◌≢◌, ◌⊎◌, inl, inr, List, [], ◌∷◌, Option, Some, None, Bool, true, false, codes, refl, sym, ap, ◌∙◌}
+use Rattle.std.proofs.Common.{subst}
 use Rattle.std.proofs.Common.{true≢false}
 use Rattle.std.specs.Prelude.{bytes_eq, if◌then◌else◌, ◌||◌, ◌&&◌}
 use Rattle.serde_json.specs.Data.{Data, null, boolean, number, string, array, object, Items, no_items, item, Members, no_members, member}
@@ -49,7 +50,7 @@ either_false : (b : Bool) → b || false ≡ false → b ≡ false
 either_false true h = h
 either_false false h = h
 
--- no schema stands under a keyword of no list
+-- the value of a keyword of no list is no schema
 pub place-none : (k : Text) → is_listed k with_schema ≡ false → is_listed k with_list ≡ false
     → is_listed k (codes "items" ∷ []) ≡ false → is_listed k keywords_with_names ≡ false → place_under k ≡ NoSchemas
 place-none k one list items names = rw (one, list, either_false (bytes_eq k (codes "items")) items, names) refl
@@ -62,7 +63,7 @@ note-place k note =
     place-none k (annotation-not_listed k with_schema refl note) (annotation-not_listed k with_list refl note)
     (annotation-not_listed k (codes "items" ∷ []) refl note) (annotation-not_listed k keywords_with_names refl note)
 
--- where no schema stands, nothing is asked
+-- where there is no schema, nothing is asked
 pub asked-nothing : (P : Members → Type 0) (k : Text) (d : Data) → place_under k ≡ NoSchemas
     → demanded (place_under k) (asked P d)
 asked-nothing P k d is = subst (λ p. demanded p (asked P d)) (sym is) tt
@@ -87,7 +88,7 @@ without_rest N = record {
   plain = λ ms is. subst IsNoObject (sym is.1) tt;
 }
 
--- no schema object stands there: so 2019-09 asks, which reads them
+-- it is no schema object: so 2019-09 asks, which reads them
 abbrev pub with_rest : (Text → Type 0) → Demand
 with_rest N = record {
   refers = N;
@@ -177,7 +178,7 @@ module _ (R : Demand) where
   are-replaced l d ms out here is =
       record { own = class-replaced l d ms out is.own; inside = asked-replaced (Class R) l d ms here is.inside }
 
-  -- `type`, `const` and `enum`, as they may stand beside one another
+  -- `type`, `const` and `enum`, as they may be beside one another
   other : (l k : Text) (d : Data) (ms : Members) → bytes_eq k l ≡ false → Alike k (put l d ms) ms
   other l k d ms out = alike-put k l d ms out
 
@@ -190,28 +191,37 @@ module _ (R : Demand) where
       keeps (put (codes "type") t ms) ms (other (codes "type") (codes "$ref") t ms refl)
       (record {
         rest = R.stays (put (codes "type") t ms) ms (other (codes "type") (codes "unevaluatedProperties") t ms refl) is.own.rest;
-        type = (subst AreSomeTypes (sym here) types, (other (codes "type") (codes "nullable") t ms refl).first ∙ is.own.type.1, no_const here alone);
+        type = (
+          subst AreSomeTypes (sym here) types,
+          (other (codes "type") (codes "nullable") t ms refl).first ∙ is.own.type.1,
+          no_const here alone,
+        );
         values = no_enum here alone;
         all_of = subst IsSchemaList (sym (other (codes "type") (codes "allOf") t ms refl).first) is.own.all_of;
-        const = const-alike (put (codes "type") t ms) ms (other (codes "type") (codes "const") t ms refl) (other (codes "type") (codes "enum") t ms refl) is.own.const;
-        items = items-alike (put (codes "type") t ms) ms (other (codes "type") (codes "prefixItems") t ms refl) (other (codes "type") (codes "items") t ms refl)
+        const = const-alike (put (codes "type") t ms) ms (other (codes "type") (codes "const") t ms refl)
+            (other (codes "type") (codes "enum") t ms refl) is.own.const;
+        items = items-alike (put (codes "type") t ms) ms (other (codes "type") (codes "prefixItems") t ms refl)
+            (other (codes "type") (codes "items") t ms refl)
             (other (codes "type") (codes "additionalItems") t ms refl) is.own.items;
       }) is
     where
       no_const : get_member (codes "type") (put (codes "type") t ms) ≡ Some t
           → (is_null_alone (Some t) ≡ false) ⊎ ((get_member (codes "const") ms ≡ None) × (get_member (codes "enum") ms ≡ None))
-          → (is_null_alone (get_member (codes "type") (put (codes "type") t ms)) ≡ false) ⊎ (get_member (codes "const") (put (codes "type") t ms) ≡ None)
+          → (is_null_alone (get_member (codes "type") (put (codes "type") t ms)) ≡ false)
+          ⊎ (get_member (codes "const") (put (codes "type") t ms) ≡ None)
       no_const here (inl out) = inl (ap is_null_alone here ∙ out)
       no_const here (inr out) = inr ((other (codes "type") (codes "const") t ms refl).first ∙ out.0)
 
       no_enum : get_member (codes "type") (put (codes "type") t ms) ≡ Some t
           → (is_null_alone (Some t) ≡ false) ⊎ ((get_member (codes "const") ms ≡ None) × (get_member (codes "enum") ms ≡ None))
-          → (is_null_alone (get_member (codes "type") (put (codes "type") t ms)) ≡ false) ⊎ (get_member (codes "enum") (put (codes "type") t ms) ≡ None)
+          → (is_null_alone (get_member (codes "type") (put (codes "type") t ms)) ≡ false)
+          ⊎ (get_member (codes "enum") (put (codes "type") t ms) ≡ None)
       no_enum here (inl out) = inl (ap is_null_alone here ∙ out)
       no_enum here (inr out) = inr ((other (codes "type") (codes "enum") t ms refl).first ∙ out.1)
 
   -- a change of `const` and `enum` beside a type that is not null alone
-  class-values : (ns ms : Members) → ((k : Text) → is_listed k (codes "const" ∷ codes "enum" ∷ []) ≡ false → is_listed k watched ≡ true → Alike k ns ms)
+  class-values : (ns ms : Members)
+      → ((k : Text) → is_listed k (codes "const" ∷ codes "enum" ∷ []) ≡ false → is_listed k watched ≡ true → Alike k ns ms)
       → IsConstAlone ns → is_null_alone (get_member (codes "type") ms) ≡ false → Class R ms → Class R ns
   class-values ns ms a const alone is =
       keeps ns ms (a (codes "$ref") refl refl) (record {
@@ -224,11 +234,13 @@ module _ (R : Demand) where
         values = inl (ap is_null_alone (a (codes "type") refl refl).first ∙ alone);
         all_of = subst IsSchemaList (sym (a (codes "allOf") refl refl).first) is.own.all_of;
         const = const;
-        items = items-alike ns ms (a (codes "prefixItems") refl refl) (a (codes "items") refl refl) (a (codes "additionalItems") refl refl) is.own.items;
+        items = items-alike ns ms (a (codes "prefixItems") refl refl) (a (codes "items") refl refl)
+            (a (codes "additionalItems") refl refl) is.own.items;
       }) is
 
   -- k is watched, and none of these two
-  apart-from : (k l : Text) → is_listed k (codes "const" ∷ codes "enum" ∷ []) ≡ false → is_listed l (codes "const" ∷ codes "enum" ∷ []) ≡ true → k ≢ l
+  apart-from : (k l : Text) → is_listed k (codes "const" ∷ codes "enum" ∷ []) ≡ false
+      → is_listed l (codes "const" ∷ codes "enum" ∷ []) ≡ true → k ≢ l
   apart-from k l out at same = true≢false (sym at ∙ (ap (λ x. is_listed x (codes "const" ∷ codes "enum" ∷ [])) (sym same) ∙ out))
 
   alike-value : (l k : Text) (d : Data) (ms : Members) → is_listed l (codes "const" ∷ codes "enum" ∷ []) ≡ true
@@ -255,8 +267,10 @@ module _ (R : Demand) where
   pub are-enum : (e : Data) (ms : Members) → get_member (codes "const") ms ≡ None
       → is_null_alone (get_member (codes "type") ms) ≡ false → AreGood ms → AreGood (put (codes "enum") e ms)
   are-enum e ms const alone is = record {
-    own = class-values (put (codes "enum") e ms) ms (λ k out at. alike-value (codes "enum") k e ms refl out)
-        ((other (codes "enum") (codes "const") e ms refl).others ∙ is.own.own.const.0, inl ((other (codes "enum") (codes "const") e ms refl).first ∙ const)) alone is.own;
+    own = class-values (put (codes "enum") e ms) ms (λ k out at. alike-value (codes "enum") k e ms refl out) (
+      (other (codes "enum") (codes "const") e ms refl).others ∙ is.own.own.const.0,
+      inl ((other (codes "enum") (codes "const") e ms refl).first ∙ const),
+    ) alone is.own;
     inside = asked-put (Class R) (codes "enum") e ms tt is.inside;
   }
 
@@ -380,7 +394,8 @@ module _ (R : Demand) where
       first false is b c = and-no b
 
       go : (b : Bool) → bytes_eq s (codes "null") || holds_text (codes "null") ds ≡ b
-          → is_null_alone (Some (if b then array (item (string s) ds) else array (item (string s) (with_item ds (string (codes "null")))))) ≡ false
+          → is_null_alone (Some (if b then array (item (string s) ds)
+          else array (item (string s) (with_item ds (string (codes "null")))))) ≡ false
       go true held = out
       go false held = first (bytes_eq s (codes "null")) (left (bytes_eq s (codes "null")) (holds_text (codes "null") ds) held) _ _
   alone-with (array (item null ds)) is out = absurd is.0
@@ -396,14 +411,16 @@ module _ (R : Demand) where
 
       go : (is_null_alone (get_member (codes "type") ms) ≡ false) ⊎ (get_member (codes "const") ms ≡ None)
           → (is_null_alone (get_member (codes "type") ms) ≡ false) ⊎ (get_member (codes "enum") ms ≡ None)
-          → (is_null_alone (Some (type_with_null t)) ≡ false) ⊎ ((get_member (codes "const") ms ≡ None) × (get_member (codes "enum") ms ≡ None))
+          → (is_null_alone (Some (type_with_null t)) ≡ false)
+          ⊎ ((get_member (codes "const") ms ≡ None) × (get_member (codes "enum") ms ≡ None))
       go (inl out) more = inl (alone-with t types (sym (ap is_null_alone here) ∙ out))
       go (inr none) (inl out) = inl (alone-with t types (sym (ap is_null_alone here) ∙ out))
       go (inr none) (inr no_enum) = inr (none, no_enum)
 
   -- beside a value the type is not null alone
   beside : (k : Text) (ms : Members) (d : Data) → get_member k ms ≡ Some d
-      → (is_null_alone (get_member (codes "type") ms) ≡ false) ⊎ (get_member k ms ≡ None) → is_null_alone (get_member (codes "type") ms) ≡ false
+      → (is_null_alone (get_member (codes "type") ms) ≡ false) ⊎ (get_member k ms ≡ None)
+      → is_null_alone (get_member (codes "type") ms) ≡ false
   beside k ms d here (inl out) = out
   beside k ms d here (inr none) = let never : Some d ≡ None = sym here ∙ none in cc
 

@@ -71,7 +71,7 @@ module _ (plan : Plan) (w : Work) (key : Text) (at : StandsAt plan.path key) (de
         ),
       )
 
-  -- each reference is one, of a definition that stands or of a document beside it
+  -- each reference is one, of a definition in the document or of what is beside it
   may_refer-one : (j : ℕ) (r : Text) → MayRefer plan w j r → NamesOne key w.definitions r
   may_refer-one j r (inl is) = refers-one plan.root j r is
   may_refer-one j r (inr is) = refers-one None j r is

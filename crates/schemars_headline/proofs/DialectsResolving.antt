@@ -18,7 +18,7 @@ use Rattle.schemars_headline.proofs.Resolving.{all_pass, all_pass-resolve}
 use Rattle.schemars_headline.proofs.ReferencesKept.{RefersOnce}
 use Rattle.std.proofs.lemmas.Bool.{and_parts}
 
--- ---- each reference, where those that stand once are as R says
+-- ---- each reference, where those that are there once are as R says
 
 module _ (R : Text → Type 0) (test : Data → Bool) (leads : (t : Text) → R t → test (string t) ≡ true) where
   abbrev Resolve : List Data → Type 0

@@ -6,7 +6,8 @@ use Rattle.std.specs.List.{AllByRecursion}
 use Rattle.std.specs.Ordering.{match_ordering}
 use Rattle.std.specs.Cmp.Lexicographic.{slice_cmp}
 use Rattle.std.proofs.lemmas.Slice.Eq.{bytes_eq-Decides}
-use Rattle.serde_json.specs.Data.{Data, null, boolean, number, string, array, object, Items, no_items, item, Members, no_members, member, put}
+use Rattle.serde_json.specs.Data.{Data, null, boolean, number, string, array, object, Items, no_items, item, Members, no_members, member}
+use Rattle.serde_json.specs.Data.{put}
 use Rattle.serde_json.specs.Find.{get_member}
 use Rattle.serde_json.specs.View.{items_of}
 use Rattle.schemars_schema.specs.Json.{Text}
@@ -60,9 +61,10 @@ module _ (R : Demand) where
   pub are-typed : (name : Text) → AreGood R (put (codes "type") (string name) no_members)
   are-typed name = are-types R (string name) no_members tt (inr (refl, refl)) (nothing R)
 
-  -- own keywords are of the class where none stands that it asks about but these
+  -- own keywords are of the class where none that it asks about is present but these
   pub own-items : (ms : Members) (types : AreSomeTypes (get_member (codes "type") ms)) → get_member (codes "$ref") ms ≡ None
-      → get_member (codes "unevaluatedProperties") ms ≡ None → get_member (codes "nullable") ms ≡ None → get_member (codes "const") ms ≡ None
+      → get_member (codes "unevaluatedProperties") ms ≡ None → get_member (codes "nullable") ms ≡ None
+      → get_member (codes "const") ms ≡ None
       → get_member (codes "enum") ms ≡ None → get_member (codes "allOf") ms ≡ None → HasPlainItems ms → Class R ms
   own-items ms types ref rest nullable const enum all items =
       class-of R ms (subst (IsTextWith R.refers) (sym ref) tt) (absent-once (codes "$ref") ms ref)
@@ -140,7 +142,8 @@ module _ (R : Demand) where
   no_list _ is = absurd is
 
   -- its items, with a type
-  are-items : (type t : Data) → AreSomeTypes (Some type) → IsGood R t → AreGood R (put (codes "items") t (put (codes "type") type no_members))
+  are-items : (type t : Data) → AreSomeTypes (Some type) → IsGood R t
+      → AreGood R (put (codes "items") t (put (codes "type") type no_members))
   unfolding asked
   are-items type t types is = record {
     own = own-items _ types refl refl refl refl refl refl (refl, tt, no_list t is.schema, refl);
@@ -334,7 +337,7 @@ module _ (R : Demand) where
     parts-good (n ∷ ns) [] is = absurd is
     parts-good (n ∷ ns) (t ∷ ts) is = (parts n t is.0, parts-good ns ts is.1)
 
--- whatever stands under these keys, no literal has them
+-- whatever their values, no literal has these keys
 abbrev none_plain : List Text → Data → Bool
 none_plain [] d = true
 none_plain (l ∷ ls) d = not (is_plain_member l d) && none_plain ls d
@@ -402,7 +405,10 @@ null-alone (string s) named is = subst (λ x. is_null_type (string x) ≡ true) 
 null-alone (array ds) named is = go (texts_in ds) refl named
   where
     Says : Option (List Text) → Type 0
-    Says o = elim (option_and_then (λ ts. when (are_type_names ts) ts) o) [ None ↦ false | Some ts ↦ list_all (bytes_eq (codes "null")) ts ] ≡ true
+    Says o = elim (option_and_then (λ ts. when (are_type_names ts) ts) o) [
+      | None ↦ false
+      | Some ts ↦ list_all (bytes_eq (codes "null")) ts
+    ] ≡ true
 
     parts : (a b : Bool) → a && b ≡ true → (a ≡ true) × (b ≡ true)
     parts true b h = (refl, h)
@@ -465,7 +471,7 @@ module _ (R : Demand) where
       go (Some d) is =
           absurd (true≢false (sym at ∙ plain-not_listed k d foreign refl (plain_at k ms d plain is)))
 
-  -- each key stands once
+  -- each key is there once
   each-once : (k : Text) (ms : Members) → ArePlainMembers ms → IsOnce k ms
   each-once k no_members plain = refl
   each-once k (member l d ms) plain = go (bytes_eq k l) refl (each-once k ms plain.2)
@@ -482,7 +488,11 @@ module _ (R : Demand) where
     once = each-once (codes "$ref") ms plain.members;
     own = record {
       rest = R.lacking ms (each-once (codes "unevaluatedProperties") ms plain.members, none (codes "unevaluatedProperties") refl);
-      type = (types (get_member (codes "type") ms) refl, none (codes "nullable") refl, beside (is_null_alone (get_member (codes "type") ms)) refl);
+      type = (
+        types (get_member (codes "type") ms) refl,
+        none (codes "nullable") refl,
+        beside (is_null_alone (get_member (codes "type") ms)) refl,
+      );
       values = beside_enum (is_null_alone (get_member (codes "type") ms)) refl;
       all_of = subst IsSchemaList (sym (none (codes "allOf") refl)) tt;
       const = (each-once (codes "const") ms plain.members, either (get_member (codes "enum") ms) refl (get_member (codes "const") ms) refl);
@@ -521,7 +531,8 @@ module _ (R : Demand) where
       either None is p there = inr is
       either (Some e) is None there = inl there
       either (Some e) is (Some c) there =
-          let both : true && true ≡ false = sym (ap (λ o. is_some o && is_some (get_member (codes "const") ms)) is ∙ ap (λ o. true && is_some o) there) ∙ plain.not_both in
+          let both : true && true ≡ false =
+          sym (ap (λ o. is_some o && is_some (get_member (codes "const") ms)) is ∙ ap (λ o. true && is_some o) there) ∙ plain.not_both in
           absurd (true≢false both)
 
   pub literal-good : (d : Data) → IsPlainLiteral d → IsGood R d

@@ -17,7 +17,8 @@ use Rattle.schemars_documents.specs.Documents.{Keyword}
 use Rattle.schemars_documents.specs.Basis.{Basis}
 use Rattle.schemars_documents.specs.Template.{Ask, part, members_of, content, Template, noted, tagged, row, asks_of, asks_in}
 use Rattle.schemars_documents.specs.Template.{filled, filled_in, keyed, left, Templates}
-use Rattle.schemars_documents.specs.OfShape.{templates_of, one_of_template, any_of_template, payload_template, named_template, member_template}
+use Rattle.schemars_documents.specs.OfShape.{templates_of, one_of_template, any_of_template, payload_template, named_template}
+use Rattle.schemars_documents.specs.OfShape.{member_template}
 use Rattle.schemars_documents.specs.OfShape.{bare_units, other_items, units_template, choice_of, external_template, title_alone}
 use Rattle.schemars_documents.specs.OfShape.{titled, payload_item, untagged_template, content_template, struct_template, internal_item}
 use Rattle.schemars_documents.specs.OfShape.{internal_template, KeywordTemplate, typed_template, object_with, values_of, all_patterns}

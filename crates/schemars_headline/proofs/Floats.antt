@@ -108,7 +108,7 @@ whole_type (array ds) h = go (holds_text (codes "null") ds)
     go false = whole_with_item ds (string (codes "null")) refl h
 whole_type _ h = h
 
--- what stands in an object without floats has none
+-- what is in an object without floats has none
 pub whole_member : (k : Text) (ms : Members) → members_have_float ms ≡ false → (d : Data) → get_member k ms ≡ Some d → has_float d ≡ false
 whole_member k no_members h d is = cc
 whole_member k (member l e ms) h d is = go (slice_cmp nat_cmp k l) is (whole_member k ms parts.1 d)
@@ -168,7 +168,8 @@ whole_allow_null (object ms) h = go (is_null_choice (object ms)) (is_combined (o
         object (null_in_values (null_in_type (get_member (codes "type") ms) ms)))
     go true b = h
     go false true = rw h
-    go false false = whole_null_in_const (get_member (codes "const") typed_template) typed_template (whole_member (codes "const") typed_template whole) whole
+    go false false = whole_null_in_const (get_member (codes "const") typed_template) typed_template
+        (whole_member (codes "const") typed_template whole) whole
 whole_allow_null null h = h
 whole_allow_null _ h = h
 
@@ -197,7 +198,8 @@ whole_replaced k d (member l e ms) new h = go (bytes_eq k l) (whole_replaced k d
     go true later = rw new parts.1
     go false later = rw (parts.0) later
 
-pub whole_changed_at : (k : Text) (change : Data → Data) (d : Data) (ms : Members) → ((e : Data) → IsWhole e → IsWhole (change e)) → IsWhole d
+pub whole_changed_at : (k : Text) (change : Data → Data) (d : Data) (ms : Members)
+    → ((e : Data) → IsWhole e → IsWhole (change e)) → IsWhole d
     → members_have_float ms ≡ false → members_have_float (changed_at k change d ms) ≡ false
 whole_changed_at k change d ms keeps new h = go (get_member k ms) (whole_member k ms h)
   where
@@ -352,7 +354,8 @@ variants_whole x xs h =
     let own = or_parts (members_have_float x.notes) (payload_has_float x.payload) parts.0 in
     (own.0, own.1, parts.1)
 
-others_whole : (contract : Contract) (xs : List Variant) → variants_have_float xs ≡ false → SayWhole (templates_of (other_items contract xs))
+others_whole : (contract : Contract) (xs : List Variant) → variants_have_float xs ≡ false
+    → SayWhole (templates_of (other_items contract xs))
 others_whole contract [] n = tt
 others_whole contract (x ∷ xs) h = go (is_bare_unit x) (others_whole contract xs n.2)
   where

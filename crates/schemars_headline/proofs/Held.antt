@@ -1,4 +1,4 @@
--- What stands in schemas is of a class, whatever is asked of the schemas themselves: so it stays as they are flattened and opened.
+-- What is in schemas is of a class, whatever is asked of the schemas themselves: so it stays as they are flattened and opened.
 use Rattle.std.proofs.Common.{◌≡◌, List, [], ◌∷◌, Bool, true, false, refl, sym, subst, true≢false}
 use Rattle.std.proofs.lemmas.Slice.Eq.{bytes_eq-Decides}
 use Rattle.std.specs.List.{AllByRecursion}
@@ -30,9 +30,9 @@ by_listed P k (l ∷ ls) all is = go (bytes_eq k l) refl is (by_listed P k ls al
     go true same is later = subst P (sym ((bytes_eq-Decides k l).0 same)) all.0
     go false same is later = later is
 
--- ---- what stands in schemas
+-- ---- what is in schemas
 
--- by what stands under a keyword: a schema of the same object, a list of these, or anything else
+-- by the value of a keyword: a schema of the same object, a list of these, or anything else
 abbrev pub by_place : Place → Type 0 → Type 0 → Type 0 → Type 0
 by_place OneSchema one each other = one
 by_place SchemaList one each other = each
@@ -40,7 +40,7 @@ by_place NoSchemas one each other = other
 by_place SchemaOrList one each other = other
 by_place SchemasByName one each other = other
 
--- C holds of all schema objects inside it, but for those that judge the same object, of which just what stands in them is asked
+-- C holds of all schema objects inside it, but for those that judge the same object, of which just what is in them is asked
 unfoldable mutual
   pub Holds : (Members → Type 0) → Data → Type 0
   Holds C (object ms) = HoldsUnder C ms

@@ -1,4 +1,4 @@
--- The keys of members, and those under which definitions stand.
+-- The keys of members, and those of definitions.
 use Rattle.std.proofs.Common.{◌≡◌, ◌⊎◌, inl, inr, List, [], ◌∷◌, Some, None, true, false, Ordering, Less, Equal}
 use Rattle.std.proofs.Common.{Greater, nat_cmp, refl, sym, ap, ◌∙◌, true≢false, string_cmp, String, Global}
 use Rattle.std.proofs.Common.{string_bytes}

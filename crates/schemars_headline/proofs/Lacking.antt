@@ -1,4 +1,4 @@
--- Schemas without a key under which definitions stand: it does not come in where they are put together or opened.
+-- Schemas without a key of definitions: it does not come in where they are put together or opened.
 use Rattle.std.proofs.Common.{◌≡◌, inl, inr, Option, Some, None, Bool, true, false, Ordering, Less, Equal, Greater, nat_cmp}
 use Rattle.std.proofs.Common.{refl, ◌∙◌}
 use Rattle.std.specs.Prelude.{◌||◌, ◌&&◌, codes, is_some, if◌then◌else◌, bytes_eq}
@@ -43,7 +43,7 @@ module _ (key : Text) (is_key : IsDefinitionsKey key) where
   apart : (k : Text) → IsOther k → IsApart k
   apart k other = other_apart key k is_key other
 
-  -- where both keys are told apart by computation
+  -- where computation shows that the keys differ
   pub lacks_both : (d : Data) → HasNeither d → LacksIn d
   lacks_both d h = go is_key
     where
@@ -161,7 +161,8 @@ module _ (key : Text) (is_key : IsDefinitionsKey key) where
       go false = h
 
   lacks_let_in : (ms : Members) → Lacks ms → Lacks (flatten.opened_keywords ms)
-  lacks_let_in ms h = go (contains_key (codes "additionalProperties") ms || contains_key (codes "unevaluatedProperties") ms) (has_subschema ms)
+  lacks_let_in ms h =
+      go (contains_key (codes "additionalProperties") ms || contains_key (codes "unevaluatedProperties") ms) (has_subschema ms)
     where
       go : (stays combined : Bool) → Lacks (if stays then ms else
           put (if combined then codes "unevaluatedProperties" else codes "additionalProperties") (boolean true) ms)

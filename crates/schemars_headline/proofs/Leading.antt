@@ -183,7 +183,7 @@ pub record HoldsDefinitions (path : Text) (definitions : Members) (document : Da
       → lookup (reference_to path name) document ≡ Some d
   pub counts : members_len definitions ≤ count_of_definitions path document
 
--- so it is where they stand at the path
+-- so it is where they are at the path
 pub holds_at : (path : Text) (definitions : Members) (document : Data) → lookup (35 ∷ path) document ≡ Some (object definitions)
     → members_len definitions ≤ count_of_definitions path document
     → HoldsDefinitions path definitions document

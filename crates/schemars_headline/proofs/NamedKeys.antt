@@ -56,7 +56,7 @@ key_named path (member k d ms) r h = elim (or_cases (option_map_or (bytes_eq (re
     text _ is = cc
 
 -- Each reference in a definition names a key, where the definitions are the generator's own, literals are plain, and all notes are
--- annotations alone, whatever is flattened or stands beside a tag.
+-- annotations alone, whatever is flattened or is beside a tag.
 pub noted_name_keys : (s : State) → HasOwnDefinitions s → HasPlainNotesThroughout s.rows → ReferencesNameKeys s
 noted_name_keys s own noted k d r found among =
     let definition = own k d found in

@@ -50,7 +50,7 @@ module _ (s : State) (n : ℕ) (w : Work) (document : Data) (root : IsRootOf s n
   each : (name : Text) → IsKey name w.definitions → IsReached (path_of s) w.definitions (references root.own) name
   each name is = (root.reached plain).definitions name is.0 (ap (get_member name) none) is.1
 
-  -- outside the definitions stands what the row's own document refers to
+  -- outside the definitions is what the row's own document refers to
   outside : (key : Text) → StandsAt (path_of s) key → (d : Data)
       → references_outside (path_of s) (object (put key d ms)) ≡ references root.own
   outside key at d =

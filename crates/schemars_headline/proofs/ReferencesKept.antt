@@ -31,14 +31,14 @@ module _ (R : Text → Type 0) where
   abbrev Refers : Members → Type 0
   Refers ms = IsTextWith R (get_member (codes "$ref") ms)
 
-  -- with plain references, and then with references that stand once
+  -- with plain references, and then with references that are there once
   abbrev WithPlain : Members → Type 0
   WithPlain ms = Refers ms × HasPlainReference ms × IsSchemaList (get_member (codes "prefixItems") ms)
 
   abbrev WithItems : Members → Type 0
   WithItems ms = Refers ms × IsOnce (codes "$ref") ms × IsSchemaList (get_member (codes "prefixItems") ms)
 
-  -- a reference stands once, and R holds of it
+  -- a reference is there once, and R holds of it
   abbrev pub RefersOnce : Members → Type 0
   RefersOnce ms = Refers ms × IsOnce (codes "$ref") ms
 

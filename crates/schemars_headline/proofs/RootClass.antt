@@ -34,7 +34,7 @@ use Rattle.schemars_documents.specs.PlainTable.{IsNotedShape}
 
 -- ---- where definitions are
 
--- those of a map that stands there; none where none does
+-- those of a map, if there is one
 abbrev pub entries : Option Data → Members
 entries None = no_members
 entries (Some null) = no_members
@@ -81,7 +81,7 @@ module _ (plan : Plan) (w : Work) (key : Text) (at : StandsAt plan.path key) (de
   refers-name root j r (inr is) =
       subst (IsName key) (sym is.3) (to-name plan.path key is.0 at (definitions is.0 is.2.0 is.2.1).is_text)
 
-  -- a reference of a definition that stands, or of a document beside it
+  -- a reference of a definition in the document, or of what is beside it
   pub may_refer-name : (j : ℕ) (r : Text) → MayRefer plan w j r → IsName key r
   may_refer-name j r (inl is) = refers-name plan.root j r is
   may_refer-name j r (inr is) = refers-name None j r is
@@ -170,7 +170,8 @@ noted_notes rows noted n = go (entry_at rows n) (noted n)
     go None own = tt
     go (Some e) own = (own.0, noted-literal e.shape own.1)
 
-module _ (old : State) (n : ℕ) (w : Work) (document : Data) (key : Text) (h : IsRootOf old n w document) (noted : HasPlainNotesThroughout old.rows)
+module _ (old : State) (n : ℕ) (w : Work) (document : Data) (key : Text) (h : IsRootOf old n w document)
+    (noted : HasPlainNotesThroughout old.rows)
     (once : HasKeysOnce w.definitions) (definitions : AllStand (state_plan old (Some n)) w) (at : StandsAt (path_of old) key) where
   abbrev plan : Plan
   plan = state_plan old (Some n)

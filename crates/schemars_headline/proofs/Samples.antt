@@ -44,7 +44,8 @@ use Rattle.schemars_laws.proofs.Steps.{text-alone, text-named}
 use Rattle.schemars_laws.proofs.Laws.{unevaluated-moves, siblings-moves, prefix-moves}
 use Rattle.schemars_headline.specs.Drafts.{Draft, Draft2020_12, Draft2019_09, Draft07, dialect_of, made_for}
 use Rattle.schemars_headline.specs.Drafts.{AcceptsExampleUnder, DraftSamples}
-use Rattle.schemars_headline.proofs.Changes.{Demand, without_rest, Class, IsDraft2019_09, for_openapi, for_items, AreGood, are-put, IsGood, good}
+use Rattle.schemars_headline.proofs.Changes.{Demand, without_rest, Class, IsDraft2019_09, for_openapi, for_items, AreGood, are-put, IsGood}
+use Rattle.schemars_headline.proofs.Changes.{good}
 use Rattle.schemars_headline.proofs.Changes.{good_truth, good-members, good-allow_null}
 use Rattle.schemars_headline.proofs.Documents.{own-items, type-good, are-typed, char-good, bytes-good, seq-good, AllGood, asked-items}
 use Rattle.schemars_headline.proofs.Documents.{any_of-good, asked-named}
@@ -138,20 +139,7 @@ module _ (R : Demand) where
   titled-good (newtype_struct name x) = named-good name (titled_schema x) (titled-good x)
   titled-good (tuple name xs) = named-good name (sample_schema (tuple name xs)) (schema-good (tuple name xs))
   titled-good (struct name xs) = named-good name (sample_schema (struct name xs)) (schema-good (struct name xs))
-  titled-good (truth b) = schema-good (truth b)
-  titled-good (whole z) = schema-good (whole z)
-  titled-good (character c) = schema-good (character c)
-  titled-good (text s) = schema-good (text s)
-  titled-good (bytes bs) = schema-good (bytes bs)
-  titled-good no_value = schema-good no_value
-  titled-good (some_value x) = schema-good (some_value x)
-  titled-good unit_struct = schema-good unit_struct
-  titled-good (unit_variant variant) = schema-good (unit_variant variant)
-  titled-good (newtype_variant variant x) = schema-good (newtype_variant variant x)
-  titled-good (seq xs) = schema-good (seq xs)
-  titled-good (tuple_variant variant xs) = schema-good (tuple_variant variant xs)
-  titled-good (collected_map xs) = schema-good (collected_map xs)
-  titled-good (struct_variant variant xs) = schema-good (struct_variant variant xs)
+  titled-good x = schema-good x
 
   are-with_example : (o : Option Data) (ms : Members) → AreGood R ms → AreGood R (with_example o ms)
   are-with_example None ms is = is
@@ -165,7 +153,7 @@ module _ (R : Demand) where
 
 -- ---- with definitions
 
--- no definitions stand in it before they are placed
+-- it has no definitions before they are placed
 pub definitions_free : (meta_schema : Option Text) (x : Example) (key : Text) → IsDefinitionsKey key
     → get_member key (members_in (sample_root meta_schema x)) ≡ None
 definitions_free meta_schema x key (inl is) =

@@ -1,4 +1,4 @@
--- Definitions that stand in a document, and how they may refer to others.
+-- The definitions of a document, and how they may refer to others.
 use Rattle.std.proofs.Common.{◌≡◌, ◌⊎◌, inl, inr, ℕ, Some, None, Bool, true, false, refl, arith}
 use Rattle.std.specs.Str.{IsUtf8}
 use Rattle.serde_json.specs.Data.{Data}
@@ -19,14 +19,14 @@ free_refers plan w free j r (inr h) = inr h
 abbrev pub rootless : Plan → Plan
 rootless plan = record plan { root = None }
 
--- how a definition that stands may refer: as the running call does, or as an earlier one did, by the name of each row
+-- how a definition of a document may refer: as the running call does, or as an earlier one did, by the name of each row
 abbrev pub MayRefer : Plan → Work → ℕ → Text → Type 0
 MayRefer plan w n r = Refers plan true w n r ⊎ Refers (rootless plan) true w n r
 
 pub refers_may : (plan : Plan) (w : Work) (free : Bool) (j : ℕ) (r : Text) → Refers plan free w j r → MayRefer plan w j r
 refers_may plan w free j r h = inl (free_refers plan w free j r h)
 
--- a definition that stands in the document of the running call
+-- a definition in the document of the running call
 pub record Stands (plan : Plan) (w : Work) (name : Text) (d : Data) : Type 0 where
   pub row : ℕ
   pub is_named : name_of row plan.contract w.names ≡ Some name

@@ -21,7 +21,8 @@ use Rattle.schemars_transform.specs.Unevaluated.{with_properties, closed_by, une
 use Rattle.schemars_transform.specs.Formats.{format_rules, format_stays}
 use Rattle.schemars_transform.specs.BuiltIn.{function_of, made_by, value_made_by, each_made_by}
 use Rattle.schemars_transform.specs.declared.gen_transform.GenTransform.{GenTransform}
-use Rattle.schemars_transform.specs.declared.gen_transform.GenTransform.TheVariants.{ReplaceBoolSchemas, RemoveRefSiblings, SetSingleExample}
+use Rattle.schemars_transform.specs.declared.gen_transform.GenTransform.TheVariants.{ReplaceBoolSchemas, RemoveRefSiblings}
+use Rattle.schemars_transform.specs.declared.gen_transform.GenTransform.TheVariants.{SetSingleExample}
 use Rattle.schemars_transform.specs.declared.gen_transform.GenTransform.TheVariants.{ReplaceConstValue, ReplacePrefixItems, AddNullable}
 use Rattle.schemars_transform.specs.declared.gen_transform.GenTransform.TheVariants.{ReplaceUnevaluatedProperties, RestrictFormats, Own}
 use Rattle.schemars_transform.specs.declared.built_in.nullable.AddNullable as options
@@ -96,7 +97,7 @@ whole_if : (b : Bool) (s t : Data) → IsWhole s → IsWhole t → IsWhole (if b
 whole_if true s t one other = one
 whole_if false s t one other = other
 
--- where a change is of what stands under a keyword
+-- where a change is of the value of a keyword
 module _ (change : Option Data → Data → Data)
     (keeps : (o : Option Data) (s : Data) → ((d : Data) → o ≡ Some d → IsWhole d) → IsWhole s → IsWhole (change o s)) where
   whole_taken : (k : Text) (s : Data) → IsWhole s → IsWhole (change (get k s) (removed k s))
@@ -205,7 +206,8 @@ whole_nullable t s h = by (get (codes "type") s)
     text true = of_alone
     text false = h
 
-    list : (some all : Bool) → IsWhole (nullable_by t (if some then if all then nulls_in null_type else nulls_in null_among_types else nulls_in None) s)
+    list : (some all : Bool)
+        → IsWhole (nullable_by t (if some then if all then nulls_in null_type else nulls_in null_among_types else nulls_in None) s)
     list true true = of_alone
     list true false = of_among
     list false all = h
