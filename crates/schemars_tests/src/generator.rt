@@ -19,6 +19,8 @@ const REF_A: &str = r##"{"$ref":"#/$defs/A"}"##;
 
 const REF_B: &str = r##"{"$ref":"#/$defs/B"}"##;
 
+const REF_NEW: &str = r##"{"$ref":"#/$defs/New"}"##;
+
 const OPTION: &str = r##"{"anyOf":[{"$ref":"#/$defs/A"},{"type":"null"}]}"##;
 
 const ROOT: &str =
@@ -110,7 +112,8 @@ const CALLS: [(&str, Asks, &str, &[Answer]); 17] = [
             ("definitions", 0, BOTH),
         ],
     ),
-    // The own table changes nothing, and one without its rows is refused.
+    // The own table changes nothing. One without its rows is refused, and one whose new row is a
+    // newtype of itself.
     (
         "/$defs",
         Asks::Nothing,
@@ -125,6 +128,12 @@ const CALLS: [(&str, Asks, &str, &[Answer]); 17] = [
             ("definitions", 0, BOTH),
             ("part", 2, OPTION),
             ("part", 3, "8 UnknownType"),
+            ("add newtype", 3, "5 EmptyCycle"),
+            ("definitions", 0, BOTH),
+            ("part", 3, "8 UnknownType"),
+            ("add newtype", 0, "true"),
+            ("part", 3, REF_NEW),
+            ("part", 4, "8 UnknownType"),
         ],
     ),
     // A path without a slash in front has no place for definitions, and the names are taken back.
@@ -200,6 +209,20 @@ fn write_definition(
     Ok(Schema::from(true))
 }
 
+// Adds a newtype of row `n`.
+fn add_newtype(
+    alloc: Global,
+    generator: &mut SchemaGenerator,
+    n: TypeNo,
+) -> Result<Schema, GenerateError> {
+    let mut types = generator.types().clone()?;
+    let new = types.reserve(owned(alloc, "new")?, owned(alloc, "New")?)?;
+    let entry = TypeEntry::without_notes(alloc, false, Shape::Newtype(n));
+    types.define(new, entry)?;
+    generator.add_types(alloc, types)?;
+    Ok(Schema::from(true))
+}
+
 fn path_of(alloc: Global, generator: &SchemaGenerator) -> Result<Schema, GenerateError> {
     let path = owned(alloc, generator.settings().definitions_path.as_str())?;
     Ok(Schema::new_ref(alloc, path)?)
@@ -228,6 +251,7 @@ fn answer(
             generator.add_types(alloc, Types::new(alloc))?;
             Ok(Schema::from(true))
         }
+        "add newtype" => add_newtype(alloc, generator, n),
         "write C" => write_definition(alloc, generator, "C"),
         "path" => path_of(alloc, generator),
         "no rows" => Ok(Schema::from(generator.types().is_empty())),
