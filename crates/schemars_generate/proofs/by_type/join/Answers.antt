@@ -18,7 +18,7 @@ returns-in_err-n-clause-refused g c =
 
 pub check_from-requires : goal.check_from-requires
 check_from-requires g c =
-    let same = ap (λ k. take k c.register.new.types) c.len.ensures.len
+    let same = ap (λ k. take k c.register.new.types) c.len-checked.ensures.len
     ∙ begins c.args.types.now c.register.new.types c.requires.checked.1 c.in_ok-n.ensures.keeps in
     subst IsChecked (sym same) c.requires.checked.1
 

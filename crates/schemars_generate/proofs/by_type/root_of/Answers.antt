@@ -58,7 +58,7 @@ returns-clause-root g c =
 
 pub returns-clause-held : goal.returns-clause-held
 returns-clause-held g c =
-    let made = (c.in_ok-document.ensures.root).1.0 in
+    let made = c.in_ok-document.ensures.root.1 in
     record {
       accepted = c.in_ok-n.ensures.joined.accepted;
       checked = c.in_ok-n.ensures.checked;

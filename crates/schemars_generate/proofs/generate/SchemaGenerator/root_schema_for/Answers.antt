@@ -11,7 +11,7 @@ use Rattle.schemars_generate.proofs.generate.SchemaGenerator.root_schema_for.Goa
 
 pub truncate-requires : goal.truncate-requires
 truncate-requires g c =
-    let same = ap (λ k. take k c.root_of.new.types) c.len.ensures.len ∙ c.in-Err.ensures.begins in
+    let same = ap (λ k. take k c.root_of.new.types) c.len-len.ensures.len ∙ c.in-Err.ensures.begins in
     subst (λ (rows : List Row). RefersWithin rows) (sym same) c.self.invariant.1.within
 
 pub returns-in-Err-clause-refused : goal.returns-in-Err-clause-refused
@@ -48,3 +48,13 @@ returns-in-Ok-clause-own g c =
     let made = c.in-Ok.ensures.root in
     λ own. root_own g.O.Transform.makes inside.settings.transforms us (with_rows rows old) made.0 new c.in-Ok.document made.2
     (more_types_own old rows c.self.invariant.1 made.1.begins (subst HasOwnDefinitions (sym (ap state c.self.view_is)) own))
+
+-- all but the transforms is as before
+pub returns-in-Err-clause-own : goal.returns-in-Err-clause-own
+returns-in-Err-clause-own g c =
+    let inside = c.self.inside in
+    let rows = c.truncate.ensures ∙ (ap (λ k. take k c.root_of.new.types) c.len-len.ensures.len ∙ c.in-Err.ensures.begins) in
+    let same : state_of c.root_of.new.settings c.truncate.new.self c.root_of.new.work
+    ≡ state_of inside.settings inside.types inside.work =
+    λ i. state_of (c.root_of.ensures.rest i) (rows i) (c.in-Err.ensures.err i) in
+    λ own. subst HasOwnDefinitions (sym (same ∙ ap state c.self.view_is)) own

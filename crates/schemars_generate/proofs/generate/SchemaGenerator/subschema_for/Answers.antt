@@ -1,4 +1,4 @@
-use Rattle.std.proofs.Common.{◌∙◌, List, ap, sym, subst, take}
+use Rattle.std.proofs.Common.{◌≡◌, ◌∙◌, List, ap, sym, subst, take}
 use Rattle.schemars_types.specs.Edges.{RefersWithin}
 use Rattle.schemars_types.specs.Rows.{Row}
 use Rattle.schemars_headline.specs.State.{HasOwnDefinitions}
@@ -23,5 +23,15 @@ returns-in-Ok-clause-own g c =
 
 pub truncate-requires : goal.truncate-requires
 truncate-requires g c =
-    let same = ap (λ k. take k c.subschema_of.new.types) c.len.ensures.len ∙ c.in-Err.ensures.begins in
+    let same = ap (λ k. take k c.subschema_of.new.types) c.len-len.ensures.len ∙ c.in-Err.ensures.begins in
     subst (λ (rows : List Row). RefersWithin rows) (sym same) c.self.invariant.1.within
+
+-- the generator is as before
+pub returns-in-Err-clause-own : goal.returns-in-Err-clause-own
+returns-in-Err-clause-own g c =
+    let inside = c.self.inside in
+    let rows = c.truncate.ensures ∙ (ap (λ k. take k c.subschema_of.new.types) c.len-len.ensures.len ∙ c.in-Err.ensures.begins) in
+    let same : state_of inside.settings c.truncate.new.self c.subschema_of.new.work
+    ≡ state_of inside.settings inside.types inside.work =
+    λ i. state_of inside.settings (rows i) (c.in-Err.ensures.err i) in
+    λ own. subst HasOwnDefinitions (sym (same ∙ ap state c.self.view_is)) own
