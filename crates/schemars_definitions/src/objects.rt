@@ -1,0 +1,111 @@
+//! Definitions as JSON values.
+ghost use Rattle.std.specs.Prelude.{◌≡◌, true, false, not, is_some, string_bytes, IfOk, OnErr};
+ghost use Rattle.serde_json.specs.Data.{boolean, put};
+ghost use Rattle.serde_json.specs.Find.{get_member, as_object};
+ghost use Rattle.serde_json.specs.View.{view};
+ghost use Rattle.schemars_schema.specs.SchemaData.{members_in};
+ghost use Rattle.schemars_schema.specs.Edits.{replaced, without};
+
+use crate::store::Definitions;
+use schemars_schema::Schema;
+use serde_json::Value;
+use std::alloc::{AllocError, Global};
+use std::marker::Model;
+
+/// Definitions as JSON values, in one object.
+#[derive(Drop)]
+pub struct Objects {
+    // an object, kept as a schema for its exact edits
+    object: Schema,
+}
+
+impl Model for Objects {
+    ghost use Rattle.std.specs.Prelude.{◌≡◌, true, is_some};
+    ghost use Rattle.serde_json.specs.Data.{Members};
+    ghost use Rattle.serde_json.specs.Find.{as_object};
+    ghost use Rattle.schemars_schema.specs.SchemaData.{members_in};
+    ghost use Rattle.schemars_schema.specs.DataCode.{members_code};
+
+    ghost Value = { Members };
+
+    ghost coded = { members_code };
+
+    ghost view = { λ o. members_in o.object };
+
+    ghost invariant = { λ o. is_some (as_object o.object) ≡ true };
+}
+
+impl Objects {
+    /// No definitions.
+    pub fn new(alloc: Global) -> Objects {
+        Objects {
+            object: Schema::default(alloc),
+        }
+    }
+}
+
+impl Definitions for Objects {
+    ghost use Rattle.std.specs.Prelude.{◌≡◌};
+
+    ghost kept = { λ ms. ms };
+
+    fn contains_key(&self, name: &str) -> bool {
+        self.object.get(name).is_some()
+    }
+
+    fn begin(&mut self, alloc: Global, name: &str) -> Result<bool, AllocError> {
+        let key = String::from_str(alloc, name)?;
+        add_member(&mut self.object, alloc, key, name)
+    }
+
+    fn finish(&mut self, _alloc: Global, name: &str, schema: Schema) -> Result<(), AllocError> {
+        set_member(&mut self.object, name, schema.to_value());
+        Ok(())
+    }
+
+    fn remove(&mut self, name: &str) {
+        let _ = self.object.remove(name);
+    }
+}
+
+fn set_member(object: &mut Schema, key: &str, value: Value)
+    requires { is_some (as_object object.old) ≡ true }
+    ensures members { members_in object.new
+        ≡ replaced key.now (view value) (members_in object.old) }
+    ensures object { is_some (as_object object.new) ≡ true }
+{
+    if let Some(member) = object.get_mut(key) {
+        *member = value;
+    }
+}
+
+// Adds a member that is `false`, unless there is one of this key, and returns whether it did.
+fn add_member(
+    object: &mut Schema,
+    alloc: Global,
+    key: String,
+    name: &str,
+) -> Result<bool, AllocError>
+    requires object { is_some (as_object object.old) ≡ true }
+    requires key { string_bytes key ≡ name.now }
+    ensures is_new { IfOk result (λ b. b
+        ≡ not (is_some (get_member name.now (members_in object.old)))) }
+    ensures added { IfOk result (λ b. b ≡ true
+        → members_in object.new ≡ put name.now (boolean false) (members_in object.old)) }
+    ensures same { IfOk result (λ b. b ≡ false → members_in object.new ≡ members_in object.old) }
+    ensures err { OnErr result (members_in object.new ≡ members_in object.old) }
+    ensures still_object { is_some (as_object object.new) ≡ true }
+{
+    let Some(members) = object.as_object() else {
+        unreachable!();
+    };
+    // its keys ascend, so that a member stays where it is
+    let _ = members.len();
+    match object.insert(alloc, key, Value::Bool(false))? {
+        Some(old) => {
+            set_member(object, name, old);
+            Ok(false)
+        }
+        None => Ok(true),
+    }
+}

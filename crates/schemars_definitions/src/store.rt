@@ -1,0 +1,36 @@
+//! A store of definitions.
+ghost use Rattle.std.specs.Prelude.{◌≡◌, IfOk, OnOk, OnErr, is_some, not, true, false};
+ghost use Rattle.serde_json.specs.Data.{Members, boolean, put};
+ghost use Rattle.serde_json.specs.Find.{get_member};
+ghost use Rattle.schemars_schema.specs.Edits.{replaced, without};
+
+use schemars_schema::Schema;
+use std::alloc::{AllocError, Global};
+
+/// A store of definitions by name. A definition is `false` from when it is begun until it is
+/// finished.
+pub trait Definitions {
+    /// The definitions that it keeps.
+    ghost kept: { Self → Members };
+
+    /// Returns whether there is a definition of this name.
+    fn contains_key(&self, name: &str) -> bool
+        ensures { result ≡ is_some (get_member name.now (kept self.now)) };
+
+    /// Begins a definition unless there is one of this name, and returns whether it did.
+    fn begin(&mut self, alloc: Global, name: &str) -> Result<bool, AllocError>
+        ensures is_new { IfOk result (λ b. b ≡ not (is_some (get_member name.now (kept self.old)))) }
+        ensures begun { IfOk result (λ b. b ≡ true
+            → kept self.new ≡ put name.now (boolean false) (kept self.old)) }
+        ensures same { IfOk result (λ b. b ≡ false → kept self.new ≡ kept self.old) }
+        ensures err { OnErr result (kept self.new ≡ kept self.old) };
+
+    /// Puts a schema in the place of the definition of this name, if there is one.
+    fn finish(&mut self, alloc: Global, name: &str, schema: Schema) -> Result<(), AllocError>
+        ensures ok { OnOk result (kept self.new ≡ replaced name.now schema (kept self.old)) }
+        ensures err { OnErr result (kept self.new ≡ kept self.old) };
+
+    /// Removes the definition of this name, if there is one.
+    fn remove(&mut self, name: &str)
+        ensures { kept self.new ≡ without name.now (kept self.old) };
+}
