@@ -1,2 +1,4 @@
 pub mod Members
 pub mod Restored
+pub mod KeptEdits
+pub mod ReadBack

@@ -1,8 +1,11 @@
-//! Where the definitions of a document are kept while it is generated.
+//! Where the definitions of a document are kept while it is generated: as JSON values or as text.
 #![tactic(auto)]
 
 mod objects;
+mod plain;
 mod store;
+mod texts;
 
 pub use objects::Objects;
 pub use store::Definitions;
+pub use texts::Texts;

@@ -1,10 +1,10 @@
 //! Definitions as JSON values.
 ghost use Rattle.std.specs.Prelude.{◌≡◌, true, false, not, is_some, string_bytes, IfOk, OnErr};
-ghost use Rattle.serde_json.specs.Data.{boolean, put};
+ghost use Rattle.serde_json.specs.Data.{boolean, no_members, put};
 ghost use Rattle.serde_json.specs.Find.{get_member, as_object};
 ghost use Rattle.serde_json.specs.View.{view};
 ghost use Rattle.schemars_schema.specs.SchemaData.{members_in};
-ghost use Rattle.schemars_schema.specs.Edits.{replaced, without};
+ghost use Rattle.schemars_schema.specs.Edits.{replaced};
 
 use crate::store::Definitions;
 use schemars_schema::Schema;
@@ -36,17 +36,24 @@ impl Model for Objects {
 }
 
 impl Objects {
-    /// No definitions.
-    pub fn new(alloc: Global) -> Objects {
+    /// Returns no definitions.
+    pub fn new(alloc: Global) -> Objects
+        ensures { result ≡ no_members }
+    {
         Objects {
             object: Schema::default(alloc),
         }
     }
+
+    // Puts a value in the place of the definition of this name, if there is one.
+    pub(crate) fn set(&mut self, name: &str, value: Value)
+        ensures { self.new ≡ replaced name.now (view value) self.old }
+    {
+        set_member(&mut self.object, name, value);
+    }
 }
 
 impl Definitions for Objects {
-    ghost use Rattle.std.specs.Prelude.{◌≡◌};
-
     ghost kept = { λ ms. ms };
 
     fn contains_key(&self, name: &str) -> bool {
@@ -59,7 +66,7 @@ impl Definitions for Objects {
     }
 
     fn finish(&mut self, _alloc: Global, name: &str, schema: Schema) -> Result<(), AllocError> {
-        set_member(&mut self.object, name, schema.to_value());
+        self.set(name, schema.to_value());
         Ok(())
     }
 
