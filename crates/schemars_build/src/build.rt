@@ -20,6 +20,7 @@ ghost use Rattle.schemars_build.specs.Left.{left_making, left_of_turn, IsWithin,
 ghost use Rattle.schemars_build.specs.declared.build.Document as src;
 
 use crate::work::Work;
+use schemars_definitions::Definitions;
 use schemars_documents::entry_template;
 use schemars_documents::template::basis::Basis;
 use schemars_documents::template::{Ask, SchemaTemplate, fill};
@@ -79,10 +80,10 @@ enum Request {
 }
 
 /// The document of row `n`, with its notes. Where rows are inlined, the row is pending meanwhile.
-pub fn own_document(
+pub fn own_document<D: Definitions>(
     alloc: Global,
     plan: &Plan<'_>,
-    work: &mut Work,
+    work: &mut Work<D>,
     in_definition: bool,
     n: TypeNo,
 ) -> Result<Schema, AllocError>
@@ -98,10 +99,10 @@ pub fn own_document(
 
 /// Returns the answer to a request: the row's schema as a part, a schema of its members, or a
 /// schema of the content beside a tag.
-pub fn answer(
+pub fn answer<D: Definitions>(
     alloc: Global,
     plan: &Plan<'_>,
-    work: &mut Work,
+    work: &mut Work<D>,
     in_definition: bool,
     ask: Ask,
 ) -> Result<Schema, AllocError>
@@ -118,10 +119,10 @@ pub fn answer(
 
 // Answers the request. The documents that are being made are in a list, the innermost last: each
 // waits for the one after it, and no call waits in another call for it.
-fn made(
+fn made<D: Definitions>(
     alloc: Global,
     plan: &Plan<'_>,
-    work: &mut Work,
+    work: &mut Work<D>,
     in_definition: bool,
     request: Request,
 ) -> Result<Schema, AllocError>
@@ -161,10 +162,10 @@ fn taken(
 }
 
 // Goes on with the innermost document: it asks the next row, or is done where all have answered.
-fn resumed<'t>(
+fn resumed<'t, D: Definitions>(
     alloc: Global,
     plan: &Plan<'t>,
-    work: &mut Work,
+    work: &mut Work<D>,
     making: &mut Vec<Document<'t>>,
 ) -> Result<Option<Schema>, AllocError>
     requires checked { IsChecked (plan_of plan.now).rows }
@@ -195,10 +196,10 @@ fn resumed<'t>(
 }
 
 // Replies to the first request.
-fn begun<'t>(
+fn begun<'t, D: Definitions>(
     alloc: Global,
     plan: &Plan<'t>,
-    work: &mut Work,
+    work: &mut Work<D>,
     making: &mut Vec<Document<'t>>,
     in_definition: bool,
     request: Request,
@@ -218,10 +219,10 @@ fn begun<'t>(
 
 // Replies to a request for a row: with an answer, or with a document that is added to the list of
 // documents that are being made.
-fn reply_to<'t>(
+fn reply_to<'t, D: Definitions>(
     alloc: Global,
     plan: &Plan<'t>,
-    work: &mut Work,
+    work: &mut Work<D>,
     making: &mut Vec<Document<'t>>,
     in_definition: bool,
     ask: Ask,
@@ -249,10 +250,10 @@ fn reply_to<'t>(
 
 // The row's own document: done, where it asks nothing, or begun. Where rows are inlined, the row is
 // pending until it is done.
-fn own<'t>(
+fn own<'t, D: Definitions>(
     alloc: Global,
     plan: &Plan<'t>,
-    work: &mut Work,
+    work: &mut Work<D>,
     making: &mut Vec<Document<'t>>,
     in_definition: bool,
     n: TypeNo,
@@ -288,10 +289,10 @@ fn own<'t>(
 
 // Replies with row `n` as a part: with a reference to its definition or to the root, or with what
 // is to stand in its place or in its definition.
-fn part<'t>(
+fn part<'t, D: Definitions>(
     alloc: Global,
     plan: &Plan<'t>,
-    work: &mut Work,
+    work: &mut Work<D>,
     making: &mut Vec<Document<'t>>,
     in_definition: bool,
     n: TypeNo,
@@ -331,7 +332,7 @@ fn part<'t>(
 }
 
 // Whether row `n` is in place where it is a part.
-fn is_in_place(plan: &Plan<'_>, work: &Work, n: TypeNo) -> bool
+fn is_in_place<D: Definitions>(plan: &Plan<'_>, work: &Work<D>, n: TypeNo) -> bool
     ensures { result ≡ is_in_place (plan_of plan.now).rows plan.now.inlines work.now.pending n }
 {
     is_inline(plan.types, n) || (plan.inlines && !work.is_pending(n))
@@ -389,10 +390,10 @@ fn template_at<'t>(
 }
 
 // Replies with what is made of a document whose parts have all answered.
-fn closed<'t>(
+fn closed<'t, D: Definitions>(
     alloc: Global,
     plan: &Plan<'t>,
-    work: &mut Work,
+    work: &mut Work<D>,
     making: &mut Vec<Document<'t>>,
     document: Document<'t>,
 ) -> Result<Option<Schema>, AllocError>
@@ -423,7 +424,7 @@ fn closed<'t>(
         Purpose::Definition(name, entered) => {
             let reference = reference_to(alloc, plan.path, name.as_str())?;
             work.leave(entered);
-            work.finish(name.as_str(), schema);
+            work.finish(alloc, name.as_str(), schema)?;
             Ok(Some(reference))
         }
         Purpose::Members(is_optional) => {

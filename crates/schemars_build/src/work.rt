@@ -5,8 +5,7 @@ ghost use Rattle.std.specs.Prelude.{IfOk, OnOk, OnErr, is_some, string_bytes, no
 ghost use Rattle.std.specs.Prelude.{if◌then◌else◌};
 ghost use Rattle.serde_json.specs.Data.{boolean, put, no_members};
 ghost use Rattle.serde_json.specs.Find.{get_member, as_object};
-ghost use Rattle.schemars_schema.specs.SchemaData.{members_in};
-ghost use Rattle.serde_json.specs.View.{view, members_view};
+ghost use Rattle.serde_json.specs.View.{members_view};
 ghost use Rattle.schemars_schema.specs.Edits.{replaced};
 ghost use Rattle.schemars_build.specs.Naming.{name_of, IsOneToOne};
 ghost use Rattle.schemars_types.specs.declared.contract.Contract.{Contract};
@@ -17,6 +16,7 @@ ghost use Rattle.serde_json.specs.Rows.{map_row};
 
 use crate::names::Names;
 use crate::pending::Pending;
+use schemars_definitions::{Definitions, Objects};
 use schemars_schema::Schema;
 use schemars_types::{Contract, TypeNo, Types};
 use serde_json::{Map, Value};
@@ -25,21 +25,18 @@ use std::marker::Model;
 
 /// The names and definitions that documents are made into, and what a call has added to them.
 #[derive(Drop)]
-pub struct Work {
+pub struct Work<D: Definitions> {
     names: Names,
-    // an object, kept as a schema for its exact edits
-    definitions: Schema,
+    definitions: D,
     begun: Vec<String>,
     kept: usize,
     meets_root: bool,
     pending: Pending,
 }
 
-impl Model for Work {
-    ghost use Rattle.std.specs.Prelude.{◌≡◌, ◌≤◌, true, map, length, is_some, string_bytes};
+impl<D: Definitions> Model for Work<D> {
+    ghost use Rattle.std.specs.Prelude.{◌≤◌, map, length, string_bytes};
     ghost use Rattle.std.specs.Coded.{codes};
-    ghost use Rattle.serde_json.specs.Find.{as_object};
-    ghost use Rattle.schemars_schema.specs.SchemaData.{members_in};
     ghost use Rattle.schemars_schema.specs.DataCode.{members_code};
     ghost use Rattle.schemars_build.specs.Work as specs;
 
@@ -49,22 +46,22 @@ impl Model for Work {
 
     ghost view = { λ w. record {
       names = w.names;
-      definitions = members_in w.definitions;
+      definitions = D.kept w.definitions;
       begun = map string_bytes w.begun.items;
       kept = w.kept;
       meets_root = w.meets_root;
       pending = w.pending;
     } };
 
-    ghost invariant = { λ w. (is_some (as_object w.definitions) ≡ true) × (w.kept ≤ length w.names) };
+    ghost invariant = { λ w. w.kept ≤ length w.names };
 }
 
-impl Clone for Work {
+impl Clone for Work<Objects> {
     ghost use Rattle.std.specs.Prelude.{◌≡◌};
 
     ghost is_clone = { λ v w. w ≡ v };
 
-    fn clone(&self) -> Result<Work, AllocError> {
+    fn clone(&self) -> Result<Work<Objects>, AllocError> {
         Ok(Work {
             names: self.names.clone()?,
             definitions: self.definitions.clone()?,
@@ -76,11 +73,11 @@ impl Clone for Work {
     }
 }
 
-impl Work {
+impl Work<Objects> {
     ghost use Rattle.schemars_build.specs.contracts.work.Work.{the_row};
 
     /// No names and no definitions.
-    pub fn new(alloc: Global) -> Work
+    pub fn new(alloc: Global) -> Work<Objects>
         ensures { result ≡ record {
           names = [];
           definitions = no_members;
@@ -92,7 +89,7 @@ impl Work {
     {
         Work {
             names: Names::new(alloc),
-            definitions: Schema::default(alloc),
+            definitions: Objects::new(alloc),
             begun: Vec::new(alloc),
             kept: 0,
             meets_root: false,
@@ -100,6 +97,39 @@ impl Work {
         }
     }
 
+    /// The definitions.
+    pub fn definitions(&self) -> &Map<String, Value>
+        ensures { members_view result.now.entries ≡ self.now.definitions }
+    {
+        self.definitions.as_object()
+    }
+
+    /// The definitions, for writing.
+    pub fn definitions_mut(&mut self) -> &mut Map<String, Value>
+        ensures* writes_back { sem 𝓛 (Lends the_row map_row self.entry result
+            (λ m. record self.old { definitions = members_view m.entries })) }
+        ensures value { members_view result.now.entries ≡ self.old.definitions }
+    {
+        self.definitions.as_object_mut()
+    }
+
+    /// A copy of the definitions.
+    pub fn copy_definitions(&self) -> Result<Map<String, Value>, AllocError>
+        ensures { IfOk result (λ m. members_view m.entries ≡ self.now.definitions) }
+    {
+        Ok(self.definitions.clone()?.into_object())
+    }
+
+    /// Takes the definitions.
+    pub fn take_definitions(&mut self, alloc: Global) -> Map<String, Value>
+        ensures taken { members_view result.entries ≡ self.old.definitions }
+        ensures rest { self.new ≡ record self.old { definitions = no_members } }
+    {
+        std::mem::replace(&mut self.definitions, Objects::new(alloc)).into_object()
+    }
+}
+
+impl<D: Definitions> Work<D> {
     /// Makes room for what is noted of this many rows.
     pub fn extend(&mut self, rows: usize) -> Result<(), AllocError>
         ensures { self.new ≡ self.old }
@@ -112,7 +142,7 @@ impl Work {
     pub fn has_definition(&self, name: &str) -> bool
         ensures { result ≡ is_some (get_member name.now self.now.definitions) }
     {
-        self.definitions.get(name).is_some()
+        self.definitions.contains_key(name)
     }
 
     /// The name of row `n`, which is given one if it has none.
@@ -161,9 +191,8 @@ impl Work {
         if is_likely && self.has_definition(name) {
             return Ok(false);
         }
-        let key = String::from_str(alloc, name)?;
         self.begun.push(String::from_str(alloc, name)?)?;
-        let is_new = add_member(&mut self.definitions, alloc, key, name);
+        let is_new = self.definitions.begin(alloc, name);
         if !matches!(is_new, Ok(true)) {
             let _ = self.begun.pop();
         }
@@ -176,10 +205,12 @@ impl Work {
     }
 
     /// Puts a definition that was begun in its place.
-    pub fn finish(&mut self, name: &str, schema: Schema)
-        ensures { self.new ≡ record self.old { definitions = replaced name.now schema self.old.definitions } }
+    pub fn finish(&mut self, alloc: Global, name: &str, schema: Schema) -> Result<(), AllocError>
+        ensures ok { OnOk result (self.new
+            ≡ record self.old { definitions = replaced name.now schema self.old.definitions }) }
+        ensures err { OnErr result (self.new ≡ self.old) }
     {
-        set_member(&mut self.definitions, name, schema.to_value());
+        self.definitions.finish(alloc, name, schema)
     }
 
     /// Notes that the root was referred to, where a definition does so.
@@ -228,50 +259,6 @@ impl Work {
         }
     }
 
-    /// The definitions.
-    pub fn definitions(&self) -> &Map<String, Value>
-        ensures { members_view result.now.entries ≡ self.now.definitions }
-    {
-        match self.definitions.as_object() {
-            Some(definitions) => definitions,
-            None => unreachable!(),
-        }
-    }
-
-    /// The definitions, for writing.
-    pub fn definitions_mut(&mut self) -> &mut Map<String, Value>
-        ensures* writes_back { sem 𝓛 (Lends the_row map_row self.entry result
-            (λ m. record self.old { definitions = members_view m.entries })) }
-        ensures value { members_view result.now.entries ≡ self.old.definitions }
-    {
-        match self.definitions.as_object_mut() {
-            Some(definitions) => definitions,
-            None => unreachable!(),
-        }
-    }
-
-    /// A copy of the definitions.
-    pub fn copy_definitions(&self) -> Result<Map<String, Value>, AllocError>
-        ensures { IfOk result (λ m. members_view m.entries ≡ self.now.definitions) }
-    {
-        match self.definitions.clone()?.to_value() {
-            Value::Object(definitions) => Ok(definitions),
-            _ => unreachable!(),
-        }
-    }
-
-    /// Takes the definitions.
-    pub fn take_definitions(&mut self, alloc: Global) -> Map<String, Value>
-        ensures taken { members_view result.entries ≡ self.old.definitions }
-        ensures rest { self.new ≡ record self.old { definitions = no_members } }
-    {
-        let definitions = std::mem::replace(&mut self.definitions, Schema::default(alloc));
-        match definitions.to_value() {
-            Value::Object(members) => members,
-            _ => unreachable!(),
-        }
-    }
-
     /// Keeps what was added.
     pub fn keep(&mut self)
         ensures one_to_one { IsOneToOne self.old.names }
@@ -304,59 +291,46 @@ impl Work {
         self.pending.clear();
         self.forget();
     }
-}
 
-fn set_member(object: &mut Schema, key: &str, value: Value)
-    requires { is_some (as_object object.old) ≡ true }
-    ensures members { members_in object.new
-        ≡ replaced key.now (view value) (members_in object.old) }
-    ensures object { is_some (as_object object.new) ≡ true }
-{
-    if let Some(member) = object.get_mut(key) {
-        *member = value;
-    }
-}
-
-// Adds a member that is `false`, unless there is one of this key, and answers whether it did.
-fn add_member(
-    object: &mut Schema,
-    alloc: Global,
-    key: String,
-    name: &str,
-) -> Result<bool, AllocError>
-    requires object { is_some (as_object object.old) ≡ true }
-    requires key { string_bytes key ≡ name.now }
-    ensures is_new { IfOk result (λ b. b
-        ≡ not (is_some (get_member name.now (members_in object.old)))) }
-    ensures added { IfOk result (λ b. b ≡ true
-        → members_in object.new ≡ put name.now (boolean false) (members_in object.old)) }
-    ensures same { IfOk result (λ b. b ≡ false → members_in object.new ≡ members_in object.old) }
-    ensures err { OnErr result (members_in object.new ≡ members_in object.old) }
-    ensures still_object { is_some (as_object object.new) ≡ true }
-{
-    let Some(members) = object.as_object() else {
-        unreachable!();
-    };
-    // its keys ascend, so that a member stays where it is
-    let _ = members.len();
-    match object.insert(alloc, key, Value::Bool(false))? {
-        Some(old) => {
-            set_member(object, name, old);
-            Ok(false)
+    /// The same work with another store, which keeps the same definitions.
+    pub fn with_store<E: Definitions>(self, store: E) -> Work<E>
+        requires { E.kept store ≡ self.definitions }
+        ensures { result ≡ self }
+    {
+        let Work {
+            names,
+            begun,
+            kept,
+            meets_root,
+            pending,
+            ..
+        } = self;
+        Work {
+            names,
+            definitions: store,
+            begun,
+            kept,
+            meets_root,
+            pending,
         }
-        None => Ok(true),
+    }
+
+    /// The store of the definitions.
+    pub fn into_store(self) -> D
+        ensures { D.kept result ≡ self.definitions }
+    {
+        let Work { definitions, .. } = self;
+        definitions
     }
 }
 
-// Removes the members of these keys, the last first.
-fn take_out(object: &mut Schema, keys: &mut Vec<String>)
-    requires { is_some (as_object object.old) ≡ true }
-    ensures members { members_in object.new
-        ≡ without_all (map string_bytes keys.old.items) (members_in object.old) }
-    ensures object { is_some (as_object object.new) ≡ true }
-    ensures keys { keys.new.items ≡ [] }
+// Removes the definitions of these names, the last first.
+fn take_out<D: Definitions>(definitions: &mut D, names: &mut Vec<String>)
+    ensures definitions { D.kept definitions.new
+        ≡ without_all (map string_bytes names.old.items) (D.kept definitions.old) }
+    ensures names { names.new.items ≡ [] }
 {
-    while let Some(key) = keys.pop() {
-        let _ = object.remove(key.as_str());
+    while let Some(name) = names.pop() {
+        definitions.remove(name.as_str());
     }
 }

@@ -2,13 +2,15 @@
 ghost use Rattle.std.specs.Prelude.{◌≡◌, true, false, not, is_some, string_bytes, IfOk, OnErr};
 ghost use Rattle.serde_json.specs.Data.{boolean, no_members, put};
 ghost use Rattle.serde_json.specs.Find.{get_member, as_object};
-ghost use Rattle.serde_json.specs.View.{view};
+ghost use Rattle.serde_json.specs.View.{view, members_view};
+ghost use Rattle.serde_json.specs.Rows.{map_row};
+ghost use Rattle.std.specs.Borrow.{Lends, sem};
 ghost use Rattle.schemars_schema.specs.SchemaData.{members_in};
 ghost use Rattle.schemars_schema.specs.Edits.{replaced};
 
 use crate::store::Definitions;
 use schemars_schema::Schema;
-use serde_json::Value;
+use serde_json::{Map, Value};
 use std::alloc::{AllocError, Global};
 use std::marker::Model;
 
@@ -36,6 +38,8 @@ impl Model for Objects {
 }
 
 impl Objects {
+    ghost use Rattle.schemars_definitions.specs.contracts.objects.Objects.{the_row};
+
     /// Returns no definitions.
     pub fn new(alloc: Global) -> Objects
         ensures { result ≡ no_members }
@@ -45,11 +49,55 @@ impl Objects {
         }
     }
 
+    /// Returns the definitions.
+    pub fn as_object(&self) -> &Map<String, Value>
+        ensures { members_view result.now.entries ≡ self.now }
+    {
+        match self.object.as_object() {
+            Some(members) => members,
+            None => unreachable!(),
+        }
+    }
+
+    /// Borrows the definitions mutably.
+    pub fn as_object_mut(&mut self) -> &mut Map<String, Value>
+        ensures* writes_back { sem 𝓛 (Lends the_row map_row self.entry result
+            (λ m. members_view m.entries)) }
+        ensures value { members_view result.now.entries ≡ self.old }
+    {
+        match self.object.as_object_mut() {
+            Some(members) => members,
+            None => unreachable!(),
+        }
+    }
+
+    /// Converts the store into its definitions.
+    pub fn into_object(self) -> Map<String, Value>
+        ensures { members_view result.entries ≡ self }
+    {
+        let Objects { object } = self;
+        match object.to_value() {
+            Value::Object(members) => members,
+            _ => unreachable!(),
+        }
+    }
+
     // Puts a value in the place of the definition of this name, if there is one.
     pub(crate) fn set(&mut self, name: &str, value: Value)
         ensures { self.new ≡ replaced name.now (view value) self.old }
     {
         set_member(&mut self.object, name, value);
+    }
+}
+
+impl Clone for Objects {
+    ghost use Rattle.std.specs.Prelude.{◌≡◌};
+
+    ghost is_clone = { λ o p. p ≡ o };
+
+    fn clone(&self) -> Result<Objects, AllocError> {
+        let object = self.object.clone()?;
+        Ok(Objects { object })
     }
 }
 
