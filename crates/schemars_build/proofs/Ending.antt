@@ -30,7 +30,7 @@ use Rattle.schemars_build.specs.declared.build.Purpose.{Purpose}
 use Rattle.schemars_build.specs.declared.build.Purpose.TheVariants as purpose
 use Rattle.schemars_build.proofs.Asked.{asks_in_order}
 use Rattle.schemars_build.proofs.Placing.{left_pending}
-use Rattle.schemars_build.proofs.Members.{get_member-replaced_other}
+use Rattle.schemars_definitions.proofs.Members.{get_member-replaced_other}
 use Rattle.schemars_build.proofs.Steps.{begun_with, finished_with, begun-fewer, missing-wider, step_wider, same_key}
 use Rattle.schemars_build.proofs.Descending.{to_asked, to_filled, to_define, to_definition}
 use Rattle.schemars_schema.proofs.Members.{get_member-replaced}

@@ -15,7 +15,7 @@ use Rattle.std.proofs.lemmas.Slice.Eq.{bytes_eq-Decides}
 use Rattle.schemars_schema.specs.Json.{Text}
 use Rattle.schemars_build.specs.Naming.{NamedRow, Naming, is_used, candidate}
 use Rattle.schemars_build.specs.Owners.{AreUsed, IsFirst, IsNoted}
-use Rattle.schemars_build.proofs.Members.{own_bytes}
+use Rattle.schemars_definitions.proofs.Members.{own_bytes}
 
 -- ---- more names
 

@@ -70,7 +70,7 @@ without-put k d (member l e ms) h = go (slice_cmp nat_cmp k l) refl h (without-p
     go Equal is h rest = cc
     go Greater is h rest = let apart : bytes_eq k l ≡ false = sym (is_eq-slice_cmp k l) ∙ ap is_eq is in rw apart (ap (member l e) (rest h))
 
-without-replaced : (k : Text) (d : Data) (ms : Members) → without k (replaced k d ms) ≡ without k ms
+pub without-replaced : (k : Text) (d : Data) (ms : Members) → without k (replaced k d ms) ≡ without k ms
 without-replaced k d no_members = refl
 without-replaced k d (member l e ms) = go (bytes_eq k l) refl (without-replaced k d ms)
   where
@@ -79,7 +79,7 @@ without-replaced k d (member l e ms) = go (bytes_eq k l) refl (without-replaced 
     go true is rest = rw is refl
     go false is rest = rw is (ap (member l e) rest)
 
-without-replaced_other : (q k : Text) (d : Data) (ms : Members) → bytes_eq q k ≡ false
+pub without-replaced_other : (q k : Text) (d : Data) (ms : Members) → bytes_eq q k ≡ false
     → without q (replaced k d ms) ≡ replaced k d (without q ms)
 without-replaced_other q k d no_members other = refl
 without-replaced_other q k d (member l e ms) other = go (bytes_eq k l) refl (bytes_eq q l) refl (without-replaced_other q k d ms other)

@@ -1,2 +1,5 @@
 -- The definitions that contracts cite.
+pub mod Keys
 pub mod Kept
+pub mod Joined
+pub mod Whole

@@ -1,6 +1,7 @@
 //! Where the definitions of a document are kept while it is generated: as JSON values or as text.
 #![tactic(auto)]
 
+mod joined;
 mod objects;
 mod plain;
 mod store;
@@ -8,4 +9,4 @@ mod texts;
 
 pub use objects::Objects;
 pub use store::Definitions;
-pub use texts::Texts;
+pub use texts::{Texts, has_no_definitions};

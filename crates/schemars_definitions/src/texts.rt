@@ -1,4 +1,13 @@
 //! Definitions as text.
+ghost use Rattle.std.specs.Prelude.{◌≡◌, false, string_bytes, IfOk, IsTrue};
+ghost use Rattle.serde_json.specs.Data.{no_members};
+ghost use Rattle.serde_json.specs.Written.{has_float};
+ghost use Rattle.schemars_text.specs.OrderedText.{ordered_text};
+ghost use Rattle.schemars_definitions.specs.Joined.{HasNoDefinitions};
+ghost use Rattle.schemars_definitions.specs.Keys.{HasKeysOnce};
+ghost use Rattle.schemars_definitions.specs.Whole.{with_defs};
+
+use crate::joined::joined;
 use crate::objects::Objects;
 use crate::plain::is_json;
 use crate::store::Definitions;
@@ -30,9 +39,6 @@ impl Model for Texts {
 }
 
 impl Texts {
-    ghost use Rattle.std.specs.Prelude.{◌≡◌};
-    ghost use Rattle.serde_json.specs.Data.{no_members};
-
     /// Returns no definitions.
     pub fn new(alloc: Global) -> Texts
         ensures { result ≡ no_members }
@@ -40,6 +46,24 @@ impl Texts {
         Texts {
             kept: Objects::new(alloc),
         }
+    }
+
+    /// Returns the ordered text of an object with these definitions under `$defs`, if there are
+    /// any.
+    ///
+    /// A number with a fraction or beyond 64 bits has the digits that `serde_json` gives it.
+    pub fn into_text(self, alloc: Global, own: &Schema) -> Result<String, AllocError>
+        requires { HasNoDefinitions own.now }
+        ensures text { IfOk result (λ s. has_float (with_defs self own.now) ≡ false
+            → string_bytes s ≡ ordered_text (with_defs self own.now)) }
+        ensures once { HasKeysOnce self }
+    {
+        let Texts { kept } = self;
+        let members = kept.into_object();
+        if members.len() == 0 {
+            return own.to_ordered_string(alloc);
+        }
+        joined(alloc, own, members)
     }
 }
 
@@ -66,4 +90,13 @@ impl Definitions for Texts {
     fn remove(&mut self, name: &str) {
         self.kept.remove(name);
     }
+}
+
+/// Returns whether a document is an object with neither `$defs` nor `definitions`.
+pub fn has_no_definitions(document: &Schema) -> bool
+    ensures { IsTrue result → HasNoDefinitions document.now }
+{
+    document.as_object().is_some()
+        && document.get("$defs").is_none()
+        && document.get("definitions").is_none()
 }

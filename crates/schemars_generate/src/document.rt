@@ -5,7 +5,7 @@ ghost use Rattle.serde_json.specs.View.{members_view};
 ghost use Rattle.schemars_types.specs.Faults.{IsChecked};
 ghost use Rattle.schemars_headline.specs.Headline.{IsRootOf, IsTitledRoot, CannotPlace};
 ghost use Rattle.schemars_headline.specs.Headline.{with_definitions};
-ghost use Rattle.schemars_headline.specs.Keys.{HasKeysOnce};
+ghost use Rattle.schemars_definitions.specs.Keys.{HasKeysOnce};
 ghost use Rattle.schemars_headline.specs.State.{state_plan, work_of};
 ghost use Rattle.schemars_build.specs.Missing.{row_asked};
 ghost use Rattle.schemars_build.specs.Naming.{IsOneToOne};

@@ -20,7 +20,7 @@ use Rattle.schemars_documents.proofs.OpenStructs.{plain_under}
 use Rattle.schemars_build.specs.Naming.{name_of, IsOneToOne}
 use Rattle.schemars_documents.specs.Documents.{reference, root_document}
 use Rattle.schemars_documents.specs.Basis.{Basis}
-use Rattle.schemars_headline.specs.Keys.{HasKeysOnce}
+use Rattle.schemars_definitions.specs.Keys.{HasKeysOnce}
 use Rattle.schemars_types.specs.declared.contract.Contract.{Contract}
 use Rattle.schemars_documents.specs.PlainTable.{IsPlainUnder, HasPlainNotes, HasNoFloat}
 use Rattle.schemars_build.specs.Work.{Plan, Work, IsKey, Refers, IsDefinition, Step, reference_to, basis_of_plan}

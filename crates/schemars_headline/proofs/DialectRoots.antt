@@ -22,7 +22,7 @@ use Rattle.schemars_meaning.proofs.Referring.{plain_rows, under_rows}
 use Rattle.schemars_build.proofs.Settled.{settled}
 use Rattle.schemars_headline.specs.State.{State, path_of, state_plan, HasOwnDefinitions}
 use Rattle.schemars_headline.specs.Headline.{MeansItsType, IsPlainFor, IsRootOf}
-use Rattle.schemars_headline.specs.Keys.{HasKeysOnce}
+use Rattle.schemars_definitions.specs.Keys.{HasKeysOnce}
 use Rattle.schemars_headline.proofs.Standing.{MayRefer, AllStand}
 use Rattle.schemars_headline.proofs.Standing as standings
 use Rattle.schemars_headline.proofs.Placed.{StandsAt, holds_put, draft_key}

@@ -55,7 +55,7 @@ use Rattle.schemars_shapes.specs.Units.{is_bare_unit}
 use Rattle.schemars_build.specs.Work.{Plan, Work, basis_of_plan}
 use Rattle.schemars_headline.proofs.Standing.{MayRefer, AllStand}
 use Rattle.schemars_headline.specs.Headline.{with_definitions}
-use Rattle.schemars_headline.specs.Keys.{HasKeysOnce}
+use Rattle.schemars_definitions.specs.Keys.{HasKeysOnce}
 use Rattle.schemars_headline.proofs.Keys.{AllMembers, all_members}
 use Rattle.schemars_meaning.proofs.Parts.{either, left_all, first_all, described_holds, written_holds}
 use Rattle.std.proofs.lemmas.Bool.{or_parts}

@@ -1,23 +1,17 @@
 -- The keys of members, and those of definitions.
-use Rattle.std.proofs.Common.{◌≡◌, ◌⊎◌, inl, inr, List, [], ◌∷◌, Some, None, true, false, Ordering, Less, Equal}
-use Rattle.std.proofs.Common.{Greater, nat_cmp, refl, sym, ap, ◌∙◌, true≢false, string_cmp, String, Global}
-use Rattle.std.proofs.Common.{string_bytes}
+use Rattle.std.proofs.Common.{◌≡◌, ◌⊎◌, inl, inr, ◌∷◌, [], Some, None, true, false, Ordering, Less, Equal}
+use Rattle.std.proofs.Common.{Greater, nat_cmp, refl, sym, ap, ◌∙◌, true≢false}
 use Rattle.std.specs.Prelude.{codes}
 use Rattle.std.specs.Ordering.{match_ordering}
 use Rattle.std.specs.Cmp.Lexicographic.{slice_cmp}
-use Rattle.std.specs.List.{AllByRecursion}
-use Rattle.std.specs.List.Sorted.{IsStrictlySortedBy}
-use Rattle.std.specs.Map.{keys_of}
 use Rattle.std.proofs.lemmas.Map.Lookups.{exact_bytes}
 use Rattle.serde_json.specs.Data.{Data, Members, no_members, member}
 use Rattle.serde_json.specs.Find.{get_member}
-use Rattle.serde_json.specs.View.{members_view}
-use Rattle.serde_json.proofs.Views.{Entry}
 use Rattle.schemars_schema.specs.Json.{Text}
 use Rattle.schemars_text.specs.OrderedText.{is_listed}
 use Rattle.schemars_schema.specs.Annotations.{is_annotation}
 use Rattle.schemars_schema.proofs.Objects.{annotation-not_listed}
-use Rattle.schemars_headline.specs.Keys.{HasKeysOnce}
+use Rattle.schemars_definitions.specs.Keys.{HasKeysOnce}
 use Rattle.schemars_build.specs.Work.{IsKey}
 use Rattle.schemars_text.proofs.Members.{get_member-here}
 
@@ -76,18 +70,6 @@ found_among P (member l e ms) all k d found = go (slice_cmp nat_cmp k l) found (
     go Less found later = later found
     go Equal found later = let same : e ≡ d = cc in rw (← same) (all.0)
     go Greater found later = later found
-
-absent_above : (k : String Global) (es : List Entry) → AllByRecursion (λ l. string_cmp k l ≡ Less) (keys_of es)
-    → get_member (string_bytes k) (members_view es) ≡ None
-absent_above k [] above = refl
-absent_above k (e ∷ es) above = let less : slice_cmp nat_cmp (string_bytes k) (string_bytes e.0) ≡ Less = above.0 in
-    rw less (absent_above k es above.1)
-
--- the entries of a map have each key once
-pub map_once : (es : List Entry) → IsStrictlySortedBy string_cmp (keys_of es) → HasKeysOnce (members_view es)
-unfolding IsStrictlySortedBy
-map_once [] sorted = tt
-map_once (e ∷ es) sorted = (absent_above e.0 es sorted.0, map_once es sorted.1)
 
 -- ---- where definitions are in a root document
 

@@ -21,7 +21,7 @@ use Rattle.schemars_meaning.proofs.Mapping.{describes-wider}
 use Rattle.schemars_build.proofs.Placing.{document_describes}
 use Rattle.schemars_headline.specs.State.{State, path_of, state_plan}
 use Rattle.schemars_headline.specs.Headline.{IsRootOf, IsDraftPath}
-use Rattle.schemars_headline.specs.Keys.{HasKeysOnce}
+use Rattle.schemars_definitions.specs.Keys.{HasKeysOnce}
 use Rattle.schemars_headline.proofs.Keys.{AllMembers, all_members, IsDefinitionsKey}
 use Rattle.schemars_headline.proofs.OwnKeys.{no_definitions_in}
 use Rattle.schemars_headline.proofs.Standing.{MayRefer, AllStand, refers_may}

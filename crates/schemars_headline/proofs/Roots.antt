@@ -30,7 +30,7 @@ use Rattle.schemars_meaning.proofs.FieldsDescribed.{written_or_null}
 use Rattle.schemars_headline.specs.State.{State, state_plan, work_of, HasOwnDefinitions}
 use Rattle.schemars_headline.specs.Headline.{IsRootOf, MeansItsType, MeansItsTypeIn, SubschemaHeadline, IsDraftPath, with_definitions}
 use Rattle.schemars_meaning.proofs.Notes.{judge-root}
-use Rattle.schemars_headline.specs.Keys.{HasKeysOnce}
+use Rattle.schemars_definitions.specs.Keys.{HasKeysOnce}
 use Rattle.schemars_headline.proofs.Keys.{all_members, IsDefinitionsKey}
 use Rattle.schemars_headline.proofs.OwnKeys.{no_definitions_in}
 use Rattle.schemars_meaning.proofs.Mapping.{describes-wider, written_map}

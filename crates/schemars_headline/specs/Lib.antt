@@ -1,4 +1,3 @@
-pub mod Keys
 pub mod State
 pub mod Headline
 pub mod Calls

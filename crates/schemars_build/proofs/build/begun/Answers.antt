@@ -9,7 +9,7 @@ use Rattle.schemars_build.proofs.Making.{leads_at_once, replied_through}
 use Rattle.schemars_build.proofs.build.begun.Goals as goal
 
 pub returns-in-Own-clause-replies : goal.returns-in-Own-clause-replies
-returns-in-Own-clause-replies c =
+returns-in-Own-clause-replies g c =
     let plan = plan_of c.args.plan.now in
     let inside = c.args.in_definition in
     let old = c.args.work.now in
@@ -23,7 +23,7 @@ returns-in-Own-clause-replies c =
     (leads_at_once plan inside old (own c.in-Own.n)) (λ r like. tt) h) c.own.ensures.replies)
 
 pub returns-in-Asked-clause-replies : goal.returns-in-Asked-clause-replies
-returns-in-Asked-clause-replies c =
+returns-in-Asked-clause-replies g c =
     let plan = plan_of c.args.plan.now in
     let inside = c.args.in_definition in
     let old = c.args.work.now in

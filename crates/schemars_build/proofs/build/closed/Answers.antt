@@ -23,7 +23,7 @@ use Rattle.schemars_build.proofs.Ending.{closing_replies, closing_less, left_few
 use Rattle.schemars_build.proofs.build.closed.Goals as goal
 
 pub returns-in-Own-clause-replies : goal.returns-in-Own-clause-replies
-returns-in-Own-clause-replies c = λ outside old want h.
+returns-in-Own-clause-replies g c = λ outside old want h.
     let plan = plan_of c.args.plan.now in
     let now = c.args.work.now in
     let new = c.leave.new.self in
@@ -34,7 +34,7 @@ returns-in-Own-clause-replies c = λ outside old want h.
     (closes_own plan outside old want now d h s filled c.in-Own.entered new c.in-Own.is c.leave.ensures)
 
 pub returns-in-Definition-clause-replies : goal.returns-in-Definition-clause-replies
-returns-in-Definition-clause-replies c = λ outside old want h.
+returns-in-Definition-clause-replies g c = λ outside old want h.
     let plan = plan_of c.args.plan.now in
     let now = c.args.work.now in
     let mid = c.leave-in-Definition.new.self in
@@ -61,7 +61,7 @@ returns-in-Definition-clause-replies c = λ outside old want h.
     closing_replies plan outside old want now new d (reverse c.args.making.now.items) t h (omega (arith, x, y, z)) replied
 
 pub returns-in-Members-clause-replies : goal.returns-in-Members-clause-replies
-returns-in-Members-clause-replies c = λ outside old want h.
+returns-in-Members-clause-replies g c = λ outside old want h.
     let plan = plan_of c.args.plan.now in
     let now = c.args.work.now in
     let d = c.args.document in
@@ -73,7 +73,7 @@ returns-in-Members-clause-replies c = λ outside old want h.
     c.in_ok-as_flattened-in-Members.ensures)
 
 pub returns-then-not-must_be_in_place-clause-replies : goal.returns-then-not-must_be_in_place-clause-replies
-returns-then-not-must_be_in_place-clause-replies c =
+returns-then-not-must_be_in_place-clause-replies g c =
     let plan = plan_of c.args.plan.now in
     let now = c.args.work.now in
     let new = c.part.new.work in
@@ -98,7 +98,7 @@ returns-then-not-must_be_in_place-clause-replies c =
     }) c.part.ensures.replies
 
 pub returns-clause-replies : goal.returns-clause-replies
-returns-clause-replies c = λ outside old want h.
+returns-clause-replies g c = λ outside old want h.
     let plan = plan_of c.args.plan.now in
     let now = c.args.work.now in
     let d = c.args.document in

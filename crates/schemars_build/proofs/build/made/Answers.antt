@@ -9,7 +9,7 @@ use Rattle.schemars_build.proofs.Making.{taken_goes, taken_home, taken_left, goe
 use Rattle.schemars_build.proofs.build.made.Goals as goal
 
 pub going-init : goal.going-init
-going-init c =
+going-init g c =
     let plan = plan_of c.args.plan.now in
     let first = c.args.in_definition in
     let start = c.args.work.now in
@@ -29,17 +29,17 @@ going-init c =
     }
 
 pub returns-in_err-last-clause-undone : goal.returns-in_err-last-clause-undone
-returns-in_err-last-clause-undone c = goes_on_undone (plan_of c.args.plan.now) c.args.in_definition c.args.work.now (wanted c.args.request)
+returns-in_err-last-clause-undone g c = goes_on_undone (plan_of c.args.plan.now) c.args.in_definition c.args.work.now (wanted c.args.request)
     c.going.work (reverse c.going.making.items) c.going.answer c.going.invariant
 
 pub returns-in_err-answer-2-clause-undone : goal.returns-in_err-answer-2-clause-undone
-returns-in_err-answer-2-clause-undone c = c.in_err-answer-2.ensures.undone ∙ goes_on_undone (plan_of c.args.plan.now) c.args.in_definition
+returns-in_err-answer-2-clause-undone g c = c.in_err-answer-2.ensures.undone ∙ goes_on_undone (plan_of c.args.plan.now) c.args.in_definition
     c.args.work.now (wanted c.args.request) c.going.work (reverse c.going.making.items) c.going.answer c.going.invariant
 
 -- nothing waits
-home : (c : goal.After-drop-making-in-Some) → Step (plan_of c.args.plan.now) c.args.work.now c.going.work
+home : (g : goal.The-bounds) (c : goal.After-drop-making-in-Some g) → Step (plan_of c.args.plan.now) c.args.work.now c.going.work
     × IsReply (plan_of c.args.plan.now) c.args.in_definition c.args.work.now c.going.work (wanted c.args.request) c.in-Some.schema
-home c =
+home g c =
     let fs = reverse c.taken.new.making.items in
     let taken : IsTaken (reverse c.going.making.items) c.going.answer fs (Some c.in-Some.schema) =
     subst (λ o. IsTaken (reverse c.going.making.items) c.going.answer fs o) c.in-Some.is c.in_ok-last.ensures in
@@ -47,13 +47,13 @@ home c =
     (reverse c.going.making.items) c.going.answer fs c.in-Some.schema taken c.going.invariant
 
 pub returns-in-Some-clause-step : goal.returns-in-Some-clause-step
-returns-in-Some-clause-step c = (home c).0
+returns-in-Some-clause-step g c = (home g c).0
 
 pub returns-in-Some-clause-is : goal.returns-in-Some-clause-is
-returns-in-Some-clause-is c = (home c).1
+returns-in-Some-clause-is g c = (home g c).1
 
 pub resumed-requires-clause-first : goal.resumed-requires-clause-first
-resumed-requires-clause-first c =
+resumed-requires-clause-first g c =
     let plan = plan_of c.args.plan.now in
     let all = wanted c.args.request in
     let es = reverse c.taken.new.making.items in
@@ -64,26 +64,26 @@ resumed-requires-clause-first c =
     c.going.invariant)
 
 -- what is taken
-are_taken : (c : goal.In_ok-answer-2) → IsTaken (reverse c.going.making.items) c.going.answer (reverse c.taken.new.making.items) None
-are_taken c = subst (λ o. IsTaken (reverse c.going.making.items) c.going.answer (reverse c.taken.new.making.items) o) c.in_default.is
+are_taken : (g : goal.The-bounds) (c : goal.In_ok-answer-2 g) → IsTaken (reverse c.going.making.items) c.going.answer (reverse c.taken.new.making.items) None
+are_taken g c = subst (λ o. IsTaken (reverse c.going.making.items) c.going.answer (reverse c.taken.new.making.items) o) c.in_default.is
     c.in_ok-last.ensures
 
-at : (c : goal.In_ok-answer-2)
+at : (g : goal.The-bounds) (c : goal.In_ok-answer-2 g)
     → AreMaking (plan_of c.args.plan.now) c.args.in_definition c.args.work.now (wanted c.args.request) c.going.work
     (reverse c.taken.new.making.items)
-at c = taken_goes (plan_of c.args.plan.now) c.args.in_definition c.args.work.now (wanted c.args.request) c.going.work
-    (reverse c.going.making.items) c.going.answer (reverse c.taken.new.making.items) (are_taken c) c.going.invariant
+at g c = taken_goes (plan_of c.args.plan.now) c.args.in_definition c.args.work.now (wanted c.args.request) c.going.work
+    (reverse c.going.making.items) c.going.answer (reverse c.taken.new.making.items) (are_taken g c) c.going.invariant
 
 pub going-smaller : goal.going-smaller
-going-smaller c =
+going-smaller g c =
     let plan = plan_of c.args.plan.now in
     let es = reverse c.taken.new.making.items in
     let same : left_making plan c.going.work es ≡ left_of_turn plan c.going.work (reverse c.going.making.items) c.going.answer =
     taken_left plan c.args.in_definition c.args.work.now (wanted c.args.request) c.going.work
     (reverse c.going.making.items) c.going.answer es
-    (are_taken c) c.going.invariant in
+    (are_taken g c) c.going.invariant in
     subst (λ k. left_of_turn plan c.resumed.new.work (reverse c.resumed.new.making.items) c.in_ok-answer-2.answer < k) same
-    (c.in_ok-answer-2.ensures.less c.args.in_definition c.args.work.now (wanted c.args.request) (at c))
+    (c.in_ok-answer-2.ensures.less c.args.in_definition c.args.work.now (wanted c.args.request) (at g c))
 
 pub going-preserved : goal.going-preserved
-going-preserved c = c.in_ok-answer-2.ensures.goes_on c.args.in_definition c.args.work.now (wanted c.args.request) (at c)
+going-preserved g c = c.in_ok-answer-2.ensures.goes_on c.args.in_definition c.args.work.now (wanted c.args.request) (at g c)

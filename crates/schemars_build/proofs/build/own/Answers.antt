@@ -10,7 +10,7 @@ use Rattle.schemars_build.proofs.Ending.{opened_within, own_within}
 use Rattle.schemars_build.proofs.build.own.Goals as goal
 
 pub returns-clause-replies : goal.returns-clause-replies
-returns-clause-replies c =
+returns-clause-replies g c =
     let plan = plan_of c.args.plan.now in
     let inside = c.args.in_definition in
     let old = c.args.work.now in
@@ -36,7 +36,7 @@ returns-clause-replies c =
     }
 
 pub returns-then-is_empty-clause-replies : goal.returns-then-is_empty-clause-replies
-returns-then-is_empty-clause-replies c =
+returns-then-is_empty-clause-replies g c =
     let plan = plan_of c.args.plan.now in
     let inside = c.args.in_definition in
     let old = c.args.work.now in

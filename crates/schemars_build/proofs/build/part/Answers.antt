@@ -62,7 +62,7 @@ was_missing a (Some d) h i = cc
 was_missing a None h i = refl
 
 pub returns-then-is_in_place-clause-replies : goal.returns-then-is_in_place-clause-replies
-returns-then-is_in_place-clause-replies c =
+returns-then-is_in_place-clause-replies g c =
     let plan = plan_of c.args.plan.now in
     let inside = c.args.in_definition in
     let old = c.args.work.now in
@@ -79,7 +79,7 @@ returns-then-is_in_place-clause-replies c =
     (λ r like. within_more plan (left_of_own_document plan old n) (left_of_part plan old n) new r low like) h) c.own.ensures.replies
 
 pub returns-then-eq-clause-replies : goal.returns-then-eq-clause-replies
-returns-then-eq-clause-replies c =
+returns-then-eq-clause-replies g c =
     let plan = plan_of c.args.plan.now in
     let old = c.args.work.now in
     let inside = c.args.in_definition in
@@ -106,9 +106,9 @@ returns-then-eq-clause-replies c =
     }
 
 -- the row is asked by its name
-by_name : (c : goal.In_ok-begin_new) → ComesFrom (plan_of c.args.plan.now) c.args.in_definition c.args.work.now (asked (part c.args.n))
+by_name : (g : goal.The-bounds) (c : goal.In_ok-begin_new g) → ComesFrom (plan_of c.args.plan.now) c.args.in_definition c.args.work.now (asked (part c.args.n))
     c.name_for.new.self (defined (string_bytes c.in_ok-name.name))
-by_name c =
+by_name g c =
     let plan = plan_of c.args.plan.now in
     let old = c.args.work.now in
     let n = c.args.n in
@@ -118,11 +118,11 @@ by_name c =
     (not_inline (is_inline_at plan.rows n) _ placed) (other_row plan.root n c.if-eq.ensures) c.requires.known c.in_ok-name.ensures.undone
 
 -- the name had no definition, and has begun one
-is_begun : (c : goal.After-enter) → let k = string_bytes c.in_ok-name.name in record {
+is_begun : (g : goal.The-bounds) (c : goal.After-enter g) → let k = string_bytes c.in_ok-name.name in record {
   none : get_member k c.name_for.new.self.definitions ≡ None;
   begun : c.begin_new.new.self ≡ begun_with c.name_for.new.self k;
 }
-is_begun c =
+is_begun g c =
     let mid = c.name_for.new.self in
     record {
       none = was_missing _ (get_member (string_bytes c.in_ok-name.name) mid.definitions) (c.in_ok-begin_new.ensures.is_new
@@ -131,7 +131,7 @@ is_begun c =
     }
 
 pub returns-then-not-branch-clause-replies : goal.returns-then-not-branch-clause-replies
-returns-then-not-branch-clause-replies c =
+returns-then-not-branch-clause-replies g c =
     let plan = plan_of c.args.plan.now in
     let old = c.args.work.now in
     let inside = c.args.in_definition in
@@ -156,19 +156,19 @@ returns-then-not-branch-clause-replies c =
     }
 
 pub returns-in_err-entered-clause-undone : goal.returns-in_err-entered-clause-undone
-returns-in_err-entered-clause-undone c =
+returns-in_err-entered-clause-undone g c =
     let new = is_begun (goal.at.returns-in_err-entered-clause-undone c).After-enter in
     ap undone c.in_err-entered.ensures.err ∙ (ap undone new.begun
     ∙ (undone-begun c.name_for.new.self (string_bytes c.in_ok-name.name) new.none ∙ c.in_ok-name.ensures.undone))
 
 pub returns-clause-undone : goal.returns-clause-undone
-returns-clause-undone c =
+returns-clause-undone g c =
     let new = is_begun (goal.at.returns-clause-undone c).After-enter in
     ap undone c.in_ok-entered.ensures.ok ∙ (ap undone new.begun
     ∙ (undone-begun c.name_for.new.self (string_bytes c.in_ok-name.name) new.none ∙ c.in_ok-name.ensures.undone))
 
 pub returns-clause-replies : goal.returns-clause-replies
-returns-clause-replies c =
+returns-clause-replies g c =
     let plan = plan_of c.args.plan.now in
     let old = c.args.work.now in
     let inside = c.args.in_definition in

@@ -18,7 +18,7 @@ use Rattle.schemars_build.proofs.Ending.{opened_within}
 use Rattle.schemars_build.proofs.build.reply_to.Goals as goal
 
 pub opened-requires : goal.opened-requires
-opened-requires c =
+opened-requires g c =
     let plan = plan_of c.args.plan.now in
     let known : c.in-MembersOf.n < length plan.rows =
     subst (λ a. row_asked (ask_of a) < length plan.rows) c.in-MembersOf.is c.requires.known in
@@ -27,7 +27,7 @@ opened-requires c =
     record { checked = c.requires.checked; known = inner }
 
 pub returns-after-not-required-clause-replies : goal.returns-after-not-required-clause-replies
-returns-after-not-required-clause-replies c =
+returns-after-not-required-clause-replies g c =
     let plan = plan_of c.args.plan.now in
     let inside = c.args.in_definition in
     let old = c.args.work.now in
@@ -55,7 +55,7 @@ returns-after-not-required-clause-replies c =
     }) c.opened.ensures)
 
 pub returns-in-Content-clause-replies : goal.returns-in-Content-clause-replies
-returns-in-Content-clause-replies c =
+returns-in-Content-clause-replies g c =
     let plan = plan_of c.args.plan.now in
     let inside = c.args.in_definition in
     let old = c.args.work.now in

@@ -14,7 +14,7 @@ use Rattle.schemars_build.proofs.Ending.{asks_lower}
 use Rattle.schemars_build.proofs.build.resumed.Goals as goal
 
 pub reply_to-requires-clause-known : goal.reply_to-requires-clause-known
-reply_to-requires-clause-known c =
+reply_to-requires-clause-known g c =
     let plan = plan_of c.args.plan.now in
     let xs = c.args.making.now.items in
     let x = c.in-Some.document.now in
@@ -28,7 +28,7 @@ reply_to-requires-clause-known c =
 
 -- the rows have all answered
 pub closed-requires : goal.closed-requires
-closed-requires c =
+closed-requires g c =
     let plan = plan_of c.args.plan.now in
     let xs = c.args.making.now.items in
     let y = c.in-Some-pop.document in
@@ -45,7 +45,7 @@ closed-requires c =
     }
 
 pub returns-in-Some-next-clause-goes_on : goal.returns-in-Some-next-clause-goes_on
-returns-in-Some-next-clause-goes_on c =
+returns-in-Some-next-clause-goes_on g c =
     let plan = plan_of c.args.plan.now in
     let xs = c.args.making.now.items in
     let x = c.in-Some.document.now in
@@ -69,7 +69,7 @@ returns-in-Some-next-clause-goes_on c =
     (subst (λ d. IsNext d x.in_definition (asked (ask_of a))) same next) h) c.reply_to.ensures.replies
 
 pub returns-in-Some-next-clause-less : goal.returns-in-Some-next-clause-less
-returns-in-Some-next-clause-less c =
+returns-in-Some-next-clause-less g c =
     let plan = plan_of c.args.plan.now in
     let xs = c.args.making.now.items in
     let x = c.in-Some.document.now in
@@ -92,7 +92,7 @@ returns-in-Some-next-clause-less c =
     (subst (λ d. left_of_asked plan now (ask_of a) < document_rank plan now now.pending d.row d.purpose) same low) h) c.reply_to.ensures.replies
 
 pub returns-clause-goes_on : goal.returns-clause-goes_on
-returns-clause-goes_on c =
+returns-clause-goes_on g c =
     let plan = plan_of c.args.plan.now in
     let xs = c.args.making.now.items in
     let y = c.in-Some-pop.document in
@@ -102,7 +102,7 @@ returns-clause-goes_on c =
     (reverse xs) (reverse c.closed.new.making.items) o at y ds are h) c.closed.ensures.replies
 
 pub returns-clause-less : goal.returns-clause-less
-returns-clause-less c =
+returns-clause-less g c =
     let plan = plan_of c.args.plan.now in
     let xs = c.args.making.now.items in
     let y = c.in-Some-pop.document in

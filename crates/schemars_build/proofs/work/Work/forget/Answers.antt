@@ -1,7 +1,6 @@
 -- What was begun is taken out of the definitions.
 use Rattle.std.proofs.Common.{ap, ◌∙◌, [], length, false}
 use Rattle.serde_json.specs.Data.{Members}
-use Rattle.schemars_schema.specs.SchemaData.{members_in}
 use Rattle.schemars_build.specs.Work.{Work, without_all}
 use Rattle.schemars_build.proofs.work.Work.forget.Goals as goal
 
@@ -10,8 +9,8 @@ abbrev forgotten : Work → Members → Work
 forgotten w ms = record w { definitions = ms; begun = []; kept = length w.names; meets_root = false }
 
 pub returns-clause-kept : goal.returns-clause-kept
-returns-clause-kept c =
+returns-clause-kept g c =
     let w = c.args.self.now in
     c.keep.ensures.kept
-    ∙ ap (λ (v : Work). forgotten v (members_in c.take_out.new.object)) c.self.view_is
-    ∙ ap (forgotten w) (c.take_out.ensures.members ∙ ap (λ (v : Work). without_all v.begun v.definitions) c.self.view_is)
+    ∙ ap (λ (v : Work). forgotten v (g.D.Definitions.kept c.take_out.new.definitions)) c.self.view_is
+    ∙ ap (forgotten w) (c.take_out.ensures.definitions ∙ ap (λ (v : Work). without_all v.begun v.definitions) c.self.view_is)

@@ -1,8 +1,8 @@
 use Rattle.std.proofs.Common.{Err, inr, subst}
 use Rattle.serde_json.specs.Data.{Members}
 use Rattle.serde_json.specs.View.{members_view}
-use Rattle.schemars_headline.specs.Keys.{HasKeysOnce}
-use Rattle.schemars_headline.proofs.Keys.{map_once}
+use Rattle.schemars_definitions.specs.Keys.{HasKeysOnce}
+use Rattle.schemars_definitions.proofs.Keys.{map_once}
 use Rattle.schemars_headline.proofs.Calls.{err_told}
 use Rattle.schemars_walk.specs.Walk.{EachMember, AtSchema}
 use Rattle.schemars_generate.specs.Generator.{state, state_of}
