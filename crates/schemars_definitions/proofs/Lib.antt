@@ -4,3 +4,4 @@ pub mod KeptEdits
 pub mod ReadBack
 pub mod Keys
 pub mod Floats
+pub mod JoinedTexts

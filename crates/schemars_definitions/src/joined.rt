@@ -1,12 +1,15 @@
-//! The text of a document with its definitions.
-ghost use Rattle.std.specs.Prelude.{◌≡◌, codes, false, string_bytes, IfOk};
+//! The text of an object that definitions are put into.
+ghost use Rattle.std.specs.Prelude.{◌≡◌, ◌++◌, ◌∷◌, false, codes, string_bytes, IfOk, OnOk};
+ghost use Rattle.json.specs.Print.{quoted};
 ghost use Rattle.serde_json.specs.Data.{object, put};
-ghost use Rattle.serde_json.specs.View.{members_view};
-ghost use Rattle.serde_json.specs.Written.{has_float, members_have_float};
+ghost use Rattle.serde_json.specs.View.{view, members_view};
+ghost use Rattle.serde_json.specs.Written.{comma_if, has_float, members_have_float};
+ghost use Rattle.schemars_text.specs.OrderedText.{NamedSchemas, ordered_text, texts};
+ghost use Rattle.schemars_text.specs.OrderedText.{with_commas, member_texts};
 ghost use Rattle.schemars_schema.specs.SchemaData.{members_in};
-ghost use Rattle.schemars_text.specs.OrderedText.{ordered_text};
-ghost use Rattle.schemars_definitions.specs.Joined.{HasNoDefinitions};
-ghost use Rattle.schemars_definitions.specs.Kept.{definitions_in, AreOrdered};
+ghost use Rattle.schemars_definitions.specs.Joined.{HasNoDefinitions, has_members};
+ghost use Rattle.schemars_definitions.specs.Kept.{IsOrdered, AreOrdered};
+ghost use Rattle.schemars_definitions.specs.Kept.{definition_in, definitions_in};
 
 use schemars_schema::Schema;
 use serde_json::{Map, Value};
@@ -25,6 +28,101 @@ pub(crate) fn joined(
         → string_bytes s ≡ ordered_text (object (put (codes "$defs")
         (object (definitions_in (members_view kept.entries))) (members_in own.now)))) }
 {
-    let _ = kept;
-    own.to_ordered_string(alloc)
+    let mut out = own.to_ordered_string(alloc)?;
+    // `$defs` comes last, in front of the brace at the end
+    let _brace = out.pop();
+    out.reserve_exact(room_for(&kept))?;
+    push_comma_if(&mut out, has_members(own))?;
+    out.push_str("\"$defs\":{")?;
+    push_definitions(&mut out, alloc, kept)?;
+    out.push_str("}}")?;
+    Ok(out)
+}
+
+fn has_members(own: &Schema) -> bool
+    ensures { result ≡ has_members own.now }
+{
+    match own.as_object() {
+        Some(members) => !members.is_empty(),
+        None => false,
+    }
+}
+
+// How many bytes are added with these definitions, but for those that are not kept as text.
+fn room_for(kept: &Map<String, Value>) -> usize {
+    let mut room = ",\"$defs\":{}}".len();
+    for (name, value) in kept {
+        let text_len = match value {
+            Value::String(text) => text.len(),
+            _ => 0,
+        };
+        room = room
+            .saturating_add(name.len())
+            .saturating_add(text_len)
+            .saturating_add(4);
+    }
+    room
+}
+
+// Adds the definitions, with commas between them.
+fn push_definitions(
+    out: &mut String,
+    alloc: Global,
+    kept: Map<String, Value>,
+) -> Result<(), AllocError>
+    requires { AreOrdered (members_view kept.entries) }
+    ensures { OnOk result (members_have_float (definitions_in (members_view kept.entries)) ≡ false
+        → string_bytes out.new ≡ string_bytes out.old ++ with_commas false
+        (texts (member_texts NamedSchemas (definitions_in (members_view kept.entries))))) }
+{
+    let mut later = false;
+    for (name, value) in kept {
+        push_comma_if(out, later)?;
+        push_definition(out, alloc, name, value)?;
+        later = true;
+    }
+    Ok(())
+}
+
+// A comma, if something stands before.
+fn push_comma_if(out: &mut String, later: bool) -> Result<(), AllocError>
+    ensures { OnOk result (string_bytes out.new ≡ string_bytes out.old ++ comma_if later) }
+{
+    if later {
+        out.push(',')?;
+    }
+    Ok(())
+}
+
+// Adds a name and its definition.
+fn push_definition(
+    out: &mut String,
+    alloc: Global,
+    name: String,
+    value: Value,
+) -> Result<(), AllocError>
+    requires { IsOrdered (view value) }
+    ensures { OnOk result (has_float (definition_in (view value)) ≡ false
+        → string_bytes out.new ≡ string_bytes out.old
+        ++ (quoted (string_bytes name) ++ 58 ∷ ordered_text (definition_in (view value)))) }
+{
+    let key = Value::String(name).to_string(alloc)?;
+    out.push_str(key.as_str())?;
+    out.push(':')?;
+    push_value(out, alloc, value)
+}
+
+// Adds a definition: a text as it is, and any other value as a schema.
+fn push_value(out: &mut String, alloc: Global, value: Value) -> Result<(), AllocError>
+    requires { IsOrdered (view value) }
+    ensures { OnOk result (has_float (definition_in (view value)) ≡ false
+        → string_bytes out.new ≡ string_bytes out.old ++ ordered_text (definition_in (view value))) }
+{
+    match value {
+        Value::String(text) => out.push_str(text.as_str()),
+        value => {
+            let text = schemars_text::to_ordered_string(alloc, &value)?;
+            out.push_str(text.as_str())
+        }
+    }
 }

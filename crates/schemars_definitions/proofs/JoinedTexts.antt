@@ -1,0 +1,210 @@
+-- The text of an object that definitions are put into: that of the object, and of one more member at its end.
+use Rattle.std.proofs.Common.{◌≡◌, ◌<◌, ◌-◌, ℕ, List, [], ◌∷◌, ◌++◌, length, get_or, take, Bool, true, false, not, ◌||◌, Option, Some, None}
+use Rattle.std.proofs.Common.{Ordering, Less, Equal, Greater, nat_cmp, refl, sym, ap, ◌∙◌, append_assoc, append-nil, length-append, arith}
+use Rattle.std.proofs.Math.Seq.{get_or-append_seam, take-append_seam}
+use Rattle.std.proofs.lemmas.Bool.{or_parts}
+use Rattle.std.proofs.lemmas.Map.Lookups.{exact_bytes}
+use Rattle.std.specs.Prelude.{bytes_eq, codes, IsTrue, ◌↔◌}
+use Rattle.std.specs.Ordering.{match_ordering}
+use Rattle.std.specs.Cmp.Lexicographic.{slice_cmp}
+use Rattle.json.specs.Print.{quoted, escape_byte}
+use Rattle.serde_json.specs.Data.{Data, object, Members, no_members, member, put}
+use Rattle.serde_json.specs.Find.{get_member}
+use Rattle.serde_json.specs.Written.{comma_if}
+use Rattle.serde_json.specs.View.{members_view}
+use Rattle.serde_json.proofs.Views.{Entry, get_member-put, get_member-put_other}
+use Rattle.schemars_text.specs.Text.{Text}
+use Rattle.schemars_text.specs.OrderedText.{SchemaLayout, NamedSchemas, Written, written_at, each_written_at, others, arranged, texts}
+use Rattle.schemars_text.specs.OrderedText.{with_commas, text_in, member_texts, ordered_text, is_listed, first_keywords, last_keywords}
+use Rattle.schemars_text.proofs.Members.{differ, flipped, bytes_eq_comm}
+use Rattle.schemars_text.proofs.OrderedTexts.{written_member, written_at-found, written_at-missing}
+use Rattle.schemars_schema.specs.SchemaData.{members_in}
+use Rattle.schemars_definitions.specs.Joined.{HasNoDefinitions, is_any, has_members}
+
+abbrev written : Members → List Written
+written ms = member_texts SchemaLayout ms
+
+-- ---- where a member that is put in is written
+
+written_at-put_other : (j k : Text) (d : Data) (ms : Members) → bytes_eq j k ≡ false
+    → written_at j (written (put k d ms)) ≡ written_at j (written ms)
+written_at-put_other j k d ms apart = go (get_member j ms) refl
+  where
+    same : get_member j (put k d ms) ≡ get_member j ms
+    same = get_member-put_other j k d ms (differ j k apart)
+
+    go : (o : Option Data) → get_member j ms ≡ o → written_at j (written (put k d ms)) ≡ written_at j (written ms)
+    go None is = written_at-missing j (put k d ms) (same ∙ is) ∙ sym (written_at-missing j ms is)
+    go (Some e) is = written_at-found j e (put k d ms) (same ∙ is) ∙ sym (written_at-found j e ms is)
+
+each_written_at-put_other : (ks : List Text) (k : Text) (d : Data) (ms : Members) → is_listed k ks ≡ false
+    → each_written_at ks (written (put k d ms)) ≡ each_written_at ks (written ms)
+each_written_at-put_other [] k d ms apart = refl
+each_written_at-put_other (j ∷ ks) k d ms apart =
+    let parts = or_parts (bytes_eq k j) (is_listed k ks) apart in
+    rw (written_at-put_other j k d ms (flipped k j parts.0), each_written_at-put_other ks k d ms parts.1)
+
+abbrev has_place : Text → Bool
+has_place k = is_listed k first_keywords || is_listed k last_keywords
+
+others-put : (k : Text) (d : Data) (ms : Members) → has_place k ≡ true → others (written (put k d ms)) ≡ others (written ms)
+unfolding member_texts
+others-put k d no_members placed = rw placed
+others-put k d (member l e ms) placed = go (slice_cmp nat_cmp k l) refl (others-put k d ms placed)
+  where
+    go : (o : Ordering) → slice_cmp nat_cmp k l ≡ o → others (written (put k d ms)) ≡ others (written ms)
+        → others (written (match_ordering o (member k d (member l e ms)) (member l d ms) (member l e (put k d ms))))
+        ≡ others (written (member l e ms))
+    go Less is later = rw placed
+    go Equal is later = let there : has_place l ≡ true = ap has_place (sym (exact_bytes k l is)) ∙ placed in rw there
+    go Greater is later = rw later
+
+-- it is the last one
+arranged-put : (d : Data) (ms : Members) → get_member (codes "$defs") ms ≡ None → get_member (codes "definitions") ms ≡ None
+    → arranged SchemaLayout (written (put (codes "$defs") d ms))
+    ≡ arranged SchemaLayout (written ms) ++ written_member (codes "$defs") d ∷ []
+arranged-put d ms none none_old =
+    let k = codes "$defs" in
+    let first = each_written_at first_keywords (written ms) in
+    rw (
+      each_written_at-put_other first_keywords k d ms refl,
+      others-put k d ms refl,
+      written_at-found k d (put k d ms) (get_member-put k d ms),
+      written_at-put_other (codes "definitions") k d ms refl,
+      written_at-missing (codes "definitions") ms none_old,
+      written_at-missing k ms none,
+      append-nil (others (written ms)),
+    ) (sym (append_assoc first (others (written ms)) (written_member k d ∷ [])))
+
+-- ---- whether there are members
+
+abbrev is_more : {A : Type 0} → List A → Bool
+is_more [] = false
+is_more (x ∷ xs) = true
+
+is_more-append : {A : Type 0} (xs ys : List A) → is_more (xs ++ ys) ≡ (is_more xs || is_more ys)
+is_more-append [] ys = refl
+is_more-append (x ∷ xs) ys = refl
+
+is_more-texts : (ws : List Written) → is_more (texts ws) ≡ is_more ws
+is_more-texts [] = refl
+is_more-texts (w ∷ ws) = refl
+
+or_true : (b : Bool) → b || true ≡ true
+or_true true = refl
+or_true false = refl
+
+is_more-listed : (ks : List Text) (w : Written) (ws : List Written) → is_listed w.key ks ≡ true
+    → is_more (each_written_at ks (w ∷ ws)) ≡ true
+is_more-listed [] w ws h = cc
+is_more-listed (k ∷ ks) w ws h = go (bytes_eq w.key k) refl h (is_more-listed ks w ws)
+  where
+    go : (b : Bool) → bytes_eq w.key k ≡ b → b || is_listed w.key ks ≡ true
+        → (is_listed w.key ks ≡ true → is_more (each_written_at ks (w ∷ ws)) ≡ true)
+        → is_more (written_at k (w ∷ ws) ++ each_written_at ks (w ∷ ws)) ≡ true
+    go true is h later = let same : bytes_eq k w.key ≡ true = bytes_eq_comm k w.key ∙ is in rw same
+    go false is h later =
+        is_more-append (written_at k (w ∷ ws)) (each_written_at ks (w ∷ ws))
+        ∙ (ap (λ b. is_more (written_at k (w ∷ ws)) || b) (later h) ∙ or_true (is_more (written_at k (w ∷ ws))))
+
+is_more-arranged : (w : Written) (ws : List Written) → is_more (arranged SchemaLayout (w ∷ ws)) ≡ true
+is_more-arranged w ws =
+    is_more-append first (middle ++ last)
+    ∙ (ap (λ b. is_more first || b) (is_more-append middle last)
+    ∙ go (is_listed w.key first_keywords) refl (is_listed w.key last_keywords) refl)
+  where
+    first : List Written
+    first = each_written_at first_keywords (w ∷ ws)
+
+    middle : List Written
+    middle = others (w ∷ ws)
+
+    last : List Written
+    last = each_written_at last_keywords (w ∷ ws)
+
+    go : (b : Bool) → is_listed w.key first_keywords ≡ b → (c : Bool) → is_listed w.key last_keywords ≡ c
+        → is_more first || (is_more middle || is_more last) ≡ true
+    go true is c at = rw (is_more-listed first_keywords w ws is)
+    go false is true at = rw (is_more-listed last_keywords w ws at, or_true (is_more middle)) (or_true (is_more first))
+    go false is false at = rw (is, at) (or_true (is_more first))
+
+is_more-members : (ms : Members) → is_more (texts (arranged SchemaLayout (written ms))) ≡ is_any ms
+unfolding member_texts
+is_more-members no_members = refl
+is_more-members (member k d ms) =
+    is_more-texts (arranged SchemaLayout (written_member k d ∷ written ms)) ∙ is_more-arranged (written_member k d) (written ms)
+
+-- ---- text
+
+with_commas-last : (later : Bool) (ts : List Text) (t : Text)
+    → with_commas later (ts ++ t ∷ []) ≡ with_commas later ts ++ (comma_if (later || is_more ts) ++ t)
+with_commas-last true [] t = ap (λ x. 44 ∷ x) (append-nil t)
+with_commas-last false [] t = append-nil t
+with_commas-last true (u ∷ us) t = rw (with_commas-last true us t) (ap (λ x. 44 ∷ x) (sym (append_assoc u (with_commas true us) (44 ∷ t))))
+with_commas-last false (u ∷ us) t = rw (with_commas-last true us t) (sym (append_assoc u (with_commas true us) (44 ∷ t)))
+
+texts-last : (ws : List Written) (w : Written) → texts (ws ++ w ∷ []) ≡ texts ws ++ w.text ∷ []
+texts-last [] w = refl
+texts-last (v ∷ vs) w = ap (λ ts. v.text ∷ ts) (texts-last vs w)
+
+-- whether a map of entries has members
+pub none_or_any : (es : List Entry) (is_empty : Bool) → IsTrue is_empty ↔ (length es ≡ 0) → not is_empty ≡ is_any (members_view es)
+none_or_any [] true h = refl
+none_or_any [] false h = cc (h.1 refl)
+none_or_any (e ∷ es) true h = absurd (omega (arith, h.0 refl))
+none_or_any (e ∷ es) false h = refl
+
+-- the texts of definitions
+abbrev pub definition_texts : Members → List Text
+definition_texts ms = texts (member_texts NamedSchemas ms)
+
+pub one_definition : (k : Text) (d : Data) (ms : Members) → definition_texts (member k d ms)
+    ≡ (quoted k ++ 58 ∷ ordered_text d) ∷ definition_texts ms
+unfolding member_texts
+one_definition k d ms = refl
+
+pub one_more : (out : Text) (later : Bool) (t : Text) (ts : List Text)
+    → ((out ++ comma_if later) ++ t) ++ with_commas true ts ≡ out ++ with_commas later (t ∷ ts)
+one_more out later t ts = append_assoc (out ++ comma_if later) t (with_commas true ts)
+    ∙ append_assoc out (comma_if later) (t ++ with_commas true ts)
+
+pub no_more : (out : Text) (later : Bool) → out ++ with_commas later (definition_texts no_members) ≡ out
+unfolding member_texts
+no_more out later = append-nil out
+
+regroup : (own comma key texts : Text) → (((own ++ comma) ++ key) ++ texts) ++ (125 ∷ 125 ∷ [])
+    ≡ (own ++ (comma ++ (key ++ (texts ++ 125 ∷ [])))) ++ 125 ∷ []
+regroup own comma key texts = simp append_assoc
+
+-- the brace at the end is taken off
+cut_last : (xs start front : Text) (x n : ℕ) → x < 128 → start ≡ xs ++ x ∷ [] → n ≡ length start
+    → (0 < n → get_or start (n - 1) 0 < 128 → front ≡ take (n - 1) start) → front ≡ xs
+cut_last xs start front x n ascii is len cut =
+    let at : n - 1 ≡ length xs = omega (arith, ap length is, length-append xs (x ∷ [])) in
+    let last : get_or start (n - 1) 0 ≡ x = rw (at, is) (get_or-append_seam xs x [] 0) in
+    cut (omega (arith, ap length is, length-append xs (x ∷ []))) (rw last ascii) ∙ rw (at, is) (take-append_seam xs (x ∷ []))
+
+in_parts : (ms defs : Members) → get_member (codes "$defs") ms ≡ None → get_member (codes "definitions") ms ≡ None
+    → ((((123 ∷ with_commas false (texts (arranged SchemaLayout (written ms)))) ++ comma_if (is_any ms)) ++ codes "\"$defs\":{")
+    ++ with_commas false (definition_texts defs)) ++ codes "}}"
+    ≡ ordered_text (object (put (codes "$defs") (object defs) ms))
+unfolding text_in escape_byte
+in_parts ms defs none none_old =
+    let own = texts (arranged SchemaLayout (written ms)) in
+    let new = written_member (codes "$defs") (object defs) in
+    let all : texts (arranged SchemaLayout (written (put (codes "$defs") (object defs) ms))) ≡ own ++ new.text ∷ [] =
+    ap texts (arranged-put (object defs) ms none none_old) ∙ texts-last (arranged SchemaLayout (written ms)) new in
+    rw (all, with_commas-last false own new.text, is_more-members ms)
+    (ap (λ x. 123 ∷ x) (regroup (with_commas false own) (comma_if (is_any ms)) (codes "\"$defs\":{") (with_commas false (definition_texts
+    defs))))
+
+-- the text of the object without its last byte, and then that of the new member
+pub joined_text : (own : Data) (defs : Members) (start front : Text) (n : ℕ) → HasNoDefinitions own → start ≡ ordered_text own
+    → n ≡ length start → (0 < n → get_or start (n - 1) 0 < 128 → front ≡ take (n - 1) start)
+    → (((front ++ comma_if (has_members own)) ++ codes "\"$defs\":{") ++ with_commas false (definition_texts defs)) ++ codes "}}"
+    ≡ ordered_text (object (put (codes "$defs") (object defs) (members_in own)))
+unfolding text_in
+joined_text (object ms) defs start front n apart is len cut =
+    rw (cut_last (123 ∷ with_commas false (texts (arranged SchemaLayout (written ms)))) start front 125 n (omega arith) is len cut)
+    (in_parts ms defs apart.0 apart.1)
+joined_text _ defs start front n apart is len cut = absurd apart

@@ -1,0 +1,20 @@
+-- What is left goes behind what is written, as all of it does behind the text at the start.
+use Rattle.std.proofs.Common.{◌≡◌, ◌++◌, false, string_bytes}
+use Rattle.serde_json.specs.View.{members_view}
+use Rattle.serde_json.specs.Written.{members_have_float}
+use Rattle.schemars_text.specs.OrderedText.{with_commas}
+use Rattle.schemars_definitions.specs.Kept.{AreOrdered, definitions_in}
+use Rattle.schemars_definitions.proofs.JoinedTexts.{definition_texts}
+use Rattle.schemars_definitions.proofs.joined.push_definitions.Given as goal
+
+abbrev pub invariant-loop-name : goal.invariant-loop-name
+invariant-loop-name l =
+    let left = members_view l.name-iterator in
+    let all = members_view l.fn.kept.entries in
+    record {
+      ordered : AreOrdered left;
+      floats : members_have_float (definitions_in all) ≡ false → members_have_float (definitions_in left) ≡ false;
+      same : members_have_float (definitions_in all) ≡ false
+          → string_bytes l.out ++ with_commas l.later (definition_texts (definitions_in left))
+          ≡ string_bytes l.fn.out ++ with_commas false (definition_texts (definitions_in all));
+    }
