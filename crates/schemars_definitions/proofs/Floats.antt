@@ -1,5 +1,5 @@
 -- A number that is not whole in an object with its definitions.
-use Rattle.std.proofs.Common.{◌≡◌, ◌||◌, Bool, false, Option, Some, None, Ordering, Less, Equal, Greater, nat_cmp, refl, ap, ◌∙◌}
+use Rattle.std.proofs.Common.{◌≡◌, ◌||◌, false, Some, None, Ordering, Less, Equal, Greater, nat_cmp, ap, ◌∙◌}
 use Rattle.std.specs.Cmp.Lexicographic.{slice_cmp}
 use Rattle.std.specs.Ordering.{match_ordering}
 use Rattle.std.proofs.lemmas.Bool.{or_parts}

@@ -1,7 +1,10 @@
-pub mod Members
-pub mod Restored
-pub mod KeptEdits
-pub mod ReadBack
-pub mod Keys
 pub mod Floats
 pub mod JoinedTexts
+pub mod JsonValues
+pub mod KeptEdits
+pub mod KeyOrder
+pub mod Keys
+pub mod Members
+pub mod ReadBack
+pub mod Rearranged
+pub mod Restored

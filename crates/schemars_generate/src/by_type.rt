@@ -14,6 +14,7 @@ use crate::error::GenerateError;
 use crate::generate::{SchemaGenerator, last_root};
 use crate::settings::SchemaSettings;
 use schemars_build::work::Work;
+use schemars_definitions::Objects;
 use schemars_documents::template::Ask;
 use schemars_impls::{JsonSchema, register};
 use schemars_schema::Schema;
@@ -114,7 +115,7 @@ fn subschema_of<T: JsonSchema, O>(
     alloc: Global,
     settings: &SchemaSettings<O>,
     types: &mut Types,
-    work: &mut Work,
+    work: &mut Work<Objects>,
 ) -> Result<Schema, GenerateError>
     requires checked { IsAccepted types.old × IsChecked types.old }
     requires between { work.old ≡ work_of (state_of settings.now types.old work.old) }
@@ -141,7 +142,7 @@ fn root_of<T: JsonSchema, O: Transform>(
     alloc: Global,
     settings: &mut SchemaSettings<O>,
     types: &mut Types,
-    work: &mut Work,
+    work: &mut Work<Objects>,
 ) -> Result<Schema, GenerateError>
     requires checked { IsAccepted types.old × IsChecked types.old }
     requires between { work.old ≡ work_of (state_of settings.old types.old work.old) }

@@ -29,6 +29,7 @@ use crate::document::{answer_of, last_document, root_document, row_asked};
 pub use crate::error::GenerateError;
 pub use crate::settings::SchemaSettings;
 use schemars_build::work::Work;
+use schemars_definitions::Objects;
 use schemars_documents::template::Ask;
 use schemars_schema::Schema;
 pub use schemars_transform::GenTransform;
@@ -58,7 +59,7 @@ use std::marker::Model;
 pub struct SchemaGenerator<O = Box<dyn Transform + Drop>> {
     pub(crate) settings: SchemaSettings<O>,
     pub(crate) types: Types,
-    pub(crate) work: Work,
+    pub(crate) work: Work<Objects>,
 }
 
 impl<O> Model for SchemaGenerator<O> {
@@ -110,7 +111,7 @@ impl<O> SchemaGenerator<O> {
         SchemaGenerator {
             settings,
             types: Types::new(alloc),
-            work: Work::new(alloc),
+            work: Work<Objects>::new(alloc),
         }
     }
 
@@ -402,7 +403,7 @@ pub(crate) fn last_root<O: Transform>(
     alloc: Global,
     settings: &mut SchemaSettings<O>,
     types: &Types,
-    work: Work,
+    work: Work<Objects>,
     n: TypeNo,
 ) -> Result<Schema, GenerateError>
     requires checked { IsChecked types.now }
@@ -420,7 +421,7 @@ pub(crate) fn last_root<O: Transform>(
 }
 
 // Refuses a row that the table does not have.
-fn has_row(types: &Types, n: TypeNo) -> Result<(), GenerateError>
+pub(crate) fn has_row(types: &Types, n: TypeNo) -> Result<(), GenerateError>
     ensures known { OnOk result (n < length types.now) }
     ensures unknown { IfErr result (λ e. (e ≡ GenerateError.UnknownType n)
         × (length types.now ≤ n)) }

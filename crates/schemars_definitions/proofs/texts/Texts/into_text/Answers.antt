@@ -1,5 +1,5 @@
 -- The text of the whole, where the definitions are none or some.
-use Rattle.std.proofs.Common.{◌≡◌, ℕ, List, [], ◌∷◌, length, false, codes, refl, sym, ap, ◌∙◌, subst, string_bytes}
+use Rattle.std.proofs.Common.{◌≡◌, List, [], ◌∷◌, length, false, codes, refl, ap, ◌∙◌, subst, string_bytes}
 use Rattle.std.proofs.lemmas.Result.{IfOk-weaker}
 use Rattle.serde_json.specs.Data.{Data, Members, null, boolean, number, string, array, object, put}
 use Rattle.serde_json.specs.View.{members_view}

@@ -8,7 +8,7 @@ use Rattle.schemars_schema.specs.Json.{Text, IsJson}
 use Rattle.schemars_schema.specs.SchemaData.{IsSchema}
 use Rattle.schemars_schema.specs.Edits.{replaced}
 use Rattle.schemars_text.specs.OrderedText.{ordered_text}
-use Rattle.schemars_definitions.specs.Kept.{parsed, definition_in, definitions_in, IsOrdered, AreOrdered}
+use Rattle.schemars_definitions.specs.Kept.{parsed, definition_in, definitions_in, AreOrdered}
 use Rattle.schemars_definitions.proofs.KeptEdits.{replaced-kept, ordered-replaced, schema-kept, schema-ordered, text-kept}
 use Rattle.schemars_definitions.proofs.ReadBack.{parsed-ordered, has_float-json}
 use Rattle.schemars_definitions.proofs.texts.TextsDefinitions.finish.Goals as goal
