@@ -1,17 +1,19 @@
 -- What is made for a row is its output.
-use Rattle.std.proofs.Common.{◌≡◌, ◌≢◌, ℕ, List, true, ap, ◌∙◌, sym, subst}
+use Rattle.std.proofs.Common.{◌≡◌, ◌≢◌, ℕ, List, true, refl, ap, ◌∙◌, sym, subst, String, Global, string_bytes}
 use Rattle.serde_json.specs.Data.{Data, Members}
 use Rattle.schemars_schema.specs.Json.{Text}
 use Rattle.schemars_types.specs.Rows.{Row}
 use Rattle.schemars_types.specs.Faults.{IsAccepted}
 use Rattle.schemars_transform.specs.declared.no_transform.NoTransform.{NoTransform}
 use Rattle.schemars_generate.specs.Generator.{Generator, state, transforms_of}
+use Rattle.schemars_generate.specs.RootText.{IsTextOf}
 use Rattle.schemars_headline.specs.State.{State}
 use Rattle.schemagen_input.specs.Input.{is_table}
 use Rattle.schemagen_run.specs.declared.words.Asked.{Asked}
 use Rattle.schemagen_run.specs.declared.words.Dialect.{Dialect}
 use Rattle.schemagen_run.specs.declared.words.Dialect.TheVariants.{OpenApi3}
 use Rattle.schemagen_run.specs.declared.output.Output.TheVariants.{Document}
+use Rattle.schemagen_run.specs.declared.output.Output.TheVariants as output
 use Rattle.schemagen_run.specs.Run.{IsWrittenDocument, AreDefinitionsOf, IsDefinitionsLine, IsLineIn, IsLineOf, fresh}
 use Rattle.schemagen_run.specs.Run.{transforms_of_dialect}
 use Rattle.schemagen_run.specs.Output.{IsOutputOf, IsFreshFor}
@@ -20,6 +22,11 @@ use Rattle.schemagen_run.proofs.Runs.{in_draft}
 pub document_is_output : (asked : Asked) (rows : List Row) (root : ℕ) (d : Data) → asked.dialect ≢ OpenApi3
     → IsWrittenDocument asked rows root d → IsOutputOf asked rows root (Document d)
 document_is_output asked rows root d draft written = λ line of. in_draft asked rows root line asked.dialect draft (d, written, of)
+
+pub text_is_output : (asked : Asked) (rows : List Row) (root : ℕ) (d : Data) (s : String Global) → asked.dialect ≢ OpenApi3
+    → IsWrittenDocument asked rows root d → IsTextOf d (string_bytes s) → IsOutputOf asked rows root (output.Text s)
+text_is_output asked rows root d s draft written text = λ line of.
+    in_draft asked rows root line asked.dialect draft (d, written, of.0, (λ none. of.1 refl ∙ text none), of.2)
 
 pub definitions_line : (asked : Asked) (rows : List Row) (root : ℕ) (taken : Members) (line : Text) → asked.dialect ≡ OpenApi3
     → AreDefinitionsOf asked rows root taken → IsDefinitionsLine taken line → IsLineOf asked rows root line

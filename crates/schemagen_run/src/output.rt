@@ -1,5 +1,5 @@
 //! What a run writes.
-ghost use Rattle.std.specs.Prelude.{◌≡◌, ◌≢◌, Err, IsTrue, IfErr, OnOk, [], ◌∷◌};
+ghost use Rattle.std.specs.Prelude.{◌≡◌, ◌≢◌, Err, IsTrue, IfErr, OnOk, [], ◌∷◌, false};
 ghost use Rattle.schemars_text.specs.Sent.{IsSent, IsSentInPart};
 ghost use Rattle.schemagen_run.specs.Output.{output_has_float, output_text, IsOutputLine};
 ghost use Rattle.schemagen_run.specs.Writing.{WritesLine};
@@ -17,6 +17,8 @@ use std::mem::ManuallyDrop;
 pub(crate) enum Output {
     Document(Schema),
     Definitions(Map<String, Value>),
+    // a document's text
+    Text(String),
 }
 
 /// Writes the text of an output, and a newline.
@@ -43,6 +45,22 @@ fn write_text<K: Sink>(output: &Output, sink: &mut K) -> Result<(), OrderedError
     match output {
         Output::Document(document) => document.write_ordered(sink),
         Output::Definitions(definitions) => write_ordered_definitions(definitions, sink),
+        Output::Text(text) => write_bytes(text.as_bytes(), sink),
+    }
+}
+
+// Writes the bytes of a text.
+fn write_bytes<K: Sink>(bytes: &[u8], sink: &mut K) -> Result<(), OrderedError>
+    ensures written { OnOk result (IsSent false bytes.now (K.bytes sink.old) (K.bytes sink.new)
+        (K.has_failed sink.new)) }
+    ensures beginning { result ≡ Err OrderedError.Write
+        → IsSentInPart false bytes.now (K.bytes sink.old) (K.bytes sink.new) }
+    ensures failed { result ≡ Err OrderedError.Write → IsTrue (K.has_failed sink.new) }
+    ensures memory { result ≢ Err OrderedError.OutOfMemory }
+{
+    match write_all(sink, bytes) {
+        Ok(()) => Ok(()),
+        Err(Failed) => Err(OrderedError::Write),
     }
 }
 

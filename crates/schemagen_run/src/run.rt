@@ -350,7 +350,7 @@ fn generated(
 {
     match asked.dialect {
         Dialect::OpenApi3 => definitions_of(alloc, asked, generator, root),
-        Dialect::Draft2020_12 => document_of(alloc, asked, generator, root),
+        Dialect::Draft2020_12 => text_of(alloc, asked, generator, root),
         Dialect::Draft2019_09 => document_of(alloc, asked, generator, root),
         Dialect::Draft07 => document_of(alloc, asked, generator, root),
     }
@@ -370,6 +370,22 @@ fn document_of(
 {
     let document = generator.into_root_schema_for_type(alloc, root)?;
     Ok(Output::Document(document))
+}
+
+// The text of the root document of this row.
+fn text_of(
+    alloc: Global,
+    asked: Asked,
+    generator: SchemaGenerator<NoTransform>,
+    root: TypeNo,
+) -> Result<Output, GenerateError>
+    requires draft { asked.dialect ≢ OpenApi3 }
+    requires fresh { IsFreshFor asked generator root }
+    ensures ok { IfOk result (IsOutputOf asked generator.rows root) }
+    ensures refused { IfErr result (IsRefusal asked generator.rows root) }
+{
+    let text = generator.into_root_text_for_type(alloc, root)?;
+    Ok(Output::Text(text))
 }
 
 // The definitions that this row leads to, through the transforms.
