@@ -12,8 +12,7 @@ use Rattle.schemagen_input.specs.Input.{is_table}
 use Rattle.schemagen_run.specs.declared.words.Asked.{Asked}
 use Rattle.schemagen_run.specs.declared.words.Dialect.{Dialect}
 use Rattle.schemagen_run.specs.declared.words.Dialect.TheVariants.{OpenApi3}
-use Rattle.schemagen_run.specs.declared.output.Output.TheVariants.{Document}
-use Rattle.schemagen_run.specs.declared.output.Output.TheVariants as output
+use Rattle.schemagen_run.specs.declared.output.Output.TheVariants.{Document, DocumentText}
 use Rattle.schemagen_run.specs.Run.{IsWrittenDocument, AreDefinitionsOf, IsDefinitionsLine, IsLineIn, IsLineOf, fresh}
 use Rattle.schemagen_run.specs.Run.{transforms_of_dialect}
 use Rattle.schemagen_run.specs.Output.{IsOutputOf, IsFreshFor}
@@ -24,7 +23,7 @@ pub document_is_output : (asked : Asked) (rows : List Row) (root : ℕ) (d : Dat
 document_is_output asked rows root d draft written = λ line of. in_draft asked rows root line asked.dialect draft (d, written, of)
 
 pub text_is_output : (asked : Asked) (rows : List Row) (root : ℕ) (d : Data) (s : String Global) → asked.dialect ≢ OpenApi3
-    → IsWrittenDocument asked rows root d → IsTextOf d (string_bytes s) → IsOutputOf asked rows root (output.Text s)
+    → IsWrittenDocument asked rows root d → IsTextOf d (string_bytes s) → IsOutputOf asked rows root (DocumentText s)
 text_is_output asked rows root d s draft written text = λ line of.
     in_draft asked rows root line asked.dialect draft (d, written, of.0, (λ none. of.1 refl ∙ text none), of.2)
 

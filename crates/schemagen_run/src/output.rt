@@ -17,8 +17,7 @@ use std::mem::ManuallyDrop;
 pub(crate) enum Output {
     Document(Schema),
     Definitions(Map<String, Value>),
-    // a document's text
-    Text(String),
+    DocumentText(String),
 }
 
 /// Writes the text of an output, and a newline.
@@ -45,7 +44,7 @@ fn write_text<K: Sink>(output: &Output, sink: &mut K) -> Result<(), OrderedError
     match output {
         Output::Document(document) => document.write_ordered(sink),
         Output::Definitions(definitions) => write_ordered_definitions(definitions, sink),
-        Output::Text(text) => write_bytes(text.as_bytes(), sink),
+        Output::DocumentText(text) => write_bytes(text.as_bytes(), sink),
     }
 }
 

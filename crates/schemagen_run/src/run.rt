@@ -385,7 +385,7 @@ fn text_of(
     ensures refused { IfErr result (IsRefusal asked generator.rows root) }
 {
     let text = generator.into_root_text_for_type(alloc, root)?;
-    Ok(Output::Text(text))
+    Ok(Output::DocumentText(text))
 }
 
 // The definitions that this row leads to, through the transforms.

@@ -111,7 +111,7 @@ impl<O> SchemaGenerator<O> {
         SchemaGenerator {
             settings,
             types: Types::new(alloc),
-            work: Work<Objects>::new(alloc),
+            work: Work::new(alloc),
         }
     }
 

@@ -47,6 +47,27 @@ const UNTAGGED: &str =
 const TITLED: &str =
     r##"{"$schema":"https://json-schema.org/draft/2020-12/schema","title":"E","anyOf":[{"title":"Nothing","type":"null"},{"title":"Name","$ref":"#/$defs/Name"},{"title":"List","type":"array","items":{"$ref":"#"}},{"title":"Else"},{"title":"S","type":"object","properties":{"x":true}}],"$defs":{"Name":{"type":"string"}}}"##;
 
+// A has definitions among its notes.
+const OWN_DEFS: &str =
+    r#"{"types":[{"id":"A","name":"A","notes":{"$defs":{"C":{"type":"null"}}},"shape":{"struct":{"fields":[{"name":"b","type":1}]}}},{"id":"B","name":"B","shape":"text"}],"root":0}"#;
+
+const OWN_DEFS_ROOT: &str =
+    r##"{"$schema":"https://json-schema.org/draft/2020-12/schema","title":"A","type":"object","properties":{"b":{"$ref":"#/$defs/B"}},"required":["b"],"$defs":{"B":{"type":"string"},"C":{"type":"null"}}}"##;
+
+// So it has under the older keyword.
+const OLD_DEFS: &str =
+    r#"{"types":[{"id":"A","name":"A","notes":{"definitions":{"C":{"type":"null"}}},"shape":{"struct":{"fields":[{"name":"b","type":1}]}}},{"id":"B","name":"B","shape":"text"}],"root":0}"#;
+
+const OLD_DEFS_ROOT: &str =
+    r##"{"$schema":"https://json-schema.org/draft/2020-12/schema","title":"A","type":"object","properties":{"b":{"$ref":"#/$defs/B"}},"required":["b"],"$defs":{"B":{"type":"string"}},"definitions":{"C":{"type":"null"}}}"##;
+
+// Definitions with and without a fraction among their notes, and with names that need escapes.
+const FRACTIONS: &str =
+    r#"{"types":[{"id":"L","name":"L","shape":{"tuple":[1,2,3]}},{"id":"a","name":"half \"","notes":{"x-part":0.5},"shape":"bool"},{"id":"b","name":"b\\","notes":{"x-part":[1,{"z":1e300,"a":-0.0}]},"shape":"text"},{"id":"c","name":"c","notes":{"x-part":[-1,18446744073709551615]},"shape":"any"}],"root":0}"#;
+
+const FRACTIONS_ROOT: &str =
+    r##"{"$schema":"https://json-schema.org/draft/2020-12/schema","title":"L","type":"array","maxItems":3,"minItems":3,"prefixItems":[{"$ref":"#/$defs/half%20%22"},{"$ref":"#/$defs/b%5C"},{"$ref":"#/$defs/c"}],"$defs":{"b\\":{"type":"string","x-part":[1,{"a":-0.0,"z":1e+300}]},"c":{"x-part":[-1,18446744073709551615]},"half \"":{"type":"boolean","x-part":0.5}}}"##;
+
 // A call, its row, and what it answers.
 type Answer = (&'static str, TypeNo, &'static str);
 
@@ -70,6 +91,9 @@ const NO_PLACE: [Answer; 2] = [("root", 2, "9 DefinitionsPath"), ("definitions",
 const AT_DEFS: &str =
     r##"{"$schema":"https://json-schema.org/draft/2020-12/schema","title":"L","type":"array","maxItems":2,"minItems":2,"prefixItems":[{"$ref":"#/$defs/Config"},{"$ref":"#/$defs/Config2"}],"$defs":{"Config":{"type":"boolean"},"Config2":{"type":"string"}}}"##;
 
+const AFTER_A_PART: &str =
+    r##"{"$schema":"https://json-schema.org/draft/2020-12/schema","title":"L","type":"array","maxItems":2,"minItems":2,"prefixItems":[{"$ref":"#/$defs/Config2"},{"$ref":"#/$defs/Config"}],"$defs":{"Config":{"type":"string"},"Config2":{"type":"boolean"}}}"##;
+
 const AT_A_SLASH: &str =
     r##"{"$schema":"https://json-schema.org/draft/2020-12/schema","title":"L","type":"array","a/b":{"Config":{"type":"boolean"},"Config2":{"type":"string"}},"maxItems":2,"minItems":2,"prefixItems":[{"$ref":"#/a~1b/Config"},{"$ref":"#/a~1b/Config2"}]}"##;
 
@@ -83,7 +107,7 @@ enum Asks {
 
 // The path of the definitions, what else the settings say, a table, and calls of a generator in
 // order.
-const CALLS: [(&str, Asks, &str, &[Answer]); 17] = [
+const CALLS: [(&str, Asks, &str, &[Answer]); 21] = [
     // A root document that refers to itself leaves no definitions, and a part has those it leads
     // to.
     (
@@ -158,6 +182,36 @@ const CALLS: [(&str, Asks, &str, &[Answer]); 17] = [
     ("/title", Asks::Nothing, CONFIGS, &NO_PLACE),
     ("#/$defs/", Asks::Nothing, CONFIGS, &[("root", 2, AT_DEFS)]),
     ("/a~1b", Asks::Nothing, CONFIGS, &[("root", 2, AT_A_SLASH)]),
+    // Definitions go beside those among the notes.
+    (
+        "/$defs",
+        Asks::Nothing,
+        OWN_DEFS,
+        &[("root", 0, OWN_DEFS_ROOT)],
+    ),
+    (
+        "/$defs",
+        Asks::Nothing,
+        OLD_DEFS,
+        &[("root", 0, OLD_DEFS_ROOT)],
+    ),
+    // Each number has the digits that serde_json gives it.
+    (
+        "/$defs",
+        Asks::Nothing,
+        FRACTIONS,
+        &[("root", 0, FRACTIONS_ROOT), ("root", 4, "8 UnknownType")],
+    ),
+    // A document with definitions from before.
+    (
+        "/$defs",
+        Asks::Nothing,
+        CONFIGS,
+        &[
+            ("part", 1, r##"{"$ref":"#/$defs/Config"}"##),
+            ("root", 2, AFTER_A_PART),
+        ],
+    ),
     // Without definitions there is no need of a path.
     ("defs", Asks::Nothing, BOOL, &[("root", 0, BOOL_ROOT)]),
     // A name is in a reference by the encoding of pointers and of addresses.
@@ -273,6 +327,18 @@ fn told(alloc: Global, answer: Result<Schema, GenerateError>) -> Result<String, 
     }
 }
 
+// The text of a root document, which a copy of the generator gives.
+fn root_text(alloc: Global, generator: &SchemaGenerator, n: TypeNo) -> Result<String, AllocError> {
+    let text = match generator.try_clone(alloc) {
+        Ok(copy) => copy.into_root_text_for_type(alloc, n),
+        Err(error) => Err(error),
+    };
+    match text {
+        Ok(text) => Ok(text),
+        Err(error) => refusal(alloc, &error),
+    }
+}
+
 fn assert_answers(
     rt: &impl Abort,
     alloc: Global,
@@ -280,6 +346,10 @@ fn assert_answers(
     answers: &[Answer],
 ) -> Result<(), AllocError> {
     for (call, n, wanted) in answers {
+        if *call == "root" {
+            let text = root_text(alloc, generator, *n)?;
+            assert_eq!(rt; text.as_str(), *wanted, "text {n}");
+        }
         let told = told(alloc, answer(alloc, generator, *call, *n))?;
         assert_eq!(rt; told.as_str(), *wanted, "{call} {n}");
     }
