@@ -292,6 +292,16 @@ impl<D: Definitions> Work<D> {
         self.forget();
     }
 
+    /// The store of the definitions.
+    pub fn into_store(self) -> D
+        ensures { D.kept result ≡ self.definitions }
+    {
+        let Work { definitions, .. } = self;
+        definitions
+    }
+}
+
+impl<D: Definitions + Drop> Work<D> {
     /// The same work with another store, which keeps the same definitions.
     pub fn with_store<E: Definitions>(self, store: E) -> Work<E>
         requires { E.kept store ≡ self.definitions }
@@ -313,14 +323,6 @@ impl<D: Definitions> Work<D> {
             meets_root,
             pending,
         }
-    }
-
-    /// The store of the definitions.
-    pub fn into_store(self) -> D
-        ensures { D.kept result ≡ self.definitions }
-    {
-        let Work { definitions, .. } = self;
-        definitions
     }
 }
 
