@@ -75,6 +75,7 @@ impl Clone for Work<Objects> {
 
 impl Work<Objects> {
     ghost use Rattle.schemars_build.specs.contracts.work.Work.{the_row};
+    ghost use Rattle.schemars_definitions.specs.contracts.objects.Objects.{the_row as objects_row};
 
     /// No names and no definitions.
     pub fn new(alloc: Global) -> Work<Objects>
@@ -106,8 +107,8 @@ impl Work<Objects> {
 
     /// The definitions, for writing.
     pub fn definitions_mut(&mut self) -> &mut Map<String, Value>
-        ensures* writes_back { sem 𝓛 (Lends the_row map_row self.entry result
-            (λ m. record self.old { definitions = members_view m.entries })) }
+        ensures* writes_back { sem 𝓛 (Lends (the_row objects_row ⟦<Objects as Definitions>⟧) map_row
+            self.entry result (λ m. record self.old { definitions = members_view m.entries })) }
         ensures value { members_view result.now.entries ≡ self.old.definitions }
     {
         self.definitions.as_object_mut()

@@ -44,7 +44,7 @@ returns-in-Definition-clause-replies g c = λ outside old want h.
     let s = c.in_ok-schema.schema in
     let t = c.in_ok-reference-in-Definition.reference in
     let filled = filled_made plan outside old want now d h c.requires.all_answered s c.requires.checked c.in_ok-schema.ensures in
-    let finished : new ≡ finished_with mid k s = c.finish.ensures ∙ ap (λ x. finished_with mid x s) c.as_str-in-Definition.ensures.value in
+    let finished : new ≡ finished_with mid k s = c.in_ok-finish-in-Definition.ensures.ok ∙ ap (λ x. finished_with mid x s) c.as_str-in-Definition.ensures.value in
     let replied = closes_definition plan outside old want now d h s filled c.in-Definition.name c.in-Definition.entered mid new t
     c.in-Definition.is (IsUtf8-string_bytes c.in-Definition.name) c.leave-in-Definition.ensures finished
     (c.in_ok-reference-in-Definition.ensures ∙ ap (λ x. reference (reference_to plan.path x)) c.as_str.ensures.value) in

@@ -37,7 +37,7 @@ returns-in_err-answer-2-clause-undone g c = c.in_err-answer-2.ensures.undone ∙
     c.args.work.now (wanted c.args.request) c.going.work (reverse c.going.making.items) c.going.answer c.going.invariant
 
 -- nothing waits
-home : (g : goal.The-bounds) (c : goal.After-drop-making-in-Some g) → Step (plan_of c.args.plan.now) c.args.work.now c.going.work
+home : (g : _) (c : goal.After-drop-making-in-Some g) → Step (plan_of c.args.plan.now) c.args.work.now c.going.work
     × IsReply (plan_of c.args.plan.now) c.args.in_definition c.args.work.now c.going.work (wanted c.args.request) c.in-Some.schema
 home g c =
     let fs = reverse c.taken.new.making.items in
@@ -64,11 +64,11 @@ resumed-requires-clause-first g c =
     c.going.invariant)
 
 -- what is taken
-are_taken : (g : goal.The-bounds) (c : goal.In_ok-answer-2 g) → IsTaken (reverse c.going.making.items) c.going.answer (reverse c.taken.new.making.items) None
+are_taken : (g : _) (c : goal.In_ok-answer-2 g) → IsTaken (reverse c.going.making.items) c.going.answer (reverse c.taken.new.making.items) None
 are_taken g c = subst (λ o. IsTaken (reverse c.going.making.items) c.going.answer (reverse c.taken.new.making.items) o) c.in_default.is
     c.in_ok-last.ensures
 
-at : (g : goal.The-bounds) (c : goal.In_ok-answer-2 g)
+at : (g : _) (c : goal.In_ok-answer-2 g)
     → AreMaking (plan_of c.args.plan.now) c.args.in_definition c.args.work.now (wanted c.args.request) c.going.work
     (reverse c.taken.new.making.items)
 at g c = taken_goes (plan_of c.args.plan.now) c.args.in_definition c.args.work.now (wanted c.args.request) c.going.work

@@ -106,7 +106,7 @@ returns-then-eq-clause-replies g c =
     }
 
 -- the row is asked by its name
-by_name : (g : goal.The-bounds) (c : goal.In_ok-begin_new g) → ComesFrom (plan_of c.args.plan.now) c.args.in_definition c.args.work.now (asked (part c.args.n))
+by_name : (g : _) (c : goal.In_ok-begin_new g) → ComesFrom (plan_of c.args.plan.now) c.args.in_definition c.args.work.now (asked (part c.args.n))
     c.name_for.new.self (defined (string_bytes c.in_ok-name.name))
 by_name g c =
     let plan = plan_of c.args.plan.now in
@@ -118,7 +118,7 @@ by_name g c =
     (not_inline (is_inline_at plan.rows n) _ placed) (other_row plan.root n c.if-eq.ensures) c.requires.known c.in_ok-name.ensures.undone
 
 -- the name had no definition, and has begun one
-is_begun : (g : goal.The-bounds) (c : goal.After-enter g) → let k = string_bytes c.in_ok-name.name in record {
+is_begun : (g : _) (c : goal.After-enter g) → let k = string_bytes c.in_ok-name.name in record {
   none : get_member k c.name_for.new.self.definitions ≡ None;
   begun : c.begin_new.new.self ≡ begun_with c.name_for.new.self k;
 }
@@ -138,7 +138,7 @@ returns-then-not-branch-clause-replies g c =
     let n = c.args.n in
     let mid = c.name_for.new.self in
     let k = string_bytes c.in_ok-name.name in
-    let named = (goal.at.returns-then-not-branch-clause-replies c).In_ok-begin_new in
+    let named = (goal.at.returns-then-not-branch-clause-replies g c).In_ok-begin_new in
     let found = was_there _ (get_member k mid.definitions) (c.in_ok-begin_new.ensures.is_new
     ∙ ap (λ q. not (is_some (get_member q mid.definitions))) c.as_str.ensures.value) c.if-not-branch.true in
     let made : IsMade plan mid mid k =
@@ -150,20 +150,20 @@ returns-then-not-branch-clause-replies g c =
       given = (refl, refl);
       replied = subst (λ w. IsRepliedBy plan inside old (asked (part n)) w (answer c.in_ok-reference.reference))
           (sym (c.in_ok-begin_new.ensures.same c.if-not-branch.true))
-          (replied_from plan inside old (asked (part n)) mid (defined k) mid (answer c.in_ok-reference.reference) (by_name named)
+          (replied_from plan inside old (asked (part n)) mid (defined k) mid (answer c.in_ok-reference.reference) (by_name g named)
           (step_refl plan mid, refl, (made, same)));
       is_like = tt;
     }
 
 pub returns-in_err-entered-clause-undone : goal.returns-in_err-entered-clause-undone
 returns-in_err-entered-clause-undone g c =
-    let new = is_begun (goal.at.returns-in_err-entered-clause-undone c).After-enter in
+    let new = is_begun g (goal.at.returns-in_err-entered-clause-undone g c).After-enter in
     ap undone c.in_err-entered.ensures.err ∙ (ap undone new.begun
     ∙ (undone-begun c.name_for.new.self (string_bytes c.in_ok-name.name) new.none ∙ c.in_ok-name.ensures.undone))
 
 pub returns-clause-undone : goal.returns-clause-undone
 returns-clause-undone g c =
-    let new = is_begun (goal.at.returns-clause-undone c).After-enter in
+    let new = is_begun g (goal.at.returns-clause-undone g c).After-enter in
     ap undone c.in_ok-entered.ensures.ok ∙ (ap undone new.begun
     ∙ (undone-begun c.name_for.new.self (string_bytes c.in_ok-name.name) new.none ∙ c.in_ok-name.ensures.undone))
 
@@ -175,8 +175,8 @@ returns-clause-replies g c =
     let n = c.args.n in
     let mid = c.name_for.new.self in
     let k = string_bytes c.in_ok-name.name in
-    let at = goal.at.returns-clause-replies c in
-    let named = is_begun at.After-enter in
+    let at = goal.at.returns-clause-replies g c in
+    let named = is_begun g at.After-enter in
     let entered_new : c.in_ok-entered.entered ≡ plan.inlines && not (is_pending mid.pending n) =
     c.in_ok-entered.ensures.is_new ∙ ap (λ w. plan.inlines && not (is_pending w.pending n)) named.begun in
     let while_made : Work → Work = λ w. record w { pending = pending_in plan.inlines w.pending n } in
@@ -192,7 +192,7 @@ returns-clause-replies g c =
     (λ o x. record {
       reply = document x.0;
       given = x.2;
-      replied = opened_reply plan inside true old (asked (part n)) mid new n p x.0 x.1 (by_name at.In_ok-begin_new)
+      replied = opened_reply plan inside true old (asked (part n)) mid new n p x.0 x.1 (by_name g at.In_ok-begin_new)
           (refl, entered_new, named.none, c.in_ok-name.ensures.named, entered);
       is_like = opened_within plan true n p x.0 new (left_of_part plan old n) x.1
           (definition_within plan old mid new n k c.requires.checked c.requires.known step c.in_ok-name.ensures.named named.none entered);

@@ -1,5 +1,5 @@
 use Rattle.std.proofs.Common.{◌≡◌, ◌∙◌, ◌≤◌, length, sym, subst, string_bytes}
-use Rattle.schemars_build.proofs.work.WorkClone.clone.Goals as goal
+use Rattle.schemars_build.proofs.work.WorkObjectsClone.clone.Goals as goal
 use Rattle.schemars_shapes.proofs.Copies.{map_copied}
 
 pub invariant_of-result : goal.invariant_of-result
