@@ -14,7 +14,7 @@ use Rattle.schemars_meaning.proofs.Referring.{plain_rows}
 use Rattle.schemars_meaning.proofs.ReferencesKept.{references-root}
 use Rattle.schemars_build.specs.Work.{Plan, Work, Refers, IsKey, basis_of_plan}
 use Rattle.schemars_build.specs.Reached.{IsReached}
-use Rattle.schemars_build.proofs.Members.{without-put}
+use Rattle.schemars_definitions.proofs.Members.{without-put}
 use Rattle.schemars_build.proofs.Placing.{document_describes}
 use Rattle.schemars_headline.specs.State.{State, path_of, state_plan}
 use Rattle.schemars_headline.specs.Headline.{IsRootOf, IsDraftPath}

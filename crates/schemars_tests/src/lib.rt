@@ -6,6 +6,8 @@
 #[cfg(test)]
 mod checks;
 #[cfg(test)]
+mod definitions;
+#[cfg(test)]
 mod entries;
 #[cfg(test)]
 mod example;
