@@ -25,7 +25,7 @@ document_is_output asked rows root d draft written = λ line of. in_draft asked 
 pub text_is_output : (asked : Asked) (rows : List Row) (root : ℕ) (d : Data) (s : String Global) → asked.dialect ≢ OpenApi3
     → IsWrittenDocument asked rows root d → IsTextOf d (string_bytes s) → IsOutputOf asked rows root (DocumentText s)
 text_is_output asked rows root d s draft written text = λ line of.
-    in_draft asked rows root line asked.dialect draft (d, written, of.0, (λ none. of.1 refl ∙ text none), of.2)
+    in_draft asked rows root line asked.dialect draft (d, written, (of.0, (λ none. of.1 refl ∙ text none), of.2))
 
 pub definitions_line : (asked : Asked) (rows : List Row) (root : ℕ) (taken : Members) (line : Text) → asked.dialect ≡ OpenApi3
     → AreDefinitionsOf asked rows root taken → IsDefinitionsLine taken line → IsLineOf asked rows root line

@@ -126,7 +126,7 @@ draft_path Draft07 c inlines rows draft = inr refl
 draft_path OpenApi3 c inlines rows draft = absurd (draft refl)
 
 -- it refuses if out of memory, or where there is no place for the definitions
-is_refused : (r : Result Data GenerateError) (s : State) (asked : Asked) (rows : List Row) (root : ℕ)
+is_refused : {A : Type 0} (r : Result A GenerateError) (s : State) (asked : Asked) (rows : List Row) (root : ℕ)
     → is_table rows root ≡ true → IsAccepted rows → s ≡ fresh asked rows
     → ((r ≡ Err (UnknownType root)) ↔ (length s.rows ≤ root))
     → IfErr r (λ e. (e ≡ UnknownType root) ⊎ IsRefused s root e)
@@ -150,7 +150,7 @@ wants_only_memory {P} s asked rows root draft table same only plain =
     here plain (draft_path asked.dialect asked.contract asked.inlines rows draft) (root_is_within rows root table)
 
 -- why it answers no document
-pub is_refusal : (r : Result Data GenerateError) (s : State) (asked : Asked) (rows : List Row) (root : ℕ) → asked.dialect ≢ OpenApi3
+pub is_refusal : {A : Type 0} (r : Result A GenerateError) (s : State) (asked : Asked) (rows : List Row) (root : ℕ) → asked.dialect ≢ OpenApi3
     → is_table rows root ≡ true → IsAccepted rows → s ≡ fresh asked rows
     → ((r ≡ Err (UnknownType root)) ↔ (length s.rows ≤ root))
     → IfErr r (λ e. (e ≡ UnknownType root) ⊎ IsRefused s root e)
