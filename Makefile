@@ -60,9 +60,11 @@ openapi-example: $(built)
 
 # The merge gate: every proof from nothing, the must-fail edits, the tests and the programs. What pages
 # and examples show has to be what the case files have, and the files, lines and words that pages name
-# have to be there. Then each growth of the memory of the programs that were built is refused in turn.
+# have to be there. Then the memory that a row costs is measured, and each growth of the memory of the programs
+# that were built is refused in turn.
 test:
 	tools/cases --check
 	tools/places --check
 	rt ci
+	tools/memory $(built)
 	tools/refused $(built) $(retries)
