@@ -1,7 +1,6 @@
 //! Where the definitions of a document are kept while it is generated: as JSON values or as text.
 #![tactic(auto)]
 
-mod block;
 mod joined;
 mod objects;
 mod plain;

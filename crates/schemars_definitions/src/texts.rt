@@ -1,14 +1,12 @@
 //! Definitions as text.
-ghost use Rattle.std.specs.Prelude.{◌≡◌, false, string_bytes, IfOk, IfSome, IsTrue};
+ghost use Rattle.std.specs.Prelude.{◌≡◌, false, string_bytes, IfOk, IsTrue};
 ghost use Rattle.serde_json.specs.Data.{no_members};
 ghost use Rattle.serde_json.specs.Written.{has_float};
-ghost use Rattle.schemars_schema.specs.Json.{IsJson};
 ghost use Rattle.schemars_text.specs.OrderedText.{ordered_text};
 ghost use Rattle.schemars_definitions.specs.Joined.{HasNoDefinitions};
 ghost use Rattle.schemars_definitions.specs.Keys.{HasKeysOnce};
 ghost use Rattle.schemars_definitions.specs.Whole.{with_defs};
 
-use crate::block::Block;
 use crate::joined::joined;
 use crate::objects::Objects;
 use crate::plain::is_json;
@@ -24,8 +22,6 @@ use std::marker::Model;
 pub struct Texts {
     // A text stands for the definition that is written in it, and another value for itself.
     kept: Objects,
-    // where a text is written first, so that it is kept in memory of its own size
-    block: Block,
 }
 
 impl Model for Texts {
@@ -49,7 +45,6 @@ impl Texts {
     {
         Texts {
             kept: Objects::new(alloc),
-            block: Block::new(alloc),
         }
     }
 
@@ -63,7 +58,7 @@ impl Texts {
             → string_bytes s ≡ ordered_text (with_defs self own.now)) }
         ensures once { HasKeysOnce self }
     {
-        let Texts { kept, .. } = self;
+        let Texts { kept } = self;
         let members = kept.into_object();
         if members.len() == 0 {
             return own.to_ordered_string(alloc);
@@ -84,10 +79,10 @@ impl Definitions for Texts {
     }
 
     fn finish(&mut self, alloc: Global, name: &str, schema: Schema) -> Result<(), AllocError> {
-        let text = text_of(alloc, &mut self.block, &schema)?;
-        let Some(text) = text else {
+        if !is_json(schema.as_value()) {
             return self.kept.finish(alloc, name, schema);
-        };
+        }
+        let text = schema.to_ordered_string(alloc)?;
         self.kept.set(name, Value::String(text));
         Ok(())
     }
@@ -104,22 +99,4 @@ pub fn has_no_definitions(document: &Schema) -> bool
     document.as_object().is_some()
         && document.get("$defs").is_none()
         && document.get("definitions").is_none()
-}
-
-// The ordered text of a schema that is read back from it.
-fn text_of(alloc: Global, block: &mut Block, schema: &Schema) -> Result<Option<String>, AllocError>
-    ensures { IfOk result (λ text. IfSome text (λ t. IsJson schema.now
-        × (string_bytes t ≡ ordered_text schema.now))) }
-{
-    if !is_json(schema.as_value()) {
-        return Ok(None);
-    }
-    block.clear();
-    if schema.write_ordered(block).is_err() {
-        return Err(AllocError);
-    }
-    match std::str::from_utf8(block.as_slice()) {
-        Ok(text) => Ok(Some(String::from_str(alloc, text)?)),
-        Err(_) => Ok(None),
-    }
 }
