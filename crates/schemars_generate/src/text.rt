@@ -23,9 +23,9 @@ impl<O: Transform + Drop> SchemaGenerator<O> {
     /// Generates the root document of row `n` as `into_root_schema_for_type` does, and returns its
     /// text as `Schema::to_ordered_string` gives it.
     ///
-    /// A generator without transforms and definitions that keeps them under `$defs`, as that of
-    /// 2020-12 does, writes each definition as soon as it is finished, and has the JSON value of
-    /// one at a time.
+    /// Where definitions are under `$defs`, as in 2020-12, and there are none yet and no
+    /// transforms, a generator with many rows writes each definition as soon as it is finished, and
+    /// has the JSON value of one at a time.
     ///
     /// # Errors
     ///
@@ -42,7 +42,7 @@ impl<O: Transform + Drop> SchemaGenerator<O> {
             types,
             work,
         } = self;
-        if can_write_early(&settings, &work) {
+        if can_write_early(&settings, &types, &work) {
             return early_text(alloc, &settings, &types, work, n);
         }
         let document = last_root(alloc, &mut settings, &types, work, n)?;
@@ -51,15 +51,20 @@ impl<O: Transform + Drop> SchemaGenerator<O> {
     }
 }
 
-// Whether a definition can be written before the document is whole: no transform will change it,
-// it will be under `$defs`, and there are no others yet.
-fn can_write_early<O>(settings: &SchemaSettings<O>, work: &Work<Objects>) -> bool
+// From how many rows on definitions are kept as text: JSON values of fewer take little memory, and
+// no time to be freed one by one.
+const MANY_ROWS: usize = 20_000;
+
+// Whether definitions are to be written before the document is whole: there may be many, no
+// transform will change them, and they will be under `$defs`, where there are no others yet.
+fn can_write_early<O>(settings: &SchemaSettings<O>, types: &Types, work: &Work<Objects>) -> bool
     ensures transforms { IsTrue result → settings.now.transforms.items ≡ [] }
     ensures path { IsTrue result
         → path_of (state_of settings.now [] work.now) ≡ codes "/$defs" }
     ensures none { IsTrue result → work.now.definitions ≡ no_members }
 {
-    settings.transforms.is_empty()
+    types.len() >= MANY_ROWS
+        && settings.transforms.is_empty()
         && stripped(settings.definitions_path.as_str()) == "/$defs"
         && work.definitions().len() == 0
 }
