@@ -18,6 +18,8 @@ mod generator;
 #[cfg(test)]
 mod inputs;
 #[cfg(test)]
+mod large;
+#[cfg(test)]
 mod names;
 #[cfg(test)]
 mod narrow;
