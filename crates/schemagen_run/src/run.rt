@@ -337,6 +337,10 @@ fn output_of(
     generated(alloc, asked, generator, root)
 }
 
+// From how many rows on a document is made as text, without the JSON values of its definitions. That
+// of fewer is written from its JSON value, which is left where it is.
+const MANY_ROWS: usize = 20_000;
+
 // What the generator makes for this row.
 fn generated(
     alloc: Global,
@@ -350,7 +354,10 @@ fn generated(
 {
     match asked.dialect {
         Dialect::OpenApi3 => definitions_of(alloc, asked, generator, root),
-        Dialect::Draft2020_12 => text_of(alloc, asked, generator, root),
+        Dialect::Draft2020_12 if generator.types().len() >= MANY_ROWS => {
+            text_of(alloc, asked, generator, root)
+        }
+        Dialect::Draft2020_12 => document_of(alloc, asked, generator, root),
         Dialect::Draft2019_09 => document_of(alloc, asked, generator, root),
         Dialect::Draft07 => document_of(alloc, asked, generator, root),
     }
