@@ -70,6 +70,9 @@ fn definitions_are_kept_as_values(rt: HostRuntime) -> Result<(), Fail> {
 fn definitions_are_kept_as_text(rt: HostRuntime) -> Result<(), Fail> {
     let alloc = rt.alloc();
     let own = schema_of(alloc, OWN)?;
+    if !has_no_definitions(&own) {
+        return Err("definitions of its own".into());
+    }
     let mut store = Texts::new(alloc);
     add_all(alloc, &mut store)?;
     let text = store.into_text(alloc, &own)?;
