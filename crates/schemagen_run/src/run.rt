@@ -337,8 +337,8 @@ fn output_of(
     generated(alloc, asked, generator, root)
 }
 
-// From how many rows on a document is made as text, without the JSON values of its definitions. That
-// of fewer is written from its JSON value, which is left where it is.
+// From how many rows on a document is made as text, without the JSON values of its definitions.
+// That of fewer is written from its JSON value, which is left where it is.
 const MANY_ROWS: usize = 20_000;
 
 // What the generator makes for this row.
