@@ -106,8 +106,7 @@ fn push_definition(
         → string_bytes out.new ≡ string_bytes out.old
         ++ (quoted (string_bytes name) ++ 58 ∷ ordered_text (definition_in (view value)))) }
 {
-    let key = Value::String(name).to_string(alloc)?;
-    out.push_str(key.as_str())?;
+    schemars_text::push_quoted(out, alloc, name.as_str())?;
     out.push(':')?;
     push_value(out, alloc, value)
 }

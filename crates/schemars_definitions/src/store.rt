@@ -19,7 +19,8 @@ pub trait Definitions {
 
     /// Begins a definition unless there is one of this name, and returns whether it did.
     fn begin(&mut self, alloc: Global, name: &str) -> Result<bool, AllocError>
-        ensures is_new { IfOk result (λ b. b ≡ not (is_some (get_member name.now (kept self.old)))) }
+        ensures is_new { IfOk result (λ b. b
+            ≡ not (is_some (get_member name.now (kept self.old)))) }
         ensures begun { IfOk result (λ b. b ≡ true
             → kept self.new ≡ put name.now (boolean false) (kept self.old)) }
         ensures same { IfOk result (λ b. b ≡ false → kept self.new ≡ kept self.old) }

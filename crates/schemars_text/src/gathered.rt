@@ -214,7 +214,7 @@ fn ends(token: Token<'_>) -> bool
 }
 
 // How many bytes at the front are written as they are.
-fn plain_len(text: &[u8]) -> usize
+pub(crate) fn plain_len(text: &[u8]) -> usize
     ensures within { result ≤ length text.now }
     ensures same { escape (take result text.now) ≡ take result text.now }
 {

@@ -8,12 +8,14 @@ mod memory;
 mod ordered;
 mod output;
 mod places;
+mod quoted;
 mod sending;
 pub mod sink;
 mod target;
 mod writing;
 
 pub use error::OrderedError;
+pub use quoted::push_quoted;
 pub use sending::send_ordered;
 pub use sink::{Failed, Sink, SinkOf};
 pub use writing::{

@@ -9,6 +9,9 @@ use json::Token;
 use serde_json::Number;
 use std::alloc::{AllocError, Global};
 
+// What a text has room for at first: most definitions fit, and need no more memory.
+const FIRST_BYTES: usize = 256;
+
 // The whole text, unless memory ran out.
 #[derive(Drop)]
 pub(crate) struct InMemory {
@@ -17,13 +20,11 @@ pub(crate) struct InMemory {
 }
 
 impl InMemory {
-    pub(crate) fn new(alloc: Global) -> InMemory
-        ensures { result.out ≡ record { text = []; after_value = false } }
+    pub(crate) fn new(alloc: Global) -> Result<InMemory, AllocError>
+        ensures { IfOk result (λ w. w.out ≡ record { text = []; after_value = false }) }
     {
-        InMemory {
-            out: Output::new(alloc),
-            error: None,
-        }
+        let out = Output::with_capacity(alloc, FIRST_BYTES)?;
+        Ok(InMemory { out, error: None })
     }
 
     pub(crate) fn into_string(self) -> Result<String, AllocError>

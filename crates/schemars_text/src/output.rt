@@ -1,5 +1,5 @@
 //! JSON text that is being written, with its commas in place.
-ghost use Rattle.std.specs.Prelude.{◌≡◌, [], false, string_bytes, OnOk};
+ghost use Rattle.std.specs.Prelude.{◌≡◌, [], false, string_bytes, IfOk, OnOk};
 ghost use Rattle.json.specs.Lex.{tokens};
 ghost use Rattle.json.specs.Print.{IsPrintable, print};
 ghost use Rattle.json.specs.Reads.{token_of};
@@ -36,12 +36,14 @@ impl Model for Output {
 }
 
 impl Output {
-    pub(crate) fn new(alloc: Global) -> Output
-        ensures { result ≡ record { text = []; after_value = false } }
+    // No text yet, and room for this many bytes.
+    pub(crate) fn with_capacity(alloc: Global, capacity: usize) -> Result<Output, AllocError>
+        ensures { IfOk result (λ o. o ≡ record { text = []; after_value = false }) }
     {
-        Output {
-            writer: Writer::new(Vec::new(alloc)),
-        }
+        let bytes = Vec::with_capacity(alloc, capacity)?;
+        Ok(Output {
+            writer: Writer::new(bytes),
+        })
     }
 
     pub(crate) fn into_string(self) -> String

@@ -92,6 +92,7 @@ pub fn write_ordered_definitions<K: Sink>(
 }
 
 // What is written.
+#[derive(Clone, Copy)]
 enum Document<'v> {
     Schema(&'v Value),
     Definitions(&'v Map<String, Value>),
@@ -115,7 +116,7 @@ impl Document<'_> {
             → string_bytes s ≡ text_of self.entry) }
         ensures compact { IfOk result (λ s. string_bytes s ≡ print (tokens (string_bytes s))) }
     {
-        let mut text = InMemory::new(alloc);
+        let mut text = InMemory::new(alloc)?;
         self.write(&mut (), &mut text);
         text.into_string()
     }

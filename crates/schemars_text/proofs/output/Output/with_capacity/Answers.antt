@@ -2,8 +2,8 @@
 use Rattle.std.proofs.Common.{ap}
 use Rattle.json.specs.Print.{print_from}
 use Rattle.schemars_text.proofs.Outputs.{output_of}
-use Rattle.schemars_text.proofs.output.Output.new.Goals as goal
+use Rattle.schemars_text.proofs.output.Output.with_capacity.Goals as goal
 
 pub returns : goal.returns
 unfolding print_from
-returns c = ap output_of c.new-2.ensures.tokens
+returns c = ap output_of c.new.ensures.tokens
