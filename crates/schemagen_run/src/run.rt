@@ -38,7 +38,7 @@ use crate::output::{Output, leave, write_output};
 use crate::streams::{ReadError, Sink, Source, read_all};
 use crate::words::{Asked, Command, Dialect, command_in};
 use schemagen_input::{SampleError, TextError, read_sample};
-use schemars::generate::{SchemaGenerator, SchemaSettings};
+use schemars::generate::{MANY_ROWS, SchemaGenerator, SchemaSettings};
 use schemars::sample::Sample;
 use schemars::transform::NoTransform;
 use schemars::{GenerateError, Schema};
@@ -337,11 +337,8 @@ fn output_of(
     generated(alloc, asked, generator, root)
 }
 
-// From how many rows on a document is made as text, without the JSON values of its definitions.
-// That of fewer is written from its JSON value, which is left where it is.
-const MANY_ROWS: usize = 20_000;
-
-// What the generator makes for this row.
+// What the generator makes for this row. The document of few rows is written from its JSON value,
+// which is left where it is.
 fn generated(
     alloc: Global,
     asked: Asked,
@@ -399,7 +396,7 @@ fn text_of(
 fn definitions_of(
     alloc: Global,
     asked: Asked,
-    mut generator: SchemaGenerator<NoTransform>,
+    generator: SchemaGenerator<NoTransform>,
     root: TypeNo,
 ) -> Result<Output, GenerateError>
     requires openapi3 { asked.dialect ≡ OpenApi3 }
@@ -407,24 +404,24 @@ fn definitions_of(
     ensures ok { IfOk result (IsOutputOf asked generator.rows root) }
     ensures refused { IfErr result (IsRefusal asked generator.rows root) }
 {
-    let definitions = taken_definitions(alloc, &mut generator, root)?;
+    let definitions = taken_definitions(alloc, generator, root)?;
     Ok(Output::Definitions(definitions))
 }
 
 // Makes a part for this row, and takes the definitions that it leads to.
 fn taken_definitions(
     alloc: Global,
-    generator: &mut SchemaGenerator<NoTransform>,
+    mut generator: SchemaGenerator<NoTransform>,
     root: TypeNo,
 ) -> Result<Map<String, Value>, GenerateError>
-    requires own { some_own (transforms_of generator.old) ≡ false }
-    requires known { root < length generator.old.rows }
-    ensures ok { IfOk result (λ m. AreTaken (transforms_of generator.old) (state generator.old)
-        root (members_view m.entries)) }
+    requires own { some_own (transforms_of generator) ≡ false }
+    requires known { root < length generator.rows }
+    ensures ok { IfOk result (λ m. AreTaken (transforms_of generator) (state generator) root
+        (members_view m.entries)) }
     ensures only_memory { IfErr result (λ e. e ≡ GenerateError.OutOfMemory) }
 {
     generator.subschema_for_type(alloc, root)?;
-    generator.take_definitions(alloc, true)
+    generator.into_definitions(alloc)
 }
 
 // Writes the line of the document of the example that the value is.

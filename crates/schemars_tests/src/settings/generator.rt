@@ -21,7 +21,7 @@ const CONFIGS: &str =
 // A call, its row, and what it answers.
 type Answer = (&'static str, TypeNo, &'static str);
 
-const DRAFT07: [Answer; 4] = [
+const DRAFT07: [Answer; 5] = [
     (
         "root",
         0,
@@ -29,6 +29,11 @@ const DRAFT07: [Answer; 4] = [
     ),
     ("definitions", 0, "{}"),
     ("part", 1, r##"{"$ref":"#/definitions/B"}"##),
+    (
+        "last definitions of a copy",
+        0,
+        r##"{"A":{"type":"object","properties":{"b":{"$ref":"#/definitions/B"}},"required":["b"]},"B":{"type":"object","properties":{"a":{"anyOf":[{"$ref":"#/definitions/A"},{"type":"null"}]}}}}"##,
+    ),
     (
         "take transformed",
         0,
@@ -51,14 +56,20 @@ const DRAFT2019_09_PAIR: [Answer; 1] = [(
     r##"{"$schema":"https://json-schema.org/draft/2019-09/schema","title":"L","type":"array","items":[{"$ref":"#/$defs/Config"},{"$ref":"#/$defs/Config2"}],"maxItems":2,"minItems":2,"$defs":{"Config":{"type":"boolean"},"Config2":{"type":"string"}}}"##,
 )];
 
-const OPENAPI3: [Answer; 4] = [
+const OPENAPI3: [Answer; 6] = [
     ("part", 0, r##"{"$ref":"#/components/schemas/A"}"##),
+    (
+        "last definitions of a copy",
+        0,
+        r##"{"A":{"type":"object","properties":{"b":{"$ref":"#/components/schemas/B"}},"required":["b"]},"B":{"type":"object","properties":{"a":{"anyOf":[{"$ref":"#/components/schemas/A"},{"enum":[null],"nullable":true}]}}}}"##,
+    ),
     (
         "take transformed",
         0,
         r##"{"A":{"type":"object","properties":{"b":{"$ref":"#/components/schemas/B"}},"required":["b"]},"B":{"type":"object","properties":{"a":{"anyOf":[{"$ref":"#/components/schemas/A"},{"enum":[null],"nullable":true}]}}}}"##,
     ),
     ("definitions", 0, "{}"),
+    ("last definitions of a copy", 0, "{}"),
     ("take transformed", 0, "{}"),
 ];
 
@@ -176,6 +187,14 @@ fn part_of_copy(
     copy.subschema_for_type(alloc, n)
 }
 
+fn last_definitions_of_copy(
+    alloc: Global,
+    generator: &SchemaGenerator<Own>,
+) -> Result<Schema, GenerateError> {
+    let copy = generator.try_clone(alloc)?;
+    Ok(Schema::from(copy.into_definitions(alloc)?))
+}
+
 // Puts a built-in transform in the place of each.
 fn replace_each(generator: &mut SchemaGenerator<Own>) -> Result<Schema, GenerateError> {
     for transform in generator.transforms_mut() {
@@ -196,6 +215,7 @@ fn answer(
         "take" => Ok(Schema::from(generator.take_definitions(alloc, false)?)),
         "take transformed" => Ok(Schema::from(generator.take_definitions(alloc, true)?)),
         "part of a copy" => part_of_copy(alloc, generator, n),
+        "last definitions of a copy" => last_definitions_of_copy(alloc, generator),
         "replace each" => replace_each(generator),
         _ => Ok(Schema::from(generator.definitions().clone()?)),
     }

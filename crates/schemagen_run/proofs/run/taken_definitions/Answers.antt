@@ -16,19 +16,19 @@ returns-in_err-subschema_for_type c =
     let passed = c.from_residual.ensures.1 in
     record {
       ok = ok_at_err _ _ r passed;
-      only_memory = err_passed r passed (λ f same. same ∙ known_refusal c.args.root (length c.args.generator.now.rows) e
+      only_memory = err_passed r passed (λ f same. same ∙ known_refusal c.args.root (length c.args.generator.rows) e
           c.requires.known why.refused (λ is. why.unknown.0 (ap Err is)));
     }
 
 pub returns : goal.returns
 returns c =
     let told = c.in_ok-subschema_for_type.ensures in
-    let taken = c.take_definitions.ensures in
+    let taken = c.into_definitions.ensures in
     let settings = ap (λ g. g.settings) told.rest in
     let own = ap (λ s. some_own s.transforms.items) settings ∙ c.requires.own in
     let new = state c.subschema_for_type.new.self in
     record {
-      ok = IfOk-weaker c.take_definitions.result _ _ (λ m made. (
+      ok = IfOk-weaker c.into_definitions.result _ _ (λ m made. (
         new,
         (
           _,
@@ -37,10 +37,10 @@ returns c =
           told.subschema.answer.adds,
           told.keeps.own,
           told.subschema.answer.is.reached tt,
-          made.built_in own ∙ ap (λ s. each_made_by s.transforms.items new.definitions) settings,
+          made.1.built_in own ∙ ap (λ s. each_made_by s.transforms.items new.definitions) settings,
         ),
-        λ is. (made.openapi3 (ap (λ s. s.transforms.items) settings ∙ is)).1,
-        made.whole own,
-      )) (taken.transformed refl);
-      only_memory = IfErr-weaker c.take_definitions.result _ _ (λ e h. h.only_memory own) taken.refused;
+        λ is. (made.1.openapi3 (ap (λ s. s.transforms.items) settings ∙ is)).1,
+        made.1.whole own,
+      )) taken.transformed;
+      only_memory = IfErr-weaker c.into_definitions.result _ _ (λ e h. h.1.only_memory own) taken.refused;
     }
