@@ -6,6 +6,9 @@ mod impls;
 mod law;
 mod rows;
 
-pub use fields::{OPTIONAL, REQUIRED, add_field, add_field_of, struct_entry};
+pub use fields::{
+    OPTIONAL, READ_OPTIONAL, REQUIRED, add_field, add_field_of, add_flattened, flat_entry,
+    struct_entry,
+};
 pub use law::{JsonSchema, register};
-pub use rows::{map_of, option_of, reserve, seq_of};
+pub use rows::{map_of, option_of, reserve, seq_of, set_of};
