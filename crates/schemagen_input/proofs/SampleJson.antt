@@ -5,7 +5,7 @@ use Rattle.std.proofs.lemmas.Bool.{le-leb, cond_both}
 use Rattle.std.proofs.lemmas.Cmp.{nat_list_cmp_total}
 use Rattle.std.specs.Prelude.{◌^◌, ◌-◌, ◌&&◌, option_map}
 use Rattle.std.specs.Float.{two_to, minus_two_to}
-use Rattle.std.specs.Float.Ieee.{le, lt}
+use Rattle.std.specs.Float.Ieee.{lt}
 use Rattle.std.specs.Ordering.{ordering_reverse}
 use Rattle.std.specs.Cmp.Lexicographic.{slice_cmp}
 use Rattle.serde_json.specs.Data.{Data, null, boolean, number, unsigned, negative, float, string, array, object}
@@ -49,7 +49,7 @@ mutual
   the_example (number (unsigned n)) h = rw (le-leb n (2 ^ 64 - 1) (omega arith)) refl
   the_example (number (negative (pos n))) h = absurd h
   the_example (number (negative (negsuc n))) h = rw (le-leb n (2 ^ 63 - 1) (omega arith)) refl
-  the_example (number (float x)) h = cond_both (le (minus_two_to 63) x && lt x (two_to 64)) (Some (decimal x)) None
+  the_example (number (float x)) h = cond_both (lt (minus_two_to 63) x && lt x (two_to 64)) (Some (decimal x)) None
       (λ o. IfSome o (λ y. sample_json y ≡ Some (number (float x)))) (λ _. rw h refl) (λ _. tt)
   the_example (string s) h = refl
   the_example (array ds) h = if_mapped (AreItems ds) (λ x. sample_json x ≡ Some (array ds)) seq (items_input ds)

@@ -16,8 +16,8 @@ use std::alloc::{AllocError, AllocFailed, Global};
 pub enum SampleError {
     /// Memory ran out.
     OutOfMemory,
-    /// A number is below -2^63, or from 2^64 on. It may stand for a whole number whose last digits
-    /// were lost when it was read.
+    /// A float is not between -2^63 and 2^64. It may stand for a whole number whose last digits were
+    /// lost when it was read.
     NotWhole,
 }
 
@@ -49,7 +49,7 @@ impl<T: Drop> From<AllocFailed<T>> for SampleError {
 ///
 /// # Errors
 ///
-/// `NotWhole` if a number in it is below -2^63 or from 2^64 on, and `OutOfMemory`.
+/// `NotWhole` if a float in it is not between -2^63 and 2^64, and `OutOfMemory`.
 #[cycle(sample)]
 pub fn read_sample(alloc: Global, value: &Value) -> Result<Sample, SampleError>
     ensures ok { IfOk result (λ x. sample_input (view value.now) ≡ Some (example_of x)) }
@@ -85,7 +85,7 @@ fn read_float(x: f64) -> Result<Sample, SampleError>
     ensures ok { IfOk result (λ s. number_input (float x) ≡ Some (example_of s)) }
     ensures err { IfErr result (λ e. e ≡ SampleError.NotWhole × number_input (float x) ≡ None) }
 {
-    if -9223372036854775808.0 <= x && x < 18446744073709551616.0 {
+    if -9223372036854775808.0 < x && x < 18446744073709551616.0 {
         Ok(Sample::Float(x))
     } else {
         Err(SampleError::NotWhole)

@@ -177,7 +177,7 @@ IsUnplacedFor words bytes = (asked : Asked) × AskFor words asked × IsUnplacedT
 
 -- ---- examples
 
--- JSON, but with a number below -2^63, or from 2^64 on
+-- JSON, but with a float that is not between -2^63 and 2^64, as which a whole number beyond 64 bits is read
 abbrev pub IsNotWhole : List ℕ → Type 0
 IsNotWhole bytes = (d : Data) × IsTextOf d bytes × (sample_input d ≡ None)
 
