@@ -1,5 +1,5 @@
 -- What belongs to types, computed, of values with decimals: numbers are read by their mathematical value.
-use Rattle.std.proofs.Common.{◌≡◌, ◌+◌, ℕ, List, [], ◌∷◌, Some, Bool, true, false, refl}
+use Rattle.std.proofs.Common.{◌≡◌, List, [], ◌∷◌, Some, Bool, true, false, refl}
 use Rattle.std.specs.Prelude.{codes, pos, negsuc}
 use Rattle.std.specs.Float.{fin}
 use Rattle.std.specs.Float.Ieee.{eq, le, lt}
@@ -11,6 +11,7 @@ use Rattle.schemars_shapes.specs.declared.shape.IntKind.TheVariants.{I8, U8, I64
 use Rattle.schemars_shapes.specs.Shape as shape
 use Rattle.schemars_shapes.specs.Shape.{Shape, in_place}
 use Rattle.schemars_types.specs.Rows.{Row}
+use Rattle.schemars_types.specs.KeyOptions.{options_within}
 use Rattle.schemars_types.specs.declared.contract.Contract.TheVariants.{Deserialize}
 use Rattle.schemars_types.specs.Meaning.{belongs, belongs_within}
 
@@ -73,7 +74,7 @@ sets = (refl, refl, refl)
 prices : (has (shape.map_from 1 2) (object (entry "tea" temperature (entry "water" one no_members))) ≡ true)
     × (has (shape.map_from 1 2) (object (entry "tea" (text "36.6") no_members)) ≡ false)
     × (has (shape.map_from 1 0) (object (entry "tea" one_and_a_half no_members)) ≡ false)
-unfolding has table belongs_within
+unfolding has table belongs_within options_within
 prices = (refl, refl, refl)
 
 constants : (has (shape.literal (object_of (at_key "const" (number (float (fin true 1 (pos 0)))) ∷ []))) minus_one ≡ true)
