@@ -9,9 +9,11 @@ NAMES = ["", "A", "B", "é", "two words", "title", "a/b~c"]
 KEYS = ["a", "b", "", "$ref", "type", "properties", "é", "x-1", "examples"]
 TEXTS = ["", "a", "é", "🚀", "two words", "\n"]
 INTEGERS = [0, 1, -1, 255, -2**63, -2**63 - 1, 2**63 - 1, 2**64 - 1, 2**64, -2**127, 2**127 - 1]
+FLOATS = [0.0, -0.0, 1.0, 1.5, 36.6, -1e300, 5e-324, 1.7976931348623157e308, 2.0**64, "NaN", "inf", "-inf"]
 NUMBERS = [0, 1, 255, 2**63, 2**64 - 1, 2**64, 2**127, 2**128 - 1]
 BYTE = {"type": "integer", "format": "uint8", "minimum": 0, "maximum": 255}
 MADE = {"Bool": {"type": "boolean"}, "Int": {"type": "integer"}, "UInt": {"type": "integer"},
+        "Float": {"type": "number"},
         "Str": {"type": "string"}, "CollectStr": {"type": "string"}, "UnitStruct": {"type": "null"},
         "Char": {"type": "string", "minLength": 1, "maxLength": 1}, "Bytes": {"type": "array", "items": BYTE}}
 ONE_PART = ["Some", "NewtypeStruct", "NewtypeVariant"]
@@ -20,7 +22,7 @@ ENTRIES = ["Map", "CollectMap", "Struct", "StructVariant"]
 
 
 class TooLarge(Exception):
-    """An integer has more than 64 bits, so the example has no JSON form."""
+    """An integer has more than 64 bits, or a float is not finite, so the example has no JSON form."""
 
 
 def _parts(sample):
@@ -42,6 +44,8 @@ def json_form(sample):
         if not -2**63 <= int(content) < 2**64:
             raise TooLarge
         return int(content)
+    if kind == "Float" and isinstance(content, str):
+        raise TooLarge
     if kind in ONE_PART:
         value = json_form(content)
     elif kind in ITEMS:
@@ -127,6 +131,7 @@ def _draw_leaf(draw):
         lambda: {"Bool": draw.chance(0.5)},
         lambda: {"Int": _in_text(draw.pick(INTEGERS))},
         lambda: {"UInt": _in_text(draw.pick(NUMBERS))},
+        lambda: {"Float": draw.pick(FLOATS)},
         lambda: {"Char": draw.pick("aé🚀\n")},
         lambda: {"Str": draw.pick(TEXTS)},
         lambda: {"CollectStr": draw.pick(TEXTS)},

@@ -6,11 +6,12 @@ from jsontext import read_json, write
 
 KEYS = ["a", "b", "", "$ref", "properties", "é", "x y", "type", "title", "x-1", "examples", 'a"', "a\\"]
 LEAVES = [None, True, False, 0, 1, -1, 2**63 - 1, -2**63, 2**64 - 1, "", "a", "é", "🚀", "\n", 'say "a"']
-ODD_LEAVES = [1.5, -0.0, 1.0, 2.0**64, 1e21]
+DECIMALS = [1.5, 36.6, -0.0, 1.0, 1e2, 5e-324, 2.0**53, -9223372036854774784.0, 18446744073709549568.0, 1e-7]
+ODD_LEAVES = [2.0**64, -2.0**63, 1e21, 1.7976931348623157e308, -9223372036854777856.0]
 
 
-class NotWhole(Exception):
-    """A number is none of 64 bits."""
+class TooLarge(Exception):
+    """A float is not between -2^63 and 2^64."""
 
 
 def schema_of(value):
@@ -22,7 +23,9 @@ def schema_of(value):
     if isinstance(value, int):
         return {"type": "integer"}
     if isinstance(value, float):
-        raise NotWhole
+        if not -2**63 < value < 2**64:
+            raise TooLarge
+        return {"type": "number"}
     if isinstance(value, str):
         return {"type": "string"}
     if isinstance(value, dict):
@@ -44,7 +47,7 @@ def sample_answer(dialect, text):
         return "schemagen: 20 NotJson"
     try:
         schema = schema_of(value)
-    except NotWhole:
+    except TooLarge:
         return "schemagen: 22 NotWhole"
     dialect = DIALECTS[dialect]
     document = {} if schema is True else schema
@@ -52,9 +55,9 @@ def sample_answer(dialect, text):
 
 
 def draw_sample(draw, deep=4):
-    """A value, seldom with a number that is no whole one."""
+    """A value, seldom with a number that is too large."""
     if deep == 0 or draw.chance(0.35):
-        return draw.pick(ODD_LEAVES if draw.chance(0.02) else LEAVES)
+        return draw.pick(ODD_LEAVES if draw.chance(0.01) else DECIMALS if draw.chance(0.2) else LEAVES)
     if draw.chance(0.5):
         items = [draw_sample(draw, deep - 1) for _ in range(draw.below(5))]
         return items + items[:draw.below(2)]

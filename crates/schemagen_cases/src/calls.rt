@@ -12,7 +12,7 @@ use crate::calls::values::{pair_in, text_of_bool};
 use crate::samples;
 use schemagen_run::fault::Fault;
 use schemars_schema::encoding::{encode_ref_name, percent_decode};
-use schemars_schema::{NotASchema, Schema, json_eq, json_eq_members};
+use schemars_schema::{NotASchema, Schema, json_eq, json_same, json_same_members};
 use serde_json::Value;
 use std::alloc::{AllocError, Global};
 use std::borrow::CowStr;
@@ -47,7 +47,9 @@ fn answer_about(
         "try_from" => try_from(alloc, value),
         "from_value" => from_value(alloc, value),
         "is_schema" => text_of_bool(alloc, Some(Schema::is_schema(value))),
-        "json_eq" | "json_eq_members" => text_of_bool(alloc, are_equal(call, value)),
+        "json_eq" | "json_same" | "json_same_members" => {
+            text_of_bool(alloc, are_equal(call, value))
+        }
         "encode_ref_name" | "percent_decode" | "new_ref" => about_text(alloc, call, value),
         "escape" | "get_title_and_description" => {
             let text = value.as_str().ok_or(NoAnswer::BadInput)?;
@@ -85,12 +87,13 @@ fn from_value(alloc: Global, value: &Value) -> Result<String, NoAnswer> {
     Ok(schema.to_ordered_string(alloc)?)
 }
 
-// Whether two values, or two lists of members, are equal.
+// Whether two values are equal, or they, or two lists of members, are the same.
 fn are_equal(call: &str, value: &Value) -> Option<bool> {
     match pair_in(value)? {
-        (Value::Object(left), Value::Object(right)) if call == "json_eq_members" => {
-            Some(json_eq_members(left, right))
+        (Value::Object(left), Value::Object(right)) if call == "json_same_members" => {
+            Some(json_same_members(left, right))
         }
+        (left, right) if call == "json_same" => Some(json_same(left, right)),
         (left, right) if call == "json_eq" => Some(json_eq(left, right)),
         _ => None,
     }

@@ -180,11 +180,15 @@ fn with_number(kind: &str, number: &Value) -> Result<Sample, NoAnswer> {
         ("Int", Some(n), _) => Ok(Sample::Int(n as i128)),
         ("Int", None, Some(n)) => Ok(Sample::Int(n as i128)),
         ("UInt", _, Some(n)) => Ok(Sample::UInt(n as u128)),
+        ("Float", _, _) => match number.as_f64() {
+            Some(x) => Ok(Sample::Float(x)),
+            None => Err(NoAnswer::BadInput),
+        },
         _ => Err(NoAnswer::BadInput),
     }
 }
 
-// Numbers of more than 64 bits are in quotes.
+// Numbers of more than 64 bits are in quotes, and so are floats that are not finite.
 fn of_text(alloc: Global, kind: &str, text: &str) -> Result<Sample, NoAnswer> {
     match kind {
         "Str" => Ok(Sample::Str(String::from_str(alloc, text)?)),
@@ -199,6 +203,10 @@ fn of_text(alloc: Global, kind: &str, text: &str) -> Result<Sample, NoAnswer> {
         },
         "UInt" => match text.parse::<u128>() {
             Ok(n) => Ok(Sample::UInt(n)),
+            Err(_) => Err(NoAnswer::BadInput),
+        },
+        "Float" => match text.parse::<f64>() {
+            Ok(x) => Ok(Sample::Float(x)),
             Err(_) => Err(NoAnswer::BadInput),
         },
         _ => Err(NoAnswer::BadInput),

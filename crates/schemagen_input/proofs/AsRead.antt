@@ -1,4 +1,4 @@
--- What is read from a text has whole numbers of 64 bits, and keys in order, each once.
+-- What is read from a text has whole numbers of 64 bits and finite floats, and keys in order, each once.
 use Rattle.std.proofs.Common.{◌≡◌, ℕ, zero, suc, List, Bool, true, false, Option, Some, None, Ordering, Less, Equal, Greater}
 use Rattle.std.proofs.Common.{nat_cmp, refl, subst, arith}
 use Rattle.std.proofs.lemmas.Bool.{cond_both, leb-true, ltb-true}
@@ -14,17 +14,18 @@ use Rattle.json.specs.Lex.{tokens}
 use Rattle.serde_json.specs.Data.{Num, unsigned, negative, float, Data, number, object, array}
 use Rattle.serde_json.specs.Data.{item, Members, no_members, member, put}
 use Rattle.serde_json.specs.Read.{is_integer, float_of, number_from, number_of, of_json, of_items, of_members, max_depth, read}
+use Rattle.schemars_schema.specs.Numbers.{IsNumber}
 use Rattle.schemars_schema.specs.Json.{Text}
 use Rattle.schemars_schema.proofs.SortedMembers.{IsSorted, sorted-put}
-use Rattle.schemagen_input.specs.SampleInput.{IsReadNumber, IsAsRead, AreAsRead, AreMembersAsRead}
+use Rattle.schemagen_input.specs.SampleInput.{IsAsRead, AreAsRead, AreMembersAsRead}
 use Rattle.schemars_sample.proofs.Results.{if_mapped, if_next}
 
 -- ---- numbers
 
-float_read : (sign : Bool) (p : Parts) → IfSome (float_of sign p) IsReadNumber
+float_read : (sign : Bool) (p : Parts) → IfSome (float_of sign p) IsNumber
 float_read sign p =
     let x = nearest binary64 sign p in
-    cond_both (float_is_finite x) (Some (float x)) None (λ o. IfSome o IsReadNumber) (λ _. tt) (λ _. tt)
+    cond_both (float_is_finite x) (Some (float x)) None (λ o. IfSome o IsNumber) (λ h. h) (λ _. tt)
 
 last_of : (a b : Bool) → (a && b) ≡ true → b ≡ true
 last_of true b h = h
@@ -34,29 +35,29 @@ first_of : (a b : Bool) → (a && b) ≡ true → a ≡ true
 first_of true b h = refl
 first_of false b h = cc
 
-below_zero : (n : ℕ) (b : Bool) (o : Option Num) → IfSome o IsReadNumber
-    → IfSome (if (b && nat_lt 0 n) && nat_le n (2 ^ 63) then Some (negative (with_sign true n)) else o) IsReadNumber
+below_zero : (n : ℕ) (b : Bool) (o : Option Num) → IfSome o IsNumber
+    → IfSome (if (b && nat_lt 0 n) && nat_le n (2 ^ 63) then Some (negative (with_sign true n)) else o) IsNumber
 below_zero n b o other =
-    cond_both ((b && nat_lt 0 n) && nat_le n (2 ^ 63)) (Some (negative (with_sign true n))) o (λ q. IfSome q IsReadNumber)
+    cond_both ((b && nat_lt 0 n) && nat_le n (2 ^ 63)) (Some (negative (with_sign true n))) o (λ q. IfSome q IsNumber)
     (λ h. small n (last_of b _ (first_of _ _ h)) (last_of (b && nat_lt 0 n) _ h)) (λ _. other)
   where
-    small : (m : ℕ) → nat_lt 0 m ≡ true → nat_le m (2 ^ 63) ≡ true → IsReadNumber (negative (with_sign true m))
+    small : (m : ℕ) → nat_lt 0 m ≡ true → nat_le m (2 ^ 63) ≡ true → IsNumber (negative (with_sign true m))
     small zero some most = cc
     small (suc m) some most = let bound = leb-true (suc m) (2 ^ 63) most in omega (arith, bound)
 
-number_from_read : (sign : Bool) (p : Parts) → IfSome (number_from sign p) IsReadNumber
+number_from_read : (sign : Bool) (p : Parts) → IfSome (number_from sign p) IsNumber
 number_from_read false p =
     let n = digits_of p in
-    cond_both (is_integer p && nat_lt n (2 ^ 64)) (Some (unsigned n)) (float_of false p) (λ o. IfSome o IsReadNumber)
+    cond_both (is_integer p && nat_lt n (2 ^ 64)) (Some (unsigned n)) (float_of false p) (λ o. IfSome o IsNumber)
     (λ h. ltb-true n (2 ^ 64) (last_of (is_integer p) _ h)) (λ _. float_read false p)
 number_from_read true p = below_zero (digits_of p) (is_integer p) (float_of true p) (float_read true p)
 
-number_read : (s : List ℕ) → IfSome (number_of s) IsReadNumber
+number_read : (s : List ℕ) → IfSome (number_of s) IsNumber
 unfolding number_of
 number_read s =
     let negative_one = number_from true (scan (drop 1 s)) in
     let other = number_from false (scan s) in
-    cond_both (slice_index s 0 == minus) negative_one other (λ o. IfSome o IsReadNumber) (λ _. number_from_read true (scan (drop 1 s)))
+    cond_both (slice_index s 0 == minus) negative_one other (λ o. IfSome o IsNumber) (λ _. number_from_read true (scan (drop 1 s)))
     (λ _. number_from_read false (scan s))
 
 -- ---- members
@@ -84,7 +85,7 @@ mutual
   value_read : (j : json.Json) → IfSome (of_json j) IsAsRead
   value_read json.null = tt
   value_read (json.boolean b) = tt
-  value_read (json.number s) = if_mapped IsReadNumber IsAsRead number (number_of s) (λ n h. h) (number_read s)
+  value_read (json.number s) = if_mapped IsNumber IsAsRead number (number_of s) (λ n h. h) (number_read s)
   value_read (json.string s) = tt
   value_read (json.array js) = if_mapped AreAsRead IsAsRead array (of_items js) (λ ds h. h) (items_read js)
   value_read (json.object ms) =

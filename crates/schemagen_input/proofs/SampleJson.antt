@@ -1,9 +1,11 @@
 -- The JSON of the example that a JSON value is, is that value.
 use Rattle.std.proofs.Common.{◌≡◌, List, [], ◌∷◌, Option, Some, None, Greater, nat_cmp, pos, negsuc, refl, ap, ◌∙◌, subst, arith}
 use Rattle.std.specs.Option.{IfSome}
-use Rattle.std.proofs.lemmas.Bool.{le-leb}
+use Rattle.std.proofs.lemmas.Bool.{le-leb, cond_both}
 use Rattle.std.proofs.lemmas.Cmp.{nat_list_cmp_total}
-use Rattle.std.specs.Prelude.{◌^◌, ◌-◌, option_map}
+use Rattle.std.specs.Prelude.{◌^◌, ◌-◌, ◌&&◌, option_map}
+use Rattle.std.specs.Float.{two_to, minus_two_to}
+use Rattle.std.specs.Float.Ieee.{lt}
 use Rattle.std.specs.Ordering.{ordering_reverse}
 use Rattle.std.specs.Cmp.Lexicographic.{slice_cmp}
 use Rattle.serde_json.specs.Data.{Data, null, boolean, number, unsigned, negative, float, string, array, object}
@@ -11,7 +13,7 @@ use Rattle.serde_json.specs.Data.{Items, no_items, item, Members, no_members, me
 use Rattle.serde_json.specs.View.{items_of}
 use Rattle.schemars_schema.specs.Json.{Text, IsAbove}
 use Rattle.schemars_schema.specs.SchemaData.{put_members}
-use Rattle.schemars_sample.specs.Example.{Example, seq, struct}
+use Rattle.schemars_sample.specs.Example.{Example, decimal, seq, struct}
 use Rattle.schemars_sample.specs.Example.{Examples, example, Entries, entry}
 use Rattle.schemars_sample.specs.SampleJson.{sample_json, items_json, entries_json}
 use Rattle.schemagen_input.specs.SampleInput.{sample_input, items_input, members_input}
@@ -47,7 +49,8 @@ mutual
   the_example (number (unsigned n)) h = rw (le-leb n (2 ^ 64 - 1) (omega arith)) refl
   the_example (number (negative (pos n))) h = absurd h
   the_example (number (negative (negsuc n))) h = rw (le-leb n (2 ^ 63 - 1) (omega arith)) refl
-  the_example (number (float x)) h = tt
+  the_example (number (float x)) h = cond_both (lt (minus_two_to 63) x && lt x (two_to 64)) (Some (decimal x)) None
+      (λ o. IfSome o (λ y. sample_json y ≡ Some (number (float x)))) (λ _. rw h refl) (λ _. tt)
   the_example (string s) h = refl
   the_example (array ds) h = if_mapped (AreItems ds) (λ x. sample_json x ≡ Some (array ds)) seq (items_input ds)
       (λ xs is. rw (is.1, is.2) refl) (the_examples ds h)

@@ -1,13 +1,14 @@
 //! Example values, as JSON gives them.
-ghost use Rattle.std.specs.Prelude.{◌≡◌, Some, None, Err, IfOk};
-ghost use Rattle.serde_json.specs.View.{view, items_view, members_view};
+ghost use Rattle.std.specs.Prelude.{◌≡◌, Some, None, Err, IfOk, IfErr};
+ghost use Rattle.serde_json.specs.Data.{float};
+ghost use Rattle.serde_json.specs.View.{view, number_view, items_view, members_view};
 ghost use Rattle.schemars_sample.specs.Example.{example_of, examples_view, entries_view};
 ghost use Rattle.schemars_sample.specs.SampleJson.{sample_json};
-ghost use Rattle.schemagen_input.specs.SampleInput.{sample_input, items_input, members_input};
+ghost use Rattle.schemagen_input.specs.SampleInput.{sample_input, number_input, items_input, members_input};
 ghost use Rattle.schemagen_input.specs.SampleInput.{IsAsRead};
 
 use schemars_sample::Sample;
-use serde_json::{Map, Value};
+use serde_json::{Map, Number, Value};
 use std::alloc::{AllocError, AllocFailed, Global};
 
 /// Why a JSON value is not an example.
@@ -15,7 +16,8 @@ use std::alloc::{AllocError, AllocFailed, Global};
 pub enum SampleError {
     /// Memory ran out.
     OutOfMemory,
-    /// A number is not a whole number from -2^63 to 2^64 - 1.
+    /// A float is not between -2^63 and 2^64. It may stand for a whole number whose last digits were
+    /// lost when it was read.
     NotWhole,
 }
 
@@ -45,7 +47,9 @@ impl<T: Drop> From<AllocFailed<T>> for SampleError {
 /// entries are given one by one. The JSON of the example of a value that was read from a text is
 /// that value again.
 ///
-/// Refusals: `NotWhole` if a number in it is not a 64-bit whole number, and `OutOfMemory`.
+/// # Errors
+///
+/// `NotWhole` if a float in it is not between -2^63 and 2^64, and `OutOfMemory`.
 #[cycle(sample)]
 pub fn read_sample(alloc: Global, value: &Value) -> Result<Sample, SampleError>
     ensures ok { IfOk result (λ x. sample_input (view value.now) ≡ Some (example_of x)) }
@@ -56,14 +60,35 @@ pub fn read_sample(alloc: Global, value: &Value) -> Result<Sample, SampleError>
     match value {
         Value::Null => Ok(Sample::Unit),
         Value::Bool(b) => Ok(Sample::Bool(*b)),
-        Value::Number(n) => match (n.as_u64(), n.as_i64()) {
-            (Some(n), _) => Ok(Sample::UInt(n as u128)),
-            (None, Some(n)) => Ok(Sample::Int(n as i128)),
-            (None, None) => Err(SampleError::NotWhole),
-        },
+        Value::Number(n) => read_number(*n),
         Value::String(s) => Ok(Sample::Str(s.clone()?)),
         Value::Array(items) => Ok(Sample::Seq(read_items(alloc, items)?)),
         Value::Object(members) => Ok(Sample::Map(read_members(alloc, members)?)),
+    }
+}
+
+fn read_number(number: Number) -> Result<Sample, SampleError>
+    ensures ok { IfOk result (λ x. number_input (number_view number) ≡ Some (example_of x)) }
+    ensures err { IfErr result (λ e. e ≡ SampleError.NotWhole × number_input (number_view number) ≡ None) }
+{
+    match (number.as_u64(), number.as_i64()) {
+        (Some(n), _) => Ok(Sample::UInt(n as u128)),
+        (None, Some(n)) => Ok(Sample::Int(n as i128)),
+        (None, None) => match number.as_f64() {
+            Some(x) => read_float(x),
+            None => Err(SampleError::NotWhole),
+        },
+    }
+}
+
+fn read_float(x: f64) -> Result<Sample, SampleError>
+    ensures ok { IfOk result (λ s. number_input (float x) ≡ Some (example_of s)) }
+    ensures err { IfErr result (λ e. e ≡ SampleError.NotWhole × number_input (float x) ≡ None) }
+{
+    if -9223372036854775808.0 < x && x < 18446744073709551616.0 {
+        Ok(Sample::Float(x))
+    } else {
+        Err(SampleError::NotWhole)
     }
 }
 

@@ -10,7 +10,7 @@ use Rattle.schemars_text.specs.OrderedText.{ordered_text, definitions_text}
 use Rattle.schemars_schema.specs.References.{references}
 use Rattle.schemars_sample.specs.Accepted.{AcceptsExample}
 use Rattle.schemars_sample.specs.Example.{Example}
-use Rattle.schemars_sample.specs.SampleJson.{sample_json}
+use Rattle.schemars_sample.specs.SampleJson.{sample_json, HasWholeJson}
 use Rattle.schemars_sample.specs.SampleSchema.{sample_root}
 use Rattle.schemars_types.specs.Rows.{Row}
 use Rattle.schemars_types.specs.Faults.{IsAccepted}
@@ -177,7 +177,7 @@ IsUnplacedFor words bytes = (asked : Asked) × AskFor words asked × IsUnplacedT
 
 -- ---- examples
 
--- JSON, but with a number that is not a whole number from -2^63 to 2^64 - 1
+-- JSON, but with a float that is not between -2^63 and 2^64, as which a whole number beyond 64 bits is read
 abbrev pub IsNotWhole : List ℕ → Type 0
 IsNotWhole bytes = (d : Data) × IsTextOf d bytes × (sample_input d ≡ None)
 
@@ -189,21 +189,23 @@ IsSampleText bytes = (d : Data) × IsTextOf d bytes × ((x : Example) × (sample
 abbrev pub AcceptsIn : Dialect → Example → Data → Type 0
 AcceptsIn dialect x document = (draft : Draft) → draft_of dialect ≡ Some draft → AcceptsExample x document
 
--- the root document of this example before the transforms: it accepts the example, and its numbers are whole
+-- the root document of this example before the transforms: it accepts the example, and its numbers are whole, where those in the
+-- example are
 abbrev pub IsUntransformedExample : Dialect → Example → Data → Type 0
 IsUntransformedExample dialect x document =
-    (document ≡ sample_root (settings_of_dialect dialect).meta_schema x) × AcceptsIn dialect x document × (has_float document ≡ false)
+    (document ≡ sample_root (settings_of_dialect dialect).meta_schema x) × AcceptsIn dialect x document
+    × (HasWholeJson x → has_float document ≡ false)
 
 -- under the keywords of a draft the document accepts the example
 abbrev pub AcceptsUnder : Dialect → Example → Data → Type 0
 AcceptsUnder dialect x document =
     (draft : Draft) → draft_of dialect ≡ Some draft → AcceptsExampleUnder (dialect_of draft) x document
 
--- after the transforms of the dialect, where it accepts the example too, and its numbers are whole
+-- after the transforms of the dialect, where it accepts the example too, and its numbers are whole, where those in the example are
 abbrev pub IsSampleDocument : Dialect → Example → Data → Type 0
 IsSampleDocument dialect x document =
     IsMadeBy (transforms_of_dialect dialect) (IsUntransformedExample dialect x) document × AcceptsUnder dialect x document
-    × (has_float document ≡ false)
+    × (HasWholeJson x → has_float document ≡ false)
 
 -- the line of the document of the example
 abbrev pub IsExampleLine : Dialect → Example → Text → Type 0

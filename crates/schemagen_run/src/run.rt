@@ -57,7 +57,7 @@ use std::alloc::{AllocError, Global};
 /// `2019-09`, `draft-07` and `openapi3`. Other words are refused first, with nothing read. Then a
 /// run is refused where the source fails, where the bytes are not JSON, where the value is not a
 /// table with a root, where the table has a fault, where the notes of its rows leave no place for
-/// the definitions, where a number of an example is not a 64-bit whole number, and where the sink
+/// the definitions, where a float of an example is not between -2^63 and 2^64, and where the sink
 /// fails, in this order. It may also run out of memory.
 ///
 /// A run that is refused has written nothing, unless the sink has failed: that has taken a

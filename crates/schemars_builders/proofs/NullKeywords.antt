@@ -5,7 +5,7 @@ use Rattle.std.specs.Prelude.{codes, bytes_eq, ◌||◌, ◌&&◌, if◌then◌e
 use Rattle.serde_json.specs.Data.{Data, null, boolean, number, string, array, object, Items, no_items, item}
 use Rattle.std.proofs.Math.Bool.{or_assoc, or-false, or-true}
 use Rattle.schemars_schema.specs.Verdict.{Verdict, Yes, both, verdict}
-use Rattle.schemars_schema.specs.Json.{Text, json_eq, is_among}
+use Rattle.schemars_schema.specs.Json.{Text, json_eq, alike, is_among}
 use Rattle.schemars_text.specs.OrderedText.{is_listed}
 use Rattle.schemars_schema.specs.Acceptance.{type_says, const_says, enum_says, texts_in, type_names, are_type_names}
 use Rattle.schemars_schema.specs.Acceptance.{is_of_type, is_of_some_type, is_null}
@@ -109,12 +109,12 @@ type_null (Some (object ms)) h = absurd h
 -- ---- the values with null
 
 json_eq-null : (v : Data) → json_eq v null ≡ is_null v
-unfolding json_eq
+unfolding alike
 json_eq-null null = refl
 json_eq-null _ = refl
 
 pub null-json_eq : (v : Data) → json_eq null v ≡ is_null v
-unfolding json_eq
+unfolding alike
 null-json_eq null = refl
 null-json_eq _ = refl
 

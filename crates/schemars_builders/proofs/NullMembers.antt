@@ -17,7 +17,7 @@ use Rattle.std.proofs.lemmas.Slice.Eq.{bytes_eq-Decides}
 use Rattle.std.proofs.Math.Bool.{and-false, or-false, or-true}
 use Rattle.std.proofs.lemmas.Option.{same_Some}
 use Rattle.schemars_schema.specs.Verdict.{Verdict, Yes, No, Open, both, verdict, opposite, none_of, any_of}
-use Rattle.schemars_schema.specs.Json.{Text, json_eq}
+use Rattle.schemars_schema.specs.Json.{Text, json_eq, alike}
 use Rattle.schemars_schema.specs.SchemaData.{IsSchema}
 use Rattle.schemars_schema.specs.Acceptance.{Dialect, Patterns, Judge, Context, Raw, Reading, judge, read_data, read_items}
 use Rattle.schemars_schema.specs.Acceptance.{all_keywords, where_some, type_says, items_say, past_say, each_says, not_says}
@@ -347,7 +347,7 @@ module _ (siblings prefix unevaluated : Bool) (patterns : Patterns) (f : Text �
 
   -- the schema of 0 refuses null
   not_zero : (o : Option Data) → (o ≡ None) ⊎ (o ≡ Some zero_schema) → not_says (option_map (read_data c) o) null ≡ Yes
-  unfolding read_data all_keywords json_eq
+  unfolding read_data all_keywords alike
   not_zero o (inl none) = rw none refl
   not_zero o (inr zero) =
       rw (

@@ -12,7 +12,7 @@ use Rattle.schemars_schema.specs.Acceptance.{Dialect, Patterns, draft2020_12, dr
 use Rattle.schemars_text.proofs.Members.{differ}
 use Rattle.schemars_schema.proofs.Objects.{IsSilent}
 use Rattle.schemars_types.specs.declared.contract.Contract.TheVariants.{Serialize}
-use Rattle.schemars_sample.specs.Example.{Example, truth, whole, character, text, bytes, no_value, some_value}
+use Rattle.schemars_sample.specs.Example.{Example, truth, whole, decimal, character, text, bytes, no_value, some_value}
 use Rattle.schemars_sample.specs.Example.{unit_struct, unit_variant, newtype_struct, newtype_variant, seq, tuple}
 use Rattle.schemars_sample.specs.Example.{tuple_variant, struct, collected_map, struct_variant}
 use Rattle.schemars_sample.specs.Example.{Examples, no_examples, example, Entries, no_entries, entry}
@@ -95,6 +95,7 @@ module _ (R : Demand) where
     schema-good : (x : Example) → IsGood R (sample_schema x)
     schema-good (truth b) = type-good R (codes "boolean")
     schema-good (whole z) = type-good R (codes "integer")
+    schema-good (decimal x) = type-good R (codes "number")
     schema-good (character c) = char-good R
     schema-good (text s) = type-good R (codes "string")
     schema-good (bytes bs) = bytes-good R Serialize

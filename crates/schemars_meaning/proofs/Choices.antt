@@ -6,7 +6,7 @@ use Rattle.schemars_schema.specs.Verdict.{verdict, opposite, none_of, one_of}
 use Rattle.serde_json.specs.Find.{as_str}
 use Rattle.std.specs.List.{list_any}
 use Rattle.schemars_builders.specs.NullLaw.{text_items}
-use Rattle.schemars_schema.specs.Json.{Text, IsJson, json_eq, is_among}
+use Rattle.schemars_schema.specs.Json.{Text, IsJson, json_eq, alike, is_among}
 use Rattle.schemars_schema.specs.SchemaData.{IsSchema}
 use Rattle.schemars_schema.specs.Acceptance.{Patterns, Judge, Context, judge, read_data, read_items, all_keywords}
 use Rattle.schemars_schema.proofs.Verdicts.{both-yes}
@@ -71,7 +71,7 @@ module _ (patterns : Patterns) (f : Text → Judge) (basis : Basis) (M : ℕ →
       (both-yes _ ∙ (ap (λ x. opposite (none_of x)) (each_choice ts bs v h) ∙ (ap opposite (none_verdict bs) ∙ any_verdict bs)))
 
   among : (ks : List Text) (v : Data) → is_among (text_items ks) v ≡ list_any (λ k. is_text k v) ks
-  unfolding json_eq
+  unfolding alike
   among [] v = refl
   among (k ∷ ks) null = among ks null
   among (k ∷ ks) (boolean b) = among ks (boolean b)
@@ -94,7 +94,7 @@ module _ (patterns : Patterns) (f : Text → Judge) (basis : Basis) (M : ℕ →
   units_say ks (object ms) = rw (among ks (object ms), no_text ks (object ms) refl) refl
 
   pub unit_says : (name : Text) (v : Data) → (judge c (unit_variant name)).fits v ≡ verdict (is_text name v)
-  unfolding read_data all_keywords json_eq
+  unfolding read_data all_keywords alike
   unit_says name (string s) = both-yes _
   unit_says name _ = refl
 

@@ -6,9 +6,9 @@ use Rattle.std.proofs.lemmas.Bool.{le-leb, leb-true, and_parts}
 use Rattle.std.proofs.lemmas.Option.{option_and_then_some, same_Some, cond_some, none-some}
 use Rattle.std.proofs.lemmas.Slice.Eq.{bytes_eq-Decides}
 use Rattle.std.specs.Prelude.{codes, bytes_eq, nat_le, nat_lt, ◌||◌, ⊤, ℤ, encode_utf8}
-use Rattle.serde_json.specs.Data.{Data, null, boolean, number, unsigned, string, array, object, no_items, item, Members, no_members, put}
+use Rattle.serde_json.specs.Data.{Num, Data, null, boolean, number, unsigned, string, array, object, no_items, item, Members, no_members, put}
 use Rattle.serde_json.specs.Events.{items_len}
-use Rattle.serde_json.specs.Find.{get_member, of_integer}
+use Rattle.serde_json.specs.Find.{get_member, of_integer, of_float}
 use Rattle.serde_json.specs.View.{items_of}
 use Rattle.serde_json.proofs.Views.{get_member-put, get_member-put_other}
 use Rattle.schemars_schema.specs.Json.{Text}
@@ -23,7 +23,7 @@ use Rattle.schemars_builders.specs.NullLaw.{context2020_12}
 use Rattle.schemars_builders.proofs.Nulls.{IsReady, ready-law, ready-allow_null, ready-schema}
 use Rattle.schemars_documents.specs.Documents.{type_alone, byte_document, with_meta_schema}
 use Rattle.schemars_sample.specs.Accepted.{AcceptsExample}
-use Rattle.schemars_sample.specs.Example.{Example, truth, whole, character, text, bytes, no_value, some_value}
+use Rattle.schemars_sample.specs.Example.{Example, truth, whole, decimal, character, text, bytes, no_value, some_value}
 use Rattle.schemars_sample.specs.Example.{unit_struct, unit_variant, newtype_struct, newtype_variant, seq, tuple}
 use Rattle.schemars_sample.specs.Example.{tuple_variant, struct, collected_map, struct_variant}
 use Rattle.schemars_sample.specs.Example.{Examples, no_examples, example, Entries, no_entries, entry}
@@ -41,6 +41,7 @@ use Rattle.schemars_sample.proofs.Listed.{Covers, one_beside-covers, sound-one_b
 
 pub ready : (x : Example) → IsReady (sample_schema x)
 ready (truth b) = inr (record { alone = refl; type_form = refl; values = inl refl; not_form = inl refl })
+ready (decimal x) = inr (record { alone = refl; type_form = refl; values = inl refl; not_form = inl refl })
 ready (whole z) = inr (record { alone = refl; type_form = refl; values = inl refl; not_form = inl refl })
 ready (character n) = inr (record { alone = refl; type_form = refl; values = inl refl; not_form = inl refl })
 ready (text s) = inr (record { alone = refl; type_form = refl; values = inl refl; not_form = inl refl })
@@ -83,6 +84,7 @@ module _ (patterns : Patterns) (follow : Text → Judge) where
     sound : (x : Example) → Sound (sample_schema x)
     sound (truth b) = sound-type patterns follow (codes "boolean")
     sound (whole z) = sound-type patterns follow (codes "integer")
+    sound (decimal x) = sound-type patterns follow (codes "number")
     sound (character n) = sound-char patterns follow
     sound (text s) = sound-type patterns follow (codes "string")
     sound (bytes bs) = sound-list patterns follow byte_document (sound-byte patterns follow)
@@ -149,6 +151,10 @@ module _ (patterns : Patterns) (follow : Text → Judge) where
   whole-fits (pos n) = refl
   whole-fits (negsuc n) = refl
 
+  number-fits : (n : Num) → Fits (type_alone (codes "number")) (number n)
+  unfolding read_data all_keywords
+  number-fits n = refl
+
   bytes-fit : (bs : List ℕ) → are_bytes bs ≡ true
       → each_past zero (judge (context2020_12 patterns follow) byte_document) (items_of (map (λ b. number (unsigned b)) bs)) ≡ Yes
   bytes-fit [] h = refl
@@ -184,6 +190,8 @@ module _ (patterns : Patterns) (follow : Text → Judge) where
     accepted : (x : Example) → (json : Data) → sample_json x ≡ Some json → Fits (sample_schema x) json
     accepted (truth b) json e = subst (λ v. Fits (sample_schema (truth b)) v) (same_Some _ json e) refl
     accepted (whole z) json e = subst (λ v. Fits (sample_schema (whole z)) v) (cond_some _ _ json e).1 (whole-fits z)
+    accepted (decimal x) json e =
+        option_map_some number (of_float x) json e (λ n is same. subst (λ v. Fits (sample_schema (decimal x)) v) same (number-fits n))
     accepted (character n) json e =
         subst (λ v. Fits (sample_schema (character n)) v) (same_Some _ json e) (char-says patterns follow (encode_utf8 n) (one-character n))
     accepted (text s) json e = subst (λ v. Fits (sample_schema (text s)) v) (same_Some _ json e) refl
@@ -280,6 +288,7 @@ accepts-sample x patterns follow json e = accepted patterns follow x json e
 titled-schema : (x : Example) → IsSchema (titled_schema x)
 titled-schema (truth b) = tt
 titled-schema (whole z) = tt
+titled-schema (decimal x) = tt
 titled-schema (character n) = tt
 titled-schema (text s) = tt
 titled-schema (bytes bs) = tt
@@ -303,6 +312,7 @@ titled-accepts (tuple name xs) = accepts-with_name (tuple name xs) name _ tt (ac
 titled-accepts (struct name xs) = accepts-with_name (struct name xs) name _ tt (accepts-sample (struct name xs))
 titled-accepts (truth b) = accepts-sample (truth b)
 titled-accepts (whole z) = accepts-sample (whole z)
+titled-accepts (decimal x) = accepts-sample (decimal x)
 titled-accepts (character n) = accepts-sample (character n)
 titled-accepts (text s) = accepts-sample (text s)
 titled-accepts (bytes bs) = accepts-sample (bytes bs)

@@ -12,7 +12,7 @@ use Rattle.schemars_schema.proofs.Members.{get_member-without}
 use Rattle.schemars_builders.specs.AllowNull.{allow_null, is_null_choice, is_combined, or_null, null_in_values, null_in_const}
 use Rattle.schemars_builders.specs.AllowNull.{null_in_enum, null_in_type, const_or_null, enum_with_null, type_with_null}
 use Rattle.schemars_documents.specs.Documents.{with_meta_schema}
-use Rattle.schemars_sample.specs.Example.{Example, truth, whole, character, text, bytes, no_value, some_value}
+use Rattle.schemars_sample.specs.Example.{Example, truth, whole, decimal, character, text, bytes, no_value, some_value}
 use Rattle.schemars_sample.specs.Example.{unit_struct, unit_variant, newtype_struct, newtype_variant, seq, tuple}
 use Rattle.schemars_sample.specs.Example.{tuple_variant, struct, collected_map, struct_variant}
 use Rattle.schemars_sample.specs.SampleJson.{sample_json}
@@ -76,6 +76,7 @@ free_allow_null _ h = h
 free_schema : (x : Example) → IsFree (members_in (sample_schema x))
 free_schema (truth b) = (refl, refl)
 free_schema (whole z) = (refl, refl)
+free_schema (decimal x) = (refl, refl)
 free_schema (character c) = (refl, refl)
 free_schema (text s) = (refl, refl)
 free_schema (bytes bs) = (refl, refl)
@@ -102,6 +103,7 @@ free_titled (tuple name xs) = free_name name (sample_schema (tuple name xs)) (fr
 free_titled (struct name xs) = free_name name (sample_schema (struct name xs)) (free_schema (struct name xs))
 free_titled (truth b) = free_schema (truth b)
 free_titled (whole z) = free_schema (whole z)
+free_titled (decimal x) = free_schema (decimal x)
 free_titled (character c) = free_schema (character c)
 free_titled (text s) = free_schema (text s)
 free_titled (bytes bs) = free_schema (bytes bs)

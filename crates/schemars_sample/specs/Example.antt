@@ -1,5 +1,6 @@
 -- What an example value says.
 use Rattle.std.specs.Prelude.{ℕ, ℤ, pos, List, [], ◌∷◌, map, Bool, String, string_bytes}
+use Rattle.std.specs.Float.{Float}
 use Rattle.std.specs.declared.alloc.Global.{Global}
 use Rattle.schemars_schema.specs.Json.{Text}
 use Rattle.schemars_sample.specs.declared.sample.Sample.{Sample, fold-Sample}
@@ -11,6 +12,7 @@ mutual
   pub data Example : Type 0 where
     truth : Bool → Example
     whole : ℤ → Example
+    decimal : Float → Example
     character : ℕ → Example
     text : Text → Example
     bytes : List ℕ → Example
@@ -48,6 +50,7 @@ abbrev pub example_step : Sample-F Example → Example
 example_step (Sample-F.Bool b) = truth b
 example_step (Sample-F.Int z) = whole z
 example_step (Sample-F.UInt n) = whole (pos n)
+example_step (Sample-F.Float x) = decimal x
 example_step (Sample-F.Char c) = character c
 example_step (Sample-F.Str s) = text (string_bytes s)
 example_step (Sample-F.Bytes v) = bytes v.items

@@ -1,12 +1,14 @@
 -- The JSON of an example value, as serializers write it.
 use Rattle.std.specs.Prelude.{ℕ, Bool, true, nat_lt, ◌^◌, ◌-◌, ◌&&◌, ℤ, pos, negsuc, int_le, if◌then◌else◌, List, [], ◌∷◌, map, Option, Some, None}
-use Rattle.std.specs.Prelude.{option_map, option_and_then, encode_utf8}
+use Rattle.std.specs.Prelude.{◌≡◌, false, option_map, option_and_then, encode_utf8}
+use Rattle.std.specs.Option.{IfSome}
 use Rattle.serde_json.specs.Data.{Data, null, boolean, number, unsigned, string, array, object}
 use Rattle.serde_json.specs.View.{items_of}
+use Rattle.serde_json.specs.Written.{has_float}
 use Rattle.serde_json.specs.Data.{Members, no_members, member, put}
-use Rattle.serde_json.specs.Find.{of_integer}
+use Rattle.serde_json.specs.Find.{of_integer, of_float}
 use Rattle.schemars_schema.specs.Json.{Text}
-use Rattle.schemars_sample.specs.Example.{Example, truth, whole, character, text, bytes, no_value, some_value}
+use Rattle.schemars_sample.specs.Example.{Example, truth, whole, decimal, character, text, bytes, no_value, some_value}
 use Rattle.schemars_sample.specs.Example.{unit_struct, unit_variant, newtype_struct, newtype_variant, seq, tuple}
 use Rattle.schemars_sample.specs.Example.{tuple_variant, struct, collected_map, struct_variant}
 use Rattle.schemars_sample.specs.Example.{Examples, no_examples, example, Entries, no_entries, entry}
@@ -27,11 +29,12 @@ are_bytes (b ∷ bs) = nat_lt b 256 && are_bytes bs
 abbrev pub json_named : Text → Data → Data
 json_named variant d = object (member variant d no_members)
 
--- There is none if a whole number or a byte is out of range. Of members with equal keys the later one counts.
+-- There is none if a whole number or a byte is out of range, or a float is not finite. Of members with equal keys the later one counts.
 abbrev mutual
   pub sample_json : Example → Option Data
   sample_json (truth b) = Some (boolean b)
   sample_json (whole z) = whole_json z
+  sample_json (decimal x) = option_map number (of_float x)
   sample_json (character c) = Some (string (encode_utf8 c))
   sample_json (text s) = Some (string s)
   sample_json (bytes bs) = if are_bytes bs then Some (json_array (map (λ b. number (unsigned b)) bs)) else None
@@ -56,3 +59,7 @@ abbrev mutual
   pub entries_json : Entries → Members → Option Members
   entries_json no_entries ms = Some ms
   entries_json (entry k x xs) ms = option_and_then (λ d. entries_json xs (put k d ms)) (sample_json x)
+
+-- the numbers in its JSON are whole, where it has one
+abbrev pub HasWholeJson : Example → Type 0
+HasWholeJson x = IfSome (sample_json x) (λ d. has_float d ≡ false)

@@ -9,11 +9,11 @@ ghost use Rattle.schemars_sample.specs.SampleJson.{json_array};
 ghost use Rattle.schemars_sample.specs.SampleJson.{are_bytes, whole_json, json_named};
 
 use crate::sample::Sample;
-use serde_json::{Map, Value};
+use serde_json::{Map, Number, Value};
 use std::alloc::{AllocError, Global};
 
 /// Returns the example as `serde_json` writes it. There is none if a whole number in it is not from
-/// -2^63 to 2^64 - 1.
+/// -2^63 to 2^64 - 1, or a float in it is not finite.
 ///
 /// # Errors
 ///
@@ -26,6 +26,7 @@ pub fn json_of(alloc: Global, sample: &Sample) -> Result<Option<Value>, AllocErr
         Sample::Bool(b) => Ok(Some(Value::Bool(*b))),
         Sample::Int(n) => Ok(whole_number(*n)),
         Sample::UInt(n) => Ok(u64::try_from(*n).ok().map(Value::from)),
+        Sample::Float(x) => Ok(Number::from_f64(*x).map(Value::Number)),
         Sample::Char(c) => Ok(Some(Value::String(char_text(alloc, *c)?))),
         Sample::Str(s) | Sample::CollectStr(s) | Sample::UnitVariant(s) => {
             Ok(Some(Value::String(s.clone()?)))

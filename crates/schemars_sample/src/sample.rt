@@ -12,6 +12,8 @@ pub enum Sample {
     Bool(bool),
     Int(i128),
     UInt(u128),
+    /// a float; one that is not finite has no JSON form
+    Float(f64),
     Char(char),
     Str(String),
     Bytes(Vec<u8>),

@@ -7,9 +7,11 @@ pub mod encoding;
 mod equality;
 mod error;
 pub mod keywords;
+mod numbers;
 pub mod schema;
 
-pub use equality::{json_eq, json_eq_members};
+pub use equality::{json_eq, json_same, json_same_members};
 pub use error::NotASchema;
+pub use numbers::numbers_eq;
 pub use schema::Schema;
 pub use schemars_text::{Failed, OrderedError, Sink, SinkOf};

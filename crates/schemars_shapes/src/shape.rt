@@ -8,7 +8,7 @@ ghost use Rattle.schemars_shapes.specs.Equality.{shape_eq, list_eq, field_eq, fl
 ghost use Rattle.schemars_shapes.specs.Equality.{fields_eq, entry_eq};
 
 use crate::variant::{Adjacent, Internal, Variant, variants_equal};
-use schemars_schema::{Schema, json_eq, json_eq_members};
+use schemars_schema::{Schema, json_same, json_same_members};
 use serde_json::{Map, Value};
 use std::alloc::Global;
 
@@ -257,7 +257,7 @@ impl Shape {
             (Shape::Untagged(a), Shape::Untagged(b)) => variants_equal(a, b),
             (Shape::Internal(a), Shape::Internal(b)) => a.is_equal(b),
             (Shape::Adjacent(a), Shape::Adjacent(b)) => a.is_equal(b),
-            (Shape::Literal(a), Shape::Literal(b)) => json_eq(a.as_value(), b.as_value()),
+            (Shape::Literal(a), Shape::Literal(b)) => json_same(a.as_value(), b.as_value()),
             _ => false,
         }
     }
@@ -311,7 +311,7 @@ impl Field {
         self.name == other.name
             && self.ty == other.ty
             && self.required == other.required
-            && json_eq_members(&self.notes, &other.notes)
+            && json_same_members(&self.notes, &other.notes)
     }
 }
 
@@ -344,6 +344,6 @@ impl TypeEntry {
     {
         self.inline == other.inline
             && self.shape.is_equal(&other.shape)
-            && json_eq_members(&self.notes, &other.notes)
+            && json_same_members(&self.notes, &other.notes)
     }
 }

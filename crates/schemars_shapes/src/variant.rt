@@ -6,7 +6,7 @@ ghost use Rattle.schemars_shapes.specs.Equality.{bool_eq, payload_eq, variant_eq
 ghost use Rattle.schemars_shapes.specs.Units.{is_bare_unit};
 
 use crate::shape::{Fields, TypeNo};
-use schemars_schema::json_eq_members;
+use schemars_schema::json_same_members;
 use serde_json::{Map, Value};
 
 /// A variant of an enum.
@@ -93,7 +93,7 @@ impl Variant {
     {
         self.name == other.name
             && self.payload.is_equal(&other.payload)
-            && json_eq_members(&self.notes, &other.notes)
+            && json_same_members(&self.notes, &other.notes)
     }
 }
 
@@ -162,7 +162,7 @@ impl InternalVariant {
     {
         self.name == other.name
             && self.payload.is_equal(&other.payload)
-            && json_eq_members(&self.notes, &other.notes)
+            && json_same_members(&self.notes, &other.notes)
     }
 }
 

@@ -12,6 +12,7 @@ pub mod Accepted
 pub mod Copies
 pub mod Within
 mod MeaningExamples
+mod DecimalExamples
 pub mod Texts
 pub mod Adding
 pub mod Asked

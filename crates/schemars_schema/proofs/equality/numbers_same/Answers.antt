@@ -1,5 +1,5 @@
 use Rattle.std.proofs.Common.{rules}
-use Rattle.schemars_schema.proofs.equality.numbers_eq.Goals as goal
+use Rattle.schemars_schema.proofs.equality.numbers_same.Goals as goal
 
 pub returns-in_default : goal.returns-in_default
 returns-in_default c = search rules
