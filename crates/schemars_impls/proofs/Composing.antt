@@ -1,5 +1,5 @@
 -- Calls that keep to dictionaries, one after another, and what they refuse.
-use Rattle.std.proofs.Common.{◌≡◌, ◌⊎◌, inl, inr, List, sym, subst}
+use Rattle.std.proofs.Common.{◌≡◌, ◌⊎◌, inl, inr, List, Result, Ok, Err, IsErrAnd, IfErr, sym, subst}
 use Rattle.schemars_types.specs.declared.error.TypesError.{TypesError}
 use Rattle.schemars_types.specs.declared.error.TypesError.TheVariants.{OutOfMemory}
 use Rattle.schemars_types.specs.Rows.{Row}
@@ -57,6 +57,12 @@ pub refuses_after : {R P : Dictionary → Type 0} {old mid : List Row} {e : Type
     → KeepsTo R old mid → RefusesAs R old e
 refuses_after p within before = record { each = λ d h f. p.each d (within d h) (before.each d h f) }
 
+-- an error that is passed on
+pub refuses_told : {X : Type 0} {R : Dictionary → Type 0} {old : List Row} (r : Result X TypesError) (e : TypesError)
+    → IsErrAnd r (λ x. x ≡ e) → RefusesAs R old e → IfErr r (RefusesAs R old)
+refuses_told (Ok x) e is why = tt
+refuses_told {R = R} {old = old} (Err x) e is why = subst (λ y. RefusesAs R old y) (sym is) why
+
 -- what implementations need
 pub ruleset keeping = (
   keeps-refl,
@@ -79,4 +85,5 @@ pub ruleset keeping = (
   refuses_type_memory,
   refuses_part,
   refuses_after,
+  refuses_told,
 )

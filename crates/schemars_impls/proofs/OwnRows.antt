@@ -179,13 +179,13 @@ pub map_follows : {old new : List Row} {key n m : ℕ} → HasRow (map_id (id_at
 map_follows {old = old} {new = new} {key = key} {n = n} {m = m} has = record { each = map-at old new key n m has }
 
 -- the number of a row whose id the type knows
-pub at_place : {Made : Text → Text → Dictionary → Type 0} {id name : Text} {rows : List Row} {n : ℕ} {d : Dictionary} → Made id name d
+pub at_place : {Made : Text → Text → Dictionary → Type 0} (id name : Text) {rows : List Row} {n : ℕ} {d : Dictionary} → Made id name d
     → place_of id rows ≡ Some n → IsAt n rows Made d
-at_place {id = id} {name = name} made there = record { id = id; name = name; place = there; made = made }
+at_place id name made there = record { id = id; name = name; place = there; made = made }
 
-pub map_place : {key_id key_name id name : Text} {rows : List Row} {key n : ℕ} {d : Dictionary} → IsMapOf key_id key_name id name d
+pub map_place : (key_id key_name id name : Text) {rows : List Row} {key n : ℕ} {d : Dictionary} → IsMapOf key_id key_name id name d
     → place_of key_id rows ≡ Some key → place_of id rows ≡ Some n → IsMapAt key n rows d
-map_place {key_id = key_id} {key_name = key_name} {id = id} {name = name} made key_there there = record {
+map_place key_id key_name id name made key_there there = record {
   key_id = key_id;
   key_name = key_name;
   id = id;
@@ -208,7 +208,8 @@ refuses_numbers {rows = rows} {ns = ns} {e = e} h known = record { each = λ d i
 -- and so behind other calls
 pub refuses_numbers_after : {R : Dictionary → Type 0} {old rows : List Row} {ns : List ℕ} {e : TypesError} → RefusesNumbers rows ns e
     → find (λ m. nat_le (length rows) m) ns ≡ None → KeepsTo R old rows → RefusesAs R old e
-refuses_numbers_after h known before = record { each = λ d in_d f. (refuses_numbers h known).each d in_d (before.each d in_d f) }
+refuses_numbers_after {R = R} {rows = rows} {e = e} h known before =
+    let here : RefusesAs R rows e = refuses_numbers h known in record { each = λ d in_d f. here.each d in_d (before.each d in_d f) }
 
 -- the first number is no row's, or the second is the first that is none
 pub numbers_unknown : (rows : List Row) (n : ℕ) (ns : List ℕ) (e : TypesError) → e ≡ UnknownType n → length rows ≤ n

@@ -9,7 +9,7 @@ use Rattle.schemars_impls.specs.Fields.{FieldsAreKnown, PartsAreKnown, VariantsA
 use Rattle.schemars_impls.specs.Keeps.{Keeps}
 use Rattle.schemars_impls.proofs.Keeping.{keeps-refl, keeps-same, keeps-trans, numbers-kept, known-one, known-two, place_of-kept, reserved_keeps}
 use Rattle.schemars_impls.proofs.Composing.{keeps_to_refl, keeps_to_same, keeps_to_part, keeps_to_then, keeps_to_then_two, keeps_to_then_four}
-use Rattle.schemars_impls.proofs.Composing.{keeps_to_then_eight, refuses_memory, refuses_type_memory, refuses_part, refuses_after}
+use Rattle.schemars_impls.proofs.Composing.{keeps_to_then_eight, refuses_memory, refuses_type_memory, refuses_part, refuses_after, refuses_told}
 use Rattle.schemars_impls.proofs.OwnRows.{self_reserved, reserve_follows, option_follows, seq_follows, set_follows, map_follows, has_present}
 use Rattle.schemars_impls.proofs.OwnRows.{has_registered, has_keeps, numbers_memory, numbers_unknown, numbers_refused, at_place, map_place}
 use Rattle.schemars_impls.proofs.OwnRows.{refuses_numbers, refuses_numbers_after}
@@ -169,6 +169,7 @@ pub ruleset adding = (
   refuses_memory,
   refuses_type_memory,
   refuses_part,
+  refuses_told,
 )
 
 -- What a type of one's own needs whose fields join one after another: `using` names it in the crate of the type.
@@ -202,4 +203,5 @@ pub ruleset own_types = (
   refuses_numbers,
   refuses_after,
   refuses_part,
+  refuses_told,
 )

@@ -53,7 +53,8 @@ pub fn option_of(alloc: Global, types: &mut Types, n: TypeNo) -> Result<TypeNo, 
     if let Some(there) = types.find(id.as_str()) {
         return Ok(there);
     }
-    types.option(alloc, n)
+    let number = types.option(alloc, n)?;
+    Ok(number)
 }
 
 /// Returns the number of the type of lists of values of row `n`, as `option_of` does.
@@ -73,7 +74,8 @@ pub fn seq_of(alloc: Global, types: &mut Types, n: TypeNo) -> Result<TypeNo, Typ
     if let Some(there) = types.find(id.as_str()) {
         return Ok(there);
     }
-    types.seq(alloc, n)
+    let number = types.seq(alloc, n)?;
+    Ok(number)
 }
 
 /// Returns the number of the type of sets of values of row `n`, as `option_of` does.
@@ -93,7 +95,8 @@ pub fn set_of(alloc: Global, types: &mut Types, n: TypeNo) -> Result<TypeNo, Typ
     if let Some(there) = types.find(id.as_str()) {
         return Ok(there);
     }
-    types.set(alloc, n)
+    let number = types.set(alloc, n)?;
+    Ok(number)
 }
 
 /// Returns the number of the type of maps with keys of row `key` and values of row `n`, as
@@ -120,7 +123,8 @@ pub fn map_of(
     if let Some(there) = types.find(id.as_str()) {
         return Ok(there);
     }
-    types.map(alloc, key, n)
+    let number = types.map(alloc, key, n)?;
+    Ok(number)
 }
 
 // The id of a row between two texts.

@@ -117,7 +117,12 @@ impl<A: JsonSchema, R: Parts> Parts for And<A, R> {
     }
 }
 
-fn add_one<T: JsonSchema>(
+/// Registers a type, and adds its number behind the others.
+///
+/// # Errors
+///
+/// `OutOfMemory`, or what `register` returns. The numbers may have changed then.
+pub fn add_one<T: JsonSchema>(
     alloc: Global,
     types: &mut Types,
     numbers: &mut Vec<TypeNo>,
