@@ -1,9 +1,10 @@
 -- Calls that keep to dictionaries, one after another, and what they refuse.
-use Rattle.std.proofs.Common.{◌≡◌, ◌⊎◌, inl, inr, List, Result, Ok, Err, IsErrAnd, IfErr, sym, subst}
+use Rattle.std.proofs.Common.{◌≡◌, ◌⊎◌, inl, inr, List, sym, subst}
 use Rattle.schemars_types.specs.declared.error.TypesError.{TypesError}
 use Rattle.schemars_types.specs.declared.error.TypesError.TheVariants.{OutOfMemory}
 use Rattle.schemars_types.specs.Rows.{Row}
-use Rattle.schemars_impls.specs.Dictionary.{Dictionary, Follows, TypeRow, MayRefuse, KeepsTo, RefusesAs, RefusesType}
+use Rattle.schemars_impls.specs.Dictionary.{Dictionary, Follows, TypeRow, IsInPart, MayRefuse, KeepsTo, RefusesAs, Describes, RefusesPart}
+use Rattle.schemars_impls.specs.Dictionary.{RefusesType}
 use Rattle.schemars_impls.proofs.Keeping.{keeps-refl, keeps-same, keeps-trans, place_of-kept, known-one, known-two, known_cons}
 use Rattle.schemars_impls.proofs.Placing.{known_more, place_added, adds_none, adds_then, adds_placed}
 
@@ -22,25 +23,6 @@ pub keeps_to_then : {R P : Dictionary → Type 0} {a b c : List Row} → KeepsTo
     → KeepsTo R a c
 keeps_to_then p within rest = record { each = λ d h f. rest.each d h (p.each d (within d h) f) }
 
--- several calls before others
-pub keeps_to_then_two : {R P Q : Dictionary → Type 0} {a b c d : List Row} → KeepsTo P a b → ((e : Dictionary) → R e → P e) → KeepsTo Q b c
-    → ((e : Dictionary) → R e → Q e) → KeepsTo R c d → KeepsTo R a d
-keeps_to_then_two p within_p q within_q rest = keeps_to_then p within_p (keeps_to_then q within_q rest)
-
-pub keeps_to_then_four : {R P Q S T : Dictionary → Type 0} {a b c d e f : List Row} → KeepsTo P a b → ((x : Dictionary) → R x → P x)
-    → KeepsTo Q b c → ((x : Dictionary) → R x → Q x) → KeepsTo S c d → ((x : Dictionary) → R x → S x) → KeepsTo T d e
-    → ((x : Dictionary) → R x → T x) → KeepsTo R e f → KeepsTo R a f
-keeps_to_then_four p within_p q within_q s within_s t within_t rest =
-    keeps_to_then_two p within_p q within_q (keeps_to_then_two s within_s t within_t rest)
-
-pub keeps_to_then_eight : {R P Q S T U V W X : Dictionary → Type 0} {a b c d e f g h i j : List Row} → KeepsTo P a b
-    → ((x : Dictionary) → R x → P x) → KeepsTo Q b c → ((x : Dictionary) → R x → Q x) → KeepsTo S c d → ((x : Dictionary) → R x → S x)
-    → KeepsTo T d e → ((x : Dictionary) → R x → T x) → KeepsTo U e f → ((x : Dictionary) → R x → U x) → KeepsTo V f g
-    → ((x : Dictionary) → R x → V x) → KeepsTo W g h → ((x : Dictionary) → R x → W x) → KeepsTo X h i → ((x : Dictionary) → R x → X x)
-    → KeepsTo R i j → KeepsTo R a j
-keeps_to_then_eight p within_p q within_q s within_s t within_t u within_u v within_v w within_w x within_x rest =
-    keeps_to_then_four p within_p q within_q s within_s t within_t (keeps_to_then_four u within_u v within_v w within_w x within_x rest)
-
 pub refuses_memory : {R : Dictionary → Type 0} {old : List Row} {e : TypesError} → e ≡ OutOfMemory → RefusesAs R old e
 refuses_memory is = record { each = λ d h f. record { cause = inl is } }
 
@@ -57,11 +39,26 @@ pub refuses_after : {R P : Dictionary → Type 0} {old mid : List Row} {e : Type
     → KeepsTo R old mid → RefusesAs R old e
 refuses_after p within before = record { each = λ d h f. p.each d (within d h) (before.each d h f) }
 
--- an error that is passed on
-pub refuses_told : {X : Type 0} {R : Dictionary → Type 0} {old : List Row} (r : Result X TypesError) (e : TypesError)
-    → IsErrAnd r (λ x. x ≡ e) → RefusesAs R old e → IfErr r (RefusesAs R old)
-refuses_told (Ok x) e is why = tt
-refuses_told {R = R} {old = old} (Err x) e is why = subst (λ y. RefusesAs R old y) (sym is) why
+-- ---- a type that is described
+
+pub describes_none : {t : TypeRow} {rows : List Row} → Describes t rows rows
+describes_none = record { each = λ d h f. f }
+
+-- one call before others
+pub describes_then : {t : TypeRow} {P : Dictionary → Type 0} {a b c : List Row} → KeepsTo P a b → ((d : Dictionary) → IsInPart t d → P d)
+    → Describes t b c → Describes t a c
+describes_then p within rest = record { each = λ d h f. rest.each d h (p.each d (within d h) f) }
+
+pub describes_by : {t : TypeRow} {P : Dictionary → Type 0} {a b : List Row} → KeepsTo P a b → ((d : Dictionary) → IsInPart t d → P d)
+    → Describes t a b
+describes_by p within = record { each = λ d h f. p.each d (within d h) f }
+
+pub part_memory : {t : TypeRow} {old : List Row} {e : TypesError} → e ≡ OutOfMemory → RefusesPart t old e
+part_memory is = record { each = λ d h f. record { cause = inl is } }
+
+pub part_refuses : {t : TypeRow} {P : Dictionary → Type 0} {old : List Row} {e : TypesError} → RefusesAs P old e
+    → ((d : Dictionary) → IsInPart t d → P d) → RefusesPart t old e
+part_refuses p within = record { each = λ d h f. p.each d (within d h) f }
 
 -- what implementations need
 pub ruleset keeping = (
@@ -85,5 +82,8 @@ pub ruleset keeping = (
   refuses_type_memory,
   refuses_part,
   refuses_after,
-  refuses_told,
+  describes_none,
+  describes_by,
+  part_memory,
+  part_refuses,
 )

@@ -15,7 +15,7 @@ use Rattle.schemars_types.proofs.Registered.{place_of-below}
 use Rattle.schemars_types.proofs.TableLemmas.{place_of-reserved, reserved-absent, place_of-defined}
 use Rattle.schemars_impls.specs.Describes.{IsMade, IsDescribed, AreKnown}
 use Rattle.schemars_impls.specs.Dictionary.{Told, Stage, Defined, Pending, Open, Dictionary, IsNamed, IsEntryOf, IsAtStage, IsAsTold}
-use Rattle.schemars_impls.specs.Dictionary.{Follows, TypeRow, IsTold, IsLeft, IsInPart, KeepsTo, RefusesAs, MayRefuse}
+use Rattle.schemars_impls.specs.Dictionary.{Follows, TypeRow, IsTold, IsLeft, IsInPart, KeepsTo, RefusesPart}
 use Rattle.schemars_impls.specs.Containers.{option_row, seq_row, set_row, map_row, array_row}
 use Rattle.schemars_impls.specs.OwnRows.{with_row, HasRow, RefusesNumbers, IsReserved, IsCalled, IsMadeOf, IsOptionOf, IsSeqOf, IsSetOf}
 use Rattle.schemars_impls.specs.OwnRows.{IsArrayOf, IsMapOf, IsAt, IsMapAt, called}
@@ -196,20 +196,14 @@ map_place key_id key_name id name made key_there there = record {
 }
 
 -- numbers of rows are not refused
-pub refuses_numbers : {R : Dictionary → Type 0} {rows : List Row} {ns : List ℕ} {e : TypesError} → RefusesNumbers rows ns e
-    → find (λ m. nat_le (length rows) m) ns ≡ None → RefusesAs R rows e
-refuses_numbers {rows = rows} {ns = ns} {e = e} h known = record { each = λ d in_d f. record { cause = by d h.cause } }
+pub part_numbers : {t : TypeRow} {old rows : List Row} {ns : List ℕ} {e : TypesError} → RefusesNumbers rows ns e
+    → find (λ m. nat_le (length rows) m) ns ≡ None → RefusesPart t old e
+part_numbers {rows = rows} {ns = ns} {e = e} h known = record { each = λ d in_d f. record { cause = by d h.cause } }
   where
     by : (d : Dictionary) → (e ≡ OutOfMemory) ⊎ (option_map UnknownType (find (λ m. nat_le (length rows) m) ns) ≡ Some e)
         → (e ≡ OutOfMemory) ⊎ (d.refuses e ≡ true)
     by d (inl memory) = inl memory
     by d (inr unknown) = let never : None ≡ Some e = ap (option_map UnknownType) (sym known) ∙ unknown in cc
-
--- and so behind other calls
-pub refuses_numbers_after : {R : Dictionary → Type 0} {old rows : List Row} {ns : List ℕ} {e : TypesError} → RefusesNumbers rows ns e
-    → find (λ m. nat_le (length rows) m) ns ≡ None → KeepsTo R old rows → RefusesAs R old e
-refuses_numbers_after {R = R} {rows = rows} {e = e} h known before =
-    let here : RefusesAs R rows e = refuses_numbers h known in record { each = λ d in_d f. here.each d in_d (before.each d in_d f) }
 
 -- the first number is no row's, or the second is the first that is none
 pub numbers_unknown : (rows : List Row) (n : ℕ) (ns : List ℕ) (e : TypesError) → e ≡ UnknownType n → length rows ≤ n

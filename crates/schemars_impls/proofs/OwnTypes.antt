@@ -3,16 +3,18 @@ use Rattle.std.proofs.Common.{◌≡◌, ◌<◌, ℕ, List, [], ◌∷◌, ◌+
 use Rattle.std.proofs.Common.{map, refl, sym, subst, ap, ◌∙◌, append-nil, append_assoc}
 use Rattle.schemars_schema.specs.Json.{Text}
 use Rattle.schemars_shapes.specs.Shape.{Entry, Field, Flattened, Payload, bare_fields, no_payload, newtype_payload, tuple_payload, struct_payload, Required, Variant, payload_numbers, variant_numbers}
+use Rattle.schemars_types.specs.declared.error.TypesError.{TypesError}
 use Rattle.schemars_types.specs.Rows.{Row, place_of}
+use Rattle.schemars_impls.specs.Dictionary.{Dictionary, TypeRow, IsInPart, KeepsTo, RefusesAs, Describes, RefusesPart}
 use Rattle.schemars_types.proofs.Registered.{nat_le-above, place_of-below}
 use Rattle.schemars_impls.specs.Fields.{FieldsAreKnown, PartsAreKnown, VariantsAreKnown, bare_variant, plain_field, part}
 use Rattle.schemars_impls.specs.Keeps.{Keeps}
 use Rattle.schemars_impls.proofs.Keeping.{keeps-refl, keeps-same, keeps-trans, numbers-kept, known-one, known-two, place_of-kept, reserved_keeps}
-use Rattle.schemars_impls.proofs.Composing.{keeps_to_refl, keeps_to_same, keeps_to_part, keeps_to_then, keeps_to_then_two, keeps_to_then_four}
-use Rattle.schemars_impls.proofs.Composing.{keeps_to_then_eight, refuses_memory, refuses_type_memory, refuses_part, refuses_after, refuses_told}
+use Rattle.schemars_impls.proofs.Composing.{keeps_to_refl, keeps_to_same, keeps_to_part, refuses_memory, refuses_type_memory, refuses_part}
+use Rattle.schemars_impls.proofs.Composing.{describes_none, describes_then, describes_by, part_memory, part_refuses}
 use Rattle.schemars_impls.proofs.OwnRows.{self_reserved, reserve_follows, option_follows, seq_follows, set_follows, map_follows, has_present}
 use Rattle.schemars_impls.proofs.OwnRows.{has_registered, has_keeps, numbers_memory, numbers_unknown, numbers_refused, at_place, map_place}
-use Rattle.schemars_impls.proofs.OwnRows.{refuses_numbers, refuses_numbers_after}
+use Rattle.schemars_impls.proofs.OwnRows.{part_numbers}
 
 -- no fields, and fields in a table that keeps its rows
 pub no_fields : (rows : List Row) → FieldsAreKnown rows []
@@ -169,8 +171,32 @@ pub ruleset adding = (
   refuses_memory,
   refuses_type_memory,
   refuses_part,
-  refuses_told,
 )
+
+-- ---- several calls, one after another
+
+pub describes_two : {t : TypeRow} {P Q : Dictionary → Type 0} {a b c d : List Row} → KeepsTo P a b
+    → ((x : Dictionary) → IsInPart t x → P x) → KeepsTo Q b c → ((x : Dictionary) → IsInPart t x → Q x) → Describes t c d → Describes t a d
+describes_two p within_p q within_q rest = describes_then p within_p (describes_then q within_q rest)
+
+pub describes_four : {t : TypeRow} {P Q R S : Dictionary → Type 0} {a b c d e f : List Row} → KeepsTo P a b
+    → ((x : Dictionary) → IsInPart t x → P x) → KeepsTo Q b c → ((x : Dictionary) → IsInPart t x → Q x) → KeepsTo R c d
+    → ((x : Dictionary) → IsInPart t x → R x) → KeepsTo S d e → ((x : Dictionary) → IsInPart t x → S x) → Describes t e f → Describes t a f
+describes_four p within_p q within_q r within_r s within_s rest =
+    describes_two p within_p q within_q (describes_two r within_r s within_s rest)
+
+pub describes_eight : {t : TypeRow} {P Q R S U V W X : Dictionary → Type 0} {a b c d e f g h i j : List Row} → KeepsTo P a b
+    → ((x : Dictionary) → IsInPart t x → P x) → KeepsTo Q b c → ((x : Dictionary) → IsInPart t x → Q x) → KeepsTo R c d
+    → ((x : Dictionary) → IsInPart t x → R x) → KeepsTo S d e → ((x : Dictionary) → IsInPart t x → S x) → KeepsTo U e f
+    → ((x : Dictionary) → IsInPart t x → U x) → KeepsTo V f g → ((x : Dictionary) → IsInPart t x → V x) → KeepsTo W g h
+    → ((x : Dictionary) → IsInPart t x → W x) → KeepsTo X h i → ((x : Dictionary) → IsInPart t x → X x) → Describes t i j → Describes t a j
+describes_eight p within_p q within_q r within_r s within_s u within_u v within_v w within_w x within_x rest =
+    describes_four p within_p q within_q r within_r s within_s (describes_four u within_u v within_v w within_w x within_x rest)
+
+-- a call that refuses behind others
+pub part_after : {t : TypeRow} {P : Dictionary → Type 0} {old mid : List Row} {e : TypesError} → RefusesAs P mid e
+    → ((d : Dictionary) → IsInPart t d → P d) → Describes t old mid → RefusesPart t old e
+part_after p within before = record { each = λ d h f. p.each d (within d h) (before.each d h f) }
 
 -- What a type of one's own needs whose fields join one after another: `using` names it in the crate of the type.
 pub ruleset own_types = (
@@ -192,16 +218,14 @@ pub ruleset own_types = (
   self_reserved,
   at_place,
   map_place,
-  keeps_to_refl,
-  keeps_to_then_eight,
-  keeps_to_then_four,
-  keeps_to_then_two,
-  keeps_to_then,
-  keeps_to_part,
-  refuses_memory,
-  refuses_numbers_after,
-  refuses_numbers,
-  refuses_after,
-  refuses_part,
-  refuses_told,
+  describes_none,
+  describes_eight,
+  describes_four,
+  describes_two,
+  describes_then,
+  describes_by,
+  part_memory,
+  part_numbers,
+  part_refuses,
+  part_after,
 )

@@ -14,7 +14,7 @@ use Rattle.schemars_types.proofs.TableLemmas.{place_of-reserved, reserved-absent
 use Rattle.schemars_impls.specs.Describes.{IsMade, IsDescribed, entry_under}
 use Rattle.schemars_impls.specs.Dictionary.{Told, Stage, Defined, Pending, Open, Dictionary, staged, IsNamed, IsEntryOf, IsAtStage}
 use Rattle.schemars_impls.specs.Dictionary.{Follows, TypeRow, IsTold, IsFree, IsLeft, IsIn, IsInPart, MayRefuse, KeepsTo, RefusesAs}
-use Rattle.schemars_impls.specs.Dictionary.{Completes}
+use Rattle.schemars_impls.specs.Dictionary.{Describes, RefusesPart, Completes}
 use Rattle.schemars_impls.specs.Keeps.{Keeps, AllContinue}
 use Rattle.schemars_impls.proofs.Keeping.{place_of-kept, defined-there, undefined-reserved, defined-reserved}
 use Rattle.schemars_impls.proofs.Following.{made-kept, name_at-last, staged-same, restaged, restaged-twice, follows-open, follows-reserved}
@@ -53,12 +53,12 @@ module _ (t : TypeRow) (old mid last : List Row) (n : ℕ) (mid_is : mid ≡ res
       (λ m placed. let ms : Some m ≡ Some n = sym placed ∙ there in let m_is : n ≡ m = cc in
       ap (λ k. is_some (entry_at mid k)) (sym m_is) ∙ missing) (λ is. ap is_some there))
 
-  pub part-refused : (e : TypesError) → RefusesAs (IsInPart t) mid e → RefusesAs (IsIn t) old e
+  pub part-refused : (e : TypesError) → RefusesPart t mid e → RefusesAs (IsIn t) old e
   part-refused e inside = record {
     each = λ d h f. let why = inside.each (staged t.id Pending d) (in_part t d h) (described-mid d h f) in record { cause = why.cause };
   }
 
-  completed : (b : Bool) (given : Entry) (new : List Row) → b ≡ t.inline → Keeps mid last → KeepsTo (IsInPart t) mid last
+  completed : (b : Bool) (given : Entry) (new : List Row) → b ≡ t.inline → Keeps mid last → Describes t mid last
       → IsMade t.making last given → new ≡ defined n (record given { inline = b }) last → Keeps last new → (d : Dictionary) → IsIn t d
       → Follows d old → Follows (staged t.id Defined d) new
   completed b given new b_is kept inside made new_is kept_new d h f =
@@ -71,19 +71,19 @@ module _ (t : TypeRow) (old mid last : List Row) (n : ℕ) (mid_is : mid ≡ res
       (follows-defined d t.id n e last later placed (defined-there t.id last (defined n e last) n e placed refl) kept_defined
       (described (d.told t.id) t (defined n e last) given h.told (made-kept t.making last (defined n e last) given kept_defined made)))
 
-  pub registered-completes : (b : Bool) (given : Entry) (new : List Row) → b ≡ t.inline → Keeps mid last → KeepsTo (IsInPart t) mid last
+  pub registered-completes : (b : Bool) (given : Entry) (new : List Row) → b ≡ t.inline → Keeps mid last → Describes t mid last
       → IsMade t.making last given → new ≡ defined n (record given { inline = b }) last → Keeps last new → Completes t old new
   registered-completes b given new b_is kept inside made new_is kept_new =
       record { each = completed b given new b_is kept inside made new_is kept_new }
 
-  pub registered-follows : (b : Bool) (given : Entry) (new : List Row) → b ≡ t.inline → Keeps mid last → KeepsTo (IsInPart t) mid last
+  pub registered-follows : (b : Bool) (given : Entry) (new : List Row) → b ≡ t.inline → Keeps mid last → Describes t mid last
       → IsMade t.making last given → new ≡ defined n (record given { inline = b }) last → Keeps last new → KeepsTo (IsIn t) old new
   registered-follows b given new b_is kept inside made new_is kept_new = record {
     each = λ d h f. follows-settled d t.id new h.free (completed b given new b_is kept inside made new_is kept_new d h f);
   }
 
   -- so `define` never refuses it
-  pub never-refused : (e : Entry) (err : TypesError) → Keeps mid last → KeepsTo (IsInPart t) mid last → unknown_in last e.shape ≡ None
+  pub never-refused : (e : Entry) (err : TypesError) → Keeps mid last → Describes t mid last → unknown_in last e.shape ≡ None
       → Some err ≡ refusal_of last n e → RefusesAs (IsIn t) old err
   never-refused e err kept inside known refused = record {
     each = λ d h f.

@@ -113,6 +113,14 @@ pub record KeepsTo (Are : Dictionary → Type 0) (old new : List Row) : Type 0 w
 pub record RefusesAs (Are : Dictionary → Type 0) (old : List Row) (e : TypesError) : Type 0 where
   pub each : (d : Dictionary) → Are d → Follows d old → MayRefuse d e
 
+-- A call that describes a type keeps to the dictionaries in which its row is pending.
+pub record Describes (t : TypeRow) (old new : List Row) : Type 0 where
+  pub each : (d : Dictionary) → IsInPart t d → Follows d old → Follows d new
+
+-- And it refuses as they say.
+pub record RefusesPart (t : TypeRow) (old : List Row) (e : TypesError) : Type 0 where
+  pub each : (d : Dictionary) → IsInPart t d → Follows d old → MayRefuse d e
+
 -- ---- a type that is registered
 
 -- Row n has an entry that is made as the type says.

@@ -5,8 +5,8 @@ ghost use Rattle.schemars_shapes.specs.Shape.{entry_of, shape_of, without_notes}
 ghost use Rattle.schemars_types.specs.Rows.{unknown_in};
 ghost use Rattle.schemars_impls.specs.Keeps.{Keeps};
 ghost use Rattle.schemars_impls.specs.Describes.{entry_under, IsMade};
-ghost use Rattle.schemars_impls.specs.Dictionary.{TypeRow, IsIn, IsInPart, KeepsTo, RefusesAs};
-ghost use Rattle.schemars_impls.specs.Dictionary.{IsAdded, Completes, RefusesType};
+ghost use Rattle.schemars_impls.specs.Dictionary.{TypeRow, Describes, RefusesPart};
+ghost use Rattle.schemars_impls.specs.Dictionary.{IsAdded, IsIn, KeepsTo, Completes, RefusesType};
 
 use schemars_types::{Shape, TypeEntry, TypeNo, Types, TypesError};
 use std::alloc::{AllocError, Global};
@@ -43,8 +43,8 @@ pub trait JsonSchema {
         ensures keeps { Keeps types.old types.new }
         ensures known { IfOk result (λ e. unknown_in types.new (shape_of e.shape) ≡ None) }
         ensures made { IfOk result (λ e. IsMade says.making types.new (entry_of e)) }
-        ensures follows { OnOk result (KeepsTo (IsInPart says) types.old types.new) }
-        ensures refused { IfErr result (RefusesAs (IsInPart says) types.old) };
+        ensures follows { OnOk result (Describes says types.old types.new) }
+        ensures refused { IfErr result (RefusesPart says types.old) };
 }
 
 /// Returns the number of the type's row. If the row is not defined, it is added and defined first;

@@ -4,7 +4,7 @@ ghost use Rattle.std.specs.Cow.{cow_str_bytes};
 ghost use Rattle.schemars_shapes.specs.Shape.{Shape as shape, entry_of, in_place, shape_of};
 ghost use Rattle.schemars_types.specs.Rows.{unknown_in};
 ghost use Rattle.schemars_impls.specs.Keeps.{Keeps};
-ghost use Rattle.schemars_impls.specs.Dictionary.{IsInPart, KeepsTo, RefusesAs, alone};
+ghost use Rattle.schemars_impls.specs.Dictionary.{Describes, RefusesPart, alone};
 
 use crate::law::{JsonSchema, entry};
 use jiff::civil::{Date, DateTime, Time};
@@ -106,12 +106,12 @@ impl<'a> JsonSchema for Zoned<'a> {
         ensures known { IfOk result (λ e. unknown_in types.new (shape_of e.shape) ≡ None) }
         ensures made { IfOk result (λ e.
             entry_of e ≡ in_place (shape.formatted (codes "zoned-date-time"))) }
-        ensures follows { OnOk result (KeepsTo
-            (IsInPart (alone (codes "jiff::Zoned") (codes "Zoned") true
-            (in_place (shape.formatted (codes "zoned-date-time"))))) types.old types.new) }
-        ensures refused { IfErr result (RefusesAs
-            (IsInPart (alone (codes "jiff::Zoned") (codes "Zoned") true
-            (in_place (shape.formatted (codes "zoned-date-time"))))) types.old) }
+        ensures follows { OnOk result (Describes
+            (alone (codes "jiff::Zoned") (codes "Zoned") true
+            (in_place (shape.formatted (codes "zoned-date-time")))) types.old types.new) }
+        ensures refused { IfErr result (RefusesPart
+            (alone (codes "jiff::Zoned") (codes "Zoned") true
+            (in_place (shape.formatted (codes "zoned-date-time")))) types.old) }
     {
         let format = String::from_str(alloc, "zoned-date-time")?;
         Ok(entry(alloc, true, Shape::Formatted(format)))
