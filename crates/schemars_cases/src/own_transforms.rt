@@ -1,7 +1,7 @@
 //! User-defined transforms.
 use schemars::Schema;
 use schemars::transform::{RecursiveTransform, Transform, TransformError};
-use serde_json::Value;
+use serde_json::{Map, Value};
 use std::alloc::Global;
 
 /// A user-defined transform.
@@ -9,8 +9,10 @@ use std::alloc::Global;
 pub(crate) enum Own {
     /// Counts its calls, and inserts their number as `x-n`.
     Counting(usize),
-    /// Refuses at a schema.
+    /// Refuses at the second schema.
     Refusing(RecursiveTransform<Refusing>),
+    /// Makes each schema deeper.
+    Growing(RecursiveTransform<Growth>),
 }
 
 /// Refuses after so many schemas.
@@ -32,6 +34,20 @@ impl Transform for Refusing {
     }
 }
 
+/// Puts a schema into each schema.
+#[derive(Drop)]
+pub(crate) struct Growth;
+
+impl Transform for Growth {
+    ghost makes = { λ t s r u v. Unit {0} };
+
+    fn transform(&mut self, alloc: Global, schema: &mut Schema) -> Result<(), TransformError> {
+        let key = String::from_str(alloc, "not")?;
+        let _old = schema.insert(alloc, key, Value::Object(Map::new(alloc)))?;
+        Ok(())
+    }
+}
+
 impl Transform for Own {
     ghost makes = { λ t s r u v. Unit {0} };
 
@@ -40,10 +56,11 @@ impl Transform for Own {
             Own::Counting(calls) => {
                 *calls = calls.saturating_add(1);
                 let key = String::from_str(alloc, "x-n")?;
-                schema.insert(alloc, key, Value::from(*calls))?;
+                let _old = schema.insert(alloc, key, Value::from(*calls))?;
                 Ok(())
             }
             Own::Refusing(inner) => inner.transform(alloc, schema),
+            Own::Growing(inner) => inner.transform(alloc, schema),
         }
     }
 }

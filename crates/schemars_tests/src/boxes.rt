@@ -1,9 +1,8 @@
 //! User-defined transforms of two types in one list.
-use crate::settings::own::{Own, Refusing};
-use schemars::transform::{GenTransform, RecursiveTransform, Transform, TransformError};
+use schemars::transform::{GenTransform, Transform, TransformError};
 use schemars::types::{TypeNo, Types};
 use schemars::{GenerateError, Schema, SchemaGenerator, SchemaSettings};
-use serde_json::{Map, Value};
+use serde_json::Value;
 use std::alloc::{AllocError, Global};
 use std::test::Fail;
 
@@ -24,6 +23,41 @@ impl Transform for Commenting {
     }
 }
 
+// Counts its calls, and inserts their number as `x-n`.
+#[derive(Drop)]
+struct Counting {
+    calls: usize,
+}
+
+impl Transform for Counting {
+    ghost makes = { λ t s r u v. Unit {0} };
+
+    fn transform(&mut self, alloc: Global, schema: &mut Schema) -> Result<(), TransformError> {
+        self.calls = self.calls.saturating_add(1);
+        let key = String::from_str(alloc, "x-n")?;
+        schema.insert(alloc, key, Value::from(self.calls))?;
+        Ok(())
+    }
+}
+
+// Refuses after so many schemas.
+#[derive(Drop)]
+struct Refusing {
+    left: usize,
+}
+
+impl Transform for Refusing {
+    ghost makes = { λ t s r u v. Unit {0} };
+
+    fn transform(&mut self, _alloc: Global, _schema: &mut Schema) -> Result<(), TransformError> {
+        if self.left == 0 {
+            return Err(TransformError::Own(3));
+        }
+        self.left -= 1;
+        Ok(())
+    }
+}
+
 // A generator, and the row whose documents it makes.
 #[derive(Drop)]
 struct Service {
@@ -32,10 +66,6 @@ struct Service {
 }
 
 impl Service {
-    fn document(&mut self, alloc: Global) -> Result<Schema, GenerateError> {
-        self.generator.root_schema_for_type(alloc, self.row)
-    }
-
     // Puts a built-in transform in the place of the last.
     fn replace_last(&mut self) {
         if let Some(last) = self.generator.transforms_mut().last_mut() {
@@ -44,7 +74,7 @@ impl Service {
     }
 
     fn text(&mut self, alloc: Global) -> Result<String, AllocError> {
-        match self.document(alloc) {
+        match self.generator.root_schema_for_type(alloc, self.row) {
             Ok(schema) => schema.to_ordered_string(alloc),
             Err(error) => format!(in alloc; "{} {error}", error.code()),
         }
@@ -61,13 +91,11 @@ fn service_of(alloc: Global, settings: SchemaSettings) -> Result<Service, Genera
 // The texts of a document, of a refusal, and of a document without the transform that refused.
 fn texts(alloc: Global) -> Result<[String; 3], GenerateError> {
     let comment = Commenting { text: "in a box" };
-    let refusing = Refusing {
-        left: 1,
-        refusal: TransformError::Own(3),
-    };
+    let counting = Counting { calls: 0 };
+    let refusing = Refusing { left: 1 };
     let settings = SchemaSettings::draft07(alloc)?
         .with_transform(GenTransform::Own(Box::new(alloc, comment)?))?
-        .with_transform(GenTransform::Own(Box::new(alloc, Own::Counting(0))?))?
+        .with_transform(GenTransform::Own(Box::new(alloc, counting)?))?
         .with_transform(GenTransform::Own(Box::new(alloc, refusing)?))?;
     let mut service = service_of(alloc, settings)?;
     let first = service.text(alloc)?;
@@ -91,40 +119,3 @@ const FIRST: &str =
 // The refused call was counted too.
 const THIRD: &str =
     r#"{"$schema":"http://json-schema.org/draft-07/schema#","title":"boolean","type":"boolean","$comment":"in a box","x-n":3}"#;
-
-// Makes each schema deeper.
-#[derive(Drop)]
-struct Deepening;
-
-impl Transform for Deepening {
-    ghost makes = { λ t s r u v. Unit {0} };
-
-    fn transform(&mut self, alloc: Global, schema: &mut Schema) -> Result<(), TransformError> {
-        let key = String::from_str(alloc, "not")?;
-        schema.insert(alloc, key, Value::Object(Map::new(alloc)))?;
-        Ok(())
-    }
-}
-
-// The texts of a refusal, and of a document without the transform that refused.
-fn deep_texts(alloc: Global) -> Result<[String; 2], GenerateError> {
-    let deepening = Box::new(alloc, RecursiveTransform(Deepening))?;
-    let settings = SchemaSettings::draft2020_12(alloc).with_transform(GenTransform::Own(
-        deepening,
-    ))?;
-    let mut service = service_of(alloc, settings)?;
-    let refused = service.text(alloc)?;
-    service.replace_last();
-    Ok([refused, service.text(alloc)?])
-}
-
-#[test]
-fn a_schema_that_grows_is_refused(rt: HostRuntime) -> Result<(), Fail> {
-    let [refused, document] = deep_texts(rt.alloc())?;
-    assert_eq!(rt; refused.as_str(), "10 Transform");
-    assert_eq!(rt; document.as_str(), UNTRANSFORMED);
-    Ok(())
-}
-
-const UNTRANSFORMED: &str =
-    r#"{"$schema":"https://json-schema.org/draft/2020-12/schema","title":"boolean","type":"boolean"}"#;

@@ -1,5 +1,6 @@
 //! Types of the crates that are used.
 use crate::line::line_of;
+use crate::own::own;
 use arrayvec::{ArrayString, ArrayVec};
 use bytes::{Bytes, BytesMut};
 use either::Either;
@@ -40,6 +41,6 @@ pub(crate) fn date(alloc: Global, of: &str) -> Result<String, GenerateError> {
         "Date" => line_of::<Date>(alloc),
         "Time" => line_of::<Time>(alloc),
         "DateTime" => line_of::<DateTime>(alloc),
-        _ => Ok(String::from_str(alloc, "no such type")?),
+        _ => own(alloc, of),
     }
 }

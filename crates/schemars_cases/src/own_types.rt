@@ -4,16 +4,15 @@
 
 ghost use Rattle.std.specs.Prelude.{codes, false, ⊤};
 
-use crate::expect::expect;
+use crate::line::line_of;
 use schemars::impls::{
     JsonSchema, OPTIONAL, REQUIRED, add_field, add_field_of, option_of, register, reserve, seq_of,
     struct_entry,
 };
 use schemars::types::{TypeEntry, Types, TypesError};
-use schemars::{GenerateError, SchemaGenerator, SchemaSettings, schema_for};
+use schemars::{GenerateError, SchemaGenerator, SchemaSettings};
 use std::alloc::{AllocError, Global};
 use std::borrow::CowStr;
-use std::test::Fail;
 
 struct Person {
     name: String,
@@ -47,21 +46,6 @@ impl JsonSchema for Person {
         add_field::<Option<u8>>(alloc, types, &mut fields, "age", OPTIONAL)?;
         Ok(struct_entry(alloc, fields, false))
     }
-}
-
-const PERSON: &str =
-    r#"{"$schema":"https://json-schema.org/draft/2020-12/schema","title":"Person","type":"object","properties":{"age":{"type":["integer","null"],"format":"uint8","maximum":255,"minimum":0},"name":{"type":"string"}},"required":["name"]}"#;
-
-fn one_person(alloc: Global) -> Result<String, GenerateError> {
-    let schema = schema_for!(in alloc; Person)?;
-    Ok(schema.to_ordered_string(alloc)?)
-}
-
-#[test]
-fn a_person_has_known_parts(rt: HostRuntime) -> Result<(), Fail> {
-    let text = one_person(rt.alloc())?;
-    assert_eq!(rt; text.as_str(), PERSON);
-    Ok(())
 }
 
 // A list of numbers.
@@ -99,21 +83,6 @@ impl JsonSchema for Node {
         add_field_of(alloc, types, &mut fields, "next", next, OPTIONAL)?;
         Ok(struct_entry(alloc, fields, false))
     }
-}
-
-const NODE: &str =
-    r##"{"$schema":"https://json-schema.org/draft/2020-12/schema","title":"Node","type":"object","properties":{"next":{"anyOf":[{"$ref":"#"},{"type":"null"}]},"value":{"type":"integer","format":"int32"}},"required":["value"]}"##;
-
-fn list_of_numbers(alloc: Global) -> Result<String, GenerateError> {
-    let schema = schema_for!(in alloc; Node)?;
-    Ok(schema.to_ordered_string(alloc)?)
-}
-
-#[test]
-fn a_list_is_inside_itself(rt: HostRuntime) -> Result<(), Fail> {
-    let text = list_of_numbers(rt.alloc())?;
-    assert_eq!(rt; text.as_str(), NODE);
-    Ok(())
 }
 
 #[cycle(books)]
@@ -190,12 +159,6 @@ impl JsonSchema for Book {
     }
 }
 
-const AUTHOR: &str =
-    r##"{"$schema":"https://json-schema.org/draft/2020-12/schema","title":"Author","type":"object","properties":{"books":{"type":"array","items":{"$ref":"#/$defs/Book"}},"name":{"type":"string"}},"required":["name","books"],"$defs":{"Book":{"type":"object","properties":{"author":{"anyOf":[{"$ref":"#"},{"type":"null"}]},"title":{"type":"string"}},"required":["title"]}}}"##;
-
-const BOOK: &str =
-    r##"{"$schema":"https://json-schema.org/draft/2020-12/schema","title":"Book","type":"object","properties":{"author":{"anyOf":[{"$ref":"#/$defs/Author"},{"type":"null"}]},"title":{"type":"string"}},"required":["title"],"$defs":{"Author":{"type":"object","properties":{"books":{"type":"array","items":{"$ref":"#"}},"name":{"type":"string"}},"required":["name","books"]}}}"##;
-
 // Types that are inside each other are registered each.
 fn authors_and_books(alloc: Global) -> Result<Types, TypesError> {
     let mut types = Types::new(alloc);
@@ -218,25 +181,15 @@ fn document_of<T: JsonSchema>(alloc: Global) -> Result<String, GenerateError> {
     Ok(schema.to_ordered_string(alloc)?)
 }
 
-#[test]
-fn authors_are_inside_books(rt: HostRuntime) -> Result<(), Fail> {
-    let text = document_of::<Author>(rt.alloc())?;
-    assert_eq!(rt; text.as_str(), AUTHOR);
-    Ok(())
-}
-
-#[test]
-fn books_are_inside_authors(rt: HostRuntime) -> Result<(), Fail> {
-    let text = document_of::<Book>(rt.alloc())?;
-    assert_eq!(rt; text.as_str(), BOOK);
-    Ok(())
-}
-
-// Only one of the two is registered: row 1 is that of the other, and is not defined.
-#[test]
-fn both_have_to_be_registered(rt: HostRuntime) -> Result<(), Fail> {
-    match schema_for!(in rt.alloc(); Author) {
-        Ok(_) => Err("a document".into()),
-        Err(error) => expect(error.code() == 2, "no row that is not defined"),
+/// Returns the line of one of the types above, or the document of one of two that are registered.
+pub(crate) fn own_type(alloc: Global, of: &str) -> Result<String, GenerateError> {
+    match of {
+        "Person" => line_of::<Person>(alloc),
+        "Node" => line_of::<Node>(alloc),
+        "Vec<Node>" => line_of::<Vec<Node>>(alloc),
+        "Author" => line_of::<Author>(alloc),
+        "Author beside Book" => document_of::<Author>(alloc),
+        "Book beside Author" => document_of::<Book>(alloc),
+        _ => Ok(String::from_str(alloc, "no such type")?),
     }
 }

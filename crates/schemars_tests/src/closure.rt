@@ -23,13 +23,6 @@ fn commented_document(alloc: Global) -> Result<String, GenerateError> {
 
 fn document_by(alloc: Global, own: FnTransform) -> Result<String, GenerateError> {
     let settings = SchemaSettings::draft07(alloc)?.with_transform(GenTransform::Own(own))?;
-    document_of(alloc, settings)
-}
-
-fn document_of(
-    alloc: Global,
-    settings: SchemaSettings<FnTransform>,
-) -> Result<String, GenerateError> {
     let mut types = Types::new(alloc);
     let row = types.bool(alloc)?;
     let generator = SchemaGenerator::with_types(alloc, settings, types)?;
