@@ -4,13 +4,13 @@ use Rattle.std.proofs.Common.{IsSome, refl, ap, sym, ◌∙◌, subst, arith}
 use Rattle.serde_json.specs.Data.{Data}
 use Rattle.schemars_schema.specs.Json.{Text}
 use Rattle.schemars_shapes.specs.Shape.{Entry}
-use Rattle.schemars_types.specs.Rows.{Row, place_of, entry_at}
+use Rattle.schemars_types.specs.Rows.{Row, place_of, entry_at, name_at}
 use Rattle.schemars_types.specs.Faults.{IsAccepted, IsChecked, Refusal}
 use Rattle.schemars_types.specs.declared.error.TypesError.{TypesError}
 use Rattle.schemars_types.specs.declared.error.TypesError.TheVariants as fault
-use Rattle.schemars_impls.specs.Describes.{entry_under, IsDescribed}
+use Rattle.schemars_impls.specs.Describes.{entry_under}
+use Rattle.schemars_impls.specs.Dictionary.{TypeRow, IsIn, IsAdded, KeepsTo, RefusesType}
 use Rattle.schemars_impls.specs.Keeps.{Keeps, AllContinue, Continues}
-use Rattle.schemars_impls.specs.Refused.{HasCause, cause_of}
 use Rattle.schemars_build.specs.Naming.{IsOneToOne}
 use Rattle.schemars_documents.specs.Template.{part}
 use Rattle.schemars_build.specs.Work.{Work}
@@ -21,13 +21,16 @@ use Rattle.schemars_headline.specs.Headline.{RootHeadline}
 use Rattle.schemars_headline.specs.State.{State, HasOwnDefinitions}
 use Rattle.schemars_headline.proofs.Calls.{part_own, after_root_own}
 use Rattle.schemars_headline.proofs.Larger.{more_types_own}
-use Rattle.schemars_generate.specs.Answers.{IsAnswerFor, IsSubschemaFor}
-use Rattle.schemars_generate.specs.ByType.{IsJoined, IsTypeRefusal, IsRootInTable, with_rows}
+use Rattle.schemars_generate.specs.Answers.{IsAnswerFor, IsSubschemaFor, KeepsDefinitions}
+use Rattle.schemars_headline.proofs.InlinedDrafts.{root_needs_none}
+use Rattle.schemars_generate.specs.ByType.{IsRegistered, IsTypeRefusal, IsRootInTable, with_rows}
 use Rattle.schemars_generate.specs.Refusals.{error_of}
+use Rattle.schemars_generate.specs.declared.error.GenerateError.{GenerateError}
+use Rattle.schemars_generate.specs.declared.error.GenerateError.TheVariants.{OutOfMemory}
 use Rattle.schemars_generate.specs.Generator.{Transforms}
 use Rattle.schemars_generate.specs.Settings.{ApplyInOrder}
 use Rattle.schemars_generate.specs.Through.{IsThrough, IsTransformed, IsRootMade, IsUntransformedCall}
-use Rattle.schemars_generate.proofs.Answered.{subschema_for}
+use Rattle.schemars_generate.proofs.Answered.{subschema_for, keeps}
 use Rattle.schemars_generate.proofs.BuiltIns.{transformed, promised}
 use Rattle.schemars_generate.proofs.Untransformed.{untransformed}
 
@@ -54,15 +57,10 @@ all-same (r ∷ rs) (s ∷ ss) defined h =
 pub begins : (old new : List Row) → IsChecked old → Keeps old new → take (length old) new ≡ old
 begins old new checked kept = all-same old new checked.defined kept.rows
 
-pub joined : (id : Text) (inline : Bool) (describes : List Row → Entry → Type 0) (old new : List Row) (n : ℕ) → IsChecked old
-    → Keeps old new → place_of id new ≡ Some n → (entry_under id old ≡ None → IsDescribed describes inline new n) → IsAccepted new
-    → IsJoined id inline describes old new n
-joined id inline describes old new n checked kept number described accepted = record {
-  begins = begins old new checked kept;
-  number = number;
-  described = described;
-  accepted = accepted;
-}
+pub registered : (t : TypeRow) (old new : List Row) (n : ℕ) → IsChecked old → Keeps old new → IsAdded t old new n
+    → (IsSome (entry_under t.id old) → new ≡ old) → KeepsTo (IsIn t) old new → IsRegistered t old new n
+registered t old new n checked kept added present follows =
+    record { begins = begins old new checked kept; added = added; present = present; follows = follows }
 
 -- ---- what is made in it
 
@@ -114,21 +112,37 @@ module _ {O : Type 0} (Q : TransformStep O) (ts us : Transforms O) (s : State) (
       let call = (h.made.through).1.1 in
       subst HasOwnDefinitions (sym call.2) (after_root_own s n call.0 call.1.step own)
 
+  pub root_keeps : (new : State) (d : Data) → IsRootInTable Q ts us s n (IsUntransformedCall s n new) d → KeepsDefinitions s new
+  root_keeps new d h =
+      let call = (h.made.through).1.1 in
+      keeps s new (root_own new d h)
+      (λ all none. ap (λ x. x.definitions) call.2 ∙ root_needs_none s n call.0 _ call.1 all none)
+
 -- ---- refusals
 
-fault_cause : (rows : List Row) (e : TypesError) → Refusal rows e → cause_of rows e
-fault_cause rows fault.OutOfMemory h = tt
-fault_cause rows (fault.UndefinedType n) h = h
-fault_cause rows (fault.RepeatedName n name) h = h
-fault_cause rows (fault.DirectCycle n) h = h
-fault_cause rows (fault.EmptyCycle n) h = h
-fault_cause rows (fault.AlreadyDefined n) h = absurd h
-fault_cause rows (fault.UnknownType n) h = absurd h
+pub type_memory : (t : TypeRow) (old : List Row) (e : GenerateError) → e ≡ OutOfMemory → IsTypeRefusal t old e
+type_memory t old e is = record { present = λ there. is; cause = inl is }
 
-pub type_refusal : (old rows : List Row) (e : TypesError) → Keeps old rows → HasCause rows e → IsTypeRefusal old (error_of e)
-type_refusal old rows e kept cause = inr (record { rows = rows; kept = kept; refusal = e; cause = cause; is_told = refl })
+pub type_refusal : (t : TypeRow) (old : List Row) (e : TypesError) → RefusesType t old e → IsTypeRefusal t old (error_of e)
+type_refusal t old e why = record {
+  present = λ there. ap error_of (why.present there);
+  cause = inr (record { refusal = e; cause = inl why.as_told; is_told = refl });
+}
 
-pub check_refusal : (old rows : List Row) (e : TypesError) → Keeps old rows → (e ≡ fault.OutOfMemory) ⊎ Refusal rows e
-    → IsTypeRefusal old (error_of e)
-check_refusal old rows e kept (inl memory) = inl (ap error_of memory)
-check_refusal old rows e kept (inr h) = type_refusal old rows e kept (record { cause = fault_cause rows e h })
+-- a table without faults is not refused
+never_refused : (rows : List Row) (e : TypesError) → IsAccepted rows → Refusal rows e → ⊥
+never_refused rows fault.OutOfMemory h r = r
+never_refused rows (fault.UndefinedType n) h r = h.defined n r.0
+never_refused rows (fault.RepeatedName n name) h r = h.named n r.1.0
+never_refused rows (fault.DirectCycle n) h r = h.direct n r.2.0
+never_refused rows (fault.EmptyCycle n) h r = h.empty n r.3.0
+never_refused rows (fault.AlreadyDefined n) h r = r
+never_refused rows (fault.UnknownType n) h r = r
+
+pub check_refusal : (t : TypeRow) (old rows : List Row) (n : ℕ) (e : TypesError) → IsAccepted old → IsRegistered t old rows n
+    → (e ≡ fault.OutOfMemory) ⊎ Refusal rows e → IsTypeRefusal t old (error_of e)
+check_refusal t old rows n e accepted is (inl memory) = type_memory t old (error_of e) (ap error_of memory)
+check_refusal t old rows n e accepted is (inr h) = record {
+  present = λ there. absurd (never_refused old e accepted (subst (λ r. Refusal r e) (is.present there) h));
+  cause = inr (record { refusal = e; cause = inr (rows, n, is, h); is_told = refl });
+}

@@ -1,14 +1,11 @@
 -- What a call by type makes of a table, what it answers, and what it refuses.
-use Rattle.std.specs.Prelude.{◌≡◌, ◌⊎◌, ℕ, Bool, List, Some, None, take, length}
+use Rattle.std.specs.Prelude.{◌≡◌, ◌⊎◌, ℕ, List, IsSome, take, length}
 use Rattle.serde_json.specs.Data.{Data}
-use Rattle.schemars_schema.specs.Json.{Text}
-use Rattle.schemars_shapes.specs.Shape.{Entry}
-use Rattle.schemars_types.specs.Rows.{Row, place_of, HasDistinctIds}
-use Rattle.schemars_types.specs.Faults.{IsAccepted, IsChecked}
+use Rattle.schemars_types.specs.Rows.{Row, HasDistinctIds}
+use Rattle.schemars_types.specs.Faults.{IsAccepted, IsChecked, Refusal}
 use Rattle.schemars_types.specs.declared.error.TypesError.{TypesError}
-use Rattle.schemars_impls.specs.Describes.{entry_under, IsDescribed}
-use Rattle.schemars_impls.specs.Keeps.{Keeps}
-use Rattle.schemars_impls.specs.Refused.{HasCause}
+use Rattle.schemars_impls.specs.Describes.{entry_under}
+use Rattle.schemars_impls.specs.Dictionary.{TypeRow, IsIn, IsAdded, KeepsTo, RefusesAs}
 use Rattle.schemars_build.specs.Naming.{IsOneToOne}
 use Rattle.schemars_build.specs.Work.{Work}
 use Rattle.schemars_walk.specs.Walk.{TransformStep}
@@ -26,12 +23,17 @@ use Rattle.schemars_generate.specs.declared.error.GenerateError.TheVariants.{Out
 abbrev pub with_rows : List Row → State → State
 with_rows rows s = record s { rows = rows }
 
--- The type with this id is row n of a table that `check` accepts, which begins with the rows of the old one. If it had no entry in
--- that, its row is as the type describes itself.
-pub record IsJoined (id : Text) (inline : Bool) (describes : List Row → Entry → Type 0) (old new : List Row) (n : ℕ) : Type 0 where
+-- The type has row n of a table that begins with the rows of the old one. If its row was defined already, no row was added; else it is
+-- as the type says. The new table follows each dictionary in which the type is, if the old one did.
+pub record IsRegistered (t : TypeRow) (old new : List Row) (n : ℕ) : Type 0 where
   pub begins : take (length old) new ≡ old
-  pub number : place_of id new ≡ Some n
-  pub described : entry_under id old ≡ None → IsDescribed describes inline new n
+  pub added : IsAdded t old new n
+  pub present : IsSome (entry_under t.id old) → new ≡ old
+  pub follows : KeepsTo (IsIn t) old new
+
+-- And `check` accepts the table.
+pub record IsJoined (t : TypeRow) (old new : List Row) (n : ℕ) : Type 0 where
+  pub registered : IsRegistered t old new n
   pub accepted : IsAccepted new
 
 -- a table, and the names and definitions made in it, as a generator holds them between calls
@@ -50,17 +52,16 @@ pub record IsRootInTable {O : Type 0} (Q : TransformStep O) (ts us : Transforms 
 
 -- ---- refusals
 
--- a table that keeps the rows of the old one is as the error says
-pub record HasTypeCause (old : List Row) (e : GenerateError) : Type 0 where
-  pub rows : List Row
-  pub kept : Keeps old rows
+-- the type refuses as the dictionaries say in which it is, or the table in which it is registered has this fault
+pub record HasTypeCause (t : TypeRow) (old : List Row) (e : GenerateError) : Type 0 where
   pub refusal : TypesError
-  pub cause : HasCause rows refusal
+  pub cause : RefusesAs (IsIn t) old refusal ⊎ ((rows : List Row) × (n : ℕ) × IsRegistered t old rows n × Refusal rows refusal)
   pub is_told : e ≡ error_of refusal
 
--- why a type is not added to a table
-abbrev pub IsTypeRefusal : List Row → GenerateError → Type 0
-IsTypeRefusal old e = (e ≡ OutOfMemory) ⊎ HasTypeCause old e
+-- why a type is not added to a table; if its row is defined already, for want of memory alone
+pub record IsTypeRefusal (t : TypeRow) (old : List Row) (e : GenerateError) : Type 0 where
+  pub present : IsSome (entry_under t.id old) → e ≡ OutOfMemory
+  pub cause : (e ≡ OutOfMemory) ⊎ HasTypeCause t old e
 
 -- why the root document of a row of a longer table is refused
 pub record HasRootCause {O : Type 0} (Q : TransformStep O) (ts us : Transforms O) (old : State) (IsRow : List Row → ℕ → Type 0)
@@ -71,6 +72,6 @@ pub record HasRootCause {O : Type 0} (Q : TransformStep O) (ts us : Transforms O
   pub refusal : IsRootRefusal Q ts us (with_rows rows old) n e
 
 -- a type is not added to the table, and transforms stay as they are, or the root document of its row is refused
-abbrev pub IsRootOfTypeRefusal : {O : Type 0} → TransformStep O → Transforms O → Transforms O → State
+abbrev pub IsRootOfTypeRefusal : {O : Type 0} → TransformStep O → Transforms O → Transforms O → State → TypeRow
     → (List Row → ℕ → Type 0) → GenerateError → Type 0
-IsRootOfTypeRefusal Q ts us old IsRow e = (IsTypeRefusal old.rows e × (us ≡ ts)) ⊎ HasRootCause Q ts us old IsRow e
+IsRootOfTypeRefusal Q ts us old t IsRow e = (IsTypeRefusal t old.rows e × (us ≡ ts)) ⊎ HasRootCause Q ts us old IsRow e

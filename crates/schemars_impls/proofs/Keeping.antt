@@ -41,7 +41,7 @@ keeps-trans {a = a} {b = b} {c = c} h k = record { rows = all-trans a b c h.rows
 
 -- ---- a row joins
 
-all-joined : (rows more : List Row) → AllContinue rows (rows ++ more)
+pub all-joined : (rows more : List Row) → AllContinue rows (rows ++ more)
 all-joined [] more = tt
 all-joined (r ∷ rs) more = ((refl, refl, λ e is. is), all-joined rs more)
 

@@ -1,4 +1,7 @@
 pub mod Keeping
-pub mod Refusing
 pub mod Placing
+pub mod Following
+pub mod Registering
+pub mod Composing
+pub mod OwnRows
 pub mod OwnTypes

@@ -1,14 +1,20 @@
 -- The fields of types of one's own: that their numbers are those of rows.
 use Rattle.std.proofs.Common.{◌≡◌, ◌<◌, ℕ, List, [], ◌∷◌, ◌++◌, Bool, true, false, Some, None, cond, length, find, nat_le}
-use Rattle.std.proofs.Common.{map, refl, sym, subst}
+use Rattle.std.proofs.Common.{map, refl, sym, subst, ap, ◌∙◌, append-nil, append_assoc}
 use Rattle.schemars_schema.specs.Json.{Text}
-use Rattle.schemars_shapes.specs.Shape.{Field, Required}
-use Rattle.schemars_types.specs.Rows.{Row}
+use Rattle.schemars_shapes.specs.Shape.{Entry, Field, Flattened, Payload, bare_fields, no_payload, newtype_payload, tuple_payload, struct_payload, Required, Variant, payload_numbers, variant_numbers}
+use Rattle.schemars_types.specs.declared.error.TypesError.{TypesError}
+use Rattle.schemars_types.specs.Rows.{Row, place_of}
+use Rattle.schemars_impls.specs.Dictionary.{Dictionary, TypeRow, IsInPart, KeepsTo, RefusesAs, Describes, RefusesPart}
 use Rattle.schemars_types.proofs.Registered.{nat_le-above, place_of-below}
-use Rattle.schemars_impls.specs.Fields.{FieldsAreKnown, plain_field}
+use Rattle.schemars_impls.specs.Fields.{FieldsAreKnown, PartsAreKnown, VariantsAreKnown, bare_variant, plain_field, part}
 use Rattle.schemars_impls.specs.Keeps.{Keeps}
-use Rattle.schemars_impls.proofs.Keeping.{keeps-refl, keeps-same, keeps-trans, numbers-kept, known-one, reserved_keeps, registers_keeps}
-use Rattle.schemars_impls.proofs.Refusing.{memory_cause, refuses_cause}
+use Rattle.schemars_impls.proofs.Keeping.{keeps-refl, keeps-same, keeps-trans, numbers-kept, known-one, known-two, place_of-kept, reserved_keeps}
+use Rattle.schemars_impls.proofs.Composing.{keeps_to_refl, keeps_to_same, keeps_to_part, refuses_memory, refuses_type_memory, refuses_part}
+use Rattle.schemars_impls.proofs.Composing.{describes_none, describes_then, describes_by, part_memory, part_refuses}
+use Rattle.schemars_impls.proofs.OwnRows.{self_reserved, reserve_follows, option_follows, seq_follows, set_follows, map_follows, has_present}
+use Rattle.schemars_impls.proofs.OwnRows.{has_registered, has_keeps, numbers_memory, numbers_unknown, numbers_refused, at_place, map_place}
+use Rattle.schemars_impls.proofs.OwnRows.{part_numbers}
 
 -- no fields, and fields in a table that keeps its rows
 pub no_fields : (rows : List Row) → FieldsAreKnown rows []
@@ -49,19 +55,148 @@ pub keeps_over_nine : {a b c d e f g h i j : List Row} → Keeps a b → Keeps b
     → Keeps g h → Keeps h i → Keeps i j → Keeps a j
 keeps_over_nine p q r s t u v w x = keeps_over_five (keeps_over_five p q r s t) u v w x
 
--- what the calls need that add fields
+-- ---- flattened parts
+
+pub no_parts : (rows : List Row) → PartsAreKnown rows []
+no_parts rows = record { known = refl }
+
+pub parts_kept : {old new : List Row} {parts : List Flattened} → Keeps old new → PartsAreKnown old parts → PartsAreKnown new parts
+parts_kept {old = old} {new = new} {parts = parts} h k =
+    record { known = numbers-kept old new (map (λ p. p.ty) parts) h k.known }
+
+-- numbers of rows, and further ones
+pub both_known : (len : ℕ) (ns ms : List ℕ) → find (λ m. nat_le len m) ns ≡ None → find (λ m. nat_le len m) ms ≡ None
+    → find (λ m. nat_le len m) (ns ++ ms) ≡ None
+both_known len [] ms h k = k
+both_known len (n ∷ ns) ms h k = by (nat_le len n) h (λ r. both_known len ns ms r k)
+  where
+    by : (b : Bool) → cond b (Some n) (find (λ m. nat_le len m) ns) ≡ None
+        → (find (λ m. nat_le len m) ns ≡ None → find (λ m. nat_le len m) (ns ++ ms) ≡ None)
+        → cond b (Some n) (find (λ m. nat_le len m) (ns ++ ms)) ≡ None
+    by true e rest = cc
+    by false e rest = rest e
+
+pub one_known : (rows : List Row) (n : ℕ) → n < length rows → find (λ m. nat_le (length rows) m) (n ∷ []) ≡ None
+one_known rows n below = rw (nat_le-above (length rows) n below) refl
+
+types-joined : (parts : List Flattened) (p : Flattened) → map (λ q. q.ty) (parts ++ p ∷ []) ≡ map (λ q. q.ty) parts ++ p.ty ∷ []
+types-joined [] p = refl
+types-joined (q ∷ parts) p = ap (λ t. q.ty ∷ t) (types-joined parts p)
+
+pub part_added : (rows : List Row) (before after : List Flattened) (n : ℕ) (required : Required) → n < length rows
+    → after ≡ before ++ part n required ∷ [] → PartsAreKnown rows before → PartsAreKnown rows after
+part_added rows before after n required below is h = subst (λ t. PartsAreKnown rows t) (sym is) (record {
+  known = subst (λ ns. find (λ m. nat_le (length rows) m) ns ≡ None) (sym (types-joined before (part n required)))
+      (both_known (length rows) (map (λ q. q.ty) before) (n ∷ []) h.known (one_known rows n below));
+})
+
+-- ---- variants
+
+pub no_variants : (rows : List Row) → VariantsAreKnown rows []
+no_variants rows = record { known = refl }
+
+pub variants_kept : {old new : List Row} {xs : List Variant} → Keeps old new → VariantsAreKnown old xs → VariantsAreKnown new xs
+variants_kept {old = old} {new = new} {xs = xs} h k = record { known = numbers-kept old new (variant_numbers xs) h k.known }
+
+numbers-joined : (xs : List Variant) (x : Variant) → variant_numbers (xs ++ x ∷ []) ≡ variant_numbers xs ++ payload_numbers x.payload
+numbers-joined [] x = append-nil (payload_numbers x.payload)
+numbers-joined (y ∷ xs) x =
+    ap (λ t. payload_numbers y.payload ++ t) (numbers-joined xs x)
+    ∙ sym (append_assoc (payload_numbers y.payload) (variant_numbers xs) (payload_numbers x.payload))
+
+pub variant_added : (rows : List Row) (before after : List Variant) (x : Variant)
+    → find (λ m. nat_le (length rows) m) (payload_numbers x.payload) ≡ None → after ≡ before ++ x ∷ [] → VariantsAreKnown rows before
+    → VariantsAreKnown rows after
+variant_added rows before after x known is h = subst (λ t. VariantsAreKnown rows t) (sym is) (record {
+  known = subst (λ ns. find (λ m. nat_le (length rows) m) ns ≡ None) (sym (numbers-joined before x))
+      (both_known (length rows) (variant_numbers before) (payload_numbers x.payload) h.known known);
+})
+
+pub unit_added : (rows : List Row) (before after : List Variant) (name : Text) → after ≡ before ++ bare_variant name no_payload ∷ []
+    → VariantsAreKnown rows before → VariantsAreKnown rows after
+unit_added rows before after name is h = variant_added rows before after (bare_variant name no_payload) refl is h
+
+pub newtype_added : (rows : List Row) (before after : List Variant) (name : Text) (n : ℕ) → n < length rows
+    → after ≡ before ++ bare_variant name (newtype_payload n) ∷ [] → VariantsAreKnown rows before → VariantsAreKnown rows after
+newtype_added rows before after name n below is h =
+    variant_added rows before after (bare_variant name (newtype_payload n)) (one_known rows n below) is h
+
+pub tuple_added : (rows : List Row) (before after : List Variant) (name : Text) (ns : List ℕ)
+    → find (λ m. nat_le (length rows) m) ns ≡ None → after ≡ before ++ bare_variant name (tuple_payload ns) ∷ []
+    → VariantsAreKnown rows before → VariantsAreKnown rows after
+tuple_added rows before after name ns known is h = variant_added rows before after (bare_variant name (tuple_payload ns)) known is h
+
+pub struct_added : (rows : List Row) (before after : List Variant) (name : Text) (fields : List Field) (closed : Bool)
+    → FieldsAreKnown rows fields → after ≡ before ++ bare_variant name (struct_payload (bare_fields fields closed)) ∷ []
+    → VariantsAreKnown rows before → VariantsAreKnown rows after
+struct_added rows before after name fields closed known is h =
+    variant_added rows before after (bare_variant name (struct_payload (bare_fields fields closed)))
+    (both_known (length rows) (map (λ f. f.ty) fields) [] known.known refl) is h
+
+pub flat_known : (rows : List Row) (fields : List Field) (parts : List Flattened) → FieldsAreKnown rows fields → PartsAreKnown rows parts
+    → find (λ m. nat_le (length rows) m) (map (λ f. f.ty) fields ++ map (λ p. p.ty) parts) ≡ None
+flat_known rows fields parts h k = both_known (length rows) (map (λ f. f.ty) fields) (map (λ p. p.ty) parts) h.known k.known
+
+-- what the calls need that add fields, variants and rows
 pub ruleset adding = (
   keeps-refl,
   keeps-same,
   keeps-trans,
   reserved_keeps,
-  registers_keeps,
   fields_kept,
+  parts_kept,
+  variants_kept,
   place_of-below,
   field_added,
-  memory_cause,
-  refuses_cause,
+  part_added,
+  unit_added,
+  newtype_added,
+  tuple_added,
+  struct_added,
+  flat_known,
+  reserve_follows,
+  option_follows,
+  seq_follows,
+  set_follows,
+  map_follows,
+  has_present,
+  has_registered,
+  has_keeps,
+  numbers_memory,
+  numbers_unknown,
+  numbers_refused,
+  keeps_to_refl,
+  keeps_to_same,
+  keeps_to_part,
+  refuses_memory,
+  refuses_type_memory,
+  refuses_part,
 )
+
+-- ---- several calls, one after another
+
+pub describes_two : {t : TypeRow} {P Q : Dictionary → Type 0} {a b c d : List Row} → KeepsTo P a b
+    → ((x : Dictionary) → IsInPart t x → P x) → KeepsTo Q b c → ((x : Dictionary) → IsInPart t x → Q x) → Describes t c d → Describes t a d
+describes_two p within_p q within_q rest = describes_then p within_p (describes_then q within_q rest)
+
+pub describes_four : {t : TypeRow} {P Q R S : Dictionary → Type 0} {a b c d e f : List Row} → KeepsTo P a b
+    → ((x : Dictionary) → IsInPart t x → P x) → KeepsTo Q b c → ((x : Dictionary) → IsInPart t x → Q x) → KeepsTo R c d
+    → ((x : Dictionary) → IsInPart t x → R x) → KeepsTo S d e → ((x : Dictionary) → IsInPart t x → S x) → Describes t e f → Describes t a f
+describes_four p within_p q within_q r within_r s within_s rest =
+    describes_two p within_p q within_q (describes_two r within_r s within_s rest)
+
+pub describes_eight : {t : TypeRow} {P Q R S U V W X : Dictionary → Type 0} {a b c d e f g h i j : List Row} → KeepsTo P a b
+    → ((x : Dictionary) → IsInPart t x → P x) → KeepsTo Q b c → ((x : Dictionary) → IsInPart t x → Q x) → KeepsTo R c d
+    → ((x : Dictionary) → IsInPart t x → R x) → KeepsTo S d e → ((x : Dictionary) → IsInPart t x → S x) → KeepsTo U e f
+    → ((x : Dictionary) → IsInPart t x → U x) → KeepsTo V f g → ((x : Dictionary) → IsInPart t x → V x) → KeepsTo W g h
+    → ((x : Dictionary) → IsInPart t x → W x) → KeepsTo X h i → ((x : Dictionary) → IsInPart t x → X x) → Describes t i j → Describes t a j
+describes_eight p within_p q within_q r within_r s within_s u within_u v within_v w within_w x within_x rest =
+    describes_four p within_p q within_q r within_r s within_s (describes_four u within_u v within_v w within_w x within_x rest)
+
+-- a call that refuses behind others
+pub part_after : {t : TypeRow} {P : Dictionary → Type 0} {old mid : List Row} {e : TypesError} → RefusesAs P mid e
+    → ((d : Dictionary) → IsInPart t d → P d) → Describes t old mid → RefusesPart t old e
+part_after p within before = record { each = λ d h f. p.each d (within d h) (before.each d h f) }
 
 -- What a type of one's own needs whose fields join one after another: `using` names it in the crate of the type.
 pub ruleset own_types = (
@@ -71,5 +206,26 @@ pub ruleset own_types = (
   keeps_over_three,
   keeps-trans,
   no_fields,
-  memory_cause,
+  no_parts,
+  no_variants,
+  fields_kept,
+  parts_kept,
+  variants_kept,
+  numbers-kept,
+  place_of-kept,
+  known-one,
+  known-two,
+  self_reserved,
+  at_place,
+  map_place,
+  describes_none,
+  describes_eight,
+  describes_four,
+  describes_two,
+  describes_then,
+  describes_by,
+  part_memory,
+  part_numbers,
+  part_refuses,
+  part_after,
 )

@@ -5,11 +5,9 @@ use Rattle.schemars_schema.specs.Json.{Text}
 use Rattle.schemars_types.specs.Rows.{Row, place_of}
 use Rattle.schemars_impls.specs.Describes.{places_of, Adds}
 use Rattle.schemars_impls.specs.Keeps.{Keeps}
-use Rattle.schemars_impls.proofs.Keeping.{keeps-refl, keeps-same, keeps-trans, place_of-kept, numbers-kept, known-one, known-two}
-use Rattle.schemars_impls.proofs.Keeping.{known_cons, reserved_keeps, registers_keeps}
-use Rattle.schemars_impls.proofs.Refusing.{memory_cause, refuses_cause}
+use Rattle.schemars_impls.proofs.Keeping.{keeps-refl, keeps-trans, place_of-kept, numbers-kept, known-one}
 
-places_of-kept : (ids : List Text) (ns : List ℕ) (old new : List Row) → Keeps old new → places_of ids old ≡ Some ns
+pub places_of-kept : (ids : List Text) (ns : List ℕ) (old new : List Row) → Keeps old new → places_of ids old ≡ Some ns
     → places_of ids new ≡ Some ns
 places_of-kept [] ns old new h is = is
 places_of-kept (id ∷ ids) ns old new h is = by (place_of id old) (places_of ids old) refl refl is (λ ms. places_of-kept ids ms old new h)
@@ -66,23 +64,3 @@ known_more id old new before after n h there is known =
             → cond b (Some m) (find (λ k. nat_le (length new) k) (ms ++ n ∷ [])) ≡ None
         by true e rest = cc
         by false e rest = rest e
-
--- what implementations need of tables that keep their rows
-pub ruleset keeping = (
-  keeps-refl,
-  keeps-same,
-  keeps-trans,
-  place_of-kept,
-  known-one,
-  known-two,
-  known_cons,
-  known_more,
-  place_added,
-  adds_none,
-  adds_then,
-  adds_placed,
-  reserved_keeps,
-  registers_keeps,
-  memory_cause,
-  refuses_cause,
-)

@@ -1,5 +1,7 @@
 -- The definitions that contracts cite.
 pub mod Keeps
 pub mod Describes
-pub mod Refused
+pub mod Dictionary
+pub mod Containers
+pub mod OwnRows
 pub mod Fields

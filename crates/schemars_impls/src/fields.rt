@@ -1,22 +1,29 @@
 //! The fields of a user-defined struct, which are added one after another.
-ghost use Rattle.std.specs.Prelude.{◌≡◌, ◌++◌, ℕ, List, [], ◌∷◌, None, Some, IfErr, OnErr, OnOk};
+ghost use Rattle.std.specs.Prelude.{◌≡◌, ◌++◌, List, [], ◌∷◌, None, Some, IfErr, OnErr, OnOk};
 ghost use Rattle.std.specs.Prelude.{false, map, option_map};
-ghost use Rattle.schemars_shapes.specs.Shape.{Shape as shape, bare_fields, entry_of, field_of};
+ghost use Rattle.schemars_shapes.specs.Shape.{Shape as shape, bare_fields, entry_of, field_of, flattened_of};
 ghost use Rattle.schemars_shapes.specs.Shape.{required_of, shape_of, without_notes};
 ghost use Rattle.schemars_types.specs.Rows.{Row, place_of, unknown_in};
-ghost use Rattle.schemars_impls.specs.Describes.{entry_under, IsDescribed};
-ghost use Rattle.schemars_impls.specs.Fields.{plain_field, FieldsAreKnown};
+ghost use Rattle.schemars_impls.specs.Dictionary.{IsIn, KeepsTo, RefusesAs};
+ghost use Rattle.schemars_impls.specs.Fields.{fields_with, part, plain_field, FieldsAreKnown};
+ghost use Rattle.schemars_impls.specs.Fields.{PartsAreKnown};
 ghost use Rattle.schemars_impls.specs.Keeps.{Keeps};
-ghost use Rattle.schemars_impls.specs.Refused.{HasCause};
+ghost use Rattle.schemars_impls.specs.OwnRows.{RefusesNumbers};
 
 use crate::law::{JsonSchema, entry, register};
-use schemars_types::{Field, Fields, Required, Shape, TypeEntry, TypeNo, Types, TypesError};
+use schemars_types::{Field, Fields, Flattened, Required, Shape, TypeEntry, TypeNo, Types, TypesError};
 use serde_json::Map;
 use std::alloc::{AllocError, Global};
 
 /// A field that has to be there.
 pub const REQUIRED: Required = Required {
     deserialize: true,
+    serialize: true,
+};
+
+/// A field that is always written and may be missing where it is read, as an `Option` is.
+pub const READ_OPTIONAL: Required = Required {
+    deserialize: false,
     serialize: true,
 };
 
@@ -43,12 +50,11 @@ pub fn add_field<T: JsonSchema>(
     ensures known { OnOk result (FieldsAreKnown types.old (map field_of fields.old.items)
         → FieldsAreKnown types.new (map field_of fields.new.items)) }
     ensures adds { OnOk result (option_map (λ n. map field_of fields.old.items
-        ++ plain_field name.now n (required_of required) ∷ []) (place_of T.id types.new)
+        ++ plain_field name.now n (required_of required) ∷ []) (place_of T.says.id types.new)
         ≡ Some (map field_of fields.new.items)) }
-    ensures described { OnOk result (entry_under T.id types.old ≡ None → (n : ℕ)
-        → place_of T.id types.new ≡ Some n → IsDescribed T.describes T.inline types.new n) }
+    ensures follows { OnOk result (KeepsTo (IsIn T.says) types.old types.new) }
     ensures unchanged { OnErr result (fields.new.items ≡ fields.old.items) }
-    ensures refused { IfErr result (λ e. HasCause types.new e) }
+    ensures refused { IfErr result (RefusesAs (IsIn T.says) types.old) }
 {
     let ty = register::<T>(alloc, types)?;
     push_field(alloc, fields, name, ty, required)?;
@@ -75,7 +81,7 @@ pub fn add_field_of(
     ensures adds { OnOk result (map field_of fields.new.items
         ≡ map field_of fields.old.items ++ plain_field name.now ty (required_of required) ∷ []) }
     ensures unchanged { OnErr result (fields.new.items ≡ fields.old.items) }
-    ensures refused { IfErr result (λ e. HasCause types.now e) }
+    ensures refused { IfErr result (RefusesNumbers types.now (ty ∷ [])) }
 {
     if types.len() <= ty {
         return Err(TypesError::UnknownType(ty));
@@ -100,6 +106,55 @@ pub fn struct_entry(alloc: Global, fields: Vec<Field>, closed: bool) -> TypeEntr
     entry(alloc, false, Shape::Struct(fields))
 }
 
+/// Registers a type whose members are those of the struct, and adds it behind the others.
+///
+/// # Errors
+///
+/// `OutOfMemory`, or what `register` returns. The list is then unchanged.
+#[tactic(auto, using(crate::proofs::OwnTypes::adding))]
+pub fn add_flattened<T: JsonSchema>(
+    alloc: Global,
+    types: &mut Types,
+    flatten: &mut Vec<Flattened>,
+    required: Required,
+) -> Result<(), TypesError>
+    ensures keeps { Keeps types.old types.new }
+    ensures known { OnOk result (PartsAreKnown types.old (map flattened_of flatten.old.items)
+        → PartsAreKnown types.new (map flattened_of flatten.new.items)) }
+    ensures adds { OnOk result (option_map (λ n. map flattened_of flatten.old.items
+        ++ part n (required_of required) ∷ []) (place_of T.says.id types.new)
+        ≡ Some (map flattened_of flatten.new.items)) }
+    ensures follows { OnOk result (KeepsTo (IsIn T.says) types.old types.new) }
+    ensures unchanged { OnErr result (flatten.new.items ≡ flatten.old.items) }
+    ensures refused { IfErr result (RefusesAs (IsIn T.says) types.old) }
+{
+    let ty = register::<T>(alloc, types)?;
+    push_part(flatten, ty, required)?;
+    Ok(())
+}
+
+/// Returns the entry of a struct with these fields, and the members of these rows, without notes.
+#[tactic(auto, using(crate::proofs::OwnTypes::flat_known))]
+pub fn flat_entry(
+    alloc: Global,
+    fields: Vec<Field>,
+    flatten: Vec<Flattened>,
+    closed: bool,
+) -> TypeEntry
+    ensures value { entry_of result ≡ without_notes false (shape.struct (fields_with
+        (map field_of fields.items) (map flattened_of flatten.items) closed)) }
+    ensures known { (rows : List Row) → FieldsAreKnown rows (map field_of fields.items)
+        → PartsAreKnown rows (map flattened_of flatten.items)
+        → unknown_in rows (shape_of result.shape) ≡ None }
+{
+    let fields = Fields {
+        list: fields,
+        flatten,
+        closed,
+    };
+    entry(alloc, false, Shape::Struct(fields))
+}
+
 // Adds a field without notes.
 fn push_field(
     alloc: Global,
@@ -119,5 +174,19 @@ fn push_field(
         notes: Map::new(alloc),
     };
     fields.push(field)?;
+    Ok(())
+}
+
+// Adds a flattened row.
+fn push_part(
+    flatten: &mut Vec<Flattened>,
+    ty: TypeNo,
+    required: Required,
+) -> Result<(), AllocError>
+    ensures adds { OnOk result (map flattened_of flatten.new.items
+        ≡ map flattened_of flatten.old.items ++ part ty (required_of required) ∷ []) }
+    ensures unchanged { OnErr result (flatten.new.items ≡ flatten.old.items) }
+{
+    flatten.push(Flattened { ty, required })?;
     Ok(())
 }

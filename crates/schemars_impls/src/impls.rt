@@ -1,5 +1,5 @@
 //! Implementations of `JsonSchema`.
-#![tactic(auto, using(crate::proofs::Placing::keeping))]
+#![tactic(auto, using(crate::proofs::Composing::keeping))]
 
 mod arrays;
 mod foreign;

@@ -1,12 +1,12 @@
 //! What an implementation of `JsonSchema` promises, and how a type is added to a table.
-ghost use Rattle.std.specs.Prelude.{◌≡◌, Bool, List, None, Some, IfErr, IfOk, IsSome, OnOk};
+ghost use Rattle.std.specs.Prelude.{◌≡◌, None, IfErr, IfOk, IsSome, OnOk};
 ghost use Rattle.std.specs.Cow.{cow_str_bytes};
-ghost use Rattle.schemars_schema.specs.Json.{Text};
-ghost use Rattle.schemars_shapes.specs.Shape.{Entry, entry_of, shape_of, without_notes};
-ghost use Rattle.schemars_types.specs.Rows.{Row, place_of, unknown_in};
+ghost use Rattle.schemars_shapes.specs.Shape.{entry_of, shape_of, without_notes};
+ghost use Rattle.schemars_types.specs.Rows.{unknown_in};
 ghost use Rattle.schemars_impls.specs.Keeps.{Keeps};
-ghost use Rattle.schemars_impls.specs.Describes.{entry_under, IsDescribed};
-ghost use Rattle.schemars_impls.specs.Refused.{HasCause};
+ghost use Rattle.schemars_impls.specs.Describes.{entry_under, IsMade};
+ghost use Rattle.schemars_impls.specs.Dictionary.{TypeRow, Describes, RefusesPart};
+ghost use Rattle.schemars_impls.specs.Dictionary.{IsAdded, IsIn, KeepsTo, Completes, RefusesType};
 
 use schemars_types::{Shape, TypeEntry, TypeNo, Types, TypesError};
 use std::alloc::{AllocError, Global};
@@ -18,26 +18,20 @@ use std::borrow::CowStr;
 /// type that is inside itself refers to its own row by `Types::reserve` with its own id, since
 /// `register` of it would not end.
 pub trait JsonSchema {
-    ghost name: { Text };
-
-    ghost id: { Text };
-
-    ghost inline: { Bool };
-
-    // What the type's entry says in a table that has the rows of its parts.
-    ghost describes: { List Row → Entry → Type 0 };
+    // What the type says of its row, and of those of its parts.
+    ghost says: { TypeRow };
 
     /// Returns whether the type's document is written in place wherever the type is referred to.
     fn inline_schema() -> bool
-        ensures { result ≡ inline };
+        ensures { result ≡ says.inline };
 
     /// Returns the name of the type, under which it is defined in a document.
     fn schema_name(alloc: Global) -> Result<CowStr<'static>, AllocError>
-        ensures { IfOk result (λ t. cow_str_bytes t ≡ name) };
+        ensures { IfOk result (λ t. cow_str_bytes t ≡ says.name) };
 
     /// Returns the id of the type, under which it has its row.
     fn schema_id(alloc: Global) -> Result<CowStr<'static>, AllocError>
-        ensures { IfOk result (λ t. cow_str_bytes t ≡ id) };
+        ensures { IfOk result (λ t. cow_str_bytes t ≡ says.id) };
 
     /// Returns the entry of the type, whose numbers are those of rows. Rows may join the table for
     /// its parts. Each row that is there keeps its id, its name and, once it is defined, its entry.
@@ -48,8 +42,9 @@ pub trait JsonSchema {
     fn json_schema(alloc: Global, types: &mut Types) -> Result<TypeEntry, TypesError>
         ensures keeps { Keeps types.old types.new }
         ensures known { IfOk result (λ e. unknown_in types.new (shape_of e.shape) ≡ None) }
-        ensures describes { IfOk result (λ e. describes types.new (entry_of e)) }
-        ensures refused { IfErr result (λ e. HasCause types.new e) };
+        ensures made { IfOk result (λ e. IsMade says.making types.new (entry_of e)) }
+        ensures follows { OnOk result (Describes says types.old types.new) }
+        ensures refused { IfErr result (RefusesPart says types.old) };
 }
 
 /// Returns the number of the type's row. If the row is not defined, it is added and defined first;
@@ -59,14 +54,14 @@ pub trait JsonSchema {
 ///
 /// `OutOfMemory`, what `T::json_schema` returns, or `AlreadyDefined` if that has defined the row
 /// with a different entry. Rows that are defined stay; new rows may be behind them.
-#[tactic(auto, using(crate::proofs::Refusing::memory_cause))]
+#[tactic(auto, using(crate::proofs::Composing::keeping))]
 pub fn register<T: JsonSchema>(alloc: Global, types: &mut Types) -> Result<TypeNo, TypesError>
     ensures keeps { Keeps types.old types.new }
-    ensures number { IfOk result (λ n. place_of T.id types.new ≡ Some n) }
-    ensures described { OnOk result (entry_under T.id types.old ≡ None
-        → IfOk result (λ n. IsDescribed T.describes T.inline types.new n)) }
-    ensures present { IsSome (entry_under T.id types.old) → types.new ≡ types.old }
-    ensures refused { IfErr result (λ e. HasCause types.new e) }
+    ensures added { IfOk result (IsAdded T.says types.old types.new) }
+    ensures present { IsSome (entry_under T.says.id types.old) → types.new ≡ types.old }
+    ensures follows { OnOk result (KeepsTo (IsIn T.says) types.old types.new) }
+    ensures completes { OnOk result (Completes T.says types.old types.new) }
+    ensures refused { IfErr result (RefusesType T.says types.old) }
 {
     let id = T::schema_id(alloc)?.into_owned(alloc)?;
     let name = T::schema_name(alloc)?.into_owned(alloc)?;

@@ -1,7 +1,5 @@
 //! Arrays.
-ghost use Rattle.std.specs.Prelude.{true};
-ghost use Rattle.schemars_types.specs.Names.{array_id, array_name};
-ghost use Rattle.schemars_impls.specs.Describes.{OfArray};
+ghost use Rattle.schemars_impls.specs.Containers.{array_row};
 
 use crate::law::{JsonSchema, entry, register};
 use schemars_types::{Shape, TypeEntry, Types, TypesError};
@@ -10,13 +8,7 @@ use std::borrow::CowStr;
 
 /// Arrays of no items are one type, whose entry does not refer to the items.
 impl<T: JsonSchema, const N: usize> JsonSchema for [T; N] {
-    ghost name = { array_name T.name N };
-
-    ghost id = { array_id T.id N };
-
-    ghost inline = { true };
-
-    ghost describes = { OfArray T.id N };
+    ghost says = { array_row T.says N };
 
     fn inline_schema() -> bool {
         true

@@ -6,7 +6,7 @@ ghost use Rattle.schemars_shapes.specs.declared.shape.IntKind.TheVariants.{U8, U
 ghost use Rattle.schemars_shapes.specs.declared.shape.IntKind.TheVariants.{U64, U128, Usize};
 ghost use Rattle.schemars_shapes.specs.IntKind.{format_of};
 ghost use Rattle.schemars_shapes.specs.Shape.{Shape as shape, in_place};
-ghost use Rattle.schemars_impls.specs.Describes.{Always};
+ghost use Rattle.schemars_impls.specs.Dictionary.{alone};
 
 use crate::law::{JsonSchema, entry};
 use schemars_types::{IntKind, Shape, TypeEntry, Types, TypesError};
@@ -15,13 +15,7 @@ use std::borrow::CowStr;
 use std::num::Wrapping;
 
 impl JsonSchema for i8 {
-    ghost name = { format_of I8 };
-
-    ghost id = { format_of I8 };
-
-    ghost inline = { true };
-
-    ghost describes = { Always (in_place (shape.int I8)) };
+    ghost says = { alone (format_of I8) (format_of I8) true (in_place (shape.int I8)) };
 
     fn inline_schema() -> bool {
         true
@@ -41,13 +35,7 @@ impl JsonSchema for i8 {
 }
 
 impl JsonSchema for i16 {
-    ghost name = { format_of I16 };
-
-    ghost id = { format_of I16 };
-
-    ghost inline = { true };
-
-    ghost describes = { Always (in_place (shape.int I16)) };
+    ghost says = { alone (format_of I16) (format_of I16) true (in_place (shape.int I16)) };
 
     fn inline_schema() -> bool {
         true
@@ -67,13 +55,7 @@ impl JsonSchema for i16 {
 }
 
 impl JsonSchema for i32 {
-    ghost name = { format_of I32 };
-
-    ghost id = { format_of I32 };
-
-    ghost inline = { true };
-
-    ghost describes = { Always (in_place (shape.int I32)) };
+    ghost says = { alone (format_of I32) (format_of I32) true (in_place (shape.int I32)) };
 
     fn inline_schema() -> bool {
         true
@@ -93,13 +75,7 @@ impl JsonSchema for i32 {
 }
 
 impl JsonSchema for i64 {
-    ghost name = { format_of I64 };
-
-    ghost id = { format_of I64 };
-
-    ghost inline = { true };
-
-    ghost describes = { Always (in_place (shape.int I64)) };
+    ghost says = { alone (format_of I64) (format_of I64) true (in_place (shape.int I64)) };
 
     fn inline_schema() -> bool {
         true
@@ -119,13 +95,7 @@ impl JsonSchema for i64 {
 }
 
 impl JsonSchema for i128 {
-    ghost name = { format_of I128 };
-
-    ghost id = { format_of I128 };
-
-    ghost inline = { true };
-
-    ghost describes = { Always (in_place (shape.int I128)) };
+    ghost says = { alone (format_of I128) (format_of I128) true (in_place (shape.int I128)) };
 
     fn inline_schema() -> bool {
         true
@@ -145,13 +115,7 @@ impl JsonSchema for i128 {
 }
 
 impl JsonSchema for isize {
-    ghost name = { format_of Isize };
-
-    ghost id = { format_of Isize };
-
-    ghost inline = { true };
-
-    ghost describes = { Always (in_place (shape.int Isize)) };
+    ghost says = { alone (format_of Isize) (format_of Isize) true (in_place (shape.int Isize)) };
 
     fn inline_schema() -> bool {
         true
@@ -171,13 +135,7 @@ impl JsonSchema for isize {
 }
 
 impl JsonSchema for u8 {
-    ghost name = { format_of U8 };
-
-    ghost id = { format_of U8 };
-
-    ghost inline = { true };
-
-    ghost describes = { Always (in_place (shape.int U8)) };
+    ghost says = { alone (format_of U8) (format_of U8) true (in_place (shape.int U8)) };
 
     fn inline_schema() -> bool {
         true
@@ -197,13 +155,7 @@ impl JsonSchema for u8 {
 }
 
 impl JsonSchema for u16 {
-    ghost name = { format_of U16 };
-
-    ghost id = { format_of U16 };
-
-    ghost inline = { true };
-
-    ghost describes = { Always (in_place (shape.int U16)) };
+    ghost says = { alone (format_of U16) (format_of U16) true (in_place (shape.int U16)) };
 
     fn inline_schema() -> bool {
         true
@@ -223,13 +175,7 @@ impl JsonSchema for u16 {
 }
 
 impl JsonSchema for u32 {
-    ghost name = { format_of U32 };
-
-    ghost id = { format_of U32 };
-
-    ghost inline = { true };
-
-    ghost describes = { Always (in_place (shape.int U32)) };
+    ghost says = { alone (format_of U32) (format_of U32) true (in_place (shape.int U32)) };
 
     fn inline_schema() -> bool {
         true
@@ -249,13 +195,7 @@ impl JsonSchema for u32 {
 }
 
 impl JsonSchema for u64 {
-    ghost name = { format_of U64 };
-
-    ghost id = { format_of U64 };
-
-    ghost inline = { true };
-
-    ghost describes = { Always (in_place (shape.int U64)) };
+    ghost says = { alone (format_of U64) (format_of U64) true (in_place (shape.int U64)) };
 
     fn inline_schema() -> bool {
         true
@@ -275,13 +215,7 @@ impl JsonSchema for u64 {
 }
 
 impl JsonSchema for u128 {
-    ghost name = { format_of U128 };
-
-    ghost id = { format_of U128 };
-
-    ghost inline = { true };
-
-    ghost describes = { Always (in_place (shape.int U128)) };
+    ghost says = { alone (format_of U128) (format_of U128) true (in_place (shape.int U128)) };
 
     fn inline_schema() -> bool {
         true
@@ -301,13 +235,7 @@ impl JsonSchema for u128 {
 }
 
 impl JsonSchema for usize {
-    ghost name = { format_of Usize };
-
-    ghost id = { format_of Usize };
-
-    ghost inline = { true };
-
-    ghost describes = { Always (in_place (shape.int Usize)) };
+    ghost says = { alone (format_of Usize) (format_of Usize) true (in_place (shape.int Usize)) };
 
     fn inline_schema() -> bool {
         true
@@ -328,13 +256,7 @@ impl JsonSchema for usize {
 
 /// The same as the integer.
 impl<T: JsonSchema> JsonSchema for Wrapping<T> {
-    ghost name = { T.name };
-
-    ghost id = { T.id };
-
-    ghost inline = { T.inline };
-
-    ghost describes = { T.describes };
+    ghost says = { T.says };
 
     fn inline_schema() -> bool {
         T::inline_schema()

@@ -1,12 +1,13 @@
 //! Maps.
-ghost use Rattle.std.specs.Prelude.{◌≡◌, None, true, IfErr, IfOk};
+ghost use Rattle.std.specs.Prelude.{◌≡◌, None, IfErr, IfOk, OnOk};
 ghost use Rattle.std.specs.Cow.{cow_str_bytes};
-ghost use Rattle.schemars_shapes.specs.Shape.{Shape as shape, entry_of, in_place, shape_of};
+ghost use Rattle.schemars_shapes.specs.Shape.{entry_of, shape_of};
 ghost use Rattle.schemars_types.specs.Names.{map_id, map_name};
 ghost use Rattle.schemars_types.specs.Rows.{unknown_in};
-ghost use Rattle.schemars_impls.specs.Describes.{OfTwo};
+ghost use Rattle.schemars_impls.specs.Describes.{IsMade};
 ghost use Rattle.schemars_impls.specs.Keeps.{Keeps};
-ghost use Rattle.schemars_impls.specs.Refused.{HasCause};
+ghost use Rattle.schemars_impls.specs.Dictionary.{IsIn, KeepsTo, RefusesAs};
+ghost use Rattle.schemars_impls.specs.Containers.{map_row};
 
 use crate::impls::parts::register_two;
 use crate::law::{JsonSchema, entry};
@@ -17,13 +18,7 @@ use std::collections::{BTreeMap, HashMap};
 use std::hash::{BuildHasher, Hash};
 
 impl<K: Ord + JsonSchema, V: JsonSchema> JsonSchema for BTreeMap<K, V> {
-    ghost name = { map_name K.id K.name V.name };
-
-    ghost id = { map_id K.id V.id };
-
-    ghost inline = { true };
-
-    ghost describes = { OfTwo K.id V.id (λ n m. in_place (shape.map_from n m)) };
+    ghost says = { map_row K.says V.says };
 
     fn inline_schema() -> bool {
         true
@@ -43,13 +38,7 @@ impl<K: Ord + JsonSchema, V: JsonSchema> JsonSchema for BTreeMap<K, V> {
 }
 
 impl<K: Eq + Hash + JsonSchema, V: JsonSchema, S: BuildHasher> JsonSchema for HashMap<K, V, S> {
-    ghost name = { map_name K.id K.name V.name };
-
-    ghost id = { map_id K.id V.id };
-
-    ghost inline = { true };
-
-    ghost describes = { OfTwo K.id V.id (λ n m. in_place (shape.map_from n m)) };
+    ghost says = { map_row K.says V.says };
 
     fn inline_schema() -> bool {
         true
@@ -72,7 +61,7 @@ impl<K: Eq + Hash + JsonSchema, V: JsonSchema, S: BuildHasher> JsonSchema for Ha
 pub(crate) fn map_name<K: JsonSchema, V: JsonSchema>(
     alloc: Global,
 ) -> Result<CowStr<'static>, AllocError>
-    ensures { IfOk result (λ t. cow_str_bytes t ≡ map_name K.id K.name V.name) }
+    ensures { IfOk result (λ t. cow_str_bytes t ≡ map_name K.says.id K.says.name V.says.name) }
 {
     let id = K::schema_id(alloc)?;
     let value = V::schema_name(alloc)?;
@@ -87,7 +76,7 @@ pub(crate) fn map_name<K: JsonSchema, V: JsonSchema>(
 pub(crate) fn map_id<K: JsonSchema, V: JsonSchema>(
     alloc: Global,
 ) -> Result<CowStr<'static>, AllocError>
-    ensures { IfOk result (λ t. cow_str_bytes t ≡ map_id K.id V.id) }
+    ensures { IfOk result (λ t. cow_str_bytes t ≡ map_id K.says.id V.says.id) }
 {
     let key = K::schema_id(alloc)?;
     let value = V::schema_id(alloc)?;
@@ -104,9 +93,11 @@ pub(crate) fn map_entry<K: JsonSchema, V: JsonSchema>(
 ) -> Result<TypeEntry, TypesError>
     ensures keeps { Keeps types.old types.new }
     ensures known { IfOk result (λ e. unknown_in types.new (shape_of e.shape) ≡ None) }
-    ensures describes { IfOk result
-        (λ e. OfTwo K.id V.id (λ n m. in_place (shape.map_from n m)) types.new (entry_of e)) }
-    ensures refused { IfErr result (λ e. HasCause types.new e) }
+    ensures made { IfOk result
+        (λ e. IsMade (map_row K.says V.says).making types.new (entry_of e)) }
+    ensures follows { OnOk result
+        (KeepsTo (λ d. IsIn K.says d × IsIn V.says d) types.old types.new) }
+    ensures refused { IfErr result (RefusesAs (λ d. IsIn K.says d × IsIn V.says d) types.old) }
 {
     let (key, value) = register_two::<K, V>(alloc, types)?;
     Ok(entry(alloc, true, Shape::Map(key, value)))

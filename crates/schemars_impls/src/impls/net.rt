@@ -1,7 +1,7 @@
 //! Addresses, which are texts.
 ghost use Rattle.std.specs.Prelude.{codes, true};
 ghost use Rattle.schemars_shapes.specs.Shape.{Shape as shape, in_place};
-ghost use Rattle.schemars_impls.specs.Describes.{Always};
+ghost use Rattle.schemars_impls.specs.Dictionary.{alone};
 
 use crate::law::{JsonSchema, entry};
 use schemars_types::{Shape, TypeEntry, Types, TypesError};
@@ -10,13 +10,8 @@ use std::borrow::CowStr;
 use std::net::{IpAddr, Ipv4Addr, Ipv6Addr, SocketAddr, SocketAddrV4, SocketAddrV6};
 
 impl JsonSchema for Ipv4Addr {
-    ghost name = { codes "ipv4" };
-
-    ghost id = { codes "ipv4" };
-
-    ghost inline = { true };
-
-    ghost describes = { Always (in_place (shape.formatted (codes "ipv4"))) };
+    ghost says = { alone (codes "ipv4") (codes "ipv4") true
+        (in_place (shape.formatted (codes "ipv4"))) };
 
     fn inline_schema() -> bool {
         true
@@ -37,13 +32,8 @@ impl JsonSchema for Ipv4Addr {
 }
 
 impl JsonSchema for Ipv6Addr {
-    ghost name = { codes "ipv6" };
-
-    ghost id = { codes "ipv6" };
-
-    ghost inline = { true };
-
-    ghost describes = { Always (in_place (shape.formatted (codes "ipv6"))) };
+    ghost says = { alone (codes "ipv6") (codes "ipv6") true
+        (in_place (shape.formatted (codes "ipv6"))) };
 
     fn inline_schema() -> bool {
         true
@@ -64,13 +54,7 @@ impl JsonSchema for Ipv6Addr {
 }
 
 impl JsonSchema for IpAddr {
-    ghost name = { codes "ip" };
-
-    ghost id = { codes "ip" };
-
-    ghost inline = { true };
-
-    ghost describes = { Always (in_place (shape.formatted (codes "ip"))) };
+    ghost says = { alone (codes "ip") (codes "ip") true (in_place (shape.formatted (codes "ip"))) };
 
     fn inline_schema() -> bool {
         true
@@ -92,13 +76,7 @@ impl JsonSchema for IpAddr {
 
 /// The same as `String`.
 impl JsonSchema for SocketAddr {
-    ghost name = { codes "string" };
-
-    ghost id = { codes "string" };
-
-    ghost inline = { true };
-
-    ghost describes = { Always (in_place shape.text) };
+    ghost says = { alone (codes "string") (codes "string") true (in_place shape.text) };
 
     fn inline_schema() -> bool {
         String::inline_schema()
@@ -119,13 +97,7 @@ impl JsonSchema for SocketAddr {
 
 /// The same as `String`.
 impl JsonSchema for SocketAddrV4 {
-    ghost name = { codes "string" };
-
-    ghost id = { codes "string" };
-
-    ghost inline = { true };
-
-    ghost describes = { Always (in_place shape.text) };
+    ghost says = { alone (codes "string") (codes "string") true (in_place shape.text) };
 
     fn inline_schema() -> bool {
         String::inline_schema()
@@ -146,13 +118,7 @@ impl JsonSchema for SocketAddrV4 {
 
 /// The same as `String`.
 impl JsonSchema for SocketAddrV6 {
-    ghost name = { codes "string" };
-
-    ghost id = { codes "string" };
-
-    ghost inline = { true };
-
-    ghost describes = { Always (in_place shape.text) };
+    ghost says = { alone (codes "string") (codes "string") true (in_place shape.text) };
 
     fn inline_schema() -> bool {
         String::inline_schema()

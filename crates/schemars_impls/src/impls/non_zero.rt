@@ -7,7 +7,7 @@ ghost use Rattle.schemars_shapes.specs.declared.shape.IntKind.TheVariants.{U64, 
 ghost use Rattle.schemars_shapes.specs.IntKind.{non_zero_name};
 ghost use Rattle.schemars_shapes.specs.Shape.{Shape as shape, in_place};
 ghost use Rattle.schemars_types.specs.Names.{non_zero_id};
-ghost use Rattle.schemars_impls.specs.Describes.{Always};
+ghost use Rattle.schemars_impls.specs.Dictionary.{alone};
 
 use crate::law::{JsonSchema, entry};
 use schemars_types::{IntKind, Shape, TypeEntry, Types, TypesError};
@@ -19,13 +19,7 @@ use std::num::{
 };
 
 impl JsonSchema for NonZeroI8 {
-    ghost name = { non_zero_name I8 };
-
-    ghost id = { non_zero_id I8 };
-
-    ghost inline = { true };
-
-    ghost describes = { Always (in_place (shape.non_zero I8)) };
+    ghost says = { alone (non_zero_id I8) (non_zero_name I8) true (in_place (shape.non_zero I8)) };
 
     fn inline_schema() -> bool {
         true
@@ -45,13 +39,8 @@ impl JsonSchema for NonZeroI8 {
 }
 
 impl JsonSchema for NonZeroI16 {
-    ghost name = { non_zero_name I16 };
-
-    ghost id = { non_zero_id I16 };
-
-    ghost inline = { true };
-
-    ghost describes = { Always (in_place (shape.non_zero I16)) };
+    ghost says = { alone (non_zero_id I16) (non_zero_name I16) true
+        (in_place (shape.non_zero I16)) };
 
     fn inline_schema() -> bool {
         true
@@ -71,13 +60,8 @@ impl JsonSchema for NonZeroI16 {
 }
 
 impl JsonSchema for NonZeroI32 {
-    ghost name = { non_zero_name I32 };
-
-    ghost id = { non_zero_id I32 };
-
-    ghost inline = { true };
-
-    ghost describes = { Always (in_place (shape.non_zero I32)) };
+    ghost says = { alone (non_zero_id I32) (non_zero_name I32) true
+        (in_place (shape.non_zero I32)) };
 
     fn inline_schema() -> bool {
         true
@@ -97,13 +81,8 @@ impl JsonSchema for NonZeroI32 {
 }
 
 impl JsonSchema for NonZeroI64 {
-    ghost name = { non_zero_name I64 };
-
-    ghost id = { non_zero_id I64 };
-
-    ghost inline = { true };
-
-    ghost describes = { Always (in_place (shape.non_zero I64)) };
+    ghost says = { alone (non_zero_id I64) (non_zero_name I64) true
+        (in_place (shape.non_zero I64)) };
 
     fn inline_schema() -> bool {
         true
@@ -123,13 +102,8 @@ impl JsonSchema for NonZeroI64 {
 }
 
 impl JsonSchema for NonZeroI128 {
-    ghost name = { non_zero_name I128 };
-
-    ghost id = { non_zero_id I128 };
-
-    ghost inline = { true };
-
-    ghost describes = { Always (in_place (shape.non_zero I128)) };
+    ghost says = { alone (non_zero_id I128) (non_zero_name I128) true
+        (in_place (shape.non_zero I128)) };
 
     fn inline_schema() -> bool {
         true
@@ -149,13 +123,8 @@ impl JsonSchema for NonZeroI128 {
 }
 
 impl JsonSchema for NonZeroIsize {
-    ghost name = { non_zero_name Isize };
-
-    ghost id = { non_zero_id Isize };
-
-    ghost inline = { true };
-
-    ghost describes = { Always (in_place (shape.non_zero Isize)) };
+    ghost says = { alone (non_zero_id Isize) (non_zero_name Isize) true
+        (in_place (shape.non_zero Isize)) };
 
     fn inline_schema() -> bool {
         true
@@ -175,13 +144,7 @@ impl JsonSchema for NonZeroIsize {
 }
 
 impl JsonSchema for NonZeroU8 {
-    ghost name = { non_zero_name U8 };
-
-    ghost id = { non_zero_id U8 };
-
-    ghost inline = { true };
-
-    ghost describes = { Always (in_place (shape.non_zero U8)) };
+    ghost says = { alone (non_zero_id U8) (non_zero_name U8) true (in_place (shape.non_zero U8)) };
 
     fn inline_schema() -> bool {
         true
@@ -201,13 +164,8 @@ impl JsonSchema for NonZeroU8 {
 }
 
 impl JsonSchema for NonZeroU16 {
-    ghost name = { non_zero_name U16 };
-
-    ghost id = { non_zero_id U16 };
-
-    ghost inline = { true };
-
-    ghost describes = { Always (in_place (shape.non_zero U16)) };
+    ghost says = { alone (non_zero_id U16) (non_zero_name U16) true
+        (in_place (shape.non_zero U16)) };
 
     fn inline_schema() -> bool {
         true
@@ -227,13 +185,8 @@ impl JsonSchema for NonZeroU16 {
 }
 
 impl JsonSchema for NonZeroU32 {
-    ghost name = { non_zero_name U32 };
-
-    ghost id = { non_zero_id U32 };
-
-    ghost inline = { true };
-
-    ghost describes = { Always (in_place (shape.non_zero U32)) };
+    ghost says = { alone (non_zero_id U32) (non_zero_name U32) true
+        (in_place (shape.non_zero U32)) };
 
     fn inline_schema() -> bool {
         true
@@ -253,13 +206,8 @@ impl JsonSchema for NonZeroU32 {
 }
 
 impl JsonSchema for NonZeroU64 {
-    ghost name = { non_zero_name U64 };
-
-    ghost id = { non_zero_id U64 };
-
-    ghost inline = { true };
-
-    ghost describes = { Always (in_place (shape.non_zero U64)) };
+    ghost says = { alone (non_zero_id U64) (non_zero_name U64) true
+        (in_place (shape.non_zero U64)) };
 
     fn inline_schema() -> bool {
         true
@@ -279,13 +227,8 @@ impl JsonSchema for NonZeroU64 {
 }
 
 impl JsonSchema for NonZeroU128 {
-    ghost name = { non_zero_name U128 };
-
-    ghost id = { non_zero_id U128 };
-
-    ghost inline = { true };
-
-    ghost describes = { Always (in_place (shape.non_zero U128)) };
+    ghost says = { alone (non_zero_id U128) (non_zero_name U128) true
+        (in_place (shape.non_zero U128)) };
 
     fn inline_schema() -> bool {
         true
@@ -305,13 +248,8 @@ impl JsonSchema for NonZeroU128 {
 }
 
 impl JsonSchema for NonZeroUsize {
-    ghost name = { non_zero_name Usize };
-
-    ghost id = { non_zero_id Usize };
-
-    ghost inline = { true };
-
-    ghost describes = { Always (in_place (shape.non_zero Usize)) };
+    ghost says = { alone (non_zero_id Usize) (non_zero_name Usize) true
+        (in_place (shape.non_zero Usize)) };
 
     fn inline_schema() -> bool {
         true

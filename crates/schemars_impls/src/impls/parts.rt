@@ -6,7 +6,7 @@ ghost use Rattle.schemars_schema.specs.Json.{Text};
 ghost use Rattle.schemars_types.specs.Rows.{place_of};
 ghost use Rattle.schemars_impls.specs.Describes.{Adds, AreKnown};
 ghost use Rattle.schemars_impls.specs.Keeps.{Keeps};
-ghost use Rattle.schemars_impls.specs.Refused.{HasCause};
+ghost use Rattle.schemars_impls.specs.Dictionary.{Dictionary, IsIn, KeepsTo, RefusesAs};
 
 use crate::law::{JsonSchema, register};
 use schemars_types::{TypeNo, Types, TypesError};
@@ -19,9 +19,11 @@ pub(crate) fn register_two<A: JsonSchema, B: JsonSchema>(
     types: &mut Types,
 ) -> Result<(TypeNo, TypeNo), TypesError>
     ensures keeps { Keeps types.old types.new }
-    ensures first { IfOk result (λ p. place_of A.id types.new ≡ Some p.0) }
-    ensures second { IfOk result (λ p. place_of B.id types.new ≡ Some p.1) }
-    ensures refused { IfErr result (λ e. HasCause types.new e) }
+    ensures first { IfOk result (λ p. place_of A.says.id types.new ≡ Some p.0) }
+    ensures second { IfOk result (λ p. place_of B.says.id types.new ≡ Some p.1) }
+    ensures follows { OnOk result
+        (KeepsTo (λ d. IsIn A.says d × IsIn B.says d) types.old types.new) }
+    ensures refused { IfErr result (RefusesAs (λ d. IsIn A.says d × IsIn B.says d) types.old) }
 {
     let first = register::<A>(alloc, types)?;
     let second = register::<B>(alloc, types)?;
@@ -33,6 +35,9 @@ pub(crate) trait Parts {
     ghost names: { List Text };
 
     ghost ids: { List Text };
+
+    // Each type is in a dictionary.
+    ghost parts: { Dictionary → Type 0 };
 
     /// Adds each name to a text, behind `_and_`.
     fn push_names(alloc: Global, text: &mut String) -> Result<(), AllocError>
@@ -51,7 +56,8 @@ pub(crate) trait Parts {
             (Adds ids types.old numbers.old.items types.new numbers.new.items) }
         ensures known { OnOk result
             (AreKnown types.old numbers.old.items → AreKnown types.new numbers.new.items) }
-        ensures refused { IfErr result (λ e. HasCause types.new e) };
+        ensures follows { OnOk result (KeepsTo parts types.old types.new) }
+        ensures refused { IfErr result (RefusesAs parts types.old) };
 }
 
 /// No types.
@@ -64,6 +70,8 @@ impl Parts for Nil {
     ghost names = { [] };
 
     ghost ids = { [] };
+
+    ghost parts = { λ d. Unit {0} };
 
     fn push_names(_alloc: Global, _text: &mut String) -> Result<(), AllocError> {
         Ok(())
@@ -83,9 +91,11 @@ impl Parts for Nil {
 }
 
 impl<A: JsonSchema, R: Parts> Parts for And<A, R> {
-    ghost names = { A.name ∷ R.names };
+    ghost names = { A.says.name ∷ R.names };
 
-    ghost ids = { A.id ∷ R.ids };
+    ghost ids = { A.says.id ∷ R.ids };
+
+    ghost parts = { λ d. IsIn A.says d × R.parts d };
 
     fn push_names(alloc: Global, text: &mut String) -> Result<(), AllocError> {
         let name = A::schema_name(alloc)?;
@@ -107,17 +117,23 @@ impl<A: JsonSchema, R: Parts> Parts for And<A, R> {
     }
 }
 
-fn add_one<T: JsonSchema>(
+/// Registers a type, and adds its number behind the others.
+///
+/// # Errors
+///
+/// `OutOfMemory`, or what `register` returns. The numbers may have changed then.
+pub fn add_one<T: JsonSchema>(
     alloc: Global,
     types: &mut Types,
     numbers: &mut Vec<TypeNo>,
 ) -> Result<(), TypesError>
     ensures keeps { Keeps types.old types.new }
     ensures adds { OnOk result
-        (Adds (T.id ∷ []) types.old numbers.old.items types.new numbers.new.items) }
+        (Adds (T.says.id ∷ []) types.old numbers.old.items types.new numbers.new.items) }
     ensures known { OnOk result
         (AreKnown types.old numbers.old.items → AreKnown types.new numbers.new.items) }
-    ensures refused { IfErr result (λ e. HasCause types.new e) }
+    ensures follows { OnOk result (KeepsTo (IsIn T.says) types.old types.new) }
+    ensures refused { IfErr result (RefusesAs (IsIn T.says) types.old) }
 {
     let n = register::<T>(alloc, types)?;
     numbers.push(n)?;

@@ -1,7 +1,7 @@
 //! Truth values, characters, texts and the unit.
 ghost use Rattle.std.specs.Prelude.{codes, true};
 ghost use Rattle.schemars_shapes.specs.Shape.{Shape as shape, in_place};
-ghost use Rattle.schemars_impls.specs.Describes.{Always};
+ghost use Rattle.schemars_impls.specs.Dictionary.{alone};
 
 use crate::law::{JsonSchema, entry};
 use schemars_types::{Shape, TypeEntry, Types, TypesError};
@@ -9,13 +9,7 @@ use std::alloc::{AllocError, Global};
 use std::borrow::CowStr;
 
 impl JsonSchema for () {
-    ghost name = { codes "null" };
-
-    ghost id = { codes "null" };
-
-    ghost inline = { true };
-
-    ghost describes = { Always (in_place shape.null) };
+    ghost says = { alone (codes "null") (codes "null") true (in_place shape.null) };
 
     fn inline_schema() -> bool {
         true
@@ -35,13 +29,7 @@ impl JsonSchema for () {
 }
 
 impl JsonSchema for bool {
-    ghost name = { codes "boolean" };
-
-    ghost id = { codes "boolean" };
-
-    ghost inline = { true };
-
-    ghost describes = { Always (in_place shape.bool) };
+    ghost says = { alone (codes "boolean") (codes "boolean") true (in_place shape.bool) };
 
     fn inline_schema() -> bool {
         true
@@ -61,13 +49,7 @@ impl JsonSchema for bool {
 }
 
 impl JsonSchema for char {
-    ghost name = { codes "Character" };
-
-    ghost id = { codes "char" };
-
-    ghost inline = { true };
-
-    ghost describes = { Always (in_place shape.char) };
+    ghost says = { alone (codes "char") (codes "Character") true (in_place shape.char) };
 
     fn inline_schema() -> bool {
         true
@@ -87,13 +69,7 @@ impl JsonSchema for char {
 }
 
 impl JsonSchema for String {
-    ghost name = { codes "string" };
-
-    ghost id = { codes "string" };
-
-    ghost inline = { true };
-
-    ghost describes = { Always (in_place shape.text) };
+    ghost says = { alone (codes "string") (codes "string") true (in_place shape.text) };
 
     fn inline_schema() -> bool {
         true

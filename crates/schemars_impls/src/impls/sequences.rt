@@ -1,8 +1,5 @@
 //! Lists.
-ghost use Rattle.std.specs.Prelude.{true};
-ghost use Rattle.schemars_shapes.specs.Shape.{Shape as shape, in_place};
-ghost use Rattle.schemars_types.specs.Names.{seq_id, seq_name};
-ghost use Rattle.schemars_impls.specs.Describes.{OfOne};
+ghost use Rattle.schemars_impls.specs.Containers.{seq_row};
 
 use crate::law::{JsonSchema, entry, register};
 use schemars_types::{Shape, TypeEntry, Types, TypesError};
@@ -11,13 +8,7 @@ use std::borrow::CowStr;
 use std::collections::{BinaryHeap, LinkedList, VecDeque};
 
 impl<T: JsonSchema> JsonSchema for Vec<T> {
-    ghost name = { seq_name T.name };
-
-    ghost id = { seq_id T.id };
-
-    ghost inline = { true };
-
-    ghost describes = { OfOne T.id (λ n. in_place (shape.seq n)) };
+    ghost says = { seq_row T.says };
 
     fn inline_schema() -> bool {
         true
@@ -41,13 +32,7 @@ impl<T: JsonSchema> JsonSchema for Vec<T> {
 
 /// The same as `Vec`.
 impl<T: JsonSchema> JsonSchema for VecDeque<T> {
-    ghost name = { seq_name T.name };
-
-    ghost id = { seq_id T.id };
-
-    ghost inline = { true };
-
-    ghost describes = { OfOne T.id (λ n. in_place (shape.seq n)) };
+    ghost says = { seq_row T.says };
 
     fn inline_schema() -> bool {
         Vec::<T>::inline_schema()
@@ -68,13 +53,7 @@ impl<T: JsonSchema> JsonSchema for VecDeque<T> {
 
 /// The same as `Vec`.
 impl<T: JsonSchema> JsonSchema for LinkedList<T> {
-    ghost name = { seq_name T.name };
-
-    ghost id = { seq_id T.id };
-
-    ghost inline = { true };
-
-    ghost describes = { OfOne T.id (λ n. in_place (shape.seq n)) };
+    ghost says = { seq_row T.says };
 
     fn inline_schema() -> bool {
         Vec::<T>::inline_schema()
@@ -95,13 +74,7 @@ impl<T: JsonSchema> JsonSchema for LinkedList<T> {
 
 /// The same as `Vec`.
 impl<T: Ord + JsonSchema> JsonSchema for BinaryHeap<T> {
-    ghost name = { seq_name T.name };
-
-    ghost id = { seq_id T.id };
-
-    ghost inline = { true };
-
-    ghost describes = { OfOne T.id (λ n. in_place (shape.seq n)) };
+    ghost says = { seq_row T.says };
 
     fn inline_schema() -> bool {
         Vec::<T>::inline_schema()

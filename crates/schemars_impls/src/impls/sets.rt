@@ -1,12 +1,13 @@
 //! Sets.
-ghost use Rattle.std.specs.Prelude.{◌≡◌, None, true, IfErr, IfOk};
+ghost use Rattle.std.specs.Prelude.{◌≡◌, None, IfErr, IfOk, OnOk};
 ghost use Rattle.std.specs.Cow.{cow_str_bytes};
-ghost use Rattle.schemars_shapes.specs.Shape.{Shape as shape, entry_of, in_place, shape_of};
+ghost use Rattle.schemars_shapes.specs.Shape.{entry_of, shape_of};
 ghost use Rattle.schemars_types.specs.Names.{set_id, set_name};
 ghost use Rattle.schemars_types.specs.Rows.{unknown_in};
-ghost use Rattle.schemars_impls.specs.Describes.{OfOne};
+ghost use Rattle.schemars_impls.specs.Describes.{IsMade};
 ghost use Rattle.schemars_impls.specs.Keeps.{Keeps};
-ghost use Rattle.schemars_impls.specs.Refused.{HasCause};
+ghost use Rattle.schemars_impls.specs.Dictionary.{IsIn, KeepsTo, RefusesAs};
+ghost use Rattle.schemars_impls.specs.Containers.{set_row};
 
 use crate::law::{JsonSchema, entry, register};
 use schemars_types::{Shape, TypeEntry, Types, TypesError};
@@ -16,13 +17,7 @@ use std::collections::{BTreeSet, HashSet};
 use std::hash::{BuildHasher, Hash};
 
 impl<T: Ord + JsonSchema> JsonSchema for BTreeSet<T> {
-    ghost name = { set_name T.name };
-
-    ghost id = { set_id T.id };
-
-    ghost inline = { true };
-
-    ghost describes = { OfOne T.id (λ n. in_place (shape.set n)) };
+    ghost says = { set_row T.says };
 
     fn inline_schema() -> bool {
         true
@@ -42,13 +37,7 @@ impl<T: Ord + JsonSchema> JsonSchema for BTreeSet<T> {
 }
 
 impl<T: Eq + Hash + JsonSchema, S: BuildHasher> JsonSchema for HashSet<T, S> {
-    ghost name = { set_name T.name };
-
-    ghost id = { set_id T.id };
-
-    ghost inline = { true };
-
-    ghost describes = { OfOne T.id (λ n. in_place (shape.set n)) };
+    ghost says = { set_row T.says };
 
     fn inline_schema() -> bool {
         true
@@ -69,7 +58,7 @@ impl<T: Eq + Hash + JsonSchema, S: BuildHasher> JsonSchema for HashSet<T, S> {
 
 /// Returns the name of sets of `T`.
 pub(crate) fn set_name<T: JsonSchema>(alloc: Global) -> Result<CowStr<'static>, AllocError>
-    ensures { IfOk result (λ t. cow_str_bytes t ≡ set_name T.name) }
+    ensures { IfOk result (λ t. cow_str_bytes t ≡ set_name T.says.name) }
 {
     let name = T::schema_name(alloc)?;
     Ok(CowStr::Owned(format!(in alloc; "Set_of_{name}")?))
@@ -77,7 +66,7 @@ pub(crate) fn set_name<T: JsonSchema>(alloc: Global) -> Result<CowStr<'static>, 
 
 /// Returns the id of sets of `T`.
 pub(crate) fn set_id<T: JsonSchema>(alloc: Global) -> Result<CowStr<'static>, AllocError>
-    ensures { IfOk result (λ t. cow_str_bytes t ≡ set_id T.id) }
+    ensures { IfOk result (λ t. cow_str_bytes t ≡ set_id T.says.id) }
 {
     let id = T::schema_id(alloc)?;
     Ok(CowStr::Owned(format!(in alloc; "Set<{id}>")?))
@@ -90,9 +79,10 @@ pub(crate) fn set_entry<T: JsonSchema>(
 ) -> Result<TypeEntry, TypesError>
     ensures keeps { Keeps types.old types.new }
     ensures known { IfOk result (λ e. unknown_in types.new (shape_of e.shape) ≡ None) }
-    ensures describes { IfOk result
-        (λ e. OfOne T.id (λ n. in_place (shape.set n)) types.new (entry_of e)) }
-    ensures refused { IfErr result (λ e. HasCause types.new e) }
+    ensures made { IfOk result
+        (λ e. IsMade (set_row T.says).making types.new (entry_of e)) }
+    ensures follows { OnOk result (KeepsTo (IsIn T.says) types.old types.new) }
+    ensures refused { IfErr result (RefusesAs (IsIn T.says) types.old) }
 {
     let n = register::<T>(alloc, types)?;
     Ok(entry(alloc, true, Shape::Set(n)))

@@ -1,9 +1,10 @@
 //! Options, results, bounds and ranges.
 ghost use Rattle.std.specs.Prelude.{codes, false, true};
 ghost use Rattle.schemars_shapes.specs.Shape.{Shape as shape, in_place, without_notes};
-ghost use Rattle.schemars_types.specs.Names.{option_id, option_name, result_id, result_name};
+ghost use Rattle.schemars_types.specs.Names.{result_id, result_name};
 ghost use Rattle.schemars_types.specs.Names.{bound_id, bound_name, range_id, range_name};
-ghost use Rattle.schemars_impls.specs.Describes.{Always, OfOne, OfTwo};
+ghost use Rattle.schemars_impls.specs.Dictionary.{alone, of_one, of_two};
+ghost use Rattle.schemars_impls.specs.Containers.{option_row};
 
 use crate::impls::parts::register_two;
 use crate::law::{JsonSchema, entry, register};
@@ -14,13 +15,7 @@ use std::marker::PhantomData;
 use std::ops::{Bound, Range, RangeInclusive};
 
 impl<T: JsonSchema> JsonSchema for Option<T> {
-    ghost name = { option_name T.name };
-
-    ghost id = { option_id T.id };
-
-    ghost inline = { true };
-
-    ghost describes = { OfOne T.id (λ n. in_place (shape.option n)) };
+    ghost says = { option_row T.says };
 
     fn inline_schema() -> bool {
         true
@@ -43,13 +38,8 @@ impl<T: JsonSchema> JsonSchema for Option<T> {
 }
 
 impl<T: JsonSchema, E: JsonSchema> JsonSchema for Result<T, E> {
-    ghost name = { result_name T.name E.name };
-
-    ghost id = { result_id T.id E.id };
-
-    ghost inline = { false };
-
-    ghost describes = { OfTwo T.id E.id (λ n m. without_notes false (shape.result n m)) };
+    ghost says = { of_two (result_id T.says.id E.says.id) (result_name T.says.name E.says.name)
+        false (λ n m. without_notes false (shape.result n m)) T.says E.says };
 
     fn inline_schema() -> bool {
         false
@@ -72,13 +62,8 @@ impl<T: JsonSchema, E: JsonSchema> JsonSchema for Result<T, E> {
 }
 
 impl<T: JsonSchema> JsonSchema for Bound<T> {
-    ghost name = { bound_name T.name };
-
-    ghost id = { bound_id T.id };
-
-    ghost inline = { false };
-
-    ghost describes = { OfOne T.id (λ n. without_notes false (shape.bound n)) };
+    ghost says = { of_one (bound_id T.says.id) (bound_name T.says.name) false
+        (λ n. without_notes false (shape.bound n)) T.says };
 
     fn inline_schema() -> bool {
         false
@@ -101,13 +86,8 @@ impl<T: JsonSchema> JsonSchema for Bound<T> {
 }
 
 impl<T: JsonSchema> JsonSchema for Range<T> {
-    ghost name = { range_name T.name };
-
-    ghost id = { range_id T.id };
-
-    ghost inline = { false };
-
-    ghost describes = { OfOne T.id (λ n. without_notes false (shape.range n)) };
+    ghost says = { of_one (range_id T.says.id) (range_name T.says.name) false
+        (λ n. without_notes false (shape.range n)) T.says };
 
     fn inline_schema() -> bool {
         false
@@ -131,13 +111,8 @@ impl<T: JsonSchema> JsonSchema for Range<T> {
 
 /// The same as `Range`, for which the end is one of the values.
 impl<T: JsonSchema> JsonSchema for RangeInclusive<T> {
-    ghost name = { range_name T.name };
-
-    ghost id = { range_id T.id };
-
-    ghost inline = { false };
-
-    ghost describes = { OfOne T.id (λ n. without_notes false (shape.range n)) };
+    ghost says = { of_one (range_id T.says.id) (range_name T.says.name) false
+        (λ n. without_notes false (shape.range n)) T.says };
 
     fn inline_schema() -> bool {
         Range::<T>::inline_schema()
@@ -158,13 +133,7 @@ impl<T: JsonSchema> JsonSchema for RangeInclusive<T> {
 
 /// The same as the unit.
 impl<T> JsonSchema for PhantomData<T> {
-    ghost name = { codes "null" };
-
-    ghost id = { codes "null" };
-
-    ghost inline = { true };
-
-    ghost describes = { Always (in_place shape.null) };
+    ghost says = { alone (codes "null") (codes "null") true (in_place shape.null) };
 
     fn inline_schema() -> bool {
         <()>::inline_schema()

@@ -1,14 +1,14 @@
 //! Times, which are structs of seconds and of nanoseconds.
-ghost use Rattle.std.specs.Prelude.{◌≡◌, [], ◌∷◌, None, codes, false, IfErr, IfOk};
+ghost use Rattle.std.specs.Prelude.{◌≡◌, [], ◌∷◌, None, codes, false, IfErr, IfOk, OnOk};
 ghost use Rattle.schemars_shapes.specs.declared.shape.IntKind.TheVariants.{U32, U64};
 ghost use Rattle.schemars_shapes.specs.IntKind.{format_of};
 ghost use Rattle.schemars_shapes.specs.Shape.{bare_fields, entry_of, field_of, fields_of};
 ghost use Rattle.schemars_shapes.specs.Shape.{needed, shape_of};
 ghost use Rattle.schemars_types.specs.Rows.{unknown_in};
 ghost use Rattle.schemars_types.specs.Times.{time_entry};
-ghost use Rattle.schemars_impls.specs.Describes.{OfTwo};
+ghost use Rattle.schemars_impls.specs.Describes.{IsMade, OfTwo};
 ghost use Rattle.schemars_impls.specs.Keeps.{Keeps};
-ghost use Rattle.schemars_impls.specs.Refused.{HasCause};
+ghost use Rattle.schemars_impls.specs.Dictionary.{IsIn, KeepsTo, RefusesAs, of_two};
 
 use crate::impls::parts::register_two;
 use crate::law::{JsonSchema, entry};
@@ -19,14 +19,9 @@ use std::borrow::CowStr;
 use std::time::{Duration, SystemTime};
 
 impl JsonSchema for Duration {
-    ghost name = { codes "Duration" };
-
-    ghost id = { codes "std::time::Duration" };
-
-    ghost inline = { false };
-
-    ghost describes = { OfTwo (format_of U64) (format_of U32)
-        (time_entry (codes "secs") (codes "nanos")) };
+    ghost says = { of_two (codes "std::time::Duration") (codes "Duration") false
+        (time_entry (codes "secs") (codes "nanos")) ⟦<u64 as JsonSchema>⟧.says
+        ⟦<u32 as JsonSchema>⟧.says };
 
     fn inline_schema() -> bool {
         false
@@ -46,14 +41,9 @@ impl JsonSchema for Duration {
 }
 
 impl JsonSchema for SystemTime {
-    ghost name = { codes "SystemTime" };
-
-    ghost id = { codes "std::time::SystemTime" };
-
-    ghost inline = { false };
-
-    ghost describes = { OfTwo (format_of U64) (format_of U32)
-        (time_entry (codes "secs_since_epoch") (codes "nanos_since_epoch")) };
+    ghost says = { of_two (codes "std::time::SystemTime") (codes "SystemTime") false
+        (time_entry (codes "secs_since_epoch") (codes "nanos_since_epoch"))
+        ⟦<u64 as JsonSchema>⟧.says ⟦<u32 as JsonSchema>⟧.says };
 
     fn inline_schema() -> bool {
         false
@@ -80,9 +70,13 @@ fn time_entry(
 ) -> Result<TypeEntry, TypesError>
     ensures keeps { Keeps types.old types.new }
     ensures known { IfOk result (λ e. unknown_in types.new (shape_of e.shape) ≡ None) }
-    ensures describes { IfOk result (λ e. OfTwo (format_of U64) (format_of U32)
-        (time_entry seconds.now nanoseconds.now) types.new (entry_of e)) }
-    ensures refused { IfErr result (λ e. HasCause types.new e) }
+    ensures made { IfOk result (λ e. IsMade (OfTwo (format_of U64) (format_of U32)
+        (time_entry seconds.now nanoseconds.now)) types.new (entry_of e)) }
+    ensures follows { OnOk result (KeepsTo
+        (λ d. IsIn ⟦<u64 as JsonSchema>⟧.says d × IsIn ⟦<u32 as JsonSchema>⟧.says d)
+        types.old types.new) }
+    ensures refused { IfErr result (RefusesAs
+        (λ d. IsIn ⟦<u64 as JsonSchema>⟧.says d × IsIn ⟦<u32 as JsonSchema>⟧.says d) types.old) }
 {
     let (whole, part) = register_two::<u64, u32>(alloc, types)?;
     let fields = two_needed(alloc, seconds, whole, nanoseconds, part)?;

@@ -1,12 +1,13 @@
 //! Tuples of one part to eight; those of nine to sixteen are in `long`.
-ghost use Rattle.std.specs.Prelude.{◌≡◌, [], ◌∷◌, None, true, IfErr, IfOk};
+ghost use Rattle.std.specs.Prelude.{◌≡◌, [], ◌∷◌, None, IfErr, IfOk, OnOk};
 ghost use Rattle.std.specs.Cow.{cow_str_bytes};
 ghost use Rattle.schemars_shapes.specs.Shape.{Shape as shape, entry_of, in_place, shape_of};
 ghost use Rattle.schemars_types.specs.Names.{tuple_id, tuple_name};
 ghost use Rattle.schemars_types.specs.Rows.{unknown_in};
-ghost use Rattle.schemars_impls.specs.Describes.{OfAll};
+ghost use Rattle.schemars_impls.specs.Describes.{IsMade, OfAll};
 ghost use Rattle.schemars_impls.specs.Keeps.{Keeps};
-ghost use Rattle.schemars_impls.specs.Refused.{HasCause};
+ghost use Rattle.schemars_impls.specs.Dictionary.{IsIn, KeepsTo, RefusesAs};
+ghost use Rattle.schemars_impls.specs.Containers.{tuple_row};
 
 mod long;
 
@@ -34,7 +35,7 @@ type Of7<A, B, C, D, E, F, G> = And<A, Of6<B, C, D, E, F, G>>;
 type Of8<A, B, C, D, E, F, G, H> = And<A, Of7<B, C, D, E, F, G, H>>;
 
 fn name_of<A: JsonSchema, R: Parts>(alloc: Global) -> Result<CowStr<'static>, AllocError>
-    ensures { IfOk result (λ t. cow_str_bytes t ≡ tuple_name (A.name ∷ R.names)) }
+    ensures { IfOk result (λ t. cow_str_bytes t ≡ tuple_name (A.says.name ∷ R.names)) }
 {
     let first = A::schema_name(alloc)?;
     let mut text = String::from_str(alloc, "Tuple_of_")?;
@@ -44,7 +45,7 @@ fn name_of<A: JsonSchema, R: Parts>(alloc: Global) -> Result<CowStr<'static>, Al
 }
 
 fn id_of<A: JsonSchema, R: Parts>(alloc: Global) -> Result<CowStr<'static>, AllocError>
-    ensures { IfOk result (λ t. cow_str_bytes t ≡ tuple_id (A.id ∷ R.ids)) }
+    ensures { IfOk result (λ t. cow_str_bytes t ≡ tuple_id (A.says.id ∷ R.ids)) }
 {
     let first = A::schema_id(alloc)?;
     let mut text = String::from_str(alloc, "(")?;
@@ -57,9 +58,10 @@ fn id_of<A: JsonSchema, R: Parts>(alloc: Global) -> Result<CowStr<'static>, Allo
 fn entry_of_all<P: Parts>(alloc: Global, types: &mut Types) -> Result<TypeEntry, TypesError>
     ensures keeps { Keeps types.old types.new }
     ensures known { IfOk result (λ e. unknown_in types.new (shape_of e.shape) ≡ None) }
-    ensures describes { IfOk result
-        (λ e. OfAll P.ids (λ ns. in_place (shape.tuple ns)) types.new (entry_of e)) }
-    ensures refused { IfErr result (λ e. HasCause types.new e) }
+    ensures made { IfOk result
+        (λ e. IsMade (OfAll P.ids (λ ns. in_place (shape.tuple ns))) types.new (entry_of e)) }
+    ensures follows { OnOk result (KeepsTo P.parts types.old types.new) }
+    ensures refused { IfErr result (RefusesAs P.parts types.old) }
 {
     let mut numbers = Vec::new(alloc);
     P::add(alloc, types, &mut numbers)?;
@@ -67,13 +69,7 @@ fn entry_of_all<P: Parts>(alloc: Global, types: &mut Types) -> Result<TypeEntry,
 }
 
 impl<A: JsonSchema> JsonSchema for (A,) {
-    ghost name = { tuple_name (A.name ∷ []) };
-
-    ghost id = { tuple_id (A.id ∷ []) };
-
-    ghost inline = { true };
-
-    ghost describes = { OfAll (A.id ∷ []) (λ ns. in_place (shape.tuple ns)) };
+    ghost says = { tuple_row (A.says.id ∷ []) (A.says.name ∷ []) (λ d. IsIn A.says d × Unit {0}) };
 
     fn inline_schema() -> bool {
         true
@@ -93,13 +89,10 @@ impl<A: JsonSchema> JsonSchema for (A,) {
 }
 
 impl<A: JsonSchema, B: JsonSchema> JsonSchema for (A, B) {
-    ghost name = { tuple_name (A.name ∷ B.name ∷ []) };
-
-    ghost id = { tuple_id (A.id ∷ B.id ∷ []) };
-
-    ghost inline = { true };
-
-    ghost describes = { OfAll (A.id ∷ B.id ∷ []) (λ ns. in_place (shape.tuple ns)) };
+    ghost says = { tuple_row
+        (A.says.id ∷ B.says.id ∷ [])
+        (A.says.name ∷ B.says.name ∷ [])
+        (λ d. IsIn A.says d × IsIn B.says d × Unit {0}) };
 
     fn inline_schema() -> bool {
         true
@@ -119,13 +112,10 @@ impl<A: JsonSchema, B: JsonSchema> JsonSchema for (A, B) {
 }
 
 impl<A: JsonSchema, B: JsonSchema, C: JsonSchema> JsonSchema for (A, B, C) {
-    ghost name = { tuple_name (A.name ∷ B.name ∷ C.name ∷ []) };
-
-    ghost id = { tuple_id (A.id ∷ B.id ∷ C.id ∷ []) };
-
-    ghost inline = { true };
-
-    ghost describes = { OfAll (A.id ∷ B.id ∷ C.id ∷ []) (λ ns. in_place (shape.tuple ns)) };
+    ghost says = { tuple_row
+        (A.says.id ∷ B.says.id ∷ C.says.id ∷ [])
+        (A.says.name ∷ B.says.name ∷ C.says.name ∷ [])
+        (λ d. IsIn A.says d × IsIn B.says d × IsIn C.says d × Unit {0}) };
 
     fn inline_schema() -> bool {
         true
@@ -145,13 +135,10 @@ impl<A: JsonSchema, B: JsonSchema, C: JsonSchema> JsonSchema for (A, B, C) {
 }
 
 impl<A: JsonSchema, B: JsonSchema, C: JsonSchema, D: JsonSchema> JsonSchema for (A, B, C, D) {
-    ghost name = { tuple_name (A.name ∷ B.name ∷ C.name ∷ D.name ∷ []) };
-
-    ghost id = { tuple_id (A.id ∷ B.id ∷ C.id ∷ D.id ∷ []) };
-
-    ghost inline = { true };
-
-    ghost describes = { OfAll (A.id ∷ B.id ∷ C.id ∷ D.id ∷ []) (λ ns. in_place (shape.tuple ns)) };
+    ghost says = { tuple_row
+        (A.says.id ∷ B.says.id ∷ C.says.id ∷ D.says.id ∷ [])
+        (A.says.name ∷ B.says.name ∷ C.says.name ∷ D.says.name ∷ [])
+        (λ d. IsIn A.says d × IsIn B.says d × IsIn C.says d × IsIn D.says d × Unit {0}) };
 
     fn inline_schema() -> bool {
         true
@@ -172,14 +159,11 @@ impl<A: JsonSchema, B: JsonSchema, C: JsonSchema, D: JsonSchema> JsonSchema for 
 
 impl<A: JsonSchema, B: JsonSchema, C: JsonSchema, D: JsonSchema, E: JsonSchema> JsonSchema
     for (A, B, C, D, E) {
-    ghost name = { tuple_name (A.name ∷ B.name ∷ C.name ∷ D.name ∷ E.name ∷ []) };
-
-    ghost id = { tuple_id (A.id ∷ B.id ∷ C.id ∷ D.id ∷ E.id ∷ []) };
-
-    ghost inline = { true };
-
-    ghost describes = { OfAll (
-        A.id ∷ B.id ∷ C.id ∷ D.id ∷ E.id ∷ []) (λ ns. in_place (shape.tuple ns)) };
+    ghost says = { tuple_row
+        (A.says.id ∷ B.says.id ∷ C.says.id ∷ D.says.id ∷ E.says.id ∷ [])
+        (A.says.name ∷ B.says.name ∷ C.says.name ∷ D.says.name ∷ E.says.name ∷ [])
+        (λ d. IsIn A.says d × IsIn B.says d × IsIn C.says d × IsIn D.says d × IsIn E.says d ×
+            Unit {0}) };
 
     fn inline_schema() -> bool {
         true
@@ -206,15 +190,11 @@ impl<
     E: JsonSchema,
     F: JsonSchema,
 > JsonSchema for (A, B, C, D, E, F) {
-    ghost name = { tuple_name (A.name ∷ B.name ∷ C.name ∷ D.name ∷ E.name ∷ F.name ∷ []) };
-
-    ghost id = { tuple_id (A.id ∷ B.id ∷ C.id ∷ D.id ∷ E.id ∷ F.id ∷ []) };
-
-    ghost inline = { true };
-
-    ghost describes = { OfAll (
-        A.id ∷ B.id ∷ C.id ∷ D.id ∷ E.id ∷ F.id ∷ [])
-        (λ ns. in_place (shape.tuple ns)) };
+    ghost says = { tuple_row
+        (A.says.id ∷ B.says.id ∷ C.says.id ∷ D.says.id ∷ E.says.id ∷ F.says.id ∷ [])
+        (A.says.name ∷ B.says.name ∷ C.says.name ∷ D.says.name ∷ E.says.name ∷ F.says.name ∷ [])
+        (λ d. IsIn A.says d × IsIn B.says d × IsIn C.says d × IsIn D.says d × IsIn E.says d ×
+            IsIn F.says d × Unit {0}) };
 
     fn inline_schema() -> bool {
         true
@@ -242,16 +222,12 @@ impl<
     F: JsonSchema,
     G: JsonSchema,
 > JsonSchema for (A, B, C, D, E, F, G) {
-    ghost name = { tuple_name (
-        A.name ∷ B.name ∷ C.name ∷ D.name ∷ E.name ∷ F.name ∷ G.name ∷ []) };
-
-    ghost id = { tuple_id (A.id ∷ B.id ∷ C.id ∷ D.id ∷ E.id ∷ F.id ∷ G.id ∷ []) };
-
-    ghost inline = { true };
-
-    ghost describes = { OfAll (
-        A.id ∷ B.id ∷ C.id ∷ D.id ∷ E.id ∷ F.id ∷ G.id ∷ [])
-        (λ ns. in_place (shape.tuple ns)) };
+    ghost says = { tuple_row
+        (A.says.id ∷ B.says.id ∷ C.says.id ∷ D.says.id ∷ E.says.id ∷ F.says.id ∷ G.says.id ∷ [])
+        (A.says.name ∷ B.says.name ∷ C.says.name ∷ D.says.name ∷ E.says.name ∷ F.says.name ∷
+            G.says.name ∷ [])
+        (λ d. IsIn A.says d × IsIn B.says d × IsIn C.says d × IsIn D.says d × IsIn E.says d ×
+            IsIn F.says d × IsIn G.says d × Unit {0}) };
 
     fn inline_schema() -> bool {
         true
@@ -280,16 +256,13 @@ impl<
     G: JsonSchema,
     H: JsonSchema,
 > JsonSchema for (A, B, C, D, E, F, G, H) {
-    ghost name = { tuple_name (
-        A.name ∷ B.name ∷ C.name ∷ D.name ∷ E.name ∷ F.name ∷ G.name ∷ H.name ∷ []) };
-
-    ghost id = { tuple_id (A.id ∷ B.id ∷ C.id ∷ D.id ∷ E.id ∷ F.id ∷ G.id ∷ H.id ∷ []) };
-
-    ghost inline = { true };
-
-    ghost describes = { OfAll (
-        A.id ∷ B.id ∷ C.id ∷ D.id ∷ E.id ∷ F.id ∷ G.id ∷ H.id ∷ [])
-        (λ ns. in_place (shape.tuple ns)) };
+    ghost says = { tuple_row
+        (A.says.id ∷ B.says.id ∷ C.says.id ∷ D.says.id ∷ E.says.id ∷ F.says.id ∷ G.says.id ∷
+            H.says.id ∷ [])
+        (A.says.name ∷ B.says.name ∷ C.says.name ∷ D.says.name ∷ E.says.name ∷ F.says.name ∷
+            G.says.name ∷ H.says.name ∷ [])
+        (λ d. IsIn A.says d × IsIn B.says d × IsIn C.says d × IsIn D.says d × IsIn E.says d ×
+            IsIn F.says d × IsIn G.says d × IsIn H.says d × Unit {0}) };
 
     fn inline_schema() -> bool {
         true

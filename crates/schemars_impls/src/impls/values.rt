@@ -1,7 +1,7 @@
 //! JSON values, numbers and schemas.
 ghost use Rattle.std.specs.Prelude.{codes, false, true};
 ghost use Rattle.schemars_shapes.specs.Shape.{Shape as shape, in_place, without_notes};
-ghost use Rattle.schemars_impls.specs.Describes.{Always};
+ghost use Rattle.schemars_impls.specs.Dictionary.{alone};
 
 use crate::law::{JsonSchema, entry};
 use schemars_schema::Schema;
@@ -11,13 +11,7 @@ use std::alloc::{AllocError, Global};
 use std::borrow::CowStr;
 
 impl JsonSchema for Value {
-    ghost name = { codes "AnyValue" };
-
-    ghost id = { codes "AnyValue" };
-
-    ghost inline = { true };
-
-    ghost describes = { Always (in_place shape.any) };
+    ghost says = { alone (codes "AnyValue") (codes "AnyValue") true (in_place shape.any) };
 
     fn inline_schema() -> bool {
         true
@@ -37,13 +31,7 @@ impl JsonSchema for Value {
 }
 
 impl JsonSchema for Number {
-    ghost name = { codes "Number" };
-
-    ghost id = { codes "Number" };
-
-    ghost inline = { true };
-
-    ghost describes = { Always (in_place shape.number) };
+    ghost says = { alone (codes "Number") (codes "Number") true (in_place shape.number) };
 
     fn inline_schema() -> bool {
         true
@@ -63,13 +51,8 @@ impl JsonSchema for Number {
 }
 
 impl JsonSchema for Schema {
-    ghost name = { codes "Schema" };
-
-    ghost id = { codes "schemars::Schema" };
-
-    ghost inline = { false };
-
-    ghost describes = { Always (without_notes false shape.schema_itself) };
+    ghost says = { alone (codes "schemars::Schema") (codes "Schema") false
+        (without_notes false shape.schema_itself) };
 
     fn inline_schema() -> bool {
         false

@@ -9,13 +9,7 @@ use std::cmp::Reverse;
 use std::rc::Rc;
 
 impl<T: JsonSchema> JsonSchema for Box<T> {
-    ghost name = { T.name };
-
-    ghost id = { T.id };
-
-    ghost inline = { T.inline };
-
-    ghost describes = { T.describes };
+    ghost says = { T.says };
 
     fn inline_schema() -> bool {
         T::inline_schema()
@@ -35,13 +29,7 @@ impl<T: JsonSchema> JsonSchema for Box<T> {
 }
 
 impl<T: JsonSchema> JsonSchema for Rc<T> {
-    ghost name = { T.name };
-
-    ghost id = { T.id };
-
-    ghost inline = { T.inline };
-
-    ghost describes = { T.describes };
+    ghost says = { T.says };
 
     fn inline_schema() -> bool {
         T::inline_schema()
@@ -61,13 +49,7 @@ impl<T: JsonSchema> JsonSchema for Rc<T> {
 }
 
 impl<T: JsonSchema> JsonSchema for Cell<T> {
-    ghost name = { T.name };
-
-    ghost id = { T.id };
-
-    ghost inline = { T.inline };
-
-    ghost describes = { T.describes };
+    ghost says = { T.says };
 
     fn inline_schema() -> bool {
         T::inline_schema()
@@ -87,13 +69,7 @@ impl<T: JsonSchema> JsonSchema for Cell<T> {
 }
 
 impl<T: JsonSchema> JsonSchema for RefCell<T> {
-    ghost name = { T.name };
-
-    ghost id = { T.id };
-
-    ghost inline = { T.inline };
-
-    ghost describes = { T.describes };
+    ghost says = { T.says };
 
     fn inline_schema() -> bool {
         T::inline_schema()
@@ -113,13 +89,7 @@ impl<T: JsonSchema> JsonSchema for RefCell<T> {
 }
 
 impl<T: JsonSchema> JsonSchema for Cow<'_, T> {
-    ghost name = { T.name };
-
-    ghost id = { T.id };
-
-    ghost inline = { T.inline };
-
-    ghost describes = { T.describes };
+    ghost says = { T.says };
 
     fn inline_schema() -> bool {
         T::inline_schema()
@@ -139,13 +109,7 @@ impl<T: JsonSchema> JsonSchema for Cow<'_, T> {
 }
 
 impl<T: JsonSchema> JsonSchema for Reverse<T> {
-    ghost name = { T.name };
-
-    ghost id = { T.id };
-
-    ghost inline = { T.inline };
-
-    ghost describes = { T.describes };
+    ghost says = { T.says };
 
     fn inline_schema() -> bool {
         T::inline_schema()
@@ -165,13 +129,7 @@ impl<T: JsonSchema> JsonSchema for Reverse<T> {
 }
 
 impl<T: JsonSchema> JsonSchema for &T {
-    ghost name = { T.name };
-
-    ghost id = { T.id };
-
-    ghost inline = { T.inline };
-
-    ghost describes = { T.describes };
+    ghost says = { T.says };
 
     fn inline_schema() -> bool {
         T::inline_schema()
@@ -191,13 +149,7 @@ impl<T: JsonSchema> JsonSchema for &T {
 }
 
 impl<T: JsonSchema> JsonSchema for &mut T {
-    ghost name = { T.name };
-
-    ghost id = { T.id };
-
-    ghost inline = { T.inline };
-
-    ghost describes = { T.describes };
+    ghost says = { T.says };
 
     fn inline_schema() -> bool {
         T::inline_schema()

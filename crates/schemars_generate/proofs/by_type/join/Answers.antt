@@ -3,7 +3,7 @@ use Rattle.schemars_types.specs.Faults.{IsChecked}
 use Rattle.schemars_types.proofs.Registered.{place_of-below}
 use Rattle.schemars_headline.proofs.Calls.{err_told}
 use Rattle.schemars_generate.specs.ByType.{IsTypeRefusal}
-use Rattle.schemars_generate.proofs.ByType.{begins, joined, type_refusal, check_refusal}
+use Rattle.schemars_generate.proofs.ByType.{begins, registered, type_refusal, check_refusal}
 use Rattle.schemars_generate.proofs.by_type.join.Goals as goal
 
 pub returns-in_err-n-clause-begins : goal.returns-in_err-n-clause-begins
@@ -11,10 +11,10 @@ returns-in_err-n-clause-begins g c = begins c.args.types.now c.register.new.type
 
 pub returns-in_err-n-clause-refused : goal.returns-in_err-n-clause-refused
 returns-in_err-n-clause-refused g c =
-    let P = IsTypeRefusal c.args.types.now in
+    let P = IsTypeRefusal g.T.JsonSchema.says c.args.types.now in
     let why = c.in_err-n.ensures in
     err_told c.from_residual.result P _ c.from_residual.ensures.1
-    (λ e is. subst P (sym is) (type_refusal _ c.register.new.types c.in_err-n.field-0.0 why.keeps why.refused))
+    (λ e is. subst P (sym is) (type_refusal g.T.JsonSchema.says c.args.types.now c.in_err-n.field-0.0 why.refused))
 
 pub check_from-requires : goal.check_from-requires
 check_from-requires g c =
@@ -28,21 +28,26 @@ returns-in_err-check_from-clause-begins g c =
 
 pub returns-in_err-check_from-clause-refused : goal.returns-in_err-check_from-clause-refused
 returns-in_err-check_from-clause-refused g c =
-    let P = IsTypeRefusal c.args.types.now in
-    let kept = c.in_ok-n.ensures.keeps in
+    let P = IsTypeRefusal g.T.JsonSchema.says c.args.types.now in
+    let made = c.in_ok-n.ensures in
+    let is = registered g.T.JsonSchema.says c.args.types.now c.register.new.types c.in_ok-n.n c.requires.checked.1 made.keeps made.added
+    made.present made.follows in
     err_told c.from_residual-in_err-check_from.result P _ c.from_residual-in_err-check_from.ensures.1
-    (λ e is. subst P (sym is)
-    (check_refusal _ c.register.new.types c.in_err-check_from.field-0.0 kept c.in_err-check_from.ensures.refused))
+    (λ e told. subst P (sym told)
+    (check_refusal _ _ c.register.new.types c.in_ok-n.n c.in_err-check_from.field-0.0 c.requires.checked.0 is
+    c.in_err-check_from.ensures.refused))
 
 pub returns-clause-begins : goal.returns-clause-begins
 returns-clause-begins g c = begins c.args.types.now c.register.new.types c.requires.checked.1 c.in_ok-n.ensures.keeps
 
 pub returns-clause-joined : goal.returns-clause-joined
 returns-clause-joined g c =
-    let t = g.T.JsonSchema in
     let made = c.in_ok-n.ensures in
-    joined t.id t.inline t.describes c.args.types.now c.register.new.types c.in_ok-n.n c.requires.checked.1 made.keeps made.number
-    made.described c.in_ok-check_from.ensures.accepted
+    record {
+      registered = registered g.T.JsonSchema.says c.args.types.now c.register.new.types c.in_ok-n.n c.requires.checked.1 made.keeps
+          made.added made.present made.follows;
+      accepted = c.in_ok-check_from.ensures.accepted;
+    }
 
 pub returns-clause-known : goal.returns-clause-known
-returns-clause-known g c = place_of-below g.T.JsonSchema.id c.register.new.types c.in_ok-n.n c.in_ok-n.ensures.number
+returns-clause-known g c = place_of-below g.T.JsonSchema.says.id c.register.new.types c.in_ok-n.n c.in_ok-n.ensures.added.number

@@ -3,7 +3,9 @@ use Rattle.schemars_build.specs.Work.{Work}
 use Rattle.schemars_documents.specs.Template.{part}
 use Rattle.schemars_generate.specs.Answers.{IsAnswerFor}
 use Rattle.schemars_generate.specs.Generator.{state_of}
-use Rattle.schemars_generate.proofs.ByType.{subschema_own, subschema_in_table}
+use Rattle.schemars_generate.proofs.ByType.{subschema_in_table}
+use Rattle.schemars_generate.proofs.Answered.{keeps_answer}
+use Rattle.schemars_headline.proofs.Larger.{more_types_own}
 use Rattle.schemars_generate.proofs.by_type.subschema_of.Goals as goal
 
 pub returns-clause-subschema : goal.returns-clause-subschema
@@ -21,13 +23,17 @@ returns-clause-subschema g c =
 
 pub returns-clause-own : goal.returns-clause-own
 returns-clause-own g c =
+    let old = state_of c.args.settings.now c.args.types.now c.args.work.now in
+    λ own. more_types_own old c.join.new.types c.requires.checked.1 c.in_ok-n.ensures.joined.registered.begins own
+
+pub returns-clause-keeps : goal.returns-clause-keeps
+returns-clause-keeps g c =
     let n = c.in_ok-n.n in
     let d = c.in_ok-schema.schema in
-    let old = state_of c.args.settings.now c.args.types.now c.args.work.now in
+    let s = state_of c.args.settings.now c.join.new.types c.args.work.now in
     let new = state_of c.args.settings.now c.join.new.types c.answer_of.new.work in
     let P : Work → Type 0 = λ w. IsAnswerFor (state_of c.args.settings.now c.join.new.types w) new (part n) d in
-    λ own. subschema_own old new n d refl c.requires.checked.1 c.in_ok-n.ensures.joined.begins
-    (subst P c.extend.ensures c.in_ok-schema.ensures.answer) own
+    keeps_answer s new (part n) d refl (subst P c.extend.ensures c.in_ok-schema.ensures.answer)
 
 pub returns-clause-held : goal.returns-clause-held
 returns-clause-held g c = record {

@@ -1,11 +1,13 @@
-use Rattle.std.proofs.Common.{Some, is_some, string_bytes, sym, ◌∙◌, ap, rules}
+use Rattle.std.proofs.Common.{Some, Option, is_some, refl, string_bytes, sym, ◌∙◌, ap, subst, ◌≡◌, Bool, true, false, rules}
 use Rattle.schemars_shapes.specs.Shape.{Entry, entry_of}
-use Rattle.schemars_types.specs.Rows.{place_of}
+use Rattle.schemars_types.specs.Rows.{place_of, entry_at, reserved}
 use Rattle.schemars_impls.specs.Describes.{entry_under}
-use Rattle.schemars_impls.specs.Refused.{HasCause}
+use Rattle.schemars_impls.specs.Dictionary.{IsIn, RefusesType, RefusesAs}
 use Rattle.schemars_impls.proofs.Keeping.{keeps-refl, keeps-same, keeps-trans, reserved-then, place_of-kept, define-keeps}
-use Rattle.schemars_impls.proofs.Keeping.{defined-there, undefined-reserved, never_there, reserved-same, defined-reserved, never_absent}
-use Rattle.schemars_impls.proofs.Refusing.{define_cause}
+use Rattle.schemars_impls.proofs.Keeping.{reserved-same, defined-reserved, undefined-reserved, defined-there}
+use Rattle.schemars_impls.proofs.Following.{made-kept}
+use Rattle.schemars_impls.proofs.Registering.{is_some-map, part-refused, never-refused, registered-follows, registered-completes}
+use Rattle.schemars_impls.proofs.Registering.{present-follows, present-completes, reserved-name, never-present}
 use Rattle.schemars_impls.proofs.law.register.Goals as goal
 
 pub returns-in_err-schema_id-clause-keeps : goal.returns-in_err-schema_id-clause-keeps
@@ -33,74 +35,200 @@ returns-in_err-define-clause-keeps g c =
 pub returns-then-is_some-clause-keeps : goal.returns-then-is_some-clause-keeps
 returns-then-is_some-clause-keeps g c = reserved-then _ _ c.in_ok-n.ensures.ok (keeps-refl _)
 
-pub returns-then-is_some-clause-number : goal.returns-then-is_some-clause-number
-returns-then-is_some-clause-number g c =
-    ap (λ i. place_of i c.reserve.new.self) (sym (c.in_ok-id.ensures.ok ∙ c.in_ok-schema_id.ensures)) ∙ c.in_ok-n.ensures.number
-
-pub returns-then-is_some-clause-described : goal.returns-then-is_some-clause-described
-returns-then-is_some-clause-described g c = λ undefined.
-    let id_is = c.in_ok-id.ensures.ok ∙ c.in_ok-schema_id.ensures in
-    let none = undefined-reserved (string_bytes c.in_ok-id.id) (string_bytes c.in_ok-name.name) c.args.types.now c.reserve.new.self
-    c.in_ok-n.n (ap (λ i. entry_under i c.args.types.now) id_is ∙ undefined) c.in_ok-n.ensures.ok c.in_ok-n.ensures.number in
-    absurd (never_there c.entry.result (λ e. entry_of e.now) (sym c.is_some.ensures ∙ c.if-is_some.true) (c.entry.ensures ∙ none))
-
 pub returns-clause-keeps : goal.returns-clause-keeps
 returns-clause-keeps g c =
     keeps-trans (reserved-then _ _ c.in_ok-n.ensures.ok c.in_ok-entry.ensures.keeps)
     (define-keeps _ _ _ _ c.in_ok-define.ensures.refused c.in_ok-define.ensures.ok)
 
-pub returns-clause-number : goal.returns-clause-number
-returns-clause-number g c =
-    place_of-kept _ _
-    (keeps-trans c.in_ok-entry.ensures.keeps (define-keeps _ _ _ _ c.in_ok-define.ensures.refused c.in_ok-define.ensures.ok))
-    (ap (λ i. place_of i c.reserve.new.self) (sym (c.in_ok-id.ensures.ok ∙ c.in_ok-schema_id.ensures)) ∙ c.in_ok-n.ensures.number)
-
-pub returns-clause-described : goal.returns-clause-described
-returns-clause-described g c = λ undefined.
-    let e : Entry = entry_of c.in_ok-entry.entry in
-    let there = place_of-kept _ _ c.in_ok-entry.ensures.keeps c.in_ok-n.ensures.number in
+pub returns-then-is_some-clause-added : goal.returns-then-is_some-clause-added
+returns-then-is_some-clause-added g c =
+    let t = g.T.JsonSchema.says in
+    let id_is = c.in_ok-id.ensures.ok ∙ c.in_ok-schema_id.ensures in
+    let name_is = c.in_ok-name.ensures.ok ∙ c.in_ok-schema_name.ensures in
+    let mid = c.reserve.new.self in
+    let mid_is : mid ≡ reserved t.id t.name c.args.types.now = c.in_ok-n.ensures.ok
+    ∙ ap (λ i. reserved i (string_bytes c.in_ok-name.name) c.args.types.now) id_is
+    ∙ ap (λ x. reserved t.id x c.args.types.now) name_is in
+    let there : place_of t.id mid ≡ Some c.in_ok-n.n = ap (λ i. place_of i mid) (sym id_is) ∙ c.in_ok-n.ensures.number in
+    let full = ap is_some (sym c.entry.ensures) ∙ is_some-map (λ e. entry_of e.now) c.entry.result ∙ sym c.is_some.ensures in
     record {
-      before = c.json_schema.new.types;
-      kept = define-keeps _ _ _ _ c.in_ok-define.ensures.refused c.in_ok-define.ensures.ok;
-      entry = e;
-      described = c.in_ok-entry.ensures.describes;
-      is = defined-there _ _ _ c.in_ok-n.n _ there c.in_ok-define.ensures.ok
-          ∙ ap (λ b. Some (record e { inline = b })) c.inline_schema.ensures;
+      number = there;
+      name = λ none. reserved-name t.id t.name c.args.types.now mid mid c.in_ok-n.n mid_is there (keeps-refl mid) none;
+      described = λ undefined.
+          let none = undefined-reserved t.id t.name c.args.types.now mid c.in_ok-n.n undefined mid_is there in
+          let never : true ≡ false = sym (full ∙ c.if-is_some.true) ∙ ap is_some none in
+          cc;
+    }
+
+pub returns-clause-added : goal.returns-clause-added
+returns-clause-added g c =
+    let t = g.T.JsonSchema.says in
+    let id_is = c.in_ok-id.ensures.ok ∙ c.in_ok-schema_id.ensures in
+    let name_is = c.in_ok-name.ensures.ok ∙ c.in_ok-schema_name.ensures in
+    let mid = c.reserve.new.self in
+    let mid_is : mid ≡ reserved t.id t.name c.args.types.now = c.in_ok-n.ensures.ok
+    ∙ ap (λ i. reserved i (string_bytes c.in_ok-name.name) c.args.types.now) id_is
+    ∙ ap (λ x. reserved t.id x c.args.types.now) name_is in
+    let there : place_of t.id mid ≡ Some c.in_ok-n.n = ap (λ i. place_of i mid) (sym id_is) ∙ c.in_ok-n.ensures.number in
+    let kept = define-keeps _ _ _ _ c.in_ok-define.ensures.refused c.in_ok-define.ensures.ok in
+    let e : Entry = entry_of c.in_ok-entry.entry in
+    let last = c.json_schema.new.types in
+    let placed = place_of-kept t.id c.in_ok-n.n c.in_ok-entry.ensures.keeps there in
+    record {
+      number = place_of-kept t.id c.in_ok-n.n kept placed;
+      name = λ none. reserved-name t.id t.name c.args.types.now mid _ c.in_ok-n.n mid_is there (keeps-trans c.in_ok-entry.ensures.keeps kept)
+          none;
+      described = λ undefined. record {
+        entry = record e { inline = t.inline };
+        is = defined-there t.id last _ c.in_ok-n.n _ placed c.in_ok-define.ensures.ok
+            ∙ ap (λ b. Some (record e { inline = b })) c.inline_schema.ensures;
+        described = record { given = e; made = made-kept t.making last _ e kept c.in_ok-entry.ensures.made; is = refl };
+      };
     }
 
 pub returns-then-is_some-clause-present : goal.returns-then-is_some-clause-present
-returns-then-is_some-clause-present g c = λ present.
+returns-then-is_some-clause-present g c =
+    let t = g.T.JsonSchema.says in
     let id_is = c.in_ok-id.ensures.ok ∙ c.in_ok-schema_id.ensures in
-    reserved-same (string_bytes c.in_ok-id.id) (string_bytes c.in_ok-name.name) c.args.types.now c.reserve.new.self
-    (ap (λ i. is_some (entry_under i c.args.types.now)) id_is ∙ present) c.in_ok-n.ensures.ok
+    let name_is = c.in_ok-name.ensures.ok ∙ c.in_ok-schema_name.ensures in
+    let mid = c.reserve.new.self in
+    let mid_is : mid ≡ reserved t.id t.name c.args.types.now = c.in_ok-n.ensures.ok
+    ∙ ap (λ i. reserved i (string_bytes c.in_ok-name.name) c.args.types.now) id_is
+    ∙ ap (λ x. reserved t.id x c.args.types.now) name_is in
+    let there : place_of t.id mid ≡ Some c.in_ok-n.n = ap (λ i. place_of i mid) (sym id_is) ∙ c.in_ok-n.ensures.number in
+    λ present. reserved-same t.id t.name c.args.types.now mid present mid_is
 
 pub returns-in_err-entry-clause-present : goal.returns-in_err-entry-clause-present
-returns-in_err-entry-clause-present g c = λ present.
+returns-in_err-entry-clause-present g c =
+    let t = g.T.JsonSchema.says in
     let id_is = c.in_ok-id.ensures.ok ∙ c.in_ok-schema_id.ensures in
-    let there = defined-reserved (string_bytes c.in_ok-id.id) (string_bytes c.in_ok-name.name) c.args.types.now c.reserve.new.self
-    c.in_ok-n.n (ap (λ i. is_some (entry_under i c.args.types.now)) id_is ∙ present) c.in_ok-n.ensures.ok c.in_ok-n.ensures.number in
-    absurd (never_absent c.entry.result (λ e. entry_of e.now) (sym c.is_some.ensures ∙ c.if-is_some.false)
-    (ap is_some c.entry.ensures ∙ there))
+    let name_is = c.in_ok-name.ensures.ok ∙ c.in_ok-schema_name.ensures in
+    let mid = c.reserve.new.self in
+    let mid_is : mid ≡ reserved t.id t.name c.args.types.now = c.in_ok-n.ensures.ok
+    ∙ ap (λ i. reserved i (string_bytes c.in_ok-name.name) c.args.types.now) id_is
+    ∙ ap (λ x. reserved t.id x c.args.types.now) name_is in
+    let there : place_of t.id mid ≡ Some c.in_ok-n.n = ap (λ i. place_of i mid) (sym id_is) ∙ c.in_ok-n.ensures.number in
+    let full = ap is_some (sym c.entry.ensures) ∙ is_some-map (λ e. entry_of e.now) c.entry.result ∙ sym c.is_some.ensures in
+    λ present. absurd (never-present t.id t.name c.args.types.now mid c.in_ok-n.n mid_is there (full ∙ c.if-is_some.false) present)
 
 pub returns-in_err-define-clause-present : goal.returns-in_err-define-clause-present
-returns-in_err-define-clause-present g c = λ present.
+returns-in_err-define-clause-present g c =
+    let t = g.T.JsonSchema.says in
     let id_is = c.in_ok-id.ensures.ok ∙ c.in_ok-schema_id.ensures in
-    let there = defined-reserved (string_bytes c.in_ok-id.id) (string_bytes c.in_ok-name.name) c.args.types.now c.reserve.new.self
-    c.in_ok-n.n (ap (λ i. is_some (entry_under i c.args.types.now)) id_is ∙ present) c.in_ok-n.ensures.ok c.in_ok-n.ensures.number in
-    absurd (never_absent c.entry.result (λ e. entry_of e.now) (sym c.is_some.ensures ∙ c.if-is_some.false)
-    (ap is_some c.entry.ensures ∙ there))
+    let name_is = c.in_ok-name.ensures.ok ∙ c.in_ok-schema_name.ensures in
+    let mid = c.reserve.new.self in
+    let mid_is : mid ≡ reserved t.id t.name c.args.types.now = c.in_ok-n.ensures.ok
+    ∙ ap (λ i. reserved i (string_bytes c.in_ok-name.name) c.args.types.now) id_is
+    ∙ ap (λ x. reserved t.id x c.args.types.now) name_is in
+    let there : place_of t.id mid ≡ Some c.in_ok-n.n = ap (λ i. place_of i mid) (sym id_is) ∙ c.in_ok-n.ensures.number in
+    let full = ap is_some (sym c.entry.ensures) ∙ is_some-map (λ e. entry_of e.now) c.entry.result ∙ sym c.is_some.ensures in
+    λ present. absurd (never-present t.id t.name c.args.types.now mid c.in_ok-n.n mid_is there (full ∙ c.if-is_some.false) present)
 
 pub returns-clause-present : goal.returns-clause-present
-returns-clause-present g c = λ present.
+returns-clause-present g c =
+    let t = g.T.JsonSchema.says in
     let id_is = c.in_ok-id.ensures.ok ∙ c.in_ok-schema_id.ensures in
-    let there = defined-reserved (string_bytes c.in_ok-id.id) (string_bytes c.in_ok-name.name) c.args.types.now c.reserve.new.self
-    c.in_ok-n.n (ap (λ i. is_some (entry_under i c.args.types.now)) id_is ∙ present) c.in_ok-n.ensures.ok c.in_ok-n.ensures.number in
-    absurd (never_absent c.entry.result (λ e. entry_of e.now) (sym c.is_some.ensures ∙ c.if-is_some.false)
-    (ap is_some c.entry.ensures ∙ there))
+    let name_is = c.in_ok-name.ensures.ok ∙ c.in_ok-schema_name.ensures in
+    let mid = c.reserve.new.self in
+    let mid_is : mid ≡ reserved t.id t.name c.args.types.now = c.in_ok-n.ensures.ok
+    ∙ ap (λ i. reserved i (string_bytes c.in_ok-name.name) c.args.types.now) id_is
+    ∙ ap (λ x. reserved t.id x c.args.types.now) name_is in
+    let there : place_of t.id mid ≡ Some c.in_ok-n.n = ap (λ i. place_of i mid) (sym id_is) ∙ c.in_ok-n.ensures.number in
+    let full = ap is_some (sym c.entry.ensures) ∙ is_some-map (λ e. entry_of e.now) c.entry.result ∙ sym c.is_some.ensures in
+    λ present. absurd (never-present t.id t.name c.args.types.now mid c.in_ok-n.n mid_is there (full ∙ c.if-is_some.false) present)
+
+pub returns-then-is_some-clause-follows : goal.returns-then-is_some-clause-follows
+returns-then-is_some-clause-follows g c =
+    let t = g.T.JsonSchema.says in
+    let id_is = c.in_ok-id.ensures.ok ∙ c.in_ok-schema_id.ensures in
+    let name_is = c.in_ok-name.ensures.ok ∙ c.in_ok-schema_name.ensures in
+    let mid = c.reserve.new.self in
+    let mid_is : mid ≡ reserved t.id t.name c.args.types.now = c.in_ok-n.ensures.ok
+    ∙ ap (λ i. reserved i (string_bytes c.in_ok-name.name) c.args.types.now) id_is
+    ∙ ap (λ x. reserved t.id x c.args.types.now) name_is in
+    let there : place_of t.id mid ≡ Some c.in_ok-n.n = ap (λ i. place_of i mid) (sym id_is) ∙ c.in_ok-n.ensures.number in
+    let full = ap is_some (sym c.entry.ensures) ∙ is_some-map (λ e. entry_of e.now) c.entry.result ∙ sym c.is_some.ensures in
+    present-follows t c.args.types.now mid c.in_ok-n.n mid_is there (full ∙ c.if-is_some.true)
+
+pub returns-then-is_some-clause-completes : goal.returns-then-is_some-clause-completes
+returns-then-is_some-clause-completes g c =
+    let t = g.T.JsonSchema.says in
+    let id_is = c.in_ok-id.ensures.ok ∙ c.in_ok-schema_id.ensures in
+    let name_is = c.in_ok-name.ensures.ok ∙ c.in_ok-schema_name.ensures in
+    let mid = c.reserve.new.self in
+    let mid_is : mid ≡ reserved t.id t.name c.args.types.now = c.in_ok-n.ensures.ok
+    ∙ ap (λ i. reserved i (string_bytes c.in_ok-name.name) c.args.types.now) id_is
+    ∙ ap (λ x. reserved t.id x c.args.types.now) name_is in
+    let there : place_of t.id mid ≡ Some c.in_ok-n.n = ap (λ i. place_of i mid) (sym id_is) ∙ c.in_ok-n.ensures.number in
+    let full = ap is_some (sym c.entry.ensures) ∙ is_some-map (λ e. entry_of e.now) c.entry.result ∙ sym c.is_some.ensures in
+    present-completes t c.args.types.now mid c.in_ok-n.n mid_is there (full ∙ c.if-is_some.true)
+
+pub returns-clause-follows : goal.returns-clause-follows
+returns-clause-follows g c =
+    let t = g.T.JsonSchema.says in
+    let id_is = c.in_ok-id.ensures.ok ∙ c.in_ok-schema_id.ensures in
+    let name_is = c.in_ok-name.ensures.ok ∙ c.in_ok-schema_name.ensures in
+    let mid = c.reserve.new.self in
+    let mid_is : mid ≡ reserved t.id t.name c.args.types.now = c.in_ok-n.ensures.ok
+    ∙ ap (λ i. reserved i (string_bytes c.in_ok-name.name) c.args.types.now) id_is
+    ∙ ap (λ x. reserved t.id x c.args.types.now) name_is in
+    let there : place_of t.id mid ≡ Some c.in_ok-n.n = ap (λ i. place_of i mid) (sym id_is) ∙ c.in_ok-n.ensures.number in
+    let full = ap is_some (sym c.entry.ensures) ∙ is_some-map (λ e. entry_of e.now) c.entry.result ∙ sym c.is_some.ensures in
+    registered-follows t c.args.types.now mid c.json_schema.new.types c.in_ok-n.n mid_is there (full ∙ c.if-is_some.false)
+    c.inline_schema.result (entry_of c.in_ok-entry.entry) _ c.inline_schema.ensures c.in_ok-entry.ensures.keeps
+    c.in_ok-entry.ensures.follows c.in_ok-entry.ensures.made c.in_ok-define.ensures.ok
+    (define-keeps _ _ _ _ c.in_ok-define.ensures.refused c.in_ok-define.ensures.ok)
+
+pub returns-clause-completes : goal.returns-clause-completes
+returns-clause-completes g c =
+    let t = g.T.JsonSchema.says in
+    let id_is = c.in_ok-id.ensures.ok ∙ c.in_ok-schema_id.ensures in
+    let name_is = c.in_ok-name.ensures.ok ∙ c.in_ok-schema_name.ensures in
+    let mid = c.reserve.new.self in
+    let mid_is : mid ≡ reserved t.id t.name c.args.types.now = c.in_ok-n.ensures.ok
+    ∙ ap (λ i. reserved i (string_bytes c.in_ok-name.name) c.args.types.now) id_is
+    ∙ ap (λ x. reserved t.id x c.args.types.now) name_is in
+    let there : place_of t.id mid ≡ Some c.in_ok-n.n = ap (λ i. place_of i mid) (sym id_is) ∙ c.in_ok-n.ensures.number in
+    let full = ap is_some (sym c.entry.ensures) ∙ is_some-map (λ e. entry_of e.now) c.entry.result ∙ sym c.is_some.ensures in
+    registered-completes t c.args.types.now mid c.json_schema.new.types c.in_ok-n.n mid_is there (full ∙ c.if-is_some.false)
+    c.inline_schema.result (entry_of c.in_ok-entry.entry) _ c.inline_schema.ensures c.in_ok-entry.ensures.keeps
+    c.in_ok-entry.ensures.follows c.in_ok-entry.ensures.made c.in_ok-define.ensures.ok
+    (define-keeps _ _ _ _ c.in_ok-define.ensures.refused c.in_ok-define.ensures.ok)
+
+pub returns-in_err-entry-clause-refused : goal.returns-in_err-entry-clause-refused
+returns-in_err-entry-clause-refused g c =
+    let t = g.T.JsonSchema.says in
+    let id_is = c.in_ok-id.ensures.ok ∙ c.in_ok-schema_id.ensures in
+    let name_is = c.in_ok-name.ensures.ok ∙ c.in_ok-schema_name.ensures in
+    let mid = c.reserve.new.self in
+    let mid_is : mid ≡ reserved t.id t.name c.args.types.now = c.in_ok-n.ensures.ok
+    ∙ ap (λ i. reserved i (string_bytes c.in_ok-name.name) c.args.types.now) id_is
+    ∙ ap (λ x. reserved t.id x c.args.types.now) name_is in
+    let there : place_of t.id mid ≡ Some c.in_ok-n.n = ap (λ i. place_of i mid) (sym id_is) ∙ c.in_ok-n.ensures.number in
+    let full = ap is_some (sym c.entry.ensures) ∙ is_some-map (λ e. entry_of e.now) c.entry.result ∙ sym c.is_some.ensures in
+    let why : RefusesType t c.args.types.now c.in_err-entry.field-0.0 = record {
+      present = λ present.
+          absurd (never-present t.id t.name c.args.types.now mid c.in_ok-n.n mid_is there (full ∙ c.if-is_some.false) present);
+      as_told = part-refused t c.args.types.now mid mid c.in_ok-n.n mid_is there (full ∙ c.if-is_some.false) _ c.in_err-entry.ensures.refused;
+    } in
+    search rules
 
 pub returns-in_err-define-clause-refused : goal.returns-in_err-define-clause-refused
 returns-in_err-define-clause-refused g c =
-    let cause : HasCause c.define.new.self c.in_err-define.field-0.0 =
-    define_cause _ _ _ (record (entry_of c.in_ok-entry.entry) { inline = c.inline_schema.result }) _ c.in_err-define.ensures.refused
-    c.in_err-define.ensures.err in
+    let t = g.T.JsonSchema.says in
+    let id_is = c.in_ok-id.ensures.ok ∙ c.in_ok-schema_id.ensures in
+    let name_is = c.in_ok-name.ensures.ok ∙ c.in_ok-schema_name.ensures in
+    let mid = c.reserve.new.self in
+    let mid_is : mid ≡ reserved t.id t.name c.args.types.now = c.in_ok-n.ensures.ok
+    ∙ ap (λ i. reserved i (string_bytes c.in_ok-name.name) c.args.types.now) id_is
+    ∙ ap (λ x. reserved t.id x c.args.types.now) name_is in
+    let there : place_of t.id mid ≡ Some c.in_ok-n.n = ap (λ i. place_of i mid) (sym id_is) ∙ c.in_ok-n.ensures.number in
+    let full = ap is_some (sym c.entry.ensures) ∙ is_some-map (λ e. entry_of e.now) c.entry.result ∙ sym c.is_some.ensures in
+    let why : RefusesType t c.args.types.now c.in_err-define.field-0.0 = record {
+      present = λ present.
+          absurd (never-present t.id t.name c.args.types.now mid c.in_ok-n.n mid_is there (full ∙ c.if-is_some.false) present);
+      as_told = never-refused t c.args.types.now mid c.json_schema.new.types c.in_ok-n.n mid_is there (full ∙ c.if-is_some.false)
+          (record (entry_of c.in_ok-entry.entry) { inline = c.inline_schema.result }) _ c.in_ok-entry.ensures.keeps
+          c.in_ok-entry.ensures.follows c.in_ok-entry.ensures.known c.in_err-define.ensures.refused;
+    } in
     search rules

@@ -1,7 +1,7 @@
 //! Byte strings.
 ghost use Rattle.std.specs.Prelude.{codes, false};
 ghost use Rattle.schemars_shapes.specs.Shape.{Shape as shape, without_notes};
-ghost use Rattle.schemars_impls.specs.Describes.{Always};
+ghost use Rattle.schemars_impls.specs.Dictionary.{alone};
 
 use crate::law::{JsonSchema, entry};
 use bytes::{Bytes, BytesMut};
@@ -10,13 +10,8 @@ use std::alloc::{AllocError, Global};
 use std::borrow::CowStr;
 
 impl JsonSchema for Bytes {
-    ghost name = { codes "Bytes" };
-
-    ghost id = { codes "bytes::Bytes" };
-
-    ghost inline = { false };
-
-    ghost describes = { Always (without_notes false shape.bytes) };
+    ghost says = { alone (codes "bytes::Bytes") (codes "Bytes") false
+        (without_notes false shape.bytes) };
 
     fn inline_schema() -> bool {
         false
@@ -37,13 +32,8 @@ impl JsonSchema for Bytes {
 
 /// The same as `Bytes`.
 impl JsonSchema for BytesMut {
-    ghost name = { codes "Bytes" };
-
-    ghost id = { codes "bytes::Bytes" };
-
-    ghost inline = { false };
-
-    ghost describes = { Always (without_notes false shape.bytes) };
+    ghost says = { alone (codes "bytes::Bytes") (codes "Bytes") false
+        (without_notes false shape.bytes) };
 
     fn inline_schema() -> bool {
         Bytes::inline_schema()

@@ -2,7 +2,7 @@
 ghost use Rattle.std.specs.Prelude.{true};
 ghost use Rattle.schemars_shapes.specs.Shape.{Shape as shape, in_place};
 ghost use Rattle.schemars_types.specs.Names.{either_id, either_name};
-ghost use Rattle.schemars_impls.specs.Describes.{OfTwo};
+ghost use Rattle.schemars_impls.specs.Dictionary.{of_two};
 
 use crate::impls::parts::register_two;
 use crate::law::{JsonSchema, entry};
@@ -12,13 +12,8 @@ use std::alloc::{AllocError, Global};
 use std::borrow::CowStr;
 
 impl<L: JsonSchema, R: JsonSchema> JsonSchema for Either<L, R> {
-    ghost name = { either_name L.name R.name };
-
-    ghost id = { either_id L.id R.id };
-
-    ghost inline = { true };
-
-    ghost describes = { OfTwo L.id R.id (λ n m. in_place (shape.either n m)) };
+    ghost says = { of_two (either_id L.says.id R.says.id) (either_name L.says.name R.says.name)
+        true (λ n m. in_place (shape.either n m)) L.says R.says };
 
     fn inline_schema() -> bool {
         true

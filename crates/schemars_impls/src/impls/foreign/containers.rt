@@ -1,9 +1,10 @@
 //! Lists and texts of bounded length, and maps and sets in the order of insertion.
 ghost use Rattle.std.specs.Prelude.{codes, true};
 ghost use Rattle.schemars_shapes.specs.Shape.{Shape as shape, in_place};
-ghost use Rattle.schemars_types.specs.Names.{map_id, map_name, seq_id, seq_name};
+ghost use Rattle.schemars_types.specs.Names.{map_id, map_name};
 ghost use Rattle.schemars_types.specs.Names.{set_id, set_name, up_to_id, up_to_name};
-ghost use Rattle.schemars_impls.specs.Describes.{Always, OfOne, OfTwo};
+ghost use Rattle.schemars_impls.specs.Dictionary.{alone, of_one};
+ghost use Rattle.schemars_impls.specs.Containers.{map_row, seq_row, set_row};
 
 use crate::impls::maps::{map_entry, map_id, map_name};
 use crate::impls::sets::{set_entry, set_id, set_name};
@@ -17,13 +18,8 @@ use std::borrow::CowStr;
 use std::hash::{BuildHasher, Hash};
 
 impl<T: JsonSchema, const CAP: usize, A> JsonSchema for ArrayVec<T, CAP, A> {
-    ghost name = { up_to_name T.name CAP };
-
-    ghost id = { up_to_id T.id CAP };
-
-    ghost inline = { true };
-
-    ghost describes = { OfOne T.id (λ n. in_place (shape.up_to n CAP)) };
+    ghost says = { of_one (up_to_id T.says.id CAP) (up_to_name T.says.name CAP) true
+        (λ n. in_place (shape.up_to n CAP)) T.says };
 
     fn inline_schema() -> bool {
         true
@@ -47,13 +43,7 @@ impl<T: JsonSchema, const CAP: usize, A> JsonSchema for ArrayVec<T, CAP, A> {
 
 /// The same as `String`.
 impl<const CAP: usize> JsonSchema for ArrayString<CAP> {
-    ghost name = { codes "string" };
-
-    ghost id = { codes "string" };
-
-    ghost inline = { true };
-
-    ghost describes = { Always (in_place shape.text) };
+    ghost says = { alone (codes "string") (codes "string") true (in_place shape.text) };
 
     fn inline_schema() -> bool {
         String::inline_schema()
@@ -74,13 +64,7 @@ impl<const CAP: usize> JsonSchema for ArrayString<CAP> {
 
 /// The same as `Vec`.
 impl<T: JsonSchema, const N: usize> JsonSchema for SmallVec<T, N> {
-    ghost name = { seq_name T.name };
-
-    ghost id = { seq_id T.id };
-
-    ghost inline = { true };
-
-    ghost describes = { OfOne T.id (λ n. in_place (shape.seq n)) };
+    ghost says = { seq_row T.says };
 
     fn inline_schema() -> bool {
         Vec::<T>::inline_schema()
@@ -100,13 +84,7 @@ impl<T: JsonSchema, const N: usize> JsonSchema for SmallVec<T, N> {
 }
 
 impl<K: Eq + Hash + JsonSchema, V: JsonSchema, S: BuildHasher> JsonSchema for IndexMap<K, V, S> {
-    ghost name = { map_name K.id K.name V.name };
-
-    ghost id = { map_id K.id V.id };
-
-    ghost inline = { true };
-
-    ghost describes = { OfTwo K.id V.id (λ n m. in_place (shape.map_from n m)) };
+    ghost says = { map_row K.says V.says };
 
     fn inline_schema() -> bool {
         true
@@ -126,13 +104,7 @@ impl<K: Eq + Hash + JsonSchema, V: JsonSchema, S: BuildHasher> JsonSchema for In
 }
 
 impl<T: Eq + Hash + JsonSchema, S: BuildHasher> JsonSchema for IndexSet<T, S> {
-    ghost name = { set_name T.name };
-
-    ghost id = { set_id T.id };
-
-    ghost inline = { true };
-
-    ghost describes = { OfOne T.id (λ n. in_place (shape.set n)) };
+    ghost says = { set_row T.says };
 
     fn inline_schema() -> bool {
         true

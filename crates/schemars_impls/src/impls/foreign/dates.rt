@@ -1,11 +1,10 @@
 //! Dates, times and spans of time, which are texts.
-ghost use Rattle.std.specs.Prelude.{◌≡◌, None, codes, true, IfErr, IfOk};
+ghost use Rattle.std.specs.Prelude.{◌≡◌, None, codes, true, IfErr, IfOk, OnOk};
 ghost use Rattle.std.specs.Cow.{cow_str_bytes};
 ghost use Rattle.schemars_shapes.specs.Shape.{Shape as shape, entry_of, in_place, shape_of};
 ghost use Rattle.schemars_types.specs.Rows.{unknown_in};
-ghost use Rattle.schemars_impls.specs.Describes.{Always};
 ghost use Rattle.schemars_impls.specs.Keeps.{Keeps};
-ghost use Rattle.schemars_impls.specs.Refused.{HasCause};
+ghost use Rattle.schemars_impls.specs.Dictionary.{Describes, RefusesPart, alone};
 
 use crate::law::{JsonSchema, entry};
 use jiff::civil::{Date, DateTime, Time};
@@ -15,13 +14,8 @@ use std::alloc::{AllocError, Global};
 use std::borrow::CowStr;
 
 impl JsonSchema for SignedDuration {
-    ghost name = { codes "SignedDuration" };
-
-    ghost id = { codes "jiff::SignedDuration" };
-
-    ghost inline = { true };
-
-    ghost describes = { Always (in_place (shape.formatted (codes "duration"))) };
+    ghost says = { alone (codes "jiff::SignedDuration") (codes "SignedDuration") true
+        (in_place (shape.formatted (codes "duration"))) };
 
     fn inline_schema() -> bool {
         true
@@ -42,13 +36,8 @@ impl JsonSchema for SignedDuration {
 }
 
 impl JsonSchema for Span {
-    ghost name = { codes "Span" };
-
-    ghost id = { codes "jiff::Span" };
-
-    ghost inline = { true };
-
-    ghost describes = { Always (in_place (shape.formatted (codes "duration"))) };
+    ghost says = { alone (codes "jiff::Span") (codes "Span") true
+        (in_place (shape.formatted (codes "duration"))) };
 
     fn inline_schema() -> bool {
         true
@@ -69,13 +58,8 @@ impl JsonSchema for Span {
 }
 
 impl JsonSchema for Timestamp {
-    ghost name = { codes "Timestamp" };
-
-    ghost id = { codes "jiff::Timestamp" };
-
-    ghost inline = { true };
-
-    ghost describes = { Always (in_place (shape.formatted (codes "date-time"))) };
+    ghost says = { alone (codes "jiff::Timestamp") (codes "Timestamp") true
+        (in_place (shape.formatted (codes "date-time"))) };
 
     fn inline_schema() -> bool {
         true
@@ -96,13 +80,8 @@ impl JsonSchema for Timestamp {
 }
 
 impl<'a> JsonSchema for Zoned<'a> {
-    ghost name = { codes "Zoned" };
-
-    ghost id = { codes "jiff::Zoned" };
-
-    ghost inline = { true };
-
-    ghost describes = { Always (in_place (shape.formatted (codes "zoned-date-time"))) };
+    ghost says = { alone (codes "jiff::Zoned") (codes "Zoned") true
+        (in_place (shape.formatted (codes "zoned-date-time"))) };
 
     fn inline_schema() -> bool
         ensures { result ≡ true }
@@ -125,9 +104,14 @@ impl<'a> JsonSchema for Zoned<'a> {
     fn json_schema(alloc: Global, types: &mut Types) -> Result<TypeEntry, TypesError>
         ensures keeps { Keeps types.old types.new }
         ensures known { IfOk result (λ e. unknown_in types.new (shape_of e.shape) ≡ None) }
-        ensures describes { IfOk result (λ e.
-            Always (in_place (shape.formatted (codes "zoned-date-time"))) types.new (entry_of e)) }
-        ensures refused { IfErr result (λ e. HasCause types.new e) }
+        ensures made { IfOk result (λ e.
+            entry_of e ≡ in_place (shape.formatted (codes "zoned-date-time"))) }
+        ensures follows { OnOk result (Describes
+            (alone (codes "jiff::Zoned") (codes "Zoned") true
+            (in_place (shape.formatted (codes "zoned-date-time")))) types.old types.new) }
+        ensures refused { IfErr result (RefusesPart
+            (alone (codes "jiff::Zoned") (codes "Zoned") true
+            (in_place (shape.formatted (codes "zoned-date-time")))) types.old) }
     {
         let format = String::from_str(alloc, "zoned-date-time")?;
         Ok(entry(alloc, true, Shape::Formatted(format)))
@@ -135,13 +119,8 @@ impl<'a> JsonSchema for Zoned<'a> {
 }
 
 impl JsonSchema for Date {
-    ghost name = { codes "Date" };
-
-    ghost id = { codes "jiff::Date" };
-
-    ghost inline = { true };
-
-    ghost describes = { Always (in_place (shape.formatted (codes "date"))) };
+    ghost says = { alone (codes "jiff::Date") (codes "Date") true
+        (in_place (shape.formatted (codes "date"))) };
 
     fn inline_schema() -> bool {
         true
@@ -162,13 +141,8 @@ impl JsonSchema for Date {
 }
 
 impl JsonSchema for Time {
-    ghost name = { codes "Time" };
-
-    ghost id = { codes "jiff::Time" };
-
-    ghost inline = { true };
-
-    ghost describes = { Always (in_place (shape.formatted (codes "partial-time"))) };
+    ghost says = { alone (codes "jiff::Time") (codes "Time") true
+        (in_place (shape.formatted (codes "partial-time"))) };
 
     fn inline_schema() -> bool {
         true
@@ -189,13 +163,8 @@ impl JsonSchema for Time {
 }
 
 impl JsonSchema for DateTime {
-    ghost name = { codes "DateTime" };
-
-    ghost id = { codes "jiff::DateTime" };
-
-    ghost inline = { true };
-
-    ghost describes = { Always (in_place (shape.formatted (codes "partial-date-time"))) };
+    ghost says = { alone (codes "jiff::DateTime") (codes "DateTime") true
+        (in_place (shape.formatted (codes "partial-date-time"))) };
 
     fn inline_schema() -> bool {
         true

@@ -4,7 +4,7 @@ ghost use Rattle.schemars_shapes.specs.Shape.{Shape as shape, in_place, without_
 ghost use Rattle.schemars_schema.specs.SchemaData.{inserted};
 ghost use Rattle.schemars_types.specs.Version.{version_schema};
 ghost use Rattle.serde_json.specs.Data.{string};
-ghost use Rattle.schemars_impls.specs.Describes.{Always};
+ghost use Rattle.schemars_impls.specs.Dictionary.{alone};
 
 use crate::law::{JsonSchema, entry};
 use schemars_schema::Schema;
@@ -17,13 +17,8 @@ use url::Url;
 use uuid::Uuid;
 
 impl JsonSchema for Url {
-    ghost name = { codes "Url" };
-
-    ghost id = { codes "url::Url" };
-
-    ghost inline = { true };
-
-    ghost describes = { Always (in_place (shape.formatted (codes "uri"))) };
+    ghost says = { alone (codes "url::Url") (codes "Url") true
+        (in_place (shape.formatted (codes "uri"))) };
 
     fn inline_schema() -> bool {
         true
@@ -44,13 +39,8 @@ impl JsonSchema for Url {
 }
 
 impl JsonSchema for Uuid {
-    ghost name = { codes "Uuid" };
-
-    ghost id = { codes "uuid::Uuid" };
-
-    ghost inline = { true };
-
-    ghost describes = { Always (in_place (shape.formatted (codes "uuid"))) };
+    ghost says = { alone (codes "uuid::Uuid") (codes "Uuid") true
+        (in_place (shape.formatted (codes "uuid"))) };
 
     fn inline_schema() -> bool {
         true
@@ -71,13 +61,8 @@ impl JsonSchema for Uuid {
 }
 
 impl JsonSchema for Version {
-    ghost name = { codes "SemVer" };
-
-    ghost id = { codes "semver::Version" };
-
-    ghost inline = { false };
-
-    ghost describes = { Always (without_notes false (shape.literal version_schema)) };
+    ghost says = { alone (codes "semver::Version") (codes "SemVer") false
+        (without_notes false (shape.literal version_schema)) };
 
     fn inline_schema() -> bool {
         false

@@ -1,8 +1,7 @@
 //! Tuples of nine parts to sixteen.
 ghost use Rattle.std.specs.Prelude.{[], ◌∷◌, true};
-ghost use Rattle.schemars_shapes.specs.Shape.{Shape as shape, in_place};
-ghost use Rattle.schemars_types.specs.Names.{tuple_id, tuple_name};
-ghost use Rattle.schemars_impls.specs.Describes.{OfAll};
+ghost use Rattle.schemars_impls.specs.Dictionary.{IsIn};
+ghost use Rattle.schemars_impls.specs.Containers.{tuple_row};
 
 use crate::impls::parts::And;
 use crate::impls::tuples::{Of8, entry_of_all, id_of, name_of};
@@ -48,17 +47,13 @@ impl<
     H: JsonSchema,
     I: JsonSchema,
 > JsonSchema for (A, B, C, D, E, F, G, H, I) {
-    ghost name = { tuple_name (
-        A.name ∷ B.name ∷ C.name ∷ D.name ∷ E.name ∷ F.name ∷ G.name ∷ H.name ∷ I.name ∷ []) };
-
-    ghost id = { tuple_id (
-        A.id ∷ B.id ∷ C.id ∷ D.id ∷ E.id ∷ F.id ∷ G.id ∷ H.id ∷ I.id ∷ []) };
-
-    ghost inline = { true };
-
-    ghost describes = { OfAll (
-        A.id ∷ B.id ∷ C.id ∷ D.id ∷ E.id ∷ F.id ∷ G.id ∷ H.id ∷ I.id ∷ [])
-        (λ ns. in_place (shape.tuple ns)) };
+    ghost says = { tuple_row
+        (A.says.id ∷ B.says.id ∷ C.says.id ∷ D.says.id ∷ E.says.id ∷ F.says.id ∷ G.says.id ∷
+            H.says.id ∷ I.says.id ∷ [])
+        (A.says.name ∷ B.says.name ∷ C.says.name ∷ D.says.name ∷ E.says.name ∷ F.says.name ∷
+            G.says.name ∷ H.says.name ∷ I.says.name ∷ [])
+        (λ d. IsIn A.says d × IsIn B.says d × IsIn C.says d × IsIn D.says d × IsIn E.says d ×
+            IsIn F.says d × IsIn G.says d × IsIn H.says d × IsIn I.says d × Unit {0}) };
 
     fn inline_schema() -> bool {
         true
@@ -89,18 +84,14 @@ impl<
     I: JsonSchema,
     J: JsonSchema,
 > JsonSchema for (A, B, C, D, E, F, G, H, I, J) {
-    ghost name = { tuple_name (
-        A.name ∷ B.name ∷ C.name ∷ D.name ∷ E.name ∷ F.name ∷ G.name ∷ H.name ∷ I.name ∷
-        J.name ∷ []) };
-
-    ghost id = { tuple_id (
-        A.id ∷ B.id ∷ C.id ∷ D.id ∷ E.id ∷ F.id ∷ G.id ∷ H.id ∷ I.id ∷ J.id ∷ []) };
-
-    ghost inline = { true };
-
-    ghost describes = { OfAll (
-        A.id ∷ B.id ∷ C.id ∷ D.id ∷ E.id ∷ F.id ∷ G.id ∷ H.id ∷ I.id ∷ J.id ∷ [])
-        (λ ns. in_place (shape.tuple ns)) };
+    ghost says = { tuple_row
+        (A.says.id ∷ B.says.id ∷ C.says.id ∷ D.says.id ∷ E.says.id ∷ F.says.id ∷ G.says.id ∷
+            H.says.id ∷ I.says.id ∷ J.says.id ∷ [])
+        (A.says.name ∷ B.says.name ∷ C.says.name ∷ D.says.name ∷ E.says.name ∷ F.says.name ∷
+            G.says.name ∷ H.says.name ∷ I.says.name ∷ J.says.name ∷ [])
+        (λ d. IsIn A.says d × IsIn B.says d × IsIn C.says d × IsIn D.says d × IsIn E.says d ×
+            IsIn F.says d × IsIn G.says d × IsIn H.says d × IsIn I.says d × IsIn J.says d ×
+            Unit {0}) };
 
     fn inline_schema() -> bool {
         true
@@ -132,18 +123,14 @@ impl<
     J: JsonSchema,
     K: JsonSchema,
 > JsonSchema for (A, B, C, D, E, F, G, H, I, J, K) {
-    ghost name = { tuple_name (
-        A.name ∷ B.name ∷ C.name ∷ D.name ∷ E.name ∷ F.name ∷ G.name ∷ H.name ∷ I.name ∷
-        J.name ∷ K.name ∷ []) };
-
-    ghost id = { tuple_id (
-        A.id ∷ B.id ∷ C.id ∷ D.id ∷ E.id ∷ F.id ∷ G.id ∷ H.id ∷ I.id ∷ J.id ∷ K.id ∷ []) };
-
-    ghost inline = { true };
-
-    ghost describes = { OfAll (
-        A.id ∷ B.id ∷ C.id ∷ D.id ∷ E.id ∷ F.id ∷ G.id ∷ H.id ∷ I.id ∷ J.id ∷ K.id ∷ [])
-        (λ ns. in_place (shape.tuple ns)) };
+    ghost says = { tuple_row
+        (A.says.id ∷ B.says.id ∷ C.says.id ∷ D.says.id ∷ E.says.id ∷ F.says.id ∷ G.says.id ∷
+            H.says.id ∷ I.says.id ∷ J.says.id ∷ K.says.id ∷ [])
+        (A.says.name ∷ B.says.name ∷ C.says.name ∷ D.says.name ∷ E.says.name ∷ F.says.name ∷
+            G.says.name ∷ H.says.name ∷ I.says.name ∷ J.says.name ∷ K.says.name ∷ [])
+        (λ d. IsIn A.says d × IsIn B.says d × IsIn C.says d × IsIn D.says d × IsIn E.says d ×
+            IsIn F.says d × IsIn G.says d × IsIn H.says d × IsIn I.says d × IsIn J.says d ×
+            IsIn K.says d × Unit {0}) };
 
     fn inline_schema() -> bool {
         true
@@ -176,18 +163,15 @@ impl<
     K: JsonSchema,
     L: JsonSchema,
 > JsonSchema for (A, B, C, D, E, F, G, H, I, J, K, L) {
-    ghost name = { tuple_name (
-        A.name ∷ B.name ∷ C.name ∷ D.name ∷ E.name ∷ F.name ∷ G.name ∷ H.name ∷ I.name ∷
-        J.name ∷ K.name ∷ L.name ∷ []) };
-
-    ghost id = { tuple_id (
-        A.id ∷ B.id ∷ C.id ∷ D.id ∷ E.id ∷ F.id ∷ G.id ∷ H.id ∷ I.id ∷ J.id ∷ K.id ∷ L.id ∷ []) };
-
-    ghost inline = { true };
-
-    ghost describes = { OfAll (
-        A.id ∷ B.id ∷ C.id ∷ D.id ∷ E.id ∷ F.id ∷ G.id ∷ H.id ∷ I.id ∷ J.id ∷ K.id ∷ L.id ∷ [])
-        (λ ns. in_place (shape.tuple ns)) };
+    ghost says = { tuple_row
+        (A.says.id ∷ B.says.id ∷ C.says.id ∷ D.says.id ∷ E.says.id ∷ F.says.id ∷ G.says.id ∷
+            H.says.id ∷ I.says.id ∷ J.says.id ∷ K.says.id ∷ L.says.id ∷ [])
+        (A.says.name ∷ B.says.name ∷ C.says.name ∷ D.says.name ∷ E.says.name ∷ F.says.name ∷
+            G.says.name ∷ H.says.name ∷ I.says.name ∷ J.says.name ∷ K.says.name ∷ L.says.name ∷
+            [])
+        (λ d. IsIn A.says d × IsIn B.says d × IsIn C.says d × IsIn D.says d × IsIn E.says d ×
+            IsIn F.says d × IsIn G.says d × IsIn H.says d × IsIn I.says d × IsIn J.says d ×
+            IsIn K.says d × IsIn L.says d × Unit {0}) };
 
     fn inline_schema() -> bool {
         true
@@ -221,20 +205,15 @@ impl<
     L: JsonSchema,
     M: JsonSchema,
 > JsonSchema for (A, B, C, D, E, F, G, H, I, J, K, L, M) {
-    ghost name = { tuple_name (
-        A.name ∷ B.name ∷ C.name ∷ D.name ∷ E.name ∷ F.name ∷ G.name ∷ H.name ∷ I.name ∷
-        J.name ∷ K.name ∷ L.name ∷ M.name ∷ []) };
-
-    ghost id = { tuple_id (
-        A.id ∷ B.id ∷ C.id ∷ D.id ∷ E.id ∷ F.id ∷ G.id ∷ H.id ∷ I.id ∷ J.id ∷ K.id ∷ L.id ∷
-        M.id ∷ []) };
-
-    ghost inline = { true };
-
-    ghost describes = { OfAll (
-        A.id ∷ B.id ∷ C.id ∷ D.id ∷ E.id ∷ F.id ∷ G.id ∷ H.id ∷ I.id ∷ J.id ∷ K.id ∷ L.id ∷
-        M.id ∷ [])
-        (λ ns. in_place (shape.tuple ns)) };
+    ghost says = { tuple_row
+        (A.says.id ∷ B.says.id ∷ C.says.id ∷ D.says.id ∷ E.says.id ∷ F.says.id ∷ G.says.id ∷
+            H.says.id ∷ I.says.id ∷ J.says.id ∷ K.says.id ∷ L.says.id ∷ M.says.id ∷ [])
+        (A.says.name ∷ B.says.name ∷ C.says.name ∷ D.says.name ∷ E.says.name ∷ F.says.name ∷
+            G.says.name ∷ H.says.name ∷ I.says.name ∷ J.says.name ∷ K.says.name ∷ L.says.name ∷
+            M.says.name ∷ [])
+        (λ d. IsIn A.says d × IsIn B.says d × IsIn C.says d × IsIn D.says d × IsIn E.says d ×
+            IsIn F.says d × IsIn G.says d × IsIn H.says d × IsIn I.says d × IsIn J.says d ×
+            IsIn K.says d × IsIn L.says d × IsIn M.says d × Unit {0}) };
 
     fn inline_schema() -> bool {
         true
@@ -269,20 +248,16 @@ impl<
     M: JsonSchema,
     N: JsonSchema,
 > JsonSchema for (A, B, C, D, E, F, G, H, I, J, K, L, M, N) {
-    ghost name = { tuple_name (
-        A.name ∷ B.name ∷ C.name ∷ D.name ∷ E.name ∷ F.name ∷ G.name ∷ H.name ∷ I.name ∷
-        J.name ∷ K.name ∷ L.name ∷ M.name ∷ N.name ∷ []) };
-
-    ghost id = { tuple_id (
-        A.id ∷ B.id ∷ C.id ∷ D.id ∷ E.id ∷ F.id ∷ G.id ∷ H.id ∷ I.id ∷ J.id ∷ K.id ∷ L.id ∷
-        M.id ∷ N.id ∷ []) };
-
-    ghost inline = { true };
-
-    ghost describes = { OfAll (
-        A.id ∷ B.id ∷ C.id ∷ D.id ∷ E.id ∷ F.id ∷ G.id ∷ H.id ∷ I.id ∷ J.id ∷ K.id ∷ L.id ∷
-        M.id ∷ N.id ∷ [])
-        (λ ns. in_place (shape.tuple ns)) };
+    ghost says = { tuple_row
+        (A.says.id ∷ B.says.id ∷ C.says.id ∷ D.says.id ∷ E.says.id ∷ F.says.id ∷ G.says.id ∷
+            H.says.id ∷ I.says.id ∷ J.says.id ∷ K.says.id ∷ L.says.id ∷ M.says.id ∷ N.says.id ∷
+            [])
+        (A.says.name ∷ B.says.name ∷ C.says.name ∷ D.says.name ∷ E.says.name ∷ F.says.name ∷
+            G.says.name ∷ H.says.name ∷ I.says.name ∷ J.says.name ∷ K.says.name ∷ L.says.name ∷
+            M.says.name ∷ N.says.name ∷ [])
+        (λ d. IsIn A.says d × IsIn B.says d × IsIn C.says d × IsIn D.says d × IsIn E.says d ×
+            IsIn F.says d × IsIn G.says d × IsIn H.says d × IsIn I.says d × IsIn J.says d ×
+            IsIn K.says d × IsIn L.says d × IsIn M.says d × IsIn N.says d × Unit {0}) };
 
     fn inline_schema() -> bool {
         true
@@ -318,20 +293,17 @@ impl<
     N: JsonSchema,
     O: JsonSchema,
 > JsonSchema for (A, B, C, D, E, F, G, H, I, J, K, L, M, N, O) {
-    ghost name = { tuple_name (
-        A.name ∷ B.name ∷ C.name ∷ D.name ∷ E.name ∷ F.name ∷ G.name ∷ H.name ∷ I.name ∷
-        J.name ∷ K.name ∷ L.name ∷ M.name ∷ N.name ∷ O.name ∷ []) };
-
-    ghost id = { tuple_id (
-        A.id ∷ B.id ∷ C.id ∷ D.id ∷ E.id ∷ F.id ∷ G.id ∷ H.id ∷ I.id ∷ J.id ∷ K.id ∷ L.id ∷
-        M.id ∷ N.id ∷ O.id ∷ []) };
-
-    ghost inline = { true };
-
-    ghost describes = { OfAll (
-        A.id ∷ B.id ∷ C.id ∷ D.id ∷ E.id ∷ F.id ∷ G.id ∷ H.id ∷ I.id ∷ J.id ∷ K.id ∷ L.id ∷
-        M.id ∷ N.id ∷ O.id ∷ [])
-        (λ ns. in_place (shape.tuple ns)) };
+    ghost says = { tuple_row
+        (A.says.id ∷ B.says.id ∷ C.says.id ∷ D.says.id ∷ E.says.id ∷ F.says.id ∷ G.says.id ∷
+            H.says.id ∷ I.says.id ∷ J.says.id ∷ K.says.id ∷ L.says.id ∷ M.says.id ∷ N.says.id ∷
+            O.says.id ∷ [])
+        (A.says.name ∷ B.says.name ∷ C.says.name ∷ D.says.name ∷ E.says.name ∷ F.says.name ∷
+            G.says.name ∷ H.says.name ∷ I.says.name ∷ J.says.name ∷ K.says.name ∷ L.says.name ∷
+            M.says.name ∷ N.says.name ∷ O.says.name ∷ [])
+        (λ d. IsIn A.says d × IsIn B.says d × IsIn C.says d × IsIn D.says d × IsIn E.says d ×
+            IsIn F.says d × IsIn G.says d × IsIn H.says d × IsIn I.says d × IsIn J.says d ×
+            IsIn K.says d × IsIn L.says d × IsIn M.says d × IsIn N.says d × IsIn O.says d ×
+            Unit {0}) };
 
     fn inline_schema() -> bool {
         true
@@ -368,20 +340,17 @@ impl<
     O: JsonSchema,
     P: JsonSchema,
 > JsonSchema for (A, B, C, D, E, F, G, H, I, J, K, L, M, N, O, P) {
-    ghost name = { tuple_name (
-        A.name ∷ B.name ∷ C.name ∷ D.name ∷ E.name ∷ F.name ∷ G.name ∷ H.name ∷ I.name ∷
-        J.name ∷ K.name ∷ L.name ∷ M.name ∷ N.name ∷ O.name ∷ P.name ∷ []) };
-
-    ghost id = { tuple_id (
-        A.id ∷ B.id ∷ C.id ∷ D.id ∷ E.id ∷ F.id ∷ G.id ∷ H.id ∷ I.id ∷ J.id ∷ K.id ∷ L.id ∷
-        M.id ∷ N.id ∷ O.id ∷ P.id ∷ []) };
-
-    ghost inline = { true };
-
-    ghost describes = { OfAll (
-        A.id ∷ B.id ∷ C.id ∷ D.id ∷ E.id ∷ F.id ∷ G.id ∷ H.id ∷ I.id ∷ J.id ∷ K.id ∷ L.id ∷
-        M.id ∷ N.id ∷ O.id ∷ P.id ∷ [])
-        (λ ns. in_place (shape.tuple ns)) };
+    ghost says = { tuple_row
+        (A.says.id ∷ B.says.id ∷ C.says.id ∷ D.says.id ∷ E.says.id ∷ F.says.id ∷ G.says.id ∷
+            H.says.id ∷ I.says.id ∷ J.says.id ∷ K.says.id ∷ L.says.id ∷ M.says.id ∷ N.says.id ∷
+            O.says.id ∷ P.says.id ∷ [])
+        (A.says.name ∷ B.says.name ∷ C.says.name ∷ D.says.name ∷ E.says.name ∷ F.says.name ∷
+            G.says.name ∷ H.says.name ∷ I.says.name ∷ J.says.name ∷ K.says.name ∷ L.says.name ∷
+            M.says.name ∷ N.says.name ∷ O.says.name ∷ P.says.name ∷ [])
+        (λ d. IsIn A.says d × IsIn B.says d × IsIn C.says d × IsIn D.says d × IsIn E.says d ×
+            IsIn F.says d × IsIn G.says d × IsIn H.says d × IsIn I.says d × IsIn J.says d ×
+            IsIn K.says d × IsIn L.says d × IsIn M.says d × IsIn N.says d × IsIn O.says d ×
+            IsIn P.says d × Unit {0}) };
 
     fn inline_schema() -> bool {
         true

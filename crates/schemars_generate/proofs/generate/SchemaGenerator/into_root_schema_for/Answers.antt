@@ -2,12 +2,14 @@ use Rattle.std.proofs.Common.{inl, inr, refl, sym, subst}
 use Rattle.std.proofs.lemmas.Result.{IfOk-weaker, IfErr-weaker}
 use Rattle.schemars_build.specs.Work.{Work}
 use Rattle.schemars_headline.proofs.Calls.{err_told}
+use Rattle.schemars_headline.proofs.Larger.{more_types_own}
+use Rattle.schemars_types.specs.Faults.{IsChecked}
 use Rattle.schemars_generate.specs.ByType.{IsJoined, IsTypeRefusal, IsRootOfTypeRefusal, with_rows}
 use Rattle.schemars_generate.specs.Generator.{state, state_of}
 use Rattle.schemars_generate.specs.Generator.{Transforms}
 use Rattle.schemars_generate.specs.Through.{IsTransformed, IsUntransformed, IsRootRefusal}
 use Rattle.schemars_generate.specs.declared.error.GenerateError.{GenerateError}
-use Rattle.schemars_generate.proofs.ByType.{root_in_table}
+use Rattle.schemars_generate.proofs.ByType.{root_in_table, type_memory}
 use Rattle.schemars_generate.proofs.generate.SchemaGenerator.into_root_schema_for.Goals as goal
 
 pub returns-in_err-n-clause-refused : goal.returns-in_err-n-clause-refused
@@ -16,13 +18,13 @@ returns-in_err-n-clause-refused g c =
     let t = g.T.JsonSchema in
     let P : GenerateError → Type 0 =
     λ e. (us : Transforms g.row.O.Denot) × IsRootOfTypeRefusal g.O.Transform.makes ts us (state c.args.self)
-    (IsJoined t.id t.inline t.describes c.args.self.rows) e in
+    t.says (IsJoined t.says c.args.self.rows) e in
     err_told c.from_residual.result P _ c.from_residual.ensures.1
     (λ e is. (
       ts,
       inl (
-        subst (IsTypeRefusal c.args.self.rows) (sym is)
-            (subst (λ y. IsTypeRefusal y.rows c.in_err-n.field-0.0) c.self.view_is c.in_err-n.ensures.refused),
+        subst (IsTypeRefusal t.says c.args.self.rows) (sym is)
+            (subst (λ y. IsTypeRefusal t.says y.rows c.in_err-n.field-0.0) c.self.view_is c.in_err-n.ensures.refused),
         refl,
       ),
     ))
@@ -33,8 +35,9 @@ returns-in_err-extend-clause-refused g c =
     let t = g.T.JsonSchema in
     let P : GenerateError → Type 0 =
     λ e. (us : Transforms g.row.O.Denot) × IsRootOfTypeRefusal g.O.Transform.makes ts us (state c.args.self)
-    (IsJoined t.id t.inline t.describes c.args.self.rows) e in
-    err_told c.from_residual-in_err-extend.result P _ c.from_residual-in_err-extend.ensures.1 (λ e is. (ts, inl (inl is, refl)))
+    t.says (IsJoined t.says c.args.self.rows) e in
+    err_told c.from_residual-in_err-extend.result P _ c.from_residual-in_err-extend.ensures.1
+    (λ e is. (ts, inl (type_memory t.says c.args.self.rows e is, refl)))
 
 pub returns-clause-refused : goal.returns-clause-refused
 returns-clause-refused g c =
@@ -50,7 +53,7 @@ returns-clause-refused g c =
       inr (record {
         rows = rows;
         n = n;
-        is_row = subst (λ y. IsJoined t.id t.inline t.describes y.rows rows n) c.self.view_is c.in_ok-n.ensures.joined;
+        is_row = subst (λ y. IsJoined t.says y.rows rows n) c.self.view_is c.in_ok-n.ensures.joined;
         refusal = subst (λ y. IsRootRefusal Q y.settings.transforms us (with_rows rows (state y)) n e) c.self.view_is
             (subst P c.extend.ensures h);
       }),
@@ -65,12 +68,15 @@ returns-clause-root g c =
     let n = c.in_ok-n.n in
     let us = c.last_root.new.settings.transforms in
     let s = with_rows rows (state c.args.self) in
+    let joined = subst (λ y. IsJoined t.says y.rows rows n) c.self.view_is c.in_ok-n.ensures.joined in
+    let checked = subst (λ y. IsChecked y.rows) c.self.view_is c.self.invariant.1 in
     IfOk-weaker c.last_root.result _ _ (λ d h.
     let P : Work → Type 0 = λ w. IsTransformed Q inside.settings.transforms us (IsUntransformed (state_of inside.settings rows w) n) d in (
       rows,
       n,
       us,
-      subst (λ y. IsJoined t.id t.inline t.describes y.rows rows n) c.self.view_is c.in_ok-n.ensures.joined,
+      joined,
+      (λ own. more_types_own (state c.args.self) rows checked joined.registered.begins own),
       root_in_table Q _ us s n (IsUntransformed s n) d (λ e told. told.headlines)
           (subst (λ y. IsTransformed Q y.settings.transforms us (IsUntransformed (with_rows rows (state y)) n) d) c.self.view_is
           (subst P c.extend.ensures h)),

@@ -1,0 +1,45 @@
+-- What types say that are made of others.
+use Rattle.std.specs.Prelude.{ℕ, ◌==◌, Bool, true, false, List}
+use Rattle.schemars_schema.specs.Json.{Text}
+use Rattle.schemars_shapes.specs.Shape.{in_place, option, seq, set, tuple, map_from}
+use Rattle.schemars_types.specs.Names.{option_id, option_name, seq_id, seq_name, set_id, set_name, array_id, array_name}
+use Rattle.schemars_types.specs.Names.{tuple_id, tuple_name, map_id, map_name}
+use Rattle.schemars_impls.specs.Describes.{OfAll, OfArray}
+use Rattle.schemars_impls.specs.Dictionary.{Dictionary, TypeRow, IsIn, of_one, of_two}
+
+abbrev pub option_row : TypeRow → TypeRow
+option_row t = of_one (option_id t.id) (option_name t.name) true (λ n. in_place (option n)) t
+
+abbrev pub seq_row : TypeRow → TypeRow
+seq_row t = of_one (seq_id t.id) (seq_name t.name) true (λ n. in_place (seq n)) t
+
+abbrev pub set_row : TypeRow → TypeRow
+set_row t = of_one (set_id t.id) (set_name t.name) true (λ n. in_place (set n)) t
+
+abbrev pub map_row : TypeRow → TypeRow → TypeRow
+map_row key value =
+    of_two (map_id key.id value.id) (map_name key.id key.name value.name) true (λ n m. in_place (map_from n m)) key value
+
+-- the items are in a dictionary, unless there are none
+abbrev pub HasItems : Bool → TypeRow → Dictionary → Type 0
+HasItems true t d = Unit {0}
+HasItems false t d = IsIn t d
+
+abbrev pub array_row : TypeRow → ℕ → TypeRow
+array_row t len = record {
+  id = array_id t.id len;
+  name = array_name t.name len;
+  inline = true;
+  making = OfArray t.id len;
+  parts = λ d. HasItems (len == 0) t d;
+}
+
+-- of the ids and the names of the parts, and that they are in a dictionary
+abbrev pub tuple_row : List Text → List Text → (Dictionary → Type 0) → TypeRow
+tuple_row ids names parts = record {
+  id = tuple_id ids;
+  name = tuple_name names;
+  inline = true;
+  making = OfAll ids (λ ns. in_place (tuple ns));
+  parts = parts;
+}
