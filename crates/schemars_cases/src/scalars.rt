@@ -40,6 +40,8 @@ pub(crate) fn integer(alloc: Global, of: &str) -> Result<String, GenerateError> 
         "i32" => line_of::<i32>(alloc),
         "i64" => line_of::<i64>(alloc),
         "i128" => line_of::<i128>(alloc),
+        "f32" => line_of::<f32>(alloc),
+        "f64" => line_of::<f64>(alloc),
         "isize" => line_of::<isize>(alloc),
         "u8" => line_of::<u8>(alloc),
         "u16" => line_of::<u16>(alloc),
