@@ -330,9 +330,9 @@ follows-defined d id n e rows h there is kept made = record {
         }
     by t m at false other =
         let apart : n ≡ m → ⊥ = λ same.
-            let t_is : t ≡ id = sym (id-there t m rows at) ∙ ap (id_at rows) (sym same) ∙ id-there id n rows there in
-            let yes : bytes_eq t id ≡ true = (bytes_eq-Decides t id).1 t_is in
-            let never : true ≡ false = sym yes ∙ other in cc in
+        let t_is : t ≡ id = sym (id-there t m rows at) ∙ ap (id_at rows) (sym same) ∙ id-there id n rows there in
+        let yes : bytes_eq t id ≡ true = (bytes_eq-Decides t id).1 t_is in
+        let never : true ≡ false = sym yes ∙ other in cc in
         let entry = entry_at-other n e rows m apart in
         as-told (staged id Pending d) (staged id Defined d) rows (defined n e rows) t m kept
         (same-stage (staged id Pending d) (staged id Defined d) rows (defined n e rows) t m

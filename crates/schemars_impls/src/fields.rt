@@ -11,7 +11,9 @@ ghost use Rattle.schemars_impls.specs.Keeps.{Keeps};
 ghost use Rattle.schemars_impls.specs.OwnRows.{RefusesNumbers};
 
 use crate::law::{JsonSchema, entry, register};
-use schemars_types::{Field, Fields, Flattened, Required, Shape, TypeEntry, TypeNo, Types, TypesError};
+use schemars_types::{
+    Field, Fields, Flattened, Required, Shape, TypeEntry, TypeNo, Types, TypesError,
+};
 use serde_json::Map;
 use std::alloc::{AllocError, Global};
 
@@ -178,11 +180,7 @@ fn push_field(
 }
 
 // Adds a flattened row.
-fn push_part(
-    flatten: &mut Vec<Flattened>,
-    ty: TypeNo,
-    required: Required,
-) -> Result<(), AllocError>
+fn push_part(flatten: &mut Vec<Flattened>, ty: TypeNo, required: Required) -> Result<(), AllocError>
     ensures adds { OnOk result (map flattened_of flatten.new.items
         ≡ map flattened_of flatten.old.items ++ part ty (required_of required) ∷ []) }
     ensures unchanged { OnErr result (flatten.new.items ≡ flatten.old.items) }

@@ -163,7 +163,7 @@ impl<A: JsonSchema, B: JsonSchema, C: JsonSchema, D: JsonSchema, E: JsonSchema> 
         (A.says.id ∷ B.says.id ∷ C.says.id ∷ D.says.id ∷ E.says.id ∷ [])
         (A.says.name ∷ B.says.name ∷ C.says.name ∷ D.says.name ∷ E.says.name ∷ [])
         (λ d. IsIn A.says d × IsIn B.says d × IsIn C.says d × IsIn D.says d × IsIn E.says d ×
-            Unit {0}) };
+        Unit {0}) };
 
     fn inline_schema() -> bool {
         true
@@ -194,7 +194,7 @@ impl<
         (A.says.id ∷ B.says.id ∷ C.says.id ∷ D.says.id ∷ E.says.id ∷ F.says.id ∷ [])
         (A.says.name ∷ B.says.name ∷ C.says.name ∷ D.says.name ∷ E.says.name ∷ F.says.name ∷ [])
         (λ d. IsIn A.says d × IsIn B.says d × IsIn C.says d × IsIn D.says d × IsIn E.says d ×
-            IsIn F.says d × Unit {0}) };
+        IsIn F.says d × Unit {0}) };
 
     fn inline_schema() -> bool {
         true
@@ -225,9 +225,9 @@ impl<
     ghost says = { tuple_row
         (A.says.id ∷ B.says.id ∷ C.says.id ∷ D.says.id ∷ E.says.id ∷ F.says.id ∷ G.says.id ∷ [])
         (A.says.name ∷ B.says.name ∷ C.says.name ∷ D.says.name ∷ E.says.name ∷ F.says.name ∷
-            G.says.name ∷ [])
+        G.says.name ∷ [])
         (λ d. IsIn A.says d × IsIn B.says d × IsIn C.says d × IsIn D.says d × IsIn E.says d ×
-            IsIn F.says d × IsIn G.says d × Unit {0}) };
+        IsIn F.says d × IsIn G.says d × Unit {0}) };
 
     fn inline_schema() -> bool {
         true
@@ -258,11 +258,11 @@ impl<
 > JsonSchema for (A, B, C, D, E, F, G, H) {
     ghost says = { tuple_row
         (A.says.id ∷ B.says.id ∷ C.says.id ∷ D.says.id ∷ E.says.id ∷ F.says.id ∷ G.says.id ∷
-            H.says.id ∷ [])
+        H.says.id ∷ [])
         (A.says.name ∷ B.says.name ∷ C.says.name ∷ D.says.name ∷ E.says.name ∷ F.says.name ∷
-            G.says.name ∷ H.says.name ∷ [])
+        G.says.name ∷ H.says.name ∷ [])
         (λ d. IsIn A.says d × IsIn B.says d × IsIn C.says d × IsIn D.says d × IsIn E.says d ×
-            IsIn F.says d × IsIn G.says d × IsIn H.says d × Unit {0}) };
+        IsIn F.says d × IsIn G.says d × IsIn H.says d × Unit {0}) };
 
     fn inline_schema() -> bool {
         true

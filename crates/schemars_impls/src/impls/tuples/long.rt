@@ -49,11 +49,11 @@ impl<
 > JsonSchema for (A, B, C, D, E, F, G, H, I) {
     ghost says = { tuple_row
         (A.says.id ∷ B.says.id ∷ C.says.id ∷ D.says.id ∷ E.says.id ∷ F.says.id ∷ G.says.id ∷
-            H.says.id ∷ I.says.id ∷ [])
+        H.says.id ∷ I.says.id ∷ [])
         (A.says.name ∷ B.says.name ∷ C.says.name ∷ D.says.name ∷ E.says.name ∷ F.says.name ∷
-            G.says.name ∷ H.says.name ∷ I.says.name ∷ [])
+        G.says.name ∷ H.says.name ∷ I.says.name ∷ [])
         (λ d. IsIn A.says d × IsIn B.says d × IsIn C.says d × IsIn D.says d × IsIn E.says d ×
-            IsIn F.says d × IsIn G.says d × IsIn H.says d × IsIn I.says d × Unit {0}) };
+        IsIn F.says d × IsIn G.says d × IsIn H.says d × IsIn I.says d × Unit {0}) };
 
     fn inline_schema() -> bool {
         true
@@ -86,12 +86,12 @@ impl<
 > JsonSchema for (A, B, C, D, E, F, G, H, I, J) {
     ghost says = { tuple_row
         (A.says.id ∷ B.says.id ∷ C.says.id ∷ D.says.id ∷ E.says.id ∷ F.says.id ∷ G.says.id ∷
-            H.says.id ∷ I.says.id ∷ J.says.id ∷ [])
+        H.says.id ∷ I.says.id ∷ J.says.id ∷ [])
         (A.says.name ∷ B.says.name ∷ C.says.name ∷ D.says.name ∷ E.says.name ∷ F.says.name ∷
-            G.says.name ∷ H.says.name ∷ I.says.name ∷ J.says.name ∷ [])
+        G.says.name ∷ H.says.name ∷ I.says.name ∷ J.says.name ∷ [])
         (λ d. IsIn A.says d × IsIn B.says d × IsIn C.says d × IsIn D.says d × IsIn E.says d ×
-            IsIn F.says d × IsIn G.says d × IsIn H.says d × IsIn I.says d × IsIn J.says d ×
-            Unit {0}) };
+        IsIn F.says d × IsIn G.says d × IsIn H.says d × IsIn I.says d × IsIn J.says d ×
+        Unit {0}) };
 
     fn inline_schema() -> bool {
         true
@@ -125,12 +125,12 @@ impl<
 > JsonSchema for (A, B, C, D, E, F, G, H, I, J, K) {
     ghost says = { tuple_row
         (A.says.id ∷ B.says.id ∷ C.says.id ∷ D.says.id ∷ E.says.id ∷ F.says.id ∷ G.says.id ∷
-            H.says.id ∷ I.says.id ∷ J.says.id ∷ K.says.id ∷ [])
+        H.says.id ∷ I.says.id ∷ J.says.id ∷ K.says.id ∷ [])
         (A.says.name ∷ B.says.name ∷ C.says.name ∷ D.says.name ∷ E.says.name ∷ F.says.name ∷
-            G.says.name ∷ H.says.name ∷ I.says.name ∷ J.says.name ∷ K.says.name ∷ [])
+        G.says.name ∷ H.says.name ∷ I.says.name ∷ J.says.name ∷ K.says.name ∷ [])
         (λ d. IsIn A.says d × IsIn B.says d × IsIn C.says d × IsIn D.says d × IsIn E.says d ×
-            IsIn F.says d × IsIn G.says d × IsIn H.says d × IsIn I.says d × IsIn J.says d ×
-            IsIn K.says d × Unit {0}) };
+        IsIn F.says d × IsIn G.says d × IsIn H.says d × IsIn I.says d × IsIn J.says d ×
+        IsIn K.says d × Unit {0}) };
 
     fn inline_schema() -> bool {
         true
@@ -165,13 +165,13 @@ impl<
 > JsonSchema for (A, B, C, D, E, F, G, H, I, J, K, L) {
     ghost says = { tuple_row
         (A.says.id ∷ B.says.id ∷ C.says.id ∷ D.says.id ∷ E.says.id ∷ F.says.id ∷ G.says.id ∷
-            H.says.id ∷ I.says.id ∷ J.says.id ∷ K.says.id ∷ L.says.id ∷ [])
+        H.says.id ∷ I.says.id ∷ J.says.id ∷ K.says.id ∷ L.says.id ∷ [])
         (A.says.name ∷ B.says.name ∷ C.says.name ∷ D.says.name ∷ E.says.name ∷ F.says.name ∷
-            G.says.name ∷ H.says.name ∷ I.says.name ∷ J.says.name ∷ K.says.name ∷ L.says.name ∷
-            [])
+        G.says.name ∷ H.says.name ∷ I.says.name ∷ J.says.name ∷ K.says.name ∷ L.says.name ∷
+        [])
         (λ d. IsIn A.says d × IsIn B.says d × IsIn C.says d × IsIn D.says d × IsIn E.says d ×
-            IsIn F.says d × IsIn G.says d × IsIn H.says d × IsIn I.says d × IsIn J.says d ×
-            IsIn K.says d × IsIn L.says d × Unit {0}) };
+        IsIn F.says d × IsIn G.says d × IsIn H.says d × IsIn I.says d × IsIn J.says d ×
+        IsIn K.says d × IsIn L.says d × Unit {0}) };
 
     fn inline_schema() -> bool {
         true
@@ -207,13 +207,13 @@ impl<
 > JsonSchema for (A, B, C, D, E, F, G, H, I, J, K, L, M) {
     ghost says = { tuple_row
         (A.says.id ∷ B.says.id ∷ C.says.id ∷ D.says.id ∷ E.says.id ∷ F.says.id ∷ G.says.id ∷
-            H.says.id ∷ I.says.id ∷ J.says.id ∷ K.says.id ∷ L.says.id ∷ M.says.id ∷ [])
+        H.says.id ∷ I.says.id ∷ J.says.id ∷ K.says.id ∷ L.says.id ∷ M.says.id ∷ [])
         (A.says.name ∷ B.says.name ∷ C.says.name ∷ D.says.name ∷ E.says.name ∷ F.says.name ∷
-            G.says.name ∷ H.says.name ∷ I.says.name ∷ J.says.name ∷ K.says.name ∷ L.says.name ∷
-            M.says.name ∷ [])
+        G.says.name ∷ H.says.name ∷ I.says.name ∷ J.says.name ∷ K.says.name ∷ L.says.name ∷
+        M.says.name ∷ [])
         (λ d. IsIn A.says d × IsIn B.says d × IsIn C.says d × IsIn D.says d × IsIn E.says d ×
-            IsIn F.says d × IsIn G.says d × IsIn H.says d × IsIn I.says d × IsIn J.says d ×
-            IsIn K.says d × IsIn L.says d × IsIn M.says d × Unit {0}) };
+        IsIn F.says d × IsIn G.says d × IsIn H.says d × IsIn I.says d × IsIn J.says d ×
+        IsIn K.says d × IsIn L.says d × IsIn M.says d × Unit {0}) };
 
     fn inline_schema() -> bool {
         true
@@ -250,14 +250,14 @@ impl<
 > JsonSchema for (A, B, C, D, E, F, G, H, I, J, K, L, M, N) {
     ghost says = { tuple_row
         (A.says.id ∷ B.says.id ∷ C.says.id ∷ D.says.id ∷ E.says.id ∷ F.says.id ∷ G.says.id ∷
-            H.says.id ∷ I.says.id ∷ J.says.id ∷ K.says.id ∷ L.says.id ∷ M.says.id ∷ N.says.id ∷
-            [])
+        H.says.id ∷ I.says.id ∷ J.says.id ∷ K.says.id ∷ L.says.id ∷ M.says.id ∷ N.says.id ∷
+        [])
         (A.says.name ∷ B.says.name ∷ C.says.name ∷ D.says.name ∷ E.says.name ∷ F.says.name ∷
-            G.says.name ∷ H.says.name ∷ I.says.name ∷ J.says.name ∷ K.says.name ∷ L.says.name ∷
-            M.says.name ∷ N.says.name ∷ [])
+        G.says.name ∷ H.says.name ∷ I.says.name ∷ J.says.name ∷ K.says.name ∷ L.says.name ∷
+        M.says.name ∷ N.says.name ∷ [])
         (λ d. IsIn A.says d × IsIn B.says d × IsIn C.says d × IsIn D.says d × IsIn E.says d ×
-            IsIn F.says d × IsIn G.says d × IsIn H.says d × IsIn I.says d × IsIn J.says d ×
-            IsIn K.says d × IsIn L.says d × IsIn M.says d × IsIn N.says d × Unit {0}) };
+        IsIn F.says d × IsIn G.says d × IsIn H.says d × IsIn I.says d × IsIn J.says d ×
+        IsIn K.says d × IsIn L.says d × IsIn M.says d × IsIn N.says d × Unit {0}) };
 
     fn inline_schema() -> bool {
         true
@@ -295,15 +295,15 @@ impl<
 > JsonSchema for (A, B, C, D, E, F, G, H, I, J, K, L, M, N, O) {
     ghost says = { tuple_row
         (A.says.id ∷ B.says.id ∷ C.says.id ∷ D.says.id ∷ E.says.id ∷ F.says.id ∷ G.says.id ∷
-            H.says.id ∷ I.says.id ∷ J.says.id ∷ K.says.id ∷ L.says.id ∷ M.says.id ∷ N.says.id ∷
-            O.says.id ∷ [])
+        H.says.id ∷ I.says.id ∷ J.says.id ∷ K.says.id ∷ L.says.id ∷ M.says.id ∷ N.says.id ∷
+        O.says.id ∷ [])
         (A.says.name ∷ B.says.name ∷ C.says.name ∷ D.says.name ∷ E.says.name ∷ F.says.name ∷
-            G.says.name ∷ H.says.name ∷ I.says.name ∷ J.says.name ∷ K.says.name ∷ L.says.name ∷
-            M.says.name ∷ N.says.name ∷ O.says.name ∷ [])
+        G.says.name ∷ H.says.name ∷ I.says.name ∷ J.says.name ∷ K.says.name ∷ L.says.name ∷
+        M.says.name ∷ N.says.name ∷ O.says.name ∷ [])
         (λ d. IsIn A.says d × IsIn B.says d × IsIn C.says d × IsIn D.says d × IsIn E.says d ×
-            IsIn F.says d × IsIn G.says d × IsIn H.says d × IsIn I.says d × IsIn J.says d ×
-            IsIn K.says d × IsIn L.says d × IsIn M.says d × IsIn N.says d × IsIn O.says d ×
-            Unit {0}) };
+        IsIn F.says d × IsIn G.says d × IsIn H.says d × IsIn I.says d × IsIn J.says d ×
+        IsIn K.says d × IsIn L.says d × IsIn M.says d × IsIn N.says d × IsIn O.says d ×
+        Unit {0}) };
 
     fn inline_schema() -> bool {
         true
@@ -342,15 +342,15 @@ impl<
 > JsonSchema for (A, B, C, D, E, F, G, H, I, J, K, L, M, N, O, P) {
     ghost says = { tuple_row
         (A.says.id ∷ B.says.id ∷ C.says.id ∷ D.says.id ∷ E.says.id ∷ F.says.id ∷ G.says.id ∷
-            H.says.id ∷ I.says.id ∷ J.says.id ∷ K.says.id ∷ L.says.id ∷ M.says.id ∷ N.says.id ∷
-            O.says.id ∷ P.says.id ∷ [])
+        H.says.id ∷ I.says.id ∷ J.says.id ∷ K.says.id ∷ L.says.id ∷ M.says.id ∷ N.says.id ∷
+        O.says.id ∷ P.says.id ∷ [])
         (A.says.name ∷ B.says.name ∷ C.says.name ∷ D.says.name ∷ E.says.name ∷ F.says.name ∷
-            G.says.name ∷ H.says.name ∷ I.says.name ∷ J.says.name ∷ K.says.name ∷ L.says.name ∷
-            M.says.name ∷ N.says.name ∷ O.says.name ∷ P.says.name ∷ [])
+        G.says.name ∷ H.says.name ∷ I.says.name ∷ J.says.name ∷ K.says.name ∷ L.says.name ∷
+        M.says.name ∷ N.says.name ∷ O.says.name ∷ P.says.name ∷ [])
         (λ d. IsIn A.says d × IsIn B.says d × IsIn C.says d × IsIn D.says d × IsIn E.says d ×
-            IsIn F.says d × IsIn G.says d × IsIn H.says d × IsIn I.says d × IsIn J.says d ×
-            IsIn K.says d × IsIn L.says d × IsIn M.says d × IsIn N.says d × IsIn O.says d ×
-            IsIn P.says d × Unit {0}) };
+        IsIn F.says d × IsIn G.says d × IsIn H.says d × IsIn I.says d × IsIn J.says d ×
+        IsIn K.says d × IsIn L.says d × IsIn M.says d × IsIn N.says d × IsIn O.says d ×
+        IsIn P.says d × Unit {0}) };
 
     fn inline_schema() -> bool {
         true
