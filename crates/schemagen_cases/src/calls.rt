@@ -11,6 +11,7 @@ use crate::calls::error::NoAnswer;
 use crate::calls::values::{pair_in, text_of_bool};
 use crate::samples;
 use schemagen_run::fault::Fault;
+use schemars::consts::meta_schemas;
 use schemars_schema::encoding::{encode_ref_name, percent_decode};
 use schemars_schema::{NotASchema, Schema, json_eq, json_same, json_same_members};
 use serde_json::Value;
@@ -45,7 +46,9 @@ fn answer_about(
 ) -> Result<String, NoAnswer> {
     match call {
         "try_from" => try_from(alloc, value),
+        "from" => from(alloc, value),
         "from_value" => from_value(alloc, value),
+        "meta_schema" => Ok(String::from_str(alloc, meta_schema(argument))?),
         "is_schema" => text_of_bool(alloc, Some(Schema::is_schema(value))),
         "json_eq" | "json_same" | "json_same_members" => {
             text_of_bool(alloc, are_equal(call, value))
@@ -80,6 +83,27 @@ fn refusal(alloc: Global, refused: &NotASchema) -> Result<String, NoAnswer> {
     let NotASchema(value) = refused;
     let value = value.to_string(alloc)?;
     Ok(format!(in alloc; "{} {refused} {value}", refused.code())?)
+}
+
+// The schema by the conversion from a truth value, or from members, and the default one of null.
+fn from(alloc: Global, value: &Value) -> Result<String, NoAnswer> {
+    let schema = match value {
+        Value::Null => Schema::default(alloc),
+        Value::Bool(b) => Schema::from(*b),
+        Value::Object(members) => Schema::from(members.clone()?),
+        _ => return Err(NoAnswer::BadInput),
+    };
+    Ok(Value::from(schema).to_string(alloc)?)
+}
+
+// The address of this draft.
+fn meta_schema(draft: &str) -> &'static str {
+    match draft {
+        "draft-07" => meta_schemas::DRAFT07,
+        "2019-09" => meta_schemas::DRAFT2019_09,
+        "2020-12" => meta_schemas::DRAFT2020_12,
+        _ => meta_schemas::OPENAPI3,
+    }
 }
 
 fn from_value(alloc: Global, value: &Value) -> Result<String, NoAnswer> {

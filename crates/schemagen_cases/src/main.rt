@@ -1,12 +1,14 @@
 //! Works the cases in the files beside it, and tells how many of each file are wrong.
 //!
 //! A case is a line of four parts with a tab between them: a name, the words, the input and the
-//! answer that is wanted. A wrong case is printed on a line of its own. A further case is a line in
-//! a file, and nothing to prove.
+//! answer that is wanted. One of the linter has no words, and a tab before each line of the report.
+//! A wrong case is printed on a line of its own. A further case is a line in a file, and nothing to
+//! prove.
 #![tactic(auto)]
 
 mod calls;
 mod cases;
+mod lint;
 mod runs;
 mod samples;
 
@@ -14,7 +16,7 @@ use crate::cases::{Asked, work_cases};
 use std::{fs, io};
 
 // The files, and whom their cases ask.
-const FILES: [(&str, Asked); 19] = [
+const FILES: [(&str, Asked); 20] = [
     ("tables.tsv", Asked::Program),
     ("examples.tsv", Asked::Program),
     ("rows.tsv", Asked::Program),
@@ -34,6 +36,7 @@ const FILES: [(&str, Asked); 19] = [
     ("calls.tsv", Asked::Libraries),
     ("transforms.tsv", Asked::Libraries),
     ("kinds.tsv", Asked::Libraries),
+    ("lint.tsv", Asked::Linter),
 ];
 
 fn main(rt: HostRuntime) -> io::Result<()> {

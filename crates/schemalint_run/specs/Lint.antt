@@ -1,5 +1,5 @@
 -- What a verdict says of the bytes that were judged.
-use Rattle.std.specs.Prelude.{◌≡◌, ◌≢◌, ◌↔◌, ℕ, List, [], ◌∷◌, ◌++◌, codes}
+use Rattle.std.specs.Prelude.{◌≡◌, ◌≢◌, ◌↔◌, ◌⊎◌, ℕ, List, [], ◌∷◌, ◌++◌, codes}
 use Rattle.schemars_schema.specs.Json.{Text}
 use Rattle.schemars_types.specs.Rows.{Row}
 use Rattle.schemars_types.specs.Faults.{IsAccepted}
@@ -16,6 +16,10 @@ IsPlainText bytes =
 -- no fault is reported if and only if the text is a table without faults, and `plain` if and only if it is plain
 abbrev pub Judges : Verdict → List ℕ → Type 0
 Judges verdict bytes = ((verdict ≢ Refused) ↔ IsAcceptedText bytes) × ((verdict ≡ Plain) ↔ IsPlainText bytes)
+
+-- no lines, or lines of which the last one ends in a newline
+abbrev pub AreLines : Text → Type 0
+AreLines text = (text ≡ []) ⊎ ((before : Text) × (text ≡ before ++ 10 ∷ []))
 
 -- the last line of a report
 abbrev pub verdict_line : Verdict → Text

@@ -4,7 +4,7 @@ ghost use Rattle.std.specs.Prelude.{string_bytes};
 ghost use Rattle.schemars_schema.specs.Json.{Text};
 ghost use Rattle.schemars_types.specs.Faults.{IsAccepted};
 ghost use Rattle.schemagen_input.specs.Texts.{IsAcceptedText};
-ghost use Rattle.schemalint_run.specs.Lint.{IsPlainText, Judges, verdict_line};
+ghost use Rattle.schemalint_run.specs.Lint.{AreLines, IsPlainText, Judges, verdict_line};
 
 use crate::lines::{add_fault, add_row_fault};
 use crate::reasons::add_reasons;
@@ -45,13 +45,25 @@ pub struct Report {
 pub fn lint(alloc: Global, bytes: &[u8]) -> Result<Report, AllocError>
     ensures fault { IfOk result (λ r. (r.verdict ≢ Verdict.Refused) ↔ IsAcceptedText bytes.now) }
     ensures plain { IfOk result (λ r. (r.verdict ≡ Verdict.Plain) ↔ IsPlainText bytes.now) }
-    ensures text { IfOk result (λ r. (lines : Text)
+    ensures text { IfOk result (λ r. (lines : Text) × AreLines lines
         × (string_bytes r.text ≡ lines ++ verdict_line r.verdict)) }
 {
     let mut lines = String::new(alloc);
     let verdict = judge(alloc, bytes, &mut lines)?;
+    let lines = ended(lines)?;
     let text = with_verdict(lines, verdict)?;
     Ok(Report { text, verdict })
+}
+
+// The lines, with a newline behind the last one, so that the verdict begins a line.
+fn ended(lines: String) -> Result<String, AllocError>
+    ensures { IfOk result (λ s. AreLines (string_bytes s)) }
+{
+    let mut text = lines;
+    if !text.is_empty() && !text.as_bytes().ends_with(b"\n") {
+        text.push('\n')?;
+    }
+    Ok(text)
 }
 
 // Adds the line of the verdict.

@@ -5,3 +5,4 @@ pub mod Dictionary
 pub mod Containers
 pub mod OwnRows
 pub mod Fields
+pub mod Floats

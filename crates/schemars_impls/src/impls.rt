@@ -2,7 +2,8 @@
 #![tactic(auto, using(crate::proofs::Composing::keeping))]
 
 mod arrays;
-mod foreign;
+mod floats;
+pub(crate) mod foreign;
 mod integers;
 pub(crate) mod maps;
 mod net;

@@ -1,19 +1,10 @@
 //! Words and inputs that no line of a file can hold.
-use crate::expect::owned;
+use crate::expect::words_of;
 use schemagen_run::fault::Fault;
 use schemagen_run::run::run;
 use schemagen_run::streams::{SinkOf, SourceOf};
-use std::alloc::{AllocError, Global};
+use std::alloc::Global;
 use std::test::Fail;
-
-/// Words of their own.
-pub(crate) fn words_of(alloc: Global, words: &[&str]) -> Result<Vec<String>, AllocError> {
-    let mut all = Vec::new(alloc);
-    for word in words {
-        all.push(owned(alloc, *word)?)?;
-    }
-    Ok(all)
-}
 
 // How a run over memory ends.
 fn ended(alloc: Global, words: &[String], input: &[u8]) -> Result<(), Fault> {
@@ -39,21 +30,16 @@ fn words_have_no_spaces(rt: HostRuntime) -> Result<(), Fail> {
     Ok(())
 }
 
-#[test]
-fn inputs_are_texts(rt: HostRuntime) -> Result<(), Fail> {
-    let words = words_of(rt.alloc(), &["types", "2020-12"])?;
-    let result = ended(rt.alloc(), &words, b"\"\xff\"");
-    assert_eq!(rt; result, Err(Fault::Refused(20)));
-    Ok(())
-}
-
 // The list of optional bytes.
 const BYTES: &[u8] =
     br#"{"types":[{"id":"uint8","name":"uint8","inline":true,"shape":{"int":"u8"}},{"id":"Option<uint8>","name":"Nullable_uint8","inline":true,"shape":{"option":0}},{"id":"[Option<uint8>]","name":"Array_of_Nullable_uint8","inline":true,"shape":{"seq":1}}],"root":2}"#;
 
+// Bytes that are no text are no input, nor is a beginning of one.
 #[test]
-fn beginnings_are_no_inputs(rt: HostRuntime) -> Result<(), Fail> {
+fn inputs_are_whole_texts(rt: HostRuntime) -> Result<(), Fail> {
     let words = words_of(rt.alloc(), &["types", "2020-12"])?;
+    let result = ended(rt.alloc(), &words, b"\"\xff\"");
+    assert_eq!(rt; result, Err(Fault::Refused(20)));
     for end in 0..BYTES.len() {
         let result = ended(rt.alloc(), &words, &BYTES[..end]);
         assert_eq!(rt; result, Err(Fault::Refused(20)));

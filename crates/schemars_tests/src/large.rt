@@ -1,5 +1,6 @@
 //! The text of documents of large tables.
-use crate::expect::{expect, new_row, table_of};
+use crate::expect::expect;
+use schemagen_input::read_table;
 use schemars::types::{Shape, TypeEntry, Types};
 use schemars::{SchemaGenerator, SchemaSettings};
 use std::alloc::Global;
@@ -22,14 +23,19 @@ const OWN: &str =
 const OWN_TEXT: &str =
     r##"{"$schema":"https://json-schema.org/draft/2020-12/schema","title":"R","type":"array","items":{"$ref":"#/$defs/A"},"$defs":{"A":{"type":"boolean"},"C":true}}"##;
 
-// The table with more rows, of which none is a part of another.
-fn enlarged(alloc: Global, text: &str) -> Result<Types, Fail> {
-    let mut types = table_of(alloc, text)?;
+fn add_rows(alloc: Global, types: &mut Types) -> Result<(), Fail> {
     for n in types.len()..ROWS {
         let id = format!(in alloc; "row {n}")?;
-        let row = new_row(alloc, &mut types, id.as_str(), "")?;
+        let row = types.reserve(id, String::new(alloc))?;
         types.define(row, TypeEntry::without_notes(alloc, true, Shape::Bool))?;
     }
+    Ok(())
+}
+
+// The table with more rows, of which none is a part of another.
+fn enlarged(alloc: Global, text: &str) -> Result<Types, Fail> {
+    let (mut types, _root) = read_table(alloc, text.as_bytes())?;
+    add_rows(alloc, &mut types)?;
     Ok(types)
 }
 

@@ -1,20 +1,19 @@
 //! Tests of the libraries below, in a crate of their own, so that none of those is proved twice.
 //!
-//! What a run or a call answers to an input is a case in one of the files of `schemagen_cases`.
+//! What a run or a call answers to an input is a case in one of the files of `schemagen_cases`, and
+//! what calls of a table or a generator answer in one of those of `schemars_cases`.
 #![tactic(auto)]
 
 #[cfg(test)]
-mod checks;
+mod boxes;
+#[cfg(test)]
+mod closure;
 #[cfg(test)]
 mod definitions;
-#[cfg(test)]
-mod entries;
 #[cfg(test)]
 mod example;
 #[cfg(test)]
 mod expect;
-#[cfg(test)]
-mod generator;
 #[cfg(test)]
 mod inputs;
 #[cfg(test)]
@@ -23,12 +22,6 @@ mod large;
 mod names;
 #[cfg(test)]
 mod narrow;
-#[cfg(test)]
-mod registered;
-#[cfg(test)]
-mod schema;
-#[cfg(test)]
-mod settings;
 #[cfg(test)]
 mod streams;
 #[cfg(test)]

@@ -1,5 +1,5 @@
 //! Sources and sinks that fail.
-use crate::inputs::words_of;
+use crate::expect::words_of;
 use crate::narrow::Narrow;
 use schemagen_run::fault::Fault;
 use schemagen_run::run::run;
@@ -7,6 +7,7 @@ use schemagen_run::streams::{Sink, SinkOf, Source, SourceOf};
 use std::alloc::Global;
 use std::io;
 use std::io::{Error, ErrorKind, Read, Write};
+use std::process::Abort;
 use std::test::Fail;
 
 const ANY: &[u8] = br#"{"types":[{"id":"t","name":"T","inline":true,"shape":"any"}],"root":0}"#;
@@ -53,10 +54,6 @@ fn trickle_of(calls: Calls) -> Trickle<'static> {
     }
 }
 
-fn narrow_of(alloc: Global, calls: Calls) -> Narrow {
-    Narrow::new(alloc, calls.block, calls.writes, calls.fails)
-}
-
 // How a run ends over such streams.
 fn ended(alloc: Global, words: &[String], calls: Calls, narrow: &mut Narrow) -> Result<(), Fault> {
     let mut source = SourceOf::new(trickle_of(calls));
@@ -72,21 +69,9 @@ fn ends(
     end: Result<(), Fault>,
     taken: usize,
 ) -> bool {
-    let mut narrow = narrow_of(alloc, calls);
+    let mut narrow = Narrow::new(alloc, calls.block, calls.writes, calls.fails);
     let result = ended(alloc, words, calls, &mut narrow);
     result == end && narrow.taken.len() == taken && LINE.starts_with(&narrow.taken)
-}
-
-// Whether a run over such streams writes the line, or is refused for its sink behind a beginning.
-fn ends_somewhere(alloc: Global, words: &[String], calls: Calls) -> bool {
-    let mut narrow = narrow_of(alloc, calls);
-    match ended(alloc, words, calls, &mut narrow) {
-        Ok(()) => narrow.taken.as_slice() == LINE,
-        Err(fault) => {
-            let part = narrow.taken.len() < LINE.len() && LINE.starts_with(&narrow.taken);
-            fault == Fault::Refused(24) && part
-        }
-    }
 }
 
 // Sizes of blocks, how many calls read the input to its end, and how many write the line.
@@ -104,11 +89,10 @@ fn calls_of(block: usize, reads: usize, writes: usize, fails: bool) -> Calls {
 #[test]
 fn failed_sources_are_told(rt: HostRuntime) -> Result<(), Fail> {
     let words = words_of(rt.alloc(), &["types", "2020-12"])?;
-    let refused = Err(Fault::Refused(23));
     for (block, all, _) in BLOCKS {
         for reads in 0..all {
             let calls = calls_of(block, reads, 1000, true);
-            assert!(rt; ends(rt.alloc(), &words, calls, refused, 0));
+            assert!(rt; ends(rt.alloc(), &words, calls, Err(Fault::Refused(23)), 0));
         }
         let calls = calls_of(block, all, 1000, true);
         assert!(rt; ends(rt.alloc(), &words, calls, Ok(()), LINE.len()));
@@ -116,30 +100,26 @@ fn failed_sources_are_told(rt: HostRuntime) -> Result<(), Fail> {
     Ok(())
 }
 
-#[test]
-fn failed_sinks_are_told(rt: HostRuntime) -> Result<(), Fail> {
-    let words = words_of(rt.alloc(), &["types", "2020-12"])?;
-    let refused = Err(Fault::Refused(24));
-    for fails in [true, false] {
-        for writes in 0..LINE.len() {
-            let calls = calls_of(1, 1000, writes, fails);
-            assert!(rt; ends(rt.alloc(), &words, calls, refused, writes));
+// The newline is the last write.
+fn expect_failed_sinks(rt: &impl Abort, alloc: Global, words: &[String], fails: bool) {
+    for (block, _, all) in BLOCKS {
+        for writes in 0..all {
+            let calls = calls_of(block, 1000, writes, fails);
+            let taken = block
+                .saturating_mul(writes)
+                .min(LINE.len().saturating_sub(1));
+            assert!(rt; ends(alloc, words, calls, Err(Fault::Refused(24)), taken));
         }
-        let calls = calls_of(1, 1000, LINE.len(), fails);
-        assert!(rt; ends(rt.alloc(), &words, calls, Ok(()), LINE.len()));
+        let calls = calls_of(block, 1000, all, fails);
+        assert!(rt; ends(alloc, words, calls, Ok(()), LINE.len()));
     }
-    Ok(())
 }
 
 #[test]
-fn sinks_fail_in_blocks(rt: HostRuntime) -> Result<(), Fail> {
+fn failed_sinks_are_told(rt: HostRuntime) -> Result<(), Fail> {
     let words = words_of(rt.alloc(), &["types", "2020-12"])?;
-    for (block, _, _) in BLOCKS {
-        for writes in 0..LINE.len() {
-            let calls = calls_of(block, 1000, writes, true);
-            assert!(rt; ends_somewhere(rt.alloc(), &words, calls));
-        }
-    }
+    expect_failed_sinks(&rt, rt.alloc(), &words, true);
+    expect_failed_sinks(&rt, rt.alloc(), &words, false);
     Ok(())
 }
 
@@ -234,7 +214,7 @@ fn interrupted_calls_are_made_again(rt: HostRuntime) -> Result<(), Fail> {
     let words = words_of(rt.alloc(), &["types", "2020-12"])?;
     for (block, reads, writes) in BLOCKS {
         let calls = calls_of(block, reads, writes, true);
-        let mut narrow = narrow_of(rt.alloc(), calls);
+        let mut narrow = Narrow::new(rt.alloc(), block, writes, true);
         let (result, before_reads, before_writes) = signals_of(
             rt.alloc(),
             &words,

@@ -128,18 +128,6 @@ fn is_text(alloc: Global, case: &Case) -> bool {
     }
 }
 
-#[test]
-fn texts_are_those_written_by_hand(rt: HostRuntime) -> Result<(), Fail> {
-    for case in &small_cases(rt.alloc())? {
-        assert!(rt; is_text(rt.alloc(), case));
-    }
-    for case in &long_cases(rt.alloc())? {
-        assert!(rt; is_text(rt.alloc(), case));
-        assert!(rt; case.text.len() > 4 * 4096, "several blocks");
-    }
-    Ok(())
-}
-
 // How many bytes a sink takes a call; a block has 4,096.
 const SIZES: [usize; 9] = [1, 2, 3, 5, 7, 64, 4095, 4096, 4097];
 
@@ -154,8 +142,9 @@ fn arrives(alloc: Global, case: &Case, size: usize) -> bool {
 fn sinks_that_take_a_part_get_the_text(rt: HostRuntime) -> Result<(), Fail> {
     let small = small_cases(rt.alloc())?;
     let long = long_cases(rt.alloc())?;
-    for size in SIZES {
-        for case in small.iter().chain(&long) {
+    for case in small.iter().chain(&long) {
+        assert!(rt; is_text(rt.alloc(), case));
+        for size in SIZES {
             assert!(rt; arrives(rt.alloc(), case, size), "{size} bytes a call");
         }
     }
@@ -256,11 +245,12 @@ fn sinks_that_fail_in_a_block_have_a_beginning(rt: HostRuntime) -> Result<(), Fa
     Ok(())
 }
 
-// A longer text is handed over in blocks, and a text without escapes that is longer than a block
+// A longer text is handed over in several blocks, and a text without escapes that is longer than a block
 // by itself.
 #[test]
 fn sinks_that_fail_between_blocks_have_a_beginning(rt: HostRuntime) -> Result<(), Fail> {
     for case in &long_cases(rt.alloc())? {
+        assert!(rt; case.text.len() > 4 * 4096);
         for size in [4095, 4096, 4097] {
             let calls = calls_for(&rt, rt.alloc(), case, size);
             let least = case.text.len().div_ceil(size);

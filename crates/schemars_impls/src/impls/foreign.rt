@@ -3,4 +3,4 @@ mod byte_strings;
 mod choices;
 mod containers;
 mod dates;
-mod identifiers;
+pub(crate) mod identifiers;

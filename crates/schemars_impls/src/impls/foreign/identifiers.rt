@@ -96,7 +96,12 @@ fn version_schema(alloc: Global) -> Result<Schema, AllocError>
 }
 
 // Writes a text under a key of the schema.
-fn insert_text(alloc: Global, schema: &mut Schema, key: &str, text: &str) -> Result<(), AllocError>
+pub(crate) fn insert_text(
+    alloc: Global,
+    schema: &mut Schema,
+    key: &str,
+    text: &str,
+) -> Result<(), AllocError>
     ensures { OnOk result (schema.new ≡ inserted key.now (string text.now) schema.old) }
 {
     let text = String::from_str(alloc, text)?;

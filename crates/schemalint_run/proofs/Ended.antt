@@ -1,0 +1,17 @@
+-- Lines whose last one ends in a newline.
+use Rattle.std.proofs.Common.{◌≡◌, ℕ, List, [], ◌∷◌, ◌++◌, ◌-◌, inr, true, refl, sym, ap, ◌∙◌, length, take, drop}
+use Rattle.std.proofs.lemmas.List.{take-append-drop}
+use Rattle.std.proofs.lemmas.Bool.{and_parts}
+use Rattle.std.proofs.lemmas.Bool.Decides.{Decides-eqb}
+use Rattle.std.specs.List.{pointwise, ends_with}
+use Rattle.std.specs.Prelude.{◌==◌}
+use Rattle.schemalint_run.specs.Lint.{AreLines}
+
+newline : (xs : List ℕ) → pointwise (λ a b. a == b) (10 ∷ []) xs ≡ true → xs ≡ 10 ∷ []
+newline (x ∷ []) h = ap (λ y. y ∷ []) (sym ((Decides-eqb 10 x).0 (and_parts _ _ h).0))
+newline xs h = cc
+
+pub ended : (xs : List ℕ) → ends_with (λ a b. a == b) xs (10 ∷ []) ≡ true → AreLines xs
+ended xs h =
+    let before = take (length xs - 1) xs in
+    inr (before, sym (take-append-drop (length xs - 1) xs) ∙ ap (λ ys. before ++ ys) (newline (drop (length xs - 1) xs) h))
