@@ -13,13 +13,12 @@ use Rattle.schemars_types.specs.Rows.{Row, place_of, id_at, name_at, reserved, d
 use Rattle.schemars_types.proofs.Registered.{place_of-below, nat_le-above}
 use Rattle.schemars_types.proofs.TableLemmas.{place_of-reserved, reserved-absent, place_of-defined}
 use Rattle.schemars_impls.specs.Describes.{IsMade, Making, OfOne, OfArray}
-use Rattle.schemars_impls.specs.Dictionary.{Told, Dictionary, IsNamed, Follows, TypeRow, IsTold, IsLeft, IsInPart, KeepsTo, RefusesAs}
-use Rattle.schemars_impls.specs.Dictionary.{Describes, RefusesPart}
+use Rattle.schemars_impls.specs.Dictionary.{Told, Dictionary, IsNamed, Follows, TypeRow, IsTold, IsLeft, IsInPart, KeepsTo, RefusesPart, of_one}
 use Rattle.schemars_impls.specs.Containers.{option_row, seq_row, set_row, array_row}
 use Rattle.schemars_impls.specs.OwnRows.{RefusesNumbers, with_row, HasRow, HasRowOf, HasOptionOf, HasSeqOf, HasSetOf, HasArrayOf}
 use Rattle.schemars_impls.specs.OwnRows.{IsReserved, IsCalled, called, IsMadeOf, IsOptionOf, IsSeqOf, IsSetOf, IsArrayOf}
-use Rattle.schemars_impls.specs.Keeps.{Keeps}
-use Rattle.schemars_impls.proofs.Keeping.{keeps-same, keeps-trans, all-joined, reserved_keeps}
+use Rattle.schemars_impls.specs.Keeps.{Keeps, KeepsRows}
+use Rattle.schemars_impls.proofs.Keeping.{keeps-same, keeps-trans, all-joined, reserved_keeps, place_of-kept}
 use Rattle.schemars_impls.proofs.Following.{follows-reserved, follows-joined, made-kept, id-there}
 use Rattle.schemars_impls.proofs.Registering.{named, described}
 
@@ -103,11 +102,6 @@ array-known id rows n len there = by (len == 0)
     by true = refl
     by false = known-alone id rows n there
 
-pub reserved-refuses : (R : Dictionary → Type 0) (id name : Text) (old new : List Row) (e : TypesError) → new ≡ reserved id name old
-    → e ≡ OutOfMemory → RefusesAs R old new e
-reserved-refuses R id name old new e is memory =
-    record { kept = reserved_keeps id name old new is; each = λ d h f. record { cause = inl memory } }
-
 -- ---- in the words of the law
 
 pub self_reserved : (t : TypeRow) (d : Dictionary) → IsInPart t d → IsReserved t.id t.name d
@@ -115,12 +109,8 @@ self_reserved t d h = record { left = subst IsLeft (sym h.pending) tt; named = n
 
 pub reserve_follows : (id name : Text) (old new : List Row) → new ≡ reserved id name old → KeepsTo (IsReserved id name) old new
 reserve_follows id name old new is = record {
-  kept = reserved_keeps id name old new is;
   each = λ d h f. subst (Follows d) (sym is) (follows-reserved d id name old f h.left h.named);
 }
-
-pub reserve_refuses : (R : Dictionary → Type 0) (old new : List Row) (e : TypesError) → new ≡ old → e ≡ OutOfMemory → RefusesAs R old new e
-reserve_refuses R old new e is memory = record { kept = keeps-same old new is; each = λ d h f. record { cause = inl memory } }
 
 called-there : (id name : Text) (d : Dictionary) (rows : List Row) (n : ℕ) → IsCalled id name d → Follows d rows → place_of id rows ≡ Some n
     → name_at rows n ≡ name
@@ -166,40 +156,35 @@ module _ (t : TypeRow) (id name : Text) (made_name : Text → Text) (make : ℕ 
       row-follows t d (make has.part) (made_name (name_at mid has.part)) mid new m row h.told g (made mid has.part has.place)
       (λ some. ap made_name (called-there id name d mid has.part (h.part some) g has.place) ∙ name_is)
 
-  made-keeps : (old new : List Row) (m : ℕ) → HasRowOf id name t.id made_name make old new m → Keeps old new
-  made-keeps old new m has =
-      keeps-trans (reserved_keeps id name old (reserved id name old) refl)
-      (has-keeps t.id (made_name (name_at (reserved id name old) has.part)) (make has.part) (reserved id name old) new m has.has)
+pub row_of_keeps : {id name made_id : Text} {made_name : Text → Text} {make : ℕ → Entry} {old new : List Row} {n : ℕ}
+    → HasRowOf id name made_id made_name make old new n → Keeps old new
+row_of_keeps {id = id} {name = name} {made_id = made_id} {made_name = made_name} {make = make} {old = old} {new = new} {n = n} has =
+    keeps-trans (reserved_keeps id name old (reserved id name old) refl)
+    (has-keeps made_id (made_name (name_at (reserved id name old) has.part)) (make has.part) (reserved id name old) new n has.has)
 
-pub option_follows : {id name : Text} {old new : List Row} {m : ℕ} → HasOptionOf id name old new m → KeepsTo (IsOptionOf id name) old new
-option_follows {id = id} {name = name} {old = old} {new = new} {m = m} has =
+pub option_follows : (id name : Text) {old new : List Row} {m : ℕ} → HasOptionOf id name old new m → KeepsTo (IsOptionOf id name) old new
+unfolding IsOptionOf option_row of_one
+option_follows id name {old = old} {new = new} {m = m} has =
     let t = option_row (called id name) in
     let make = λ (k : ℕ). in_place (option k) in
     let made = λ (rows : List Row) (n : ℕ) (there : place_of id rows ≡ Some n). ap (option_map make) there in
-    record {
-      kept = made-keeps t id name option_name make refl made (λ n. refl) old new m has;
-      each = λ d h f. made-each t id name option_name make refl made (λ n. refl) old new m has d h.made f;
-    }
+    record { each = λ d h f. made-each t id name option_name make refl made (λ n. refl) old new m has d h f }
 
-pub seq_follows : {id name : Text} {old new : List Row} {m : ℕ} → HasSeqOf id name old new m → KeepsTo (IsSeqOf id name) old new
-seq_follows {id = id} {name = name} {old = old} {new = new} {m = m} has =
+pub seq_follows : (id name : Text) {old new : List Row} {m : ℕ} → HasSeqOf id name old new m → KeepsTo (IsSeqOf id name) old new
+unfolding IsSeqOf seq_row of_one
+seq_follows id name {old = old} {new = new} {m = m} has =
     let t = seq_row (called id name) in
     let make = λ (k : ℕ). in_place (seq k) in
     let made = λ (rows : List Row) (n : ℕ) (there : place_of id rows ≡ Some n). ap (option_map make) there in
-    record {
-      kept = made-keeps t id name seq_name make refl made (λ n. refl) old new m has;
-      each = λ d h f. made-each t id name seq_name make refl made (λ n. refl) old new m has d h.made f;
-    }
+    record { each = λ d h f. made-each t id name seq_name make refl made (λ n. refl) old new m has d h f }
 
-pub set_follows : {id name : Text} {old new : List Row} {m : ℕ} → HasSetOf id name old new m → KeepsTo (IsSetOf id name) old new
-set_follows {id = id} {name = name} {old = old} {new = new} {m = m} has =
+pub set_follows : (id name : Text) {old new : List Row} {m : ℕ} → HasSetOf id name old new m → KeepsTo (IsSetOf id name) old new
+unfolding IsSetOf set_row of_one
+set_follows id name {old = old} {new = new} {m = m} has =
     let t = set_row (called id name) in
     let make = λ (k : ℕ). in_place (set k) in
     let made = λ (rows : List Row) (n : ℕ) (there : place_of id rows ≡ Some n). ap (option_map make) there in
-    record {
-      kept = made-keeps t id name set_name make refl made (λ n. refl) old new m has;
-      each = λ d h f. made-each t id name set_name make refl made (λ n. refl) old new m has d h.made f;
-    }
+    record { each = λ d h f. made-each t id name set_name make refl made (λ n. refl) old new m has d h f }
 
 array-made : (b : Bool) (len : ℕ) (o : Option ℕ) (n : ℕ) → o ≡ Some n
     → (if b then Some (in_place (tuple [])) else option_map (λ k. in_place (array k len)) o)
@@ -207,16 +192,14 @@ array-made : (b : Bool) (len : ℕ) (o : Option ℕ) (n : ℕ) → o ≡ Some n
 array-made true len o n there = refl
 array-made false len o n there = ap (option_map (λ k. in_place (array k len))) there
 
-pub array_follows : {len : ℕ} {id name : Text} {old new : List Row} {m : ℕ} → HasArrayOf len id name old new m
+pub array_follows : (len : ℕ) (id name : Text) {old new : List Row} {m : ℕ} → HasArrayOf len id name old new m
     → KeepsTo (IsArrayOf len id name) old new
-array_follows {len = len} {id = id} {name = name} {old = old} {new = new} {m = m} has =
+unfolding IsArrayOf array_row
+array_follows len id name {old = old} {new = new} {m = m} has =
     let t = array_row (called id name) len in
     let make = λ (k : ℕ). in_place (array_of k len) in
     let made = λ (rows : List Row) (n : ℕ) (there : place_of id rows ≡ Some n). array-made (len == 0) len (place_of id rows) n there in
-    record {
-      kept = made-keeps t id name (λ x. array_name x len) make refl made (λ n. refl) old new m has;
-      each = λ d h f. made-each t id name (λ x. array_name x len) make refl made (λ n. refl) old new m has d h.made f;
-    }
+    record { each = λ d h f. made-each t id name (λ x. array_name x len) make refl made (λ n. refl) old new m has d h f }
 
 -- ---- numbers
 
@@ -231,12 +214,17 @@ numbers_unknown rows n ns e is above =
     record { cause = inr (rw past (ap Some (sym is))) }
 
 -- numbers of rows are not refused
-pub part_numbers : {t : TypeRow} {old rows : List Row} {ns : List ℕ} {e : TypesError} → Describes t old rows → RefusesNumbers rows ns e
-    → find (λ m. nat_le (length rows) m) ns ≡ None → RefusesPart t old rows e
-part_numbers {rows = rows} {ns = ns} {e = e} before h known =
-    record { kept = before.kept; each = λ d in_d f. record { cause = by d h.cause } }
+pub part_numbers : {t : TypeRow} {old rows : List Row} {ns : List ℕ} {e : TypesError} → RefusesNumbers rows ns e
+    → find (λ m. nat_le (length rows) m) ns ≡ None → RefusesPart t old e
+part_numbers {rows = rows} {ns = ns} {e = e} h known =
+    record { each = λ d in_d f. record { cause = by d h.cause } }
   where
     by : (d : Dictionary) → (e ≡ OutOfMemory) ⊎ (option_map UnknownType (find (λ m. nat_le (length rows) m) ns) ≡ Some e)
         → (e ≡ OutOfMemory) ⊎ (d.refuses e ≡ true)
     by d (inl memory) = inl memory
     by d (inr unknown) = let never : None ≡ Some e = ap (option_map UnknownType) (sym known) ∙ unknown in cc
+
+-- the number of a row that was there before other calls
+pub part_placed : {t : TypeRow} {old before rows : List Row} (id : Text) {n : ℕ} {e : TypesError} → RefusesNumbers rows (n ∷ []) e
+    → place_of id before ≡ Some n → KeepsRows before rows → RefusesPart t old e
+part_placed {rows = rows} id {n = n} h there kept = part_numbers h (known-alone id rows n (place_of-kept id n kept.keeps there))

@@ -8,11 +8,11 @@ use Rattle.schemars_types.specs.Rows.{Row, place_of}
 use Rattle.schemars_impls.specs.Dictionary.{Dictionary, TypeRow, IsInPart, KeepsTo, RefusesAs, Describes, RefusesPart}
 use Rattle.schemars_types.proofs.Registered.{nat_le-above, place_of-below}
 use Rattle.schemars_impls.specs.Fields.{FieldsAreKnown, PartsAreKnown, VariantsAreKnown, bare_variant, plain_field, part}
-use Rattle.schemars_impls.specs.Keeps.{Keeps}
-use Rattle.schemars_impls.proofs.Keeping.{keeps-refl, keeps-trans, numbers-kept, known-one, place_of-kept}
+use Rattle.schemars_impls.specs.Keeps.{Keeps, KeepsRows}
+use Rattle.schemars_impls.proofs.Keeping.{keeps-refl, keeps-same, numbers-kept, known-one, place_of-kept, reserved_keeps}
 use Rattle.schemars_impls.proofs.Composing.{keeps_to_refl, keeps_to_part, refuses_memory, refuses_part, describes_none, describes_then}
-use Rattle.schemars_impls.proofs.Composing.{describes_by, part_memory, part_refuses}
-use Rattle.schemars_impls.proofs.OwnRows.{self_reserved, reserve_follows, reserve_refuses, numbers_memory, numbers_unknown, part_numbers}
+use Rattle.schemars_impls.proofs.Composing.{part_memory, part_refuses, rows_none, rows_then}
+use Rattle.schemars_impls.proofs.OwnRows.{self_reserved, reserve_follows, numbers_memory, numbers_unknown, part_placed, row_of_keeps}
 
 -- no fields, and fields in a table that keeps its rows
 pub no_fields : (rows : List Row) → FieldsAreKnown rows []
@@ -127,6 +127,7 @@ flat_known rows fields parts h k = both_known (length rows) (map (λ f. f.ty) fi
 -- what the calls need that add fields, variants and rows
 pub ruleset adding = (
   keeps-refl,
+  keeps-same,
   fields_kept,
   parts_kept,
   variants_kept,
@@ -139,7 +140,8 @@ pub ruleset adding = (
   struct_added,
   flat_known,
   reserve_follows,
-  reserve_refuses,
+  row_of_keeps,
+  reserved_keeps,
   numbers_memory,
   numbers_unknown,
   keeps_to_refl,
@@ -150,29 +152,39 @@ pub ruleset adding = (
 
 -- ---- several calls, one after another
 
-pub describes_two : {t : TypeRow} {P Q : Dictionary → Type 0} {a b c d : List Row} → KeepsTo P a b
-    → ((x : Dictionary) → IsInPart t x → P x) → KeepsTo Q b c → ((x : Dictionary) → IsInPart t x → Q x) → Describes t c d → Describes t a d
-describes_two p within_p q within_q rest = describes_then p within_p (describes_then q within_q rest)
+pub describes_two : {t : TypeRow} {P Q : Dictionary → Type 0} {a b c d : List Row} → KeepsTo P a b → KeepsTo Q b c → Describes t c d
+    → ((x : Dictionary) → IsInPart t x → P x) → ((x : Dictionary) → IsInPart t x → Q x) → Describes t a d
+describes_two p q rest within_p within_q = describes_then p (describes_then q rest within_q) within_p
 
-pub describes_four : {t : TypeRow} {P Q R S : Dictionary → Type 0} {a b c d e f : List Row} → KeepsTo P a b
-    → ((x : Dictionary) → IsInPart t x → P x) → KeepsTo Q b c → ((x : Dictionary) → IsInPart t x → Q x) → KeepsTo R c d
-    → ((x : Dictionary) → IsInPart t x → R x) → KeepsTo S d e → ((x : Dictionary) → IsInPart t x → S x) → Describes t e f → Describes t a f
-describes_four p within_p q within_q r within_r s within_s rest =
-    describes_two p within_p q within_q (describes_two r within_r s within_s rest)
+pub describes_four : {t : TypeRow} {P Q R S : Dictionary → Type 0} {a b c d e f : List Row} → KeepsTo P a b → KeepsTo Q b c
+    → KeepsTo R c d → KeepsTo S d e → Describes t e f → ((x : Dictionary) → IsInPart t x → P x) → ((x : Dictionary) → IsInPart t x → Q x)
+    → ((x : Dictionary) → IsInPart t x → R x) → ((x : Dictionary) → IsInPart t x → S x) → Describes t a f
+describes_four p q r s rest within_p within_q within_r within_s =
+    describes_two p q (describes_two r s rest within_r within_s) within_p within_q
 
-pub describes_eight : {t : TypeRow} {P Q R S U V W X : Dictionary → Type 0} {a b c d e f g h i j : List Row} → KeepsTo P a b
-    → ((x : Dictionary) → IsInPart t x → P x) → KeepsTo Q b c → ((x : Dictionary) → IsInPart t x → Q x) → KeepsTo R c d
-    → ((x : Dictionary) → IsInPart t x → R x) → KeepsTo S d e → ((x : Dictionary) → IsInPart t x → S x) → KeepsTo U e f
-    → ((x : Dictionary) → IsInPart t x → U x) → KeepsTo V f g → ((x : Dictionary) → IsInPart t x → V x) → KeepsTo W g h
-    → ((x : Dictionary) → IsInPart t x → W x) → KeepsTo X h i → ((x : Dictionary) → IsInPart t x → X x) → Describes t i j → Describes t a j
-describes_eight p within_p q within_q r within_r s within_s u within_u v within_v w within_w x within_x rest =
-    describes_four p within_p q within_q r within_r s within_s (describes_four u within_u v within_v w within_w x within_x rest)
+pub describes_eight : {t : TypeRow} {P Q R S U V W X : Dictionary → Type 0} {a b c d e f g h i j : List Row} → KeepsTo P a b → KeepsTo Q b c
+    → KeepsTo R c d → KeepsTo S d e → KeepsTo U e f → KeepsTo V f g → KeepsTo W g h → KeepsTo X h i → Describes t i j
+    → ((x : Dictionary) → IsInPart t x → P x) → ((x : Dictionary) → IsInPart t x → Q x) → ((x : Dictionary) → IsInPart t x → R x)
+    → ((x : Dictionary) → IsInPart t x → S x) → ((x : Dictionary) → IsInPart t x → U x) → ((x : Dictionary) → IsInPart t x → V x)
+    → ((x : Dictionary) → IsInPart t x → W x) → ((x : Dictionary) → IsInPart t x → X x) → Describes t a j
+describes_eight p q r s u v w x rest within_p within_q within_r within_s within_u within_v within_w within_x =
+    describes_four p q r s (describes_four u v w x rest within_u within_v within_w within_x) within_p within_q within_r within_s
 
 -- a call that refuses behind others
-pub part_after : {t : TypeRow} {P : Dictionary → Type 0} {old mid new : List Row} {e : TypesError} → RefusesAs P mid new e
-    → ((d : Dictionary) → IsInPart t d → P d) → Describes t old mid → RefusesPart t old new e
-part_after p within before =
-    record { kept = keeps-trans before.kept p.kept; each = λ d h f. p.each d (within d h) (before.each d h f) }
+pub part_after : {t : TypeRow} {P : Dictionary → Type 0} {old mid : List Row} {e : TypesError} → RefusesAs P mid e → Describes t old mid
+    → ((d : Dictionary) → IsInPart t d → P d) → RefusesPart t old e
+part_after p before within = record { each = λ d h f. p.each d (within d h) (before.each d h f) }
+
+-- the rows, over several calls
+pub rows_two : {a b c d : List Row} → Keeps a b → Keeps b c → KeepsRows c d → KeepsRows a d
+rows_two p q rest = rows_then p (rows_then q rest)
+
+pub rows_four : {a b c d e f : List Row} → Keeps a b → Keeps b c → Keeps c d → Keeps d e → KeepsRows e f → KeepsRows a f
+rows_four p q r s rest = rows_two p q (rows_two r s rest)
+
+pub rows_eight : {a b c d e f g h i j : List Row} → Keeps a b → Keeps b c → Keeps c d → Keeps d e → Keeps e f → Keeps f g → Keeps g h
+    → Keeps h i → KeepsRows i j → KeepsRows a j
+rows_eight p q r s u v w x rest = rows_four p q r s (rows_four u v w x rest)
 
 -- What a type of one's own needs whose fields join one after another: `using` names it in the crate of the type.
 pub ruleset own_types = (
@@ -185,15 +197,19 @@ pub ruleset own_types = (
   numbers-kept,
   place_of-kept,
   known-one,
+  rows_none,
+  rows_eight,
+  rows_four,
+  rows_two,
+  rows_then,
   self_reserved,
   describes_none,
   describes_eight,
   describes_four,
   describes_two,
   describes_then,
-  describes_by,
   part_memory,
-  part_numbers,
+  part_placed,
   part_refuses,
   part_after,
 )

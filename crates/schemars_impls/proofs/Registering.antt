@@ -13,10 +13,10 @@ use Rattle.schemars_types.proofs.Registered.{place_of-below, nat_le-above}
 use Rattle.schemars_types.proofs.TableLemmas.{place_of-reserved, reserved-absent, place_of-defined, defined-same}
 use Rattle.schemars_impls.specs.Describes.{IsMade, IsDescribed, entry_under}
 use Rattle.schemars_impls.specs.Dictionary.{Told, Stage, Defined, Pending, Open, Dictionary, staged, IsNamed, IsEntryOf, IsAtStage}
-use Rattle.schemars_impls.specs.Dictionary.{Follows, TypeRow, IsTold, IsFree, IsLeft, IsIn, IsInPart, MayRefuse, KeepsTo, RefusesAs}
+use Rattle.schemars_impls.specs.Dictionary.{Follows, TypeRow, IsTold, IsFree, IsLeft, IsTypeIn, IsIn, IsInPart, MayRefuse, KeepsTo, RefusesAs}
 use Rattle.schemars_impls.specs.Dictionary.{Describes, RefusesPart, Completes}
 use Rattle.schemars_impls.specs.Keeps.{Keeps, AllContinue}
-use Rattle.schemars_impls.proofs.Keeping.{keeps-same, keeps-trans, place_of-kept, defined-there, undefined-reserved, defined-reserved, reserved_keeps}
+use Rattle.schemars_impls.proofs.Keeping.{place_of-kept, defined-there, undefined-reserved, defined-reserved}
 use Rattle.schemars_impls.proofs.Following.{made-kept, name_at-last, staged-same, restaged, restaged-twice, follows-open, follows-reserved}
 use Rattle.schemars_impls.proofs.Following.{follows-defined, follows-settled}
 
@@ -35,7 +35,15 @@ described (Some x) t rows given h made =
     subst (λ (y : Told). IsDescribed y.making y.inline rows (record given { inline = t.inline })) (sym h)
     (record { given = given; made = made; is = refl })
 
-in_part : (t : TypeRow) (d : Dictionary) → IsIn t d → IsInPart t (staged t.id Pending d)
+pub type_in : (t : TypeRow) (d : Dictionary) → IsIn t d → IsTypeIn t d
+unfolding IsIn
+type_in t d h = h
+
+pub is_in : (t : TypeRow) (d : Dictionary) → IsTypeIn t d → IsIn t d
+unfolding IsIn
+is_in t d h = h
+
+in_part : (t : TypeRow) (d : Dictionary) → IsTypeIn t d → IsInPart t (staged t.id Pending d)
 in_part t d h = record { told = h.told; pending = staged-same t.id Pending d; parts = h.parts }
 
 -- ---- a row that is described
@@ -43,7 +51,7 @@ in_part t d h = record { told = h.told; pending = staged-same t.id Pending d; pa
 module _ (t : TypeRow) (old mid last : List Row) (n : ℕ) (mid_is : mid ≡ reserved t.id t.name old) (there : place_of t.id mid ≡ Some n)
     (missing : is_some (entry_at mid n) ≡ false) where
   -- its row is reserved, and has no entry
-  described-mid : (d : Dictionary) → IsIn t d → Follows d old → Follows (staged t.id Pending d) mid
+  described-mid : (d : Dictionary) → IsTypeIn t d → Follows d old → Follows (staged t.id Pending d) mid
   described-mid d h f =
       let left : IsLeft ((staged t.id Open d).stage t.id) = subst IsLeft (sym (staged-same t.id Open d)) tt in
       let reserved_open : Follows (staged t.id Open d) mid = subst (Follows (staged t.id Open d)) (sym mid_is)
@@ -53,48 +61,47 @@ module _ (t : TypeRow) (old mid last : List Row) (n : ℕ) (mid_is : mid ≡ res
       (λ m placed. let ms : Some m ≡ Some n = sym placed ∙ there in let m_is : n ≡ m = cc in
       ap (λ k. is_some (entry_at mid k)) (sym m_is) ∙ missing) (λ is. ap is_some there))
 
-  kept-mid : Keeps old mid
-  kept-mid = reserved_keeps t.id t.name old mid mid_is
-
-  pub part-refused : (e : TypesError) → RefusesPart t mid last e → RefusesAs (IsIn t) old last e
+  pub part-refused : (e : TypesError) → RefusesPart t mid e → RefusesAs (IsIn t) old e
   part-refused e inside = record {
-    kept = keeps-trans kept-mid inside.kept;
-    each = λ d h f. let why = inside.each (staged t.id Pending d) (in_part t d h) (described-mid d h f) in record { cause = why.cause };
+    each = λ d is f.
+        let h = type_in t d is in
+        let why = inside.each (staged t.id Pending d) (in_part t d h) (described-mid d h f) in record { cause = why.cause };
   }
 
-  completed : (b : Bool) (given : Entry) (new : List Row) → b ≡ t.inline → Describes t mid last
-      → IsMade t.making last given → new ≡ defined n (record given { inline = b }) last → Keeps last new → (d : Dictionary) → IsIn t d
+  completed : (b : Bool) (given : Entry) (new : List Row) → b ≡ t.inline → Keeps mid last → Describes t mid last
+      → IsMade t.making last given → new ≡ defined n (record given { inline = b }) last → Keeps last new → (d : Dictionary) → IsTypeIn t d
       → Follows d old → Follows (staged t.id Defined d) new
-  completed b given new b_is inside made new_is kept_new d h f =
+  completed b given new b_is kept inside made new_is kept_new d h f =
       let e : Entry = record given { inline = t.inline } in
       let later = inside.each (staged t.id Pending d) (in_part t d h) (described-mid d h f) in
       let is : new ≡ defined n e last = new_is ∙ ap (λ x. defined n (record given { inline = x }) last) b_is in
-      let placed = place_of-kept t.id n inside.kept there in
+      let placed = place_of-kept t.id n kept there in
       let kept_defined : Keeps last (defined n e last) = subst (Keeps last) is kept_new in
       subst (Follows (staged t.id Defined d)) (sym is)
       (follows-defined d t.id n e last later placed (defined-there t.id last (defined n e last) n e placed refl) kept_defined
       (described (d.told t.id) t (defined n e last) given h.told (made-kept t.making last (defined n e last) given kept_defined made)))
 
-  pub registered-completes : (b : Bool) (given : Entry) (new : List Row) → b ≡ t.inline → Describes t mid last
+  pub registered-completes : (b : Bool) (given : Entry) (new : List Row) → b ≡ t.inline → Keeps mid last → Describes t mid last
       → IsMade t.making last given → new ≡ defined n (record given { inline = b }) last → Keeps last new → Completes t old new
-  registered-completes b given new b_is inside made new_is kept_new =
-      record { each = completed b given new b_is inside made new_is kept_new }
+  registered-completes b given new b_is kept inside made new_is kept_new =
+      record { each = λ d is f. completed b given new b_is kept inside made new_is kept_new d (type_in t d is) f }
 
-  pub registered-follows : (b : Bool) (given : Entry) (new : List Row) → b ≡ t.inline → Describes t mid last
+  pub registered-follows : (b : Bool) (given : Entry) (new : List Row) → b ≡ t.inline → Keeps mid last → Describes t mid last
       → IsMade t.making last given → new ≡ defined n (record given { inline = b }) last → Keeps last new → KeepsTo (IsIn t) old new
-  registered-follows b given new b_is inside made new_is kept_new = record {
-    kept = keeps-trans kept-mid (keeps-trans inside.kept kept_new);
-    each = λ d h f. follows-settled d t.id new h.free (completed b given new b_is inside made new_is kept_new d h f);
+  registered-follows b given new b_is kept inside made new_is kept_new = record {
+    each = λ d is f.
+        let h = type_in t d is in
+        follows-settled d t.id new h.free (completed b given new b_is kept inside made new_is kept_new d h f);
   }
 
   -- so `define` never refuses it
-  pub never-refused : (e : Entry) (err : TypesError) (new : List Row) → Describes t mid last → unknown_in last e.shape ≡ None
-      → Some err ≡ refusal_of last n e → new ≡ last → RefusesAs (IsIn t) old new err
-  never-refused e err new inside known refused same = record {
-    kept = keeps-trans kept-mid (keeps-trans inside.kept (keeps-same last new same));
-    each = λ d h f.
+  pub never-refused : (e : Entry) (err : TypesError) → Keeps mid last → Describes t mid last → unknown_in last e.shape ≡ None
+      → Some err ≡ refusal_of last n e → RefusesAs (IsIn t) old err
+  never-refused e err kept inside known refused = record {
+    each = λ d is f.
+        let h = type_in t d is in
         let later = inside.each (staged t.id Pending d) (in_part t d h) (described-mid d h f) in
-        let placed = place_of-kept t.id n inside.kept there in
+        let placed = place_of-kept t.id n kept there in
         let empty : is_some (entry_at last n) ≡ false = subst (λ s. IsAtStage s (is_some (entry_at last n))) (staged-same t.id Pending d)
         ((later.each t.id n placed).stage) in
         let above : nat_le (length last) n ≡ false = nat_le-above (length last) n (place_of-below t.id last n placed) in
@@ -124,10 +131,7 @@ present-same id name old mid n is there full = by (place_of id old) refl
 module _ (t : TypeRow) (old mid : List Row) (n : ℕ) (is : mid ≡ reserved t.id t.name old) (there : place_of t.id mid ≡ Some n)
     (full : is_some (entry_at mid n) ≡ true) where
   pub present-follows : KeepsTo (IsIn t) old mid
-  present-follows = record {
-    kept = keeps-same old mid (present-same t.id t.name old mid n is there full);
-    each = λ d h f. subst (Follows d) (sym (present-same t.id t.name old mid n is there full)) f;
-  }
+  present-follows = record { each = λ d h f. subst (Follows d) (sym (present-same t.id t.name old mid n is there full)) f }
 
   pub present-completes : Completes t old mid
   present-completes = record {

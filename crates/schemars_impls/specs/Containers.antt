@@ -1,4 +1,4 @@
--- What types say that are made of others.
+-- What types say that are made of others, each as one term.
 use Rattle.std.specs.Prelude.{ℕ, ◌==◌, Bool, true, false, List, [], ◌∷◌}
 use Rattle.schemars_schema.specs.Json.{Text}
 use Rattle.schemars_shapes.specs.Shape.{in_place, option, seq, set, tuple, map_from}
@@ -7,16 +7,16 @@ use Rattle.schemars_types.specs.Names.{tuple_id, tuple_name, map_id, map_name}
 use Rattle.schemars_impls.specs.Describes.{OfAll, OfArray}
 use Rattle.schemars_impls.specs.Dictionary.{Dictionary, TypeRow, IsIn, of_one, of_two}
 
-abbrev pub option_row : TypeRow → TypeRow
+unfoldable pub option_row : TypeRow → TypeRow
 option_row t = of_one (option_id t.id) (option_name t.name) true (λ n. in_place (option n)) t
 
-abbrev pub seq_row : TypeRow → TypeRow
+unfoldable pub seq_row : TypeRow → TypeRow
 seq_row t = of_one (seq_id t.id) (seq_name t.name) true (λ n. in_place (seq n)) t
 
-abbrev pub set_row : TypeRow → TypeRow
+unfoldable pub set_row : TypeRow → TypeRow
 set_row t = of_one (set_id t.id) (set_name t.name) true (λ n. in_place (set n)) t
 
-abbrev pub map_row : TypeRow → TypeRow → TypeRow
+unfoldable pub map_row : TypeRow → TypeRow → TypeRow
 map_row key value =
     of_two (map_id key.id value.id) (map_name key.id key.name value.name) true (λ n m. in_place (map_from n m)) key value
 
@@ -25,7 +25,7 @@ abbrev pub HasItems : Bool → TypeRow → Dictionary → Type 0
 HasItems true t d = Unit {0}
 HasItems false t d = IsIn t d
 
-abbrev pub array_row : TypeRow → ℕ → TypeRow
+unfoldable pub array_row : TypeRow → ℕ → TypeRow
 array_row t len = record {
   id = array_id t.id len;
   name = array_name t.name len;
@@ -46,7 +46,7 @@ no_parts = record { ids = []; names = []; are_in = λ d. Unit {0} }
 abbrev pub and_parts : TypeRow → PartRows → PartRows
 and_parts t rest = record { ids = t.id ∷ rest.ids; names = t.name ∷ rest.names; are_in = λ d. IsIn t d × rest.are_in d }
 
-abbrev pub tuple_row : PartRows → TypeRow
+unfoldable pub tuple_row : PartRows → TypeRow
 tuple_row parts = record {
   id = tuple_id parts.ids;
   name = tuple_name parts.names;

@@ -7,7 +7,6 @@ use Rattle.schemars_types.specs.Rows.{Row, place_of, entry_at, name_at}
 use Rattle.schemars_types.specs.declared.error.TypesError.{TypesError}
 use Rattle.schemars_types.specs.declared.error.TypesError.TheVariants.{OutOfMemory}
 use Rattle.schemars_impls.specs.Describes.{Making, Always, OfOne, OfTwo, Unsaid, IsDescribed, entry_under}
-use Rattle.schemars_impls.specs.Keeps.{Keeps}
 
 -- the name of a row, whether it is written in place, and how its entry is made
 pub record Told : Type 0 where
@@ -91,10 +90,14 @@ IsLeft s = Unit {0}
 
 -- The dictionary says of this type's row what the type says, or nothing. The row is not being described. The parts are in the
 -- dictionary in which it is.
-pub record IsIn (t : TypeRow) (d : Dictionary) : Type 0 where
+pub record IsTypeIn (t : TypeRow) (d : Dictionary) : Type 0 where
   pub told : IsTold (d.told t.id) t
   pub free : IsFree (d.stage t.id)
   pub parts : t.parts (staged t.id Pending d)
+
+-- the same, as one fact, into which search does not look
+unfoldable pub IsIn : TypeRow → Dictionary → Type 0
+IsIn t d = IsTypeIn t d
 
 -- The same of a type that is being described.
 pub record IsInPart (t : TypeRow) (d : Dictionary) : Type 0 where
@@ -106,25 +109,20 @@ pub record IsInPart (t : TypeRow) (d : Dictionary) : Type 0 where
 pub record MayRefuse (d : Dictionary) (e : TypesError) : Type 0 where
   pub cause : (e ≡ OutOfMemory) ⊎ (d.refuses e ≡ true)
 
--- A call that adds rows for types keeps those that are there. And it keeps to each dictionary in which the types are (`Are`): a table
--- that follows it follows it afterwards.
+-- A call that adds rows for types keeps to each dictionary in which they are (`Are`): a table that follows it follows it afterwards.
 pub record KeepsTo (Are : Dictionary → Type 0) (old new : List Row) : Type 0 where
-  pub kept : Keeps old new
   pub each : (d : Dictionary) → Are d → Follows d old → Follows d new
 
--- A call that refuses keeps the rows too. Where the table follows such a dictionary, it refuses as that says.
-pub record RefusesAs (Are : Dictionary → Type 0) (old new : List Row) (e : TypesError) : Type 0 where
-  pub kept : Keeps old new
+-- Where the table follows such a dictionary, the call refuses as that says.
+pub record RefusesAs (Are : Dictionary → Type 0) (old : List Row) (e : TypesError) : Type 0 where
   pub each : (d : Dictionary) → Are d → Follows d old → MayRefuse d e
 
--- The same of a call that describes a type: it keeps to the dictionaries in which the type's row is pending,
+-- A call that describes a type keeps to the dictionaries in which its row is pending.
 pub record Describes (t : TypeRow) (old new : List Row) : Type 0 where
-  pub kept : Keeps old new
   pub each : (d : Dictionary) → IsInPart t d → Follows d old → Follows d new
 
--- and refuses as they say.
-pub record RefusesPart (t : TypeRow) (old new : List Row) (e : TypesError) : Type 0 where
-  pub kept : Keeps old new
+-- And it refuses as they say.
+pub record RefusesPart (t : TypeRow) (old : List Row) (e : TypesError) : Type 0 where
   pub each : (d : Dictionary) → IsInPart t d → Follows d old → MayRefuse d e
 
 -- ---- a type that is registered
@@ -146,21 +144,21 @@ pub record Completes (t : TypeRow) (old new : List Row) : Type 0 where
   pub each : (d : Dictionary) → IsIn t d → Follows d old → Follows (staged t.id Defined d) new
 
 -- A type whose row is defined already is refused for want of memory alone; any other as the dictionaries say in which it is.
-pub record RefusesType (t : TypeRow) (old new : List Row) (e : TypesError) : Type 0 where
+pub record RefusesType (t : TypeRow) (old : List Row) (e : TypesError) : Type 0 where
   pub present : IsSome (entry_under t.id old) → e ≡ OutOfMemory
-  pub as_told : RefusesAs (IsIn t) old new e
+  pub as_told : RefusesAs (IsIn t) old e
 
--- ---- what types say
+-- ---- what types say, each as one term, into which search does not look
 
 -- a type without parts
-abbrev pub alone : Text → Text → Bool → Entry → TypeRow
+unfoldable pub alone : Text → Text → Bool → Entry → TypeRow
 alone id name inline e = record { id = id; name = name; inline = inline; making = Always e; parts = λ d. Unit {0} }
 
 -- a type of one part, and one of two
-abbrev pub of_one : Text → Text → Bool → (ℕ → Entry) → TypeRow → TypeRow
+unfoldable pub of_one : Text → Text → Bool → (ℕ → Entry) → TypeRow → TypeRow
 of_one id name inline make t = record { id = id; name = name; inline = inline; making = OfOne t.id make; parts = λ d. IsIn t d }
 
-abbrev pub of_two : Text → Text → Bool → (ℕ → ℕ → Entry) → TypeRow → TypeRow → TypeRow
+unfoldable pub of_two : Text → Text → Bool → (ℕ → ℕ → Entry) → TypeRow → TypeRow → TypeRow
 of_two id name inline make t u = record {
   id = id;
   name = name;

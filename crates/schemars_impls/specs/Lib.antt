@@ -6,3 +6,4 @@ pub mod Containers
 pub mod OwnRows
 pub mod Fields
 pub mod Floats
+pub mod Zoned

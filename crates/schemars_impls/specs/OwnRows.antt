@@ -2,14 +2,14 @@
 use Rattle.std.specs.Prelude.{◌≡◌, ◌⊎◌, ◌++◌, ℕ, false, List, [], ◌∷◌, Option, Some, None, IsSome, is_some, length, find, nat_le}
 use Rattle.std.specs.Prelude.{option_map, if◌then◌else◌}
 use Rattle.schemars_schema.specs.Json.{Text}
-use Rattle.schemars_shapes.specs.Shape.{Entry, in_place, option, seq, set, array_of, map_from}
+use Rattle.schemars_shapes.specs.Shape.{Entry, in_place, option, seq, set, array_of}
 use Rattle.schemars_types.specs.declared.error.TypesError.{TypesError}
 use Rattle.schemars_types.specs.declared.error.TypesError.TheVariants.{OutOfMemory, UnknownType}
-use Rattle.schemars_types.specs.Names.{option_id, option_name, seq_id, seq_name, set_id, set_name, array_id, array_name, map_id, map_name}
+use Rattle.schemars_types.specs.Names.{option_id, option_name, seq_id, seq_name, set_id, set_name, array_id, array_name}
 use Rattle.schemars_types.specs.Rows.{Row, place_of, name_at, reserved}
 use Rattle.schemars_impls.specs.Describes.{Unsaid}
-use Rattle.schemars_impls.specs.Dictionary.{Dictionary, Told, TypeRow, IsTold, IsNamed, IsLeft, IsIn}
-use Rattle.schemars_impls.specs.Containers.{option_row, seq_row, set_row, map_row, array_row}
+use Rattle.schemars_impls.specs.Dictionary.{Dictionary, Told, TypeRow, IsTold, IsNamed, IsLeft}
+use Rattle.schemars_impls.specs.Containers.{option_row, seq_row, set_row, array_row}
 
 -- want of memory, or the first of these numbers that is not that of a row
 pub record RefusesNumbers (rows : List Row) (ns : List ℕ) (e : TypesError) : Type 0 where
@@ -69,20 +69,15 @@ pub record IsMadeOf (t : TypeRow) (id name : Text) (d : Dictionary) : Type 0 whe
   pub told : IsTold (d.told t.id) t
   pub part : IsSome (d.told t.id) → IsCalled id name d
 
-pub record IsOptionOf (id name : Text) (d : Dictionary) : Type 0 where
-  pub made : IsMadeOf (option_row (called id name)) id name d
+-- the rows of options, lists, sets and arrays of it, each as one fact
+unfoldable pub IsOptionOf : Text → Text → Dictionary → Type 0
+IsOptionOf id name d = IsMadeOf (option_row (called id name)) id name d
 
-pub record IsSeqOf (id name : Text) (d : Dictionary) : Type 0 where
-  pub made : IsMadeOf (seq_row (called id name)) id name d
+unfoldable pub IsSeqOf : Text → Text → Dictionary → Type 0
+IsSeqOf id name d = IsMadeOf (seq_row (called id name)) id name d
 
-pub record IsSetOf (id name : Text) (d : Dictionary) : Type 0 where
-  pub made : IsMadeOf (set_row (called id name)) id name d
+unfoldable pub IsSetOf : Text → Text → Dictionary → Type 0
+IsSetOf id name d = IsMadeOf (set_row (called id name)) id name d
 
-pub record IsArrayOf (len : ℕ) (id name : Text) (d : Dictionary) : Type 0 where
-  pub made : IsMadeOf (array_row (called id name) len) id name d
-
--- the same of maps, whose keys are of a type that is in the dictionary
-pub record IsMapOf (key : TypeRow) (id name : Text) (d : Dictionary) : Type 0 where
-  pub keys : IsIn key d
-  pub made : IsMadeOf (map_row key (called id name)) id name d
-  pub key_name : IsSome (d.told (map_row key (called id name)).id) → IsCalled key.id key.name d
+unfoldable pub IsArrayOf : ℕ → Text → Text → Dictionary → Type 0
+IsArrayOf len id name d = IsMadeOf (array_row (called id name) len) id name d

@@ -4,6 +4,7 @@
 mod fields;
 mod impls;
 mod law;
+mod own_fields;
 mod rows;
 mod variants;
 
@@ -13,6 +14,7 @@ pub use fields::{
 };
 pub use impls::parts::add_one;
 pub use law::{JsonSchema, register};
+pub use own_fields::{add_option_of, add_own, add_seq_of, add_set_of};
 pub use rows::{array_of, option_of, reserve, seq_of, set_of};
 pub use variants::{
     add_internal_newtype, add_internal_struct, add_internal_unit, add_newtype, add_struct,

@@ -7,7 +7,8 @@ ghost use Rattle.std.specs.Prelude.{◌≡◌, ◌++◌, Some, IfErr, IfOk, OnEr
 ghost use Rattle.schemars_types.specs.declared.error.TypesError as TypesError;
 ghost use Rattle.schemars_types.specs.Names.{array_id};
 ghost use Rattle.schemars_types.specs.Rows.{place_of, reserved};
-ghost use Rattle.schemars_impls.specs.Dictionary.{KeepsTo, RefusesAs};
+ghost use Rattle.schemars_impls.specs.Dictionary.{KeepsTo};
+ghost use Rattle.schemars_impls.specs.Keeps.{Keeps};
 ghost use Rattle.schemars_impls.specs.OwnRows.{HasArrayOf, HasOptionOf, HasSeqOf, HasSetOf};
 ghost use Rattle.schemars_impls.specs.OwnRows.{IsArrayOf, IsOptionOf};
 ghost use Rattle.schemars_impls.specs.OwnRows.{IsReserved, IsSeqOf, IsSetOf};
@@ -23,12 +24,11 @@ use std::alloc::{AllocError, Global};
 ///
 /// `OutOfMemory`; the table is then unchanged.
 pub fn reserve(alloc: Global, types: &mut Types, id: &str, name: &str) -> Result<TypeNo, TypesError>
+    ensures keeps { Keeps types.old types.new }
     ensures reserves { OnOk result (types.new ≡ reserved id.now name.now types.old) }
     ensures number { IfOk result (λ n. place_of id.now types.new ≡ Some n) }
     ensures follows { OnOk result (KeepsTo (IsReserved id.now name.now) types.old types.new) }
     ensures unchanged { OnErr result (types.new ≡ types.old) }
-    ensures refused { IfErr result
-        (RefusesAs (IsReserved id.now name.now) types.old types.new) }
     ensures memory { IfErr result (λ e. e ≡ TypesError.OutOfMemory) }
 {
     let id = String::from_str(alloc, id)?;
@@ -48,10 +48,9 @@ pub fn option_of(
     id: &str,
     name: &str,
 ) -> Result<TypeNo, TypesError>
+    ensures keeps { Keeps types.old types.new }
     ensures has { IfOk result (HasOptionOf id.now name.now types.old types.new) }
     ensures follows { OnOk result (KeepsTo (IsOptionOf id.now name.now) types.old types.new) }
-    ensures refused { IfErr result
-        (RefusesAs (IsOptionOf id.now name.now) types.old types.new) }
     ensures memory { IfErr result (λ e. e ≡ TypesError.OutOfMemory) }
 {
     let n = reserve(alloc, types, id, name)?;
@@ -69,9 +68,9 @@ pub fn option_of(
 ///
 /// `OutOfMemory`. A row that was reserved stays.
 pub fn seq_of(alloc: Global, types: &mut Types, id: &str, name: &str) -> Result<TypeNo, TypesError>
+    ensures keeps { Keeps types.old types.new }
     ensures has { IfOk result (HasSeqOf id.now name.now types.old types.new) }
     ensures follows { OnOk result (KeepsTo (IsSeqOf id.now name.now) types.old types.new) }
-    ensures refused { IfErr result (RefusesAs (IsSeqOf id.now name.now) types.old types.new) }
     ensures memory { IfErr result (λ e. e ≡ TypesError.OutOfMemory) }
 {
     let n = reserve(alloc, types, id, name)?;
@@ -89,9 +88,9 @@ pub fn seq_of(alloc: Global, types: &mut Types, id: &str, name: &str) -> Result<
 ///
 /// `OutOfMemory`. A row that was reserved stays.
 pub fn set_of(alloc: Global, types: &mut Types, id: &str, name: &str) -> Result<TypeNo, TypesError>
+    ensures keeps { Keeps types.old types.new }
     ensures has { IfOk result (HasSetOf id.now name.now types.old types.new) }
     ensures follows { OnOk result (KeepsTo (IsSetOf id.now name.now) types.old types.new) }
-    ensures refused { IfErr result (RefusesAs (IsSetOf id.now name.now) types.old types.new) }
     ensures memory { IfErr result (λ e. e ≡ TypesError.OutOfMemory) }
 {
     let n = reserve(alloc, types, id, name)?;
@@ -116,10 +115,9 @@ pub fn array_of(
     name: &str,
     len: u64,
 ) -> Result<TypeNo, TypesError>
+    ensures keeps { Keeps types.old types.new }
     ensures has { IfOk result (HasArrayOf len id.now name.now types.old types.new) }
     ensures follows { OnOk result (KeepsTo (IsArrayOf len id.now name.now) types.old types.new) }
-    ensures refused { IfErr result
-        (RefusesAs (IsArrayOf len id.now name.now) types.old types.new) }
     ensures memory { IfErr result (λ e. e ≡ TypesError.OutOfMemory) }
 {
     let n = reserve(alloc, types, id, name)?;

@@ -3,7 +3,9 @@ ghost use Rattle.std.specs.Prelude.{◌≡◌, None, codes, true, IfErr, IfOk, O
 ghost use Rattle.std.specs.Cow.{cow_str_bytes};
 ghost use Rattle.schemars_shapes.specs.Shape.{Shape as shape, entry_of, in_place, shape_of};
 ghost use Rattle.schemars_types.specs.Rows.{unknown_in};
+ghost use Rattle.schemars_impls.specs.Keeps.{KeepsRows};
 ghost use Rattle.schemars_impls.specs.Dictionary.{Describes, RefusesPart, alone};
+ghost use Rattle.schemars_impls.specs.Zoned.{zoned_row};
 
 use crate::law::{JsonSchema, entry};
 use jiff::civil::{Date, DateTime, Time};
@@ -79,8 +81,7 @@ impl JsonSchema for Timestamp {
 }
 
 impl<'a> JsonSchema for Zoned<'a> {
-    ghost says = { alone (codes "jiff::Zoned") (codes "Zoned") true
-        (in_place (shape.formatted (codes "zoned-date-time"))) };
+    ghost says = { zoned_row };
 
     fn inline_schema() -> bool
         ensures { result ≡ true }
@@ -101,16 +102,12 @@ impl<'a> JsonSchema for Zoned<'a> {
     }
 
     fn json_schema(alloc: Global, types: &mut Types) -> Result<TypeEntry, TypesError>
+        ensures keeps { KeepsRows types.old types.new }
         ensures known { IfOk result (λ e. unknown_in types.new (shape_of e.shape) ≡ None) }
         ensures made { IfOk result (λ e.
             entry_of e ≡ in_place (shape.formatted (codes "zoned-date-time"))) }
-        ensures follows { OnOk result (Describes
-            (alone (codes "jiff::Zoned") (codes "Zoned") true
-            (in_place (shape.formatted (codes "zoned-date-time")))) types.old types.new) }
-        ensures refused { IfErr result (RefusesPart
-            (alone (codes "jiff::Zoned") (codes "Zoned") true
-            (in_place (shape.formatted (codes "zoned-date-time"))))
-            types.old types.new) }
+        ensures follows { OnOk result (Describes zoned_row types.old types.new) }
+        ensures refused { IfErr result (RefusesPart zoned_row types.old) }
     {
         let format = String::from_str(alloc, "zoned-date-time")?;
         Ok(entry(alloc, true, Shape::Formatted(format)))

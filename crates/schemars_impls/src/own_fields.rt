@@ -1,0 +1,134 @@
+//! The fields of a user-defined struct that hold the struct itself, in a box, an option, a list, a set
+//! or a map. The struct's own row is named by its id, and reserved under its name if there is none.
+#![tactic(auto, using(crate::proofs::OwnTypes::adding))]
+
+ghost use Rattle.std.specs.Prelude.{◌≡◌, ◌++◌, ℕ, [], ◌∷◌, Some, IfErr, OnErr, OnOk, map};
+ghost use Rattle.schemars_shapes.specs.Shape.{field_of, required_of};
+ghost use Rattle.schemars_types.specs.declared.error.TypesError as TypesError;
+ghost use Rattle.schemars_types.specs.Rows.{place_of};
+ghost use Rattle.schemars_impls.specs.Dictionary.{KeepsTo};
+ghost use Rattle.schemars_impls.specs.Fields.{plain_field, FieldsAreKnown};
+ghost use Rattle.schemars_impls.specs.Keeps.{Keeps};
+ghost use Rattle.schemars_impls.specs.OwnRows.{HasOptionOf, HasSeqOf, HasSetOf};
+ghost use Rattle.schemars_impls.specs.OwnRows.{IsOptionOf, IsReserved, IsSeqOf, IsSetOf};
+
+use crate::fields::push_field;
+use crate::rows::{option_of, reserve, seq_of, set_of};
+use schemars_types::{Field, Required, Types, TypesError};
+use std::alloc::Global;
+
+/// Adds a field of the struct itself behind the others.
+///
+/// # Errors
+///
+/// `OutOfMemory`. The fields are then unchanged.
+pub fn add_own(
+    alloc: Global,
+    types: &mut Types,
+    fields: &mut Vec<Field>,
+    name: &str,
+    id: &str,
+    called: &str,
+    required: Required,
+) -> Result<(), TypesError>
+    ensures keeps { Keeps types.old types.new }
+    ensures known { OnOk result (FieldsAreKnown types.old (map field_of fields.old.items)
+        → FieldsAreKnown types.new (map field_of fields.new.items)) }
+    ensures adds { OnOk result ((n : ℕ) × (place_of id.now types.new ≡ Some n)
+        × (map field_of fields.new.items ≡ map field_of fields.old.items
+        ++ plain_field name.now n (required_of required) ∷ [])) }
+    ensures follows { OnOk result (KeepsTo (IsReserved id.now called.now) types.old types.new) }
+    ensures unchanged { OnErr result (fields.new.items ≡ fields.old.items) }
+    ensures memory { IfErr result (λ e. e ≡ TypesError.OutOfMemory) }
+{
+    let ty = reserve(alloc, types, id, called)?;
+    push_field(alloc, fields, name, ty, required)?;
+    Ok(())
+}
+
+/// Adds a field of an option of the struct behind the others.
+///
+/// # Errors
+///
+/// `OutOfMemory`. The fields are then unchanged.
+pub fn add_option_of(
+    alloc: Global,
+    types: &mut Types,
+    fields: &mut Vec<Field>,
+    name: &str,
+    id: &str,
+    called: &str,
+    required: Required,
+) -> Result<(), TypesError>
+    ensures keeps { Keeps types.old types.new }
+    ensures known { OnOk result (FieldsAreKnown types.old (map field_of fields.old.items)
+        → FieldsAreKnown types.new (map field_of fields.new.items)) }
+    ensures adds { OnOk result ((n : ℕ) × (HasOptionOf id.now called.now types.old types.new n)
+        × (map field_of fields.new.items ≡ map field_of fields.old.items
+        ++ plain_field name.now n (required_of required) ∷ [])) }
+    ensures follows { OnOk result (KeepsTo (IsOptionOf id.now called.now) types.old types.new) }
+    ensures unchanged { OnErr result (fields.new.items ≡ fields.old.items) }
+    ensures memory { IfErr result (λ e. e ≡ TypesError.OutOfMemory) }
+{
+    let ty = option_of(alloc, types, id, called)?;
+    push_field(alloc, fields, name, ty, required)?;
+    Ok(())
+}
+
+/// Adds a field of a list of the struct behind the others.
+///
+/// # Errors
+///
+/// `OutOfMemory`. The fields are then unchanged.
+pub fn add_seq_of(
+    alloc: Global,
+    types: &mut Types,
+    fields: &mut Vec<Field>,
+    name: &str,
+    id: &str,
+    called: &str,
+    required: Required,
+) -> Result<(), TypesError>
+    ensures keeps { Keeps types.old types.new }
+    ensures known { OnOk result (FieldsAreKnown types.old (map field_of fields.old.items)
+        → FieldsAreKnown types.new (map field_of fields.new.items)) }
+    ensures adds { OnOk result ((n : ℕ) × (HasSeqOf id.now called.now types.old types.new n)
+        × (map field_of fields.new.items ≡ map field_of fields.old.items
+        ++ plain_field name.now n (required_of required) ∷ [])) }
+    ensures follows { OnOk result (KeepsTo (IsSeqOf id.now called.now) types.old types.new) }
+    ensures unchanged { OnErr result (fields.new.items ≡ fields.old.items) }
+    ensures memory { IfErr result (λ e. e ≡ TypesError.OutOfMemory) }
+{
+    let ty = seq_of(alloc, types, id, called)?;
+    push_field(alloc, fields, name, ty, required)?;
+    Ok(())
+}
+
+/// Adds a field of a set of the struct behind the others.
+///
+/// # Errors
+///
+/// `OutOfMemory`. The fields are then unchanged.
+pub fn add_set_of(
+    alloc: Global,
+    types: &mut Types,
+    fields: &mut Vec<Field>,
+    name: &str,
+    id: &str,
+    called: &str,
+    required: Required,
+) -> Result<(), TypesError>
+    ensures keeps { Keeps types.old types.new }
+    ensures known { OnOk result (FieldsAreKnown types.old (map field_of fields.old.items)
+        → FieldsAreKnown types.new (map field_of fields.new.items)) }
+    ensures adds { OnOk result ((n : ℕ) × (HasSetOf id.now called.now types.old types.new n)
+        × (map field_of fields.new.items ≡ map field_of fields.old.items
+        ++ plain_field name.now n (required_of required) ∷ [])) }
+    ensures follows { OnOk result (KeepsTo (IsSetOf id.now called.now) types.old types.new) }
+    ensures unchanged { OnErr result (fields.new.items ≡ fields.old.items) }
+    ensures memory { IfErr result (λ e. e ≡ TypesError.OutOfMemory) }
+{
+    let ty = set_of(alloc, types, id, called)?;
+    push_field(alloc, fields, name, ty, required)?;
+    Ok(())
+}
