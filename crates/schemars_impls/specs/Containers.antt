@@ -1,5 +1,5 @@
 -- What types say that are made of others.
-use Rattle.std.specs.Prelude.{ℕ, ◌==◌, Bool, true, false, List}
+use Rattle.std.specs.Prelude.{ℕ, ◌==◌, Bool, true, false, List, [], ◌∷◌}
 use Rattle.schemars_schema.specs.Json.{Text}
 use Rattle.schemars_shapes.specs.Shape.{in_place, option, seq, set, tuple, map_from}
 use Rattle.schemars_types.specs.Names.{option_id, option_name, seq_id, seq_name, set_id, set_name, array_id, array_name}
@@ -34,12 +34,23 @@ array_row t len = record {
   parts = λ d. HasItems (len == 0) t d;
 }
 
--- of the ids and the names of the parts, and that they are in a dictionary
-abbrev pub tuple_row : List Text → List Text → (Dictionary → Type 0) → TypeRow
-tuple_row ids names parts = record {
-  id = tuple_id ids;
-  name = tuple_name names;
+-- the ids and the names of several types, and that they are in a dictionary
+pub record PartRows : Type 1 where
+  pub ids : List Text
+  pub names : List Text
+  pub are_in : Dictionary → Type 0
+
+abbrev pub no_parts : PartRows
+no_parts = record { ids = []; names = []; are_in = λ d. Unit {0} }
+
+abbrev pub and_parts : TypeRow → PartRows → PartRows
+and_parts t rest = record { ids = t.id ∷ rest.ids; names = t.name ∷ rest.names; are_in = λ d. IsIn t d × rest.are_in d }
+
+abbrev pub tuple_row : PartRows → TypeRow
+tuple_row parts = record {
+  id = tuple_id parts.ids;
+  name = tuple_name parts.names;
   inline = true;
-  making = OfAll ids (λ ns. in_place (tuple ns));
-  parts = parts;
+  making = OfAll parts.ids (λ ns. in_place (tuple ns));
+  parts = parts.are_in;
 }

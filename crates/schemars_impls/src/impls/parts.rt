@@ -1,12 +1,12 @@
 //! Types of several parts, and how the parts are added to a table, one after another.
-ghost use Rattle.std.specs.Prelude.{◌≡◌, ◌++◌, List, [], ◌∷◌, Some, IfErr, IfOk, OnOk};
+ghost use Rattle.std.specs.Prelude.{◌≡◌, ◌++◌, [], ◌∷◌, Some, IfErr, IfOk, OnOk};
 ghost use Rattle.std.specs.Prelude.{codes, string_bytes};
 ghost use Rattle.std.specs.List.{flat_map};
-ghost use Rattle.schemars_schema.specs.Json.{Text};
 ghost use Rattle.schemars_types.specs.Rows.{place_of};
 ghost use Rattle.schemars_impls.specs.Describes.{Adds, AreKnown};
 ghost use Rattle.schemars_impls.specs.Keeps.{Keeps};
-ghost use Rattle.schemars_impls.specs.Dictionary.{Dictionary, IsIn, KeepsTo, RefusesAs};
+ghost use Rattle.schemars_impls.specs.Dictionary.{IsIn, KeepsTo, RefusesAs};
+ghost use Rattle.schemars_impls.specs.Containers.{PartRows, and_parts, no_parts};
 
 use crate::law::{JsonSchema, register};
 use schemars_types::{TypeNo, Types, TypesError};
@@ -32,32 +32,27 @@ pub(crate) fn register_two<A: JsonSchema, B: JsonSchema>(
 
 /// A list of types.
 pub(crate) trait Parts {
-    ghost names: { List Text };
-
-    ghost ids: { List Text };
-
-    // Each type is in a dictionary.
-    ghost parts: { Dictionary → Type 0 };
+    ghost parts: { PartRows };
 
     /// Adds each name to a text, behind `_and_`.
     fn push_names(alloc: Global, text: &mut String) -> Result<(), AllocError>
         ensures { OnOk result (string_bytes text.new
-            ≡ string_bytes text.old ++ flat_map (λ name. codes "_and_" ++ name) names) };
+            ≡ string_bytes text.old ++ flat_map (λ name. codes "_and_" ++ name) parts.names) };
 
     /// Adds each id to a text, behind a comma.
     fn push_ids(alloc: Global, text: &mut String) -> Result<(), AllocError>
         ensures { OnOk result (string_bytes text.new
-            ≡ string_bytes text.old ++ flat_map (λ id. codes "," ++ id) ids) };
+            ≡ string_bytes text.old ++ flat_map (λ id. codes "," ++ id) parts.ids) };
 
     /// Registers each type, and adds its number to a list.
     fn add(alloc: Global, types: &mut Types, numbers: &mut Vec<TypeNo>) -> Result<(), TypesError>
         ensures keeps { Keeps types.old types.new }
         ensures adds { OnOk result
-            (Adds ids types.old numbers.old.items types.new numbers.new.items) }
+            (Adds parts.ids types.old numbers.old.items types.new numbers.new.items) }
         ensures known { OnOk result
             (AreKnown types.old numbers.old.items → AreKnown types.new numbers.new.items) }
-        ensures follows { OnOk result (KeepsTo parts types.old types.new) }
-        ensures refused { IfErr result (RefusesAs parts types.old) };
+        ensures follows { OnOk result (KeepsTo parts.are_in types.old types.new) }
+        ensures refused { IfErr result (RefusesAs parts.are_in types.old) };
 }
 
 /// No types.
@@ -67,11 +62,7 @@ pub(crate) struct Nil;
 pub(crate) struct And<A, R>(PhantomData<A>, PhantomData<R>);
 
 impl Parts for Nil {
-    ghost names = { [] };
-
-    ghost ids = { [] };
-
-    ghost parts = { λ d. Unit {0} };
+    ghost parts = { no_parts };
 
     fn push_names(_alloc: Global, _text: &mut String) -> Result<(), AllocError> {
         Ok(())
@@ -91,11 +82,7 @@ impl Parts for Nil {
 }
 
 impl<A: JsonSchema, R: Parts> Parts for And<A, R> {
-    ghost names = { A.says.name ∷ R.names };
-
-    ghost ids = { A.says.id ∷ R.ids };
-
-    ghost parts = { λ d. IsIn A.says d × R.parts d };
+    ghost parts = { and_parts A.says R.parts };
 
     fn push_names(alloc: Global, text: &mut String) -> Result<(), AllocError> {
         let name = A::schema_name(alloc)?;

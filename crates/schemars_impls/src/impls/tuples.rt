@@ -1,12 +1,12 @@
 //! Tuples of one part to eight; those of nine to sixteen are in `long`.
-ghost use Rattle.std.specs.Prelude.{◌≡◌, [], ◌∷◌, None, IfErr, IfOk, OnOk};
+ghost use Rattle.std.specs.Prelude.{◌≡◌, ◌∷◌, None, IfErr, IfOk, OnOk};
 ghost use Rattle.std.specs.Cow.{cow_str_bytes};
-ghost use Rattle.schemars_shapes.specs.Shape.{Shape as shape, entry_of, in_place, shape_of};
+ghost use Rattle.schemars_shapes.specs.Shape.{entry_of, shape_of};
 ghost use Rattle.schemars_types.specs.Names.{tuple_id, tuple_name};
 ghost use Rattle.schemars_types.specs.Rows.{unknown_in};
-ghost use Rattle.schemars_impls.specs.Describes.{IsMade, OfAll};
+ghost use Rattle.schemars_impls.specs.Describes.{IsMade};
 ghost use Rattle.schemars_impls.specs.Keeps.{Keeps};
-ghost use Rattle.schemars_impls.specs.Dictionary.{IsIn, KeepsTo, RefusesAs};
+ghost use Rattle.schemars_impls.specs.Dictionary.{KeepsTo, RefusesAs};
 ghost use Rattle.schemars_impls.specs.Containers.{tuple_row};
 
 mod long;
@@ -35,7 +35,7 @@ type Of7<A, B, C, D, E, F, G> = And<A, Of6<B, C, D, E, F, G>>;
 type Of8<A, B, C, D, E, F, G, H> = And<A, Of7<B, C, D, E, F, G, H>>;
 
 fn name_of<A: JsonSchema, R: Parts>(alloc: Global) -> Result<CowStr<'static>, AllocError>
-    ensures { IfOk result (λ t. cow_str_bytes t ≡ tuple_name (A.says.name ∷ R.names)) }
+    ensures { IfOk result (λ t. cow_str_bytes t ≡ tuple_name (A.says.name ∷ R.parts.names)) }
 {
     let first = A::schema_name(alloc)?;
     let mut text = String::from_str(alloc, "Tuple_of_")?;
@@ -45,7 +45,7 @@ fn name_of<A: JsonSchema, R: Parts>(alloc: Global) -> Result<CowStr<'static>, Al
 }
 
 fn id_of<A: JsonSchema, R: Parts>(alloc: Global) -> Result<CowStr<'static>, AllocError>
-    ensures { IfOk result (λ t. cow_str_bytes t ≡ tuple_id (A.says.id ∷ R.ids)) }
+    ensures { IfOk result (λ t. cow_str_bytes t ≡ tuple_id (A.says.id ∷ R.parts.ids)) }
 {
     let first = A::schema_id(alloc)?;
     let mut text = String::from_str(alloc, "(")?;
@@ -59,9 +59,9 @@ fn entry_of_all<P: Parts>(alloc: Global, types: &mut Types) -> Result<TypeEntry,
     ensures keeps { Keeps types.old types.new }
     ensures known { IfOk result (λ e. unknown_in types.new (shape_of e.shape) ≡ None) }
     ensures made { IfOk result
-        (λ e. IsMade (OfAll P.ids (λ ns. in_place (shape.tuple ns))) types.new (entry_of e)) }
-    ensures follows { OnOk result (KeepsTo P.parts types.old types.new) }
-    ensures refused { IfErr result (RefusesAs P.parts types.old) }
+        (λ e. IsMade (tuple_row P.parts).making types.new (entry_of e)) }
+    ensures follows { OnOk result (KeepsTo P.parts.are_in types.old types.new) }
+    ensures refused { IfErr result (RefusesAs P.parts.are_in types.old) }
 {
     let mut numbers = Vec::new(alloc);
     P::add(alloc, types, &mut numbers)?;
@@ -69,7 +69,7 @@ fn entry_of_all<P: Parts>(alloc: Global, types: &mut Types) -> Result<TypeEntry,
 }
 
 impl<A: JsonSchema> JsonSchema for (A,) {
-    ghost says = { tuple_row (A.says.id ∷ []) (A.says.name ∷ []) (λ d. IsIn A.says d × Unit {0}) };
+    ghost says = { tuple_row ⟦<Of1<A> as Parts>⟧.parts };
 
     fn inline_schema() -> bool {
         true
@@ -89,10 +89,7 @@ impl<A: JsonSchema> JsonSchema for (A,) {
 }
 
 impl<A: JsonSchema, B: JsonSchema> JsonSchema for (A, B) {
-    ghost says = { tuple_row
-        (A.says.id ∷ B.says.id ∷ [])
-        (A.says.name ∷ B.says.name ∷ [])
-        (λ d. IsIn A.says d × IsIn B.says d × Unit {0}) };
+    ghost says = { tuple_row ⟦<Of2<A, B> as Parts>⟧.parts };
 
     fn inline_schema() -> bool {
         true
@@ -112,10 +109,7 @@ impl<A: JsonSchema, B: JsonSchema> JsonSchema for (A, B) {
 }
 
 impl<A: JsonSchema, B: JsonSchema, C: JsonSchema> JsonSchema for (A, B, C) {
-    ghost says = { tuple_row
-        (A.says.id ∷ B.says.id ∷ C.says.id ∷ [])
-        (A.says.name ∷ B.says.name ∷ C.says.name ∷ [])
-        (λ d. IsIn A.says d × IsIn B.says d × IsIn C.says d × Unit {0}) };
+    ghost says = { tuple_row ⟦<Of3<A, B, C> as Parts>⟧.parts };
 
     fn inline_schema() -> bool {
         true
@@ -135,10 +129,7 @@ impl<A: JsonSchema, B: JsonSchema, C: JsonSchema> JsonSchema for (A, B, C) {
 }
 
 impl<A: JsonSchema, B: JsonSchema, C: JsonSchema, D: JsonSchema> JsonSchema for (A, B, C, D) {
-    ghost says = { tuple_row
-        (A.says.id ∷ B.says.id ∷ C.says.id ∷ D.says.id ∷ [])
-        (A.says.name ∷ B.says.name ∷ C.says.name ∷ D.says.name ∷ [])
-        (λ d. IsIn A.says d × IsIn B.says d × IsIn C.says d × IsIn D.says d × Unit {0}) };
+    ghost says = { tuple_row ⟦<Of4<A, B, C, D> as Parts>⟧.parts };
 
     fn inline_schema() -> bool {
         true
@@ -159,11 +150,7 @@ impl<A: JsonSchema, B: JsonSchema, C: JsonSchema, D: JsonSchema> JsonSchema for 
 
 impl<A: JsonSchema, B: JsonSchema, C: JsonSchema, D: JsonSchema, E: JsonSchema> JsonSchema
     for (A, B, C, D, E) {
-    ghost says = { tuple_row
-        (A.says.id ∷ B.says.id ∷ C.says.id ∷ D.says.id ∷ E.says.id ∷ [])
-        (A.says.name ∷ B.says.name ∷ C.says.name ∷ D.says.name ∷ E.says.name ∷ [])
-        (λ d. IsIn A.says d × IsIn B.says d × IsIn C.says d × IsIn D.says d × IsIn E.says d ×
-        Unit {0}) };
+    ghost says = { tuple_row ⟦<Of5<A, B, C, D, E> as Parts>⟧.parts };
 
     fn inline_schema() -> bool {
         true
@@ -190,11 +177,7 @@ impl<
     E: JsonSchema,
     F: JsonSchema,
 > JsonSchema for (A, B, C, D, E, F) {
-    ghost says = { tuple_row
-        (A.says.id ∷ B.says.id ∷ C.says.id ∷ D.says.id ∷ E.says.id ∷ F.says.id ∷ [])
-        (A.says.name ∷ B.says.name ∷ C.says.name ∷ D.says.name ∷ E.says.name ∷ F.says.name ∷ [])
-        (λ d. IsIn A.says d × IsIn B.says d × IsIn C.says d × IsIn D.says d × IsIn E.says d ×
-        IsIn F.says d × Unit {0}) };
+    ghost says = { tuple_row ⟦<Of6<A, B, C, D, E, F> as Parts>⟧.parts };
 
     fn inline_schema() -> bool {
         true
@@ -222,12 +205,7 @@ impl<
     F: JsonSchema,
     G: JsonSchema,
 > JsonSchema for (A, B, C, D, E, F, G) {
-    ghost says = { tuple_row
-        (A.says.id ∷ B.says.id ∷ C.says.id ∷ D.says.id ∷ E.says.id ∷ F.says.id ∷ G.says.id ∷ [])
-        (A.says.name ∷ B.says.name ∷ C.says.name ∷ D.says.name ∷ E.says.name ∷ F.says.name ∷
-        G.says.name ∷ [])
-        (λ d. IsIn A.says d × IsIn B.says d × IsIn C.says d × IsIn D.says d × IsIn E.says d ×
-        IsIn F.says d × IsIn G.says d × Unit {0}) };
+    ghost says = { tuple_row ⟦<Of7<A, B, C, D, E, F, G> as Parts>⟧.parts };
 
     fn inline_schema() -> bool {
         true
@@ -256,13 +234,7 @@ impl<
     G: JsonSchema,
     H: JsonSchema,
 > JsonSchema for (A, B, C, D, E, F, G, H) {
-    ghost says = { tuple_row
-        (A.says.id ∷ B.says.id ∷ C.says.id ∷ D.says.id ∷ E.says.id ∷ F.says.id ∷ G.says.id ∷
-        H.says.id ∷ [])
-        (A.says.name ∷ B.says.name ∷ C.says.name ∷ D.says.name ∷ E.says.name ∷ F.says.name ∷
-        G.says.name ∷ H.says.name ∷ [])
-        (λ d. IsIn A.says d × IsIn B.says d × IsIn C.says d × IsIn D.says d × IsIn E.says d ×
-        IsIn F.says d × IsIn G.says d × IsIn H.says d × Unit {0}) };
+    ghost says = { tuple_row ⟦<Of8<A, B, C, D, E, F, G, H> as Parts>⟧.parts };
 
     fn inline_schema() -> bool {
         true

@@ -1,9 +1,7 @@
 //! Tuples of nine parts to sixteen.
-ghost use Rattle.std.specs.Prelude.{[], ◌∷◌, true};
-ghost use Rattle.schemars_impls.specs.Dictionary.{IsIn};
 ghost use Rattle.schemars_impls.specs.Containers.{tuple_row};
 
-use crate::impls::parts::And;
+use crate::impls::parts::{And, Parts};
 use crate::impls::tuples::{Of8, entry_of_all, id_of, name_of};
 use crate::law::JsonSchema;
 use schemars_types::{TypeEntry, Types, TypesError};
@@ -47,13 +45,7 @@ impl<
     H: JsonSchema,
     I: JsonSchema,
 > JsonSchema for (A, B, C, D, E, F, G, H, I) {
-    ghost says = { tuple_row
-        (A.says.id ∷ B.says.id ∷ C.says.id ∷ D.says.id ∷ E.says.id ∷ F.says.id ∷ G.says.id ∷
-        H.says.id ∷ I.says.id ∷ [])
-        (A.says.name ∷ B.says.name ∷ C.says.name ∷ D.says.name ∷ E.says.name ∷ F.says.name ∷
-        G.says.name ∷ H.says.name ∷ I.says.name ∷ [])
-        (λ d. IsIn A.says d × IsIn B.says d × IsIn C.says d × IsIn D.says d × IsIn E.says d ×
-        IsIn F.says d × IsIn G.says d × IsIn H.says d × IsIn I.says d × Unit {0}) };
+    ghost says = { tuple_row ⟦<Of9<A, B, C, D, E, F, G, H, I> as Parts>⟧.parts };
 
     fn inline_schema() -> bool {
         true
@@ -84,14 +76,7 @@ impl<
     I: JsonSchema,
     J: JsonSchema,
 > JsonSchema for (A, B, C, D, E, F, G, H, I, J) {
-    ghost says = { tuple_row
-        (A.says.id ∷ B.says.id ∷ C.says.id ∷ D.says.id ∷ E.says.id ∷ F.says.id ∷ G.says.id ∷
-        H.says.id ∷ I.says.id ∷ J.says.id ∷ [])
-        (A.says.name ∷ B.says.name ∷ C.says.name ∷ D.says.name ∷ E.says.name ∷ F.says.name ∷
-        G.says.name ∷ H.says.name ∷ I.says.name ∷ J.says.name ∷ [])
-        (λ d. IsIn A.says d × IsIn B.says d × IsIn C.says d × IsIn D.says d × IsIn E.says d ×
-        IsIn F.says d × IsIn G.says d × IsIn H.says d × IsIn I.says d × IsIn J.says d ×
-        Unit {0}) };
+    ghost says = { tuple_row ⟦<Of10<A, B, C, D, E, F, G, H, I, J> as Parts>⟧.parts };
 
     fn inline_schema() -> bool {
         true
@@ -123,14 +108,7 @@ impl<
     J: JsonSchema,
     K: JsonSchema,
 > JsonSchema for (A, B, C, D, E, F, G, H, I, J, K) {
-    ghost says = { tuple_row
-        (A.says.id ∷ B.says.id ∷ C.says.id ∷ D.says.id ∷ E.says.id ∷ F.says.id ∷ G.says.id ∷
-        H.says.id ∷ I.says.id ∷ J.says.id ∷ K.says.id ∷ [])
-        (A.says.name ∷ B.says.name ∷ C.says.name ∷ D.says.name ∷ E.says.name ∷ F.says.name ∷
-        G.says.name ∷ H.says.name ∷ I.says.name ∷ J.says.name ∷ K.says.name ∷ [])
-        (λ d. IsIn A.says d × IsIn B.says d × IsIn C.says d × IsIn D.says d × IsIn E.says d ×
-        IsIn F.says d × IsIn G.says d × IsIn H.says d × IsIn I.says d × IsIn J.says d ×
-        IsIn K.says d × Unit {0}) };
+    ghost says = { tuple_row ⟦<Of11<A, B, C, D, E, F, G, H, I, J, K> as Parts>⟧.parts };
 
     fn inline_schema() -> bool {
         true
@@ -163,15 +141,7 @@ impl<
     K: JsonSchema,
     L: JsonSchema,
 > JsonSchema for (A, B, C, D, E, F, G, H, I, J, K, L) {
-    ghost says = { tuple_row
-        (A.says.id ∷ B.says.id ∷ C.says.id ∷ D.says.id ∷ E.says.id ∷ F.says.id ∷ G.says.id ∷
-        H.says.id ∷ I.says.id ∷ J.says.id ∷ K.says.id ∷ L.says.id ∷ [])
-        (A.says.name ∷ B.says.name ∷ C.says.name ∷ D.says.name ∷ E.says.name ∷ F.says.name ∷
-        G.says.name ∷ H.says.name ∷ I.says.name ∷ J.says.name ∷ K.says.name ∷ L.says.name ∷
-        [])
-        (λ d. IsIn A.says d × IsIn B.says d × IsIn C.says d × IsIn D.says d × IsIn E.says d ×
-        IsIn F.says d × IsIn G.says d × IsIn H.says d × IsIn I.says d × IsIn J.says d ×
-        IsIn K.says d × IsIn L.says d × Unit {0}) };
+    ghost says = { tuple_row ⟦<Of12<A, B, C, D, E, F, G, H, I, J, K, L> as Parts>⟧.parts };
 
     fn inline_schema() -> bool {
         true
@@ -205,15 +175,7 @@ impl<
     L: JsonSchema,
     M: JsonSchema,
 > JsonSchema for (A, B, C, D, E, F, G, H, I, J, K, L, M) {
-    ghost says = { tuple_row
-        (A.says.id ∷ B.says.id ∷ C.says.id ∷ D.says.id ∷ E.says.id ∷ F.says.id ∷ G.says.id ∷
-        H.says.id ∷ I.says.id ∷ J.says.id ∷ K.says.id ∷ L.says.id ∷ M.says.id ∷ [])
-        (A.says.name ∷ B.says.name ∷ C.says.name ∷ D.says.name ∷ E.says.name ∷ F.says.name ∷
-        G.says.name ∷ H.says.name ∷ I.says.name ∷ J.says.name ∷ K.says.name ∷ L.says.name ∷
-        M.says.name ∷ [])
-        (λ d. IsIn A.says d × IsIn B.says d × IsIn C.says d × IsIn D.says d × IsIn E.says d ×
-        IsIn F.says d × IsIn G.says d × IsIn H.says d × IsIn I.says d × IsIn J.says d ×
-        IsIn K.says d × IsIn L.says d × IsIn M.says d × Unit {0}) };
+    ghost says = { tuple_row ⟦<Of13<A, B, C, D, E, F, G, H, I, J, K, L, M> as Parts>⟧.parts };
 
     fn inline_schema() -> bool {
         true
@@ -248,16 +210,7 @@ impl<
     M: JsonSchema,
     N: JsonSchema,
 > JsonSchema for (A, B, C, D, E, F, G, H, I, J, K, L, M, N) {
-    ghost says = { tuple_row
-        (A.says.id ∷ B.says.id ∷ C.says.id ∷ D.says.id ∷ E.says.id ∷ F.says.id ∷ G.says.id ∷
-        H.says.id ∷ I.says.id ∷ J.says.id ∷ K.says.id ∷ L.says.id ∷ M.says.id ∷ N.says.id ∷
-        [])
-        (A.says.name ∷ B.says.name ∷ C.says.name ∷ D.says.name ∷ E.says.name ∷ F.says.name ∷
-        G.says.name ∷ H.says.name ∷ I.says.name ∷ J.says.name ∷ K.says.name ∷ L.says.name ∷
-        M.says.name ∷ N.says.name ∷ [])
-        (λ d. IsIn A.says d × IsIn B.says d × IsIn C.says d × IsIn D.says d × IsIn E.says d ×
-        IsIn F.says d × IsIn G.says d × IsIn H.says d × IsIn I.says d × IsIn J.says d ×
-        IsIn K.says d × IsIn L.says d × IsIn M.says d × IsIn N.says d × Unit {0}) };
+    ghost says = { tuple_row ⟦<Of14<A, B, C, D, E, F, G, H, I, J, K, L, M, N> as Parts>⟧.parts };
 
     fn inline_schema() -> bool {
         true
@@ -293,17 +246,7 @@ impl<
     N: JsonSchema,
     O: JsonSchema,
 > JsonSchema for (A, B, C, D, E, F, G, H, I, J, K, L, M, N, O) {
-    ghost says = { tuple_row
-        (A.says.id ∷ B.says.id ∷ C.says.id ∷ D.says.id ∷ E.says.id ∷ F.says.id ∷ G.says.id ∷
-        H.says.id ∷ I.says.id ∷ J.says.id ∷ K.says.id ∷ L.says.id ∷ M.says.id ∷ N.says.id ∷
-        O.says.id ∷ [])
-        (A.says.name ∷ B.says.name ∷ C.says.name ∷ D.says.name ∷ E.says.name ∷ F.says.name ∷
-        G.says.name ∷ H.says.name ∷ I.says.name ∷ J.says.name ∷ K.says.name ∷ L.says.name ∷
-        M.says.name ∷ N.says.name ∷ O.says.name ∷ [])
-        (λ d. IsIn A.says d × IsIn B.says d × IsIn C.says d × IsIn D.says d × IsIn E.says d ×
-        IsIn F.says d × IsIn G.says d × IsIn H.says d × IsIn I.says d × IsIn J.says d ×
-        IsIn K.says d × IsIn L.says d × IsIn M.says d × IsIn N.says d × IsIn O.says d ×
-        Unit {0}) };
+    ghost says = { tuple_row ⟦<Of15<A, B, C, D, E, F, G, H, I, J, K, L, M, N, O> as Parts>⟧.parts };
 
     fn inline_schema() -> bool {
         true
@@ -340,17 +283,7 @@ impl<
     O: JsonSchema,
     P: JsonSchema,
 > JsonSchema for (A, B, C, D, E, F, G, H, I, J, K, L, M, N, O, P) {
-    ghost says = { tuple_row
-        (A.says.id ∷ B.says.id ∷ C.says.id ∷ D.says.id ∷ E.says.id ∷ F.says.id ∷ G.says.id ∷
-        H.says.id ∷ I.says.id ∷ J.says.id ∷ K.says.id ∷ L.says.id ∷ M.says.id ∷ N.says.id ∷
-        O.says.id ∷ P.says.id ∷ [])
-        (A.says.name ∷ B.says.name ∷ C.says.name ∷ D.says.name ∷ E.says.name ∷ F.says.name ∷
-        G.says.name ∷ H.says.name ∷ I.says.name ∷ J.says.name ∷ K.says.name ∷ L.says.name ∷
-        M.says.name ∷ N.says.name ∷ O.says.name ∷ P.says.name ∷ [])
-        (λ d. IsIn A.says d × IsIn B.says d × IsIn C.says d × IsIn D.says d × IsIn E.says d ×
-        IsIn F.says d × IsIn G.says d × IsIn H.says d × IsIn I.says d × IsIn J.says d ×
-        IsIn K.says d × IsIn L.says d × IsIn M.says d × IsIn N.says d × IsIn O.says d ×
-        IsIn P.says d × Unit {0}) };
+    ghost says = { tuple_row ⟦<Of16<A, B, C, D, E, F, G, H, I, J, K, L, M, N, O, P> as Parts>⟧.parts };
 
     fn inline_schema() -> bool {
         true
