@@ -56,13 +56,18 @@ pub fn lint(alloc: Global, bytes: &[u8]) -> Result<Report, AllocError>
 }
 
 // The lines, with a newline behind the last one, so that the verdict begins a line.
+#[tactic(auto, using(crate::proofs::Ended::ended))]
 fn ended(lines: String) -> Result<String, AllocError>
     ensures { IfOk result (λ s. AreLines (string_bytes s)) }
 {
-    let mut text = lines;
-    if !text.is_empty() && !text.as_bytes().ends_with(b"\n") {
-        text.push('\n')?;
+    if lines.is_empty() {
+        return Ok(lines);
     }
+    if lines.as_bytes().ends_with(b"\n") {
+        return Ok(lines);
+    }
+    let mut text = lines;
+    text.push('\n')?;
     Ok(text)
 }
 
