@@ -9,56 +9,61 @@ use Rattle.schemars_impls.proofs.Keeping.{keeps-refl, keeps-same, keeps-trans, p
 use Rattle.schemars_impls.proofs.Placing.{known_more, place_added, adds_none, adds_then, adds_placed}
 
 pub keeps_to_refl : {R : Dictionary → Type 0} {rows : List Row} → KeepsTo R rows rows
-keeps_to_refl = record { each = λ d h f. f }
-
-pub keeps_to_same : {R : Dictionary → Type 0} {old new : List Row} → new ≡ old → KeepsTo R old new
-keeps_to_same is = record { each = λ d h f. subst (Follows d) (sym is) f }
+keeps_to_refl {rows = rows} = record { kept = keeps-refl rows; each = λ d h f. f }
 
 -- the last call, or one call
 pub keeps_to_part : {R P : Dictionary → Type 0} {old new : List Row} → KeepsTo P old new → ((d : Dictionary) → R d → P d) → KeepsTo R old new
-keeps_to_part p within = record { each = λ d h f. p.each d (within d h) f }
+keeps_to_part p within = record { kept = p.kept; each = λ d h f. p.each d (within d h) f }
 
 -- one call before others
 pub keeps_to_then : {R P : Dictionary → Type 0} {a b c : List Row} → KeepsTo P a b → ((d : Dictionary) → R d → P d) → KeepsTo R b c
     → KeepsTo R a c
-keeps_to_then p within rest = record { each = λ d h f. rest.each d h (p.each d (within d h) f) }
+keeps_to_then p within rest =
+    record { kept = keeps-trans p.kept rest.kept; each = λ d h f. rest.each d h (p.each d (within d h) f) }
 
-pub refuses_memory : {R : Dictionary → Type 0} {old : List Row} {e : TypesError} → e ≡ OutOfMemory → RefusesAs R old e
-refuses_memory is = record { each = λ d h f. record { cause = inl is } }
+-- want of memory, and behind calls
+pub refuses_memory : {R : Dictionary → Type 0} {old new : List Row} {e : TypesError} → KeepsTo R old new → e ≡ OutOfMemory
+    → RefusesAs R old new e
+refuses_memory before is = record { kept = before.kept; each = λ d h f. record { cause = inl is } }
 
-pub refuses_type_memory : {t : TypeRow} {old : List Row} {e : TypesError} → e ≡ OutOfMemory → RefusesType t old e
-refuses_type_memory is = record { present = λ there. is; as_told = refuses_memory is }
+pub refuses_type_memory : {t : TypeRow} {old new : List Row} {e : TypesError} → new ≡ old → e ≡ OutOfMemory → RefusesType t old new e
+refuses_type_memory {old = old} {new = new} same is = record {
+  present = λ there. is;
+  as_told = record { kept = keeps-same old new same; each = λ d h f. record { cause = inl is } };
+}
 
 -- the first call
-pub refuses_part : {R P : Dictionary → Type 0} {old : List Row} {e : TypesError} → RefusesAs P old e → ((d : Dictionary) → R d → P d)
-    → RefusesAs R old e
-refuses_part p within = record { each = λ d h f. p.each d (within d h) f }
+pub refuses_part : {R P : Dictionary → Type 0} {old new : List Row} {e : TypesError} → RefusesAs P old new e
+    → ((d : Dictionary) → R d → P d) → RefusesAs R old new e
+refuses_part p within = record { kept = p.kept; each = λ d h f. p.each d (within d h) f }
 
 -- a call behind others
-pub refuses_after : {R P : Dictionary → Type 0} {old mid : List Row} {e : TypesError} → RefusesAs P mid e → ((d : Dictionary) → R d → P d)
-    → KeepsTo R old mid → RefusesAs R old e
-refuses_after p within before = record { each = λ d h f. p.each d (within d h) (before.each d h f) }
+pub refuses_after : {R P : Dictionary → Type 0} {old mid new : List Row} {e : TypesError} → RefusesAs P mid new e
+    → ((d : Dictionary) → R d → P d) → KeepsTo R old mid → RefusesAs R old new e
+refuses_after p within before =
+    record { kept = keeps-trans before.kept p.kept; each = λ d h f. p.each d (within d h) (before.each d h f) }
 
 -- ---- a type that is described
 
 pub describes_none : {t : TypeRow} {rows : List Row} → Describes t rows rows
-describes_none = record { each = λ d h f. f }
+describes_none {rows = rows} = record { kept = keeps-refl rows; each = λ d h f. f }
 
 -- one call before others
 pub describes_then : {t : TypeRow} {P : Dictionary → Type 0} {a b c : List Row} → KeepsTo P a b → ((d : Dictionary) → IsInPart t d → P d)
     → Describes t b c → Describes t a c
-describes_then p within rest = record { each = λ d h f. rest.each d h (p.each d (within d h) f) }
+describes_then p within rest =
+    record { kept = keeps-trans p.kept rest.kept; each = λ d h f. rest.each d h (p.each d (within d h) f) }
 
 pub describes_by : {t : TypeRow} {P : Dictionary → Type 0} {a b : List Row} → KeepsTo P a b → ((d : Dictionary) → IsInPart t d → P d)
     → Describes t a b
-describes_by p within = record { each = λ d h f. p.each d (within d h) f }
+describes_by p within = record { kept = p.kept; each = λ d h f. p.each d (within d h) f }
 
-pub part_memory : {t : TypeRow} {old : List Row} {e : TypesError} → e ≡ OutOfMemory → RefusesPart t old e
-part_memory is = record { each = λ d h f. record { cause = inl is } }
+pub part_memory : {t : TypeRow} {old new : List Row} {e : TypesError} → Describes t old new → e ≡ OutOfMemory → RefusesPart t old new e
+part_memory before is = record { kept = before.kept; each = λ d h f. record { cause = inl is } }
 
-pub part_refuses : {t : TypeRow} {P : Dictionary → Type 0} {old : List Row} {e : TypesError} → RefusesAs P old e
-    → ((d : Dictionary) → IsInPart t d → P d) → RefusesPart t old e
-part_refuses p within = record { each = λ d h f. p.each d (within d h) f }
+pub part_refuses : {t : TypeRow} {P : Dictionary → Type 0} {old new : List Row} {e : TypesError} → RefusesAs P old new e
+    → ((d : Dictionary) → IsInPart t d → P d) → RefusesPart t old new e
+part_refuses p within = record { kept = p.kept; each = λ d h f. p.each d (within d h) f }
 
 -- what implementations need
 pub ruleset keeping = (
@@ -75,7 +80,6 @@ pub ruleset keeping = (
   adds_then,
   adds_placed,
   keeps_to_refl,
-  keeps_to_same,
   keeps_to_part,
   keeps_to_then,
   refuses_memory,

@@ -1,27 +1,26 @@
--- Rows that a type of one's own names by number, in tables that follow a dictionary.
-use Rattle.std.proofs.Common.{◌≡◌, ◌⊎◌, ◌≤◌, inl, inr, ◌+◌, ℕ, List, [], ◌∷◌, ◌++◌, Bool, true, false, Option, Some, None, IsSome, length, find}
+-- Rows that a type of one's own is made of besides those of other types, in tables that follow a dictionary.
+use Rattle.std.proofs.Common.{◌≡◌, ◌⊎◌, ◌≤◌, inl, inr, ℕ, List, [], ◌∷◌, ◌++◌, Bool, true, false, Option, Some, None, IsSome, length, find}
 use Rattle.std.proofs.Common.{nat_le, is_some, option_map, option_and_then, refl, ap, sym, ◌∙◌, subst, arith, ◌==◌, if◌then◌else◌}
-use Rattle.std.specs.Option.{option_map_or}
 use Rattle.std.proofs.lemmas.Bool.Decides.{nat_tests}
 use Rattle.schemars_schema.specs.Json.{Text}
-use Rattle.schemars_shapes.specs.Shape.{Entry, in_place, option, seq, set, tuple, array, array_of, map_from}
+use Rattle.schemars_shapes.specs.Shape.{Entry, in_place, option, seq, set, tuple, array, array_of}
 use Rattle.schemars_types.specs.declared.error.TypesError.{TypesError}
 use Rattle.schemars_types.specs.declared.error.TypesError.TheVariants.{OutOfMemory, UnknownType}
 use Rattle.schemars_types.specs.declared.error.TypesError.TheVariants as fault
-use Rattle.schemars_types.specs.Names.{option_id, option_name, seq_id, seq_name, set_id, set_name, array_id, array_name, map_id, map_name}
+use Rattle.schemars_types.specs.Names.{option_id, option_name, seq_id, seq_name, set_id, set_name, array_id, array_name}
 use Rattle.schemars_types.specs.Refusals.{Refuses, Registers}
-use Rattle.schemars_types.specs.Rows.{Row, place_of, entry_at, id_at, name_at, reserved, defined, unknown_in, with_entry}
-use Rattle.schemars_types.proofs.Registered.{place_of-below}
+use Rattle.schemars_types.specs.Rows.{Row, place_of, id_at, name_at, reserved, defined, unknown_in, with_entry}
+use Rattle.schemars_types.proofs.Registered.{place_of-below, nat_le-above}
 use Rattle.schemars_types.proofs.TableLemmas.{place_of-reserved, reserved-absent, place_of-defined}
-use Rattle.schemars_impls.specs.Describes.{IsMade, IsDescribed, AreKnown}
-use Rattle.schemars_impls.specs.Dictionary.{Told, Stage, Defined, Pending, Open, Dictionary, IsNamed, IsEntryOf, IsAtStage, IsAsTold}
-use Rattle.schemars_impls.specs.Dictionary.{Follows, TypeRow, IsTold, IsLeft, IsInPart, KeepsTo, RefusesPart}
-use Rattle.schemars_impls.specs.Containers.{option_row, seq_row, set_row, map_row, array_row}
-use Rattle.schemars_impls.specs.OwnRows.{with_row, HasRow, RefusesNumbers, IsReserved, IsCalled, IsMadeOf, IsOptionOf, IsSeqOf, IsSetOf}
-use Rattle.schemars_impls.specs.OwnRows.{IsArrayOf, IsMapOf, IsAt, IsMapAt, called}
+use Rattle.schemars_impls.specs.Describes.{IsMade, Making, OfOne, OfArray}
+use Rattle.schemars_impls.specs.Dictionary.{Told, Dictionary, IsNamed, Follows, TypeRow, IsTold, IsLeft, IsInPart, KeepsTo, RefusesAs}
+use Rattle.schemars_impls.specs.Dictionary.{Describes, RefusesPart}
+use Rattle.schemars_impls.specs.Containers.{option_row, seq_row, set_row, array_row}
+use Rattle.schemars_impls.specs.OwnRows.{RefusesNumbers, with_row, HasRow, HasRowOf, HasOptionOf, HasSeqOf, HasSetOf, HasArrayOf}
+use Rattle.schemars_impls.specs.OwnRows.{IsReserved, IsCalled, called, IsMadeOf, IsOptionOf, IsSeqOf, IsSetOf, IsArrayOf}
 use Rattle.schemars_impls.specs.Keeps.{Keeps}
-use Rattle.schemars_impls.proofs.Keeping.{keeps-same, all-joined, place_of-kept}
-use Rattle.schemars_impls.proofs.Following.{follows-reserved, made-kept, id-there, follows-joined}
+use Rattle.schemars_impls.proofs.Keeping.{keeps-same, keeps-trans, all-joined, reserved_keeps}
+use Rattle.schemars_impls.proofs.Following.{follows-reserved, follows-joined, made-kept, id-there}
 use Rattle.schemars_impls.proofs.Registering.{named, described}
 
 -- ---- what the calls make of the table
@@ -37,12 +36,12 @@ defined-last : (rows : List Row) (r : Row) (e : Entry) → defined (length rows)
 defined-last [] r e = refl
 defined-last (q ∷ rows) r e = ap (λ t. q ∷ t) (defined-last rows r e)
 
-pub has_present : (id name : Text) (e : Entry) (rows : List Row) (n : ℕ) → place_of id rows ≡ Some n → HasRow id name e rows rows n
-has_present id name e rows n there = record { number = there; table = sym (with_row-present id name e rows n there) }
+has-present : (id name : Text) (e : Entry) (rows : List Row) (n : ℕ) → place_of id rows ≡ Some n → HasRow id name e rows rows n
+has-present id name e rows n there = record { number = there; table = sym (with_row-present id name e rows n there) }
 
-pub has_registered : (id name : Text) (e : Entry) (old new : List Row) (n : ℕ) → place_of id old ≡ None → Registers id name e old new n
+has-registered : (id name : Text) (e : Entry) (old new : List Row) (n : ℕ) → place_of id old ≡ None → Registers id name e old new n
     → HasRow id name e old new n
-has_registered id name e old new n none r =
+has-registered id name e old new n none r =
     let new_row : Row = record { id = id; name = name; entry = None } in
     let joined = reserved-absent id name old none in
     let at : place_of id (reserved id name old) ≡ Some n = sym (place_of-defined id n e (reserved id name old))
@@ -55,27 +54,59 @@ has_registered id name e old new n none r =
           ∙ sym (with_row-absent id name e old none);
     }
 
-pub has_keeps : {id name : Text} {e : Entry} {old new : List Row} {n : ℕ} → HasRow id name e old new n → Keeps old new
-has_keeps {id = id} {name = name} {e = e} {old = old} {new = new} h =
-    subst (Keeps old) (sym h.table) (by (is_some (place_of id old)))
+has-keeps : (id name : Text) (e : Entry) (old new : List Row) (n : ℕ) → HasRow id name e old new n → Keeps old new
+has-keeps id name e old new n h = subst (Keeps old) (sym h.table) (by (is_some (place_of id old)))
   where
     by : (b : Bool) → Keeps old (if b then old else old ++ (record { id = id; name = name; entry = Some e }) ∷ [])
     by true = keeps-same old old refl
     by false = record { rows = all-joined old ((record { id = id; name = name; entry = Some e }) ∷ []) }
 
-pub numbers_memory : (rows : List Row) (ns : List ℕ) (e : TypesError) → e ≡ OutOfMemory → RefusesNumbers rows ns e
-numbers_memory rows ns e is = record { cause = inl is }
+-- a row that is made of a reserved one: it was there, or a constructor added it
+module _ (id name made_id : Text) (made_name : Text → Text) (make : ℕ → Entry) (old mid : List Row) (part : ℕ)
+    (mid_is : mid ≡ reserved id name old) (place : place_of id mid ≡ Some part) where
+  pub row-present : (n : ℕ) → place_of made_id mid ≡ Some n → HasRowOf id name made_id made_name make old mid n
+  row-present n there = subst (λ (r : List Row). HasRowOf id name made_id made_name make old r n) (sym mid_is) (record {
+    part = part;
+    place = ap (place_of id) (sym mid_is) ∙ place;
+    has = has-present made_id (made_name (name_at (reserved id name old) part)) (make part) (reserved id name old) n
+        (ap (place_of made_id) (sym mid_is) ∙ there);
+  })
 
--- a constructor of an absent row refuses nothing else
-pub numbers_refused : (id : Text) (x : Entry) (rows : List Row) (ns : List ℕ) (e : TypesError) → place_of id rows ≡ None
-    → unknown_in rows x.shape ≡ find (λ m. nat_le (length rows) m) ns → Refuses id x rows e → RefusesNumbers rows ns e
-numbers_refused id x rows ns fault.OutOfMemory none same r = record { cause = inl refl }
-numbers_refused id x rows ns (fault.AlreadyDefined m) none same r = let never : None ≡ Some m = sym none ∙ r.1 in cc
-numbers_refused id x rows ns (fault.UnknownType m) none same r = record { cause = inr (ap (option_map UnknownType) (sym same ∙ r)) }
-numbers_refused id x rows ns (fault.UndefinedType m) none same r = absurd r
-numbers_refused id x rows ns (fault.RepeatedName m t) none same r = absurd r
-numbers_refused id x rows ns (fault.DirectCycle m) none same r = absurd r
-numbers_refused id x rows ns (fault.EmptyCycle m) none same r = absurd r
+  pub row-made : (new : List Row) (n : ℕ) → place_of made_id mid ≡ None
+      → Registers made_id (made_name (name_at mid part)) (make part) mid new n → HasRowOf id name made_id made_name make old new n
+  row-made new n none r = record {
+    part = part;
+    place = ap (place_of id) (sym mid_is) ∙ place;
+    has = subst (λ (m : List Row). HasRow made_id (made_name (name_at m part)) (make part) m new n) mid_is
+        (has-registered made_id (made_name (name_at mid part)) (make part) mid new n none r);
+  }
+
+-- a constructor of an absent row, of rows that are there, refuses for want of memory alone
+pub made-memory : (made_id : Text) (x : Entry) (rows : List Row) (e : TypesError) → place_of made_id rows ≡ None
+    → unknown_in rows x.shape ≡ None → Refuses made_id x rows e → e ≡ OutOfMemory
+made-memory made_id x rows fault.OutOfMemory none known r = refl
+made-memory made_id x rows (fault.AlreadyDefined m) none known r = let never : None ≡ Some m = sym none ∙ r.1 in cc
+made-memory made_id x rows (fault.UnknownType m) none known r = let never : None ≡ Some m = sym known ∙ r in cc
+made-memory made_id x rows (fault.UndefinedType m) none known r = absurd r
+made-memory made_id x rows (fault.RepeatedName m t) none known r = absurd r
+made-memory made_id x rows (fault.DirectCycle m) none known r = absurd r
+made-memory made_id x rows (fault.EmptyCycle m) none known r = absurd r
+
+pub known-alone : (id : Text) (rows : List Row) (n : ℕ) → place_of id rows ≡ Some n → find (λ m. nat_le (length rows) m) (n ∷ []) ≡ None
+known-alone id rows n there = rw (nat_le-above (length rows) n (place_of-below id rows n there)) refl
+
+pub array-known : (id : Text) (rows : List Row) (n len : ℕ) → place_of id rows ≡ Some n → unknown_in rows (in_place (array_of n len)).shape
+    ≡ None
+array-known id rows n len there = by (len == 0)
+  where
+    by : (b : Bool) → unknown_in rows (if b then tuple [] else array n len) ≡ None
+    by true = refl
+    by false = known-alone id rows n there
+
+pub reserved-refuses : (R : Dictionary → Type 0) (id name : Text) (old new : List Row) (e : TypesError) → new ≡ reserved id name old
+    → e ≡ OutOfMemory → RefusesAs R old new e
+reserved-refuses R id name old new e is memory =
+    record { kept = reserved_keeps id name old new is; each = λ d h f. record { cause = inl memory } }
 
 -- ---- in the words of the law
 
@@ -84,8 +115,12 @@ self_reserved t d h = record { left = subst IsLeft (sym h.pending) tt; named = n
 
 pub reserve_follows : (id name : Text) (old new : List Row) → new ≡ reserved id name old → KeepsTo (IsReserved id name) old new
 reserve_follows id name old new is = record {
+  kept = reserved_keeps id name old new is;
   each = λ d h f. subst (Follows d) (sym is) (follows-reserved d id name old f h.left h.named);
 }
+
+pub reserve_refuses : (R : Dictionary → Type 0) (old new : List Row) (e : TypesError) → new ≡ old → e ≡ OutOfMemory → RefusesAs R old new e
+reserve_refuses R old new e is memory = record { kept = keeps-same old new is; each = λ d h f. record { cause = inl memory } }
 
 called-there : (id name : Text) (d : Dictionary) (rows : List Row) (n : ℕ) → IsCalled id name d → Follows d rows → place_of id rows ≡ Some n
     → name_at rows n ≡ name
@@ -100,7 +135,7 @@ module _ (t : TypeRow) (d : Dictionary) (given : Entry) (name : Text) (old new :
   named-so None h is = tt
   named-so (Some x) h is = is refl ∙ ap (λ (y : Told). y.name) (sym h)
 
-  pub row-follows : Follows d new
+  row-follows : Follows d new
   row-follows = by (place_of t.id old) refl
     where
       e : Entry
@@ -118,96 +153,90 @@ module _ (t : TypeRow) (d : Dictionary) (given : Entry) (name : Text) (old new :
           (described (d.told t.id) t (old ++ (record { id = t.id; name = name; entry = Some e }) ∷ []) given told
           (made-kept t.making old (old ++ (record { id = t.id; name = name; entry = Some e }) ∷ []) given kept made)))
 
-option-at : (old new : List Row) (n m : ℕ) → HasRow (option_id (id_at old n)) (option_name (name_at old n)) (in_place (option n)) old new m
-    → (d : Dictionary) → IsAt n old IsOptionOf d → Follows d old → Follows d new
-option-at old new n m has d h f =
-    let id_is = id-there h.id n old h.place in
-    let has_it = subst (λ i. HasRow (option_id i) (option_name (name_at old n)) (in_place (option n)) old new m) id_is has in
-    row-follows (option_row (called h.id h.name)) d (in_place (option n)) (option_name (name_at old n)) old new m has_it h.made.made.told f
-    (ap (option_map (λ k. in_place (option k))) h.place)
-    (λ some. ap option_name (called-there h.id h.name d old n (h.made.made.parts some) f h.place))
+-- a row that is made of a reserved one follows what is told of it
+module _ (t : TypeRow) (id name : Text) (made_name : Text → Text) (make : ℕ → Entry) (name_is : made_name name ≡ t.name)
+    (made : (rows : List Row) (n : ℕ) → place_of id rows ≡ Some n → IsMade t.making rows (make n))
+    (placed : (n : ℕ) → make n ≡ record (make n) { inline = t.inline }) where
+  made-each : (old new : List Row) (m : ℕ) → HasRowOf id name t.id made_name make old new m → (d : Dictionary) → IsMadeOf t id name d
+      → Follows d old → Follows d new
+  made-each old new m has d h f =
+      let mid = reserved id name old in
+      let g : Follows d mid = follows-reserved d id name old f h.own.left h.own.named in
+      let row = subst (λ e. HasRow t.id (made_name (name_at mid has.part)) e mid new m) (placed has.part) has.has in
+      row-follows t d (make has.part) (made_name (name_at mid has.part)) mid new m row h.told g (made mid has.part has.place)
+      (λ some. ap made_name (called-there id name d mid has.part (h.part some) g has.place) ∙ name_is)
 
-pub option_follows : {old new : List Row} {n m : ℕ} → HasRow (option_id (id_at old n)) (option_name (name_at old n)) (in_place (option n)) old
-    new m → KeepsTo (IsAt n old IsOptionOf) old new
-option_follows {old = old} {new = new} {n = n} {m = m} has = record { each = option-at old new n m has }
+  made-keeps : (old new : List Row) (m : ℕ) → HasRowOf id name t.id made_name make old new m → Keeps old new
+  made-keeps old new m has =
+      keeps-trans (reserved_keeps id name old (reserved id name old) refl)
+      (has-keeps t.id (made_name (name_at (reserved id name old) has.part)) (make has.part) (reserved id name old) new m has.has)
 
-seq-at : (old new : List Row) (n m : ℕ) → HasRow (seq_id (id_at old n)) (seq_name (name_at old n)) (in_place (seq n)) old new m
-    → (d : Dictionary) → IsAt n old IsSeqOf d → Follows d old → Follows d new
-seq-at old new n m has d h f =
-    let id_is = id-there h.id n old h.place in
-    let has_it = subst (λ i. HasRow (seq_id i) (seq_name (name_at old n)) (in_place (seq n)) old new m) id_is has in
-    row-follows (seq_row (called h.id h.name)) d (in_place (seq n)) (seq_name (name_at old n)) old new m has_it h.made.made.told f
-    (ap (option_map (λ k. in_place (seq k))) h.place)
-    (λ some. ap seq_name (called-there h.id h.name d old n (h.made.made.parts some) f h.place))
+pub option_follows : {id name : Text} {old new : List Row} {m : ℕ} → HasOptionOf id name old new m → KeepsTo (IsOptionOf id name) old new
+option_follows {id = id} {name = name} {old = old} {new = new} {m = m} has =
+    let t = option_row (called id name) in
+    let make = λ (k : ℕ). in_place (option k) in
+    let made = λ (rows : List Row) (n : ℕ) (there : place_of id rows ≡ Some n). ap (option_map make) there in
+    record {
+      kept = made-keeps t id name option_name make refl made (λ n. refl) old new m has;
+      each = λ d h f. made-each t id name option_name make refl made (λ n. refl) old new m has d h.made f;
+    }
 
-pub seq_follows : {old new : List Row} {n m : ℕ} → HasRow (seq_id (id_at old n)) (seq_name (name_at old n)) (in_place (seq n)) old new m
-    → KeepsTo (IsAt n old IsSeqOf) old new
-seq_follows {old = old} {new = new} {n = n} {m = m} has = record { each = seq-at old new n m has }
+pub seq_follows : {id name : Text} {old new : List Row} {m : ℕ} → HasSeqOf id name old new m → KeepsTo (IsSeqOf id name) old new
+seq_follows {id = id} {name = name} {old = old} {new = new} {m = m} has =
+    let t = seq_row (called id name) in
+    let make = λ (k : ℕ). in_place (seq k) in
+    let made = λ (rows : List Row) (n : ℕ) (there : place_of id rows ≡ Some n). ap (option_map make) there in
+    record {
+      kept = made-keeps t id name seq_name make refl made (λ n. refl) old new m has;
+      each = λ d h f. made-each t id name seq_name make refl made (λ n. refl) old new m has d h.made f;
+    }
 
-set-at : (old new : List Row) (n m : ℕ) → HasRow (set_id (id_at old n)) (set_name (name_at old n)) (in_place (set n)) old new m
-    → (d : Dictionary) → IsAt n old IsSetOf d → Follows d old → Follows d new
-set-at old new n m has d h f =
-    let id_is = id-there h.id n old h.place in
-    let has_it = subst (λ i. HasRow (set_id i) (set_name (name_at old n)) (in_place (set n)) old new m) id_is has in
-    row-follows (set_row (called h.id h.name)) d (in_place (set n)) (set_name (name_at old n)) old new m has_it h.made.made.told f
-    (ap (option_map (λ k. in_place (set k))) h.place)
-    (λ some. ap set_name (called-there h.id h.name d old n (h.made.made.parts some) f h.place))
+pub set_follows : {id name : Text} {old new : List Row} {m : ℕ} → HasSetOf id name old new m → KeepsTo (IsSetOf id name) old new
+set_follows {id = id} {name = name} {old = old} {new = new} {m = m} has =
+    let t = set_row (called id name) in
+    let make = λ (k : ℕ). in_place (set k) in
+    let made = λ (rows : List Row) (n : ℕ) (there : place_of id rows ≡ Some n). ap (option_map make) there in
+    record {
+      kept = made-keeps t id name set_name make refl made (λ n. refl) old new m has;
+      each = λ d h f. made-each t id name set_name make refl made (λ n. refl) old new m has d h.made f;
+    }
 
-pub set_follows : {old new : List Row} {n m : ℕ} → HasRow (set_id (id_at old n)) (set_name (name_at old n)) (in_place (set n)) old new m
-    → KeepsTo (IsAt n old IsSetOf) old new
-set_follows {old = old} {new = new} {n = n} {m = m} has = record { each = set-at old new n m has }
+array-made : (b : Bool) (len : ℕ) (o : Option ℕ) (n : ℕ) → o ≡ Some n
+    → (if b then Some (in_place (tuple [])) else option_map (λ k. in_place (array k len)) o)
+    ≡ Some (in_place (if b then tuple [] else array n len))
+array-made true len o n there = refl
+array-made false len o n there = ap (option_map (λ k. in_place (array k len))) there
 
-map-at : (old new : List Row) (key n m : ℕ) → HasRow (map_id (id_at old key) (id_at old n))
-    (map_name (id_at old key) (name_at old key) (name_at old n)) (in_place (map_from key n)) old new m
-    → (d : Dictionary) → IsMapAt key n old d → Follows d old → Follows d new
-map-at old new key n m has d h f =
-    let key_is = id-there h.key_id key old h.key_place in
-    let id_is = id-there h.id n old h.place in
-    let has_key = subst (λ i. HasRow (map_id i (id_at old n)) (map_name i (name_at old key) (name_at old n)) (in_place (map_from key n)) old new
-    m) key_is has in
-    let has_it = subst (λ i. HasRow (map_id h.key_id i) (map_name h.key_id (name_at old key) (name_at old n)) (in_place (map_from key n)) old
-    new m) id_is has_key in
-    row-follows (map_row (called h.key_id h.key_name) (called h.id h.name)) d (in_place (map_from key n))
-    (map_name h.key_id (name_at old key) (name_at old n)) old new m has_it h.made.made.told f
-    (rw (h.key_place, h.place) refl)
-    (λ some. let parts = h.made.made.parts some in
-    ap (λ x. map_name h.key_id x (name_at old n)) (called-there h.key_id h.key_name d old key parts.0 f h.key_place)
-    ∙ ap (map_name h.key_id h.key_name) (called-there h.id h.name d old n parts.1 f h.place))
+pub array_follows : {len : ℕ} {id name : Text} {old new : List Row} {m : ℕ} → HasArrayOf len id name old new m
+    → KeepsTo (IsArrayOf len id name) old new
+array_follows {len = len} {id = id} {name = name} {old = old} {new = new} {m = m} has =
+    let t = array_row (called id name) len in
+    let make = λ (k : ℕ). in_place (array_of k len) in
+    let made = λ (rows : List Row) (n : ℕ) (there : place_of id rows ≡ Some n). array-made (len == 0) len (place_of id rows) n there in
+    record {
+      kept = made-keeps t id name (λ x. array_name x len) make refl made (λ n. refl) old new m has;
+      each = λ d h f. made-each t id name (λ x. array_name x len) make refl made (λ n. refl) old new m has d h.made f;
+    }
 
-pub map_follows : {old new : List Row} {key n m : ℕ} → HasRow (map_id (id_at old key) (id_at old n))
-    (map_name (id_at old key) (name_at old key) (name_at old n)) (in_place (map_from key n)) old new m → KeepsTo (IsMapAt key n old) old new
-map_follows {old = old} {new = new} {key = key} {n = n} {m = m} has = record { each = map-at old new key n m has }
+-- ---- numbers
 
--- the number of a row whose id the type knows
-pub at_place : {Made : Text → Text → Dictionary → Type 0} (id name : Text) {rows : List Row} {n : ℕ} {d : Dictionary} → Made id name d
-    → place_of id rows ≡ Some n → IsAt n rows Made d
-at_place id name made there = record { id = id; name = name; place = there; made = made }
+pub numbers_memory : (rows : List Row) (ns : List ℕ) (e : TypesError) → e ≡ OutOfMemory → RefusesNumbers rows ns e
+numbers_memory rows ns e is = record { cause = inl is }
 
-pub map_place : (key_id key_name id name : Text) {rows : List Row} {key n : ℕ} {d : Dictionary} → IsMapOf key_id key_name id name d
-    → place_of key_id rows ≡ Some key → place_of id rows ≡ Some n → IsMapAt key n rows d
-map_place key_id key_name id name made key_there there = record {
-  key_id = key_id;
-  key_name = key_name;
-  id = id;
-  name = name;
-  key_place = key_there;
-  place = there;
-  made = made;
-}
-
--- numbers of rows are not refused
-pub part_numbers : {t : TypeRow} {old rows : List Row} {ns : List ℕ} {e : TypesError} → RefusesNumbers rows ns e
-    → find (λ m. nat_le (length rows) m) ns ≡ None → RefusesPart t old e
-part_numbers {rows = rows} {ns = ns} {e = e} h known = record { each = λ d in_d f. record { cause = by d h.cause } }
-  where
-    by : (d : Dictionary) → (e ≡ OutOfMemory) ⊎ (option_map UnknownType (find (λ m. nat_le (length rows) m) ns) ≡ Some e)
-        → (e ≡ OutOfMemory) ⊎ (d.refuses e ≡ true)
-    by d (inl memory) = inl memory
-    by d (inr unknown) = let never : None ≡ Some e = ap (option_map UnknownType) (sym known) ∙ unknown in cc
-
--- the first number is no row's, or the second is the first that is none
+-- the first number is no row's
 pub numbers_unknown : (rows : List Row) (n : ℕ) (ns : List ℕ) (e : TypesError) → e ≡ UnknownType n → length rows ≤ n
     → RefusesNumbers rows (n ∷ ns) e
 numbers_unknown rows n ns e is above =
     let past : nat_le (length rows) n ≡ true = grind (arith, nat_tests) in
     record { cause = inr (rw past (ap Some (sym is))) }
+
+-- numbers of rows are not refused
+pub part_numbers : {t : TypeRow} {old rows : List Row} {ns : List ℕ} {e : TypesError} → Describes t old rows → RefusesNumbers rows ns e
+    → find (λ m. nat_le (length rows) m) ns ≡ None → RefusesPart t old rows e
+part_numbers {rows = rows} {ns = ns} {e = e} before h known =
+    record { kept = before.kept; each = λ d in_d f. record { cause = by d h.cause } }
+  where
+    by : (d : Dictionary) → (e ≡ OutOfMemory) ⊎ (option_map UnknownType (find (λ m. nat_le (length rows) m) ns) ≡ Some e)
+        → (e ≡ OutOfMemory) ⊎ (d.refuses e ≡ true)
+    by d (inl memory) = inl memory
+    by d (inr unknown) = let never : None ≡ Some e = ap (option_map UnknownType) (sym known) ∙ unknown in cc

@@ -9,12 +9,10 @@ use Rattle.schemars_impls.specs.Dictionary.{Dictionary, TypeRow, IsInPart, Keeps
 use Rattle.schemars_types.proofs.Registered.{nat_le-above, place_of-below}
 use Rattle.schemars_impls.specs.Fields.{FieldsAreKnown, PartsAreKnown, VariantsAreKnown, bare_variant, plain_field, part}
 use Rattle.schemars_impls.specs.Keeps.{Keeps}
-use Rattle.schemars_impls.proofs.Keeping.{keeps-refl, keeps-same, keeps-trans, numbers-kept, known-one, known-two, place_of-kept, reserved_keeps}
-use Rattle.schemars_impls.proofs.Composing.{keeps_to_refl, keeps_to_same, keeps_to_part, refuses_memory, refuses_type_memory, refuses_part}
-use Rattle.schemars_impls.proofs.Composing.{describes_none, describes_then, describes_by, part_memory, part_refuses}
-use Rattle.schemars_impls.proofs.OwnRows.{self_reserved, reserve_follows, option_follows, seq_follows, set_follows, map_follows, has_present}
-use Rattle.schemars_impls.proofs.OwnRows.{has_registered, has_keeps, numbers_memory, numbers_unknown, numbers_refused, at_place, map_place}
-use Rattle.schemars_impls.proofs.OwnRows.{part_numbers}
+use Rattle.schemars_impls.proofs.Keeping.{keeps-refl, keeps-trans, numbers-kept, known-one, place_of-kept}
+use Rattle.schemars_impls.proofs.Composing.{keeps_to_refl, keeps_to_part, refuses_memory, refuses_part, describes_none, describes_then}
+use Rattle.schemars_impls.proofs.Composing.{describes_by, part_memory, part_refuses}
+use Rattle.schemars_impls.proofs.OwnRows.{self_reserved, reserve_follows, reserve_refuses, numbers_memory, numbers_unknown, part_numbers}
 
 -- no fields, and fields in a table that keeps its rows
 pub no_fields : (rows : List Row) → FieldsAreKnown rows []
@@ -43,17 +41,6 @@ pub field_added : (rows : List Row) (before after : List Field) (name : Text) (n
 field_added rows before after name n required below is h =
     subst (λ t. FieldsAreKnown rows t) (sym is)
     (record { known = joined rows (plain_field name n required) before (nat_le-above (length rows) n below) h.known })
-
--- several calls, one after another
-pub keeps_over_three : {a b c d : List Row} → Keeps a b → Keeps b c → Keeps c d → Keeps a d
-keeps_over_three p q r = keeps-trans (keeps-trans p q) r
-
-pub keeps_over_five : {a b c d e f : List Row} → Keeps a b → Keeps b c → Keeps c d → Keeps d e → Keeps e f → Keeps a f
-keeps_over_five p q r s t = keeps-trans (keeps_over_three p q r) (keeps-trans s t)
-
-pub keeps_over_nine : {a b c d e f g h i j : List Row} → Keeps a b → Keeps b c → Keeps c d → Keeps d e → Keeps e f → Keeps f g
-    → Keeps g h → Keeps h i → Keeps i j → Keeps a j
-keeps_over_nine p q r s t u v w x = keeps_over_five (keeps_over_five p q r s t) u v w x
 
 -- ---- flattened parts
 
@@ -140,9 +127,6 @@ flat_known rows fields parts h k = both_known (length rows) (map (λ f. f.ty) fi
 -- what the calls need that add fields, variants and rows
 pub ruleset adding = (
   keeps-refl,
-  keeps-same,
-  keeps-trans,
-  reserved_keeps,
   fields_kept,
   parts_kept,
   variants_kept,
@@ -155,21 +139,12 @@ pub ruleset adding = (
   struct_added,
   flat_known,
   reserve_follows,
-  option_follows,
-  seq_follows,
-  set_follows,
-  map_follows,
-  has_present,
-  has_registered,
-  has_keeps,
+  reserve_refuses,
   numbers_memory,
   numbers_unknown,
-  numbers_refused,
   keeps_to_refl,
-  keeps_to_same,
   keeps_to_part,
   refuses_memory,
-  refuses_type_memory,
   refuses_part,
 )
 
@@ -194,17 +169,13 @@ describes_eight p within_p q within_q r within_r s within_s u within_u v within_
     describes_four p within_p q within_q r within_r s within_s (describes_four u within_u v within_v w within_w x within_x rest)
 
 -- a call that refuses behind others
-pub part_after : {t : TypeRow} {P : Dictionary → Type 0} {old mid : List Row} {e : TypesError} → RefusesAs P mid e
-    → ((d : Dictionary) → IsInPart t d → P d) → Describes t old mid → RefusesPart t old e
-part_after p within before = record { each = λ d h f. p.each d (within d h) (before.each d h f) }
+pub part_after : {t : TypeRow} {P : Dictionary → Type 0} {old mid new : List Row} {e : TypesError} → RefusesAs P mid new e
+    → ((d : Dictionary) → IsInPart t d → P d) → Describes t old mid → RefusesPart t old new e
+part_after p within before =
+    record { kept = keeps-trans before.kept p.kept; each = λ d h f. p.each d (within d h) (before.each d h f) }
 
 -- What a type of one's own needs whose fields join one after another: `using` names it in the crate of the type.
 pub ruleset own_types = (
-  keeps-refl,
-  keeps_over_nine,
-  keeps_over_five,
-  keeps_over_three,
-  keeps-trans,
   no_fields,
   no_parts,
   no_variants,
@@ -214,10 +185,7 @@ pub ruleset own_types = (
   numbers-kept,
   place_of-kept,
   known-one,
-  known-two,
   self_reserved,
-  at_place,
-  map_place,
   describes_none,
   describes_eight,
   describes_four,

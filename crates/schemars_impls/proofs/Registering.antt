@@ -16,7 +16,7 @@ use Rattle.schemars_impls.specs.Dictionary.{Told, Stage, Defined, Pending, Open,
 use Rattle.schemars_impls.specs.Dictionary.{Follows, TypeRow, IsTold, IsFree, IsLeft, IsIn, IsInPart, MayRefuse, KeepsTo, RefusesAs}
 use Rattle.schemars_impls.specs.Dictionary.{Describes, RefusesPart, Completes}
 use Rattle.schemars_impls.specs.Keeps.{Keeps, AllContinue}
-use Rattle.schemars_impls.proofs.Keeping.{place_of-kept, defined-there, undefined-reserved, defined-reserved}
+use Rattle.schemars_impls.proofs.Keeping.{keeps-same, keeps-trans, place_of-kept, defined-there, undefined-reserved, defined-reserved, reserved_keeps}
 use Rattle.schemars_impls.proofs.Following.{made-kept, name_at-last, staged-same, restaged, restaged-twice, follows-open, follows-reserved}
 use Rattle.schemars_impls.proofs.Following.{follows-defined, follows-settled}
 
@@ -53,42 +53,48 @@ module _ (t : TypeRow) (old mid last : List Row) (n : ℕ) (mid_is : mid ≡ res
       (λ m placed. let ms : Some m ≡ Some n = sym placed ∙ there in let m_is : n ≡ m = cc in
       ap (λ k. is_some (entry_at mid k)) (sym m_is) ∙ missing) (λ is. ap is_some there))
 
-  pub part-refused : (e : TypesError) → RefusesPart t mid e → RefusesAs (IsIn t) old e
+  kept-mid : Keeps old mid
+  kept-mid = reserved_keeps t.id t.name old mid mid_is
+
+  pub part-refused : (e : TypesError) → RefusesPart t mid last e → RefusesAs (IsIn t) old last e
   part-refused e inside = record {
+    kept = keeps-trans kept-mid inside.kept;
     each = λ d h f. let why = inside.each (staged t.id Pending d) (in_part t d h) (described-mid d h f) in record { cause = why.cause };
   }
 
-  completed : (b : Bool) (given : Entry) (new : List Row) → b ≡ t.inline → Keeps mid last → Describes t mid last
+  completed : (b : Bool) (given : Entry) (new : List Row) → b ≡ t.inline → Describes t mid last
       → IsMade t.making last given → new ≡ defined n (record given { inline = b }) last → Keeps last new → (d : Dictionary) → IsIn t d
       → Follows d old → Follows (staged t.id Defined d) new
-  completed b given new b_is kept inside made new_is kept_new d h f =
+  completed b given new b_is inside made new_is kept_new d h f =
       let e : Entry = record given { inline = t.inline } in
       let later = inside.each (staged t.id Pending d) (in_part t d h) (described-mid d h f) in
       let is : new ≡ defined n e last = new_is ∙ ap (λ x. defined n (record given { inline = x }) last) b_is in
-      let placed = place_of-kept t.id n kept there in
+      let placed = place_of-kept t.id n inside.kept there in
       let kept_defined : Keeps last (defined n e last) = subst (Keeps last) is kept_new in
       subst (Follows (staged t.id Defined d)) (sym is)
       (follows-defined d t.id n e last later placed (defined-there t.id last (defined n e last) n e placed refl) kept_defined
       (described (d.told t.id) t (defined n e last) given h.told (made-kept t.making last (defined n e last) given kept_defined made)))
 
-  pub registered-completes : (b : Bool) (given : Entry) (new : List Row) → b ≡ t.inline → Keeps mid last → Describes t mid last
+  pub registered-completes : (b : Bool) (given : Entry) (new : List Row) → b ≡ t.inline → Describes t mid last
       → IsMade t.making last given → new ≡ defined n (record given { inline = b }) last → Keeps last new → Completes t old new
-  registered-completes b given new b_is kept inside made new_is kept_new =
-      record { each = completed b given new b_is kept inside made new_is kept_new }
+  registered-completes b given new b_is inside made new_is kept_new =
+      record { each = completed b given new b_is inside made new_is kept_new }
 
-  pub registered-follows : (b : Bool) (given : Entry) (new : List Row) → b ≡ t.inline → Keeps mid last → Describes t mid last
+  pub registered-follows : (b : Bool) (given : Entry) (new : List Row) → b ≡ t.inline → Describes t mid last
       → IsMade t.making last given → new ≡ defined n (record given { inline = b }) last → Keeps last new → KeepsTo (IsIn t) old new
-  registered-follows b given new b_is kept inside made new_is kept_new = record {
-    each = λ d h f. follows-settled d t.id new h.free (completed b given new b_is kept inside made new_is kept_new d h f);
+  registered-follows b given new b_is inside made new_is kept_new = record {
+    kept = keeps-trans kept-mid (keeps-trans inside.kept kept_new);
+    each = λ d h f. follows-settled d t.id new h.free (completed b given new b_is inside made new_is kept_new d h f);
   }
 
   -- so `define` never refuses it
-  pub never-refused : (e : Entry) (err : TypesError) → Keeps mid last → Describes t mid last → unknown_in last e.shape ≡ None
-      → Some err ≡ refusal_of last n e → RefusesAs (IsIn t) old err
-  never-refused e err kept inside known refused = record {
+  pub never-refused : (e : Entry) (err : TypesError) (new : List Row) → Describes t mid last → unknown_in last e.shape ≡ None
+      → Some err ≡ refusal_of last n e → new ≡ last → RefusesAs (IsIn t) old new err
+  never-refused e err new inside known refused same = record {
+    kept = keeps-trans kept-mid (keeps-trans inside.kept (keeps-same last new same));
     each = λ d h f.
         let later = inside.each (staged t.id Pending d) (in_part t d h) (described-mid d h f) in
-        let placed = place_of-kept t.id n kept there in
+        let placed = place_of-kept t.id n inside.kept there in
         let empty : is_some (entry_at last n) ≡ false = subst (λ s. IsAtStage s (is_some (entry_at last n))) (staged-same t.id Pending d)
         ((later.each t.id n placed).stage) in
         let above : nat_le (length last) n ≡ false = nat_le-above (length last) n (place_of-below t.id last n placed) in
@@ -118,7 +124,10 @@ present-same id name old mid n is there full = by (place_of id old) refl
 module _ (t : TypeRow) (old mid : List Row) (n : ℕ) (is : mid ≡ reserved t.id t.name old) (there : place_of t.id mid ≡ Some n)
     (full : is_some (entry_at mid n) ≡ true) where
   pub present-follows : KeepsTo (IsIn t) old mid
-  present-follows = record { each = λ d h f. subst (Follows d) (sym (present-same t.id t.name old mid n is there full)) f }
+  present-follows = record {
+    kept = keeps-same old mid (present-same t.id t.name old mid n is there full);
+    each = λ d h f. subst (Follows d) (sym (present-same t.id t.name old mid n is there full)) f;
+  }
 
   pub present-completes : Completes t old mid
   present-completes = record {

@@ -7,6 +7,7 @@ use Rattle.schemars_types.specs.Rows.{Row, place_of, entry_at, name_at}
 use Rattle.schemars_types.specs.declared.error.TypesError.{TypesError}
 use Rattle.schemars_types.specs.declared.error.TypesError.TheVariants.{OutOfMemory}
 use Rattle.schemars_impls.specs.Describes.{Making, Always, OfOne, OfTwo, Unsaid, IsDescribed, entry_under}
+use Rattle.schemars_impls.specs.Keeps.{Keeps}
 
 -- the name of a row, whether it is written in place, and how its entry is made
 pub record Told : Type 0 where
@@ -105,20 +106,25 @@ pub record IsInPart (t : TypeRow) (d : Dictionary) : Type 0 where
 pub record MayRefuse (d : Dictionary) (e : TypesError) : Type 0 where
   pub cause : (e ≡ OutOfMemory) ⊎ (d.refuses e ≡ true)
 
--- A call that adds rows for types keeps to each dictionary in which they are (`Are`): a table that follows it follows it afterwards.
+-- A call that adds rows for types keeps those that are there. And it keeps to each dictionary in which the types are (`Are`): a table
+-- that follows it follows it afterwards.
 pub record KeepsTo (Are : Dictionary → Type 0) (old new : List Row) : Type 0 where
+  pub kept : Keeps old new
   pub each : (d : Dictionary) → Are d → Follows d old → Follows d new
 
--- Where the table follows such a dictionary, the call refuses as that says.
-pub record RefusesAs (Are : Dictionary → Type 0) (old : List Row) (e : TypesError) : Type 0 where
+-- A call that refuses keeps the rows too. Where the table follows such a dictionary, it refuses as that says.
+pub record RefusesAs (Are : Dictionary → Type 0) (old new : List Row) (e : TypesError) : Type 0 where
+  pub kept : Keeps old new
   pub each : (d : Dictionary) → Are d → Follows d old → MayRefuse d e
 
--- A call that describes a type keeps to the dictionaries in which its row is pending.
+-- The same of a call that describes a type: it keeps to the dictionaries in which the type's row is pending,
 pub record Describes (t : TypeRow) (old new : List Row) : Type 0 where
+  pub kept : Keeps old new
   pub each : (d : Dictionary) → IsInPart t d → Follows d old → Follows d new
 
--- And it refuses as they say.
-pub record RefusesPart (t : TypeRow) (old : List Row) (e : TypesError) : Type 0 where
+-- and refuses as they say.
+pub record RefusesPart (t : TypeRow) (old new : List Row) (e : TypesError) : Type 0 where
+  pub kept : Keeps old new
   pub each : (d : Dictionary) → IsInPart t d → Follows d old → MayRefuse d e
 
 -- ---- a type that is registered
@@ -140,9 +146,9 @@ pub record Completes (t : TypeRow) (old new : List Row) : Type 0 where
   pub each : (d : Dictionary) → IsIn t d → Follows d old → Follows (staged t.id Defined d) new
 
 -- A type whose row is defined already is refused for want of memory alone; any other as the dictionaries say in which it is.
-pub record RefusesType (t : TypeRow) (old : List Row) (e : TypesError) : Type 0 where
+pub record RefusesType (t : TypeRow) (old new : List Row) (e : TypesError) : Type 0 where
   pub present : IsSome (entry_under t.id old) → e ≡ OutOfMemory
-  pub as_told : RefusesAs (IsIn t) old e
+  pub as_told : RefusesAs (IsIn t) old new e
 
 -- ---- what types say
 

@@ -1,13 +1,21 @@
--- Rows that a type of one's own names by number.
-use Rattle.std.specs.Prelude.{◌≡◌, ◌⊎◌, ◌++◌, ℕ, false, List, [], ◌∷◌, Option, Some, None, IsSome, is_some, length, find, nat_le, option_map, if◌then◌else◌}
+-- Rows that a type of one's own is made of besides those of other types: its own, and those that are made of it.
+use Rattle.std.specs.Prelude.{◌≡◌, ◌⊎◌, ◌++◌, ℕ, false, List, [], ◌∷◌, Option, Some, None, IsSome, is_some, length, find, nat_le}
+use Rattle.std.specs.Prelude.{option_map, if◌then◌else◌}
 use Rattle.schemars_schema.specs.Json.{Text}
-use Rattle.schemars_shapes.specs.Shape.{Entry}
+use Rattle.schemars_shapes.specs.Shape.{Entry, in_place, option, seq, set, array_of, map_from}
 use Rattle.schemars_types.specs.declared.error.TypesError.{TypesError}
 use Rattle.schemars_types.specs.declared.error.TypesError.TheVariants.{OutOfMemory, UnknownType}
-use Rattle.schemars_types.specs.Rows.{Row, place_of}
+use Rattle.schemars_types.specs.Names.{option_id, option_name, seq_id, seq_name, set_id, set_name, array_id, array_name, map_id, map_name}
+use Rattle.schemars_types.specs.Rows.{Row, place_of, name_at, reserved}
 use Rattle.schemars_impls.specs.Describes.{Unsaid}
-use Rattle.schemars_impls.specs.Dictionary.{Dictionary, Told, TypeRow, IsTold, IsNamed, IsLeft}
+use Rattle.schemars_impls.specs.Dictionary.{Dictionary, Told, TypeRow, IsTold, IsNamed, IsLeft, IsIn}
 use Rattle.schemars_impls.specs.Containers.{option_row, seq_row, set_row, map_row, array_row}
+
+-- want of memory, or the first of these numbers that is not that of a row
+pub record RefusesNumbers (rows : List Row) (ns : List ℕ) (e : TypesError) : Type 0 where
+  pub cause : (e ≡ OutOfMemory) ⊎ (option_map UnknownType (find (λ m. nat_le (length rows) m) ns) ≡ Some e)
+
+-- ---- what the table has
 
 -- a new id is added at the end, with this name and entry; an id that is there keeps its row
 abbrev pub with_row : Text → Text → Entry → List Row → List Row
@@ -18,9 +26,24 @@ pub record HasRow (id name : Text) (e : Entry) (old new : List Row) (n : ℕ) : 
   pub number : place_of id new ≡ Some n
   pub table : new ≡ with_row id name e old
 
--- want of memory, or the first of these numbers that is not that of a row
-pub record RefusesNumbers (rows : List Row) (ns : List ℕ) (e : TypesError) : Type 0 where
-  pub cause : (e ≡ OutOfMemory) ⊎ (option_map UnknownType (find (λ m. nat_le (length rows) m) ns) ≡ Some e)
+-- First the row with the id `id` was reserved, under this name if it is new, and has number `part`. Row n is made of it: its id and its
+-- entry are these, and so is its name if it is new.
+pub record HasRowOf (id name made_id : Text) (made_name : Text → Text) (make : ℕ → Entry) (old new : List Row) (n : ℕ) : Type 0 where
+  pub part : ℕ
+  pub place : place_of id (reserved id name old) ≡ Some part
+  pub has : HasRow made_id (made_name (name_at (reserved id name old) part)) (make part) (reserved id name old) new n
+
+abbrev pub HasOptionOf : Text → Text → List Row → List Row → ℕ → Type 0
+HasOptionOf id name = HasRowOf id name (option_id id) option_name (λ k. in_place (option k))
+
+abbrev pub HasSeqOf : Text → Text → List Row → List Row → ℕ → Type 0
+HasSeqOf id name = HasRowOf id name (seq_id id) seq_name (λ k. in_place (seq k))
+
+abbrev pub HasSetOf : Text → Text → List Row → List Row → ℕ → Type 0
+HasSetOf id name = HasRowOf id name (set_id id) set_name (λ k. in_place (set k))
+
+abbrev pub HasArrayOf : ℕ → Text → Text → List Row → List Row → ℕ → Type 0
+HasArrayOf len id name = HasRowOf id name (array_id id len) (λ x. array_name x len) (λ k. in_place (array_of k len))
 
 -- ---- what a dictionary has to say of them
 
@@ -35,42 +58,31 @@ pub record IsCalled (id name : Text) (d : Dictionary) : Type 0 where
   pub is : d.told id ≡ Some told
   pub named : told.name ≡ name
 
--- If anything is told of the row of this type, then what the type says; and of its parts their names are told.
-pub record IsMadeOf (t : TypeRow) (AreCalled : Dictionary → Type 0) (d : Dictionary) : Type 0 where
-  pub told : IsTold (d.told t.id) t
-  pub parts : IsSome (d.told t.id) → AreCalled d
-
 -- a row of which the id and the name are known
 abbrev pub called : Text → Text → TypeRow
 called id name = record { id = id; name = name; inline = false; making = Unsaid; parts = λ d. Unit {0} }
 
+-- The row with this id is reserved. If anything is told of the row of type t, which is made of it, then what the type says; and this
+-- name is told of the reserved row.
+pub record IsMadeOf (t : TypeRow) (id name : Text) (d : Dictionary) : Type 0 where
+  pub own : IsReserved id name d
+  pub told : IsTold (d.told t.id) t
+  pub part : IsSome (d.told t.id) → IsCalled id name d
+
 pub record IsOptionOf (id name : Text) (d : Dictionary) : Type 0 where
-  pub made : IsMadeOf (option_row (called id name)) (IsCalled id name) d
+  pub made : IsMadeOf (option_row (called id name)) id name d
 
 pub record IsSeqOf (id name : Text) (d : Dictionary) : Type 0 where
-  pub made : IsMadeOf (seq_row (called id name)) (IsCalled id name) d
+  pub made : IsMadeOf (seq_row (called id name)) id name d
 
 pub record IsSetOf (id name : Text) (d : Dictionary) : Type 0 where
-  pub made : IsMadeOf (set_row (called id name)) (IsCalled id name) d
+  pub made : IsMadeOf (set_row (called id name)) id name d
 
 pub record IsArrayOf (len : ℕ) (id name : Text) (d : Dictionary) : Type 0 where
-  pub made : IsMadeOf (array_row (called id name) len) (IsCalled id name) d
+  pub made : IsMadeOf (array_row (called id name) len) id name d
 
-pub record IsMapOf (key_id key_name id name : Text) (d : Dictionary) : Type 0 where
-  pub made : IsMadeOf (map_row (called key_id key_name) (called id name)) (λ e. IsCalled key_id key_name e × IsCalled id name e) d
-
--- the same where the id is that of row n
-pub record IsAt (n : ℕ) (rows : List Row) (Made : Text → Text → Dictionary → Type 0) (d : Dictionary) : Type 0 where
-  pub id : Text
-  pub name : Text
-  pub place : place_of id rows ≡ Some n
-  pub made : Made id name d
-
-pub record IsMapAt (key n : ℕ) (rows : List Row) (d : Dictionary) : Type 0 where
-  pub key_id : Text
-  pub key_name : Text
-  pub id : Text
-  pub name : Text
-  pub key_place : place_of key_id rows ≡ Some key
-  pub place : place_of id rows ≡ Some n
-  pub made : IsMapOf key_id key_name id name d
+-- the same of maps, whose keys are of a type that is in the dictionary
+pub record IsMapOf (key : TypeRow) (id name : Text) (d : Dictionary) : Type 0 where
+  pub keys : IsIn key d
+  pub made : IsMadeOf (map_row key (called id name)) id name d
+  pub key_name : IsSome (d.told (map_row key (called id name)).id) → IsCalled key.id key.name d

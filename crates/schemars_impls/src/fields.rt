@@ -7,7 +7,6 @@ ghost use Rattle.schemars_types.specs.Rows.{Row, place_of, unknown_in};
 ghost use Rattle.schemars_impls.specs.Dictionary.{IsIn, KeepsTo, RefusesAs};
 ghost use Rattle.schemars_impls.specs.Fields.{fields_with, part, plain_field, FieldsAreKnown};
 ghost use Rattle.schemars_impls.specs.Fields.{PartsAreKnown};
-ghost use Rattle.schemars_impls.specs.Keeps.{Keeps};
 ghost use Rattle.schemars_impls.specs.OwnRows.{RefusesNumbers};
 
 use crate::law::{JsonSchema, entry, register};
@@ -48,7 +47,6 @@ pub fn add_field<T: JsonSchema>(
     name: &str,
     required: Required,
 ) -> Result<(), TypesError>
-    ensures keeps { Keeps types.old types.new }
     ensures known { OnOk result (FieldsAreKnown types.old (map field_of fields.old.items)
         → FieldsAreKnown types.new (map field_of fields.new.items)) }
     ensures adds { OnOk result (option_map (λ n. map field_of fields.old.items
@@ -56,7 +54,7 @@ pub fn add_field<T: JsonSchema>(
         ≡ Some (map field_of fields.new.items)) }
     ensures follows { OnOk result (KeepsTo (IsIn T.says) types.old types.new) }
     ensures unchanged { OnErr result (fields.new.items ≡ fields.old.items) }
-    ensures refused { IfErr result (RefusesAs (IsIn T.says) types.old) }
+    ensures refused { IfErr result (RefusesAs (IsIn T.says) types.old types.new) }
 {
     let ty = register::<T>(alloc, types)?;
     push_field(alloc, fields, name, ty, required)?;
@@ -120,7 +118,6 @@ pub fn add_flattened<T: JsonSchema>(
     flatten: &mut Vec<Flattened>,
     required: Required,
 ) -> Result<(), TypesError>
-    ensures keeps { Keeps types.old types.new }
     ensures known { OnOk result (PartsAreKnown types.old (map flattened_of flatten.old.items)
         → PartsAreKnown types.new (map flattened_of flatten.new.items)) }
     ensures adds { OnOk result (option_map (λ n. map flattened_of flatten.old.items
@@ -128,7 +125,7 @@ pub fn add_flattened<T: JsonSchema>(
         ≡ Some (map flattened_of flatten.new.items)) }
     ensures follows { OnOk result (KeepsTo (IsIn T.says) types.old types.new) }
     ensures unchanged { OnErr result (flatten.new.items ≡ flatten.old.items) }
-    ensures refused { IfErr result (RefusesAs (IsIn T.says) types.old) }
+    ensures refused { IfErr result (RefusesAs (IsIn T.says) types.old types.new) }
 {
     let ty = register::<T>(alloc, types)?;
     push_part(flatten, ty, required)?;

@@ -3,7 +3,6 @@ ghost use Rattle.std.specs.Prelude.{◌≡◌, None, IfErr, IfOk, IsSome, OnOk};
 ghost use Rattle.std.specs.Cow.{cow_str_bytes};
 ghost use Rattle.schemars_shapes.specs.Shape.{entry_of, shape_of, without_notes};
 ghost use Rattle.schemars_types.specs.Rows.{unknown_in};
-ghost use Rattle.schemars_impls.specs.Keeps.{Keeps};
 ghost use Rattle.schemars_impls.specs.Describes.{entry_under, IsMade};
 ghost use Rattle.schemars_impls.specs.Dictionary.{TypeRow, Describes, RefusesPart};
 ghost use Rattle.schemars_impls.specs.Dictionary.{IsAdded, IsIn, KeepsTo, Completes, RefusesType};
@@ -40,11 +39,10 @@ pub trait JsonSchema {
     ///
     /// `OutOfMemory`, or an error that says what is so of the table. Rows keep the same as above.
     fn json_schema(alloc: Global, types: &mut Types) -> Result<TypeEntry, TypesError>
-        ensures keeps { Keeps types.old types.new }
         ensures known { IfOk result (λ e. unknown_in types.new (shape_of e.shape) ≡ None) }
         ensures made { IfOk result (λ e. IsMade says.making types.new (entry_of e)) }
         ensures follows { OnOk result (Describes says types.old types.new) }
-        ensures refused { IfErr result (RefusesPart says types.old) };
+        ensures refused { IfErr result (RefusesPart says types.old types.new) };
 }
 
 /// Returns the number of the type's row. If the row is not defined, it is added and defined first;
@@ -56,12 +54,11 @@ pub trait JsonSchema {
 /// with a different entry. Rows that are defined stay; new rows may be behind them.
 #[tactic(auto, using(crate::proofs::Composing::keeping))]
 pub fn register<T: JsonSchema>(alloc: Global, types: &mut Types) -> Result<TypeNo, TypesError>
-    ensures keeps { Keeps types.old types.new }
     ensures added { IfOk result (IsAdded T.says types.old types.new) }
     ensures present { IsSome (entry_under T.says.id types.old) → types.new ≡ types.old }
     ensures follows { OnOk result (KeepsTo (IsIn T.says) types.old types.new) }
     ensures completes { OnOk result (Completes T.says types.old types.new) }
-    ensures refused { IfErr result (RefusesType T.says types.old) }
+    ensures refused { IfErr result (RefusesType T.says types.old types.new) }
 {
     let id = T::schema_id(alloc)?.into_owned(alloc)?;
     let name = T::schema_name(alloc)?.into_owned(alloc)?;

@@ -13,7 +13,7 @@ pub use fields::{
 };
 pub use impls::parts::add_one;
 pub use law::{JsonSchema, register};
-pub use rows::{map_of, option_of, reserve, seq_of, set_of};
+pub use rows::{array_of, option_of, reserve, seq_of, set_of};
 pub use variants::{
     add_internal_newtype, add_internal_struct, add_internal_unit, add_newtype, add_struct,
     add_tuple, add_unit, adjacent_entry, external_entry, internal_entry, untagged_entry,

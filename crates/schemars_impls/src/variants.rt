@@ -12,7 +12,6 @@ ghost use Rattle.schemars_types.specs.Rows.{Row, place_of, unknown_in};
 ghost use Rattle.schemars_impls.specs.Describes.{AreKnown};
 ghost use Rattle.schemars_impls.specs.Dictionary.{IsIn, KeepsTo, RefusesAs};
 ghost use Rattle.schemars_impls.specs.Fields.{bare_variant, FieldsAreKnown, VariantsAreKnown};
-ghost use Rattle.schemars_impls.specs.Keeps.{Keeps};
 
 use crate::law::{JsonSchema, entry, register};
 use schemars_types::{
@@ -50,7 +49,6 @@ pub fn add_newtype<T: JsonSchema>(
     variants: &mut Vec<Variant>,
     name: &str,
 ) -> Result<(), TypesError>
-    ensures keeps { Keeps types.old types.new }
     ensures known { OnOk result (VariantsAreKnown types.old (map variant_of variants.old.items)
         → VariantsAreKnown types.new (map variant_of variants.new.items)) }
     ensures adds { OnOk result (option_map (λ n. map variant_of variants.old.items
@@ -58,7 +56,7 @@ pub fn add_newtype<T: JsonSchema>(
         ≡ Some (map variant_of variants.new.items)) }
     ensures follows { OnOk result (KeepsTo (IsIn T.says) types.old types.new) }
     ensures unchanged { OnErr result (variants.new.items ≡ variants.old.items) }
-    ensures refused { IfErr result (RefusesAs (IsIn T.says) types.old) }
+    ensures refused { IfErr result (RefusesAs (IsIn T.says) types.old types.new) }
 {
     let ty = register::<T>(alloc, types)?;
     push_variant(alloc, variants, name, Payload::Newtype(ty))?;
@@ -213,7 +211,6 @@ pub fn add_internal_newtype<T: JsonSchema>(
     variants: &mut Vec<InternalVariant>,
     name: &str,
 ) -> Result<(), TypesError>
-    ensures keeps { Keeps types.old types.new }
     ensures known { OnOk result
         (VariantsAreKnown types.old (map internal_variant_of variants.old.items)
         → VariantsAreKnown types.new (map internal_variant_of variants.new.items)) }
@@ -222,7 +219,7 @@ pub fn add_internal_newtype<T: JsonSchema>(
         ≡ Some (map internal_variant_of variants.new.items)) }
     ensures follows { OnOk result (KeepsTo (IsIn T.says) types.old types.new) }
     ensures unchanged { OnErr result (variants.new.items ≡ variants.old.items) }
-    ensures refused { IfErr result (RefusesAs (IsIn T.says) types.old) }
+    ensures refused { IfErr result (RefusesAs (IsIn T.says) types.old types.new) }
 {
     let ty = register::<T>(alloc, types)?;
     push_internal(alloc, variants, name, InternalPayload::Newtype(ty))?;

@@ -5,7 +5,6 @@ ghost use Rattle.schemars_shapes.specs.Shape.{entry_of, shape_of};
 ghost use Rattle.schemars_types.specs.Names.{map_id, map_name};
 ghost use Rattle.schemars_types.specs.Rows.{unknown_in};
 ghost use Rattle.schemars_impls.specs.Describes.{IsMade};
-ghost use Rattle.schemars_impls.specs.Keeps.{Keeps};
 ghost use Rattle.schemars_impls.specs.Dictionary.{IsIn, KeepsTo, RefusesAs};
 ghost use Rattle.schemars_impls.specs.Containers.{map_row};
 
@@ -91,13 +90,12 @@ pub(crate) fn map_entry<K: JsonSchema, V: JsonSchema>(
     alloc: Global,
     types: &mut Types,
 ) -> Result<TypeEntry, TypesError>
-    ensures keeps { Keeps types.old types.new }
     ensures known { IfOk result (λ e. unknown_in types.new (shape_of e.shape) ≡ None) }
     ensures made { IfOk result
         (λ e. IsMade (map_row K.says V.says).making types.new (entry_of e)) }
     ensures follows { OnOk result
         (KeepsTo (λ d. IsIn K.says d × IsIn V.says d) types.old types.new) }
-    ensures refused { IfErr result (RefusesAs (λ d. IsIn K.says d × IsIn V.says d) types.old) }
+    ensures refused { IfErr result (RefusesAs (λ d. IsIn K.says d × IsIn V.says d) types.old types.new) }
 {
     let (key, value) = register_two::<K, V>(alloc, types)?;
     Ok(entry(alloc, true, Shape::Map(key, value)))

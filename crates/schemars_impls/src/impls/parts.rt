@@ -4,7 +4,6 @@ ghost use Rattle.std.specs.Prelude.{codes, string_bytes};
 ghost use Rattle.std.specs.List.{flat_map};
 ghost use Rattle.schemars_types.specs.Rows.{place_of};
 ghost use Rattle.schemars_impls.specs.Describes.{Adds, AreKnown};
-ghost use Rattle.schemars_impls.specs.Keeps.{Keeps};
 ghost use Rattle.schemars_impls.specs.Dictionary.{IsIn, KeepsTo, RefusesAs};
 ghost use Rattle.schemars_impls.specs.Containers.{PartRows, and_parts, no_parts};
 
@@ -18,12 +17,11 @@ pub(crate) fn register_two<A: JsonSchema, B: JsonSchema>(
     alloc: Global,
     types: &mut Types,
 ) -> Result<(TypeNo, TypeNo), TypesError>
-    ensures keeps { Keeps types.old types.new }
     ensures first { IfOk result (λ p. place_of A.says.id types.new ≡ Some p.0) }
     ensures second { IfOk result (λ p. place_of B.says.id types.new ≡ Some p.1) }
     ensures follows { OnOk result
         (KeepsTo (λ d. IsIn A.says d × IsIn B.says d) types.old types.new) }
-    ensures refused { IfErr result (RefusesAs (λ d. IsIn A.says d × IsIn B.says d) types.old) }
+    ensures refused { IfErr result (RefusesAs (λ d. IsIn A.says d × IsIn B.says d) types.old types.new) }
 {
     let first = register::<A>(alloc, types)?;
     let second = register::<B>(alloc, types)?;
@@ -46,13 +44,12 @@ pub(crate) trait Parts {
 
     /// Registers each type, and adds its number to a list.
     fn add(alloc: Global, types: &mut Types, numbers: &mut Vec<TypeNo>) -> Result<(), TypesError>
-        ensures keeps { Keeps types.old types.new }
         ensures adds { OnOk result
             (Adds parts.ids types.old numbers.old.items types.new numbers.new.items) }
         ensures known { OnOk result
             (AreKnown types.old numbers.old.items → AreKnown types.new numbers.new.items) }
         ensures follows { OnOk result (KeepsTo parts.are_in types.old types.new) }
-        ensures refused { IfErr result (RefusesAs parts.are_in types.old) };
+        ensures refused { IfErr result (RefusesAs parts.are_in types.old types.new) };
 }
 
 /// No types.
@@ -114,13 +111,12 @@ pub fn add_one<T: JsonSchema>(
     types: &mut Types,
     numbers: &mut Vec<TypeNo>,
 ) -> Result<(), TypesError>
-    ensures keeps { Keeps types.old types.new }
     ensures adds { OnOk result
         (Adds (T.says.id ∷ []) types.old numbers.old.items types.new numbers.new.items) }
     ensures known { OnOk result
         (AreKnown types.old numbers.old.items → AreKnown types.new numbers.new.items) }
     ensures follows { OnOk result (KeepsTo (IsIn T.says) types.old types.new) }
-    ensures refused { IfErr result (RefusesAs (IsIn T.says) types.old) }
+    ensures refused { IfErr result (RefusesAs (IsIn T.says) types.old types.new) }
 {
     let n = register::<T>(alloc, types)?;
     numbers.push(n)?;

@@ -5,7 +5,6 @@ ghost use Rattle.schemars_shapes.specs.Shape.{entry_of, shape_of};
 ghost use Rattle.schemars_types.specs.Names.{set_id, set_name};
 ghost use Rattle.schemars_types.specs.Rows.{unknown_in};
 ghost use Rattle.schemars_impls.specs.Describes.{IsMade};
-ghost use Rattle.schemars_impls.specs.Keeps.{Keeps};
 ghost use Rattle.schemars_impls.specs.Dictionary.{IsIn, KeepsTo, RefusesAs};
 ghost use Rattle.schemars_impls.specs.Containers.{set_row};
 
@@ -77,12 +76,11 @@ pub(crate) fn set_entry<T: JsonSchema>(
     alloc: Global,
     types: &mut Types,
 ) -> Result<TypeEntry, TypesError>
-    ensures keeps { Keeps types.old types.new }
     ensures known { IfOk result (λ e. unknown_in types.new (shape_of e.shape) ≡ None) }
     ensures made { IfOk result
         (λ e. IsMade (set_row T.says).making types.new (entry_of e)) }
     ensures follows { OnOk result (KeepsTo (IsIn T.says) types.old types.new) }
-    ensures refused { IfErr result (RefusesAs (IsIn T.says) types.old) }
+    ensures refused { IfErr result (RefusesAs (IsIn T.says) types.old types.new) }
 {
     let n = register::<T>(alloc, types)?;
     Ok(entry(alloc, true, Shape::Set(n)))

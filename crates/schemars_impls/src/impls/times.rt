@@ -7,7 +7,6 @@ ghost use Rattle.schemars_shapes.specs.Shape.{needed, shape_of};
 ghost use Rattle.schemars_types.specs.Rows.{unknown_in};
 ghost use Rattle.schemars_types.specs.Times.{time_entry};
 ghost use Rattle.schemars_impls.specs.Describes.{IsMade, OfTwo};
-ghost use Rattle.schemars_impls.specs.Keeps.{Keeps};
 ghost use Rattle.schemars_impls.specs.Dictionary.{IsIn, KeepsTo, RefusesAs, of_two};
 
 use crate::impls::parts::register_two;
@@ -68,7 +67,6 @@ fn time_entry(
     seconds: &str,
     nanoseconds: &str,
 ) -> Result<TypeEntry, TypesError>
-    ensures keeps { Keeps types.old types.new }
     ensures known { IfOk result (λ e. unknown_in types.new (shape_of e.shape) ≡ None) }
     ensures made { IfOk result (λ e. IsMade (OfTwo (format_of U64) (format_of U32)
         (time_entry seconds.now nanoseconds.now)) types.new (entry_of e)) }
@@ -76,7 +74,8 @@ fn time_entry(
         (λ d. IsIn ⟦<u64 as JsonSchema>⟧.says d × IsIn ⟦<u32 as JsonSchema>⟧.says d)
         types.old types.new) }
     ensures refused { IfErr result (RefusesAs
-        (λ d. IsIn ⟦<u64 as JsonSchema>⟧.says d × IsIn ⟦<u32 as JsonSchema>⟧.says d) types.old) }
+        (λ d. IsIn ⟦<u64 as JsonSchema>⟧.says d × IsIn ⟦<u32 as JsonSchema>⟧.says d)
+        types.old types.new) }
 {
     let (whole, part) = register_two::<u64, u32>(alloc, types)?;
     let fields = two_needed(alloc, seconds, whole, nanoseconds, part)?;

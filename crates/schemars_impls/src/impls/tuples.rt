@@ -5,7 +5,6 @@ ghost use Rattle.schemars_shapes.specs.Shape.{entry_of, shape_of};
 ghost use Rattle.schemars_types.specs.Names.{tuple_id, tuple_name};
 ghost use Rattle.schemars_types.specs.Rows.{unknown_in};
 ghost use Rattle.schemars_impls.specs.Describes.{IsMade};
-ghost use Rattle.schemars_impls.specs.Keeps.{Keeps};
 ghost use Rattle.schemars_impls.specs.Dictionary.{KeepsTo, RefusesAs};
 ghost use Rattle.schemars_impls.specs.Containers.{tuple_row};
 
@@ -56,12 +55,11 @@ fn id_of<A: JsonSchema, R: Parts>(alloc: Global) -> Result<CowStr<'static>, Allo
 }
 
 fn entry_of_all<P: Parts>(alloc: Global, types: &mut Types) -> Result<TypeEntry, TypesError>
-    ensures keeps { Keeps types.old types.new }
     ensures known { IfOk result (λ e. unknown_in types.new (shape_of e.shape) ≡ None) }
     ensures made { IfOk result
         (λ e. IsMade (tuple_row P.parts).making types.new (entry_of e)) }
     ensures follows { OnOk result (KeepsTo P.parts.are_in types.old types.new) }
-    ensures refused { IfErr result (RefusesAs P.parts.are_in types.old) }
+    ensures refused { IfErr result (RefusesAs P.parts.are_in types.old types.new) }
 {
     let mut numbers = Vec::new(alloc);
     P::add(alloc, types, &mut numbers)?;

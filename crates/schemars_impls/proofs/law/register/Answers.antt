@@ -3,42 +3,12 @@ use Rattle.schemars_shapes.specs.Shape.{Entry, entry_of}
 use Rattle.schemars_types.specs.Rows.{place_of, entry_at, reserved}
 use Rattle.schemars_impls.specs.Describes.{entry_under}
 use Rattle.schemars_impls.specs.Dictionary.{IsIn, RefusesType, RefusesAs}
-use Rattle.schemars_impls.proofs.Keeping.{keeps-refl, keeps-same, keeps-trans, reserved-then, place_of-kept, define-keeps}
+use Rattle.schemars_impls.proofs.Keeping.{keeps-refl, keeps-trans, place_of-kept, define-keeps}
 use Rattle.schemars_impls.proofs.Keeping.{reserved-same, defined-reserved, undefined-reserved, defined-there}
 use Rattle.schemars_impls.proofs.Following.{made-kept}
 use Rattle.schemars_impls.proofs.Registering.{is_some-map, part-refused, never-refused, registered-follows, registered-completes}
 use Rattle.schemars_impls.proofs.Registering.{present-follows, present-completes, reserved-name, never-present}
 use Rattle.schemars_impls.proofs.law.register.Goals as goal
-
-pub returns-in_err-schema_id-clause-keeps : goal.returns-in_err-schema_id-clause-keeps
-returns-in_err-schema_id-clause-keeps g c = keeps-refl c.args.types.now
-
-pub returns-in_err-id-clause-keeps : goal.returns-in_err-id-clause-keeps
-returns-in_err-id-clause-keeps g c = keeps-refl c.args.types.now
-
-pub returns-in_err-schema_name-clause-keeps : goal.returns-in_err-schema_name-clause-keeps
-returns-in_err-schema_name-clause-keeps g c = keeps-refl c.args.types.now
-
-pub returns-in_err-name-clause-keeps : goal.returns-in_err-name-clause-keeps
-returns-in_err-name-clause-keeps g c = keeps-refl c.args.types.now
-
-pub returns-in_err-n-clause-keeps : goal.returns-in_err-n-clause-keeps
-returns-in_err-n-clause-keeps g c = keeps-same _ _ c.in_err-n.ensures.err
-
-pub returns-in_err-entry-clause-keeps : goal.returns-in_err-entry-clause-keeps
-returns-in_err-entry-clause-keeps g c = reserved-then _ _ c.in_ok-n.ensures.ok c.in_err-entry.ensures.keeps
-
-pub returns-in_err-define-clause-keeps : goal.returns-in_err-define-clause-keeps
-returns-in_err-define-clause-keeps g c =
-    keeps-trans (reserved-then _ _ c.in_ok-n.ensures.ok c.in_ok-entry.ensures.keeps) (keeps-same _ _ c.in_err-define.ensures.err)
-
-pub returns-then-is_some-clause-keeps : goal.returns-then-is_some-clause-keeps
-returns-then-is_some-clause-keeps g c = reserved-then _ _ c.in_ok-n.ensures.ok (keeps-refl _)
-
-pub returns-clause-keeps : goal.returns-clause-keeps
-returns-clause-keeps g c =
-    keeps-trans (reserved-then _ _ c.in_ok-n.ensures.ok c.in_ok-entry.ensures.keeps)
-    (define-keeps _ _ _ _ c.in_ok-define.ensures.refused c.in_ok-define.ensures.ok)
 
 pub returns-then-is_some-clause-added : goal.returns-then-is_some-clause-added
 returns-then-is_some-clause-added g c =
@@ -73,10 +43,10 @@ returns-clause-added g c =
     let kept = define-keeps _ _ _ _ c.in_ok-define.ensures.refused c.in_ok-define.ensures.ok in
     let e : Entry = entry_of c.in_ok-entry.entry in
     let last = c.json_schema.new.types in
-    let placed = place_of-kept t.id c.in_ok-n.n c.in_ok-entry.ensures.keeps there in
+    let placed = place_of-kept t.id c.in_ok-n.n c.in_ok-entry.ensures.follows.kept there in
     record {
       number = place_of-kept t.id c.in_ok-n.n kept placed;
-      name = λ none. reserved-name t.id t.name c.args.types.now mid _ c.in_ok-n.n mid_is there (keeps-trans c.in_ok-entry.ensures.keeps kept)
+      name = λ none. reserved-name t.id t.name c.args.types.now mid _ c.in_ok-n.n mid_is there (keeps-trans c.in_ok-entry.ensures.follows.kept kept)
           none;
       described = λ undefined. record {
         entry = record e { inline = t.inline };
@@ -175,8 +145,7 @@ returns-clause-follows g c =
     let there : place_of t.id mid ≡ Some c.in_ok-n.n = ap (λ i. place_of i mid) (sym id_is) ∙ c.in_ok-n.ensures.number in
     let full = ap is_some (sym c.entry.ensures) ∙ is_some-map (λ e. entry_of e.now) c.entry.result ∙ sym c.is_some.ensures in
     registered-follows t c.args.types.now mid c.json_schema.new.types c.in_ok-n.n mid_is there (full ∙ c.if-is_some.false)
-    c.inline_schema.result (entry_of c.in_ok-entry.entry) _ c.inline_schema.ensures c.in_ok-entry.ensures.keeps
-    c.in_ok-entry.ensures.follows c.in_ok-entry.ensures.made c.in_ok-define.ensures.ok
+    c.inline_schema.result (entry_of c.in_ok-entry.entry) _ c.inline_schema.ensures c.in_ok-entry.ensures.follows c.in_ok-entry.ensures.made c.in_ok-define.ensures.ok
     (define-keeps _ _ _ _ c.in_ok-define.ensures.refused c.in_ok-define.ensures.ok)
 
 pub returns-clause-completes : goal.returns-clause-completes
@@ -191,8 +160,7 @@ returns-clause-completes g c =
     let there : place_of t.id mid ≡ Some c.in_ok-n.n = ap (λ i. place_of i mid) (sym id_is) ∙ c.in_ok-n.ensures.number in
     let full = ap is_some (sym c.entry.ensures) ∙ is_some-map (λ e. entry_of e.now) c.entry.result ∙ sym c.is_some.ensures in
     registered-completes t c.args.types.now mid c.json_schema.new.types c.in_ok-n.n mid_is there (full ∙ c.if-is_some.false)
-    c.inline_schema.result (entry_of c.in_ok-entry.entry) _ c.inline_schema.ensures c.in_ok-entry.ensures.keeps
-    c.in_ok-entry.ensures.follows c.in_ok-entry.ensures.made c.in_ok-define.ensures.ok
+    c.inline_schema.result (entry_of c.in_ok-entry.entry) _ c.inline_schema.ensures c.in_ok-entry.ensures.follows c.in_ok-entry.ensures.made c.in_ok-define.ensures.ok
     (define-keeps _ _ _ _ c.in_ok-define.ensures.refused c.in_ok-define.ensures.ok)
 
 pub returns-in_err-entry-clause-refused : goal.returns-in_err-entry-clause-refused
@@ -206,10 +174,10 @@ returns-in_err-entry-clause-refused g c =
     ∙ ap (λ x. reserved t.id x c.args.types.now) name_is in
     let there : place_of t.id mid ≡ Some c.in_ok-n.n = ap (λ i. place_of i mid) (sym id_is) ∙ c.in_ok-n.ensures.number in
     let full = ap is_some (sym c.entry.ensures) ∙ is_some-map (λ e. entry_of e.now) c.entry.result ∙ sym c.is_some.ensures in
-    let why : RefusesType t c.args.types.now c.in_err-entry.field-0.0 = record {
+    let why : RefusesType t c.args.types.now c.json_schema.new.types c.in_err-entry.field-0.0 = record {
       present = λ present.
           absurd (never-present t.id t.name c.args.types.now mid c.in_ok-n.n mid_is there (full ∙ c.if-is_some.false) present);
-      as_told = part-refused t c.args.types.now mid mid c.in_ok-n.n mid_is there (full ∙ c.if-is_some.false) _ c.in_err-entry.ensures.refused;
+      as_told = part-refused t c.args.types.now mid c.json_schema.new.types c.in_ok-n.n mid_is there (full ∙ c.if-is_some.false) _ c.in_err-entry.ensures.refused;
     } in
     search rules
 
@@ -224,11 +192,11 @@ returns-in_err-define-clause-refused g c =
     ∙ ap (λ x. reserved t.id x c.args.types.now) name_is in
     let there : place_of t.id mid ≡ Some c.in_ok-n.n = ap (λ i. place_of i mid) (sym id_is) ∙ c.in_ok-n.ensures.number in
     let full = ap is_some (sym c.entry.ensures) ∙ is_some-map (λ e. entry_of e.now) c.entry.result ∙ sym c.is_some.ensures in
-    let why : RefusesType t c.args.types.now c.in_err-define.field-0.0 = record {
+    let why : RefusesType t c.args.types.now c.define.new.self c.in_err-define.field-0.0 = record {
       present = λ present.
           absurd (never-present t.id t.name c.args.types.now mid c.in_ok-n.n mid_is there (full ∙ c.if-is_some.false) present);
       as_told = never-refused t c.args.types.now mid c.json_schema.new.types c.in_ok-n.n mid_is there (full ∙ c.if-is_some.false)
-          (record (entry_of c.in_ok-entry.entry) { inline = c.inline_schema.result }) _ c.in_ok-entry.ensures.keeps
-          c.in_ok-entry.ensures.follows c.in_ok-entry.ensures.known c.in_err-define.ensures.refused;
+          (record (entry_of c.in_ok-entry.entry) { inline = c.inline_schema.result }) _ _ c.in_ok-entry.ensures.follows
+          c.in_ok-entry.ensures.known c.in_err-define.ensures.refused c.in_err-define.ensures.err;
     } in
     search rules

@@ -3,7 +3,6 @@ ghost use Rattle.std.specs.Prelude.{◌≡◌, None, codes, true, IfErr, IfOk, O
 ghost use Rattle.std.specs.Cow.{cow_str_bytes};
 ghost use Rattle.schemars_shapes.specs.Shape.{Shape as shape, entry_of, in_place, shape_of};
 ghost use Rattle.schemars_types.specs.Rows.{unknown_in};
-ghost use Rattle.schemars_impls.specs.Keeps.{Keeps};
 ghost use Rattle.schemars_impls.specs.Dictionary.{Describes, RefusesPart, alone};
 
 use crate::law::{JsonSchema, entry};
@@ -102,7 +101,6 @@ impl<'a> JsonSchema for Zoned<'a> {
     }
 
     fn json_schema(alloc: Global, types: &mut Types) -> Result<TypeEntry, TypesError>
-        ensures keeps { Keeps types.old types.new }
         ensures known { IfOk result (λ e. unknown_in types.new (shape_of e.shape) ≡ None) }
         ensures made { IfOk result (λ e.
             entry_of e ≡ in_place (shape.formatted (codes "zoned-date-time"))) }
@@ -111,7 +109,8 @@ impl<'a> JsonSchema for Zoned<'a> {
             (in_place (shape.formatted (codes "zoned-date-time")))) types.old types.new) }
         ensures refused { IfErr result (RefusesPart
             (alone (codes "jiff::Zoned") (codes "Zoned") true
-            (in_place (shape.formatted (codes "zoned-date-time")))) types.old) }
+            (in_place (shape.formatted (codes "zoned-date-time"))))
+            types.old types.new) }
     {
         let format = String::from_str(alloc, "zoned-date-time")?;
         Ok(entry(alloc, true, Shape::Formatted(format)))
