@@ -56,7 +56,6 @@ pub fn lint(alloc: Global, bytes: &[u8]) -> Result<Report, AllocError>
 }
 
 // The lines, with a newline behind the last one, so that the verdict begins a line.
-#[tactic(auto, using(crate::proofs::Ended::ended))]
 fn ended(lines: String) -> Result<String, AllocError>
     ensures { IfOk result (λ s. AreLines (string_bytes s)) }
 {
