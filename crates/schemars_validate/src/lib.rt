@@ -1,0 +1,16 @@
+//! What a schema of a document says of a value, decided.
+#![tactic(auto)]
+
+mod dialect;
+mod found;
+mod joined;
+mod marks;
+mod numbers;
+mod patterns;
+mod scalars;
+mod verdict;
+
+pub use dialect::Dialect;
+pub use numbers::{is_whole, numbers_le};
+pub use patterns::{PatternList, Patterns};
+pub use verdict::Verdict;
