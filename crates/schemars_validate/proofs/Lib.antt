@@ -5,3 +5,8 @@ pub mod Counts
 pub mod Texts
 pub mod Marking
 pub mod Resolving
+pub mod Readings
+pub mod Judging
+pub mod Joining
+pub mod Measures
+pub mod Stepping

@@ -20,6 +20,10 @@ are_named_schemas (member k d ms) = is_schema d && are_named_schemas ms
 abbrev pub schema_at : Option Data → Option Data
 schema_at x = option_and_then schema_only x
 
+abbrev pub first_of : Option Data → Option Data → Option Data
+first_of None y = y
+first_of (Some d) y = Some d
+
 -- the schemas of a list of schemas alone
 abbrev pub schemas_in : Option Data → Option Items
 schemas_in x = option_and_then (λ d. option_and_then (λ ds. when (are_schemas ds) ds) (as_array d)) x

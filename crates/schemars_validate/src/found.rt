@@ -1,11 +1,12 @@
 //! What stands under a keyword.
-ghost use Rattle.std.specs.Prelude.{◌≡◌, ◌||◌, None, IfOk, is_some, option_map, option_and_then, codes, if◌then◌else◌};
+ghost use Rattle.std.specs.Prelude.{◌≡◌, ◌||◌, ◌&&◌, not, None, IfOk, is_some, option_map, option_and_then, codes, if◌then◌else◌};
 ghost use Rattle.serde_json.specs.Find.{get_member, as_str};
 ghost use Rattle.serde_json.specs.View.{view, items_view, members_view};
 ghost use Rattle.schemars_validate.specs.Schemas.{are_schemas, are_named_schemas};
-ghost use Rattle.schemars_validate.specs.Schemas.{schema_at, schemas_in, schemas_by_name};
+ghost use Rattle.schemars_validate.specs.Schemas.{first_of, schema_at, schemas_in, schemas_by_name};
 ghost use Rattle.schemars_validate.specs.Parts.{first_schemas, other_schema, items_or_none};
 ghost use Rattle.schemars_schema.specs.Lookup.{resolved};
+ghost use Rattle.schemars_schema.specs.Acceptance.{is_reference};
 
 use crate::dialect::Dialect;
 use crate::verdict::Verdict;
@@ -92,6 +93,14 @@ pub fn reference_in(keywords: &Map<String, Value>) -> Option<&str>
         Some(reference) => reference.as_str(),
         None => None,
     }
+}
+
+/// Whether there is a reference whose siblings do not count.
+pub fn refers_alone(dialect: Dialect, keywords: &Map<String, Value>) -> bool
+    ensures { result ≡ (not dialect.judges_siblings
+        && is_reference (get_member (codes "$ref") (members_view keywords.now.entries))) }
+{
+    !dialect.judges_siblings() && reference_in(keywords).is_some()
 }
 
 /// The schema under `unevaluatedProperties`, where that is read.
@@ -220,5 +229,16 @@ pub fn others_for<'k>(
         None
     } else {
         others
+    }
+}
+
+/// The first schema, or else the other.
+pub fn or_else<'k>(first: Option<&'k Value>, other: Option<&'k Value>) -> Option<&'k Value>
+    ensures { option_map (λ s. view s.now) result
+        ≡ first_of (option_map (λ s. view s.now) first.entry) (option_map (λ s. view s.now) other.entry) }
+{
+    match first {
+        Some(schema) => Some(schema),
+        None => other,
     }
 }

@@ -2,8 +2,10 @@
 #![tactic(auto)]
 
 mod dialect;
+mod document;
 mod found;
 mod joined;
+mod judge;
 mod marks;
 mod numbers;
 mod patterns;
@@ -11,6 +13,7 @@ mod scalars;
 mod verdict;
 
 pub use dialect::Dialect;
+pub use document::{is_valid, validate, validate_document};
 pub use numbers::{is_whole, numbers_le};
 pub use patterns::{PatternList, Patterns};
 pub use verdict::Verdict;

@@ -3,10 +3,13 @@ ghost use Rattle.std.specs.Prelude.{◌≡◌, IfOk, Some, None, option_map, tru
 ghost use Rattle.serde_json.specs.Find.{get_member};
 ghost use Rattle.serde_json.specs.View.{view, members_view};
 ghost use Rattle.schemars_validate.specs.Judged.{marked, unmarked, keys_in, keys_of};
+ghost use Rattle.schemars_schema.specs.Verdict.{is_yes};
+ghost use Rattle.schemars_validate.specs.Meant.{meant};
 ghost use Rattle.schemars_validate.specs.Judged.{is_marked, is_named, matches_one, is_matched, is_taken};
 
 use crate::found::{MemberSchemas, member};
 use crate::patterns::Patterns;
+use crate::verdict::Verdict;
 use serde_json::{Map, Value};
 use std::alloc::{AllocError, Global};
 
@@ -144,6 +147,27 @@ fn matches_one<P: Patterns>(patterns: &P, schemas: &Map<String, Value>, key: &st
         }
     }
     false
+}
+
+/// The same marks again.
+pub fn copied(alloc: Global, marks: &Vec<bool>) -> Result<Vec<bool>, AllocError>
+    ensures { IfOk result (λ copy. copy.items ≡ marks.now.items) }
+{
+    let mut copy = Vec::new(alloc);
+    for mark in marks {
+        copy.push(*mark)?;
+    }
+    Ok(copy)
+}
+
+/// Takes the marks that were tried, if the value fits.
+pub fn keep(says: Verdict, tried: Vec<bool>, marks: &mut Vec<bool>)
+    ensures { marks.new.items ≡ (if is_yes (meant says) then tried.items else marks.old.items) }
+{
+    match says {
+        Verdict::Yes => *marks = tried,
+        _ => {}
+    }
 }
 
 /// The schema, if the mark is not set. A mark that is missing is not set.

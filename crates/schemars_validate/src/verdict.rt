@@ -1,7 +1,10 @@
 //! What a schema says of a value.
-ghost use Rattle.std.specs.Prelude.{◌≡◌, map};
+ghost use Rattle.std.specs.Prelude.{◌≡◌, map, is_some, if◌then◌else◌};
+ghost use Rattle.schemars_schema.specs.Verdict.{Yes};
 ghost use Rattle.schemars_schema.specs.Verdict.{verdict, both, opposite, all_of};
 ghost use Rattle.schemars_validate.specs.Meant.{meant};
+
+use serde_json::Value;
 
 /// The value fits, it does not, or that hangs on a reference which was not followed.
 #[derive(Clone, Copy, Debug, PartialEq, Eq)]
@@ -46,4 +49,14 @@ pub fn all_of(parts: &[Verdict]) -> Verdict
         says = both(says, *part);
     }
     says
+}
+
+/// What is said where there is a schema.
+pub fn unless_missing(schema: Option<&Value>, says: Verdict) -> Verdict
+    ensures { meant result ≡ (if is_some schema.entry then meant says else Yes) }
+{
+    match schema {
+        Some(_) => says,
+        None => Verdict::Yes,
+    }
 }
