@@ -86,6 +86,7 @@ fn bound(definitions: &str, document: &Value, value: &Value) -> Option<u64>
     deep.checked_mul(count)
 }
 
+#[tactic(auto, using(crate::proofs::Lists::members_counted))]
 fn count_of_definitions(definitions: &str, document: &Value) -> u64
     ensures { result ≡ count_of_definitions definitions.now (view document.now) }
 {
@@ -102,13 +103,14 @@ fn count_of_definitions(definitions: &str, document: &Value) -> u64
 fn depth(value: &Value) -> Option<u64>
     ensures { IfSome result (λ n. n ≡ depth (view value.now)) }
 {
-    if let Some(items) = value.as_array() {
-        return items_depth(items)?.checked_add(1);
+    match value {
+        Value::Null => Some(0),
+        Value::Bool(_) => Some(0),
+        Value::Number(_) => Some(0),
+        Value::String(_) => Some(0),
+        Value::Array(items) => items_depth(items)?.checked_add(1),
+        Value::Object(members) => members_depth(members)?.checked_add(1),
     }
-    if let Some(members) = value.as_object() {
-        return members_depth(members)?.checked_add(1);
-    }
-    Some(0)
 }
 
 #[cycle(depth)]
