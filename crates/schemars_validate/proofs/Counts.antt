@@ -1,8 +1,8 @@
 -- A number that is a count: whole, and not below zero.
-use Rattle.std.proofs.Common.{◌≡◌, ℕ, ℤ, pos, negsuc, true, false, refl, sym, ap, ◌∙◌, true≢false, Option, Some, None, nat_le}
+use Rattle.std.proofs.Common.{◌≡◌, ℕ, ℤ, pos, negsuc, true, refl, sym, ap, ◌∙◌, true≢false, Option, Some, None, nat_le}
 use Rattle.std.proofs.Common.{arith}
 use Rattle.std.proofs.lemmas.Bool.Decides.{nat_tests}
-use Rattle.std.specs.Prelude.{is_some, option_map, option_and_then, Bool, int_le}
+use Rattle.std.specs.Prelude.{is_some, option_map, option_and_then, int_le}
 use Rattle.serde_json.specs.Data.{Num, unsigned}
 use Rattle.schemars_schema.specs.Numbers.{number_le, whole_of}
 use Rattle.schemars_schema.specs.Acceptance.{from_zero}

@@ -1,6 +1,6 @@
 -- What several schemas say, taken one after another.
 use Rattle.std.proofs.Common.{◌≡◌, List, [], ◌∷◌, ◌++◌, refl, sym, ap, ◌∙◌, append_assoc}
-use Rattle.schemars_schema.specs.Verdict.{Verdict, Yes, No, Open, both, opposite, all_of, none_of, any_of, one_of}
+use Rattle.schemars_schema.specs.Verdict.{Verdict, Yes, No, Open, both, opposite, all_of, none_of, one_of}
 use Rattle.schemars_schema.proofs.Verdicts.{both-yes, both-swap, both-assoc}
 use Rattle.schemars_validate.specs.declared.joined.Join as join
 use Rattle.schemars_validate.specs.Joined.{SoFar, one_more, with_one, with_each, joined_by, taken_by}

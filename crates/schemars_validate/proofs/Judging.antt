@@ -1,5 +1,5 @@
 -- How a schema judges, by the parts of its keywords.
-use Rattle.std.proofs.Common.{◌≡◌, ℕ, zero, suc, ◌+◌, ◌-◌, ◌*◌, ◌<◌, ◌≤◌, List, [], ◌∷◌, Bool, true, false, Option, Some, None, refl, sym, ap, ◌∙◌, true≢false, arith}
+use Rattle.std.proofs.Common.{◌≡◌, ℕ, zero, suc, ◌-◌, ◌<◌, List, [], ◌∷◌, Bool, true, false, Option, Some, None, refl, sym, ap, ◌∙◌, arith}
 use Rattle.std.proofs.Math.Path.{fun_ext}
 use Rattle.std.specs.Prelude.{◌&&◌, ◌||◌, not, is_some, option_map, option_and_then, if◌then◌else◌, map, codes}
 use Rattle.serde_json.specs.Data.{Data, object, Items, Members, no_members, member}
@@ -7,18 +7,17 @@ use Rattle.serde_json.specs.Find.{get_member, as_str, as_object}
 use Rattle.schemars_schema.specs.Json.{Text}
 use Rattle.schemars_schema.specs.Lookup.{resolved}
 use Rattle.schemars_schema.specs.Verdict.{Verdict, Yes, No, Open, both, opposite, all_of, any_of, one_of, is_yes}
-use Rattle.schemars_schema.specs.Acceptance.{Dialect, Patterns, Context, Judge, Raw, context, judge, keywords, all_keywords, reference_alone}
+use Rattle.schemars_schema.specs.Acceptance.{Dialect, Patterns, Context, Judge, Raw, context, judge, all_keywords, reference_alone}
 use Rattle.schemars_schema.specs.Acceptance.{is_reference, follow, unanswered, read_data, where_some, each_member}
 use Rattle.schemars_schema.specs.Acceptance.{reference_says, judged_by, judged_by_some, judged_by_list, judged_by_reference, judged_beside}
-use Rattle.schemars_schema.specs.Acceptance.{unevaluated_properties_say, has_schema, is_covered, schema_named, matches_some, named_in}
-use Rattle.schemars_schema.specs.Acceptance.{type_says, const_says, enum_says, minimum_says, maximum_says, min_length_says, max_length_says}
-use Rattle.schemars_schema.specs.Acceptance.{required_says, pattern_says, min_items_says, max_items_says, unique_items_says}
+use Rattle.schemars_schema.specs.Acceptance.{unevaluated_properties_say, has_schema, schema_named, matches_some, named_in}
+use Rattle.schemars_schema.specs.Acceptance.{required_says}
 use Rattle.schemars_schema.proofs.Verdicts.{both-yes, both-assoc}
 use Rattle.schemars_schema.proofs.Objects.{says, judge-object}
 use Rattle.schemars_validate.specs.Schemas.{schema_at, schemas_in, schemas_by_name, judge_at, judges_in, named_judges_in, judges_of}
 use Rattle.schemars_validate.specs.Judged.{keys_in, keys_of, marked, unmarked, each_unmarked, unmarked_by, is_named, is_matched, is_taken}
 use Rattle.schemars_validate.specs.Parts.{by_itself, besides, reads, items_by, members_by, first_schemas, other_schema}
-use Rattle.schemars_validate.proofs.Readings.{read_items_say, read_members_say, read_each, read_not, read_schema, read_listed, named_in-read, named-judges, matched-judges, read_additional, kind_first}
+use Rattle.schemars_validate.proofs.Readings.{read_items_say, read_members_say, read_each, read_not, read_schema, read_listed, named_in-read, named-judges, matched-judges, read_additional}
 
 -- ---- an object
 

@@ -11,14 +11,14 @@ use lib.Ieee.{up, down}
 use lib.Ieee.Exact.{HasValue}
 use lib.Ieee.Back.{round_whole}
 use lib.Ieee.Fits.{down_pos}
-use Rattle.std.specs.Prelude.{◌||◌, ◌-◌, ◌==◌, Option, Some, None, is_some, int_le, if◌then◌else◌}
+use Rattle.std.specs.Prelude.{◌-◌, ◌==◌, Some, None, is_some, int_le, if◌then◌else◌}
 use Rattle.serde_json.specs.Data.{Num, unsigned, negative, float}
 use Rattle.serde_json.specs.Find.{as_integer, as_u64, as_i64, is_float, to_float}
 use Rattle.serde_json.specs.Number.{num_of, is_valid}
 use Rattle.serde_json.specs.declared.number.N.{N}
 use Rattle.serde_json.specs.declared.number.N.TheVariants.{PosInt, NegInt}
 use Rattle.serde_json.specs.declared.number.N.TheVariants as the
-use Rattle.schemars_schema.specs.Numbers.{of_whole, value_of, number_le, whole_of, whole_of_float, with_sign}
+use Rattle.schemars_schema.specs.Numbers.{of_whole, value_of, number_le, whole_of_float, with_sign}
 use Rattle.schemars_schema.proofs.ByValue.{le-left, le-right, eq-left, le_whole, some_same, none_some}
 
 pub middle_is : Ieee.of_bits binary64 4845873199050653696 ≡ two_to 53

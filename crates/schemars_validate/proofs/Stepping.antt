@@ -1,7 +1,7 @@
 -- One turn of a loop over schemas, items or members.
-use Rattle.std.proofs.Common.{◌≡◌, ℕ, zero, suc, ◌+◌, ◌<◌, ◌≤◌, List, [], ◌∷◌, Bool, true, false, Option, Some, None, length, get_or, drop, refl, sym, ap, ◌∙◌, arith}
-use Rattle.std.specs.Prelude.{◌||◌, if◌then◌else◌, is_some, option_map, option_and_then, map, max}
-use Rattle.serde_json.specs.Data.{Data, Items, no_items, item, Members, no_members, member, depth, items_depth, members_depth}
+use Rattle.std.proofs.Common.{◌≡◌, ℕ, zero, suc, ◌<◌, ◌≤◌, List, [], ◌∷◌, Bool, true, false, Option, Some, None, length, get_or, refl, sym, ap, ◌∙◌, arith}
+use Rattle.std.specs.Prelude.{◌||◌, if◌then◌else◌, is_some, option_map, option_and_then, max}
+use Rattle.serde_json.specs.Data.{Data, Items, no_items, item, Members, member, depth, items_depth, members_depth}
 use Rattle.serde_json.specs.View.{view, items_view, members_view}
 use Rattle.serde_json.specs.declared.value.Value.{Value}
 use Rattle.serde_json.specs.Find.{get_member}
@@ -9,17 +9,15 @@ use Rattle.serde_json.proofs.Views.{Entry}
 use Rattle.std.proofs.Common.{Bor}
 use Rattle.std.proofs.Common.{Iter}
 use Rattle.std.specs.Slice.Iter.{iter_rest, iter_steps}
-use Rattle.schemars_text.proofs.Lists.{from_here, nothing_left}
 use Rattle.schemars_schema.specs.Json.{Text}
 use Rattle.schemars_schema.specs.Verdict.{Verdict, Yes, both}
-use Rattle.schemars_schema.specs.Acceptance.{Context, Judge, Patterns, judge, where_some, each_member, by_patterns, matches_some, matches, judged_by, judged_by_some, schema_named}
-use Rattle.schemars_schema.proofs.Verdicts.{both-yes, both-assoc}
-use Rattle.schemars_validate.specs.Judged.{marked, each_unmarked, is_marked}
-use Rattle.schemars_validate.specs.Schemas.{first_of, judge_at, judges_of, named_judges, named_judges_in}
+use Rattle.schemars_schema.specs.Acceptance.{Context, Judge, Patterns, judge, where_some, by_patterns, matches_some, schema_named}
+use Rattle.schemars_schema.proofs.Verdicts.{both-assoc}
+use Rattle.schemars_validate.specs.Judged.{each_unmarked, is_marked}
+use Rattle.schemars_validate.specs.Schemas.{first_of, judge_at, judges_of, named_judges_in}
 use Rattle.schemars_validate.specs.Parts.{each_item, member_by}
 use Rattle.schemars_validate.proofs.Measures.{depth_at, members_depth_at, member_shallow}
 use Rattle.schemars_validate.proofs.Readings.{schema_named-judges, named-judges}
-use Rattle.schemars_validate.proofs.Judging.{next_marks, marked_none}
 
 -- what is said so far, with what one more says, and then what the others say
 pub one_more_said : (says one new rest all : Verdict) → new ≡ both says one → both says (both one rest) ≡ all → both new rest ≡ all

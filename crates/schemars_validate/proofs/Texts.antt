@@ -1,5 +1,5 @@
 -- The texts of a list of texts.
-use Rattle.std.proofs.Common.{◌≡◌, ◌∷◌, List, Bool, true, false, refl, sym, ap, ◌∙◌, Option, Some, None, true≢false}
+use Rattle.std.proofs.Common.{◌≡◌, ◌∷◌, List, Bool, true, false, refl, sym, ap, ◌∙◌, Option, Some, None}
 use Rattle.std.specs.Prelude.{◌&&◌, ◌||◌, option_map, option_and_then, bytes_eq, codes, is_some}
 use Rattle.serde_json.specs.Data.{Data, array, Items, no_items, item, Members}
 use Rattle.serde_json.specs.Find.{as_str, as_array, as_object}

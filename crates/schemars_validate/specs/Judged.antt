@@ -1,5 +1,5 @@
 -- Which members of a value have been judged: a mark for each, in their order.
-use Rattle.std.specs.Prelude.{◌||◌, Bool, true, false, is_some, Option, Some, None, if◌then◌else◌, List, [], ◌∷◌}
+use Rattle.std.specs.Prelude.{◌||◌, Bool, false, is_some, Option, Some, None, if◌then◌else◌, List, [], ◌∷◌}
 use Rattle.serde_json.specs.Data.{Data, null, boolean, number, string, array, object, Members, no_members, member}
 use Rattle.schemars_schema.specs.Json.{Text}
 use Rattle.serde_json.specs.Find.{get_member, as_object}

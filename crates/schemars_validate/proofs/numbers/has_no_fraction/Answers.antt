@@ -1,8 +1,6 @@
 -- Below 2^53 the whole part tells, and from there on there is no fraction.
-use Rattle.std.proofs.Common.{◌≡◌, true, false, ◌∙◌, ap, sym, subst}
-use Rattle.std.specs.Float.{Float, float_is_finite, two_to}
-use Rattle.std.specs.Float.Ieee.{eq, lt, of_int, binary64}
-use lib.IntN.{pos}
+use Rattle.std.proofs.Common.{◌∙◌, ap}
+use Rattle.std.specs.Float.{float_is_finite}
 use Rattle.schemars_validate.proofs.Order.{middle_is, small_whole, large_whole, from_zero_bound, to_top_bound}
 use Rattle.schemars_validate.proofs.numbers.has_no_fraction.Goals as goal
 

@@ -1,4 +1,4 @@
-use Rattle.std.proofs.Common.{◌∙◌, ap, sym, rules, Some}
+use Rattle.std.proofs.Common.{◌∙◌, sym}
 use Rattle.serde_json.specs.View.{number_view}
 use Rattle.schemars_validate.proofs.Counts.{count_at_most}
 use Rattle.schemars_validate.proofs.scalars.is_at_most.Goals as goal

@@ -1,5 +1,5 @@
 -- What each way of reading `type` says.
-use Rattle.std.proofs.Common.{◌≡◌, ◌∙◌, sym, option_map, true, false}
+use Rattle.std.proofs.Common.{◌∙◌, sym, option_map}
 use Rattle.serde_json.specs.View.{view, items_view}
 use Rattle.schemars_validate.proofs.Texts.{no_texts, no_types, plain_says, null_says, passing_says, nullable_says}
 use Rattle.schemars_validate.proofs.scalars.listed_types_say.Goals as goal
