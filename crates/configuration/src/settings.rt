@@ -1,7 +1,8 @@
 //! The configuration, and how it describes itself.
 #![tactic(auto, using(schemars_impls::proofs::OwnTypes::own_types))]
 
-ghost use Rattle.std.specs.Prelude.{codes, false, ⊤};
+ghost use Rattle.std.specs.Prelude.{codes};
+ghost use Rattle.schemars_impls.specs.Dictionary.{IsIn, own};
 
 use schemars::impls::{JsonSchema, OPTIONAL, REQUIRED, add_field, struct_entry};
 use schemars::types::{TypeEntry, Types, TypesError};
@@ -40,13 +41,7 @@ fn description(alloc: Global, text: &str) -> Result<Map<String, Value>, AllocErr
 }
 
 impl JsonSchema for Configuration {
-    ghost name = { codes "Configuration" };
-
-    ghost id = { codes "Configuration" };
-
-    ghost inline = { false };
-
-    ghost describes = { λ _ _. ⊤ };
+    ghost says = { own (codes "Configuration") (λ d. IsIn ⟦<String as JsonSchema>⟧.says d × IsIn ⟦<u16 as JsonSchema>⟧.says d × IsIn ⟦<Vec<String> as JsonSchema>⟧.says d × IsIn ⟦<Option<Limits> as JsonSchema>⟧.says d) };
 
     fn inline_schema() -> bool {
         false
@@ -73,13 +68,7 @@ impl JsonSchema for Configuration {
 }
 
 impl JsonSchema for Limits {
-    ghost name = { codes "Limits" };
-
-    ghost id = { codes "Limits" };
-
-    ghost inline = { false };
-
-    ghost describes = { λ _ _. ⊤ };
+    ghost says = { own (codes "Limits") (λ d. IsIn ⟦<u16 as JsonSchema>⟧.says d × IsIn ⟦<Option<u16> as JsonSchema>⟧.says d) };
 
     fn inline_schema() -> bool {
         false

@@ -1,4 +1,5 @@
 -- The lemmas of the proofs.
+pub mod Bounds
 mod Lists
 pub mod Reading
 pub mod Written

@@ -45,7 +45,7 @@ same_inside h = cc
 
 is_untransformed : (dialect : Dialect) (x : Example) (d : Data) → IsSampleRoot (settings_of_dialect dialect) no_members x d
     → IsUntransformedExample dialect x d
-is_untransformed dialect x d root = (same_inside root.placed, accepts_in dialect x d root, λ example. root.whole example refl)
+is_untransformed dialect x d root = (same_inside root.placed, accepts_in dialect x d root, λ json. root.whole json refl)
 
 -- what a generator without definitions answers
 pub sample_made : {E : Type 0} (r : Result Data E) (s : Settings) (definitions : Members) (x : Example) (dialect : Dialect)
@@ -60,7 +60,7 @@ sample_made (Ok document) s definitions x dialect ts same empty is made =
     by ∙ ap (λ (xs : List (GenTransform NoTransform)). made_by xs d) is in (
       (d, is_untransformed dialect x d here, same_document),
       accepts_under dialect x d document here same_document,
-      λ example. whole (λ e at. at.whole example (ap members_have_float empty)),
+      λ json. whole (λ e at. at.whole json (ap members_have_float empty)),
     )
 
 nothing_unplaced : (s : Settings) (x : Example) (e : GenerateError) → IsSampleRefused s no_members x e → e ≡ OutOfMemory

@@ -59,10 +59,14 @@ pub fn lint(alloc: Global, bytes: &[u8]) -> Result<Report, AllocError>
 fn ended(lines: String) -> Result<String, AllocError>
     ensures { IfOk result (λ s. AreLines (string_bytes s)) }
 {
-    let mut text = lines;
-    if !text.is_empty() && !text.as_bytes().ends_with(b"\n") {
-        text.push('\n')?;
+    if lines.is_empty() {
+        return Ok(lines);
     }
+    if lines.as_bytes().ends_with(b"\n") {
+        return Ok(lines);
+    }
+    let mut text = lines;
+    text.push('\n')?;
     Ok(text)
 }
 

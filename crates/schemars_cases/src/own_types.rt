@@ -2,11 +2,13 @@
 //! other.
 #![tactic(auto, using(schemars_impls::proofs::OwnTypes::own_types))]
 
-ghost use Rattle.std.specs.Prelude.{codes, false, ⊤};
+ghost use Rattle.std.specs.Prelude.{codes};
+ghost use Rattle.schemars_impls.specs.Dictionary.{IsIn, own};
+ghost use Rattle.schemars_impls.specs.OwnRows.{IsOptionOf, IsSeqOf};
 
 use crate::line::line_of;
 use schemars::impls::{
-    JsonSchema, OPTIONAL, REQUIRED, add_field, add_field_of, option_of, register, reserve, seq_of,
+    JsonSchema, OPTIONAL, REQUIRED, add_field, add_field_of, option_of, register, seq_of,
     struct_entry,
 };
 use schemars::types::{TypeEntry, Types, TypesError};
@@ -20,13 +22,7 @@ struct Person {
 }
 
 impl JsonSchema for Person {
-    ghost name = { codes "Person" };
-
-    ghost id = { codes "Person" };
-
-    ghost inline = { false };
-
-    ghost describes = { λ _ _. ⊤ };
+    ghost says = { own (codes "Person") (λ d. IsIn ⟦<String as JsonSchema>⟧.says d × IsIn ⟦<Option<u8> as JsonSchema>⟧.says d) };
 
     fn inline_schema() -> bool {
         false
@@ -55,13 +51,7 @@ pub(crate) struct Node {
 }
 
 impl JsonSchema for Node {
-    ghost name = { codes "Node" };
-
-    ghost id = { codes "Node" };
-
-    ghost inline = { false };
-
-    ghost describes = { λ _ _. ⊤ };
+    ghost says = { own (codes "Node") (λ d. IsOptionOf (codes "Node") (codes "Node") d × IsIn ⟦<i32 as JsonSchema>⟧.says d) };
 
     fn inline_schema() -> bool {
         false
@@ -76,8 +66,7 @@ impl JsonSchema for Node {
     }
 
     fn json_schema(alloc: Global, types: &mut Types) -> Result<TypeEntry, TypesError> {
-        let node = reserve(alloc, types, "Node", "Node")?;
-        let next = option_of(alloc, types, node)?;
+        let next = option_of(alloc, types, "Node", "Node")?;
         let mut fields = Vec::new(alloc);
         add_field::<i32>(alloc, types, &mut fields, "value", REQUIRED)?;
         add_field_of(alloc, types, &mut fields, "next", next, OPTIONAL)?;
@@ -92,13 +81,7 @@ pub(crate) struct Author {
 }
 
 impl JsonSchema for Author {
-    ghost name = { codes "Author" };
-
-    ghost id = { codes "Author" };
-
-    ghost inline = { false };
-
-    ghost describes = { λ _ _. ⊤ };
+    ghost says = { own (codes "Author") (λ d. IsSeqOf (codes "Book") (codes "Book") d × IsIn ⟦<String as JsonSchema>⟧.says d) };
 
     fn inline_schema() -> bool {
         false
@@ -113,8 +96,7 @@ impl JsonSchema for Author {
     }
 
     fn json_schema(alloc: Global, types: &mut Types) -> Result<TypeEntry, TypesError> {
-        let book = reserve(alloc, types, "Book", "Book")?;
-        let books = seq_of(alloc, types, book)?;
+        let books = seq_of(alloc, types, "Book", "Book")?;
         let mut fields = Vec::new(alloc);
         add_field::<String>(alloc, types, &mut fields, "name", REQUIRED)?;
         add_field_of(alloc, types, &mut fields, "books", books, REQUIRED)?;
@@ -129,13 +111,7 @@ struct Book {
 }
 
 impl JsonSchema for Book {
-    ghost name = { codes "Book" };
-
-    ghost id = { codes "Book" };
-
-    ghost inline = { false };
-
-    ghost describes = { λ _ _. ⊤ };
+    ghost says = { own (codes "Book") (λ d. IsOptionOf (codes "Author") (codes "Author") d × IsIn ⟦<String as JsonSchema>⟧.says d) };
 
     fn inline_schema() -> bool {
         false
@@ -150,8 +126,7 @@ impl JsonSchema for Book {
     }
 
     fn json_schema(alloc: Global, types: &mut Types) -> Result<TypeEntry, TypesError> {
-        let author = reserve(alloc, types, "Author", "Author")?;
-        let author = option_of(alloc, types, author)?;
+        let author = option_of(alloc, types, "Author", "Author")?;
         let mut fields = Vec::new(alloc);
         add_field::<String>(alloc, types, &mut fields, "title", REQUIRED)?;
         add_field_of(alloc, types, &mut fields, "author", author, OPTIONAL)?;

@@ -1,7 +1,8 @@
 //! A type that is refused.
 #![tactic(auto, using(schemars_impls::proofs::OwnTypes::own_types))]
 
-ghost use Rattle.std.specs.Prelude.{codes, false, ⊤};
+ghost use Rattle.std.specs.Prelude.{codes};
+ghost use Rattle.schemars_impls.specs.Dictionary.{IsIn, own};
 
 use schemars::GenerateError;
 use schemars::impls::{JsonSchema, REQUIRED, add_field, register};
@@ -13,13 +14,7 @@ use std::borrow::CowStr;
 struct Refused;
 
 impl JsonSchema for Refused {
-    ghost name = { codes "Refused" };
-
-    ghost id = { codes "Refused" };
-
-    ghost inline = { false };
-
-    ghost describes = { λ _ _. ⊤ };
+    ghost says = { own (codes "Refused") (λ d. IsIn ⟦<u8 as JsonSchema>⟧.says d) };
 
     fn inline_schema() -> bool {
         false

@@ -1,0 +1,145 @@
+-- One turn of a loop over schemas, items or members.
+use Rattle.std.proofs.Common.{◌≡◌, ℕ, zero, suc, ◌<◌, ◌≤◌, List, [], ◌∷◌, Bool, true, false, Option, Some, None, length, get_or, refl, sym, ap, ◌∙◌, arith}
+use Rattle.std.specs.Prelude.{◌||◌, if◌then◌else◌, is_some, option_map, option_and_then, max}
+use Rattle.serde_json.specs.Data.{Data, Items, no_items, item, Members, member, depth, items_depth, members_depth}
+use Rattle.serde_json.specs.View.{view, items_view, members_view}
+use Rattle.serde_json.specs.declared.value.Value.{Value}
+use Rattle.serde_json.specs.Find.{get_member}
+use Rattle.serde_json.proofs.Views.{Entry}
+use Rattle.std.proofs.Common.{Bor}
+use Rattle.std.proofs.Common.{Iter}
+use Rattle.std.specs.Slice.Iter.{iter_rest, iter_steps}
+use Rattle.schemars_schema.specs.Json.{Text}
+use Rattle.schemars_schema.specs.Verdict.{Verdict, Yes, both}
+use Rattle.schemars_schema.specs.Acceptance.{Context, Judge, Patterns, judge, where_some, by_patterns, matches_some, schema_named}
+use Rattle.schemars_schema.proofs.Verdicts.{both-assoc}
+use Rattle.schemars_validate.specs.Judged.{each_unmarked, is_marked}
+use Rattle.schemars_validate.specs.Schemas.{first_of, judge_at, judges_of, named_judges_in}
+use Rattle.schemars_validate.specs.Parts.{each_item, member_by}
+use Rattle.schemars_validate.proofs.Measures.{depth_at, members_depth_at, member_shallow}
+use Rattle.schemars_validate.proofs.Readings.{schema_named-judges, named-judges}
+
+-- what is said so far, with what one more says, and then what the others say
+pub one_more_said : (says one new rest all : Verdict) → new ≡ both says one → both says (both one rest) ≡ all → both new rest ≡ all
+one_more_said says one new rest all is before = ap (λ y. both y rest) is ∙ (both-assoc says one rest ∙ before)
+
+pub no_items_there : {A : Type 0} (xs : List A) → length xs ≡ 0 → xs ≡ []
+no_items_there [] h = refl
+no_items_there (x ∷ xs) h = absurd (omega arith)
+
+pub item_under : (xs : List Value) (i : ℕ) (x : Value) → i < length xs → x ≡ get_or xs i x → depth (view x) ≤ items_depth (items_view xs)
+item_under [] i x h is = absurd (omega arith)
+item_under (y ∷ xs) zero x h is = let same = ap (λ (z : Value). depth (view z)) is in omega (arith, same)
+item_under (y ∷ xs) (suc i) x h is = let later = item_under xs i x (omega arith) is in omega (arith, later)
+
+pub first_deep : (x : Value) (xs ys : List Value) → xs ≡ x ∷ ys
+    → (depth (view x) ≤ items_depth (items_view xs)) × (items_depth (items_view ys) ≤ items_depth (items_view xs))
+first_deep x xs ys is = let same = ap (λ (zs : List Value). items_depth (items_view zs)) is in (omega (arith, same), omega (arith, same))
+
+pub entry_deep : (e : Entry) (xs ys : List Entry) → xs ≡ e ∷ ys
+    → (depth (view e.1) ≤ members_depth (members_view xs)) × (members_depth (members_view ys) ≤ members_depth (members_view xs))
+entry_deep e xs ys is = let same = ap (λ (zs : List Entry). members_depth (members_view zs)) is in (omega (arith, same), omega (arith, same))
+
+-- ---- the items of a list, each with the next schema or that of all others
+
+pub item_says : (c : Context) (r : Option (Bor Value)) (s t : Iter Value) (others : Option Data) (v : Data) (vs : Items) → iter_steps s r t
+    → each_item (judges_of c (items_view (iter_rest s))) (judge_at c others) (item v vs)
+    ≡ both (where_some (judge_at c (first_of (option_map (λ x. view x.now) r) others)) (λ j. j.fits v))
+    (each_item (judges_of c (items_view (iter_rest t))) (judge_at c others) vs)
+item_says c (Some x) s t others v vs step = ap (λ (xs : List Value). each_item (judges_of c (items_view xs)) (judge_at c others) (item v vs)) step
+item_says c None s t others v vs step =
+    let none = no_items_there (iter_rest s) step.0 in
+    ap (λ (xs : List Value). each_item (judges_of c (items_view xs)) (judge_at c others) (item v vs)) none
+    ∙ ap (λ (xs : List Value). both (where_some (judge_at c others) (λ j. j.fits v)) (each_item (judges_of c (items_view xs)) (judge_at c others) vs))
+    (sym none ∙ ap iter_rest (sym step.1))
+
+pub next_deep : (r : Option (Bor Value)) (s t : Iter Value) (others : Option Data) (n : ℕ) → iter_steps s r t
+    → items_depth (items_view (iter_rest s)) ≤ n
+    → (items_depth (items_view (iter_rest t)) ≤ n) × (depth_at (first_of (option_map (λ x. view x.now) r) others) ≤ max n (depth_at others))
+next_deep (Some x) s t others n step h =
+    let deep = first_deep x.now (iter_rest s) (iter_rest t) step in (omega (arith, deep.1), omega (arith, deep.0))
+next_deep None s t others n step h =
+    let same = ap (λ (i : Iter Value). items_depth (items_view (iter_rest i))) step.1 in (omega (arith, same), omega arith)
+
+-- ---- the members without a mark
+
+pub unmarked_member_says : (c : Context) (d : Data) (r : Option (Bor Bool)) (s t : Iter Bool) (k : Text) (w : Data) (ms : Members) → iter_steps s r t
+    → each_unmarked (judge c d) (member k w ms) (iter_rest s)
+    ≡ both (where_some (judge_at c (if is_marked (option_map (λ b. b.now) r) then None else Some d)) (λ j. j.fits w))
+    (each_unmarked (judge c d) ms (iter_rest t))
+unmarked_member_says c d (Some x) s t k w ms step =
+    ap (each_unmarked (judge c d) (member k w ms)) step ∙ ap (λ (y : Verdict). both y (each_unmarked (judge c d) ms (iter_rest t))) (go x.now)
+  where
+    go : (b : Bool) → (if b then Yes else (judge c d).fits w) ≡ where_some (judge_at c (if b then None else Some d)) (λ j. j.fits w)
+    go true = refl
+    go false = refl
+unmarked_member_says c d None s t k w ms step =
+    let none = no_items_there (iter_rest s) step.0 in
+    ap (each_unmarked (judge c d) (member k w ms)) none
+    ∙ ap (λ (bs : List Bool). both ((judge c d).fits w) (each_unmarked (judge c d) ms bs)) (sym none ∙ ap iter_rest (sym step.1))
+
+pub asked_deep : (b : Bool) (d : Data) → depth_at (if b then None else Some d) ≤ depth d
+asked_deep true d = omega arith
+asked_deep false d = omega arith
+
+-- ---- one member
+
+pub named_deep : (k : Text) (ms : Option Members) → depth_at (option_and_then (get_member k) ms) ≤ members_depth_at ms
+named_deep k None = omega arith
+named_deep k (Some ms) = member_shallow k ms
+
+pub others_deep : (b : Bool) (x : Option Data) → depth_at (if b then None else x) ≤ depth_at x
+others_deep true x = omega arith
+others_deep false x = omega arith
+
+named_says : (c : Context) (k : Text) (ms : Option Members) (w : Data)
+    → where_some (judge_at c (option_and_then (get_member k) ms)) (λ s. s.fits w)
+    ≡ where_some (schema_named k (named_judges_in c ms)) (λ s. s.fits w)
+named_says c k None w = refl
+named_says c k (Some ms) w = ap (λ (o : Option Judge). where_some o (λ s. s.fits w)) (sym (schema_named-judges c k ms))
+
+named_there : (c : Context) (k : Text) (ms : Option Members)
+    → is_some (option_and_then (get_member k) ms) ≡ is_some (schema_named k (named_judges_in c ms))
+named_there c k None = refl
+named_there c k (Some ms) = sym (named-judges c k (Some ms))
+
+rest_says : (c : Context) (b : Bool) (x : Option Data) (w : Data)
+    → where_some (judge_at c (if b then None else x)) (λ s. s.fits w) ≡ (if b then Yes else where_some (judge_at c x) (λ s. s.fits w))
+rest_says c true x w = refl
+rest_says c false x w = refl
+
+pub member_parts : (patterns : Patterns) (c : Context) (named by_pattern : Option Members) (others : Option Data) (k : Text) (w : Data)
+    (there some : Bool) (a b o : Verdict)
+    → a ≡ where_some (judge_at c (option_and_then (get_member k) named)) (λ s. s.fits w)
+    → b ≡ by_patterns patterns (named_judges_in c by_pattern) k w
+    → there ≡ is_some (option_and_then (get_member k) named)
+    → some ≡ matches_some patterns (named_judges_in c by_pattern) k
+    → o ≡ where_some (judge_at c (if there || some then None else others)) (λ s. s.fits w)
+    → both a (both b o) ≡ member_by patterns (named_judges_in c named) (named_judges_in c by_pattern) (judge_at c others) k w
+member_parts patterns c named by_pattern others k w there some a b o ea eb et es eo =
+    let fa = ea ∙ named_says c k named w in
+    let ft = et ∙ named_there c k named in
+    let fo = eo ∙ rest_says c (there || some) others w in
+    λ i. both (fa i) (both (eb i) ((fo ∙ (λ j. if ft j || es j then Yes else where_some (judge_at c others) (λ s. s.fits w))) i))
+
+-- ---- matches
+
+pub one_matches : (a m r all : Bool) → m ≡ true → (a || (m || r)) ≡ all → (true || r) ≡ all
+one_matches a true r all is h = there a ∙ h
+  where
+    there : (a : Bool) → true ≡ (a || true)
+    there true = refl
+    there false = refl
+one_matches a false r all is h = cc
+
+pub none_matches : (a m r all : Bool) → m ≡ false → (a || (m || r)) ≡ all → (a || r) ≡ all
+none_matches a true r all is h = cc
+none_matches a false r all is h = h
+
+pub or_no : (a : Bool) → (a || false) ≡ a
+or_no true = refl
+or_no false = refl
+
+pub no_item_says : (ss : List Judge) (others : Option Judge) → each_item ss others no_items ≡ Yes
+no_item_says [] others = refl
+no_item_says (s ∷ ss) others = refl

@@ -1,0 +1,112 @@
+-- What is left is still to be judged; and the work that is left.
+use Rattle.std.proofs.Common.{◌≡◌, ◌≤◌, drop, map, max, option_map}
+use Rattle.std.specs.Prelude.{◌||◌}
+use Rattle.std.specs.Slice.Iter.{iter_rest}
+use Rattle.serde_json.specs.Data.{depth, items_depth, members_depth}
+use Rattle.serde_json.specs.View.{view, items_view, members_view}
+use Rattle.schemars_schema.specs.Verdict.{both}
+use Rattle.schemars_schema.specs.Acceptance.{context, judge, by_patterns, matches_some, each_member, judged_by_some, where_some}
+use Rattle.schemars_validate.specs.Meant.{meant}
+use Rattle.schemars_validate.specs.Joined.{so_far, with_each, taken_by, joined_by}
+use Rattle.schemars_validate.specs.Judged.{keys_of, marked, each_unmarked, unmarked_by}
+use Rattle.schemars_validate.specs.Schemas.{judge_at, judges_of, judges_in, named_judges, named_judges_in}
+use Rattle.schemars_validate.specs.Parts.{each_item, items_by, member_by, members_by}
+use Rattle.schemars_validate.proofs.Measures.{work, depth_at, items_depth_at, members_depth_at}
+use Rattle.schemars_validate.proofs.judge.+judge.Given as goal
+
+abbrev pub decreases-judge : goal.decreases-judge
+decreases-judge g l = work l.left (view l.d.now.whole.now) (depth (view l.schema.now)) 0
+
+abbrev pub decreases-object : goal.decreases-object
+decreases-object g l = work l.left (view l.d.now.whole.now) (members_depth (members_view l.keywords.now.entries)) 15
+
+abbrev pub decreases-beside : goal.decreases-beside
+decreases-beside g l = work l.left (view l.d.now.whole.now) (members_depth (members_view l.keywords.now.entries)) 14
+
+abbrev pub decreases-reference : goal.decreases-reference
+decreases-reference g l = work l.left (view l.d.now.whole.now) (members_depth (members_view l.keywords.now.entries)) 13
+
+abbrev pub decreases-fits : goal.decreases-fits
+decreases-fits g l = work l.left (view l.d.now.whole.now) (depth (view l.schema.now)) 2
+
+abbrev pub decreases-alone : goal.decreases-alone
+decreases-alone g l = work l.left (view l.d.now.whole.now) (depth_at (option_map (λ s. view s.now) l.schema)) 1
+
+abbrev pub decreases-items : goal.decreases-items
+decreases-items g l =
+    work l.left (view l.d.now.whole.now)
+    (max (items_depth (items_view l.schemas.now.first.now)) (depth_at (option_map (λ s. view s.now) l.schemas.now.others))) 3
+
+abbrev pub decreases-members : goal.decreases-members
+decreases-members g l =
+    work l.left (view l.d.now.whole.now)
+    (max (members_depth_at (option_map (λ s. members_view s.now.entries) l.schemas.now.named))
+    (max (members_depth_at (option_map (λ s. members_view s.now.entries) l.schemas.now.by_pattern))
+    (depth_at (option_map (λ s. view s.now) l.schemas.now.others)))) 4
+
+abbrev pub decreases-one_member : goal.decreases-one_member
+decreases-one_member g l =
+    work l.left (view l.d.now.whole.now)
+    (max (members_depth_at (option_map (λ s. members_view s.now.entries) l.schemas.now.named))
+    (max (members_depth_at (option_map (λ s. members_view s.now.entries) l.schemas.now.by_pattern))
+    (depth_at (option_map (λ s. view s.now) l.schemas.now.others)))) 3
+
+abbrev pub decreases-matching : goal.decreases-matching
+decreases-matching g l =
+    work l.left (view l.d.now.whole.now) (members_depth_at (option_map (λ s. members_view s.now.entries) l.by_pattern)) 2
+
+abbrev pub decreases-each : goal.decreases-each
+decreases-each g l =
+    work l.left (view l.d.now.whole.now) (items_depth_at (option_map (λ s. items_view s.now.items) l.schemas)) 3
+
+abbrev pub decreases-unevaluated : goal.decreases-unevaluated
+decreases-unevaluated g l = work l.left (view l.d.now.whole.now) (depth (view l.schema.now)) 3
+
+abbrev pub invariant-items-loop-item : goal.invariant-items-loop-item
+invariant-items-loop-item g l =
+    let c = context l.d.dialect (view l.d.whole.now) (g.P.Patterns.reading l.d.patterns.now) l.left in
+    let others = judge_at c (option_map (λ s. view s.now) l.schemas.others) in record {
+      deep : items_depth (items_view (iter_rest l.first)) ≤ items_depth (items_view l.schemas.first.now);
+      rest : both (meant l.says) (each_item (judges_of c (items_view (iter_rest l.first))) others (items_view (drop l.item-index l.item-items)))
+          ≡ items_by (judges_of c (items_view l.schemas.first.now)) others (view l.value);
+    }
+
+abbrev pub invariant-members-loop-key : goal.invariant-members-loop-key
+invariant-members-loop-key g l =
+    let patterns = g.P.Patterns.reading l.d.patterns.now in
+    let c = context l.d.dialect (view l.d.whole.now) patterns l.left in
+    let named = named_judges_in c (option_map (λ s. members_view s.now.entries) l.schemas.named) in
+    let matched = named_judges_in c (option_map (λ s. members_view s.now.entries) l.schemas.by_pattern) in
+    let others = judge_at c (option_map (λ s. view s.now) l.schemas.others) in
+    both (meant l.says) (each_member (member_by patterns named matched others) (members_view l.key-iterator))
+    ≡ members_by patterns named matched others (view l.value)
+
+abbrev pub invariant-matching-loop-pattern : goal.invariant-matching-loop-pattern
+invariant-matching-loop-pattern g l =
+    let patterns = g.P.Patterns.reading l.d.patterns.now in
+    let c = context l.d.dialect (view l.d.whole.now) patterns l.left in
+    let all = named_judges_in c (option_map (λ s. members_view s.now.entries) l.by_pattern) in record {
+      deep : members_depth (members_view l.pattern-iterator) ≤ members_depth_at (option_map (λ s. members_view s.now.entries) l.by_pattern);
+      rest : both (meant l.says) (by_patterns patterns (named_judges c (members_view l.pattern-iterator)) l.key (view l.member))
+          ≡ by_patterns patterns all l.key (view l.member);
+      some : (l.some || matches_some patterns (named_judges c (members_view l.pattern-iterator)) l.key) ≡ matches_some patterns all l.key;
+    }
+
+abbrev pub invariant-each-loop-schema : goal.invariant-each-loop-schema
+invariant-each-loop-schema g l =
+    let c = context l.d.dialect (view l.d.whole.now) (g.P.Patterns.reading l.d.patterns.now) l.left in
+    let left = items_view (drop l.schema-index l.schema-items) in record {
+      deep : items_depth (items_view l.schema-items) ≤ items_depth_at (option_map (λ s. items_view s.now.items) l.schemas);
+      joined : taken_by l.join (with_each (so_far l.joined) (map (λ s. s.fits (view l.value)) (judges_of c left)))
+          ≡ where_some (option_map (λ s. items_view s.now.items) l.schemas)
+          (λ ds. joined_by l.join (map (λ s. s.fits (view l.value)) (judges_of c ds)));
+      judged : marked (judged_by_some (judges_of c left) (view l.value)) (keys_of (view l.value)) l.marks.items
+          ≡ marked (judged_by_some (judges_in c (option_map (λ s. items_view s.now.items) l.schemas)) (view l.value)) (keys_of (view l.value))
+          l.fn.marks.items;
+    }
+
+abbrev pub invariant-unevaluated-loop-member : goal.invariant-unevaluated-loop-member
+invariant-unevaluated-loop-member g l =
+    let c = context l.d.dialect (view l.d.whole.now) (g.P.Patterns.reading l.d.patterns.now) l.left in
+    both (meant l.says) (each_unmarked (judge c (view l.schema)) (members_view l.member-iterator) (iter_rest l.marks))
+    ≡ unmarked_by (judge c (view l.schema)) (view l.value) l.judged

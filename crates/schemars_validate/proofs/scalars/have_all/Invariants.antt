@@ -1,0 +1,11 @@
+-- The keys that are left decide.
+use Rattle.std.proofs.Common.{◌≡◌, drop}
+use Rattle.serde_json.specs.View.{items_view, members_view}
+use Rattle.schemars_schema.specs.Acceptance.{have_all}
+use Rattle.schemars_validate.specs.Texts.{texts_of}
+use Rattle.schemars_validate.proofs.scalars.have_all.Given as goal
+
+abbrev pub invariant-loop-key : goal.invariant-loop-key
+invariant-loop-key l =
+    have_all (texts_of (items_view (drop l.key-index l.keys))) (members_view l.members.entries)
+    ≡ have_all (texts_of (items_view l.keys)) (members_view l.members.entries)

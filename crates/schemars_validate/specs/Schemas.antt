@@ -1,0 +1,55 @@
+-- Schemas under a keyword: one, a list of them, or schemas by name.
+use Rattle.std.specs.Prelude.{◌&&◌, Bool, true, List, [], ◌∷◌, Option, Some, None, option_and_then, option_map}
+use Rattle.serde_json.specs.Data.{Data, Items, no_items, item}
+use Rattle.serde_json.specs.Data.{Members, no_members, member}
+use Rattle.serde_json.specs.Find.{as_array, as_object}
+use Rattle.schemars_schema.specs.Json.{Text}
+use Rattle.schemars_schema.specs.SchemaData.{is_schema}
+use Rattle.schemars_schema.specs.Lookup.{schema_only}
+use Rattle.schemars_schema.specs.Acceptance.{Context, Judge, judge, when}
+
+abbrev pub are_schemas : Items → Bool
+are_schemas no_items = true
+are_schemas (item d ds) = is_schema d && are_schemas ds
+
+abbrev pub are_named_schemas : Members → Bool
+are_named_schemas no_members = true
+are_named_schemas (member k d ms) = is_schema d && are_named_schemas ms
+
+-- a keyword's value, if it is a schema
+abbrev pub schema_at : Option Data → Option Data
+schema_at x = option_and_then schema_only x
+
+abbrev pub first_of : Option Data → Option Data → Option Data
+first_of None y = y
+first_of (Some d) y = Some d
+
+-- the schemas of a list of schemas alone
+abbrev pub schemas_in : Option Data → Option Items
+schemas_in x = option_and_then (λ d. option_and_then (λ ds. when (are_schemas ds) ds) (as_array d)) x
+
+-- the schemas of a map of schemas alone
+abbrev pub schemas_by_name : Option Data → Option Members
+schemas_by_name x = option_and_then (λ d. option_and_then (λ ms. when (are_named_schemas ms) ms) (as_object d)) x
+
+-- how it judges
+abbrev pub judge_at : Context → Option Data → Option Judge
+judge_at c x = option_map (judge c) x
+
+-- how each of them judges
+abbrev pub judges_of : Context → Items → List Judge
+judges_of c no_items = []
+judges_of c (item d ds) = judge c d ∷ judges_of c ds
+
+abbrev pub named_judges : Context → Members → List (Text × Judge)
+named_judges c no_members = []
+named_judges c (member k d ms) = (k, judge c d) ∷ named_judges c ms
+
+-- none of them where there is no list, or no map
+abbrev pub judges_in : Context → Option Items → List Judge
+judges_in c None = []
+judges_in c (Some ds) = judges_of c ds
+
+abbrev pub named_judges_in : Context → Option Members → List (Text × Judge)
+named_judges_in c None = []
+named_judges_in c (Some ms) = named_judges c ms

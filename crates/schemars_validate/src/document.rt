@@ -1,0 +1,136 @@
+//! A whole document, or one of its schemas, asked about a value.
+ghost use Rattle.std.specs.Prelude.{◌≡◌, IfOk, IfSome};
+ghost use Rattle.serde_json.specs.Data.{depth, items_depth, members_depth};
+ghost use Rattle.serde_json.specs.View.{view, items_view, members_view};
+ghost use Rattle.schemars_schema.specs.Verdict.{is_yes};
+ghost use Rattle.schemars_schema.specs.Acceptance.{accepts, bound, count_of_definitions};
+ghost use Rattle.schemars_validate.specs.Meant.{meant};
+
+use crate::dialect::Dialect;
+use crate::judge::{Document, judge};
+use crate::patterns::Patterns;
+use crate::verdict::Verdict;
+use serde_json::{Map, Value};
+use std::alloc::{AllocError, Global};
+
+/// What a schema of a document says of a value, if at most `references` references within one
+/// another are followed.
+pub fn validate<P: Patterns>(
+    alloc: Global,
+    dialect: Dialect,
+    document: &Value,
+    patterns: &P,
+    references: u64,
+    schema: &Value,
+    value: &Value,
+) -> Result<Verdict, AllocError>
+    ensures { IfOk result (λ says. meant says
+        ≡ accepts dialect (view document.now) (P.reading patterns.now) references (view schema.now) (view value.now)) }
+{
+    let d = Document {
+        alloc,
+        dialect,
+        whole: document,
+        patterns,
+    };
+    let mut unwanted = Vec::new(alloc);
+    judge(&d, references, schema, value, &mut unwanted)
+}
+
+/// What a document says of a value, with as many references followed as its definitions can need,
+/// which are at the JSON Pointer `definitions`.
+pub fn validate_document<P: Patterns>(
+    alloc: Global,
+    dialect: Dialect,
+    document: &Value,
+    definitions: &str,
+    patterns: &P,
+    value: &Value,
+) -> Result<Verdict, AllocError>
+    ensures { let n = bound definitions.now (view document.now) (view value.now) in
+        IfOk result (λ says. meant says
+        ≡ accepts dialect (view document.now) (P.reading patterns.now) n (view document.now) (view value.now)) }
+{
+    let Some(references) = bound(definitions, document, value) else {
+        // no memory holds a value or a document of that size
+        return Err(AllocError);
+    };
+    validate(
+        alloc, dialect, document, patterns, references, document, value,
+    )
+}
+
+/// Whether a document accepts a value.
+pub fn is_valid<P: Patterns>(
+    alloc: Global,
+    dialect: Dialect,
+    document: &Value,
+    definitions: &str,
+    patterns: &P,
+    value: &Value,
+) -> Result<bool, AllocError>
+    ensures { let n = bound definitions.now (view document.now) (view value.now) in
+        IfOk result (λ valid. valid
+        ≡ is_yes (accepts dialect (view document.now) (P.reading patterns.now) n (view document.now) (view value.now))) }
+{
+    let says = validate_document(alloc, dialect, document, definitions, patterns, value)?;
+    Ok(says == Verdict::Yes)
+}
+
+// So many references suffice, if the number fits.
+fn bound(definitions: &str, document: &Value, value: &Value) -> Option<u64>
+    ensures { IfSome result (λ n. n ≡ bound definitions.now (view document.now) (view value.now)) }
+{
+    let deep = depth(value)?.checked_add(1)?;
+    let count = count_of_definitions(definitions, document).checked_add(2)?;
+    deep.checked_mul(count)
+}
+
+#[tactic(auto, using(crate::proofs::Lists::members_counted))]
+fn count_of_definitions(definitions: &str, document: &Value) -> u64
+    ensures { result ≡ count_of_definitions definitions.now (view document.now) }
+{
+    let Some(found) = document.pointer(definitions) else {
+        return 0;
+    };
+    match found.as_object() {
+        Some(members) => members.len() as u64,
+        None => 0,
+    }
+}
+
+#[cycle(depth)]
+fn depth(value: &Value) -> Option<u64>
+    ensures { IfSome result (λ n. n ≡ depth (view value.now)) }
+{
+    match value {
+        Value::Null => Some(0),
+        Value::Bool(_) => Some(0),
+        Value::Number(_) => Some(0),
+        Value::String(_) => Some(0),
+        Value::Array(items) => items_depth(items)?.checked_add(1),
+        Value::Object(members) => members_depth(members)?.checked_add(1),
+    }
+}
+
+#[cycle(depth)]
+fn items_depth(items: &Vec<Value>) -> Option<u64>
+    ensures { IfSome result (λ n. n ≡ items_depth (items_view items.now.items)) }
+{
+    let mut deepest = 0;
+    for item in items {
+        deepest = deepest.max(depth(item)?);
+    }
+    Some(deepest)
+}
+
+#[cycle(depth)]
+fn members_depth(members: &Map<String, Value>) -> Option<u64>
+    ensures { IfSome result (λ n. n ≡ members_depth (members_view members.now.entries)) }
+{
+    let mut deepest = 0;
+    for (_, value) in members.iter() {
+        deepest = deepest.max(depth(value)?);
+    }
+    Some(deepest)
+}

@@ -1,0 +1,378 @@
+//! What a schema says of a value, and which of the value's members it has judged, in one pass.
+ghost use Rattle.std.specs.Prelude.{◌≡◌, IfOk, OnOk, option_map, map, codes};
+ghost use Rattle.serde_json.specs.Data.{object};
+ghost use Rattle.serde_json.specs.Find.{get_member};
+ghost use Rattle.serde_json.specs.View.{view, items_view, members_view};
+ghost use Rattle.schemars_schema.specs.Verdict.{all_of};
+ghost use Rattle.schemars_schema.specs.Acceptance.{Raw, context, judge, follow, where_some};
+ghost use Rattle.schemars_schema.specs.Acceptance.{reference_says, judged_by, judged_by_reference, judged_by_some};
+ghost use Rattle.schemars_schema.specs.Acceptance.{by_patterns, matches_some, judged_beside};
+ghost use Rattle.schemars_validate.specs.Meant.{meant};
+ghost use Rattle.schemars_validate.specs.Judged.{marked, keys_of};
+ghost use Rattle.schemars_validate.specs.Joined.{joined_by};
+ghost use Rattle.schemars_validate.specs.Judged.{unmarked_by};
+ghost use Rattle.schemars_validate.specs.Schemas.{judge_at, judges_of, judges_in, named_judges_in};
+ghost use Rattle.schemars_validate.specs.Parts.{besides, reads, items_by, members_by, member_by};
+
+use crate::dialect::Dialect;
+use crate::found::{
+    ItemSchemas, Matched, MemberSchemas, item_schemas, member, member_schemas, or_else, others_for,
+    reference_in, refers_alone, resolved, schema_at, schema_named, schemas_in, unevaluated_in,
+};
+use crate::joined::{Join, Joined};
+use crate::marks::{copied, keep, mark_all, mark_members, unless_marked, unmarked};
+use crate::patterns::Patterns;
+use crate::scalars::{by_itself, required_says};
+use crate::verdict::{Verdict, all_of, both, opposite, unless_missing, verdict_of};
+use serde_json::{Map, Value};
+use std::alloc::{AllocError, Global};
+
+/// What all schemas of a document share.
+#[derive(Drop)]
+pub struct Document<'d, P> {
+    pub alloc: Global,
+    pub dialect: Dialect,
+    pub whole: &'d Value,
+    pub patterns: &'d P,
+}
+
+/// What a schema of a document says of a value, with at most `left` references within one another
+/// followed, and a mark for each member that it judges.
+#[cycle(judge)]
+pub fn judge<P: Patterns>(
+    d: &Document<'_, P>,
+    left: u64,
+    schema: &Value,
+    value: &Value,
+    marks: &mut Vec<bool>,
+) -> Result<Verdict, AllocError>
+    ensures verdict { let c = context d.now.dialect (view d.now.whole.now) (P.reading d.now.patterns.now) left in
+        IfOk result (λ says. meant says ≡ (judge c (view schema.now)).fits (view value.now)) }
+    ensures judged { let c = context d.now.dialect (view d.now.whole.now) (P.reading d.now.patterns.now) left in
+        OnOk result (marks.new.items
+        ≡ marked ((judge c (view schema.now)).judges (view value.now)) (keys_of (view value.now)) marks.old.items) }
+{
+    match schema.as_object() {
+        Some(keywords) => object(d, left, keywords, value, marks),
+        None => Ok(verdict_of(schema.as_bool().unwrap_or(false))),
+    }
+}
+
+#[cycle(judge)]
+fn object<P: Patterns>(
+    d: &Document<'_, P>,
+    left: u64,
+    keywords: &Map<String, Value>,
+    value: &Value,
+    marks: &mut Vec<bool>,
+) -> Result<Verdict, AllocError>
+    ensures verdict { let c = context d.now.dialect (view d.now.whole.now) (P.reading d.now.patterns.now) left in
+        IfOk result (λ says. meant says
+        ≡ (judge c (object (members_view keywords.now.entries))).fits (view value.now)) }
+    ensures judged { let c = context d.now.dialect (view d.now.whole.now) (P.reading d.now.patterns.now) left in
+        OnOk result (marks.new.items
+        ≡ marked ((judge c (object (members_view keywords.now.entries))).judges (view value.now))
+        (keys_of (view value.now)) marks.old.items) }
+{
+    if refers_alone(d.dialect, keywords) {
+        return reference(d, left, keywords, value, marks);
+    }
+    match unevaluated_in(d.dialect, keywords) {
+        Some(schema) => {
+            let mut judged = unmarked(d.alloc, value)?;
+            let says = beside(d, left, keywords, value, &mut judged)?;
+            let rest = unevaluated(d, left, schema, value, &judged)?;
+            mark_all(value, marks);
+            Ok(both(says, rest))
+        }
+        None => beside(d, left, keywords, value, marks),
+    }
+}
+
+// All keywords but `unevaluatedProperties`.
+#[cycle(judge)]
+fn beside<P: Patterns>(
+    d: &Document<'_, P>,
+    left: u64,
+    keywords: &Map<String, Value>,
+    value: &Value,
+    marks: &mut Vec<bool>,
+) -> Result<Verdict, AllocError>
+    ensures verdict { let c = context d.now.dialect (view d.now.whole.now) (P.reading d.now.patterns.now) left in
+        IfOk result (λ says. meant says
+        ≡ all_of (besides c (λ k. get_member k (members_view keywords.now.entries)) (view value.now))) }
+    ensures judged { let c = context d.now.dialect (view d.now.whole.now) (P.reading d.now.patterns.now) left in
+        let raw : Raw = λ k. get_member k (members_view keywords.now.entries) in
+        OnOk result (marks.new.items
+        ≡ marked (judged_beside c raw (reads c raw) (view value.now)) (keys_of (view value.now)) marks.old.items) }
+{
+    let itself = by_itself(d.dialect, d.patterns, keywords, value);
+    let required = required_says(member(keywords, "required"), value);
+    let items = items(d, left, &item_schemas(d.dialect, keywords), value)?;
+    let schemas = member_schemas(keywords);
+    mark_members(d.patterns, &schemas, value, marks);
+    let members = members(d, left, &schemas, value)?;
+    let all = each(
+        d,
+        left,
+        Join::All,
+        schemas_in(member(keywords, "allOf")),
+        value,
+        marks,
+    )?;
+    let any = each(
+        d,
+        left,
+        Join::Any,
+        schemas_in(member(keywords, "anyOf")),
+        value,
+        marks,
+    )?;
+    let one = each(
+        d,
+        left,
+        Join::One,
+        schemas_in(member(keywords, "oneOf")),
+        value,
+        marks,
+    )?;
+    let reference = reference(d, left, keywords, value, marks)?;
+    let denied = schema_at(member(keywords, "not"));
+    let fits_denied = alone(d, left, denied, value)?;
+    let not = unless_missing(denied, opposite(fits_denied));
+    Ok(all_of(&[
+        reference, itself, items, required, members, all, any, one, not,
+    ]))
+}
+
+#[cycle(judge)]
+fn reference<P: Patterns>(
+    d: &Document<'_, P>,
+    left: u64,
+    keywords: &Map<String, Value>,
+    value: &Value,
+    marks: &mut Vec<bool>,
+) -> Result<Verdict, AllocError>
+    ensures verdict { let to = follow d.now.dialect (view d.now.whole.now) (P.reading d.now.patterns.now) left in
+        IfOk result (λ says. meant says
+        ≡ reference_says to (get_member (codes "$ref") (members_view keywords.now.entries)) (view value.now)) }
+    ensures judged { let to = follow d.now.dialect (view d.now.whole.now) (P.reading d.now.patterns.now) left in
+        OnOk result (marks.new.items
+        ≡ marked (judged_by_reference to (get_member (codes "$ref") (members_view keywords.now.entries)) (view value.now))
+        (keys_of (view value.now)) marks.old.items) }
+{
+    let Some(name) = reference_in(keywords) else {
+        return Ok(Verdict::Yes);
+    };
+    if left == 0 {
+        return Ok(Verdict::Open);
+    }
+    match resolved(d.alloc, d.whole, name)? {
+        Some(schema) => fits(d, left - 1, schema, value, marks),
+        None => Ok(Verdict::Open),
+    }
+}
+
+// What a schema of the same value says. It has judged members only if the value fits it.
+#[cycle(judge)]
+fn fits<P: Patterns>(
+    d: &Document<'_, P>,
+    left: u64,
+    schema: &Value,
+    value: &Value,
+    marks: &mut Vec<bool>,
+) -> Result<Verdict, AllocError>
+    ensures verdict { let c = context d.now.dialect (view d.now.whole.now) (P.reading d.now.patterns.now) left in
+        IfOk result (λ says. meant says ≡ (judge c (view schema.now)).fits (view value.now)) }
+    ensures judged { let c = context d.now.dialect (view d.now.whole.now) (P.reading d.now.patterns.now) left in
+        OnOk result (marks.new.items
+        ≡ marked (judged_by (judge c (view schema.now)) (view value.now)) (keys_of (view value.now)) marks.old.items) }
+{
+    let mut tried = copied(d.alloc, marks)?;
+    let says = judge(d, left, schema, value, &mut tried)?;
+    keep(says, tried, marks);
+    Ok(says)
+}
+
+// What a schema says of a value whose members nobody asks for. No schema says nothing.
+#[cycle(judge)]
+fn alone<P: Patterns>(
+    d: &Document<'_, P>,
+    left: u64,
+    schema: Option<&Value>,
+    value: &Value,
+) -> Result<Verdict, AllocError>
+    ensures { let c = context d.now.dialect (view d.now.whole.now) (P.reading d.now.patterns.now) left in
+        IfOk result (λ says. meant says
+        ≡ where_some (judge_at c (option_map (λ s. view s.now) schema.entry)) (λ s. s.fits (view value.now))) }
+{
+    match schema {
+        Some(schema) => {
+            let mut unwanted = Vec::new(d.alloc);
+            judge(d, left, schema, value, &mut unwanted)
+        }
+        None => Ok(Verdict::Yes),
+    }
+}
+
+#[cycle(judge)]
+fn items<P: Patterns>(
+    d: &Document<'_, P>,
+    left: u64,
+    schemas: &ItemSchemas<'_>,
+    value: &Value,
+) -> Result<Verdict, AllocError>
+    ensures { let c = context d.now.dialect (view d.now.whole.now) (P.reading d.now.patterns.now) left in
+        IfOk result (λ says. meant says
+        ≡ items_by (judges_of c (items_view schemas.now.first.now))
+        (judge_at c (option_map (λ s. view s.now) schemas.now.others)) (view value.now)) }
+{
+    let mut says = Verdict::Yes;
+    let Some(items) = value.as_array() else {
+        return Ok(says);
+    };
+    let mut first = schemas.first.iter();
+    for item in items {
+        let next = first.next();
+        let schema = or_else(next, schemas.others);
+        says = both(says, alone(d, left, schema, item)?);
+    }
+    Ok(says)
+}
+
+// `properties`, `patternProperties` and `additionalProperties`.
+#[cycle(judge)]
+fn members<P: Patterns>(
+    d: &Document<'_, P>,
+    left: u64,
+    schemas: &MemberSchemas<'_>,
+    value: &Value,
+) -> Result<Verdict, AllocError>
+    ensures { let c = context d.now.dialect (view d.now.whole.now) (P.reading d.now.patterns.now) left in
+        IfOk result (λ says. meant says
+        ≡ members_by (P.reading d.now.patterns.now)
+        (named_judges_in c (option_map (λ s. members_view s.now.entries) schemas.now.named))
+        (named_judges_in c (option_map (λ s. members_view s.now.entries) schemas.now.by_pattern))
+        (judge_at c (option_map (λ s. view s.now) schemas.now.others)) (view value.now)) }
+{
+    let mut says = Verdict::Yes;
+    let Some(members) = value.as_object() else {
+        return Ok(says);
+    };
+    for (key, member) in members.iter() {
+        says = both(says, one_member(d, left, schemas, key.as_str(), member)?);
+    }
+    Ok(says)
+}
+
+#[cycle(judge)]
+fn one_member<P: Patterns>(
+    d: &Document<'_, P>,
+    left: u64,
+    schemas: &MemberSchemas<'_>,
+    key: &str,
+    member: &Value,
+) -> Result<Verdict, AllocError>
+    ensures { let c = context d.now.dialect (view d.now.whole.now) (P.reading d.now.patterns.now) left in
+        IfOk result (λ says. meant says
+        ≡ member_by (P.reading d.now.patterns.now)
+        (named_judges_in c (option_map (λ s. members_view s.now.entries) schemas.now.named))
+        (named_judges_in c (option_map (λ s. members_view s.now.entries) schemas.now.by_pattern))
+        (judge_at c (option_map (λ s. view s.now) schemas.now.others)) key.now (view member.now)) }
+{
+    let named = schema_named(schemas.named, key);
+    let says = alone(d, left, named, member)?;
+    let matched = matching(d, left, schemas.by_pattern, key, member)?;
+    let rest = others_for(named, matched.some, schemas.others);
+    let others = alone(d, left, rest, member)?;
+    Ok(both(says, both(matched.says, others)))
+}
+
+// The schemas whose pattern the key matches.
+#[cycle(judge)]
+fn matching<P: Patterns>(
+    d: &Document<'_, P>,
+    left: u64,
+    by_pattern: Option<&Map<String, Value>>,
+    key: &str,
+    member: &Value,
+) -> Result<Matched, AllocError>
+    ensures says { let c = context d.now.dialect (view d.now.whole.now) (P.reading d.now.patterns.now) left in
+        IfOk result (λ matched. meant matched.says
+        ≡ by_patterns (P.reading d.now.patterns.now)
+        (named_judges_in c (option_map (λ s. members_view s.now.entries) by_pattern.entry)) key.now (view member.now)) }
+    ensures some { let c = context d.now.dialect (view d.now.whole.now) (P.reading d.now.patterns.now) left in
+        IfOk result (λ matched. matched.some
+        ≡ matches_some (P.reading d.now.patterns.now)
+        (named_judges_in c (option_map (λ s. members_view s.now.entries) by_pattern.entry)) key.now) }
+{
+    let mut says = Verdict::Yes;
+    let mut some = false;
+    let Some(schemas) = by_pattern else {
+        return Ok(Matched { says, some });
+    };
+    for (pattern, schema) in schemas.iter() {
+        if d.patterns.matches(pattern.as_str(), key) {
+            says = both(says, alone(d, left, Some(schema), member)?);
+            some = true;
+        }
+    }
+    Ok(Matched { says, some })
+}
+
+// Schemas of the same value.
+#[cycle(judge)]
+#[tactic(auto, using(crate::proofs::Joining::taken_joined))]
+fn each<P: Patterns>(
+    d: &Document<'_, P>,
+    left: u64,
+    join: Join,
+    schemas: Option<&Vec<Value>>,
+    value: &Value,
+    marks: &mut Vec<bool>,
+) -> Result<Verdict, AllocError>
+    ensures verdict { let c = context d.now.dialect (view d.now.whole.now) (P.reading d.now.patterns.now) left in
+        IfOk result (λ says. meant says
+        ≡ where_some (option_map (λ s. items_view s.now.items) schemas.entry)
+        (λ ds. joined_by join (map (λ s. s.fits (view value.now)) (judges_of c ds)))) }
+    ensures judged { let c = context d.now.dialect (view d.now.whole.now) (P.reading d.now.patterns.now) left in
+        OnOk result (marks.new.items
+        ≡ marked (judged_by_some (judges_in c (option_map (λ s. items_view s.now.items) schemas.entry)) (view value.now))
+        (keys_of (view value.now)) marks.old.items) }
+{
+    let Some(schemas) = schemas else {
+        return Ok(Verdict::Yes);
+    };
+    let mut joined = Joined::new();
+    for schema in schemas {
+        let says = fits(d, left, schema, value, marks)?;
+        joined = joined.with(says);
+    }
+    Ok(joined.by(join))
+}
+
+// A schema for the members that are not marked.
+#[cycle(judge)]
+fn unevaluated<P: Patterns>(
+    d: &Document<'_, P>,
+    left: u64,
+    schema: &Value,
+    value: &Value,
+    judged: &[bool],
+) -> Result<Verdict, AllocError>
+    ensures { let c = context d.now.dialect (view d.now.whole.now) (P.reading d.now.patterns.now) left in
+        IfOk result (λ says. meant says
+        ≡ unmarked_by (judge c (view schema.now)) (view value.now) judged.now) }
+{
+    let mut says = Verdict::Yes;
+    let Some(members) = value.as_object() else {
+        return Ok(says);
+    };
+    let mut marks = judged.iter();
+    for (_, member) in members.iter() {
+        let mark = marks.next();
+        let asked = unless_marked(mark, schema);
+        says = both(says, alone(d, left, asked, member)?);
+    }
+    Ok(says)
+}

@@ -1,0 +1,19 @@
+//! What a schema of a document says of a value, decided.
+#![tactic(auto)]
+
+mod dialect;
+mod document;
+mod found;
+mod joined;
+mod judge;
+mod marks;
+mod numbers;
+mod patterns;
+mod scalars;
+mod verdict;
+
+pub use dialect::Dialect;
+pub use document::{is_valid, validate, validate_document};
+pub use numbers::{is_whole, numbers_le};
+pub use patterns::{PatternList, Patterns};
+pub use verdict::Verdict;

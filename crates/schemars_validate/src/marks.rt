@@ -1,0 +1,182 @@
+//! Marks for the members of a value that have been judged.
+ghost use Rattle.std.specs.Prelude.{◌≡◌, IfOk, Some, None, option_map, true, is_some, if◌then◌else◌, ◌<◌, vec_len, slice_set};
+ghost use Rattle.serde_json.specs.Find.{get_member};
+ghost use Rattle.serde_json.specs.View.{view, members_view};
+ghost use Rattle.schemars_validate.specs.Judged.{marked, unmarked, keys_in, keys_of};
+ghost use Rattle.schemars_schema.specs.Verdict.{is_yes};
+ghost use Rattle.schemars_validate.specs.Meant.{meant};
+ghost use Rattle.schemars_validate.specs.Judged.{is_marked, is_named, matches_one, is_matched, is_taken};
+
+use crate::found::{MemberSchemas, member};
+use crate::patterns::Patterns;
+use crate::verdict::Verdict;
+use serde_json::{Map, Value};
+use std::alloc::{AllocError, Global};
+
+/// No member of the value is marked.
+pub fn unmarked(alloc: Global, value: &Value) -> Result<Vec<bool>, AllocError>
+    ensures { IfOk result (λ marks. marks.items ≡ unmarked (keys_of (view value.now))) }
+{
+    match value.as_object() {
+        Some(members) => unmarked_members(alloc, members),
+        None => Ok(Vec::new(alloc)),
+    }
+}
+
+fn unmarked_members(alloc: Global, members: &Map<String, Value>) -> Result<Vec<bool>, AllocError>
+    ensures { IfOk result (λ marks. marks.items ≡ unmarked (keys_in (members_view members.now.entries))) }
+{
+    let mut marks = Vec::new(alloc);
+    for (_, _member) in members.iter() {
+        marks.push(false)?;
+    }
+    Ok(marks)
+}
+
+/// Marks all members of the value.
+pub fn mark_all(value: &Value, marks: &mut Vec<bool>)
+    ensures { marks.new.items ≡ marked (λ k. true) (keys_of (view value.now)) marks.old.items }
+{
+    match value.as_object() {
+        Some(members) => mark_each(members, marks),
+        None => {}
+    }
+}
+
+fn mark_each(members: &Map<String, Value>, marks: &mut Vec<bool>)
+    ensures { marks.new.items ≡ marked (λ k. true) (keys_in (members_view members.now.entries)) marks.old.items }
+{
+    let mut place = 0;
+    for (_, _member) in members.iter() {
+        if place >= marks.len() {
+            return;
+        }
+        marks[place] = true;
+        place += 1;
+    }
+}
+
+/// Marks the members that one of the schemas judges.
+pub fn mark_members<P: Patterns>(
+    patterns: &P,
+    schemas: &MemberSchemas<'_>,
+    value: &Value,
+    marks: &mut Vec<bool>,
+)
+    ensures { marks.new.items ≡ marked
+        (is_taken (P.reading patterns.now) (option_map (λ s. members_view s.now.entries) schemas.now.named)
+        (option_map (λ s. members_view s.now.entries) schemas.now.by_pattern)
+        (option_map (λ s. view s.now) schemas.now.others))
+        (keys_of (view value.now)) marks.old.items }
+{
+    match value.as_object() {
+        Some(members) => mark_taken(patterns, schemas, members, marks),
+        None => {}
+    }
+}
+
+#[tactic(auto, using(crate::proofs::Marking::mark_next))]
+fn mark_taken<P: Patterns>(
+    patterns: &P,
+    schemas: &MemberSchemas<'_>,
+    members: &Map<String, Value>,
+    marks: &mut Vec<bool>,
+)
+    ensures { marks.new.items ≡ marked
+        (is_taken (P.reading patterns.now) (option_map (λ s. members_view s.now.entries) schemas.now.named)
+        (option_map (λ s. members_view s.now.entries) schemas.now.by_pattern)
+        (option_map (λ s. view s.now) schemas.now.others))
+        (keys_in (members_view members.now.entries)) marks.old.items }
+{
+    let mut place = 0;
+    for (key, _) in members.iter() {
+        if place >= marks.len() {
+            return;
+        }
+        let taken = is_taken(patterns, schemas, key.as_str());
+        mark_if(taken, marks, place);
+        place += 1;
+    }
+}
+
+fn mark_if(taken: bool, marks: &mut Vec<bool>, place: usize)
+    requires { place < vec_len marks.old }
+    ensures { marks.new.items
+        ≡ (if taken then slice_set marks.old.items place true else marks.old.items) }
+{
+    if taken {
+        marks[place] = true;
+    }
+}
+
+fn is_taken<P: Patterns>(patterns: &P, schemas: &MemberSchemas<'_>, key: &str) -> bool
+    ensures { result ≡ is_taken (P.reading patterns.now)
+        (option_map (λ s. members_view s.now.entries) schemas.now.named)
+        (option_map (λ s. members_view s.now.entries) schemas.now.by_pattern)
+        (option_map (λ s. view s.now) schemas.now.others) key.now }
+{
+    (is_named(schemas.named, key) || is_matched(patterns, schemas.by_pattern, key))
+        || schemas.others.is_some()
+}
+
+fn is_named(named: Option<&Map<String, Value>>, key: &str) -> bool
+    ensures { result ≡ is_named (option_map (λ s. members_view s.now.entries) named.entry) key.now }
+{
+    match named {
+        Some(schemas) => member(schemas, key).is_some(),
+        None => false,
+    }
+}
+
+fn is_matched<P: Patterns>(patterns: &P, by_pattern: Option<&Map<String, Value>>, key: &str) -> bool
+    ensures { result ≡ is_matched (P.reading patterns.now)
+        (option_map (λ s. members_view s.now.entries) by_pattern.entry) key.now }
+{
+    match by_pattern {
+        Some(schemas) => matches_one(patterns, schemas, key),
+        None => false,
+    }
+}
+
+fn matches_one<P: Patterns>(patterns: &P, schemas: &Map<String, Value>, key: &str) -> bool
+    ensures { result ≡ matches_one (P.reading patterns.now) (members_view schemas.now.entries) key.now }
+{
+    for (pattern, _) in schemas.iter() {
+        if patterns.matches(pattern.as_str(), key) {
+            return true;
+        }
+    }
+    false
+}
+
+/// The same marks again.
+pub fn copied(alloc: Global, marks: &Vec<bool>) -> Result<Vec<bool>, AllocError>
+    ensures { IfOk result (λ copy. copy.items ≡ marks.now.items) }
+{
+    let mut copy = Vec::new(alloc);
+    for mark in marks {
+        copy.push(*mark)?;
+    }
+    Ok(copy)
+}
+
+/// Takes the marks that were tried, if the value fits.
+pub fn keep(says: Verdict, tried: Vec<bool>, marks: &mut Vec<bool>)
+    ensures { marks.new.items ≡ (if is_yes (meant says) then tried.items else marks.old.items) }
+{
+    match says {
+        Verdict::Yes => *marks = tried,
+        _ => {}
+    }
+}
+
+/// The schema, if the mark is not set. A mark that is missing is not set.
+pub fn unless_marked<'s>(mark: Option<&bool>, schema: &'s Value) -> Option<&'s Value>
+    ensures { option_map (λ s. view s.now) result
+        ≡ (if is_marked (option_map (λ b. b.now) mark.entry) then None else Some (view schema.now)) }
+{
+    match mark {
+        Some(true) => None,
+        _ => Some(schema),
+    }
+}
