@@ -123,10 +123,10 @@ module _ {O : Type 0} (Q : TransformStep O) (ts us : Transforms O) (s : State) (
 pub type_memory : (t : TypeRow) (old : List Row) (e : GenerateError) → e ≡ OutOfMemory → IsTypeRefusal t old e
 type_memory t old e is = record { present = λ there. is; cause = inl is }
 
-pub type_refusal : (t : TypeRow) (old new : List Row) (e : TypesError) → RefusesType t old new e → IsTypeRefusal t old (error_of e)
-type_refusal t old new e why = record {
+pub type_refusal : (t : TypeRow) (old : List Row) (e : TypesError) → RefusesType t old e → IsTypeRefusal t old (error_of e)
+type_refusal t old e why = record {
   present = λ there. ap error_of (why.present there);
-  cause = inr (record { refusal = e; cause = inl why.as_told.each; is_told = refl });
+  cause = inr (record { refusal = e; cause = inl why.as_told; is_told = refl });
 }
 
 -- a table without faults is not refused

@@ -5,7 +5,7 @@ use Rattle.schemars_types.specs.Rows.{Row, HasDistinctIds}
 use Rattle.schemars_types.specs.Faults.{IsAccepted, IsChecked, Refusal}
 use Rattle.schemars_types.specs.declared.error.TypesError.{TypesError}
 use Rattle.schemars_impls.specs.Describes.{entry_under}
-use Rattle.schemars_impls.specs.Dictionary.{TypeRow, Dictionary, Follows, IsIn, IsAdded, KeepsTo, MayRefuse}
+use Rattle.schemars_impls.specs.Dictionary.{TypeRow, IsIn, IsAdded, KeepsTo, RefusesAs}
 use Rattle.schemars_build.specs.Naming.{IsOneToOne}
 use Rattle.schemars_build.specs.Work.{Work}
 use Rattle.schemars_walk.specs.Walk.{TransformStep}
@@ -55,8 +55,7 @@ pub record IsRootInTable {O : Type 0} (Q : TransformStep O) (ts us : Transforms 
 -- the type refuses as the dictionaries say in which it is, or the table in which it is registered has this fault
 pub record HasTypeCause (t : TypeRow) (old : List Row) (e : GenerateError) : Type 0 where
   pub refusal : TypesError
-  pub cause : ((d : Dictionary) → IsIn t d → Follows d old → MayRefuse d refusal)
-      ⊎ ((rows : List Row) × (n : ℕ) × IsRegistered t old rows n × Refusal rows refusal)
+  pub cause : RefusesAs (IsIn t) old refusal ⊎ ((rows : List Row) × (n : ℕ) × IsRegistered t old rows n × Refusal rows refusal)
   pub is_told : e ≡ error_of refusal
 
 -- why a type is not added to a table; if its row is defined already, for want of memory alone

@@ -1,15 +1,5 @@
 //! Implementations of `JsonSchema`.
-#![tactic(auto, using(crate::proofs::Composing::keeping), unfolding(
-    crate::specs::Dictionary::alone,
-    crate::specs::Dictionary::of_one,
-    crate::specs::Dictionary::of_two,
-    crate::specs::Containers::option_row,
-    crate::specs::Containers::seq_row,
-    crate::specs::Containers::set_row,
-    crate::specs::Containers::map_row,
-    crate::specs::Containers::array_row,
-    crate::specs::Containers::tuple_row
-))]
+#![tactic(auto, using(crate::proofs::Composing::keeping), unfolding(crate::specs::Dictionary::alone, crate::specs::Dictionary::of_one, crate::specs::Dictionary::of_two, crate::specs::Containers::option_row, crate::specs::Containers::seq_row, crate::specs::Containers::set_row, crate::specs::Containers::map_row, crate::specs::Containers::array_row, crate::specs::Containers::tuple_row))]
 
 mod arrays;
 mod floats;
