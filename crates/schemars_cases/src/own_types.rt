@@ -7,12 +7,10 @@ ghost use Rattle.schemars_impls.specs.Dictionary.{IsIn, own};
 ghost use Rattle.schemars_impls.specs.OwnRows.{IsOptionOf, IsSeqOf};
 
 use crate::line::line_of;
-use schemars::impls::{
-    JsonSchema, OPTIONAL, REQUIRED, add_field, add_field_of, option_of, register, seq_of,
-    struct_entry,
-};
+use schemars::impls::{JsonSchema, OPTIONAL, REQUIRED, add_field, register, struct_entry};
 use schemars::types::{TypeEntry, Types, TypesError};
 use schemars::{GenerateError, SchemaGenerator, SchemaSettings};
+use schemars_impls::{add_option_of, add_seq_of};
 use std::alloc::{AllocError, Global};
 use std::borrow::CowStr;
 
@@ -51,7 +49,7 @@ pub(crate) struct Node {
 }
 
 impl JsonSchema for Node {
-    ghost says = { own (codes "Node") (λ d. IsOptionOf (codes "Node") (codes "Node") d × IsIn ⟦<i32 as JsonSchema>⟧.says d) };
+    ghost says = { own (codes "Node") (λ d. IsIn ⟦<i32 as JsonSchema>⟧.says d × IsOptionOf (codes "Node") (codes "Node") d) };
 
     fn inline_schema() -> bool {
         false
@@ -66,10 +64,9 @@ impl JsonSchema for Node {
     }
 
     fn json_schema(alloc: Global, types: &mut Types) -> Result<TypeEntry, TypesError> {
-        let next = option_of(alloc, types, "Node", "Node")?;
         let mut fields = Vec::new(alloc);
         add_field::<i32>(alloc, types, &mut fields, "value", REQUIRED)?;
-        add_field_of(alloc, types, &mut fields, "next", next, OPTIONAL)?;
+        add_option_of(alloc, types, &mut fields, "next", "Node", "Node", OPTIONAL)?;
         Ok(struct_entry(alloc, fields, false))
     }
 }
@@ -81,7 +78,7 @@ pub(crate) struct Author {
 }
 
 impl JsonSchema for Author {
-    ghost says = { own (codes "Author") (λ d. IsSeqOf (codes "Book") (codes "Book") d × IsIn ⟦<String as JsonSchema>⟧.says d) };
+    ghost says = { own (codes "Author") (λ d. IsIn ⟦<String as JsonSchema>⟧.says d × IsSeqOf (codes "Book") (codes "Book") d) };
 
     fn inline_schema() -> bool {
         false
@@ -96,10 +93,9 @@ impl JsonSchema for Author {
     }
 
     fn json_schema(alloc: Global, types: &mut Types) -> Result<TypeEntry, TypesError> {
-        let books = seq_of(alloc, types, "Book", "Book")?;
         let mut fields = Vec::new(alloc);
         add_field::<String>(alloc, types, &mut fields, "name", REQUIRED)?;
-        add_field_of(alloc, types, &mut fields, "books", books, REQUIRED)?;
+        add_seq_of(alloc, types, &mut fields, "books", "Book", "Book", REQUIRED)?;
         Ok(struct_entry(alloc, fields, false))
     }
 }
@@ -111,7 +107,7 @@ struct Book {
 }
 
 impl JsonSchema for Book {
-    ghost says = { own (codes "Book") (λ d. IsOptionOf (codes "Author") (codes "Author") d × IsIn ⟦<String as JsonSchema>⟧.says d) };
+    ghost says = { own (codes "Book") (λ d. IsIn ⟦<String as JsonSchema>⟧.says d × IsOptionOf (codes "Author") (codes "Author") d) };
 
     fn inline_schema() -> bool {
         false
@@ -126,10 +122,9 @@ impl JsonSchema for Book {
     }
 
     fn json_schema(alloc: Global, types: &mut Types) -> Result<TypeEntry, TypesError> {
-        let author = option_of(alloc, types, "Author", "Author")?;
         let mut fields = Vec::new(alloc);
         add_field::<String>(alloc, types, &mut fields, "title", REQUIRED)?;
-        add_field_of(alloc, types, &mut fields, "author", author, OPTIONAL)?;
+        add_option_of(alloc, types, &mut fields, "author", "Author", "Author", OPTIONAL)?;
         Ok(struct_entry(alloc, fields, false))
     }
 }
