@@ -124,7 +124,15 @@ impl JsonSchema for Book {
     fn json_schema(alloc: Global, types: &mut Types) -> Result<TypeEntry, TypesError> {
         let mut fields = Vec::new(alloc);
         add_field::<String>(alloc, types, &mut fields, "title", REQUIRED)?;
-        add_option_of(alloc, types, &mut fields, "author", "Author", "Author", OPTIONAL)?;
+        add_option_of(
+            alloc,
+            types,
+            &mut fields,
+            "author",
+            "Author",
+            "Author",
+            OPTIONAL,
+        )?;
         Ok(struct_entry(alloc, fields, false))
     }
 }
