@@ -129,7 +129,7 @@ fn date(alloc: Global, types: &mut Types) -> Result<TypeNo, TypesError> {
 
 // Defines row 0 as a list of numbers.
 fn define_node(alloc: Global, types: &mut Types) -> Result<TypeNo, TypesError> {
-    let next = option_of(alloc, types, 0)?;
+    let next = option_of(alloc, types, "Node", "Node")?;
     let mut fields = Vec::new(alloc);
     add_field::<i32>(alloc, types, &mut fields, "value", REQUIRED)?;
     add_field_of(alloc, types, &mut fields, "next", next, OPTIONAL)?;
